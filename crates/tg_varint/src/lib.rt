@@ -1,0 +1,58 @@
+//! The unsigned varints of multiformats, read and written.
+#![tactic(auto)]
+
+ghost use Rattle.std.specs.Prelude.{◌≡◌, ℕ, ◌-◌, ◌^◌, ◌<◌, ◌≤◌, ◌↔◌, List, ◌++◌, length, take, drop, replicate, IfOk, IsErrOf};
+ghost use Rattle.tg_varint.specs.Varint.{VarintSpelling, EndsInside, PassesNine, EndsInZero};
+
+use thiserror::Error;
+
+/// Why bytes don't begin with an unsigned varint.
+#[derive(Clone, Copy, Debug, PartialEq, Eq, Error)]
+pub enum VarintFault {
+    /// The bytes end inside a spelling.
+    #[error("the varint is cut short")]
+    Short,
+    /// Nine bytes stand with the high bit set in each.
+    #[error("the varint has more than nine bytes")]
+    TooLong,
+    /// A spelling of at least two bytes ends in a zero byte.
+    #[error("the varint isn't the shortest spelling of its number")]
+    NotShortest,
+}
+
+/// The number at the front of the bytes, below 2 ^ 63, and how many bytes spell it. Bytes may follow it.
+///
+/// Multiformats, unsigned-varint. Errors: `Short` where the bytes end inside a spelling of at most nine bytes,
+/// `TooLong` where nine bytes stand with the high bit set in each, `NotShortest` where a spelling of at least two bytes
+/// ends in a zero byte. It takes no memory.
+pub fn read(bytes: &[u8]) -> Result<(u64, usize), VarintFault>
+    ensures found { IfOk result (λ found. (found.1 ≤ length bytes.now) × VarintSpelling found.0 (take found.1 bytes.now)) }
+    ensures only { (number : ℕ) (spelling rest : List ℕ) → VarintSpelling number spelling → bytes.now ≡ spelling ++ rest
+        → result ≡ Ok (number, length spelling) }
+    ensures short { IsErrOf result VarintFault.Short ↔ EndsInside bytes.now }
+    ensures too_long { IsErrOf result VarintFault.TooLong ↔ PassesNine bytes.now }
+    ensures not_shortest { IsErrOf result VarintFault.NotShortest ↔ EndsInZero bytes.now }
+{
+    Err(VarintFault::Short)
+}
+
+/// The spelling of a number below 2 ^ 63, in the front of an array whose other bytes are zero, and its length.
+///
+/// Multiformats, unsigned-varint. It takes no memory.
+pub fn write(number: u64) -> ([u8; 9], usize)
+    requires { number < 2 ^ 63 }
+    ensures length { result.1 ≤ 9 }
+    ensures spelling { VarintSpelling number (take result.1 result.0) }
+    ensures rest { drop result.1 result.0 ≡ replicate (9 - result.1) 0 }
+{
+    ([0; 9], 1)
+}
+
+/// A number has one spelling, and no spelling begins another: what was written is read again, whatever follows it.
+pub fn one_spelling()
+    ensures same_number { (m : ℕ) (a b : List ℕ) → VarintSpelling m a → VarintSpelling m b → a ≡ b }
+    ensures no_front { (m n : ℕ) (a b x y : List ℕ) → VarintSpelling m a → VarintSpelling n b → a ++ x ≡ b ++ y
+        → (a ≡ b) × (m ≡ n) }
+    ensures below { (m : ℕ) (a : List ℕ) → VarintSpelling m a → m < 2 ^ 63 }
+{
+}
