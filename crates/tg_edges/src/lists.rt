@@ -1,0 +1,115 @@
+//! Lists that contracts see as plain lists.
+ghost use Rattle.std.specs.Prelude.{◌≡◌, [], ◌∷◌, ◌++◌, IfOk, OnOk, OnErr};
+
+use std::alloc::{AllocError, Global};
+use std::marker::Model;
+
+/// A list of bytes, which contracts see as the list itself.
+#[derive(Debug, Drop)]
+pub struct Bytes {
+    bytes: Vec<u8>,
+}
+
+impl Model for Bytes {
+    ghost use Rattle.std.specs.Prelude.{ℕ, List};
+
+    ghost Value = { List ℕ };
+
+    ghost view = { λ b. b.bytes.items };
+}
+
+impl Bytes {
+    /// An empty list, which takes no memory until bytes are pushed.
+    pub fn new(alloc: Global) -> Bytes
+        ensures { result ≡ [] }
+    {
+        Bytes {
+            bytes: Vec::new(alloc),
+        }
+    }
+
+    /// A copy of the bytes. The error is want of memory.
+    pub fn of(alloc: Global, bytes: &[u8]) -> Result<Bytes, AllocError>
+        ensures { IfOk result (λ list. list ≡ bytes.now) }
+    {
+        Ok(Bytes {
+            bytes: Vec::from_slice(alloc, bytes)?,
+        })
+    }
+
+    /// Adds the bytes at the end. Where memory is wanted the list stays as it was.
+    pub fn push_all(&mut self, bytes: &[u8]) -> Result<(), AllocError>
+        ensures ok { OnOk result (self.new ≡ self.old ++ bytes.now) }
+        ensures err { OnErr result (self.new ≡ self.old) }
+    {
+        self.bytes.extend_from_slice(bytes)
+    }
+
+    /// The bytes in order.
+    pub fn as_slice(&self) -> &[u8]
+        ensures { result.now ≡ self.now }
+    {
+        self.bytes.as_slice()
+    }
+}
+
+impl From<Vec<u8>> for Bytes {
+    ghost from_gives = { λ bytes list. list ≡ bytes.items };
+
+    /// The same bytes, moved and not copied.
+    fn from(bytes: Vec<u8>) -> Bytes {
+        Bytes { bytes }
+    }
+}
+
+/// A list of values, which contracts see as the list itself.
+#[derive(Debug, Drop)]
+pub struct List<T> {
+    items: Vec<T>,
+}
+
+impl<T> Model for List<T> {
+    ghost use Rattle.std.specs.Prelude.{List as Items};
+
+    ghost Value = { Items T };
+
+    ghost view = { λ list. list.items.items };
+}
+
+impl<T> List<T> {
+    /// An empty list, which takes no memory until a value is pushed.
+    pub fn new(alloc: Global) -> List<T>
+        ensures { result ≡ [] }
+    {
+        List {
+            items: Vec::new(alloc),
+        }
+    }
+
+    /// Adds a value at the end. Where memory is wanted the list stays as it was and the value is dropped.
+    pub fn push(&mut self, item: T) -> Result<(), AllocError>
+    where
+        T: Drop,
+        ensures ok { OnOk result (self.new ≡ self.old ++ item ∷ []) }
+        ensures err { OnErr result (self.new ≡ self.old) }
+    {
+        self.items.push(item)?;
+        Ok(())
+    }
+
+    /// The values in order.
+    pub fn as_slice(&self) -> &[T]
+        ensures { result.now ≡ self.now }
+    {
+        self.items.as_slice()
+    }
+}
+
+impl<T> From<Vec<T>> for List<T> {
+    ghost from_gives = { λ items list. list ≡ items.items };
+
+    /// The same values, moved and not copied.
+    fn from(items: Vec<T>) -> List<T> {
+        List { items }
+    }
+}
