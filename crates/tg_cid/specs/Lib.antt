@@ -1,0 +1,5 @@
+pub mod Cid
+pub mod Names
+pub mod Spelling
+pub mod Digest
+pub mod Faults

@@ -1,0 +1,12 @@
+//! CIDs: the self-describing names of blocks.
+#![tactic(auto)]
+
+mod cid;
+mod fault;
+mod room;
+
+pub use cid::{Cid, Codec, HashKind};
+pub use fault::CidFault;
+
+#[cfg(test)]
+mod tests;
