@@ -1,0 +1,5 @@
+pub mod Bits
+pub mod Items
+pub mod Laws
+pub mod Steps
+pub mod Reading
