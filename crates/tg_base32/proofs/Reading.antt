@@ -1,6 +1,6 @@
 -- Letters that are read one by one, and what they come to.
-use Rattle.std.proofs.Common.{◌≡◌, ℕ, zero, suc, ◌+◌, ◌-◌, ◌*◌, ◌/◌, ◌%◌, ◌^◌, ◌<◌, ◌≤◌, ◌≢◌, ◌⊎◌, List, [], ◌∷◌, ◌++◌, length, refl, sym, ap, ap₂, ◌∙◌, append_assoc, subst, inl, inr, arith}
-use Rattle.std.specs.Prelude.{All, Any, replicate, drop, slice_get, Some}
+use Rattle.std.proofs.Common.{false, ◌≡◌, ℕ, zero, suc, ◌+◌, ◌-◌, ◌*◌, ◌/◌, ◌%◌, ◌^◌, ◌<◌, ◌≤◌, ◌≢◌, ◌⊎◌, List, [], ◌∷◌, ◌++◌, length, refl, sym, ap, ap₂, ◌∙◌, append_assoc, subst, inl, inr, arith}
+use Rattle.std.specs.Prelude.{All, Any, replicate, drop, slice_get, Some, IsTrue}
 use Rattle.std.proofs.Math.ListN.{length-replicate}
 use Rattle.std.proofs.Math.Nat.{mod-lt}
 use Rattle.std.proofs.lemmas.Bool.{cases_lt}
@@ -134,3 +134,12 @@ one_place text a b p q =
           | inr ge ↦ omega arith
         ]
     ]
+
+pub falsehood : IsTrue false → ⊥
+falsehood h = cc
+
+-- letters in a possible number and with no tail have bytes
+pub readable : (text : List ℕ) → All IsLetter text → (IsNoLength (length text) → ⊥) → (Any (λ (bit : ℕ). bit ≡ 1) (tail_bits text) → ⊥) → (bytes : List ℕ) × Base32Text text bytes
+readable text letters possible no_tail =
+    let read = some_bytes text letters in
+    (read.0, spelled text read.0 letters possible no_tail read.1)

@@ -5,6 +5,7 @@ ghost use Rattle.std.specs.Prelude.{◌≡◌, ℕ, ◌+◌, ◌*◌, ◌/◌, �
 ghost use Rattle.tg_base32.specs.Base32.{Base32Text, IsFirstOutside, HasNoLength, HasTail, IsLetter, IsNoLength, value_of, bits, bits_of_bytes, bits_of_text};
 ghost use Rattle.tg_base32.specs.Held.{IsHeld, bits_of, Reads, TakesLetter, MovesLetter};
 ghost use Rattle.tg_base32.specs.declared.Base32Fault.{Base32Fault};
+ghost use Rattle.tg_base32.specs.declared.Base32Fault.TheVariants.{OutOfMemory};
 
 use std::alloc::{AllocError, Global};
 use thiserror::Error;
@@ -24,6 +25,14 @@ pub enum Base32Fault {
     /// No memory was found for the bytes.
     #[error("out of memory")]
     OutOfMemory,
+}
+
+impl From<AllocError> for Base32Fault {
+    ghost from_gives = { λ _ e. e ≡ OutOfMemory };
+
+    fn from(_: AllocError) -> Self {
+        Base32Fault::OutOfMemory
+    }
 }
 
 /// The bytes that a text spells.
@@ -52,7 +61,7 @@ pub fn decode(alloc: Global, text: &[u8]) -> Result<Vec<u8>, Base32Fault>
     if has_tail(text) {
         return Err(Base32Fault::BadTail);
     }
-    bytes_of(alloc, text).map_err(|_| Base32Fault::OutOfMemory)
+    Ok(bytes_of(alloc, text)?)
 }
 
 /// The one text that spells the bytes.
