@@ -3,3 +3,4 @@ pub mod Items
 pub mod Laws
 pub mod Steps
 pub mod Reading
+pub mod Writing

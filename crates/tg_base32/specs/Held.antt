@@ -30,3 +30,9 @@ pub record MovesLetter (old : List ℕ) (held : Held) (new : List ℕ) (rest : H
   pub fits : rest.value < 2 ^ rest.count
   pub count : (held.count < 5 → rest.count ≡ held.count) × (5 ≤ held.count → rest.count + 5 ≡ held.count)
   pub same_bits : bits_of_text new ++ bits_of rest ≡ bits_of_text old ++ bits_of held
+
+-- a byte's bits come in behind the held ones, of which the first go to the text's end as whole letters
+pub record TakesByte (old : List ℕ) (held : Held) (byte : ℕ) (new : List ℕ) (rest : Held) : Type 0 where
+  pub letters : All IsLetter old → All IsLetter new
+  pub is_held : IsHeld 5 rest
+  pub same_bits : bits_of_text new ++ bits_of rest ≡ bits_of_text old ++ (bits_of held ++ bits 8 byte)

@@ -3,7 +3,7 @@
 
 ghost use Rattle.std.specs.Prelude.{◌≡◌, ℕ, ◌+◌, ◌*◌, ◌/◌, ◌<◌, ◌↔◌, List, ◌++◌, length, drop, All, Any, IfOk, IsErrOf, IsTrue, MatchOption, MatchResult};
 ghost use Rattle.tg_base32.specs.Base32.{Base32Text, IsFirstOutside, HasNoLength, HasTail, IsLetter, IsNoLength, value_of, bits, bits_of_bytes, bits_of_text};
-ghost use Rattle.tg_base32.specs.Held.{IsHeld, bits_of, Reads, TakesLetter, MovesLetter};
+ghost use Rattle.tg_base32.specs.Held.{IsHeld, bits_of, Reads, TakesLetter, TakesByte, MovesLetter};
 ghost use Rattle.tg_base32.specs.declared.Base32Fault.{Base32Fault};
 ghost use Rattle.tg_base32.specs.declared.Base32Fault.TheVariants.{OutOfMemory};
 
@@ -74,15 +74,11 @@ pub fn encode(alloc: Global, bytes: &[u8]) -> Result<Vec<u8>, AllocError>
     let mut text = Vec::with_capacity(alloc, letters)?;
     let mut held = Held { value: 0, count: 0 };
     for byte in bytes {
-        held.value = held.value * 256 + u16::from(*byte);
-        held.count += 8;
-        held = push_letter(&mut text, held)?;
-        held = push_letter(&mut text, held)?;
+        held = take_byte(&mut text, held, *byte)?;
     }
     if held.count > 0 {
-        // The last letter's unused bits are zero.
-        held = Held { value: held.value << (5 - held.count), count: 5 };
-        let _ = push_letter(&mut text, held)?;
+        // The unused bits of the last letter are zero.
+        text.push(letter_for((held.value << (5 - held.count)) as u8))?;
     }
     Ok(text)
 }
@@ -160,13 +156,13 @@ fn bytes_of(alloc: Global, text: &[u8]) -> Result<Vec<u8>, AllocError>
     let mut bytes = Vec::with_capacity(alloc, text.len() / 8 * 5 + text.len() % 8 * 5 / 8)?;
     let mut held = Held { value: 0, count: 0 };
     for letter in text {
-        held = push_byte(&mut bytes, held, *letter)?;
+        held = take_letter(&mut bytes, held, *letter)?;
     }
     Ok(bytes)
 }
 
 /// Holds a letter's bits too, and moves the first eight of them to the bytes if there are as many.
-fn push_byte(bytes: &mut Vec<u8>, held: Held, letter: u8) -> Result<Held, AllocError>
+fn take_letter(bytes: &mut Vec<u8>, held: Held, letter: u8) -> Result<Held, AllocError>
     requires held { IsHeld 8 held }
     requires letter { IsLetter letter }
     ensures { IfOk result (λ rest. TakesLetter bytes.old.items held letter bytes.new.items rest) }
@@ -178,6 +174,16 @@ fn push_byte(bytes: &mut Vec<u8>, held: Held, letter: u8) -> Result<Held, AllocE
     let count = held.count - 3;
     bytes.push((value >> count) as u8)?;
     Ok(Held { value: value % (1 << count), count })
+}
+
+/// Holds a byte's bits too, and moves the first ones to the text as whole letters.
+fn take_byte(text: &mut Vec<u8>, held: Held, byte: u8) -> Result<Held, AllocError>
+    requires { IsHeld 5 held }
+    ensures { IfOk result (λ rest. TakesByte text.old.items held byte text.new.items rest) }
+{
+    let held = Held { value: held.value * 256 + u16::from(byte), count: held.count + 8 };
+    let held = push_letter(text, held)?;
+    push_letter(text, held)
 }
 
 /// Moves the first five bits to the text if there are as many.

@@ -4,7 +4,7 @@ use Rattle.tg_base32.specs.Held.{TakesLetter}
 use Rattle.tg_base32.proofs.Laws.{value_below}
 use Rattle.tg_base32.proofs.Reading.{stays, goes}
 use Rattle.tg_base32.proofs.Steps.{mask, high_below}
-use Rattle.tg_base32.proofs.push_byte.Goals as goal
+use Rattle.tg_base32.proofs.take_letter.Goals as goal
 
 pub returns-then-held-lt3 : goal.returns-then-held-lt3
 returns-then-held-lt3 c =
