@@ -68,11 +68,11 @@ tail_of text front letter unused is few whole =
     let high = bits (5 - unused) (v / 2 ^ unused) in
     let five : bits 5 v ≡ high ++ bits unused v = ap (λ (n : ℕ). bits n v) (omega arith) ∙ bits-append (5 - unused) unused v in
     let parts : bits_of_text text ≡ (bits_of_text front ++ high) ++ bits unused v =
-        ap bits_of_text is ∙ flat_map-append bits_of_letter front (letter ∷ [])
-        ∙ ap (λ (t : List ℕ). bits_of_text front ++ t) (append-nil (bits 5 v) ∙ five)
-        ∙ sym (append_assoc (bits_of_text front) high (bits unused v)) in
+    ap bits_of_text is ∙ flat_map-append bits_of_letter front (letter ∷ [])
+    ∙ ap (λ (t : List ℕ). bits_of_text front ++ t) (append-nil (bits 5 v) ∙ five)
+    ∙ sym (append_assoc (bits_of_text front) high (bits unused v)) in
     let size : 8 * (5 * length text / 8) ≡ length (bits_of_text front ++ high) =
-        omega (arith, ap length is, length-append front (letter ∷ []), length-append (bits_of_text front) high, length_of_text front, length-bits (5 - unused) (v / 2 ^ unused)) in
+    omega (arith, ap length is, length-append front (letter ∷ []), length-append (bits_of_text front) high, length_of_text front, length-bits (5 - unused) (v / 2 ^ unused)) in
     ap (drop (8 * (5 * length text / 8))) parts
     ∙ drop_front (8 * (5 * length text / 8)) (bits_of_text front ++ high) (bits unused v) size
     ∙ sym (bits-mod unused v)
@@ -80,13 +80,14 @@ tail_of text front letter unused is few whole =
 -- the bits of a number hold a 1 just where it isn't 0
 pub set_bits : (tail : List ℕ) (count number : ℕ) → number < 2 ^ count → tail ≡ bits count number → (0 < number → Any (λ (bit : ℕ). bit ≡ 1) tail) × (Any (λ (bit : ℕ). bit ≡ 1) tail → 0 < number)
 set_bits tail count number lt e = (
-    λ h. subst (λ (bs : List ℕ). Any (λ (bit : ℕ). bit ≡ 1) bs) (sym e) (some_bit count number lt h),
-    λ h. elim (cases_lt 0 number) [
-      | inl p ↦ p
-      | inr p ↦
-          let none : tail ≡ replicate {A = ℕ} count 0 = e ∙ ap (bits count) (omega arith) ∙ bits_zero count in
-          absurd (no_bit count (subst (λ (bs : List ℕ). Any (λ (bit : ℕ). bit ≡ 1) bs) none h))
-    ])
+  λ h. subst (λ (bs : List ℕ). Any (λ (bit : ℕ). bit ≡ 1) bs) (sym e) (some_bit count number lt h),
+  λ h. elim (cases_lt 0 number) [
+    | inl p ↦ p
+    | inr p ↦
+        let none : tail ≡ replicate {A = ℕ} count 0 = e ∙ ap (bits count) (omega arith) ∙ bits_zero count in
+        absurd (no_bit count (subst (λ (bs : List ℕ). Any (λ (bit : ℕ). bit ≡ 1) bs) none h))
+  ],
+)
 
 -- the same of a text's last letter, as the code computes it
 pub last_bits : (text : List ℕ) (last rest : ℕ) → slice_get text (length text - 1) ≡ Some last → (IsNoLength (length text) → ⊥) → rest ≡ value_of last % (1 * 2 ^ (length text % 8 * 5 % 8) % 256) → (0 < rest → Any (λ (bit : ℕ). bit ≡ 1) (drop (8 * (5 * length text / 8)) (bits_of_text text))) × (Any (λ (bit : ℕ). bit ≡ 1) (drop (8 * (5 * length text / 8)) (bits_of_text text)) → 0 < rest)
@@ -98,9 +99,9 @@ last_bits text last rest at possible is =
     let not6 : length text % 8 ≢ 6 = λ e. possible (inr (inr e)) in
     let few : unused < 5 = omega arith in
     let split : text ≡ take (length text - 1) text ++ last ∷ [] =
-        sym (take_all (length text - 1 + 1) text (omega arith))
-        ∙ take_more text (length text - 1) 0 within
-        ∙ ap (λ (x : ℕ). take (length text - 1) text ++ x ∷ []) (get_or_from_slice_get text (length text - 1) last 0 at) in
+    sym (take_all (length text - 1 + 1) text (omega arith))
+    ∙ take_more text (length text - 1) 0 within
+    ∙ ap (λ (x : ℕ). take (length text - 1) text ++ x ∷ []) (get_or_from_slice_get text (length text - 1) last 0 at) in
     let tail = tail_of text (take (length text - 1) text) last unused split (omega arith) (omega arith) in
     let masked : rest ≡ value_of last % 2 ^ unused = is ∙ ap (λ (n : ℕ). value_of last % n) (one_shl unused 8 (omega arith)) in
     set_bits (drop (8 * (5 * length text / 8)) (bits_of_text text)) unused rest (rw masked (mod-lt (value_of last) (pow_pos unused))) (tail ∙ ap (bits unused) (sym masked))

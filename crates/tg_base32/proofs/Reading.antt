@@ -45,10 +45,10 @@ reads_more text bytes letter new rest h t = record {
   held = rest;
   is_held = t.is_held;
   same_bits =
-    flat_map-append bits_of_letter text (letter ∷ [])
-    ∙ ap₂ (λ (a b : List ℕ). a ++ b) h.same_bits (append-nil (bits_of_letter letter))
-    ∙ append_assoc (bits_of_bytes bytes) (bits_of h.held) (bits_of_letter letter)
-    ∙ sym t.same_bits;
+      flat_map-append bits_of_letter text (letter ∷ [])
+      ∙ ap₂ (λ (a b : List ℕ). a ++ b) h.same_bits (append-nil (bits_of_letter letter))
+      ∙ append_assoc (bits_of_bytes bytes) (bits_of h.held) (bits_of_letter letter)
+      ∙ sym t.same_bits;
 }
 
 reads_one : (text bytes : List ℕ) (letter : ℕ) → IsLetter letter → Reads text bytes → (more : List ℕ) × Reads (text ++ letter ∷ []) more
@@ -82,14 +82,14 @@ tail_bits text = drop (8 * (5 * length text / 8)) (bits_of_text text)
 pub spelled : (text bytes : List ℕ) → All IsLetter text → (IsNoLength (length text) → ⊥) → (Any (λ (bit : ℕ). bit ≡ 1) (tail_bits text) → ⊥) → Reads text bytes → Base32Text text bytes
 spelled text bytes letters possible no_tail h =
     let size : 5 * length text ≡ 8 * length bytes + h.held.count =
-        omega (arith, length_of_text text, length_of_bytes bytes, ap length h.same_bits, length-append (bits_of_bytes bytes) (bits_of h.held), length-bits h.held.count h.held.value) in
+    omega (arith, length_of_text text, length_of_bytes bytes, ap length h.same_bits, length-append (bits_of_bytes bytes) (bits_of h.held), length-bits h.held.count h.held.value) in
     let fewer : h.held.count < 8 = h.is_held.fewer in
     let not1 : length text % 8 ≢ 1 = λ e. possible (inl e) in
     let not3 : length text % 8 ≢ 3 = λ e. possible (inr (inl e)) in
     let not6 : length text % 8 ≢ 6 = λ e. possible (inr (inr e)) in
     let tail : tail_bits text ≡ bits h.held.count h.held.value =
-        ap (drop (8 * (5 * length text / 8))) h.same_bits
-        ∙ drop_front (8 * (5 * length text / 8)) (bits_of_bytes bytes) (bits_of h.held) (omega (arith, length_of_bytes bytes)) in
+    ap (drop (8 * (5 * length text / 8))) h.same_bits
+    ∙ drop_front (8 * (5 * length text / 8)) (bits_of_bytes bytes) (bits_of h.held) (omega (arith, length_of_bytes bytes)) in
     let none : h.held.value ≡ 0 = elim (cases_lt 0 h.held.value) [
       | inl p ↦ absurd (no_tail (subst (λ (bs : List ℕ). Any (λ (bit : ℕ). bit ≡ 1) bs) (sym tail) (some_bit h.held.count h.held.value h.is_held.fits p)))
       | inr p ↦ omega arith
@@ -115,8 +115,8 @@ spelled_length text bytes h n =
 pub spelled_tail : (text bytes : List ℕ) → Base32Text text bytes → Any (λ (bit : ℕ). bit ≡ 1) (tail_bits text) → ⊥
 spelled_tail text bytes h any =
     let tail : tail_bits text ≡ replicate {A = ℕ} h.padding 0 =
-        ap (drop (8 * (5 * length text / 8))) h.same_bits
-        ∙ drop_front (8 * (5 * length text / 8)) (bits_of_bytes bytes) (replicate {A = ℕ} h.padding 0) (omega (arith, length_of_bytes bytes, lengths text bytes h, h.fewer)) in
+    ap (drop (8 * (5 * length text / 8))) h.same_bits
+    ∙ drop_front (8 * (5 * length text / 8)) (bits_of_bytes bytes) (replicate {A = ℕ} h.padding 0) (omega (arith, length_of_bytes bytes, lengths text bytes h, h.fewer)) in
     no_bit h.padding (subst (λ (bs : List ℕ). Any (λ (bit : ℕ). bit ≡ 1) bs) tail any)
 
 pub none_outside : (text : List ℕ) (at : ℕ) → All IsLetter text → IsFirstOutside text at → ⊥
@@ -130,9 +130,9 @@ one_place text a b p q =
     elim (cases_lt a b) [
       | inl lt ↦ absurd (p.outside (q.before a p.letter lt p.here))
       | inr le ↦ elim (cases_lt b a) [
-          | inl lt ↦ absurd (q.outside (p.before b q.letter lt q.here))
-          | inr ge ↦ omega arith
-        ]
+        | inl lt ↦ absurd (q.outside (p.before b q.letter lt q.here))
+        | inr ge ↦ omega arith
+      ]
     ]
 
 pub falsehood : IsTrue false → ⊥

@@ -17,7 +17,7 @@ holds_more high low a b p q =
 pub move : (f : ℕ → List ℕ) (items : List ℕ) (item width count value : ℕ) → f item ≡ bits width (value / 2 ^ count) → flat_map f (items ++ item ∷ []) ++ bits count (value % 2 ^ count) ≡ flat_map f items ++ bits (width + count) value
 move f items item width count value e =
     let one : flat_map f (items ++ item ∷ []) ≡ flat_map f items ++ bits width (value / 2 ^ count) =
-        flat_map-append f items (item ∷ []) ∙ ap (λ (t : List ℕ). flat_map f items ++ t) (append-nil (f item) ∙ e) in
+    flat_map-append f items (item ∷ []) ∙ ap (λ (t : List ℕ). flat_map f items ++ t) (append-nil (f item) ∙ e) in
     ap₂ (λ (s t : List ℕ). s ++ t) one (bits-mod count value)
     ∙ append_assoc (flat_map f items) (bits width (value / 2 ^ count)) (bits count value)
     ∙ ap (λ (t : List ℕ). flat_map f items ++ t) (sym (bits-append width count value))

@@ -25,8 +25,8 @@ one_moves old held letter count e is v = record {
   fits = mod-lt held.value (pow_pos count);
   count = (λ lt. absurd (omega arith), λ _. omega arith);
   same_bits =
-    move bits_of_letter old letter 5 count held.value (ap (bits 5) v)
-    ∙ ap (λ (n : ℕ). bits_of_text old ++ bits n held.value) e;
+      move bits_of_letter old letter 5 count held.value (ap (bits 5) v)
+      ∙ ap (λ (n : ℕ). bits_of_text old ++ bits n held.value) e;
 }
 
 -- a byte comes in, and at most two letters go out
@@ -41,8 +41,8 @@ two_moves old mid new held one two byte h below p q =
       letters = λ l. q.letters (p.letters l);
       is_held = record { fewer = fewer; fits = q.fits };
       same_bits =
-        q.same_bits ∙ p.same_bits
-        ∙ ap (λ (t : List ℕ). bits_of_text old ++ t) (bits_join held.count 8 held.value byte below);
+          q.same_bits ∙ p.same_bits
+          ∙ ap (λ (t : List ℕ). bits_of_text old ++ t) (bits_join held.count 8 held.value byte below);
     }
 
 pub takes_in : (held : Held) (byte : ℕ) → IsHeld 5 held → byte < 2 ^ 8 → IsHeld 13 (record { value = held.value * 256 + byte; count = held.count + 8 })
@@ -66,27 +66,26 @@ pub last_letter : (text bytes : List ℕ) (held : Held) (letter : ℕ) → All I
 last_letter text bytes held letter letters are_bytes some few is v e =
     let padding = 5 - held.count in
     let split : bits_of_letter letter ≡ bits_of held ++ replicate {A = ℕ} padding 0 =
-        ap₂ bits (omega arith) (v ∙ omega arith)
-        ∙ bits_join held.count padding held.value 0 (pow_pos padding)
-        ∙ ap (λ (t : List ℕ). bits_of held ++ t) (bits_zero padding) in
+    ap₂ bits (omega arith) (v ∙ omega arith)
+    ∙ bits_join held.count padding held.value 0 (pow_pos padding)
+    ∙ ap (λ (t : List ℕ). bits_of held ++ t) (bits_zero padding) in
     record {
       letters = All-push IsLetter text letter letters is;
       are_bytes = are_bytes;
       padding = padding;
       fewer = omega arith;
       same_bits =
-        flat_map-append bits_of_letter text (letter ∷ [])
-        ∙ ap (λ (t : List ℕ). bits_of_text text ++ t) (append-nil (bits_of_letter letter) ∙ split)
-        ∙ sym (append_assoc (bits_of_text text) (bits_of held) (replicate {A = ℕ} padding 0))
-        ∙ ap (λ (t : List ℕ). t ++ replicate {A = ℕ} padding 0) e;
+          flat_map-append bits_of_letter text (letter ∷ [])
+          ∙ ap (λ (t : List ℕ). bits_of_text text ++ t) (append-nil (bits_of_letter letter) ∙ split)
+          ∙ sym (append_assoc (bits_of_text text) (bits_of held) (replicate {A = ℕ} padding 0))
+          ∙ ap (λ (t : List ℕ). t ++ replicate {A = ℕ} padding 0) e;
     }
 
 -- the last letter's value, as the code computes it
 pub last_value : (held : Held) → 0 < held.count → IsHeld 5 held → (held.value * 2 ^ (5 - held.count) % 65536 ≡ held.value * 2 ^ (5 - held.count)) × (held.value * 2 ^ (5 - held.count) < 2 ^ 5)
 last_value held some h =
     let whole : held.count + (5 - held.count) ≡ 5 = omega (arith, h.fewer) in
-    let below : held.value * 2 ^ (5 - held.count) < 2 ^ (held.count + (5 - held.count)) = shl_below held.value held.count (5 - held.count) h.fits in
-    (
-        shl_whole held.value held.count (5 - held.count) 16 h.fits (omega (arith, h.fewer)),
-        subst (λ (n : ℕ). held.value * 2 ^ (5 - held.count) < 2 ^ n) whole below
+    let below : held.value * 2 ^ (5 - held.count) < 2 ^ (held.count + (5 - held.count)) = shl_below held.value held.count (5 - held.count) h.fits in (
+      shl_whole held.value held.count (5 - held.count) 16 h.fits (omega (arith, h.fewer)),
+      subst (λ (n : ℕ). held.value * 2 ^ (5 - held.count) < 2 ^ n) whole below,
     )

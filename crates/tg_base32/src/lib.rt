@@ -87,8 +87,7 @@ pub fn encode(alloc: Global, bytes: &[u8]) -> Result<Vec<u8>, AllocError>
 pub fn one_text()
     ensures one_reading { (text a b : List ℕ) → Base32Text text a → Base32Text text b → a ≡ b }
     ensures one_spelling { (s t bytes : List ℕ) → Base32Text s bytes → Base32Text t bytes → s ≡ t }
-{
-}
+{}
 
 /// Bits that don't make a whole byte or letter yet: the lowest `count` of `value`.
 #[derive(Clone, Copy)]
@@ -116,7 +115,11 @@ fn letter_value(letter: u8) -> u8
     requires { IsLetter letter }
     ensures { result ≡ value_of letter }
 {
-    if letter < b'a' { letter - b'2' + 26 } else { letter - b'a' }
+    if letter < b'a' {
+        letter - b'2' + 26
+    } else {
+        letter - b'a'
+    }
 }
 
 /// The letter that stands for a value.
@@ -125,7 +128,11 @@ fn letter_for(value: u8) -> u8
     ensures is_letter { IsLetter result }
     ensures value { value_of result ≡ value }
 {
-    if value < 26 { value + b'a' } else { value - 26 + b'2' }
+    if value < 26 {
+        value + b'a'
+    } else {
+        value - 26 + b'2'
+    }
 }
 
 /// Whether no bytes have a text of this many letters.
@@ -169,11 +176,17 @@ fn take_letter(bytes: &mut Vec<u8>, held: Held, letter: u8) -> Result<Held, Allo
 {
     let value = held.value * 32 + u16::from(letter_value(letter));
     if held.count < 3 {
-        return Ok(Held { value, count: held.count + 5 });
+        return Ok(Held {
+            value,
+            count: held.count + 5,
+        });
     }
     let count = held.count - 3;
     bytes.push((value >> count) as u8)?;
-    Ok(Held { value: value % (1 << count), count })
+    Ok(Held {
+        value: value % (1 << count),
+        count,
+    })
 }
 
 /// Holds a byte's bits too, and moves the first ones to the text as whole letters.
@@ -181,7 +194,10 @@ fn take_byte(text: &mut Vec<u8>, held: Held, byte: u8) -> Result<Held, AllocErro
     requires { IsHeld 5 held }
     ensures { IfOk result (λ rest. TakesByte text.old.items held byte text.new.items rest) }
 {
-    let held = Held { value: held.value * 256 + u16::from(byte), count: held.count + 8 };
+    let held = Held {
+        value: held.value * 256 + u16::from(byte),
+        count: held.count + 8,
+    };
     let held = push_letter(text, held)?;
     push_letter(text, held)
 }
@@ -196,5 +212,11 @@ fn push_letter(text: &mut Vec<u8>, held: Held) -> Result<Held, AllocError>
     }
     let count = held.count - 5;
     text.push(letter_for((held.value >> count) as u8))?;
-    Ok(Held { value: held.value % (1 << count), count })
+    Ok(Held {
+        value: held.value % (1 << count),
+        count,
+    })
 }
+
+#[cfg(test)]
+mod tests;

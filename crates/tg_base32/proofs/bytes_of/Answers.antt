@@ -11,8 +11,8 @@ loop-letter-init c = record { are_bytes = rw c.in_ok-bytes.ensures.items (All-ni
 
 pub returns : goal.returns
 returns c = record {
-    are_bytes = c.loop-letter.invariant.are_bytes;
-    held = c.loop-letter.held;
-    is_held = c.loop-letter.invariant.is_held;
-    same_bits = ap bits_of_text (sym (take_all c.loop-letter.letter-index c.args.text.now (omega arith))) ∙ c.loop-letter.invariant.same_bits
-  }
+  are_bytes = c.loop-letter.invariant.are_bytes;
+  held = c.loop-letter.held;
+  is_held = c.loop-letter.invariant.is_held;
+  same_bits = ap bits_of_text (sym (take_all c.loop-letter.letter-index c.args.text.now (omega arith))) ∙ c.loop-letter.invariant.same_bits;
+}

@@ -11,10 +11,10 @@ use Rattle.tg_base32.proofs.encode.Goals.{then-held-gt0+in_ok-push, else-held-gt
 pub loop-byte-init : goal.loop-byte-init
 unfolding bits
 loop-byte-init c = record {
-    letters = rw c.in_ok-text.ensures.items (All-nil IsLetter);
-    is_held = record { fewer = omega arith; fits = omega arith };
-    same_bits = rw c.in_ok-text.ensures.items refl
-  }
+  letters = rw c.in_ok-text.ensures.items (All-nil IsLetter);
+  is_held = record { fewer = omega arith; fits = omega arith };
+  same_bits = rw c.in_ok-text.ensures.items refl;
+}
 
 pub overflow_cast-held : goal.overflow_cast-held
 overflow_cast-held c = let v = last_value c.loop-byte.held c.if-held-gt0.true c.loop-byte.invariant.is_held in omega (arith, v.0, v.1)
@@ -26,7 +26,7 @@ pub returns : goal.returns
 returns c =
     let are_bytes : All (λ b. b < 256) c.args.bytes.now = All-from_get_or (λ b. b < 256) c.args.bytes.now 0 (λ i h. omega (arith, c.type_inv.bytes i)) in
     let same : bits_of_text c.loop-byte.text.items ++ bits_of c.loop-byte.held ≡ bits_of_bytes c.args.bytes.now =
-        c.loop-byte.invariant.same_bits ∙ ap bits_of_bytes (take_all c.loop-byte.byte-index c.args.bytes.now (omega arith)) in
+    c.loop-byte.invariant.same_bits ∙ ap bits_of_bytes (take_all c.loop-byte.byte-index c.args.bytes.now (omega arith)) in
     elim c.if-held-gt0.branch [
       | then-held-gt0+in_ok-push w ↦
           let v = last_value c.loop-byte.held w.if-held-gt0.true c.loop-byte.invariant.is_held in

@@ -6,7 +6,7 @@ use Rattle.tg_base32.proofs.encode.Given as goal
 
 abbrev pub invariant-loop-byte : goal.invariant-loop-byte
 invariant-loop-byte l = record {
-    letters : All IsLetter l.text.items;
-    is_held : IsHeld 5 l.held;
-    same_bits : bits_of_text l.text.items ++ bits_of l.held ≡ bits_of_bytes (take l.byte-index l.bytes)
-  }
+  letters : All IsLetter l.text.items;
+  is_held : IsHeld 5 l.held;
+  same_bits : bits_of_text l.text.items ++ bits_of l.held ≡ bits_of_bytes (take l.byte-index l.bytes);
+}

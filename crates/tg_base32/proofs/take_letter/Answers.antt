@@ -15,7 +15,7 @@ pub overflow_cast-value : goal.overflow_cast-value
 overflow_cast-value c =
     let lt : c.from.result < 2 ^ 5 = omega (arith, value_below c.args.letter c.requires.letter) in
     let h : (c.args.held.value * 32 + c.from.result) / 2 ^ (c.args.held.count - 3) < 2 ^ 8 =
-        high_below c.args.held.value c.from.result c.args.held.count 5 8 (c.args.held.count - 3) (omega arith) c.requires.held.fits lt in
+    high_below c.args.held.value c.from.result c.args.held.count 5 8 (c.args.held.count - 3) (omega arith) c.requires.held.fits lt in
     omega arith
 
 pub returns : goal.returns
