@@ -1,0 +1,146 @@
+-- Why a text is no message under a table: the first field, from the left, at which a cause holds, and of several causes
+-- the first in the order of this file.
+use Rattle.std.specs.Prelude.{◌≡◌, ◌≢◌, ℕ, ◌+◌, ◌<◌, ◌≤◌, ◌⊎◌, List, [], ◌∷◌, ◌++◌, length, All, Any, Contains, ⊤}
+use Rattle.tg_pbtable.specs.declared.table.Rule.{Rule}
+use Rattle.tg_pbtable.specs.declared.table.Times.{Times}
+use Rattle.tg_pbtable.specs.declared.table.Times.TheVariants.{One, Optional, Many}
+use Rattle.tg_pbtable.specs.declared.table.Order.{Order}
+use Rattle.tg_pbtable.specs.declared.table.Order.TheVariants.{Ascending, Runs}
+use Rattle.tg_pbtable.specs.declared.table.Field.{Field}
+use Rattle.tg_pbtable.specs.declared.fault.PbFault.{PbFault}
+use Rattle.tg_pbtable.specs.declared.fault.PbFault.TheVariants as faults
+use Rattle.tg_pbtable.specs.Varint.{VarintSpelling, EndsInside, IsBadVarint}
+use Rattle.tg_pbtable.specs.Message.{Spelled, AreRuled, IsAtMost, count_of, IsInOrder, numbers_of, KeySpelling, wire_code}
+
+-- the text begins with these fields, which the table allows so far, and the rest stands behind them at `at`
+pub record Begins (rules : List Rule) (order : Order) (text : List ℕ) (fields : List Field) (at : ℕ) (rest : List ℕ) : Type 0 where
+  pub front : List ℕ
+  pub whole : text ≡ front ++ rest
+  pub at_is : at ≡ length front
+  pub spelled : Spelled 0 fields front
+  pub ruled : AreRuled rules fields
+  pub counts : All (λ rule. IsAtMost rule.times (count_of fields rule.number)) rules
+  pub ordered : IsInOrder order (numbers_of fields)
+
+-- a further field begins at `at`, and the cause holds of the fields before it and the bytes from there on
+pub record FirstAt (rules : List Rule) (order : Order) (text : List ℕ) (at : ℕ) (Cause : List Field → List ℕ → Type 0) : Type 0 where
+  pub fields : List Field
+  pub rest : List ℕ
+  pub begins : Begins rules order text fields at rest
+  pub more : 0 < length rest
+  pub cause : Cause fields rest
+
+-- the bytes begin with the key of a field of this number and wire type, and the others follow it
+pub record HasKey (number wire : ℕ) (bytes after : List ℕ) : Type 0 where
+  pub key : List ℕ
+  pub whole : bytes ≡ key ++ after
+  pub wire_is : wire < 8
+  pub key_is : KeySpelling number wire key
+
+-- a length stands at the front, and fewer bytes follow it
+pub record EndsInBytes (after : List ℕ) : Type 0 where
+  pub amount : ℕ
+  pub size : List ℕ
+  pub content : List ℕ
+  pub whole : after ≡ size ++ content
+  pub size_is : VarintSpelling amount size
+  pub fewer : length content < amount
+
+-- the value of a wire type ends before it is whole
+abbrev pub EndsInValue : ℕ → List ℕ → Type 0
+EndsInValue wire after = ((wire ≡ 0) × EndsInside after) ⊎ ((wire ≡ 2) × (EndsInside after ⊎ EndsInBytes after))
+
+-- 1: the text ends inside the key or the value
+abbrev pub IsShort : List ℕ → Type 0
+IsShort rest = EndsInside rest ⊎ ((number : ℕ) × (wire : ℕ) × (after : List ℕ) × HasKey number wire rest after × EndsInValue wire after)
+
+-- 2: the key, the number or the length is no varint
+abbrev pub HasBadVarint : List ℕ → Type 0
+HasBadVarint rest = IsBadVarint rest ⊎ ((number : ℕ) × (wire : ℕ) × (after : List ℕ) × HasKey number wire rest after
+    × ((wire ≡ 0) ⊎ (wire ≡ 2)) × IsBadVarint after)
+
+-- the value of a wire type stands whole behind the key; one of a wire type that is no table's isn't read
+pub record HasNumber (after : List ℕ) : Type 0 where
+  pub amount : ℕ
+  pub front : List ℕ
+  pub rest : List ℕ
+  pub whole : after ≡ front ++ rest
+  pub amount_is : VarintSpelling amount front
+
+pub record HasBytes (after : List ℕ) : Type 0 where
+  pub amount : ℕ
+  pub size : List ℕ
+  pub content : List ℕ
+  pub whole : after ≡ size ++ content
+  pub size_is : VarintSpelling amount size
+  pub enough : amount ≤ length content
+
+abbrev pub HasValue : ℕ → List ℕ → Type 0
+HasValue wire after = ((wire ≡ 0) × HasNumber after) ⊎ (((wire ≡ 2) × HasBytes after) ⊎ ((wire ≢ 0) × (wire ≢ 2)))
+
+-- a whole field of this number and wire type stands at the front
+pub record HasField (number wire : ℕ) (rest : List ℕ) : Type 0 where
+  pub after : List ℕ
+  pub has_key : HasKey number wire rest after
+  pub has_value : HasValue wire after
+
+-- 3: no rule has the field's number
+pub record IsUnknown (rules : List Rule) (number : ℕ) (rest : List ℕ) : Type 0 where
+  pub wire : ℕ
+  pub field : HasField number wire rest
+  pub unknown : All (λ rule. rule.number ≢ number) rules
+
+-- 4: the rule of the field's number has another wire type
+pub record HasWrongWire (rules : List Rule) (rest : List ℕ) : Type 0 where
+  pub number : ℕ
+  pub wire : ℕ
+  pub field : HasField number wire rest
+  pub rule : Rule
+  pub among : Contains rules rule
+  pub number_is : rule.number ≡ number
+  pub other : wire_code rule.wire ≢ wire
+
+-- a field of a rule stands at the front
+pub record HasRuled (rules : List Rule) (rule : Rule) (rest : List ℕ) : Type 0 where
+  pub among : Contains rules rule
+  pub field : HasField rule.number (wire_code rule.wire) rest
+
+-- 5: a greater number stands before it, or the number itself and then another one
+abbrev pub BreaksOrder : Order → List ℕ → ℕ → Type 0
+BreaksOrder Ascending numbers number = Any (λ n. number < n) numbers
+BreaksOrder Runs numbers number = Contains numbers number × ((front : List ℕ) → numbers ≡ front ++ number ∷ [] → ⊥)
+
+pub record IsOutOfOrder (rules : List Rule) (order : Order) (fields : List Field) (rest : List ℕ) : Type 0 where
+  pub rule : Rule
+  pub ruled : HasRuled rules rule rest
+  pub breaks : BreaksOrder order (numbers_of fields) rule.number
+
+-- 6: the field directly before it has the same number, which may stand once alone
+pub record IsDoubled (rules : List Rule) (fields : List Field) (rest : List ℕ) : Type 0 where
+  pub rule : Rule
+  pub ruled : HasRuled rules rule rest
+  pub once : rule.times ≢ Many
+  pub front : List ℕ
+  pub last : numbers_of fields ≡ front ++ rule.number ∷ []
+
+-- 7: the fields are whole, and this is the lowest number of a rule that asks for a field and has none
+pub record IsMissing (rules : List Rule) (order : Order) (text : List ℕ) (number : ℕ) : Type 0 where
+  pub fields : List Field
+  pub begins : Begins rules order text fields (length text) []
+  pub rule : Rule
+  pub among : Contains rules rule
+  pub number_is : rule.number ≡ number
+  pub asks : rule.times ≡ One
+  pub none : count_of fields number ≡ 0
+  pub lowest : All (λ other. other.times ≡ One → count_of fields other.number ≡ 0 → number ≤ other.number) rules
+
+-- the cause of each fault but want of memory
+abbrev pub HasCause : List Rule → Order → List ℕ → PbFault → Type 0
+HasCause rules order text (faults.Short at) = FirstAt rules order text at (λ _ rest. IsShort rest)
+HasCause rules order text (faults.BadVarint at) = FirstAt rules order text at (λ _ rest. HasBadVarint rest)
+HasCause rules order text (faults.Unknown at number) = FirstAt rules order text at (λ _ rest. IsUnknown rules number rest)
+HasCause rules order text (faults.WrongWire at) = FirstAt rules order text at (λ _ rest. HasWrongWire rules rest)
+HasCause rules order text (faults.OutOfOrder at) = FirstAt rules order text at (λ fields rest. IsOutOfOrder rules order fields rest)
+HasCause rules order text (faults.Doubled at) = FirstAt rules order text at (λ fields rest. IsDoubled rules fields rest)
+HasCause rules order text (faults.Missing number) = IsMissing rules order text number
+HasCause rules order text faults.OutOfMemory = ⊥

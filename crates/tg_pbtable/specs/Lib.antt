@@ -1,0 +1,4 @@
+pub mod Varint
+pub mod Message
+pub mod Faults
+pub mod Emitted

@@ -1,0 +1,15 @@
+//! One scanner and one emitter for every protobuf message that a table of fields describes.
+#![tactic(auto)]
+
+mod fault;
+mod reading;
+mod table;
+mod writing;
+
+pub use fault::PbFault;
+pub use reading::scan;
+pub use table::{Field, Fields, Order, Rule, Times, Value, Wire};
+pub use writing::{emit, one_message};
+
+#[cfg(test)]
+mod tests;

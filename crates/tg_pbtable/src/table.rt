@@ -1,0 +1,68 @@
+//! Tables of fields, and the fields of a text.
+use std::marker::Model;
+
+/// How a value is spelled (protobuf encoding guide, wire types).
+#[derive(Clone, Copy, Debug, PartialEq, Eq)]
+pub enum Wire {
+    /// Wire type 0: a varint below 2 ^ 64.
+    Varint,
+    /// Wire type 2: a length and that many bytes.
+    Bytes,
+}
+
+/// How often a number may stand.
+#[derive(Clone, Copy, Debug, PartialEq, Eq)]
+pub enum Times {
+    /// Once.
+    One,
+    /// Once or not at all.
+    Optional,
+    /// Any number of times.
+    Many,
+}
+
+/// A row of a table: the number of a field, from 1 to 2 ^ 29 - 1, its wire type and how often it may stand.
+#[derive(Clone, Copy, Debug, PartialEq, Eq)]
+pub struct Rule {
+    pub number: u32,
+    pub wire: Wire,
+    pub times: Times,
+}
+
+/// In which order the fields of a message stand.
+#[derive(Clone, Copy, Debug, PartialEq, Eq)]
+pub enum Order {
+    /// The numbers never fall.
+    Ascending,
+    /// The fields of one number stand together.
+    Runs,
+}
+
+/// The value of a field: a number, or the place of its bytes in the text, from `start` up to and without `end`.
+#[derive(Clone, Copy, Debug, PartialEq, Eq)]
+pub enum Value {
+    Number(u64),
+    Place { start: usize, end: usize },
+}
+
+/// One field of a text.
+#[derive(Clone, Copy, Debug, PartialEq, Eq)]
+pub struct Field {
+    pub number: u32,
+    pub value: Value,
+}
+
+/// The fields of a text in order, which contracts see as a list.
+#[derive(Debug, Drop)]
+pub struct Fields {
+    fields: Vec<Field>,
+}
+
+impl Model for Fields {
+    ghost use Rattle.std.specs.Prelude.{List};
+    ghost use Rattle.tg_pbtable.specs.declared.table.Field.{Field};
+
+    ghost Value = { List Field };
+
+    ghost view = { λ f. f.fields.items };
+}
