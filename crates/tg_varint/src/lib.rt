@@ -44,7 +44,10 @@ pub fn read(bytes: &[u8]) -> Result<(u64, usize), VarintFault>
     for (at, byte) in bytes.iter().enumerate() {
         number += u64::from(*byte % 128) * weight;
         if *byte < 128 {
-            return if *byte == 0 && at > 0 { Err(VarintFault::NotShortest) } else { Ok((number, at + 1)) };
+            if *byte == 0 && at > 0 {
+                return Err(VarintFault::NotShortest);
+            }
+            return Ok((number, at + 1));
         }
         if at == LAST {
             return Err(VarintFault::TooLong);
