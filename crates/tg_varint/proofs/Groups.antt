@@ -1,5 +1,5 @@
 -- What groups of seven bits spell, and where the first byte without the high bit stands.
-use Rattle.std.proofs.Common.{◌≡◌, ℕ, suc, ◌+◌, ◌-◌, ◌*◌, ◌/◌, ◌%◌, ◌^◌, ◌<◌, ◌≤◌, List, [], ◌∷◌, ◌++◌, length, take, drop, refl, ap, ap₂, sym, add-one, ◌∙◌, arith, get_or}
+use Rattle.std.proofs.Common.{◌≡◌, ℕ, suc, ◌+◌, ◌*◌, ◌%◌, ◌^◌, ◌<◌, ◌≤◌, List, [], ◌∷◌, ◌++◌, length, take, refl, ap, ap₂, sym, add-one, ◌∙◌, arith, get_or}
 use Rattle.std.proofs.Math.Nat.{pow-suc, pow-succ', pow-le-pow_right, mul-le-mul_right}
 use Rattle.std.proofs.lemmas.List.{get_or_at, length-append, length-take-le, take_more}
 use Rattle.std.proofs.lemmas.List.Elements.{All-head, All-tail}
@@ -61,13 +61,13 @@ pub number_more : (bytes : List ℕ) (at number group weight : ℕ) → at < len
 number_more bytes at number group weight within so_far heavy low =
     let long : length (take at bytes) ≡ at = length-take-le at bytes (omega arith) in
     let parts : number_of (take (at + 1) bytes) ≡ number_of (take at bytes ++ get_or bytes at 0 ∷ []) =
-        ap number_of (take_more bytes at 0 within) in
+    ap number_of (take_more bytes at 0 within) in
     let sum : number_of (take at bytes ++ get_or bytes at 0 ∷ [])
-        ≡ number_of (take at bytes) + 128 ^ length (take at bytes) * number_of (get_or bytes at 0 ∷ []) =
-        number_of-append (take at bytes) (get_or bytes at 0 ∷ []) in
+    ≡ number_of (take at bytes) + 128 ^ length (take at bytes) * number_of (get_or bytes at 0 ∷ []) =
+    number_of-append (take at bytes) (get_or bytes at 0 ∷ []) in
     let weights : 128 ^ length (take at bytes) ≡ weight = ap (λ k. 128 ^ k) long ∙ sym heavy in
     let product : 128 ^ length (take at bytes) * number_of (get_or bytes at 0 ∷ []) ≡ weight * group =
-        ap₂ (λ w g. w * g) weights (omega arith) in
+    ap₂ (λ w g. w * g) weights (omega arith) in
     omega arith
 
 -- the weight of the next group

@@ -1,6 +1,6 @@
 -- What `read` answers at each place where it ends, and that no two of its causes stand together.
-use Rattle.std.proofs.Common.{◌≡◌, ℕ, ◌+◌, ◌-◌, ◌*◌, ◌/◌, ◌%◌, ◌^◌, ◌<◌, ◌≤◌, ◌↔◌, List, [], ◌∷◌, ◌++◌, length, take, drop, Result, Ok, Err, IfOk, IsErrOf, All, refl, ap, ap₂, sym, ◌∙◌, subst, arith, get_or}
-use Rattle.std.proofs.lemmas.List.{append_assoc, get_or_at, get_or-take, length-append, take-append-drop, take_all, take_more, drop_more, length-take-le}
+use Rattle.std.proofs.Common.{◌≡◌, ℕ, ◌+◌, ◌<◌, ◌≤◌, ◌↔◌, List, [], ◌∷◌, ◌++◌, length, take, drop, Result, Ok, Err, IfOk, IsErrOf, All, refl, ap, ap₂, sym, ◌∙◌, arith, get_or}
+use Rattle.std.proofs.lemmas.List.{append_assoc, get_or_at, get_or-take, take-append-drop, take_more, drop_more, length-take-le}
 use Rattle.std.proofs.lemmas.List.Elements.{All-take}
 use Rattle.tg_varint.specs.declared.VarintFault.{VarintFault}
 use Rattle.tg_varint.specs.declared.VarintFault.TheVariants.{Short, TooLong, NotShortest}
@@ -101,19 +101,22 @@ answers_ok bytes at number are_bytes within place goes_on ends shortest spells =
       only = λ n s rest v e.
           let one = stops_once stop (stops_by_spelling rest v e) in
           let same : s ≡ take (at + 1) bytes =
-              v.whole ∙ (ap₂ (λ ns x. ns ++ x ∷ []) (sym one.0) (sym one.1) ∙ sym (take_more bytes at 0 within)) in
+          v.whole ∙ (ap₂ (λ ns x. ns ++ x ∷ []) (sym one.0) (sym one.1) ∙ sym (take_more bytes at 0 within)) in
           let numbers : number ≡ n = spells ∙ (ap number_of (sym same) ∙ sym v.spells) in
           let lengths : at + 1 ≡ length s = sym (ap length same ∙ length-take-le (at + 1) bytes (omega arith)) in
           ap₂ (λ x y. Ok (x, y)) numbers lengths;
       short = (λ e. absurd cc, λ i. absurd (not_inside stop i));
       too_long = (λ e. absurd cc, λ p. absurd (not_past stop p));
-      not_shortest = (λ e. absurd cc, λ z.
-          let one = stops_once stop (stops_by_zero z) in
-          let fronts : length (take at bytes) ≡ length z.front = ap length one.0 in
-          let zero : get_or bytes at 0 ≡ 0 = one.1 in
-          let some : 0 < length z.front = z.not_alone in
-          let above : 0 < get_or bytes at 0 = shortest (omega arith) in
-          absurd (omega arith));
+      not_shortest = (
+        λ e. absurd cc,
+        λ z.
+            let one = stops_once stop (stops_by_zero z) in
+            let fronts : length (take at bytes) ≡ length z.front = ap length one.0 in
+            let zero : get_or bytes at 0 ≡ 0 = one.1 in
+            let some : 0 < length z.front = z.not_alone in
+            let above : 0 < get_or bytes at 0 = shortest (omega arith) in
+            absurd (omega arith),
+      );
     }
 
 pub answers_zero : (bytes : List ℕ) (at : ℕ) → at < length bytes → at ≤ 8 → AllGoOn (take at bytes)
@@ -131,24 +134,30 @@ answers_zero bytes at within place goes_on zero some =
           absurd (omega arith);
       short = (λ e. absurd cc, λ i. absurd (not_inside stop i));
       too_long = (λ e. absurd cc, λ p. absurd (not_past stop p));
-      not_shortest = (λ e. record {
-        front = take at bytes;
-        rest = stop.rest;
-        whole = stop.whole ∙ ap (λ x. take at bytes ++ x ∷ stop.rest) zero;
-        goes_on = goes_on;
-        not_alone = omega arith;
-        at_most_nine = omega arith;
-      }, λ z. refl);
+      not_shortest = (
+        λ e. record {
+          front = take at bytes;
+          rest = stop.rest;
+          whole = stop.whole ∙ ap (λ x. take at bytes ++ x ∷ stop.rest) zero;
+          goes_on = goes_on;
+          not_alone = omega arith;
+          at_most_nine = omega arith;
+        },
+        λ z. refl,
+      );
     }
 
 pub answers_long : (bytes : List ℕ) → PassesNine bytes → Answers bytes (Err TooLong)
 answers_long bytes p = record {
   found = tt;
   only = λ n s rest v e. absurd (not_past (stops_by_spelling rest v e) p);
-  short = (λ e. absurd cc, λ i.
-      let less : length bytes < 9 = i.fewer in
-      let enough : 9 ≤ length bytes = p.enough in
-      absurd (omega arith));
+  short = (
+    λ e. absurd cc,
+    λ i.
+        let less : length bytes < 9 = i.fewer in
+        let enough : 9 ≤ length bytes = p.enough in
+        absurd (omega arith),
+  );
   too_long = (λ e. p, λ q. refl);
   not_shortest = (λ e. absurd cc, λ z. absurd (not_past (stops_by_zero z) p));
 }
@@ -158,9 +167,12 @@ answers_short bytes i = record {
   found = tt;
   only = λ n s rest v e. absurd (not_inside (stops_by_spelling rest v e) i);
   short = (λ e. i, λ j. refl);
-  too_long = (λ e. absurd cc, λ p.
-      let less : length bytes < 9 = i.fewer in
-      let enough : 9 ≤ length bytes = p.enough in
-      absurd (omega arith));
+  too_long = (
+    λ e. absurd cc,
+    λ p.
+        let less : length bytes < 9 = i.fewer in
+        let enough : 9 ≤ length bytes = p.enough in
+        absurd (omega arith),
+  );
   not_shortest = (λ e. absurd cc, λ z. absurd (not_inside (stops_by_zero z) i));
 }

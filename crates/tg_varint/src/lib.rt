@@ -84,5 +84,4 @@ pub fn one_spelling()
     ensures no_front { (m n : ℕ) (a b x y : List ℕ) → VarintSpelling m a → VarintSpelling n b → a ++ x ≡ b ++ y
         → (a ≡ b) × (m ≡ n) }
     ensures below { (m : ℕ) (a : List ℕ) → VarintSpelling m a → m < 2 ^ 63 }
-{
-}
+{}

@@ -1,15 +1,12 @@
-use Rattle.std.proofs.Common.{rules, ◌≡◌, ℕ, ◌-◌, ◌^◌, ◌<◌, ◌≤◌, ◌↔◌, List, ◌++◌, length, take, drop, replicate, IfOk, IsErrOf, ◌+◌, ◌*◌, ◌/◌, ◌%◌, Bool, true, false, nat_eq, nat_lt, [], ◌∷◌, slice_index_or, slice_set, bit_and, bit_or, Fits, w8, w32, w64, Bor, MutBor}
-use Rattle.tg_varint.specs.Varint.{VarintSpelling, EndsInside, PassesNine, EndsInZero}
+-- Each law is a lemma over plain lists.
+use Rattle.tg_varint.proofs.Uniqueness.{one_spelling_each, no_front_of_another, below_limit}
 use Rattle.tg_varint.proofs.one_spelling.Goals as goal
 
--- src/lib.rt:79:1
 pub returns-clause-same_number : goal.returns-clause-same_number
-returns-clause-same_number c = ?
+returns-clause-same_number c = one_spelling_each
 
--- src/lib.rt:79:1
 pub returns-clause-no_front : goal.returns-clause-no_front
-returns-clause-no_front c = ?
+returns-clause-no_front c = no_front_of_another
 
--- src/lib.rt:79:1
 pub returns-clause-below : goal.returns-clause-below
-returns-clause-below c = ?
+returns-clause-below c = below_limit

@@ -1,8 +1,8 @@
 -- Each end of the reading is one of four, and the invariant goes on from a byte to the next.
-use Rattle.std.proofs.Common.{◌≡◌, ℕ, ◌+◌, ◌*◌, ◌%◌, ◌^◌, ◌<◌, ◌≤◌, All, length, take, get_or, arith, refl}
+use Rattle.std.proofs.Common.{◌≡◌, ◌+◌, ◌*◌, ◌^◌, ◌<◌, ◌≤◌, All, take, get_or, arith}
 use Rattle.std.proofs.lemmas.List.{take_all}
 use Rattle.std.proofs.lemmas.List.Elements.{All-from_get_or, All-more}
-use Rattle.tg_varint.specs.Varint.{number_of, AllGoOn, PassesNine}
+use Rattle.tg_varint.specs.Varint.{AllGoOn, PassesNine}
 use Rattle.tg_varint.proofs.Groups.{number_more, weight_more, weight_bound, below_more_weight}
 use Rattle.tg_varint.proofs.Reading.{answers_ok, answers_zero, answers_long, answers_short}
 use Rattle.tg_varint.proofs.read.Goals as goal
@@ -37,12 +37,12 @@ returns-then-byte-lt128 c =
     let at = c.loop-at.at in
     let are_bytes : All (λ b. b < 256) bytes = All-from_get_or (λ b. b < 256) bytes 0 (λ i l. omega (arith, c.type_inv.bytes i)) in
     let shortest : 0 < at → 0 < get_or bytes at 0 =
-        λ some. elim c.else-byte-eq0.branch [
-            else-byte-eq0-via-then-byte-eq0+else-at-gt0 w ↦ omega arith
-          | else-byte-eq0-via-else-byte-eq0 w ↦ omega arith
-        ] in
+    λ some. elim c.else-byte-eq0.branch [
+      | else-byte-eq0-via-then-byte-eq0+else-at-gt0 w ↦ omega arith
+      | else-byte-eq0-via-else-byte-eq0 w ↦ omega arith
+    ] in
     let a = answers_ok bytes at _ are_bytes c.loop-at-test.true v.place v.goes_on c.if-byte-lt128.true shortest
-        (number_more bytes at _ _ _ c.loop-at-test.true v.number v.weight c.from.ensures) in
+    (number_more bytes at _ _ _ c.loop-at-test.true v.number v.weight c.from.ensures) in
     record { found = a.found; only = a.only; short = a.short; too_long = a.too_long; not_shortest = a.not_shortest }
 
 pub returns-then-at-eq-LAST : goal.returns-then-at-eq-LAST
