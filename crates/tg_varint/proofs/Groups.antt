@@ -5,7 +5,7 @@ use Rattle.std.proofs.lemmas.List.{get_or_at, length-append, length-take-le, tak
 use Rattle.std.proofs.lemmas.List.Elements.{All-head, All-tail}
 use Rattle.tg_varint.specs.Varint.{number_of, AllGoOn}
 
--- the groups of a second part weigh 128 for each byte of the first more
+-- the groups of the second part weigh 128 ^ the length of the first
 pub number_of-append : (a b : List ℕ) → number_of (a ++ b) ≡ number_of a + 128 ^ length a * number_of b
 number_of-append [] b = omega arith
 number_of-append (x ∷ a) b =
@@ -48,7 +48,7 @@ stopped bytes a x s e l g =
     let high : 128 ≤ get_or bytes (length a) 0 = g (length a) 0 (omega arith) in
     omega arith
 
--- a byte below 128 bounds the number by its place, and where it is not zero the number is not
+-- a number whose last group is not zero is not zero
 pub positive : (a : List ℕ) (x : ℕ) → x < 128 → 0 < x → 0 < number_of (a ++ x ∷ [])
 positive [] x l h = omega arith
 positive (z ∷ a) x l h =

@@ -1,4 +1,5 @@
-//! The examples of the multiformats specification of unsigned varints, its edges, and what it refuses.
+//! The examples of the multiformats specification of unsigned varints, its edges, and what it refuses. Each value was
+//! compared with an independent LEB128 program in python3.
 use super::{VarintFault, read, write};
 
 #[test]
