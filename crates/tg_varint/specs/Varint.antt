@@ -1,6 +1,6 @@
 -- The unsigned varints of multiformats (github.com/multiformats/unsigned-varint): groups of seven bits, the least
 -- significant group first, the high bit set on every byte but the last, in the shortest spelling and at most 9 bytes.
-use Rattle.std.specs.Prelude.{◌≡◌, ℕ, ◌+◌, ◌-◌, ◌*◌, ◌/◌, ◌%◌, ◌^◌, ◌<◌, ◌≤◌, List, [], ◌∷◌, ◌++◌, length, take, drop, slice_index, All}
+use Rattle.std.specs.Prelude.{◌≡◌, ℕ, ◌+◌, ◌*◌, ◌%◌, ◌<◌, ◌≤◌, List, [], ◌∷◌, ◌++◌, length, take, All}
 
 -- the number that the groups spell: the sum of the low seven bits of byte i times 128 ^ i
 abbrev pub number_of : List ℕ → ℕ

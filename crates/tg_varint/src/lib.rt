@@ -4,7 +4,13 @@
 ghost use Rattle.std.specs.Prelude.{◌≡◌, ℕ, ◌-◌, ◌^◌, ◌<◌, ◌≤◌, ◌↔◌, List, ◌++◌, length, take, drop, replicate, IfOk, IsErrOf};
 ghost use Rattle.tg_varint.specs.Varint.{VarintSpelling, EndsInside, PassesNine, EndsInZero};
 
+#[cfg(test)]
+mod tests;
+
 use thiserror::Error;
+
+// The place of the last byte of the longest spelling.
+const LAST: usize = 8;
 
 /// Why bytes don't begin with an unsigned varint.
 #[derive(Clone, Copy, Debug, PartialEq, Eq, Error)]
@@ -33,6 +39,21 @@ pub fn read(bytes: &[u8]) -> Result<(u64, usize), VarintFault>
     ensures too_long { IsErrOf result VarintFault.TooLong ↔ PassesNine bytes.now }
     ensures not_shortest { IsErrOf result VarintFault.NotShortest ↔ EndsInZero bytes.now }
 {
+    let mut number: u64 = 0;
+    let mut weight: u64 = 1;
+    for (at, byte) in bytes.iter().enumerate() {
+        number += u64::from(*byte % 128) * weight;
+        if *byte < 128 {
+            if *byte == 0 && at > 0 {
+                return Err(VarintFault::NotShortest);
+            }
+            return Ok((number, at + 1));
+        }
+        if at == LAST {
+            return Err(VarintFault::TooLong);
+        }
+        weight *= 128;
+    }
     Err(VarintFault::Short)
 }
 
@@ -45,7 +66,16 @@ pub fn write(number: u64) -> ([u8; 9], usize)
     ensures spelling { VarintSpelling number (take result.1 result.0) }
     ensures rest { drop result.1 result.0 ≡ replicate (9 - result.1) 0 }
 {
-    ([0; 9], 1)
+    let mut spelling = [0; 9];
+    let mut rest = number;
+    let mut at = 0;
+    while rest >= 128 {
+        spelling[at] = (rest % 128) as u8 + 128;
+        rest /= 128;
+        at += 1;
+    }
+    spelling[at] = rest as u8;
+    (spelling, at + 1)
 }
 
 /// A number has one spelling, and no spelling begins another: what was written is read again, whatever follows it.
@@ -54,5 +84,4 @@ pub fn one_spelling()
     ensures no_front { (m n : ℕ) (a b x y : List ℕ) → VarintSpelling m a → VarintSpelling n b → a ++ x ≡ b ++ y
         → (a ≡ b) × (m ≡ n) }
     ensures below { (m : ℕ) (a : List ℕ) → VarintSpelling m a → m < 2 ^ 63 }
-{
-}
+{}

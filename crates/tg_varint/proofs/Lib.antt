@@ -1,0 +1,4 @@
+mod Groups
+mod Reading
+mod Writing
+mod Uniqueness
