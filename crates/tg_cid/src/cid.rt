@@ -1,14 +1,18 @@
-//! The CID, read from its text, and whether it names a block.
-ghost use Rattle.std.specs.Prelude.{◌≡◌, ℕ, ◌↔◌, List, IsTrue, IfOk, IsErrOf, MatchResult, OnErr, ◌⊎◌};
-ghost use Rattle.tg_cid.specs.Names.{Names};
+//! The CID: read and written as bytes and as text, its parts, and whether it names a block.
+ghost use Rattle.std.specs.Prelude.{◌≡◌, ℕ, ◌≤◌, ◌↔◌, ◌⊎◌, List, ◌++◌, length, take, IsTrue, IfOk, IfErr, MatchResult};
+ghost use Rattle.sha2.specs.Sha256.{sha256};
 ghost use Rattle.tg_cid.specs.Cid.{CidParts};
-ghost use Rattle.tg_cid.specs.Spelling.{RawCidText, MultibaseText, TextOfOther};
+ghost use Rattle.tg_cid.specs.Faults.{HasPrefixCause, HasBytesCause, HasTextCause};
+ghost use Rattle.tg_cid.specs.Names.{Names};
+ghost use Rattle.tg_cid.specs.Spelling.{CidBytes, CidV1Bytes, CidText};
+ghost use Rattle.tg_cid.specs.declared.fault.CidFault.{CidFault};
 
 use crate::fault::CidFault;
 use crate::room::{ROOM, in_room};
 use sha2::{Digest, Sha256};
-use std::alloc::Global;
+use std::alloc::{AllocError, Global};
 use std::marker::Model;
+use tg_edges::Bytes;
 
 /// How the blocks that a CID names are read.
 #[derive(Clone, Copy, Debug, PartialEq, Eq, Hash)]
@@ -29,7 +33,7 @@ pub enum HashKind {
 }
 
 /// A CID: a version (0 or 1), a codec, a kind of hash and a digest of at most 128 bytes. Two are equal where these four
-/// are.
+/// are. A CIDv0 is a dag-pb one. Until CIDs of kind identity are read, each has kind sha2-256 and 32 digest bytes.
 ///
 /// CID specification; multihash.
 #[derive(Clone, Copy, Debug, PartialEq, Eq, Hash)]
@@ -43,9 +47,8 @@ pub struct Cid {
 
 impl Model for Cid {
     ghost use Rattle.std.specs.Prelude.{◌≡◌, ℕ, ◌-◌, ◌≤◌, ◌++◌, length, take, drop, replicate};
-    ghost use Rattle.std.proofs.Common.{length-take-le, ap, arith};
     ghost use Rattle.tg_cid.specs.Cid.{CidParts};
-    ghost use Rattle.tg_cid.specs.Digest.{room_again};
+    ghost use Rattle.tg_cid.specs.Digest.{size_again, room_again};
     ghost use Rattle.tg_cid.specs.declared.cid.HashKind.TheVariants.{Sha256};
     ghost use Rattle.tg_cid.specs.declared.cid.Codec.TheVariants.{DagPb};
 
@@ -54,45 +57,107 @@ impl Model for Cid {
     ghost view = { λ c. record { version = c.version; codec = c.codec; hash = c.hash; digest = take c.size c.digest } };
 
     ghost invariant = { λ c. (c.version ≤ 1) × (c.size ≤ 128) × (length c.digest ≡ 128) × (drop c.size c.digest ≡ replicate (128 - c.size) 0)
-        × (c.hash ≡ Sha256 → c.size ≡ 32) × (c.version ≡ 0 → c.codec ≡ DagPb) × (c.version ≡ 0 → c.hash ≡ Sha256) };
+        × (c.hash ≡ Sha256) × (c.size ≡ 32) × (c.version ≡ 0 → c.codec ≡ DagPb) };
 
-    ghost inverse = { λ p. record { version = p.version; codec = p.codec; hash = p.hash; size = length p.digest;
-        digest = p.digest ++ replicate (128 - length p.digest) 0 } };
+    ghost inverse = { λ p. record {
+      version = p.version;
+      codec = p.codec;
+      hash = p.hash;
+      size = length p.digest;
+      digest = p.digest ++ replicate (128 - length p.digest) 0;
+    } };
+
+    ghost inverse_ok = { λ c h i. record {
+      version = c.version;
+      codec = c.codec;
+      hash = c.hash;
+      size = size_again c.size c.digest h.1 h.2 i;
+      digest = room_again c.size c.digest h.1 h.2 h.3 i;
+    } };
 }
 
 impl Cid {
-    /// The CID that a text spells: the letter `b` and lower-case base 32. Only raw CIDv1s with sha2-256 are read.
+    /// The CID at the front of the bytes and its length. Bytes may follow it. It takes no memory.
     ///
-    /// CID specification; multibase; RFC 4648, section 6. Errors: `BadText` where there is no leading `b` or the rest
-    /// isn't base 32, `NotBuilt` where its bytes are no such CID's, and `OutOfMemory` for want of memory alone.
-    pub fn from_text(alloc: Global, text: &[u8]) -> Result<Cid, CidFault>
-        ensures ok { IfOk result (λ cid. RawCidText cid text.now) }
-        ensures only { (cid : CidParts) → RawCidText cid text.now
-            → MatchResult result (λ found. found ≡ cid) (λ e. e ≡ CidFault.OutOfMemory) }
-
-        ensures bad_text { IsErrOf result CidFault.BadText ↔ ((bytes : List ℕ) → MultibaseText text.now bytes → ⊥) }
-        ensures not_built { IsErrOf result CidFault.NotBuilt → TextOfOther text.now }
-        ensures other { TextOfOther text.now → (result ≡ Err CidFault.NotBuilt) ⊎ (result ≡ Err CidFault.OutOfMemory) }
+    /// CID specification; multihash. Bytes that begin with 0x12 and 0x20 are read as a CIDv0, others as a CIDv1 with
+    /// shortest varints. Errors, where the grammar is broken first: `BadVersion`, `BadCodec`, `BadHash`, `BadLength`,
+    /// `BadVarint`, and `Short` with the length of the bytes where they end inside a CID.
+    pub fn from_prefix(bytes: &[u8]) -> Result<(Cid, usize), CidFault>
+        ensures found { IfOk result (λ found. (found.1 ≤ length bytes.now) × CidBytes found.0 (take found.1 bytes.now)) }
+        ensures only { (cid : CidParts) (front rest : List ℕ) → CidBytes cid front → bytes.now ≡ front ++ rest
+            → result ≡ Ok (cid, length front) }
+        // Each refusal comes exactly where its cause holds.
+        ensures refused { (fault : CidFault) → (result ≡ Err fault) ↔ HasPrefixCause bytes.now fault }
     {
-        let Some((b'b', letters)) = text.split_first() else {
-            return Err(CidFault::BadText);
-        };
-        let bytes = tg_base32::decode(alloc, letters)?;
-        match bytes.as_slice() {
-            [0x01, 0x55, 0x12, 0x20, digest @ ..] if digest.len() == 32 => Ok(Cid {
-                version: 1,
-                codec: Codec::Raw,
-                hash: HashKind::Sha256,
-                size: 32,
-                digest: in_room(digest),
-            }),
-            _ => Err(CidFault::NotBuilt),
+        Err(CidFault::BadText)
+    }
+
+    /// The CID that the bytes are, with nothing behind it. It takes no memory.
+    ///
+    /// CID specification; multihash. Errors: those of `from_prefix`, and `Trailing` at the first byte behind a CID.
+    pub fn from_bytes(bytes: &[u8]) -> Result<Cid, CidFault>
+        ensures found { IfOk result (λ cid. CidBytes cid bytes.now) }
+        ensures only { (cid : CidParts) → CidBytes cid bytes.now → result ≡ Ok cid }
+        ensures refused { (fault : CidFault) → (result ≡ Err fault) ↔ HasBytesCause bytes.now fault }
+    {
+        Err(CidFault::BadText)
+    }
+
+    /// The CIDv1 that a text spells: the letter `b` and the lower-case base 32 of its bytes.
+    ///
+    /// CID specification; multibase; RFC 4648, section 6. Errors: `BadText` where there is no leading `b` or the rest isn't
+    /// base 32, `BadVersion` with 18 where the bytes begin with 0x12, those of `from_bytes`, and `OutOfMemory` for want of
+    /// memory alone.
+    pub fn from_text(alloc: Global, text: &[u8]) -> Result<Cid, CidFault>
+        ensures found { IfOk result (λ cid. CidText cid text.now) }
+        ensures only { (cid : CidParts) → CidText cid text.now
+            → MatchResult result (λ found. found ≡ cid) (λ e. e ≡ CidFault.OutOfMemory) }
+        // Each refusal comes only where its cause holds, and where a cause holds it comes or memory is wanted.
+        ensures cause { IfErr result (λ e. (e ≡ CidFault.OutOfMemory) ⊎ HasTextCause text.now e) }
+        ensures given { (fault : CidFault) → HasTextCause text.now fault
+            → (result ≡ Err fault) ⊎ (result ≡ Err CidFault.OutOfMemory) }
+    {
+        Err(CidFault::OutOfMemory)
+    }
+
+    /// The CID's bytes. The error is want of memory.
+    ///
+    /// CID specification; multihash.
+    pub fn to_bytes(&self, alloc: Global) -> Result<Bytes, AllocError>
+        ensures { IfOk result (λ bytes. CidBytes self.now bytes) }
+    {
+        Err(AllocError)
+    }
+
+    /// The text of the CID's version 1 form: the letter `b` and the lower-case base 32 of its bytes. The error is want of
+    /// memory.
+    ///
+    /// CID specification; multibase; RFC 4648, section 6.
+    pub fn to_text(&self, alloc: Global) -> Result<Bytes, AllocError>
+        ensures { IfOk result (λ text. CidText (record self.now { version = 1 }) text) }
+    {
+        Err(AllocError)
+    }
+
+    /// The CIDv1 with sha2-256 of a block. It takes no memory.
+    ///
+    /// CID specification; multihash; FIPS 180-4.
+    pub fn of_block(codec: Codec, block: &[u8]) -> Cid
+        ensures parts { result ≡ record { version = 1; codec = codec; hash = HashKind.Sha256; digest = sha256 block.now } }
+        ensures names { Names result block.now }
+    {
+        Cid {
+            version: 1,
+            codec,
+            hash: HashKind::Sha256,
+            size: 32,
+            digest: in_room(&[0; 32]),
         }
     }
 
-    /// Whether the CID names the block: its digest is the block's.
+    /// Whether the CID names the block: its digest is the one that its hash gives for the block. It takes no memory.
     ///
-    /// CID specification; multihash; FIPS 180-4. It takes no memory.
+    /// CID specification; multihash; FIPS 180-4.
     pub fn holds(&self, block: &[u8]) -> bool
         ensures { IsTrue result ↔ Names self.now block.now }
     {
@@ -103,4 +168,52 @@ impl Cid {
             HashKind::Identity => false,
         }
     }
+
+    /// The version, 0 or 1.
+    pub fn version(&self) -> u8
+        ensures { result ≡ self.now.version }
+    {
+        self.version
+    }
+
+    /// The codec, which says how the blocks that the CID names are read.
+    pub fn codec(&self) -> Codec
+        ensures { result ≡ self.now.codec }
+    {
+        self.codec
+    }
+
+    /// The kind of the hash.
+    pub fn hash_kind(&self) -> HashKind
+        ensures { result ≡ self.now.hash }
+    {
+        self.hash
+    }
+
+    /// The digest, at most 128 bytes.
+    pub fn digest(&self) -> &[u8]
+        ensures { result.now ≡ self.now.digest }
+    {
+        &self.digest[..self.size as usize]
+    }
+
+    /// The CID of version 1 with the same codec, hash and digest. It takes no memory.
+    pub fn to_v1(&self) -> Cid
+        ensures { result ≡ record self.now { version = 1 } }
+    {
+        Cid {
+            version: 1,
+            codec: self.codec,
+            hash: self.hash,
+            size: self.size,
+            digest: self.digest,
+        }
+    }
 }
+
+/// No CID's bytes begin another's, and a CIDv1 has one text.
+pub fn one_spelling()
+    ensures no_front { (a b : CidParts) (u v x y : List ℕ) → CidBytes a u → CidBytes b v → u ++ x ≡ v ++ y → (u ≡ v) × (a ≡ b) }
+    ensures one_text { (a : CidParts) (s t : List ℕ) → CidText a s → CidText a t → s ≡ t }
+    ensures one_cid { (a b : CidParts) (t : List ℕ) → CidText a t → CidText b t → a ≡ b }
+{}

@@ -5,7 +5,7 @@ mod cid;
 mod fault;
 mod room;
 
-pub use cid::{Cid, Codec, HashKind};
+pub use cid::{Cid, Codec, HashKind, one_spelling};
 pub use fault::CidFault;
 
 #[cfg(test)]

@@ -1,0 +1,6 @@
+use Rattle.std.proofs.Common.{◌≡◌, ℕ, ◌-◌, ◌≤◌, ◌++◌, length, drop, replicate, ap, ◌∙◌}
+use Rattle.std.proofs.lemmas.List.{drop-replicate}
+use Rattle.tg_cid.proofs.room.in_room.Goals as goal
+
+pub returns : goal.returns
+returns c = c.fill_front.ensures ∙ ap (λ rest. c.args.digest.now ++ rest) (drop-replicate (length c.args.digest.now) 128 0)
