@@ -1,9 +1,9 @@
 -- Facts about the bits of a number, the highest first.
-use Rattle.std.proofs.Common.{◌≡◌, ℕ, zero, suc, ◌+◌, ◌*◌, ◌/◌, ◌%◌, ◌^◌, ◌<◌, ◌≤◌, ◌⊎◌, List, [], ◌∷◌, ◌++◌, length, get_or, refl, sym, ap, ap₂, ◌∙◌, subst, zero-add, inl, inr, arith}
-use Rattle.std.specs.Prelude.{All, Any, replicate}
-use Rattle.std.proofs.Math.Nat.{add-mul-mod_self_right, mul-add-div_right, pow-suc, suc-add, mod-lt}
+use Rattle.std.proofs.Common.{◌≡◌, ℕ, zero, suc, ◌+◌, ◌*◌, ◌/◌, ◌%◌, ◌^◌, ◌<◌, ◌≤◌, List, ◌∷◌, ◌++◌, length, refl, sym, ap, ap₂, ◌∙◌, subst, zero-add, inl, inr, arith}
+use Rattle.std.specs.Prelude.{Any, replicate}
+use Rattle.std.proofs.Math.Nat.{mul-add-div_right, pow-suc, suc-add, mod-lt}
 use Rattle.std.proofs.lemmas.Bool.{cases_lt}
-use Rattle.std.proofs.lemmas.Nat.{shr-shr, shr_split, shr_below, mod_low, shr_high, pow_pos, le-div}
+use Rattle.std.proofs.lemmas.Nat.{shr-shr, shr_split, shr_below, shr_high, pow_pos, le-div}
 use Rattle.std.proofs.lemmas.List.Elements.{All-replicate}
 use Rattle.tg_base32.specs.Base32.{bits}
 

@@ -1,16 +1,15 @@
 -- Letters that are read one by one, and what they come to.
-use Rattle.std.proofs.Common.{false, ◌≡◌, ℕ, zero, suc, ◌+◌, ◌-◌, ◌*◌, ◌/◌, ◌%◌, ◌^◌, ◌<◌, ◌≤◌, ◌≢◌, ◌⊎◌, List, [], ◌∷◌, ◌++◌, length, refl, sym, ap, ap₂, ◌∙◌, append_assoc, subst, inl, inr, arith}
-use Rattle.std.specs.Prelude.{All, Any, replicate, drop, slice_get, Some, IsTrue}
-use Rattle.std.proofs.Math.ListN.{length-replicate}
+use Rattle.std.proofs.Common.{false, ◌≡◌, ℕ, ◌+◌, ◌-◌, ◌*◌, ◌/◌, ◌%◌, ◌^◌, ◌<◌, ◌≢◌, List, [], ◌∷◌, ◌++◌, length, refl, sym, ap, ap₂, ◌∙◌, append_assoc, subst, inl, inr, arith}
+use Rattle.std.specs.Prelude.{All, Any, replicate, drop, IsTrue}
 use Rattle.std.proofs.Math.Nat.{mod-lt}
 use Rattle.std.proofs.lemmas.Bool.{cases_lt}
 use Rattle.std.proofs.lemmas.Grind.{flat_map-append}
 use Rattle.std.proofs.lemmas.List.{length-append, append-nil}
 use Rattle.std.proofs.lemmas.List.Elements.{All-push, All-nil, All-head, All-tail, All-get_or}
 use Rattle.std.proofs.lemmas.Nat.{pow_pos}
-use Rattle.std.proofs.lemmas.Option.{slice_get_within, get_or_from_slice_get, slice_get-get_or}
+use Rattle.std.proofs.lemmas.Option.{slice_get_within, get_or_from_slice_get}
 use Rattle.tg_base32.specs.declared.Held.{Held}
-use Rattle.tg_base32.specs.Base32.{IsLetter, IsNoLength, IsFirstOutside, HasNoLength, HasTail, value_of, bits, bits_of_bytes, bits_of_text, Base32Text}
+use Rattle.tg_base32.specs.Base32.{IsLetter, IsNoLength, IsFirstOutside, value_of, bits, bits_of_bytes, bits_of_text, Base32Text}
 use Rattle.tg_base32.specs.Held.{IsHeld, Reads, TakesLetter, bits_of}
 use Rattle.tg_base32.proofs.Bits.{length-bits, bits_join, bits_zero, some_bit, no_bit}
 use Rattle.tg_base32.proofs.Laws.{bits_of_letter, value_below, length_of_text, length_of_bytes, lengths, drop_front}

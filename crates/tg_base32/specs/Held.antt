@@ -1,5 +1,5 @@
 -- Bits on their way between letters and bytes.
-use Rattle.std.specs.Prelude.{◌≡◌, ℕ, ◌+◌, ◌-◌, ◌^◌, ◌<◌, ◌≤◌, List, ◌++◌, All}
+use Rattle.std.specs.Prelude.{◌≡◌, ℕ, ◌+◌, ◌^◌, ◌<◌, ◌≤◌, List, ◌++◌, All}
 use Rattle.tg_base32.specs.declared.Held.{Held}
 use Rattle.tg_base32.specs.Base32.{IsLetter, value_of, bits, bits_of_bytes, bits_of_text}
 

@@ -1,8 +1,7 @@
-use Rattle.std.proofs.Common.{◌≡◌, ◌++◌, ◌<◌, refl, ap, sym, ◌∙◌, arith}
+use Rattle.std.proofs.Common.{◌<◌, refl, ap, sym, ◌∙◌, arith}
 use Rattle.std.proofs.lemmas.List.{take_all}
 use Rattle.std.proofs.lemmas.List.Elements.{All-nil}
-use Rattle.tg_base32.specs.Base32.{bits, bits_of_bytes, bits_of_text}
-use Rattle.tg_base32.specs.Held.{bits_of}
+use Rattle.tg_base32.specs.Base32.{bits, bits_of_text}
 use Rattle.tg_base32.proofs.bytes_of.Goals as goal
 
 pub loop-letter-init : goal.loop-letter-init

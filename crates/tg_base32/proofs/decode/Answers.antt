@@ -1,9 +1,4 @@
-use Rattle.std.proofs.Common.{◌≡◌, ℕ, ◌+◌, ◌*◌, ◌/◌, ◌<◌, List, ◌++◌, length, IfOk, IsErrOf, MatchOption, MatchResult, Bool, true, false, refl, Ok, Err, arith}
-use Rattle.std.specs.Prelude.{All, Any, IsTrue, drop}
-use Rattle.tg_base32.specs.Base32.{Base32Text, IsFirstOutside, HasNoLength, HasTail, IsLetter, IsNoLength, bits_of_text}
-use Rattle.tg_base32.specs.Held.{Reads}
-use Rattle.tg_base32.specs.declared.Base32Fault.{Base32Fault}
-use Rattle.tg_base32.specs.declared.Base32Fault.TheVariants.{BadChar, BadLength, BadTail, OutOfMemory}
+use Rattle.std.proofs.Common.{refl}
 use Rattle.tg_base32.proofs.Laws.{one_reading}
 use Rattle.tg_base32.proofs.Reading.{readable, falsehood, spelled, spelled_length, spelled_tail, none_outside}
 use Rattle.tg_base32.proofs.decode.Goals as goal

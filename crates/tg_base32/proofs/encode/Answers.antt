@@ -1,9 +1,9 @@
-use Rattle.std.proofs.Common.{◌≡◌, ℕ, ◌+◌, ◌-◌, ◌*◌, ◌%◌, ◌^◌, ◌<◌, List, [], ◌∷◌, ◌++◌, length, take, get_or, refl, sym, ap, subst, ◌∙◌, arith}
+use Rattle.std.proofs.Common.{◌≡◌, ◌<◌, ◌++◌, refl, ap, ◌∙◌, arith}
 use Rattle.std.specs.Prelude.{All}
 use Rattle.std.proofs.lemmas.List.{take_all}
 use Rattle.std.proofs.lemmas.List.Elements.{All-nil, All-from_get_or}
-use Rattle.tg_base32.specs.Base32.{IsLetter, Base32Text, bits, bits_of_bytes, bits_of_text}
-use Rattle.tg_base32.specs.Held.{IsHeld, bits_of}
+use Rattle.tg_base32.specs.Base32.{IsLetter, bits, bits_of_bytes, bits_of_text}
+use Rattle.tg_base32.specs.Held.{bits_of}
 use Rattle.tg_base32.proofs.Writing.{whole_text, last_letter, last_value}
 use Rattle.tg_base32.proofs.encode.Goals as goal
 use Rattle.tg_base32.proofs.encode.Goals.{then-held-gt0+in_ok-push, else-held-gt0}

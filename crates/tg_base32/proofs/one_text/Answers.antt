@@ -1,5 +1,4 @@
 use Rattle.tg_base32.proofs.Laws.{one_reading, one_spelling}
-use Rattle.tg_base32.proofs.Bits.{bits-append, some_bit, no_bit, bits_zero, bits_join}
 use Rattle.tg_base32.proofs.one_text.Goals as goal
 
 pub returns-clause-one_reading : goal.returns-clause-one_reading

@@ -1,7 +1,7 @@
-use Rattle.std.proofs.Common.{◌≡◌, ℕ, ◌+◌, ◌-◌, ◌*◌, ◌/◌, ◌%◌, ◌^◌, ◌<◌, List, [], ◌∷◌, ◌++◌, refl, sym, ap, subst, ◌∙◌, arith}
+use Rattle.std.proofs.Common.{ℕ, ◌-◌, ◌/◌, ◌^◌, ◌<◌, subst, arith}
 use Rattle.std.proofs.lemmas.Nat.{shr_below}
 use Rattle.tg_base32.proofs.Steps.{mask}
-use Rattle.tg_base32.proofs.Writing.{none_moves, one_moves}
+use Rattle.tg_base32.proofs.Writing.{one_moves}
 use Rattle.tg_base32.proofs.push_letter.Goals as goal
 
 pub letter_for-requires : goal.letter_for-requires

@@ -1,6 +1,5 @@
-use Rattle.std.proofs.Common.{◌≡◌, ℕ, ◌+◌, ◌*◌, ◌^◌, ◌<◌, List, sym, ap, subst, ◌∙◌, arith}
+use Rattle.std.proofs.Common.{◌≡◌, arith}
 use Rattle.std.proofs.lemmas.Result.{IfOk-weaker}
-use Rattle.tg_base32.specs.Held.{MovesLetter, TakesByte}
 use Rattle.tg_base32.proofs.Writing.{takes_in, two_moves}
 use Rattle.tg_base32.proofs.take_byte.Goals as goal
 
