@@ -1,0 +1,40 @@
+-- The grammar of the command line: the commands with their positional words and options.
+use Rattle.std.specs.Prelude.{◌≡◌, ℕ, List, [], ◌∷◌, codes, Ok}
+use Rattle.hex.specs.Hex.{decode_of}
+use Rattle.tg_cid.specs.Cid.{CidParts}
+use Rattle.tg_cid.specs.Spelling.{CidText, CidBytes}
+use Rattle.tg_words.specs.declared.Command.{Command}
+use Rattle.tg_words.specs.declared.Command.TheVariants.{Check, CidToHex, CidToText}
+use Rattle.tg_words.specs.Words.{WordsSpelling}
+
+-- `check CID`
+pub record CheckLine (words : List (List ℕ)) (cid : CidParts) : Type 0 where
+  pub rest : List (List ℕ)
+  pub command : words ≡ codes "check" ∷ rest
+  pub text : List ℕ
+  pub operands : WordsSpelling [] rest (text ∷ []) []
+  pub text_is : CidText cid text
+
+-- `cid CID`
+pub record CidLine (words : List (List ℕ)) (cid : CidParts) : Type 0 where
+  pub rest : List (List ℕ)
+  pub command : words ≡ codes "cid" ∷ rest
+  pub text : List ℕ
+  pub operands : WordsSpelling (codes "hex" ∷ []) rest (text ∷ []) []
+  pub text_is : CidText cid text
+
+-- `cid --hex HEX`: an even number of hexadecimal digits of either case
+pub record CidHexLine (words : List (List ℕ)) (cid : CidParts) : Type 0 where
+  pub rest : List (List ℕ)
+  pub command : words ≡ codes "cid" ∷ rest
+  pub digits : List ℕ
+  pub operands : WordsSpelling (codes "hex" ∷ []) rest [] ((codes "hex", digits) ∷ [])
+  pub bytes : List ℕ
+  pub digits_are : decode_of digits ≡ Ok bytes
+  pub bytes_are : CidBytes cid bytes
+
+-- the words spell the command
+abbrev pub CommandLine : List (List ℕ) → Command → Type 0
+CommandLine words (Check cid) = CheckLine words cid
+CommandLine words (CidToHex cid) = CidLine words cid
+CommandLine words (CidToText cid) = CidHexLine words cid
