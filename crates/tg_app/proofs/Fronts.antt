@@ -50,12 +50,13 @@ pieces_front f pieces i n d h k =
     ap (take (length before + n)) split ∙ take-append-add before _ n
     ∙ ap (λ front. before ++ front) (take-append-le n (f (get_or pieces i d)) (flat_map f (drop (suc i) pieces)) k)
 
-pub pieces_fit : {P : Type 0} (f : P → List ℕ) (pieces : List P) (i n : ℕ) (d : P) → i < length pieces → n ≤ length (f (get_or pieces i d))
-    → length (flat_map f (take i pieces)) + n ≤ length (flat_map f pieces)
+pub pieces_fit : {P : Type 0} (f : P → List ℕ) (pieces : List P) (i n : ℕ) (d : P) → i < length pieces → n < length (f (get_or pieces i d))
+    → length (flat_map f (take i pieces)) + n < length (flat_map f pieces)
 pieces_fit f pieces i n d h k =
     let before = flat_map f (take i pieces) in
-    let front = ap length (pieces_front f pieces i n d h k) in
-    let split = length-append before (take n (f (get_or pieces i d))) in
-    let size = length-take-le n (f (get_or pieces i d)) k in
-    let bound = length-take (length before + n) (flat_map f pieces) in
+    let piece = f (get_or pieces i d) in
+    let front = ap length (pieces_front f pieces i (length piece) d h (omega arith)) in
+    let split = length-append before (take (length piece) piece) in
+    let size = length-take-le (length piece) piece (omega arith) in
+    let bound = length-take (length before + length piece) (flat_map f pieces) in
     omega arith

@@ -1,6 +1,10 @@
 //! The program's commands.
 #![tactic(auto)]
 
+mod commands;
+mod refusal;
 mod streams;
+mod top;
 
-pub use streams::{put_pieces, read_front};
+pub use refusal::Refusal;
+pub use top::{out_of_memory, run};

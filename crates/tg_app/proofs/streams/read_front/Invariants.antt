@@ -1,5 +1,5 @@
 use Rattle.std.proofs.Common.{◌≡◌, ◌≤◌, ◌-◌, length, take}
-use Rattle.tg_app.specs.Streams.{Took}
+use Rattle.tg_app.specs.Streams.{input_of, Took}
 use Rattle.tg_app.proofs.streams.read_front.Given as goal
 
 -- what was read stands in the front of the buffer
@@ -8,7 +8,7 @@ invariant-loop-filled g l =
     let input = g.I.Source in
     record {
       within : l.filled ≤ length l.buffer;
-      took : Took (take l.filled l.buffer) (input.took l.fn.input l.input) (input.left l.fn.input) (input.left l.input);
+      took : Took (take l.filled l.buffer) (input_of input.took input.at_end input.left input.faults l.fn.input l.input);
       quiet : input.faults l.input ≡ input.faults l.fn.input;
     }
 

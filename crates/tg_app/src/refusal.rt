@@ -1,0 +1,92 @@
+//! Why a command ends before it is done, with the status and the line on err that say so.
+ghost use Rattle.std.specs.Prelude.{◌≡◌, OnOk, OnErr};
+ghost use Rattle.std.specs.List.{flat_map};
+ghost use Rattle.tg_app.specs.Streams.{output_of, Put, PutFront};
+
+use crate::streams::put_pieces;
+use std::alloc::AllocError;
+use tg_edges::{Bytes, Failed, Sink};
+use tg_words::WordsFault;
+use thiserror::Error;
+
+/// Why a command ends before it is done.
+#[derive(Debug, Drop, Error)]
+pub enum Refusal {
+    /// The words are no command.
+    #[error("usage")]
+    Usage,
+    /// The CID with this text doesn't name the block on input.
+    #[error("BadDigest")]
+    BadDigest { cid: Bytes },
+    /// The input has more bytes than a block may have.
+    #[error("Limit Block 2097152")]
+    BlockLimit,
+    /// A fault of the input was counted.
+    #[error("InputFault")]
+    InputFault,
+    /// A fault of out was counted.
+    #[error("SinkFault")]
+    SinkFault,
+    /// No memory was found.
+    #[error("OutOfMemory")]
+    OutOfMemory,
+}
+
+impl From<AllocError> for Refusal {
+    ghost use Rattle.std.specs.Prelude.{◌≡◌};
+    ghost use Rattle.tg_app.specs.declared.refusal.Refusal.TheVariants.{OutOfMemory};
+
+    ghost from_gives = { λ _ refusal. refusal ≡ OutOfMemory };
+
+    fn from(_fault: AllocError) -> Refusal {
+        Refusal::OutOfMemory
+    }
+}
+
+impl From<WordsFault> for Refusal {
+    ghost use Rattle.std.specs.Prelude.{◌≡◌};
+    ghost use Rattle.tg_app.specs.Lines.{refusal_of};
+
+    ghost from_gives = { λ fault refusal. refusal ≡ refusal_of fault };
+
+    fn from(fault: WordsFault) -> Refusal {
+        match fault {
+            WordsFault::Usage => Refusal::Usage,
+            WordsFault::OutOfMemory => Refusal::OutOfMemory,
+        }
+    }
+}
+
+impl Refusal {
+    ghost use Rattle.tg_app.specs.Lines.{status_of, line_of};
+
+    /// The exit status.
+    pub fn status(&self) -> u8
+        ensures { result ≡ status_of self.now }
+    {
+        match self {
+            Refusal::Usage => 2,
+            Refusal::BadDigest { .. } => 3,
+            Refusal::InputFault | Refusal::SinkFault => 6,
+            Refusal::BlockLimit => 7,
+            Refusal::OutOfMemory => 8,
+        }
+    }
+
+    /// Puts the line that says why. The error is a fault of the sink, which then holds a front of the line. It takes no
+    /// memory.
+    pub fn report<E: Sink>(&self, err: &mut E) -> Result<(), Failed>
+        ensures put { OnOk result (Put (line_of self.now) (output_of E.wrote E.held E.faults err.old err.new)) }
+        ensures front { OnErr result (PutFront (line_of self.now) (output_of E.wrote E.held E.faults err.old err.new)) }
+    {
+        let (word, detail): (&[u8], &[u8]) = match self {
+            Refusal::Usage => (b"usage", b""),
+            Refusal::BadDigest { cid } => (b"BadDigest ", cid.as_slice()),
+            Refusal::BlockLimit => (b"Limit Block 2097152", b""),
+            Refusal::InputFault => (b"InputFault", b""),
+            Refusal::SinkFault => (b"SinkFault", b""),
+            Refusal::OutOfMemory => (b"OutOfMemory", b""),
+        };
+        put_pieces(err, &[b"tgate: ", word, detail, b"\n"])
+    }
+}
