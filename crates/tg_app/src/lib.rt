@@ -8,3 +8,6 @@ mod top;
 
 pub use refusal::Refusal;
 pub use top::{out_of_memory, run};
+
+#[cfg(test)]
+mod tests;
