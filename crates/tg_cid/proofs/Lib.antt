@@ -5,3 +5,5 @@ mod Causes
 mod Prefix
 mod Whole
 mod Texts
+mod Laws
+mod Written

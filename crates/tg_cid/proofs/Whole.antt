@@ -44,7 +44,7 @@ not_ok T fault x e = cc
 not_err : (T : Type 0) (fault : CidFault) (x : T) → ◌≡◌ {A = Result T CidFault} (Ok x) (Err fault) → ⊥
 not_err T fault x e = cc
 
-same_found : (a b : CidParts) (m n : ℕ) → ◌≡◌ {A = Result (CidParts × ℕ) CidFault} (Ok (a, m)) (Ok (b, n)) → (a ≡ b) × (m ≡ n)
+pub same_found : (a b : CidParts) (m n : ℕ) → ◌≡◌ {A = Result (CidParts × ℕ) CidFault} (Ok (a, m)) (Ok (b, n)) → (a ≡ b) × (m ≡ n)
 same_found a b m n e =
     let pairs : ◌≡◌ {A = CidParts × ℕ} (a, m) (b, n) = cc in
     (ap (λ (p : CidParts × ℕ). p.0) pairs, ap (λ (p : CidParts × ℕ). p.1) pairs)

@@ -1,5 +1,5 @@
 //! The CID: read and written as bytes and as text, its parts, and whether it names a block.
-ghost use Rattle.std.specs.Prelude.{◌≡◌, ℕ, ◌≤◌, ◌↔◌, ◌⊎◌, List, ◌++◌, length, take, IsTrue, IfOk, IfErr, MatchResult};
+ghost use Rattle.std.specs.Prelude.{◌≡◌, ℕ, ◌<◌, ◌≤◌, ◌↔◌, ◌⊎◌, List, ◌∷◌, ◌++◌, length, take, All, IsTrue, IfOk, IfErr, MatchResult};
 ghost use Rattle.sha2.specs.Sha256.{sha256};
 ghost use Rattle.tg_cid.specs.Cid.{CidParts};
 ghost use Rattle.tg_cid.specs.Faults.{HasPrefixCause, HasBytesCause, HasTextCause, IsCodec};
@@ -10,7 +10,7 @@ ghost use Rattle.tg_cid.specs.declared.fault.CidFault.{CidFault};
 
 use crate::fault::CidFault;
 use crate::numbers::number_at;
-use crate::room::{ROOM, in_room};
+use crate::room::{ROOM, fill_both, in_room};
 use sha2::{Digest, Sha256};
 use std::alloc::{AllocError, Global};
 use std::marker::Model;
@@ -19,6 +19,9 @@ use tg_edges::Bytes;
 // The code of sha2-256 and the length of its digest.
 const SHA2_256: u64 = 0x12;
 const DIGEST: usize = 32;
+
+// How many bytes a CIDv1 of sha2-256 has.
+const SPELLED: usize = 36;
 
 /// How the blocks that a CID names are read.
 #[derive(Clone, Copy, Debug, PartialEq, Eq, Hash)]
@@ -147,7 +150,12 @@ impl Cid {
     pub fn to_bytes(&self, alloc: Global) -> Result<Bytes, AllocError>
         ensures { IfOk result (λ bytes. CidBytes self.now bytes) }
     {
-        Err(AllocError)
+        let bytes = self.version_one_bytes();
+        if self.version == 0 {
+            // A CIDv0 is the multihash alone, which stands in a CIDv1 behind the version and the codec.
+            return Bytes::of(alloc, &bytes[2..]);
+        }
+        Bytes::of(alloc, &bytes)
     }
 
     /// The text of the CID's version 1 form: the letter `b` and the lower-case base 32 of its bytes. The error is want of
@@ -157,7 +165,9 @@ impl Cid {
     pub fn to_text(&self, alloc: Global) -> Result<Bytes, AllocError>
         ensures { IfOk result (λ text. CidText (record self.now { version = 1 }) text) }
     {
-        Err(AllocError)
+        let mut text = tg_base32::encode(alloc, &self.version_one_bytes())?;
+        text.insert(0, b'b')?;
+        Ok(Bytes::from(text))
     }
 
     /// The CIDv1 with sha2-256 of a block. It takes no memory.
@@ -225,6 +235,14 @@ impl Cid {
             digest: self.digest,
         }
     }
+
+    /// The bytes of the CIDv1 with the same codec, hash and digest.
+    fn version_one_bytes(&self) -> [u8; SPELLED]
+        ensures whole { result ≡ 1 ∷ codec_code self.now.codec ∷ 0x12 ∷ 0x20 ∷ self.now.digest }
+        ensures spelled { CidV1Bytes (record self.now { version = 1 }) result }
+    {
+        spelled(self.codec, self.digest())
+    }
 }
 
 /// The CID with a digest of sha2-256.
@@ -241,6 +259,22 @@ fn with_sha256(version: u8, codec: Codec, digest: &[u8]) -> Cid
         size: 32,
         digest: in_room(digest),
     }
+}
+
+/// The bytes of a CIDv1 with a digest of sha2-256.
+fn spelled(codec: Codec, digest: &[u8]) -> [u8; SPELLED]
+    requires { length digest.now ≡ 32 }
+    ensures whole { result ≡ 1 ∷ codec_code codec ∷ 0x12 ∷ 0x20 ∷ digest.now }
+    ensures are_bytes { All (λ b. b < 256) digest.now }
+{
+    let code = match codec {
+        Codec::Raw => 0x55,
+        Codec::DagPb => 0x70,
+    };
+    let head = [1, code, 0x12, 0x20];
+    let mut bytes = [0; SPELLED];
+    fill_both(&mut bytes, &head, digest);
+    bytes
 }
 
 /// The CID whose digest begins at `at`, where its bytes end, and that end.
