@@ -47,8 +47,32 @@ bad_size bytes codec number at rest is f wrong =
     let d = first b.others in
     let e = first d.others in
     let k = codec_with codec is in
-    inr (1, a.next, a.here, inr (refl, inr (codec, b.next, b.here, inr (k.0, k.1, inr (0x12, d.next, d.here, inr (refl,
-    inr (number, e.next, e.here, inl (wrong, refl))))))))
+    inr (
+      1,
+      a.next,
+      a.here,
+      inr (
+        refl,
+        inr (
+          codec,
+          b.next,
+          b.here,
+          inr (
+            k.0,
+            k.1,
+            inr (
+              0x12,
+              d.next,
+              d.here,
+              inr (
+                refl,
+                inr (number, e.next, e.here, inl (wrong, refl)),
+              ),
+            ),
+          ),
+        ),
+      ),
+    )
 
 -- all four numbers are good, so the digest tells
 at_digest : (bytes : List ℕ) (codec : Codec) (at : ℕ) (rest : List ℕ) (r : Answer)
@@ -59,8 +83,32 @@ at_digest bytes codec at rest r s h =
     let d = first b.others in
     let e = first d.others in
     let here : DigestThen 1 codec bytes e.next r = subst (λ (n : ℕ). DigestThen 1 codec bytes n r) (none_stand e.others) h in
-    inr (1, a.next, a.here, inr (refl, inr (codec_code codec, b.next, b.here, inr (codec, refl, inr (0x12, d.next, d.here, inr (refl,
-    inr (32, e.next, e.here, inr (refl, here))))))))
+    inr (
+      1,
+      a.next,
+      a.here,
+      inr (
+        refl,
+        inr (
+          codec_code codec,
+          b.next,
+          b.here,
+          inr (
+            codec,
+            refl,
+            inr (
+              0x12,
+              d.next,
+              d.here,
+              inr (
+                refl,
+                inr (32, e.next, e.here, inr (refl, here)),
+              ),
+            ),
+          ),
+        ),
+      ),
+    )
 
 pub short_digest : (bytes : List ℕ) → EndsInDigest bytes → ReadsAsOne bytes (Err (faults.Short (length bytes)))
 short_digest bytes h =
@@ -84,15 +132,55 @@ no_number bytes (v ∷ c ∷ []) at rest fault begins s wrong =
     let a = first s in
     let b = first a.others in
     let k = codec_with c begins.1 in
-    inr (v, a.next, a.here, inr (begins.0, inr (c, b.next, b.here, inr (k.0, k.1,
-    inl (fault, refl, subst (λ (n : ℕ). NoNumberAt bytes n fault) (none_stand b.others) wrong)))))
+    inr (
+      v,
+      a.next,
+      a.here,
+      inr (
+        begins.0,
+        inr (
+          c,
+          b.next,
+          b.here,
+          inr (
+            k.0,
+            k.1,
+            inl (fault, refl, subst (λ (n : ℕ). NoNumberAt bytes n fault) (none_stand b.others) wrong),
+          ),
+        ),
+      ),
+    )
 no_number bytes (v ∷ c ∷ h ∷ []) at rest fault begins s wrong =
     let a = first s in
     let b = first a.others in
     let d = first b.others in
     let k = codec_with c begins.1 in
-    inr (v, a.next, a.here, inr (begins.0, inr (c, b.next, b.here, inr (k.0, k.1, inr (h, d.next, d.here, inr (begins.2,
-    inl (fault, refl, subst (λ (n : ℕ). NoNumberAt bytes n fault) (none_stand d.others) wrong)))))))
+    inr (
+      v,
+      a.next,
+      a.here,
+      inr (
+        begins.0,
+        inr (
+          c,
+          b.next,
+          b.here,
+          inr (
+            k.0,
+            k.1,
+            inr (
+              h,
+              d.next,
+              d.here,
+              inr (
+                begins.2,
+                inl (fault, refl, subst (λ (n : ℕ). NoNumberAt bytes n fault) (none_stand d.others) wrong),
+              ),
+            ),
+          ),
+        ),
+      ),
+    )
 no_number bytes (v ∷ c ∷ h ∷ n ∷ more) at rest fault begins s wrong = absurd begins
 
 -- two CIDs with the same parts

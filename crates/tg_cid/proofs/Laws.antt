@@ -12,8 +12,7 @@ use Rattle.tg_cid.proofs.Whole.{same_found}
 
 pub no_front : (a b : CidParts) (u v x y : List ℕ) → CidBytes a u → CidBytes b v → u ++ x ≡ v ++ y → (u ≡ v) × (a ≡ b)
 no_front a b u v x y h k e =
-    let one = same_found a b (length u) (length v) (reads_once (u ++ x) _ _ (found (u ++ x) a u x h refl) (found (u ++ x) b v y k e)) in
-    (
+    let one = same_found a b (length u) (length v) (reads_once (u ++ x) _ _ (found (u ++ x) a u x h refl) (found (u ++ x) b v y k e)) in (
       sym (take_at u x (length u) refl) ∙ (ap₂ (λ (n : ℕ) (l : List ℕ). take n l) one.1 e ∙ take_at v y (length v) refl),
       one.0,
     )

@@ -26,8 +26,7 @@ not_short {rest} i = (
 not_spelled : {rest : List ℕ} {number : ℕ} {spelling : List ℕ} (more : List ℕ) → VarintSpelling number spelling → rest ≡ spelling ++ more
     → (EndsInside rest → ⊥) × (PassesNine rest → ⊥) × (EndsInZero rest → ⊥)
 not_spelled {rest} more v e =
-    let stops : Stops rest v.front v.last = stops_by_spelling more v e in
-    (
+    let stops : Stops rest v.front v.last = stops_by_spelling more v e in (
       not_inside stops,
       not_past stops,
       λ z.
@@ -64,14 +63,13 @@ varints_push : (numbers front : List ℕ) (number : ℕ) (spelling : List ℕ) �
     → Varints (numbers ++ number ∷ []) (front ++ spelling)
 varints_push [] front number spelling e v =
     (spelling, [], ap (λ l. l ++ spelling) e ∙ sym (append-nil spelling), v, refl)
-varints_push (n ∷ numbers) front number spelling h v =
-    (
-      h.0,
-      h.1 ++ spelling,
-      ap (λ l. l ++ spelling) h.2 ∙ append_assoc h.0 h.1 spelling,
-      h.3,
-      varints_push numbers h.1 number spelling h.4 v,
-    )
+varints_push (n ∷ numbers) front number spelling h v = (
+  h.0,
+  h.1 ++ spelling,
+  ap (λ l. l ++ spelling) h.2 ∙ append_assoc h.0 h.1 spelling,
+  h.3,
+  varints_push numbers h.1 number spelling h.4 v,
+)
 
 pub follows_none : (bytes : List ℕ) → Follows [] bytes 0 (drop 0 bytes)
 follows_none bytes = record { front = []; whole = refl; at_is = refl; spelled = refl }

@@ -116,14 +116,17 @@ told_zero bytes rest r are_bytes e (inl a) =
     subst (Told bytes) (sym a.1) (refl, inl (record { rest = rest; begins = inr (e, omega arith) }))
 told_zero bytes rest r are_bytes e (inr a) =
     let enough : 2 + 32 ≤ length bytes = a.0 in
-    subst (Told bytes) (sym a.1) (enough, inl (record {
-      version = refl;
-      codec = refl;
-      hash = refl;
-      size = length-take-le 32 (drop 2 bytes) (omega (arith, length-drop 2 bytes));
-      are_bytes = All-take (λ b. b < 256) 32 (drop 2 bytes) (All-drop (λ b. b < 256) 2 bytes are_bytes);
-      whole = ap (λ l. take 34 l) e ∙ ap (λ l. 0x12 ∷ 0x20 ∷ take 32 l) (ap (λ l. drop 2 l) (sym e));
-    }))
+    subst (Told bytes) (sym a.1) (
+      enough,
+      inl (record {
+        version = refl;
+        codec = refl;
+        hash = refl;
+        size = length-take-le 32 (drop 2 bytes) (omega (arith, length-drop 2 bytes));
+        are_bytes = All-take (λ b. b < 256) 32 (drop 2 bytes) (All-drop (λ b. b < 256) 2 bytes are_bytes);
+        whole = ap (λ l. take 34 l) e ∙ ap (λ l. 0x12 ∷ 0x20 ∷ take 32 l) (ap (λ l. drop 2 l) (sym e));
+      }),
+    )
 
 told : (bytes : List ℕ) (r : Answer) → All (λ b. b < 256) bytes → Reads bytes r → Told bytes r
 told bytes r are_bytes (one p a) = told_one bytes r p are_bytes a

@@ -20,15 +20,18 @@ Told bytes answer = MatchResult answer (λ found. (found.1 ≤ length bytes) × 
 told_fault : (bytes numbers : List ℕ) (at : ℕ) (fault : CidFault) → (IsVersionZero bytes → ⊥) → MayBegin numbers
     → Follows numbers bytes at (drop at bytes) → NoNumberAt bytes at fault → HasPrefixCause bytes fault
 told_fault bytes numbers at fault other begins f (inl p) =
-    subst (HasPrefixCause bytes) (sym p.0) (refl, inr (inl (record {
-      numbers = numbers;
-      at = at;
-      rest = drop at bytes;
-      other = other;
-      begins = begins;
-      follows = f;
-      ends = p.1;
-    })))
+    subst (HasPrefixCause bytes) (sym p.0) (
+      refl,
+      inr (inl (record {
+        numbers = numbers;
+        at = at;
+        rest = drop at bytes;
+        other = other;
+        begins = begins;
+        follows = f;
+        ends = p.1;
+      })),
+    )
 told_fault bytes numbers at fault other begins f (inr p) =
     subst (HasPrefixCause bytes) (sym p.0) (record { numbers = numbers; rest = drop at bytes; begins = begins; follows = f; bad = p.1 })
 
@@ -38,26 +41,32 @@ told_digest : (codec : Codec) (bytes : List ℕ) (at : ℕ) (r : Answer) → All
 told_digest codec bytes at r are_bytes f (inl a) =
     let few : length bytes < at + 32 = a.0 in
     let start : at ≡ length f.front = f.at_is in
-    subst (Told bytes) (sym a.1) (refl, inr (inr (record {
-      codec = codec_code codec;
-      at = at;
-      rest = drop at bytes;
-      codec_is = code_is codec;
-      follows = f;
-      fewer = omega (arith, length-drop at bytes);
-    })))
+    subst (Told bytes) (sym a.1) (
+      refl,
+      inr (inr (record {
+        codec = codec_code codec;
+        at = at;
+        rest = drop at bytes;
+        codec_is = code_is codec;
+        follows = f;
+        fewer = omega (arith, length-drop at bytes);
+      })),
+    )
 told_digest codec bytes at r are_bytes f (inr a) =
     let enough : at + 32 ≤ length bytes = a.0 in
     let long : length (take 32 (drop at bytes)) ≡ 32 = length-take-le 32 (drop at bytes) (omega (arith, length-drop at bytes)) in
     let front : take at bytes ≡ f.front = ap (λ l. take at l) f.whole ∙ take_at f.front (drop at bytes) at (sym f.at_is) in
-    subst (Told bytes) (sym a.1) (enough, inr (record {
-      version = refl;
-      size = long;
-      are_bytes = All-take (λ b. b < 256) 32 (drop at bytes) (All-drop (λ b. b < 256) at bytes are_bytes);
-      head = f.front;
-      numbers = subst (λ (n : ℕ). Varints (1 ∷ codec_code codec ∷ 0x12 ∷ n ∷ []) f.front) (sym long) f.spelled;
-      whole = take-add at 32 bytes ∙ ap (λ l. l ++ take 32 (drop at bytes)) front;
-    }))
+    subst (Told bytes) (sym a.1) (
+      enough,
+      inr (record {
+        version = refl;
+        size = long;
+        are_bytes = All-take (λ b. b < 256) 32 (drop at bytes) (All-drop (λ b. b < 256) at bytes are_bytes);
+        head = f.front;
+        numbers = subst (λ (n : ℕ). Varints (1 ∷ codec_code codec ∷ 0x12 ∷ n ∷ []) f.front) (sym long) f.spelled;
+        whole = take-add at 32 bytes ∙ ap (λ l. l ++ take 32 (drop at bytes)) front;
+      }),
+    )
 
 told_size : (codec : Codec) (bytes : List ℕ) (at : ℕ) (r : Answer) → (IsVersionZero bytes → ⊥) → All (λ b. b < 256) bytes
     → Follows (1 ∷ codec_code codec ∷ 0x12 ∷ []) bytes at (drop at bytes) → SizeThen codec bytes at r → Told bytes r

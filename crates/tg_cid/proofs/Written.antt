@@ -32,8 +32,7 @@ code_below DagPb = omega arith
 
 four_numbers : (codec : Codec) → Varints (1 ∷ codec_code codec ∷ 0x12 ∷ 0x20 ∷ []) (1 ∷ codec_code codec ∷ 0x12 ∷ 0x20 ∷ [])
 four_numbers codec =
-    let code = codec_code codec in
-    (
+    let code = codec_code codec in (
       1 ∷ [],
       code ∷ 0x12 ∷ 0x20 ∷ [],
       refl,

@@ -18,6 +18,7 @@ use tg_edges::Bytes;
 
 // The code of sha2-256 and the length of its digest.
 const SHA2_256: u64 = 0x12;
+
 const DIGEST: usize = 32;
 
 // How many bytes a CIDv1 of sha2-256 has.
@@ -138,9 +139,10 @@ impl Cid {
             return Err(CidFault::BadText);
         };
         let bytes = tg_base32::decode(alloc, letters)?;
-        match bytes.as_slice() {
+        let bytes = bytes.as_slice();
+        match bytes {
             [0x12, ..] => Err(CidFault::BadVersion { number: 18 }),
-            bytes => Cid::from_bytes(bytes),
+            _ => Cid::from_bytes(bytes),
         }
     }
 

@@ -16,8 +16,7 @@ room_length room digest e size =
 
 pub invariant_of-result : goal.invariant_of-result
 invariant_of-result c =
-    let whole = room_is c.in_room.result c.args.digest.now c.in_room.ensures c.requires.size in
-    (
+    let whole = room_is c.in_room.result c.args.digest.now c.in_room.ensures c.requires.size in (
       c.requires.version,
       omega arith,
       room_length c.in_room.result c.args.digest.now whole c.requires.size,
