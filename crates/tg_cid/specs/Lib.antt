@@ -3,3 +3,4 @@ pub mod Names
 pub mod Spelling
 pub mod Digest
 pub mod Faults
+pub mod Reading

@@ -1,18 +1,28 @@
 //! The CID: read and written as bytes and as text, its parts, and whether it names a block.
-ghost use Rattle.std.specs.Prelude.{◌≡◌, ℕ, ◌≤◌, ◌↔◌, ◌⊎◌, List, ◌++◌, length, take, IsTrue, IfOk, IfErr, MatchResult};
+ghost use Rattle.std.specs.Prelude.{◌≡◌, ℕ, ◌<◌, ◌≤◌, ◌↔◌, ◌⊎◌, List, ◌∷◌, ◌++◌, length, take, All, IsTrue, IfOk, IfErr, MatchResult};
 ghost use Rattle.sha2.specs.Sha256.{sha256};
 ghost use Rattle.tg_cid.specs.Cid.{CidParts};
-ghost use Rattle.tg_cid.specs.Faults.{HasPrefixCause, HasBytesCause, HasTextCause};
+ghost use Rattle.tg_cid.specs.Faults.{HasPrefixCause, HasBytesCause, HasTextCause, IsCodec};
 ghost use Rattle.tg_cid.specs.Names.{Names};
-ghost use Rattle.tg_cid.specs.Spelling.{CidBytes, CidV1Bytes, CidText};
+ghost use Rattle.tg_cid.specs.Reading.{DigestThen, ReadsAsOne};
+ghost use Rattle.tg_cid.specs.Spelling.{CidBytes, CidV1Bytes, CidText, codec_code};
 ghost use Rattle.tg_cid.specs.declared.fault.CidFault.{CidFault};
 
 use crate::fault::CidFault;
-use crate::room::{ROOM, in_room};
+use crate::numbers::number_at;
+use crate::room::{ROOM, fill_both, in_room};
 use sha2::{Digest, Sha256};
 use std::alloc::{AllocError, Global};
 use std::marker::Model;
 use tg_edges::Bytes;
+
+// The code of sha2-256 and the length of its digest.
+const SHA2_256: u64 = 0x12;
+
+const DIGEST: usize = 32;
+
+// How many bytes a CIDv1 of sha2-256 has.
+const SPELLED: usize = 36;
 
 /// How the blocks that a CID names are read.
 #[derive(Clone, Copy, Debug, PartialEq, Eq, Hash)]
@@ -89,7 +99,11 @@ impl Cid {
         // Each refusal comes exactly where its cause holds.
         ensures refused { (fault : CidFault) → (result ≡ Err fault) ↔ HasPrefixCause bytes.now fault }
     {
-        Err(CidFault::BadText)
+        match bytes {
+            [0x12] => Err(CidFault::Short { at: 1 }),
+            [0x12, 0x20, ..] => with_digest(0, Codec::DagPb, bytes, 2),
+            _ => version_one(bytes),
+        }
     }
 
     /// The CID that the bytes are, with nothing behind it. It takes no memory.
@@ -100,7 +114,11 @@ impl Cid {
         ensures only { (cid : CidParts) → CidBytes cid bytes.now → result ≡ Ok cid }
         ensures refused { (fault : CidFault) → (result ≡ Err fault) ↔ HasBytesCause bytes.now fault }
     {
-        Err(CidFault::BadText)
+        let (cid, length) = Cid::from_prefix(bytes)?;
+        if length < bytes.len() {
+            return Err(CidFault::Trailing { at: length as u64 });
+        }
+        Ok(cid)
     }
 
     /// The CIDv1 that a text spells: the letter `b` and the lower-case base 32 of its bytes.
@@ -117,7 +135,15 @@ impl Cid {
         ensures given { (fault : CidFault) → HasTextCause text.now fault
             → (result ≡ Err fault) ⊎ (result ≡ Err CidFault.OutOfMemory) }
     {
-        Err(CidFault::OutOfMemory)
+        let [b'b', letters @ ..] = text else {
+            return Err(CidFault::BadText);
+        };
+        let bytes = tg_base32::decode(alloc, letters)?;
+        let bytes = bytes.as_slice();
+        match bytes {
+            [0x12, ..] => Err(CidFault::BadVersion { number: 18 }),
+            _ => Cid::from_bytes(bytes),
+        }
     }
 
     /// The CID's bytes. The error is want of memory.
@@ -126,7 +152,12 @@ impl Cid {
     pub fn to_bytes(&self, alloc: Global) -> Result<Bytes, AllocError>
         ensures { IfOk result (λ bytes. CidBytes self.now bytes) }
     {
-        Err(AllocError)
+        let bytes = self.version_one_bytes();
+        if self.version == 0 {
+            // A CIDv0 is the multihash alone, which stands in a CIDv1 behind the version and the codec.
+            return Bytes::of(alloc, &bytes[2..]);
+        }
+        Bytes::of(alloc, &bytes)
     }
 
     /// The text of the CID's version 1 form: the letter `b` and the lower-case base 32 of its bytes. The error is want of
@@ -136,7 +167,9 @@ impl Cid {
     pub fn to_text(&self, alloc: Global) -> Result<Bytes, AllocError>
         ensures { IfOk result (λ text. CidText (record self.now { version = 1 }) text) }
     {
-        Err(AllocError)
+        let mut text = tg_base32::encode(alloc, &self.version_one_bytes())?;
+        text.insert(0, b'b')?;
+        Ok(Bytes::from(text))
     }
 
     /// The CIDv1 with sha2-256 of a block. It takes no memory.
@@ -146,13 +179,8 @@ impl Cid {
         ensures parts { result ≡ record { version = 1; codec = codec; hash = HashKind.Sha256; digest = sha256 block.now } }
         ensures names { Names result block.now }
     {
-        Cid {
-            version: 1,
-            codec,
-            hash: HashKind::Sha256,
-            size: 32,
-            digest: in_room(&[0; 32]),
-        }
+        let digest = Sha256::digest(block);
+        with_sha256(1, codec, digest.as_slice())
     }
 
     /// Whether the CID names the block: its digest is the one that its hash gives for the block. It takes no memory.
@@ -208,6 +236,95 @@ impl Cid {
             size: self.size,
             digest: self.digest,
         }
+    }
+
+    /// The bytes of the CIDv1 with the same codec, hash and digest.
+    fn version_one_bytes(&self) -> [u8; SPELLED]
+        ensures whole { result ≡ 1 ∷ codec_code self.now.codec ∷ 0x12 ∷ 0x20 ∷ self.now.digest }
+        ensures spelled { CidV1Bytes (record self.now { version = 1 }) result }
+    {
+        spelled(self.codec, self.digest())
+    }
+}
+
+/// The CID with a digest of sha2-256.
+fn with_sha256(version: u8, codec: Codec, digest: &[u8]) -> Cid
+    requires version { version ≤ 1 }
+    requires codec { version ≡ 0 → codec ≡ Codec.DagPb }
+    requires size { length digest.now ≡ 32 }
+    ensures { result ≡ record { version = version; codec = codec; hash = HashKind.Sha256; digest = digest.now } }
+{
+    Cid {
+        version,
+        codec,
+        hash: HashKind::Sha256,
+        size: 32,
+        digest: in_room(digest),
+    }
+}
+
+/// The bytes of a CIDv1 with a digest of sha2-256.
+fn spelled(codec: Codec, digest: &[u8]) -> [u8; SPELLED]
+    requires { length digest.now ≡ 32 }
+    ensures whole { result ≡ 1 ∷ codec_code codec ∷ 0x12 ∷ 0x20 ∷ digest.now }
+    ensures are_bytes { All (λ b. b < 256) digest.now }
+{
+    let code = match codec {
+        Codec::Raw => 0x55,
+        Codec::DagPb => 0x70,
+    };
+    let head = [1, code, 0x12, 0x20];
+    let mut bytes = [0; SPELLED];
+    fill_both(&mut bytes, &head, digest);
+    bytes
+}
+
+/// The CID whose digest begins at `at`, where its bytes end, and that end.
+fn with_digest(version: u8, codec: Codec, bytes: &[u8], at: usize) -> Result<(Cid, usize), CidFault>
+    requires version { version ≤ 1 }
+    requires codec { version ≡ 0 → codec ≡ Codec.DagPb }
+    requires place { at ≤ length bytes.now }
+    ensures { DigestThen version codec bytes.now at result }
+{
+    let rest = &bytes[at..];
+    if rest.len() < DIGEST {
+        return Err(CidFault::Short {
+            at: bytes.len() as u64,
+        });
+    }
+    Ok((with_sha256(version, codec, &rest[..DIGEST]), at + DIGEST))
+}
+
+/// The CIDv1 at the front of the bytes and its length.
+fn version_one(bytes: &[u8]) -> Result<(Cid, usize), CidFault>
+    ensures { ReadsAsOne bytes.now result }
+{
+    let (version, at) = number_at(bytes, 0)?;
+    if version != 1 {
+        return Err(CidFault::BadVersion { number: version });
+    }
+    let (code, at) = number_at(bytes, at)?;
+    let codec = codec_of(code)?;
+    let (hash, at) = number_at(bytes, at)?;
+    if hash != SHA2_256 {
+        return Err(CidFault::BadHash { number: hash });
+    }
+    let (size, at) = number_at(bytes, at)?;
+    if size != DIGEST as u64 {
+        return Err(CidFault::BadLength { number: size });
+    }
+    with_digest(1, codec, bytes, at)
+}
+
+/// The codec with this number.
+fn codec_of(number: u64) -> Result<Codec, CidFault>
+    ensures { MatchResult result (λ codec. number ≡ codec_code codec)
+        (λ fault. (fault ≡ CidFault.BadCodec number) × ¬ IsCodec number) }
+{
+    match number {
+        0x55 => Ok(Codec::Raw),
+        0x70 => Ok(Codec::DagPb),
+        _ => Err(CidFault::BadCodec { number }),
     }
 }
 

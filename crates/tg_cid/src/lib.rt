@@ -3,6 +3,7 @@
 
 mod cid;
 mod fault;
+mod numbers;
 mod room;
 
 pub use cid::{Cid, Codec, HashKind, one_spelling};

@@ -1,4 +1,4 @@
 mod Groups
-mod Reading
+pub mod Reading
 mod Writing
-mod Uniqueness
+pub mod Uniqueness

@@ -1,0 +1,9 @@
+mod Places
+mod Once
+mod Told
+mod Causes
+mod Prefix
+mod Whole
+mod Texts
+mod Laws
+mod Written

@@ -1,0 +1,139 @@
+-- Numbers that are spelled one after another: there is one at a place, and a list of them is read from the front.
+use Rattle.std.proofs.Common.{◌≡◌, ℕ, ◌+◌, ◌<◌, ◌≤◌, List, [], ◌∷◌, ◌++◌, length, take, drop, refl, ap, sym, ◌∙◌, subst, inl, inr, arith}
+use Rattle.std.proofs.lemmas.List.{append_assoc, append-nil, drop-drop, drop_at, length-append, length-drop}
+use Rattle.tg_varint.specs.Varint.{VarintSpelling, EndsInside, PassesNine, EndsInZero}
+use Rattle.tg_varint.proofs.Reading.{Stops, stops_once, stops_by_spelling, stops_by_zero, not_inside, not_past}
+use Rattle.tg_varint.proofs.Uniqueness.{no_front_of_another}
+use Rattle.tg_cid.specs.Faults.{Follows}
+use Rattle.tg_cid.specs.Reading.{NumberAt, NoNumberAt}
+use Rattle.tg_cid.specs.Spelling.{Varints}
+use Rattle.tg_cid.specs.declared.fault.CidFault.{CidFault}
+
+pub one_number : {bytes : List ℕ} {at m n x y : ℕ} → NumberAt bytes at m x → NumberAt bytes at n y → (m ≡ n) × (x ≡ y)
+one_number {bytes} {at} {m} {n} a b =
+    let one = no_front_of_another m n a.spelling b.spelling a.rest b.rest a.spelled b.spelled (sym a.whole ∙ b.whole) in
+    (one.1, a.next_is ∙ (ap (λ s. at + length s) one.0 ∙ sym b.next_is))
+
+not_short : {rest : List ℕ} → EndsInside rest → (PassesNine rest → ⊥) × (EndsInZero rest → ⊥)
+not_short {rest} i = (
+  λ p.
+      let less : length rest < 9 = i.fewer in
+      let enough : 9 ≤ length rest = p.enough in
+      omega arith,
+  λ z. not_inside (stops_by_zero z) i,
+)
+
+not_spelled : {rest : List ℕ} {number : ℕ} {spelling : List ℕ} (more : List ℕ) → VarintSpelling number spelling → rest ≡ spelling ++ more
+    → (EndsInside rest → ⊥) × (PassesNine rest → ⊥) × (EndsInZero rest → ⊥)
+not_spelled {rest} more v e =
+    let stops : Stops rest v.front v.last = stops_by_spelling more v e in (
+      not_inside stops,
+      not_past stops,
+      λ z.
+          let one = stops_once stops (stops_by_zero z) in
+          let fronts : length v.front ≡ length z.front = ap length one.0 in
+          let zero : v.last ≡ 0 = one.1 in
+          let some : 0 < length z.front = z.not_alone in
+          let above : 0 < v.last = v.shortest (omega arith) in
+          omega arith,
+    )
+
+pub not_both : (bytes : List ℕ) (at number next : ℕ) (fault : CidFault) → NumberAt bytes at number next → NoNumberAt bytes at fault → ⊥
+not_both bytes at number next fault a h =
+    let no = not_spelled a.rest a.spelled a.whole in
+    elim h [
+      | inl p ↦ no.0 p.1
+      | inr p ↦ elim p.1 [ inl q ↦ no.1 q | inr q ↦ no.2 q ]
+    ]
+
+pub one_fault : (bytes : List ℕ) (at : ℕ) (a b : CidFault) → NoNumberAt bytes at a → NoNumberAt bytes at b → a ≡ b
+one_fault bytes at a b (inl p) (inl q) = p.0 ∙ sym q.0
+one_fault bytes at a b (inl p) (inr q) = elim q.1 [ inl h ↦ absurd ((not_short p.1).0 h) | inr h ↦ absurd ((not_short p.1).1 h) ]
+one_fault bytes at a b (inr p) (inl q) = elim p.1 [ inl h ↦ absurd ((not_short q.1).0 h) | inr h ↦ absurd ((not_short q.1).1 h) ]
+one_fault bytes at a b (inr p) (inr q) = p.0 ∙ sym q.0
+
+-- behind a number the rest begins
+pub drop_number : {bytes : List ℕ} {at number next : ℕ} (a : NumberAt bytes at number next) → drop next bytes ≡ a.rest
+drop_number {bytes} {at} a =
+    ap (λ n. drop n bytes) a.next_is
+    ∙ (sym (drop-drop (length a.spelling) at bytes)
+    ∙ (ap (λ l. drop (length a.spelling) l) a.whole ∙ drop_at a.spelling a.rest (length a.spelling) refl))
+
+varints_push : (numbers front : List ℕ) (number : ℕ) (spelling : List ℕ) → Varints numbers front → VarintSpelling number spelling
+    → Varints (numbers ++ number ∷ []) (front ++ spelling)
+varints_push [] front number spelling e v =
+    (spelling, [], ap (λ l. l ++ spelling) e ∙ sym (append-nil spelling), v, refl)
+varints_push (n ∷ numbers) front number spelling h v = (
+  h.0,
+  h.1 ++ spelling,
+  ap (λ l. l ++ spelling) h.2 ∙ append_assoc h.0 h.1 spelling,
+  h.3,
+  varints_push numbers h.1 number spelling h.4 v,
+)
+
+pub follows_none : (bytes : List ℕ) → Follows [] bytes 0 (drop 0 bytes)
+follows_none bytes = record { front = []; whole = refl; at_is = refl; spelled = refl }
+
+pub follows_more : {numbers bytes : List ℕ} {at number next : ℕ} → Follows numbers bytes at (drop at bytes) → NumberAt bytes at number next
+    → Follows (numbers ++ number ∷ []) bytes next (drop next bytes)
+follows_more {numbers} {bytes} {at} {number} {next} f a = record {
+  front = f.front ++ a.spelling;
+  whole =
+      f.whole ∙ (ap (λ l. f.front ++ l) (a.whole ∙ ap (λ l. a.spelling ++ l) (sym (drop_number a)))
+      ∙ sym (append_assoc f.front a.spelling (drop next bytes)));
+  at_is = a.next_is ∙ (ap (λ n. n + length a.spelling) f.at_is ∙ sym (length-append f.front a.spelling));
+  spelled = varints_push numbers f.front number a.spelling f.spelled a.spelled;
+}
+
+-- the varints of the numbers stand from one place to another, and the rest follows them
+pub record Stand (numbers bytes : List ℕ) (from at : ℕ) (rest : List ℕ) : Type 0 where
+  pub front : List ℕ
+  pub whole : drop from bytes ≡ front ++ rest
+  pub at_is : at ≡ from + length front
+  pub within : at ≤ length bytes
+  pub spelled : Varints numbers front
+
+pub stand : {numbers bytes : List ℕ} {at : ℕ} {rest : List ℕ} → Follows numbers bytes at rest → Stand numbers bytes 0 at rest
+stand {numbers} {bytes} {at} {rest} f = record {
+  front = f.front;
+  whole = f.whole;
+  at_is = let e : at ≡ length f.front = f.at_is in omega arith;
+  within =
+      let e : at ≡ length f.front = f.at_is in
+      let l : length bytes ≡ length f.front + length rest = ap length f.whole ∙ length-append f.front rest in
+      omega arith;
+  spelled = f.spelled;
+}
+
+-- the first number is at the first place, and the others stand behind it
+pub record First (number : ℕ) (numbers bytes : List ℕ) (from at : ℕ) (rest : List ℕ) : Type 0 where
+  pub next : ℕ
+  pub here : NumberAt bytes from number next
+  pub others : Stand numbers bytes next at rest
+
+pub first : {number : ℕ} {numbers bytes : List ℕ} {from at : ℕ} {rest : List ℕ} → Stand (number ∷ numbers) bytes from at rest
+    → First number numbers bytes from at rest
+first {number} {numbers} {bytes} {from} {at} {rest} s =
+    let v = s.spelled in
+    let whole : drop from bytes ≡ v.0 ++ (v.1 ++ rest) = s.whole ∙ (ap (λ l. l ++ rest) v.2 ∙ append_assoc v.0 v.1 rest) in
+    let long : length s.front ≡ length v.0 + length v.1 = ap length v.2 ∙ length-append v.0 v.1 in
+    let end : at ≡ from + length s.front = s.at_is in
+    let fits : at ≤ length bytes = s.within in
+    let here : NumberAt bytes from number (from + length v.0) =
+    record { spelling = v.0; rest = v.1 ++ rest; whole = whole; next_is = refl; within = omega arith; spelled = v.3 } in
+    record {
+      next = from + length v.0;
+      here = here;
+      others = record { front = v.1; whole = drop_number here; at_is = omega arith; within = fits; spelled = v.4 };
+    }
+
+-- no number stands between a place and itself
+pub none_stand : {bytes : List ℕ} {from at : ℕ} {rest : List ℕ} → Stand [] bytes from at rest → at ≡ from
+none_stand {bytes} {from} {at} s =
+    let none : length s.front ≡ 0 = ap length s.spelled in
+    let end : at ≡ from + length s.front = s.at_is in
+    omega arith
+
+pub rest_is : {numbers bytes : List ℕ} {at : ℕ} {rest : List ℕ} → Follows numbers bytes at rest → rest ≡ drop at bytes
+rest_is {numbers} {bytes} {at} {rest} f =
+    sym (ap (λ l. drop at l) f.whole ∙ drop_at f.front rest at (sym f.at_is))
