@@ -1,5 +1,8 @@
 //! The program's commands over streams in memory.
+ghost use Rattle.std.specs.Prelude.{◌≡◌, IfOk, vec_len};
+
 use super::*;
+use std::alloc::{AllocError, Global};
 use std::test::Fail;
 use tg_edges::{Bytes, List, MemSink, MemSource};
 
@@ -37,7 +40,7 @@ struct Outcome {
 }
 
 /// Runs the words over an input in memory, by pieces of this size.
-fn outcome(
+fn run_over(
     rt: &HostRuntime,
     words: &[&str],
     input: &[u8],
@@ -74,7 +77,7 @@ fn check_writes_what_the_cid_names(rt: HostRuntime) -> Result<(), Fail> {
     ];
     for (cid, input, status, out, err) in rows {
         for piece in [1, 7, 65_536] {
-            let run = outcome(&rt, &["check", cid], input, piece, NONE)?;
+            let run = run_over(&rt, &["check", cid], input, piece, NONE)?;
             assert_eq!(rt; run.status, status, "{cid} in pieces of {piece}");
             assert_eq!(rt; run.out.as_slice(), out, "{cid} in pieces of {piece}");
             assert_eq!(rt; run.err.as_slice(), err.as_bytes(), "{cid} in pieces of {piece}");
@@ -83,15 +86,22 @@ fn check_writes_what_the_cid_names(rt: HostRuntime) -> Result<(), Fail> {
     Ok(())
 }
 
+/// So many zero bytes.
+fn zeros(alloc: Global, size: usize) -> Result<Vec<u8>, AllocError>
+    ensures { IfOk result (λ bytes. vec_len bytes ≡ size) }
+{
+    vec![in alloc; 0; size]
+}
+
 #[test]
 fn check_stops_at_the_limit(rt: HostRuntime) -> Result<(), Fail> {
-    let zeros = vec![in rt.alloc(); 0; 2_097_153]?;
-    assert_eq!(rt; zeros.len(), 2_097_153);
-    let over = outcome(&rt, &["check", H], zeros.as_slice(), 65_536, NONE)?;
+    let one_more = zeros(rt.alloc(), 2_097_153)?;
+    let over = run_over(&rt, &["check", H], one_more.as_slice(), 65_536, NONE)?;
     assert_eq!(rt; over.status, 7);
     assert_eq!(rt; over.out.len(), 0);
     assert_eq!(rt; over.err.as_slice(), b"tgate: Limit Block 2097152\n".as_slice());
-    let exact = outcome(&rt, &["check", H], &zeros[..2_097_152], 65_536, NONE)?;
+    let largest = zeros(rt.alloc(), 2_097_152)?;
+    let exact = run_over(&rt, &["check", H], largest.as_slice(), 65_536, NONE)?;
     assert_eq!(rt; exact.status, 3);
     assert_eq!(rt; exact.out.len(), 0);
     Ok(())
@@ -120,7 +130,7 @@ fn other_words_are_refused(rt: HostRuntime) -> Result<(), Fail> {
         &["serve", "pack", "--port", "0", "--count", "1"],
     ];
     for words in rows {
-        let run = outcome(&rt, words, b"hello world", 7, NONE)?;
+        let run = run_over(&rt, words, b"hello world", 7, NONE)?;
         assert_eq!(rt; run.status, 2, "{words:?}");
         assert_eq!(rt; run.out.len(), 0, "{words:?}");
         assert_eq!(rt; run.err.as_slice(), b"tgate: usage\n".as_slice(), "{words:?}");
@@ -140,14 +150,14 @@ fn cid_goes_both_ways(rt: HostRuntime) -> Result<(), Fail> {
         (&["cid", "--hex", E_V0_HEX], E),
     ];
     for (words, line) in rows {
-        let run = outcome(&rt, words, b"", 7, NONE)?;
+        let run = run_over(&rt, words, b"", 7, NONE)?;
         assert_eq!(rt; run.status, 0, "{words:?}");
         let want = format!(in rt.alloc(); "{line}\n")?;
         assert_eq!(rt; run.out.as_slice(), want.as_bytes(), "{words:?}");
         assert_eq!(rt; run.err.len(), 0, "{words:?}");
     }
     let trailed = format!(in rt.alloc(); "{H_HEX}00")?;
-    let run = outcome(&rt, &["cid", "--hex", trailed.as_str()], b"", 7, NONE)?;
+    let run = run_over(&rt, &["cid", "--hex", trailed.as_str()], b"", 7, NONE)?;
     assert_eq!(rt; run.status, 2);
     Ok(())
 }
@@ -158,23 +168,23 @@ fn faults_of_the_streams_are_told(rt: HostRuntime) -> Result<(), Fail> {
         input: &[1],
         ..NONE
     };
-    let run = outcome(&rt, &["check", H], b"hello world", 4, second)?;
+    let run = run_over(&rt, &["check", H], b"hello world", 4, second)?;
     assert_eq!(rt; run.status, 6);
     assert_eq!(rt; run.out.len(), 0);
     assert_eq!(rt; run.err.as_slice(), b"tgate: InputFault\n".as_slice());
     let first = Failing { out: &[0], ..NONE };
-    let run = outcome(&rt, &["check", H], b"hello world", 4, first)?;
+    let run = run_over(&rt, &["check", H], b"hello world", 4, first)?;
     assert_eq!(rt; run.status, 6);
     assert_eq!(rt; run.out.len(), 0);
     assert_eq!(rt; run.err.as_slice(), b"tgate: SinkFault\n".as_slice());
     let third = Failing { out: &[2], ..NONE };
-    let run = outcome(&rt, &["check", H], b"hello world", 4, third)?;
+    let run = run_over(&rt, &["check", H], b"hello world", 4, third)?;
     assert_eq!(rt; run.status, 6);
     assert_eq!(rt; run.out.as_slice(), b"hello wo".as_slice());
-    let run = outcome(&rt, &["cid", H], b"", 4, first)?;
+    let run = run_over(&rt, &["cid", H], b"", 4, first)?;
     assert_eq!(rt; run.status, 6);
     let mute = Failing { err: &[0], ..NONE };
-    let run = outcome(&rt, &["check", H], b"hello World", 4, mute)?;
+    let run = run_over(&rt, &["check", H], b"hello World", 4, mute)?;
     assert_eq!(rt; run.status, 3);
     assert_eq!(rt; run.err.len(), 0);
     Ok(())

@@ -1,2 +1,3 @@
 pub mod Words
 pub mod CommandLine
+pub mod Operands

@@ -1,0 +1,3 @@
+mod Readings
+mod Scanning
+mod Lines

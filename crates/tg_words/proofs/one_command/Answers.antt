@@ -1,0 +1,5 @@
+use Rattle.tg_words.proofs.Lines.{one_line}
+use Rattle.tg_words.proofs.one_command.Goals as goal
+
+pub returns : goal.returns
+returns c = one_line c.one_spelling.ensures.one_cid c.one_spelling.ensures.no_front
