@@ -8,13 +8,18 @@ use tg_edges::{Bytes, List, MemSink, MemSource};
 
 /// The raw CID of `hello world`, that of no bytes, and the dag-pb CID of the empty directory.
 const H: &str = "bafkreifzjut3te2nhyekklss27nh3k72ysco7y32koao5eei66wof36n5e";
+
 const Z: &str = "bafkreihdwdcefgh4dqkjv67uzcmw7ojee6xedzdetojuzjevtenxquvyku";
+
 const E: &str = "bafybeiczsscdsbs7ffqz55asqdf3smv6klcw3gofszvwlyarci47bgf354";
 
 const H_HEX: &str = "01551220b94d27b9934d3e08a52e52d7da7dabfac484efe37a5380ee9088f7ace2efcde9";
+
 const H_HEX_UPPER: &str =
     "01551220B94D27B9934D3E08A52E52D7DA7DABFAC484EFE37A5380EE9088F7ACE2EFCDE9";
+
 const E_HEX: &str = "0170122059948439065f29619ef41280cbb932be52c56d99c5966b65e0111239f098bbef";
+
 const E_V0_HEX: &str = "122059948439065f29619ef41280cbb932be52c56d99c5966b65e0111239f098bbef";
 
 /// The calls of the streams that fail, by their numbers.
@@ -80,7 +85,11 @@ fn check_writes_what_the_cid_names(rt: HostRuntime) -> Result<(), Fail> {
             let run = run_over(&rt, &["check", cid], input, piece, NONE)?;
             assert_eq!(rt; run.status, status, "{cid} in pieces of {piece}");
             assert_eq!(rt; run.out.as_slice(), out, "{cid} in pieces of {piece}");
-            assert_eq!(rt; run.err.as_slice(), err.as_bytes(), "{cid} in pieces of {piece}");
+            assert_eq!(rt;
+                run.err.as_slice(),
+                err.as_bytes(),
+                "{cid} in pieces of {piece}"
+            );
         }
     }
     Ok(())
@@ -99,7 +108,10 @@ fn check_stops_at_the_limit(rt: HostRuntime) -> Result<(), Fail> {
     let over = run_over(&rt, &["check", H], one_more.as_slice(), 65_536, NONE)?;
     assert_eq!(rt; over.status, 7);
     assert_eq!(rt; over.out.len(), 0);
-    assert_eq!(rt; over.err.as_slice(), b"tgate: Limit Block 2097152\n".as_slice());
+    assert_eq!(rt;
+        over.err.as_slice(),
+        b"tgate: Limit Block 2097152\n".as_slice()
+    );
     let largest = zeros(rt.alloc(), 2_097_152)?;
     let exact = run_over(&rt, &["check", H], largest.as_slice(), 65_536, NONE)?;
     assert_eq!(rt; exact.status, 3);
@@ -133,7 +145,11 @@ fn other_words_are_refused(rt: HostRuntime) -> Result<(), Fail> {
         let run = run_over(&rt, words, b"hello world", 7, NONE)?;
         assert_eq!(rt; run.status, 2, "{words:?}");
         assert_eq!(rt; run.out.len(), 0, "{words:?}");
-        assert_eq!(rt; run.err.as_slice(), b"tgate: usage\n".as_slice(), "{words:?}");
+        assert_eq!(rt;
+            run.err.as_slice(),
+            b"tgate: usage\n".as_slice(),
+            "{words:?}"
+        );
     }
     Ok(())
 }
@@ -146,7 +162,13 @@ fn cid_goes_both_ways(rt: HostRuntime) -> Result<(), Fail> {
         (&["cid", "--", H], H_HEX),
         (&["cid", "--hex", H_HEX], H),
         (&["cid", "--hex", H_HEX_UPPER], H),
-        (&["cid", "--hex=0170122059948439065f29619ef41280cbb932be52c56d99c5966b65e0111239f098bbef"], E),
+        (
+            &[
+                "cid",
+                "--hex=0170122059948439065f29619ef41280cbb932be52c56d99c5966b65e0111239f098bbef",
+            ],
+            E,
+        ),
         (&["cid", "--hex", E_V0_HEX], E),
     ];
     for (words, line) in rows {

@@ -39,8 +39,8 @@ pub check_err : (rest texts : List (List ℕ)) (e : WordsFault)
 check_err rest texts e only wants = record {
   found = tt;
   only = λ command line.
-    let l = check_line rest command line in
-    wants l.1 (only (l.1 ∷ []) [] l.3 (omega arith) (omega arith)) l.0 l.4;
+      let l = check_line rest command line in
+      wants l.1 (only (l.1 ∷ []) [] l.3 (omega arith) (omega arith)) l.0 l.4;
 }
 
 pub check_ok : (rest texts : List (List ℕ)) (text : List ℕ) (cid : CidParts) → texts ≡ text ∷ [] → WordsSpelling [] rest texts []
@@ -50,10 +50,10 @@ pub check_ok : (rest texts : List (List ℕ)) (text : List ℕ) (cid : CidParts)
 check_ok rest texts text cid texts_are spelled only text_is one = record {
   found = record { rest = rest; command = refl; text = text; operands = subst (λ p. WordsSpelling [] rest p []) texts_are spelled; text_is = text_is };
   only = λ command line.
-    let l = check_line rest command line in
-    let both : text ∷ [] ≡ l.1 ∷ [] = sym texts_are ∙ only (l.1 ∷ []) [] l.3 (omega arith) (omega arith) in
-    let same : l.1 ≡ text = cc in
-    ap Check (one l.0 (subst (λ t. CidText l.0 t) same l.4)) ∙ sym l.2;
+      let l = check_line rest command line in
+      let both : text ∷ [] ≡ l.1 ∷ [] = sym texts_are ∙ only (l.1 ∷ []) [] l.3 (omega arith) (omega arith) in
+      let same : l.1 ≡ text = cc in
+      ap Check (one l.0 (subst (λ t. CidText l.0 t) same l.4)) ∙ sym l.2;
 }
 
 -- `cid`
@@ -98,13 +98,13 @@ pub cid_err : (rest texts values : List (List ℕ)) (e : WordsFault) → OnlyThe
 cid_err rest texts values e only wants_text wants_hex = record {
   found = tt;
   only = λ command line. elim (cid_line rest command line) [
-      | inl l ↦
+    | inl l ↦
         let same = only (l.1 ∷ []) [] l.3 (omega arith) (omega arith) in
         wants_text l.1 same.0 (no_value values same.1) l.0 l.4
-      | inr l ↦
+    | inr l ↦
         let same = only [] ((codes "hex", l.1) ∷ []) l.4 (omega arith) (omega arith) in
         wants_hex l.1 same.0 (one_value values l.1 same.1) l.0 l.2 l.5 l.6
-    ];
+  ];
 }
 
 pub cid_text_ok : (rest texts values : List (List ℕ)) (text : List ℕ) (cid : CidParts) → texts ≡ text ∷ [] → values ≡ []
@@ -120,14 +120,14 @@ cid_text_ok rest texts values text cid texts_are values_are spelled only text_is
     text_is = text_is;
   };
   only = λ command line. elim (cid_line rest command line) [
-      | inl l ↦
+    | inl l ↦
         let both : text ∷ [] ≡ l.1 ∷ [] = sym texts_are ∙ (only (l.1 ∷ []) [] l.3 (omega arith) (omega arith)).0 in
         let same : l.1 ≡ text = cc in
         ap CidToHex (one l.0 (subst (λ t. CidText l.0 t) same l.4)) ∙ sym l.2
-      | inr l ↦
+    | inr l ↦
         let bad : text ∷ [] ≡ [] = sym texts_are ∙ (only [] ((codes "hex", l.1) ∷ []) l.4 (omega arith) (omega arith)).0 in
         absurd (cc)
-    ];
+  ];
 }
 
 pub cid_hex_ok : (rest texts values : List (List ℕ)) (digits bytes : List ℕ) (cid : CidParts) → texts ≡ [] → values ≡ digits ∷ []
@@ -145,14 +145,14 @@ cid_hex_ok rest texts values digits bytes cid texts_are values_are spelled only 
     bytes_are = bytes_are;
   };
   only = λ command line. elim (cid_line rest command line) [
-      | inl l ↦
+    | inl l ↦
         let bad : l.1 ∷ [] ≡ [] = sym (only (l.1 ∷ []) [] l.3 (omega arith) (omega arith)).0 ∙ texts_are in
         absurd (cc)
-      | inr l ↦
+    | inr l ↦
         let both : digits ∷ [] ≡ l.1 ∷ [] = sym values_are ∙ one_value values l.1 (only [] ((codes "hex", l.1) ∷ []) l.4 (omega arith) (omega arith)).1 in
         let same : l.1 ≡ digits = cc in
         ap CidToText (one l.0 l.2 (subst (λ (d : List ℕ). decode_of d ≡ Ok l.2) same l.5) l.6) ∙ sym l.3
-    ];
+  ];
 }
 
 -- words have one reading, where at most one name is known
@@ -167,21 +167,21 @@ one_by (suc fuel) names [] all more every others known some enough r s =
 one_by (suc fuel) names (word ∷ words) all more every others known some enough r s =
     elim (begins names word words all every r) [
       | at_end at all_is every_is ↦
-        let q = end_only names word words more others some at s in (all_is ∙ sym q.0, every_is ∙ sym q.1)
+          let q = end_only names word words more others some at s in (all_is ∙ sym q.0, every_is ∙ sym q.1)
       | at_plain later plain all_is reading ↦
-        let q = (moves_plain names word words plain).only more others s in
-        let t = one_by fuel names words later q.later every q.others known some (omega (arith, enough)) reading q.reading in
-        (all_is ∙ ap (λ ws. word ∷ ws) t.0 ∙ sym q.positional_is, t.1 ∙ sym q.options_are)
+          let q = (moves_plain names word words plain).only more others s in
+          let t = one_by fuel names words later q.later every q.others known some (omega (arith, enough)) reading q.reading in
+          (all_is ∙ ap (λ ws. word ∷ ws) t.0 ∙ sym q.positional_is, t.1 ∙ sym q.options_are)
       | at_assigned name value rest_options among at every_is reading ↦
-        let n = known name among in
-        let q = (moves_assigned name value word words at).only more others (subst (λ ns. Reading ns (word ∷ words) more others) n s) in
-        let t = one_by fuel names words all q.later rest_options q.others known some (omega (arith, enough)) reading (subst (λ ns. Reading ns words q.later q.others) (sym n) q.reading) in
-        (t.0 ∙ sym q.positional_is, every_is ∙ ap (λ os. (name, value) ∷ os) t.1 ∙ sym q.options_are)
+          let n = known name among in
+          let q = (moves_assigned name value word words at).only more others (subst (λ ns. Reading ns (word ∷ words) more others) n s) in
+          let t = one_by fuel names words all q.later rest_options q.others known some (omega (arith, enough)) reading (subst (λ ns. Reading ns words q.later q.others) (sym n) q.reading) in
+          (t.0 ∙ sym q.positional_is, every_is ∙ ap (λ os. (name, value) ∷ os) t.1 ∙ sym q.options_are)
       | at_named name value rest rest_options among at words_are plain every_is reading ↦
-        let n = known name among in
-        let q = (moves_named name value word words rest (some name among) at words_are plain).only more others (subst (λ ns. Reading ns (word ∷ words) more others) n s) in
-        let t = one_by fuel names rest all q.later rest_options q.others known some (omega (arith, enough, ap length words_are)) reading (subst (λ ns. Reading ns rest q.later q.others) (sym n) q.reading) in
-        (t.0 ∙ sym q.positional_is, every_is ∙ ap (λ os. (name, value) ∷ os) t.1 ∙ sym q.options_are)
+          let n = known name among in
+          let q = (moves_named name value word words rest (some name among) at words_are plain).only more others (subst (λ ns. Reading ns (word ∷ words) more others) n s) in
+          let t = one_by fuel names rest all q.later rest_options q.others known some (omega (arith, enough, ap length words_are)) reading (subst (λ ns. Reading ns rest q.later q.others) (sym n) q.reading) in
+          (t.0 ∙ sym q.positional_is, every_is ∙ ap (λ os. (name, value) ∷ os) t.1 ∙ sym q.options_are)
     ]
 
 pub one_of_none : (words all more : List (List ℕ)) (every others : List (List ℕ × List ℕ)) → WordsSpelling [] words all every → WordsSpelling [] words more others → (all ≡ more) × (every ≡ others)
@@ -209,21 +209,21 @@ one_line one_cid no_front words (Check cid) b line other =
 one_line one_cid no_front words (CidToHex cid) b line other =
     elim (cid_line line.rest b (subst (λ ws. CommandLine ws b) line.command other)) [
       | inl l ↦
-        let both : line.text ∷ [] ≡ l.1 ∷ [] = (one_of_hex line.rest (line.text ∷ []) (l.1 ∷ []) [] [] line.operands l.3).0 in
-        let same : l.1 ≡ line.text = cc in
-        ap CidToHex (one_cid cid l.0 line.text line.text_is (subst (λ t. CidText l.0 t) same l.4)) ∙ sym l.2
+          let both : line.text ∷ [] ≡ l.1 ∷ [] = (one_of_hex line.rest (line.text ∷ []) (l.1 ∷ []) [] [] line.operands l.3).0 in
+          let same : l.1 ≡ line.text = cc in
+          ap CidToHex (one_cid cid l.0 line.text line.text_is (subst (λ t. CidText l.0 t) same l.4)) ∙ sym l.2
       | inr l ↦ absurd (let bad : line.text ∷ [] ≡ [] = (one_of_hex line.rest (line.text ∷ []) [] [] ((codes "hex", l.1) ∷ []) line.operands l.4).0 in cc)
     ]
 one_line one_cid no_front words (CidToText cid) b line other =
     elim (cid_line line.rest b (subst (λ ws. CommandLine ws b) line.command other)) [
       | inl l ↦ absurd (let bad : [] ≡ l.1 ∷ [] = (one_of_hex line.rest [] (l.1 ∷ []) ((codes "hex", line.digits) ∷ []) [] line.operands l.3).0 in cc)
       | inr l ↦
-        let both : hex_options (line.digits ∷ []) ≡ (codes "hex", l.1) ∷ [] = (one_of_hex line.rest [] [] ((codes "hex", line.digits) ∷ []) ((codes "hex", l.1) ∷ []) line.operands l.4).1 in
-        let heads : line.digits ∷ [] ≡ l.1 ∷ [] = one_value (line.digits ∷ []) l.1 both in
-        let same : l.1 ≡ line.digits = cc in
-        let found : Ok line.bytes ≡ Ok l.2 = sym line.digits_are ∙ subst (λ (d : List ℕ). decode_of d ≡ Ok l.2) same l.5 in
-        let bytes : line.bytes ≡ l.2 = cc in
-        ap CidToText (no_front cid l.0 line.bytes l.2 [] [] line.bytes_are l.6 (ap (λ bs. bs ++ []) bytes)).1 ∙ sym l.3
+          let both : hex_options (line.digits ∷ []) ≡ (codes "hex", l.1) ∷ [] = (one_of_hex line.rest [] [] ((codes "hex", line.digits) ∷ []) ((codes "hex", l.1) ∷ []) line.operands l.4).1 in
+          let heads : line.digits ∷ [] ≡ l.1 ∷ [] = one_value (line.digits ∷ []) l.1 both in
+          let same : l.1 ≡ line.digits = cc in
+          let found : Ok line.bytes ≡ Ok l.2 = sym line.digits_are ∙ subst (λ (d : List ℕ). decode_of d ≡ Ok l.2) same l.5 in
+          let bytes : line.bytes ≡ l.2 = cc in
+          ap CidToText (no_front cid l.0 line.bytes l.2 [] [] line.bytes_are l.6 (ap (λ bs. bs ++ []) bytes)).1 ∙ sym l.3
     ]
 
 -- what is no command is refused

@@ -31,10 +31,10 @@ begins_by names word words all every [] front rest late whole spelled end all_is
     elim end [
       | inl e ↦ absurd (let bad : word ∷ words ≡ [] = here ∙ e.0 in cc)
       | inr e ↦
-        let same : word ∷ words ≡ codes "--" ∷ late = here ∙ e in
-        let at : word ≡ codes "--" = cc in
-        let rest_is : words ≡ late = cc in
-        at_end at (all_is ∙ sym rest_is) every_is
+          let same : word ∷ words ≡ codes "--" ∷ late = here ∙ e in
+          let at : word ≡ codes "--" = cc in
+          let rest_is : words ≡ late = cc in
+          at_end at (all_is ∙ sym rest_is) every_is
     ]
 begins_by names word words all every (positional item ∷ items) front rest late whole spelled end all_is every_is =
     let here : word ∷ words ≡ item ∷ (spelled.1 ++ rest) = whole ∙ ap (λ f. f ++ rest) (spelled.2 ∙ ap (λ f. f ++ spelled.1) spelled.3.0) in
@@ -45,17 +45,17 @@ begins_by names word words all every (positional item ∷ items) front rest late
 begins_by names word words all every (option name value ∷ items) front rest late whole spelled end all_is every_is =
     elim spelled.3.spelled [
       | inl e ↦
-        let here : word ∷ words ≡ assigned name value ∷ (spelled.1 ++ rest) = whole ∙ ap (λ f. f ++ rest) (spelled.2 ∙ ap (λ f. f ++ spelled.1) e) in
-        let at : word ≡ assigned name value = cc in
-        let rest_is : words ≡ spelled.1 ++ rest = cc in
-        at_assigned name value (options_of items) spelled.3.known at every_is
-        (record { items = items; front = spelled.1; rest = rest; late = late; whole = rest_is; spelled = spelled.4; end = end; positional_is = all_is; options_are = refl })
+          let here : word ∷ words ≡ assigned name value ∷ (spelled.1 ++ rest) = whole ∙ ap (λ f. f ++ rest) (spelled.2 ∙ ap (λ f. f ++ spelled.1) e) in
+          let at : word ≡ assigned name value = cc in
+          let rest_is : words ≡ spelled.1 ++ rest = cc in
+          at_assigned name value (options_of items) spelled.3.known at every_is
+          (record { items = items; front = spelled.1; rest = rest; late = late; whole = rest_is; spelled = spelled.4; end = end; positional_is = all_is; options_are = refl })
       | inr e ↦
-        let here : word ∷ words ≡ named name ∷ value ∷ (spelled.1 ++ rest) = whole ∙ ap (λ f. f ++ rest) (spelled.2 ∙ ap (λ f. f ++ spelled.1) e.0) in
-        let at : word ≡ named name = cc in
-        let rest_is : words ≡ value ∷ (spelled.1 ++ rest) = cc in
-        at_named name value (spelled.1 ++ rest) (options_of items) spelled.3.known at rest_is e.1 every_is
-        (record { items = items; front = spelled.1; rest = rest; late = late; whole = refl; spelled = spelled.4; end = end; positional_is = all_is; options_are = refl })
+          let here : word ∷ words ≡ named name ∷ value ∷ (spelled.1 ++ rest) = whole ∙ ap (λ f. f ++ rest) (spelled.2 ∙ ap (λ f. f ++ spelled.1) e.0) in
+          let at : word ≡ named name = cc in
+          let rest_is : words ≡ value ∷ (spelled.1 ++ rest) = cc in
+          at_named name value (spelled.1 ++ rest) (options_of items) spelled.3.known at rest_is e.1 every_is
+          (record { items = items; front = spelled.1; rest = rest; late = late; whole = refl; spelled = spelled.4; end = end; positional_is = all_is; options_are = refl })
     ]
 
 pub begins : (names : List (List ℕ)) (word : List ℕ) (words all : List (List ℕ)) (every : List (List ℕ × List ℕ))
@@ -150,71 +150,71 @@ pub moves_on : (names first second third a b : List (List ℕ)) (x y : List (Lis
 moves_on names first second third a b x y m n = record {
   onto = λ later others r. rw (append_assoc a b later, append_assoc x y others) (m.onto (b ++ later) (y ++ others) (n.onto later others r));
   only = λ all every r.
-    let p = m.only all every r in
-    let q = n.only p.later p.others p.reading in
-    record {
-      later = q.later;
-      others = q.others;
-      positional_is = p.positional_is ∙ ap (λ ws. a ++ ws) q.positional_is ∙ sym (append_assoc a b q.later);
-      options_are = p.options_are ∙ ap (λ os. x ++ os) q.options_are ∙ sym (append_assoc x y q.others);
-      reading = q.reading;
-    };
+      let p = m.only all every r in
+      let q = n.only p.later p.others p.reading in
+      record {
+        later = q.later;
+        others = q.others;
+        positional_is = p.positional_is ∙ ap (λ ws. a ++ ws) q.positional_is ∙ sym (append_assoc a b q.later);
+        options_are = p.options_are ∙ ap (λ os. x ++ os) q.options_are ∙ sym (append_assoc x y q.others);
+        reading = q.reading;
+      };
 }
 
 pub moves_plain : (names : List (List ℕ)) (word : List ℕ) (words : List (List ℕ)) → IsPlain word → Moves names (word ∷ words) (word ∷ []) [] words
 moves_plain names word words plain = record {
   onto = λ later others r. plain_onto names word words later others plain r;
   only = λ all every r. elim (begins names word words all every r) [
-      | at_end at all_is every_is ↦ absurd (not_plain word [] at plain)
-      | at_plain later also all_is reading ↦ record { later = later; others = every; positional_is = all_is; options_are = refl; reading = reading }
-      | at_assigned name value others known at every_is reading ↦ absurd (not_plain word (name ++ (codes "=" ++ value)) at plain)
-      | at_named name value rest others known at words_are fits every_is reading ↦ absurd (not_plain word name at plain)
-    ];
+    | at_end at all_is every_is ↦ absurd (not_plain word [] at plain)
+    | at_plain later also all_is reading ↦ record { later = later; others = every; positional_is = all_is; options_are = refl; reading = reading }
+    | at_assigned name value others known at every_is reading ↦ absurd (not_plain word (name ++ (codes "=" ++ value)) at plain)
+    | at_named name value rest others known at words_are fits every_is reading ↦ absurd (not_plain word name at plain)
+  ];
 }
 
 pub moves_assigned : (name value word : List ℕ) (words : List (List ℕ)) → word ≡ assigned name value
     → Moves (name ∷ []) (word ∷ words) [] ((name, value) ∷ []) words
 moves_assigned name value word words at = record {
   onto = λ later others r. option_onto (name ∷ []) name value (word ∷ []) words later others
-    (record { known = (0, omega arith, refl); spelled = inl (ap (λ w. w ∷ []) at) }) r;
+      (record { known = (0, omega arith, refl); spelled = inl (ap (λ w. w ∷ []) at) }) r;
   only = λ all every r. elim (begins (name ∷ []) word words all every r) [
-      | at_end at2 all_is every_is ↦
+    | at_end at2 all_is every_is ↦
         let e : assigned name value ≡ codes "--" = sym at ∙ at2 in
         let bad : name ++ (codes "=" ++ value) ≡ [] = cc in
         absurd (omega (arith, ap length bad, length-append name (codes "=" ++ value)))
-      | at_plain later plain all_is reading ↦ absurd (not_plain word (name ++ (codes "=" ++ value)) at plain)
-      | at_assigned name2 value2 others known at2 every_is reading ↦
+    | at_plain later plain all_is reading ↦ absurd (not_plain word (name ++ (codes "=" ++ value)) at plain)
+    | at_assigned name2 value2 others known at2 every_is reading ↦
         let n : name2 ≡ name = one_name name name2 known in
         let e : assigned name value ≡ assigned name value2 = sym at ∙ at2 ∙ ap (λ m. assigned m value2) n in
         let tails : name ++ (61 ∷ value) ≡ name ++ (61 ∷ value2) = cc in
         let ends : 61 ∷ value ≡ 61 ∷ value2 = append_cancel_left name (61 ∷ value) (61 ∷ value2) tails in
         let v : value2 ≡ value = cc in
         record { later = all; others = others; positional_is = refl; options_are = every_is ∙ ap₂ (λ m u. (m, u) ∷ others) n v; reading = reading }
-      | at_named name2 value2 rest others known at2 words_are plain every_is reading ↦
+    | at_named name2 value2 rest others known at2 words_are plain every_is reading ↦
         let n : name2 ≡ name = one_name name name2 known in
         let e : named name ≡ assigned name value = ap named (sym n) ∙ sym at2 ∙ at in
         let tails : name ≡ name ++ (codes "=" ++ value) = cc in
         absurd (longer name value tails)
-    ];
+  ];
 }
 
 moves_two : (name value word : List ℕ) (words : List (List ℕ)) → 0 < length name → word ≡ named name → IsPlain value
     → Moves (name ∷ []) (word ∷ value ∷ words) [] ((name, value) ∷ []) words
 moves_two name value word words some at fits = record {
   onto = λ later others r. option_onto (name ∷ []) name value (word ∷ value ∷ []) words later others
-    (record { known = (0, omega arith, refl); spelled = inr (ap (λ w. w ∷ value ∷ []) at, fits) }) r;
+      (record { known = (0, omega arith, refl); spelled = inr (ap (λ w. w ∷ value ∷ []) at, fits) }) r;
   only = λ all every r. elim (begins (name ∷ []) word (value ∷ words) all every r) [
-      | at_end at2 all_is every_is ↦
+    | at_end at2 all_is every_is ↦
         let e : named name ≡ codes "--" = sym at ∙ at2 in
         let bad : name ≡ [] = cc in
         absurd (omega (arith, ap length bad, some))
-      | at_plain later plain all_is reading ↦ absurd (not_plain word name at plain)
-      | at_assigned name2 value2 others known at2 every_is reading ↦
+    | at_plain later plain all_is reading ↦ absurd (not_plain word name at plain)
+    | at_assigned name2 value2 others known at2 every_is reading ↦
         let n : name2 ≡ name = one_name name name2 known in
         let e : named name ≡ assigned name value2 = sym at ∙ at2 ∙ ap (λ m. assigned m value2) n in
         let tails : name ≡ name ++ (codes "=" ++ value2) = cc in
         absurd (longer name value2 tails)
-      | at_named name2 value2 rest others known at2 words_are plain every_is reading ↦
+    | at_named name2 value2 rest others known at2 words_are plain every_is reading ↦
         let n : name2 ≡ name = one_name name name2 known in
         let v : value2 ≡ value = cc in
         let r : rest ≡ words = cc in
@@ -225,7 +225,7 @@ moves_two name value word words some at fits = record {
           options_are = every_is ∙ ap₂ (λ m u. (m, u) ∷ others) n v;
           reading = subst (λ ws. Reading (name ∷ []) ws all others) r reading;
         }
-    ];
+  ];
 }
 
 pub moves_named : (name value word : List ℕ) (words rest : List (List ℕ)) → 0 < length name → word ≡ named name → words ≡ value ∷ rest → IsPlain value
@@ -243,9 +243,9 @@ no_option name word words all every no_end no_plain no_assigned no_named r =
       | at_end at all_is every_is ↦ no_end at
       | at_plain later plain all_is reading ↦ no_plain plain
       | at_assigned name2 value others known at every_is reading ↦
-        no_assigned value (at ∙ ap (λ m. assigned m value) (one_name name name2 known))
+          no_assigned value (at ∙ ap (λ m. assigned m value) (one_name name name2 known))
       | at_named name2 value rest others known at words_are plain every_is reading ↦
-        no_named value rest (at ∙ ap named (one_name name name2 known)) words_are plain
+          no_named value rest (at ∙ ap named (one_name name name2 known)) words_are plain
     ]
 
 -- the same of a word that goes on behind the dashes and the name
@@ -256,13 +256,13 @@ pub no_tail : (name word tail : List ℕ) (words all : List (List ℕ)) (every :
 no_tail name word tail words all every no_end no_plain at no_assigned no_named r =
     no_option name word words all every no_end no_plain
     (λ value also.
-      let e : codes "--" ++ (name ++ tail) ≡ assigned name value = sym at ∙ also in
-      let tails : name ++ tail ≡ name ++ (61 ∷ value) = cc in
-      no_assigned value (append_cancel_left name tail (61 ∷ value) tails))
+    let e : codes "--" ++ (name ++ tail) ≡ assigned name value = sym at ∙ also in
+    let tails : name ++ tail ≡ name ++ (61 ∷ value) = cc in
+    no_assigned value (append_cancel_left name tail (61 ∷ value) tails))
     (λ value rest also words_are plain.
-      let e : codes "--" ++ (name ++ tail) ≡ named name = sym at ∙ also in
-      let tails : name ++ tail ≡ name = cc in
-      no_named value rest (append_cancel_left name tail [] (tails ∙ sym (append-nil name))) words_are plain)
+    let e : codes "--" ++ (name ++ tail) ≡ named name = sym at ∙ also in
+    let tails : name ++ tail ≡ name = cc in
+    no_named value rest (append_cancel_left name tail [] (tails ∙ sym (append-nil name))) words_are plain)
     r
 
 pub no_options : (word : List ℕ) (words all : List (List ℕ)) (every : List (List ℕ × List ℕ)) → word ≢ codes "--" → (IsPlain word → ⊥)
@@ -295,13 +295,13 @@ end_only names word words all every some at r =
       | at_end also all_is every_is ↦ (all_is, every_is)
       | at_plain later plain all_is reading ↦ absurd (not_plain word [] at plain)
       | at_assigned name value others known at2 every_is reading ↦
-        let e : assigned name value ≡ codes "--" = sym at2 ∙ at in
-        let bad : name ++ (codes "=" ++ value) ≡ [] = cc in
-        absurd (omega (arith, ap length bad, length-append name (codes "=" ++ value)))
+          let e : assigned name value ≡ codes "--" = sym at2 ∙ at in
+          let bad : name ++ (codes "=" ++ value) ≡ [] = cc in
+          absurd (omega (arith, ap length bad, length-append name (codes "=" ++ value)))
       | at_named name value rest others known at2 words_are plain every_is reading ↦
-        let e : named name ≡ codes "--" = sym at2 ∙ at in
-        let bad : name ≡ [] = cc in
-        absurd (omega (arith, ap length bad, some name known))
+          let e : named name ≡ codes "--" = sym at2 ∙ at in
+          let bad : name ≡ [] = cc in
+          absurd (omega (arith, ap length bad, some name known))
     ]
 
 -- with at most one option, each stands once

@@ -45,7 +45,7 @@ one_more name whole words rest a b all v w values m n all_is values_are =
     let P : List (List ℕ) → List (List ℕ × List ℕ) → Type 0 = λ p o. Moves (texts_of name) whole p o rest in
     subst (λ p. P p (options_from name values)) (sym all_is)
     (subst (λ o. P (a ++ b) o) (sym (ap (options_from name) values_are ∙ more_values name v w))
-      (moves_on (texts_of name) whole words rest a b (options_from name v) (options_from name w) m n))
+    (moves_on (texts_of name) whole words rest a b (options_from name v) (options_from name w) m n))
 
 -- no words are left
 pub whole_found : (name value : Option (Bor (List ℕ))) (whole words all : List (List ℕ)) → words ≡ []
@@ -62,9 +62,10 @@ pub whole_only : (names whole words all : List (List ℕ)) (options : List (List
     → (positional : List (List ℕ)) (every : List (List ℕ × List ℕ)) → WordsSpelling names whole positional every → (all ≡ positional) × (options ≡ every)
 whole_only names whole words all options none m positional every s =
     let p = m.only positional every (reading_of names whole positional every s) in
-    let q = nothing_only names p.later p.others (subst (λ ws. Reading names ws p.later p.others) none p.reading) in
-    (sym (append-nil all) ∙ ap (λ ws. all ++ ws) (sym q.0) ∙ sym p.positional_is,
-      sym (append-nil options) ∙ ap (λ os. options ++ os) (sym q.1) ∙ sym p.options_are)
+    let q = nothing_only names p.later p.others (subst (λ ws. Reading names ws p.later p.others) none p.reading) in (
+      sym (append-nil all) ∙ ap (λ ws. all ++ ws) (sym q.0) ∙ sym p.positional_is,
+      sym (append-nil options) ∙ ap (λ os. options ++ os) (sym q.1) ∙ sym p.options_are,
+    )
 
 -- the words behind `--` are left
 pub late_found : {T : Type 0} (texts values : T → List (List ℕ)) (name value : Option (Bor (List ℕ))) (whole : List (List ℕ)) (word : List ℕ) (late all : List (List ℕ)) (answer : Option T)
@@ -97,9 +98,10 @@ late_only texts values name value whole word late all (Some x) some at m found n
     let names = texts_of name in
     let options = options_from name (texts_of value) in
     let p = m.only positional every (reading_of names whole positional every s) in
-    let q = end_only names word late p.later p.others (names_some name some) at p.reading in
-    (found.0 ∙ ap (λ ws. all ++ ws) (sym q.0) ∙ sym p.positional_is,
-      ap (options_from name) found.1 ∙ sym (append-nil options) ∙ ap (λ os. options ++ os) (sym q.1) ∙ sym p.options_are)
+    let q = end_only names word late p.later p.others (names_some name some) at p.reading in (
+      found.0 ∙ ap (λ ws. all ++ ws) (sym q.0) ∙ sym p.positional_is,
+      ap (options_from name) found.1 ∙ sym (append-nil options) ∙ ap (λ os. options ++ os) (sym q.1) ∙ sym p.options_are,
+    )
 
 -- no item begins the words that are left
 pub stuck : (names whole words all : List (List ℕ)) (options : List (List ℕ × List ℕ)) → Moves names whole all options words

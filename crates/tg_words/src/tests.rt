@@ -4,17 +4,28 @@ use std::test::Fail;
 
 // The CIDv1 of raw bytes with the sha2-256 of "hello world".
 const TEXT: &str = "bafkreifzjut3te2nhyekklss27nh3k72ysco7y32koao5eei66wof36n5e";
+
 const UPPER_TEXT: &str = "BAFKREIFZJUT3TE2NHYEKKLSS27NH3K72YSCO7Y32KOAO5EEI66WOF36N5E";
 
 // Its bytes, by Python's base64.b32decode.
 const BYTES: [u8; 36] = *b"\x01\x55\x12\x20\xb9\x4d\x27\xb9\x93\x4d\x3e\x08\xa5\x2e\x52\xd7\xda\x7d\
     \xab\xfa\xc4\x84\xef\xe3\x7a\x53\x80\xee\x90\x88\xf7\xac\xe2\xef\xcd\xe9";
+
 const HEX: &str = "01551220b94d27b9934d3e08a52e52d7da7dabfac484efe37a5380ee9088f7ace2efcde9";
+
 const UPPER_HEX: &str = "01551220B94D27B9934D3E08A52E52D7DA7DABFAC484EFE37A5380EE9088F7ACE2EFCDE9";
-const HEX_OPTION: &str = "--hex=01551220b94d27b9934d3e08a52e52d7da7dabfac484efe37a5380ee9088f7ace2efcde9";
-const UPPER_HEX_OPTION: &str = "--hex=01551220B94D27B9934D3E08A52E52D7DA7DABFAC484EFE37A5380EE9088F7ACE2EFCDE9";
-const UPPER_OPTION: &str = "--HEX=01551220b94d27b9934d3e08a52e52d7da7dabfac484efe37a5380ee9088f7ace2efcde9";
-const LONGER_OPTION: &str = "--hexx=01551220b94d27b9934d3e08a52e52d7da7dabfac484efe37a5380ee9088f7ace2efcde9";
+
+const HEX_OPTION: &str =
+    "--hex=01551220b94d27b9934d3e08a52e52d7da7dabfac484efe37a5380ee9088f7ace2efcde9";
+
+const UPPER_HEX_OPTION: &str =
+    "--hex=01551220B94D27B9934D3E08A52E52D7DA7DABFAC484EFE37A5380EE9088F7ACE2EFCDE9";
+
+const UPPER_OPTION: &str =
+    "--HEX=01551220b94d27b9934d3e08a52e52d7da7dabfac484efe37a5380ee9088f7ace2efcde9";
+
+const LONGER_OPTION: &str =
+    "--hexx=01551220b94d27b9934d3e08a52e52d7da7dabfac484efe37a5380ee9088f7ace2efcde9";
 
 fn words_of(alloc: Global, line: &[&str]) -> Result<Vec<String>, AllocError> {
     let mut words = Vec::new(alloc);

@@ -2,10 +2,9 @@
 //! trust.
 #![tactic(auto)]
 
-use std::env;
-use std::io;
 use std::process::ExitCode;
 use std::rt::Env;
+use std::{env, io};
 use tg_app::{out_of_memory, run};
 use tg_edges::{StdSink, StdSource};
 

@@ -17,10 +17,10 @@ returns-in_err-cid_of_text c =
     let here : texts_of c.in-Some.found.positional ≡ c.in-Some-positional.text.now ∷ [] = ap texts_of c.in-Some-positional.is in
     rw (p.1, p.2)
     (check_err _ (texts_of c.in-Some.found.positional) _ (λ positional options s few one. (c.in-Some.ensures.only positional options s few one).0)
-      (λ text is cid spelled.
-        let both : text ∷ [] ≡ c.in-Some-positional.text.now ∷ [] = sym is ∙ here in
-        let same : text ≡ c.in-Some-positional.text.now = cc in
-        c.in_err-cid_of_text.ensures.only cid (subst (λ (t : List ℕ). CidText cid t) same spelled)))
+    (λ text is cid spelled.
+    let both : text ∷ [] ≡ c.in-Some-positional.text.now ∷ [] = sym is ∙ here in
+    let same : text ≡ c.in-Some-positional.text.now = cc in
+    c.in_err-cid_of_text.ensures.only cid (subst (λ (t : List ℕ). CidText cid t) same spelled)))
 
 pub returns : goal.returns
 returns c =

@@ -12,11 +12,11 @@ returns-in_err-cid_of_text-in-Some-None c =
     let here : texts_of c.in-Some.found.positional ≡ c.in-Some-None.text.now ∷ [] = ap texts_of c.in-Some-None.is-0 in
     rw (p.1, p.2)
     (cid_err _ (texts_of c.in-Some.found.positional) (texts_of c.in-Some.found.value) _ c.in-Some.ensures.only
-      (λ text is none cid spelled.
-        let both : text ∷ [] ≡ c.in-Some-None.text.now ∷ [] = sym is ∙ here in
-        let same : text ≡ c.in-Some-None.text.now = cc in
-        c.in_err-cid_of_text-in-Some-None.ensures.only cid (subst (λ (t : List ℕ). CidText cid t) same spelled))
-      (λ digits is one cid bytes decoded spelled. absurd (let bad : [] ≡ c.in-Some-None.text.now ∷ [] = sym is ∙ here in cc)))
+    (λ text is none cid spelled.
+    let both : text ∷ [] ≡ c.in-Some-None.text.now ∷ [] = sym is ∙ here in
+    let same : text ≡ c.in-Some-None.text.now = cc in
+    c.in_err-cid_of_text-in-Some-None.ensures.only cid (subst (λ (t : List ℕ). CidText cid t) same spelled))
+    (λ digits is one cid bytes decoded spelled. absurd (let bad : [] ≡ c.in-Some-None.text.now ∷ [] = sym is ∙ here in cc)))
 
 pub returns-in_err-cid_of_hex-in-None-Some : goal.returns-in_err-cid_of_hex-in-None-Some
 returns-in_err-cid_of_hex-in-None-Some c =
@@ -24,11 +24,11 @@ returns-in_err-cid_of_hex-in-None-Some c =
     let here : texts_of c.in-Some.found.value ≡ c.in-None-Some.digits.now ∷ [] = ap texts_of c.in-None-Some.is-1 in
     rw (p.1, p.2)
     (cid_err _ (texts_of c.in-Some.found.positional) (texts_of c.in-Some.found.value) _ c.in-Some.ensures.only
-      (λ text is none cid spelled. absurd (let bad : [] ≡ c.in-None-Some.digits.now ∷ [] = sym none ∙ here in cc))
-      (λ digits is one cid bytes decoded spelled.
-        let both : digits ∷ [] ≡ c.in-None-Some.digits.now ∷ [] = sym one ∙ here in
-        let same : digits ≡ c.in-None-Some.digits.now = cc in
-        c.in_err-cid_of_hex-in-None-Some.ensures.only cid bytes (subst (λ (d : List ℕ). decode_of d ≡ Ok bytes) same decoded) spelled))
+    (λ text is none cid spelled. absurd (let bad : [] ≡ c.in-None-Some.digits.now ∷ [] = sym none ∙ here in cc))
+    (λ digits is one cid bytes decoded spelled.
+    let both : digits ∷ [] ≡ c.in-None-Some.digits.now ∷ [] = sym one ∙ here in
+    let same : digits ≡ c.in-None-Some.digits.now = cc in
+    c.in_err-cid_of_hex-in-None-Some.ensures.only cid bytes (subst (λ (d : List ℕ). decode_of d ≡ Ok bytes) same decoded) spelled))
 
 pub returns-in_ok-cid_of_text-in-Some-None : goal.returns-in_ok-cid_of_text-in-Some-None
 returns-in_ok-cid_of_text-in-Some-None c =

@@ -15,11 +15,11 @@ pub returns-in_err-name-clause-none : goal.returns-in_err-name-clause-none
 returns-in_err-name-clause-none c =
     rw c.from_residual.ensures
     (λ all every r. no_options c.args.word.now _ all every c.requires.item
-      (λ plain. let yes : c.is_plain.result ≡ true = c.is_plain.ensures.1 plain in cc)
-      (subst (λ name. Reading (texts_of name) (c.args.word.now ∷ map (string_bytes {Z = Global}) c.args.rest.now) all every) c.in_err-name.was r))
+    (λ plain. let yes : c.is_plain.result ≡ true = c.is_plain.ensures.1 plain in cc)
+    (subst (λ name. Reading (texts_of name) (c.args.word.now ∷ map (string_bytes {Z = Global}) c.args.rest.now) all every) c.in_err-name.was r))
 
 pub returns-in_err-value-clause-none : goal.returns-in_err-value-clause-none
 returns-in_err-value-clause-none c =
     rw c.from_residual-in_err-value.ensures
     (λ all every r. c.in_err-value.ensures.none all every
-      (subst (λ name. Reading (texts_of name) (c.args.word.now ∷ map (string_bytes {Z = Global}) c.args.rest.now) all every) c.in_ok-name.was r))
+    (subst (λ name. Reading (texts_of name) (c.args.word.now ∷ map (string_bytes {Z = Global}) c.args.rest.now) all every) c.in_ok-name.was r))

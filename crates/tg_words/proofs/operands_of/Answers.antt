@@ -25,15 +25,15 @@ pub returns-in_err-item-clause-only : goal.returns-in_err-item-clause-only
 returns-in_err-item-clause-only c =
     rw c.from_residual.ensures
     (λ positional options s few one. stuck _ _ _ _ _
-      (at_word (string_bytes {Z = Global}) _ _ _ _ _ _ _ _ c.in-Some.ensures.cases.0 c.as_str-word.ensures.value c.loop-word.invariant)
-      c.in_err-item.ensures.none positional options s)
+    (at_word (string_bytes {Z = Global}) _ _ _ _ _ _ _ _ c.in-Some.ensures.cases.0 c.as_str-word.ensures.value c.loop-word.invariant)
+    c.in_err-item.ensures.none positional options s)
 
 pub returns-in_err-found-clause-only : goal.returns-in_err-found-clause-only
 returns-in_err-found-clause-only c =
     rw c.from_residual-in_err-found.ensures
     (λ positional options s few one. too_many c.args.name c.loop-word.found.value c.in_ok-item.item.value _ _ _ _ _
-      (at_word (string_bytes {Z = Global}) _ _ _ _ _ _ _ _ c.in-Some.ensures.cases.0 c.as_str-word.ensures.value c.loop-word.invariant)
-      c.in_ok-item.ensures.found c.in_ok-item.ensures.known c.in_err-found.ensures.none positional options s few one)
+    (at_word (string_bytes {Z = Global}) _ _ _ _ _ _ _ _ c.in-Some.ensures.cases.0 c.as_str-word.ensures.value c.loop-word.invariant)
+    c.in_ok-item.ensures.found c.in_ok-item.ensures.known c.in_err-found.ensures.none positional options s few one)
 
 pub loop-word-preserved : goal.loop-word-preserved
 loop-word-preserved c =

@@ -6,5 +6,5 @@ use Rattle.tg_words.proofs.read.Goals as goal
 pub returns-clause-given : goal.returns-clause-given
 returns-clause-given c =
     let words_are : map (string_bytes {Z = Global}) c.args.words.now ≡ c.as_str.result.now ∷ map (string_bytes {Z = Global}) c.in-Some.rest.now =
-      ap (map (string_bytes {Z = Global})) c.in-Some.ensures.cases.0 ∙ ap (λ w. w ∷ map (string_bytes {Z = Global}) c.in-Some.rest.now) (sym c.as_str.ensures.value) in
+    ap (map (string_bytes {Z = Global})) c.in-Some.ensures.cases.0 ∙ ap (λ w. w ∷ map (string_bytes {Z = Global}) c.in-Some.rest.now) (sym c.as_str.ensures.value) in
     λ none. refused _ c.dispatch.result c.dispatch.ensures.found (λ command line. none command (subst (λ ws. CommandLine ws command) (sym words_are) line))

@@ -1,0 +1,13 @@
+#!/usr/bin/env bash
+# The name hash over 1 MB of bytes beside a copy of the same memory, in MB/s and as a ratio.
+set -u
+cd "$(dirname "$0")/.." || exit 1
+command -v rt >/dev/null 2>&1 || { echo "skipped: no rt"; exit 0; }
+program=$PWD/crates/tg_bench/out/tg_bench
+(cd crates/tg_bench && rt run) </dev/null >/dev/null 2>&1
+[ -x "$program" ] || { echo "tg_bench did not build"; exit 1; }
+"$program" name-hash | awk '
+    /^name hash/ { hash = $3 }
+    /^copy/ { copy = $2 }
+    { print }
+    END { printf "name hash / copy of the memory: %.2f of its speed\n", hash / copy }'

@@ -1,0 +1,16 @@
+//! Speeds of parts that no command shows on their own: `tg_bench name-hash`. Without a word it does nothing, as `rt ci` runs
+//! it.
+#![tactic(auto)]
+
+mod name_hash;
+
+use std::{env, io};
+
+fn main(rt: HostRuntime) -> io::Result<()> {
+    let mut words = env::args(&rt)?;
+    let _program = words.next();
+    match words.next() {
+        Some(word) if word.as_str() == "name-hash" => name_hash::run(&rt),
+        _ => Ok(()),
+    }
+}
