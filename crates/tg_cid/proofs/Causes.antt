@@ -1,9 +1,9 @@
 -- From a CID at the front of bytes, or a cause of a refusal, to the answer of a CIDv1's reading.
-use Rattle.std.proofs.Common.{◌≡◌, ◌≢◌, ℕ, ◌+◌, ◌-◌, ◌<◌, ◌≤◌, List, [], ◌∷◌, ◌++◌, length, take, drop, Ok, Err, refl, ap, ap₂, sym, ◌∙◌, subst, inl, inr, arith}
-use Rattle.std.proofs.lemmas.List.{append_assoc, length-append, drop_at, take_at, length-drop}
+use Rattle.std.proofs.Common.{◌≡◌, ◌≢◌, ℕ, ◌+◌, ◌<◌, List, [], ◌∷◌, ◌++◌, length, take, drop, Ok, Err, refl, ap, ap₂, sym, ◌∙◌, subst, inl, inr, arith}
+use Rattle.std.proofs.lemmas.List.{append_assoc, length-append, take_at}
 use Rattle.tg_cid.specs.Cid.{CidParts}
 use Rattle.tg_cid.specs.Faults.{IsCodec, MayBegin, Follows, EndsInDigest}
-use Rattle.tg_cid.specs.Reading.{Answer, NumberAt, NoNumberAt, DigestThen, SizeThen, HashThen, CodecThen, ReadsAsOne}
+use Rattle.tg_cid.specs.Reading.{Answer, NoNumberAt, DigestThen, ReadsAsOne}
 use Rattle.tg_cid.specs.Spelling.{CidV1Bytes, IsDigestSize, codec_code, hash_code}
 use Rattle.tg_cid.specs.declared.cid.Codec.{Codec}
 use Rattle.tg_cid.specs.declared.cid.Codec.TheVariants.{Raw, DagPb}
@@ -11,7 +11,7 @@ use Rattle.tg_cid.specs.declared.cid.HashKind.{HashKind}
 use Rattle.tg_cid.specs.declared.cid.HashKind.TheVariants.{Sha256, Identity}
 use Rattle.tg_cid.specs.declared.fault.CidFault.{CidFault}
 use Rattle.tg_cid.specs.declared.fault.CidFault.TheVariants as faults
-use Rattle.tg_cid.proofs.Places.{Stand, First, stand, first, none_stand, rest_is}
+use Rattle.tg_cid.proofs.Places.{Stand, stand, first, none_stand, rest_is}
 
 pub codec_with : (number : ℕ) → IsCodec number → (codec : Codec) × (number ≡ codec_code codec)
 codec_with number (inl e) = (Raw, e)

@@ -1,12 +1,11 @@
 -- No CID's bytes begin another's, and a CIDv1 has one text.
-use Rattle.std.proofs.Common.{◌≡◌, ℕ, List, [], ◌∷◌, ◌++◌, length, take, Result, Ok, refl, ap, ap₂, sym, ◌∙◌, subst, inl, inr}
-use Rattle.std.proofs.lemmas.List.{append-nil, take_at}
+use Rattle.std.proofs.Common.{◌≡◌, ℕ, List, [], ◌∷◌, ◌++◌, length, take, refl, ap, ap₂, sym, ◌∙◌, subst, inr}
+use Rattle.std.proofs.lemmas.List.{take_at}
 use Rattle.tg_base32.specs.Base32.{Base32Text}
 use Rattle.tg_base32.proofs.Laws.{one_reading, one_spelling}
-use Rattle.tg_varint.specs.Varint.{VarintSpelling}
 use Rattle.tg_varint.proofs.Uniqueness.{one_spelling_each}
 use Rattle.tg_cid.specs.Cid.{CidParts}
-use Rattle.tg_cid.specs.Spelling.{CidBytes, CidV1Bytes, CidText, MultibaseText, Varints, codec_code, hash_code}
+use Rattle.tg_cid.specs.Spelling.{CidBytes, CidV1Bytes, CidText, Varints, codec_code, hash_code}
 use Rattle.tg_cid.proofs.Prefix.{reads_once, found}
 use Rattle.tg_cid.proofs.Whole.{same_found}
 

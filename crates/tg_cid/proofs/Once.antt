@@ -1,7 +1,7 @@
 -- Bytes tell one answer.
 use Rattle.std.proofs.Common.{◌≡◌, ◌≢◌, ℕ, ◌+◌, ◌<◌, ◌≤◌, ◌⊎◌, List, length, Err, refl, ap, sym, ◌∙◌, subst, inl, inr, arith}
 use Rattle.tg_cid.specs.Faults.{IsCodec}
-use Rattle.tg_cid.specs.Reading.{Answer, NumberAt, NoNumberAt, NumberThen, DigestThen, SizeThen, HashThen, CodecThen, ReadsAsOne}
+use Rattle.tg_cid.specs.Reading.{Answer, NumberThen, DigestThen, SizeThen, HashThen, CodecThen, ReadsAsOne}
 use Rattle.tg_cid.specs.Spelling.{codec_code}
 use Rattle.tg_cid.specs.declared.cid.Codec.{Codec}
 use Rattle.tg_cid.specs.declared.cid.Codec.TheVariants.{Raw, DagPb}

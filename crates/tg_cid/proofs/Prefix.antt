@@ -1,10 +1,10 @@
 -- What `from_prefix` answers: a CIDv0, a CIDv1, or the one cause of a refusal.
-use Rattle.std.proofs.Common.{◌≡◌, ℕ, zero, suc, get_or, ◌+◌, ◌-◌, ◌<◌, ◌≤◌, ◌⊎◌, ◌↔◌, List, [], ◌∷◌, ◌++◌, length, take, drop, All, Ok, Err, IfOk, refl, ap, ap₂, sym, ◌∙◌, subst, inl, inr, arith}
+use Rattle.std.proofs.Common.{◌≡◌, ℕ, zero, suc, get_or, ◌+◌, ◌<◌, ◌≤◌, ◌⊎◌, ◌↔◌, List, [], ◌∷◌, ◌++◌, length, take, drop, All, Ok, Err, IfOk, refl, ap, ap₂, sym, ◌∙◌, subst, inl, inr, arith}
 use Rattle.std.proofs.lemmas.List.{length-append, length-drop, length-take-le, take_at, append_assoc}
 use Rattle.std.proofs.lemmas.List.Elements.{All-take, All-drop, All-nil}
 use Rattle.std.proofs.lemmas.Result.{MatchResult-weaker}
 use Rattle.tg_varint.specs.Varint.{VarintSpelling, PassesNine, EndsInZero}
-use Rattle.tg_varint.proofs.Reading.{Stops, stops_once, stops_by_spelling, stops_by_zero, not_past}
+use Rattle.tg_varint.proofs.Reading.{Stops, stops_once, stops_by_zero, not_past}
 use Rattle.tg_varint.proofs.Uniqueness.{one_spelling_each}
 use Rattle.tg_cid.specs.Cid.{CidParts}
 use Rattle.tg_cid.specs.Faults.{MayBegin, Follows, IsVersionZero, HasPrefixCause, HasBadVarint}

@@ -1,5 +1,5 @@
 -- What `from_text` answers.
-use Rattle.std.proofs.Common.{◌≡◌, ℕ, ◌+◌, ◌≤◌, ◌⊎◌, List, [], ◌∷◌, length, take, drop, get_or, ◌-◌, arith, Result, Ok, Err, IfOk, IfErr, refl, ap, sym, ◌∙◌, subst, inl, inr}
+use Rattle.std.proofs.Common.{◌≡◌, ℕ, ◌≤◌, ◌⊎◌, List, [], ◌∷◌, length, take, drop, get_or, ◌-◌, arith, Result, Ok, Err, IfOk, IfErr, refl, ap, sym, ◌∙◌, subst, inl, inr}
 use Rattle.std.specs.Prelude.{MatchResult}
 use Rattle.std.proofs.lemmas.List.{take_rest}
 use Rattle.tg_base32.specs.Base32.{Base32Text}
@@ -7,7 +7,7 @@ use Rattle.tg_base32.specs.declared.Base32Fault.{Base32Fault}
 use Rattle.tg_base32.specs.declared.Base32Fault.TheVariants as base32
 use Rattle.tg_base32.proofs.Laws.{one_reading}
 use Rattle.tg_cid.specs.Cid.{CidParts}
-use Rattle.tg_cid.specs.Faults.{HasBytesCause, HasTextCause, IsNoMultibase, BeginsAsV0, BytesRefused, cid_fault_of}
+use Rattle.tg_cid.specs.Faults.{HasBytesCause, HasTextCause, cid_fault_of}
 use Rattle.tg_cid.specs.Spelling.{CidBytes, CidV1Bytes, CidText, MultibaseText}
 use Rattle.tg_cid.specs.declared.fault.CidFault.{CidFault}
 use Rattle.tg_cid.specs.declared.fault.CidFault.TheVariants as faults

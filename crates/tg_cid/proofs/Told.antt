@@ -1,15 +1,14 @@
 -- What an answer that the bytes tell says of them.
-use Rattle.std.proofs.Common.{◌≡◌, ℕ, ◌+◌, ◌-◌, ◌<◌, ◌≤◌, List, [], ◌∷◌, ◌++◌, length, take, drop, All, Err, refl, ap, sym, ◌∙◌, subst, inl, inr, arith}
+use Rattle.std.proofs.Common.{◌≡◌, ℕ, ◌+◌, ◌<◌, ◌≤◌, List, [], ◌∷◌, ◌++◌, length, take, drop, All, refl, ap, sym, ◌∙◌, subst, inl, inr, arith}
 use Rattle.std.specs.Prelude.{MatchResult}
 use Rattle.std.proofs.Math.Seq.{take-add}
 use Rattle.std.proofs.lemmas.List.{length-drop, length-take-le, take_at}
 use Rattle.std.proofs.lemmas.List.Elements.{All-take, All-drop}
 use Rattle.tg_cid.specs.Faults.{MayBegin, Follows, IsVersionZero, HasPrefixCause}
-use Rattle.tg_cid.specs.Reading.{Answer, NumberAt, NoNumberAt, DigestThen, SizeThen, HashThen, CodecThen, ReadsAsOne}
+use Rattle.tg_cid.specs.Reading.{Answer, NoNumberAt, DigestThen, SizeThen, HashThen, CodecThen, ReadsAsOne}
 use Rattle.tg_cid.specs.Spelling.{CidBytes, Varints, codec_code}
 use Rattle.tg_cid.specs.declared.cid.Codec.{Codec}
 use Rattle.tg_cid.specs.declared.fault.CidFault.{CidFault}
-use Rattle.tg_cid.specs.declared.fault.CidFault.TheVariants as faults
 use Rattle.tg_cid.proofs.Places.{follows_none, follows_more}
 use Rattle.tg_cid.proofs.Once.{code_is}
 

@@ -1,10 +1,10 @@
 -- Why bytes or a text are no CID: the first place, from the left, at which the grammar is broken.
-use Rattle.std.specs.Prelude.{◌≡◌, ◌≢◌, ℕ, ◌+◌, ◌<◌, ◌⊎◌, List, [], ◌∷◌, ◌++◌, length, ⊤}
+use Rattle.std.specs.Prelude.{◌≡◌, ◌≢◌, ℕ, ◌<◌, ◌⊎◌, List, [], ◌∷◌, ◌++◌, length, ⊤}
 use Rattle.tg_base32.specs.declared.Base32Fault.{Base32Fault}
 use Rattle.tg_base32.specs.declared.Base32Fault.TheVariants as base32
-use Rattle.tg_varint.specs.Varint.{VarintSpelling, EndsInside, PassesNine, EndsInZero}
+use Rattle.tg_varint.specs.Varint.{EndsInside, PassesNine, EndsInZero}
 use Rattle.tg_cid.specs.Cid.{CidParts}
-use Rattle.tg_cid.specs.Spelling.{CidBytes, MultibaseText, Varints, codec_code, hash_code}
+use Rattle.tg_cid.specs.Spelling.{CidBytes, MultibaseText, Varints}
 use Rattle.tg_cid.specs.declared.fault.CidFault.{CidFault}
 use Rattle.tg_cid.specs.declared.fault.CidFault.TheVariants as faults
 

@@ -1,5 +1,5 @@
 -- The number's spelling is the front of what begins at the place.
-use Rattle.std.proofs.Common.{◌≡◌, ℕ, ◌+◌, ◌-◌, ◌≤◌, List, length, take, drop, ap, sym, arith}
+use Rattle.std.proofs.Common.{ℕ, ◌+◌, ◌≤◌, List, length, take, drop, ap, sym, arith}
 use Rattle.std.proofs.lemmas.List.{length-drop, length-take-le, take-append-drop, take_rest}
 use Rattle.tg_varint.specs.Varint.{VarintSpelling}
 use Rattle.tg_cid.specs.Reading.{NumberAt}

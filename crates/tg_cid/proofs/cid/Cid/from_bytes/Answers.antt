@@ -1,5 +1,5 @@
 -- By what `from_prefix` answered.
-use Rattle.std.proofs.Common.{◌≡◌, ap, sym, ◌∙◌, subst, Err}
+use Rattle.std.proofs.Common.{ap, sym, ◌∙◌, subst, Err}
 use Rattle.std.proofs.lemmas.Result.{err_from_is_err_and}
 use Rattle.tg_cid.proofs.Whole.{WholeAnswers, whole_err, whole_trailed, whole_ok}
 use Rattle.tg_cid.proofs.cid.Cid.from_bytes.Goals as goal

@@ -1,9 +1,9 @@
 -- Each arm reads as one of the forms of bytes.
-use Rattle.std.proofs.Common.{◌≡◌, ℕ, ◌<◌, List, All, get_or, refl, arith}
+use Rattle.std.proofs.Common.{◌≡◌, ◌<◌, All, get_or, refl, arith}
 use Rattle.std.proofs.lemmas.List.Elements.{All-from_get_or}
 use borrow.Author.Tests.{ltb-true, ltb-false}
 use Rattle.tg_cid.specs.Faults.{IsVersionZero}
-use Rattle.tg_cid.proofs.Prefix.{Reads, one, lone, zero_version, answers, lone_is, zero_is, not_zero}
+use Rattle.tg_cid.proofs.Prefix.{one, lone, zero_version, answers, lone_is, zero_is, not_zero}
 use Rattle.tg_cid.proofs.cid.Cid.from_prefix.Goals as goal
 use Rattle.tg_cid.proofs.cid.Cid.from_prefix.Goals.{in_default-via-then-bytes-lt1, in_default-via-else-bytes-lt1+then-bytes-lt2+in_default-1, in_default-via-else-bytes-lt1+else-bytes-lt2+in-18+in_default-1, in_default-via-else-bytes-lt1+else-bytes-lt2+in_default-1}
 

@@ -1,9 +1,8 @@
 -- Each exit after the letter, by what the base 32 and the bytes answered.
-use Rattle.std.proofs.Common.{◌≡◌, ℕ, ◌-◌, ◌≤◌, List, ◌∷◌, Err, length, take, drop, get_or, ap, sym, ◌∙◌, subst, refl, arith}
+use Rattle.std.proofs.Common.{◌≡◌, ℕ, ◌-◌, List, ◌∷◌, Err, length, take, drop, get_or, ap, sym, ◌∙◌, subst, arith}
 use borrow.Author.Tests.{ltb-true, ltb-false}
 use Rattle.std.proofs.lemmas.Result.{err_from_is_err_and}
 use Rattle.tg_base32.specs.Base32.{Base32Text}
-use Rattle.tg_cid.specs.Faults.{cid_fault_of}
 use Rattle.tg_cid.proofs.Texts.{TextAnswers, no_base, as_zero, by_bytes, begins_with, begins_rest, begins_other}
 use Rattle.tg_cid.proofs.cid.Cid.from_text.Goals as goal
 use Rattle.tg_cid.proofs.cid.Cid.from_text.Goals.{in_default-bytes-via-then-bytes-lt1, in_default-bytes-via-else-bytes-lt1+in_default-1}

@@ -1,5 +1,5 @@
 -- A CIDv0 is the multihash alone, by the invariant one of dag-pb and sha2-256.
-use Rattle.std.proofs.Common.{◌≡◌, ◌≤◌, List, ℕ, length, drop, inl, inr, ap, ◌∙◌, subst, sym, arith}
+use Rattle.std.proofs.Common.{◌≡◌, ◌≤◌, length, inl, inr, ap, ◌∙◌, sym, arith}
 use Rattle.std.proofs.lemmas.Result.{IfOk-weaker}
 use Rattle.tg_cid.specs.Cid.{CidParts}
 use Rattle.tg_cid.specs.Digest.{size_again}

@@ -1,4 +1,4 @@
-use Rattle.std.proofs.Common.{◌≡◌, ◌∙◌}
+use Rattle.std.proofs.Common.{◌∙◌}
 use Rattle.tg_cid.proofs.cid.Cid.to_text.Goals as goal
 
 pub returns : goal.returns

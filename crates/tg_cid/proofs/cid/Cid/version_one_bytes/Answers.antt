@@ -1,5 +1,5 @@
 -- By the invariant the digest is one of sha2-256.
-use Rattle.std.proofs.Common.{◌≡◌, ℕ, ◌<◌, List, ◌∷◌, All, length, ap, ap₂, sym, ◌∙◌, subst}
+use Rattle.std.proofs.Common.{ℕ, ◌<◌, List, ◌∷◌, All, length, ap, ap₂, sym, ◌∙◌, subst}
 use Rattle.tg_cid.specs.Cid.{CidParts}
 use Rattle.tg_cid.specs.Digest.{size_again}
 use Rattle.tg_cid.specs.Spelling.{codec_code}
