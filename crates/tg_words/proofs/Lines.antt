@@ -1,18 +1,17 @@
 -- The answers to the lines of each command, and that words spell at most one.
-use Rattle.std.proofs.Common.{◌≡◌, ℕ, suc, zero, ◌+◌, ◌<◌, ◌≤◌, ◌⊎◌, inl, inr, List, [], ◌∷◌, ◌++◌, length, map, codes, Ok, Err, refl, sym, ap, ◌∙◌, subst, arith}
+use Rattle.std.proofs.Common.{◌≡◌, ℕ, suc, zero, ◌<◌, ◌≤◌, ◌⊎◌, inl, inr, List, [], ◌∷◌, ◌++◌, length, map, codes, Ok, Err, refl, sym, ap, ◌∙◌, subst, arith}
 use Rattle.std.specs.Prelude.{Contains, Result, IfOk}
-use Rattle.std.proofs.lemmas.List.{append-nil}
 use Rattle.hex.specs.Hex.{decode_of}
 use Rattle.tg_cid.specs.Cid.{CidParts}
 use Rattle.tg_cid.specs.Spelling.{CidText, CidBytes}
 use Rattle.tg_words.specs.Words.{WordsSpelling}
-use Rattle.tg_words.specs.CommandLine.{CommandLine, CheckLine, CidLine, CidHexLine}
+use Rattle.tg_words.specs.CommandLine.{CommandLine}
 use Rattle.tg_words.specs.Operands.{Answers, Reading}
 use Rattle.tg_words.specs.declared.Command.{Command}
 use Rattle.tg_words.specs.declared.Command.TheVariants.{Check, CidToHex, CidToText}
 use Rattle.tg_words.specs.declared.WordsFault.{WordsFault}
 use Rattle.tg_words.specs.declared.WordsFault.TheVariants.{Usage, OutOfMemory}
-use Rattle.tg_words.proofs.Readings.{Begins, begins, at_end, at_plain, at_assigned, at_named, nothing_only, end_only, moves_plain, moves_assigned, moves_named, one_name, no_name, reading_of, assigned, named}
+use Rattle.tg_words.proofs.Readings.{begins, at_end, at_plain, at_assigned, at_named, nothing_only, end_only, moves_plain, moves_assigned, moves_named, one_name, no_name, reading_of}
 
 abbrev pub hex_names : List (List ℕ)
 hex_names = codes "hex" ∷ []

@@ -1,11 +1,11 @@
 -- The readings of words, by what their first word is.
-use Rattle.std.proofs.Common.{◌≡◌, ◌≢◌, ℕ, suc, zero, ◌<◌, ◌≤◌, ◌⊎◌, inl, inr, List, [], ◌∷◌, ◌++◌, length, map, codes, true, false, eqb, refl, sym, ap, ap₂, ◌∙◌, subst, append_assoc, arith}
+use Rattle.std.proofs.Common.{◌≡◌, ◌≢◌, ℕ, suc, zero, ◌<◌, ◌≤◌, inl, inr, List, [], ◌∷◌, ◌++◌, length, map, codes, true, false, eqb, refl, sym, ap, ap₂, ◌∙◌, subst, append_assoc, arith}
 use Rattle.std.specs.Prelude.{Contains, slice_get, Some}
 use Rattle.std.proofs.lemmas.List.{length-append, append-nil, append_cancel_left}
 use Rattle.std.proofs.lemmas.Bool.Decides.{nat_tests}
 use Rattle.std.specs.Str.Pattern.{StripsPrefix, FindsTextPrefix}
 use Rattle.tg_words.specs.Words.{Item, positional, option, IsPlain, begins_with_dash, OptionSpelling, ItemsSpelling, IsEnd, positionals_of, options_of, StandOnce, WordsSpelling}
-use Rattle.tg_words.specs.Operands.{Reading, Leaves, Moves}
+use Rattle.tg_words.specs.Operands.{Reading, Moves}
 
 -- the word of an option with its value, and of one whose value is the next word
 abbrev pub assigned : List ℕ → List ℕ → List ℕ

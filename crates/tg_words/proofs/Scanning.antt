@@ -1,10 +1,9 @@
 -- What the scanner of operands keeps and answers.
-use Rattle.std.proofs.Common.{◌≡◌, ℕ, ◌+◌, ◌≤◌, ◌⊎◌, inl, inr, List, [], ◌∷◌, ◌++◌, length, map, codes, Option, Some, None, refl, sym, ap, ap₂, ◌∙◌, subst, arith, Bor}
+use Rattle.std.proofs.Common.{◌≡◌, ℕ, ◌+◌, ◌≤◌, ◌⊎◌, inl, inr, List, [], ◌∷◌, ◌++◌, length, map, codes, Option, Some, None, refl, sym, ap, ◌∙◌, subst, arith, Bor, ◌<◌}
 use Rattle.std.specs.Prelude.{IfSome, IfNone, IsSome, IsSomeAnd, Contains}
-use Rattle.std.proofs.Common.{◌<◌}
 use Rattle.std.proofs.lemmas.List.{length-append, append-nil, map-append}
 use Rattle.tg_words.specs.Words.{WordsSpelling}
-use Rattle.tg_words.specs.Operands.{Reading, Leaves, Moves, texts_of, options_from}
+use Rattle.tg_words.specs.Operands.{Reading, Moves, texts_of, options_from}
 use Rattle.tg_words.proofs.Readings.{moves_self, moves_on, nothing, nothing_only, end_reading, end_only, one_name, no_name, spelling_of, reading_of}
 
 pub no_values : (name : Option (Bor (List ℕ))) → options_from name [] ≡ []

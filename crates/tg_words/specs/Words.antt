@@ -1,5 +1,5 @@
 -- How the words behind a command are positional words and options. A word is a list of bytes.
-use Rattle.std.specs.Prelude.{◌≡◌, ◌≢◌, ℕ, ◌<◌, ◌⊎◌, List, [], ◌∷◌, ◌++◌, length, Bool, true, false, ◌==◌, All, Contains, codes, slice_get, Some, ⊤}
+use Rattle.std.specs.Prelude.{◌≡◌, ◌≢◌, ℕ, ◌<◌, ◌⊎◌, List, [], ◌∷◌, ◌++◌, Bool, false, ◌==◌, Contains, codes, slice_get, Some}
 
 -- one item of a command line: a positional word, or an option with its value
 pub data Item : Type 0 where

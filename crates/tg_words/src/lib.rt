@@ -1,7 +1,7 @@
 //! The words of the command line: the grammar of the program's commands.
 #![tactic(auto)]
 
-ghost use Rattle.std.specs.Prelude.{◌≡◌, ◌≢◌, ℕ, ◌+◌, ◌<◌, ◌≤◌, ◌⊎◌, ◌↔◌, List, [], ◌∷◌, ◌++◌, length, map, string_bytes, codes, IfOk, IfSome, IfNone, IsSome, IsSomeAnd, IsErrOf, IsTrue, MatchOption, MatchResult};
+ghost use Rattle.std.specs.Prelude.{◌≡◌, ◌≢◌, ℕ, ◌<◌, ◌≤◌, ◌⊎◌, ◌↔◌, List, [], ◌∷◌, ◌++◌, length, map, string_bytes, codes, IfOk, IfSome, IfNone, IsSome, IsSomeAnd, IsErrOf, IsTrue, MatchResult};
 ghost use Rattle.hex.specs.Hex.{decode_of};
 ghost use Rattle.tg_cid.specs.Cid.{CidParts};
 ghost use Rattle.tg_cid.specs.Spelling.{CidText, CidBytes};

@@ -35,51 +35,67 @@ fn words_of(alloc: Global, line: &[&str]) -> Result<Vec<String>, AllocError> {
     Ok(words)
 }
 
+#[derive(Clone, Copy)]
+enum Wanted {
+    Check,
+    CidToHex,
+    CidToText,
+    Usage,
+}
+
+fn answer(wanted: Wanted, cid: Cid) -> Result<Command, WordsFault> {
+    match wanted {
+        Wanted::Check => Ok(Command::Check(cid)),
+        Wanted::CidToHex => Ok(Command::CidToHex(cid)),
+        Wanted::CidToText => Ok(Command::CidToText(cid)),
+        Wanted::Usage => Err(WordsFault::Usage),
+    }
+}
+
 #[test]
 fn lines(rt: HostRuntime) -> Result<(), Fail> {
-    let cid = Cid::from_bytes(&BYTES)?;
-    let usage = Err(WordsFault::Usage);
-    let lines: [(&[&str], Result<Command, WordsFault>); 37] = [
-        (&["check", TEXT], Ok(Command::Check(cid))),
-        (&["check", "--", TEXT], Ok(Command::Check(cid))),
-        (&["check", TEXT, "--"], Ok(Command::Check(cid))),
-        (&["cid", TEXT], Ok(Command::CidToHex(cid))),
-        (&["cid", "--hex", HEX], Ok(Command::CidToText(cid))),
-        (&["cid", "--hex", UPPER_HEX], Ok(Command::CidToText(cid))),
-        (&["cid", HEX_OPTION], Ok(Command::CidToText(cid))),
-        (&["cid", UPPER_HEX_OPTION], Ok(Command::CidToText(cid))),
-        (&["cid", HEX_OPTION, "--"], Ok(Command::CidToText(cid))),
-        (&[], usage),
-        (&[""], usage),
-        (&["help"], usage),
-        (&["--help"], usage),
-        (&["version"], usage),
-        (&["--", "check", TEXT], usage),
-        (&["check"], usage),
-        (&["check", "-"], usage),
-        (&["check", "-H"], usage),
-        (&["check", "--x", TEXT], usage),
-        (&["check", TEXT, TEXT], usage),
-        (&["check", TEXT, "--", TEXT], usage),
-        (&["check", UPPER_TEXT], usage),
-        (&["cid"], usage),
-        (&["cid", TEXT, "--hex", "00"], usage),
-        (&["cid", "--", "--hex", HEX], usage),
-        (&["cid", "--", HEX_OPTION], usage),
-        (&["cid", "--hex=00", "--hex=00"], usage),
-        (&["cid", HEX_OPTION, HEX_OPTION], usage),
-        (&["cid", "--hex"], usage),
-        (&["cid", "--hex", "--hex"], usage),
-        (&["cid", "--hex", "--", HEX], usage),
-        (&["cid", "--hex", "0"], usage),
-        (&["cid", "--hex="], usage),
-        (&["cid", "--hex", "0155"], usage),
-        (&["cid", UPPER_OPTION], usage),
-        (&["cid", LONGER_OPTION], usage),
-        (&["cid", "-hex", HEX], usage),
+    let lines: [(&[&str], Wanted); 37] = [
+        (&["check", TEXT], Wanted::Check),
+        (&["check", "--", TEXT], Wanted::Check),
+        (&["check", TEXT, "--"], Wanted::Check),
+        (&["cid", TEXT], Wanted::CidToHex),
+        (&["cid", "--hex", HEX], Wanted::CidToText),
+        (&["cid", "--hex", UPPER_HEX], Wanted::CidToText),
+        (&["cid", HEX_OPTION], Wanted::CidToText),
+        (&["cid", UPPER_HEX_OPTION], Wanted::CidToText),
+        (&["cid", HEX_OPTION, "--"], Wanted::CidToText),
+        (&[], Wanted::Usage),
+        (&[""], Wanted::Usage),
+        (&["help"], Wanted::Usage),
+        (&["--help"], Wanted::Usage),
+        (&["version"], Wanted::Usage),
+        (&["--", "check", TEXT], Wanted::Usage),
+        (&["check"], Wanted::Usage),
+        (&["check", "-"], Wanted::Usage),
+        (&["check", "-H"], Wanted::Usage),
+        (&["check", "--x", TEXT], Wanted::Usage),
+        (&["check", TEXT, TEXT], Wanted::Usage),
+        (&["check", TEXT, "--", TEXT], Wanted::Usage),
+        (&["check", UPPER_TEXT], Wanted::Usage),
+        (&["cid"], Wanted::Usage),
+        (&["cid", TEXT, "--hex", "00"], Wanted::Usage),
+        (&["cid", "--", "--hex", HEX], Wanted::Usage),
+        (&["cid", "--", HEX_OPTION], Wanted::Usage),
+        (&["cid", "--hex=00", "--hex=00"], Wanted::Usage),
+        (&["cid", HEX_OPTION, HEX_OPTION], Wanted::Usage),
+        (&["cid", "--hex"], Wanted::Usage),
+        (&["cid", "--hex", "--hex"], Wanted::Usage),
+        (&["cid", "--hex", "--", HEX], Wanted::Usage),
+        (&["cid", "--hex", "0"], Wanted::Usage),
+        (&["cid", "--hex="], Wanted::Usage),
+        (&["cid", "--hex", "0155"], Wanted::Usage),
+        (&["cid", UPPER_OPTION], Wanted::Usage),
+        (&["cid", LONGER_OPTION], Wanted::Usage),
+        (&["cid", "-hex", HEX], Wanted::Usage),
     ];
-    for (line, expected) in lines {
+    for (line, wanted) in lines {
         let words = words_of(rt.alloc(), line)?;
+        let expected = answer(wanted, Cid::from_bytes(&BYTES)?);
         assert_eq!(rt; read(rt.alloc(), words.as_slice()), expected);
     }
     Ok(())

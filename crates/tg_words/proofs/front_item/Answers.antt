@@ -1,6 +1,5 @@
-use Rattle.std.proofs.Common.{◌≡◌, true, ◌∷◌, []}
-use Rattle.std.proofs.Common.{sym, subst, map, string_bytes, Global}
-use Rattle.tg_words.specs.Operands.{Moves, Reading, texts_of, options_from}
+use Rattle.std.proofs.Common.{◌≡◌, true, ◌∷◌, [], sym, subst, map, string_bytes, Global}
+use Rattle.tg_words.specs.Operands.{Moves, Reading, texts_of}
 use Rattle.tg_words.proofs.Readings.{moves_plain, no_options}
 use Rattle.tg_words.proofs.Scanning.{no_values}
 use Rattle.tg_words.proofs.front_item.Goals as goal

@@ -1,5 +1,5 @@
-use Rattle.std.proofs.Common.{◌≡◌, ◌∷◌, [], codes, rules, map, string_bytes, Global}
-use Rattle.tg_words.specs.Operands.{Moves, texts_of, options_from}
+use Rattle.std.proofs.Common.{◌≡◌, codes, rules, string_bytes, Global}
+use Rattle.tg_words.specs.Operands.{texts_of}
 use Rattle.tg_words.proofs.Scanning.{begun, one_more, whole_found, whole_only, late_found, late_only, stuck, too_many, at_word, no_words}
 use Rattle.tg_words.proofs.operands_of.Goals as goal
 

@@ -1,4 +1,4 @@
-use Rattle.std.proofs.Common.{◌≡◌, ℕ, true, eqb, List, [], ◌∷◌, ◌++◌, codes, length, map, string_bytes, Global, refl, sym, ap, subst, ◌∙◌, arith}
+use Rattle.std.proofs.Common.{◌≡◌, ℕ, true, eqb, List, [], ◌∷◌, ◌++◌, codes, length, map, string_bytes, Global, sym, ap, subst, ◌∙◌}
 use Rattle.std.proofs.lemmas.List.{append-nil}
 use Rattle.tg_words.specs.Words.{IsPlain}
 use Rattle.tg_words.proofs.Readings.{moves_assigned, moves_named, no_option, no_tail, no_front, behind_text, is_empty, assigned, named}

@@ -1,4 +1,4 @@
-use Rattle.std.proofs.Common.{◌≡◌, ℕ, List, ◌∷◌, map, string_bytes, Global, sym, ap, subst, ◌∙◌}
+use Rattle.std.proofs.Common.{◌≡◌, ◌∷◌, map, string_bytes, Global, sym, ap, subst, ◌∙◌}
 use Rattle.tg_words.specs.CommandLine.{CommandLine}
 use Rattle.tg_words.proofs.Lines.{refused}
 use Rattle.tg_words.proofs.read.Goals as goal
