@@ -1,5 +1,5 @@
 -- How a command ends follows from how its own function ends.
-use Rattle.std.proofs.Common.{◌≡◌, ℕ, List, Option, Some, None, Ok, Err, OnOk, IfErr, MatchResult}
+use Rattle.std.proofs.Common.{ℕ, List, Some, None, Ok, Err, OnOk, IfErr, MatchResult}
 use Rattle.std.specs.declared.result.Result.{Result}
 use Rattle.tg_cid.specs.Cid.{CidParts}
 use Rattle.tg_words.specs.declared.Command.TheVariants.{Check}

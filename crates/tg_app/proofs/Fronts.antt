@@ -1,5 +1,5 @@
 -- Bytes that are read into a buffer piece after piece, and bytes that are put piece after piece.
-use Rattle.std.proofs.Common.{◌≡◌, ℕ, ◌+◌, ◌-◌, ◌<◌, ◌≤◌, List, [], ◌∷◌, ◌++◌, length, take, drop, get_or, Option, Some, None, Ok, Err, OnErr, refl, sym, ap, ◌∙◌, append_assoc, append-nil, arith, subst, take-append-drop, suc, length-append, drop-cons}
+use Rattle.std.proofs.Common.{◌≡◌, ℕ, ◌+◌, ◌-◌, ◌<◌, ◌≤◌, List, ◌∷◌, ◌++◌, length, take, drop, get_or, Option, Some, None, Ok, Err, OnErr, refl, sym, ap, ◌∙◌, append_assoc, arith, take-append-drop, suc, length-append, drop-cons}
 use Rattle.std.specs.declared.result.Result.{Result}
 use Rattle.std.specs.List.{flat_map}
 use Rattle.std.proofs.Math.Seq.{take-append-add}

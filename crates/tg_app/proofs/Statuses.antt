@@ -1,5 +1,5 @@
 -- What each exit status says, from how the command ends.
-use Rattle.std.proofs.Common.{◌≡◌, ◌≢◌, ℕ, ◌+◌, ◌<◌, ◌≤◌, ◌⊎◌, inl, inr, List, [], ◌∷◌, ◌++◌, length, Option, Some, None, Ok, Err, OnOk, OnErr, refl, sym, ap, ◌∙◌, subst, arith, append-nil, length-append, Bool, true, false}
+use Rattle.std.proofs.Common.{◌≡◌, ◌≢◌, ℕ, ◌+◌, ◌<◌, ◌≤◌, ◌⊎◌, inl, inr, List, [], ◌∷◌, ◌++◌, length, Option, Some, None, Ok, Err, OnOk, OnErr, refl, sym, ap, ◌∙◌, subst, arith, append-nil, length-append}
 use Rattle.std.specs.declared.result.Result.{Result}
 use Rattle.std.proofs.lemmas.Bool.Decides.{eqb_tells}
 use Rattle.tg_edges.specs.Streams.{after_front, IsNothing}
@@ -7,13 +7,12 @@ use Rattle.tg_cid.specs.Cid.{CidParts}
 use Rattle.tg_cid.specs.Names.{Names, IsDigestOf}
 use Rattle.tg_cid.specs.declared.cid.HashKind.{HashKind}
 use Rattle.tg_cid.specs.declared.cid.HashKind.TheVariants.{Sha256, Identity}
-use Rattle.sha2.specs.Sha256.{sha256}
 use Rattle.tg_words.specs.CommandLine.{CommandLine}
 use Rattle.tg_words.specs.declared.Command.{Command}
 use Rattle.tg_words.specs.declared.Command.TheVariants.{Check, CidToHex, CidToText}
-use Rattle.tg_app.specs.Streams.{Input, Output, InputRose, OutputRose, Took, TookAll, Put, PutFront, PutOrFront}
+use Rattle.tg_app.specs.Streams.{Input, Output, InputRose, OutputRose, Took}
 use Rattle.tg_app.specs.Lines.{status_of}
-use Rattle.tg_app.specs.Endings.{TheCommand, IsNoCommand, TookBlock, Checked, CheckedOther, CheckedFront, PassedLimit, Done, FailedAtOut, Refuses, Ends, CollisionPair, Agrees, CheckStatus}
+use Rattle.tg_app.specs.Endings.{TheCommand, IsNoCommand, TookBlock, Checked, CheckedOther, Done, FailedAtOut, Refuses, Ends, CollisionPair, Agrees, CheckStatus}
 use Rattle.tg_app.specs.declared.refusal.Refusal.{Refusal}
 use Rattle.tg_app.specs.declared.refusal.Refusal.TheVariants.{Usage, BadDigest, BlockLimit, InputFault, SinkFault, OutOfMemory}
 

@@ -8,7 +8,7 @@ use Rattle.tg_cid.specs.Spelling.{CidBytes, CidText}
 use Rattle.tg_words.specs.CommandLine.{CommandLine}
 use Rattle.tg_words.specs.declared.Command.{Command}
 use Rattle.tg_words.specs.declared.Command.TheVariants.{Check, CidToHex, CidToText}
-use Rattle.tg_app.specs.Streams.{Input, Output, InputRose, OutputRose, Took, TookAll, Untaken, Put, Unput, PutFront}
+use Rattle.tg_app.specs.Streams.{Input, Output, InputRose, Took, TookAll, Untaken, Put, Unput, PutFront}
 use Rattle.tg_app.specs.declared.refusal.Refusal.{Refusal}
 use Rattle.tg_app.specs.declared.refusal.Refusal.TheVariants.{Usage, BadDigest, BlockLimit, InputFault, SinkFault, OutOfMemory}
 

@@ -1,6 +1,6 @@
 -- What went through a command's streams: through the input, and through out and err. A stream's own relation of what
 -- moved from its value before to its value after is a function of the bytes; what it tells of its bytes is an `Option`.
-use Rattle.std.specs.Prelude.{◌≡◌, ℕ, ◌<◌, ◌≤◌, ◌⊎◌, List, [], length, take, Option}
+use Rattle.std.specs.Prelude.{◌≡◌, ℕ, ◌<◌, ◌⊎◌, List, [], length, take, Option}
 use Rattle.tg_edges.specs.Streams.{after_front, grown, IsNothing, Rose}
 
 -- a source before and after

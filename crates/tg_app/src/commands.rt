@@ -1,5 +1,5 @@
 //! The commands, each with what it takes, puts and refuses.
-ghost use Rattle.std.specs.Prelude.{◌≡◌, ◌≢◌, ℕ, List, [], ◌∷◌, ◌++◌, length, map, string_bytes, OnOk, IfOk, IfErr, MatchResult, Some, None, vec_len};
+ghost use Rattle.std.specs.Prelude.{◌≡◌, ◌≢◌, [], ◌∷◌, ◌++◌, length, map, string_bytes, OnOk, IfOk, IfErr, MatchResult, Some, None, vec_len};
 ghost use Rattle.tg_app.specs.Streams.{input_of, output_of, Put, PutFront};
 ghost use Rattle.tg_app.specs.Endings.{Checked, CheckRefused, PutsLine, PrintRefused, Ends};
 ghost use Rattle.tg_cid.specs.Spelling.{CidText};

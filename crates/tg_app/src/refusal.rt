@@ -1,6 +1,5 @@
 //! Why a command ends before it is done, with the status and the line on err that say so.
 ghost use Rattle.std.specs.Prelude.{◌≡◌, OnOk, OnErr};
-ghost use Rattle.std.specs.List.{flat_map};
 ghost use Rattle.tg_app.specs.Streams.{output_of, Put, PutFront};
 
 use crate::streams::put_pieces;

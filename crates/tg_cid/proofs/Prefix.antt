@@ -46,7 +46,7 @@ one_is spelling v = one_spelling_each 1 spelling (1 ∷ []) v (record {
 differ : (m n : ℕ) → m ≡ 1 → n ≡ 0x12 → m ≡ n → ⊥
 differ m n p q e = omega arith
 
--- bytes that begin with the varint of 1 are no CIDv0
+-- bytes that begin with the varint of 1 begin with the byte 1
 pub starts_one : (bytes : List ℕ) (number : ℕ) (numbers : List ℕ) (at : ℕ) (rest : List ℕ) → number ≡ 1 → Follows (number ∷ numbers) bytes at rest
     → get_or bytes 0 0 ≡ 1
 starts_one bytes number numbers at rest e f =
@@ -55,6 +55,7 @@ starts_one bytes number numbers at rest e f =
     let whole : bytes ≡ v.0 ++ (v.1 ++ rest) = f.whole ∙ (ap (λ l. l ++ rest) v.2 ∙ append_assoc v.0 v.1 rest) in
     ap (λ (l : List ℕ). get_or l 0 0) (whole ∙ ap (λ l. l ++ (v.1 ++ rest)) spelling)
 
+-- such bytes are no CIDv0
 begins_one : (bytes : List ℕ) (number : ℕ) (numbers : List ℕ) (at : ℕ) (rest : List ℕ) → number ≡ 1 → Follows (number ∷ numbers) bytes at rest
     → IsVersionZero bytes → ⊥
 begins_one bytes number numbers at rest e f z = differ 1 0x12 refl refl (sym (starts_one bytes number numbers at rest e f) ∙ elim z.begins [

@@ -1,5 +1,5 @@
 -- Bytes that move in pieces.
-use Rattle.std.proofs.Common.{arith, min, ◌≡◌, ℕ, ◌+◌, ◌-◌, ◌<◌, ◌≤◌, List, [], ◌∷◌, ◌++◌, length, take, drop, Option, Some, None, Ok, Err, OnErr, refl, sym, ap, ◌∙◌, length-append, append_assoc, take-append-drop}
+use Rattle.std.proofs.Common.{arith, min, ◌≡◌, ℕ, ◌+◌, ◌-◌, ◌<◌, ◌≤◌, List, [], ◌++◌, length, take, drop, Option, Some, None, Ok, Err, OnErr, refl, sym, ap, ◌∙◌, length-append, append_assoc, take-append-drop}
 use Rattle.std.proofs.Math.Seq.{take-add, take-append_seam, drop-drop}
 use Rattle.std.proofs.Math.ListN.{drop_of_length-le}
 use Rattle.std.proofs.Math.Nat.{min-eq_left}

@@ -1,5 +1,5 @@
 -- What std knows of the bytes of readers and writers composes.
-use Rattle.std.specs.Prelude.{◌≡◌, ℕ, List, [], ◌++◌, Option, Some, None, ⊤, refl}
+use Rattle.std.specs.Prelude.{◌≡◌, ℕ, List, [], ◌++◌, Option, Some, None, refl}
 use Rattle.std.specs.Io.KnownBytes.{Appends, Consumes}
 use Rattle.std.proofs.Common.{◌∙◌, ap, sym, append_assoc, append-nil}
 

@@ -1,5 +1,5 @@
 //! Sources and sinks in memory, which fail at the calls that they are given.
-ghost use Rattle.std.specs.Prelude.{◌≡◌, ℕ, ◌+◌, ◌<◌, ◌≤◌, ◌↔◌, min, List, [], ◌++◌, length, take, drop, Option, Some, IsTrue, IsErr, Contains, OnErr, OnOk, IfOk, is_err};
+ghost use Rattle.std.specs.Prelude.{◌≡◌, ◌+◌, ◌<◌, ◌≤◌, ◌↔◌, min, List, [], length, take, drop, Some, IsErr, Contains, OnErr, OnOk, IfOk, is_err};
 ghost use Rattle.tg_edges.specs.Streams.{after_front, grown, IsNothing, Rose, counted};
 ghost use Rattle.tg_edges.specs.Memory.{SourceMoves, SinkMoves, source_rests, source_joins, sink_rests, sink_joins};
 

@@ -1,5 +1,5 @@
 //! Sources and sinks over std's readers and writers, such as the standard streams.
-ghost use Rattle.std.specs.Prelude.{◌≡◌, ◌^◌, None};
+ghost use Rattle.std.specs.Prelude.{◌≡◌, None};
 ghost use Rattle.std.specs.Io.KnownBytes.{Appends, Consumes, IsAtEnd};
 ghost use Rattle.tg_edges.specs.Known.{consumes_nothing, consumes_joins, appends_nothing, appends_joins};
 

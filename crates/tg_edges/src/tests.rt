@@ -1,5 +1,5 @@
 //! Sources and sinks over memory and over real streams, and a two-way stream whose facts follow from its laws alone.
-ghost use Rattle.std.specs.Prelude.{◌≡◌, ℕ, ◌<◌, ◌≤◌, List as Items, [], ◌++◌, length, take, Option, None, OnOk, OnErr, refl};
+ghost use Rattle.std.specs.Prelude.{◌≡◌, ℕ, ◌<◌, List as Items, ◌++◌, take, None, OnOk, OnErr, refl};
 ghost use Rattle.tg_edges.specs.Streams.{Rose};
 ghost use Rattle.tg_edges.specs.Known.{beside_rests, beside_joins};
 

@@ -1,4 +1,4 @@
-use Rattle.std.proofs.Common.{◌≡◌, ℕ, List, map, subst}
+use Rattle.std.proofs.Common.{map, subst}
 use Rattle.std.specs.Prelude.{string_bytes}
 use Rattle.tg_app.specs.Endings.{TheCommand}
 use Rattle.tg_app.proofs.Arms.{check_ends}

@@ -1,7 +1,6 @@
-use Rattle.std.proofs.Common.{◌≡◌, ℕ, ◌+◌, ◌<◌, ◌≤◌, List, [], ◌++◌, length, take, get_or, arith, ap, ◌∙◌, sym, Bor}
+use Rattle.std.proofs.Common.{ℕ, ◌+◌, ◌<◌, ◌≤◌, List, [], length, take, get_or, arith, ap, ◌∙◌, sym, Bor}
 use Rattle.std.specs.List.{flat_map}
 use Rattle.tg_edges.specs.Streams.{grown}
-use Rattle.tg_app.specs.Streams.{Put, PutFront}
 use Rattle.tg_app.proofs.Fronts.{grown-grown, pieces_front, pieces_fit, on_err}
 use Rattle.tg_app.proofs.streams.put_pieces.Goals as goal
 

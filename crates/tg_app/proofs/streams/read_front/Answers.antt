@@ -1,7 +1,6 @@
-use Rattle.std.proofs.Common.{◌≡◌, ℕ, ◌+◌, ◌-◌, ◌<◌, ◌≤◌, List, [], ◌++◌, length, take, drop, arith, ap, ◌∙◌, append-nil, sym, subst}
+use Rattle.std.proofs.Common.{◌≡◌, ℕ, ◌-◌, [], length, take, arith, ap, ◌∙◌, append-nil, sym, subst}
 use Rattle.std.proofs.lemmas.Slice.{take-put_mid_below}
 use Rattle.tg_edges.specs.Streams.{after_front}
-use Rattle.tg_app.specs.Streams.{Took}
 use Rattle.tg_app.proofs.Fronts.{after_front-after_front, front_more, front_fits, on_err}
 use Rattle.tg_app.proofs.streams.read_front.Goals as goal
 

@@ -1,7 +1,5 @@
-use Rattle.std.proofs.Common.{◌≡◌, ℕ, ◌⊎◌, inl, inr, List, Some, None, refl, sym, ap, ◌∙◌, subst, map}
-use Rattle.std.specs.Prelude.{string_bytes}
-use Rattle.tg_app.specs.Lines.{status_of}
-use Rattle.tg_app.specs.Endings.{Ends, CheckStatus}
+use Rattle.std.proofs.Common.{◌≡◌, ℕ, ◌⊎◌, inr, Some, sym, ◌∙◌, subst}
+use Rattle.tg_app.specs.Endings.{CheckStatus}
 use Rattle.tg_app.proofs.Statuses.{the_done, agrees, answered_done, says, none_refused, other_of, answered_refused}
 use Rattle.tg_words.specs.declared.Command.TheVariants.{Check, CidToHex, CidToText}
 use Rattle.tg_app.proofs.top.run.Goals as goal

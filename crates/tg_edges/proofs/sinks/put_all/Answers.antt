@@ -1,4 +1,4 @@
-use Rattle.std.proofs.Common.{◌≡◌, ℕ, ◌+◌, ◌-◌, ◌≤◌, ◌++◌, length, take, drop, arith, ap, ◌∙◌, append-nil}
+use Rattle.std.proofs.Common.{◌-◌, ◌≤◌, length, take, drop, arith, ap, ◌∙◌, append-nil}
 use Rattle.std.proofs.lemmas.List.{take_rest, length-drop}
 use Rattle.tg_edges.specs.Streams.{grown}
 use Rattle.tg_edges.proofs.Moves.{grown-grown, take_on, on_err}

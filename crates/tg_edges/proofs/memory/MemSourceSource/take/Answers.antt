@@ -1,7 +1,6 @@
-use Rattle.std.proofs.Common.{◌≡◌, ℕ, ◌+◌, ◌-◌, ◌<◌, ◌≤◌, ◌++◌, length, take, drop, Some, arith, sym, ap, ◌∙◌, subst, min}
+use Rattle.std.proofs.Common.{ℕ, ◌-◌, ◌≤◌, length, take, drop, Some, sym, ap, ◌∙◌, subst, min}
 use Rattle.std.proofs.lemmas.List.{take_rest}
 use Rattle.std.proofs.Math.Nat.{min-le_right}
-use Rattle.tg_edges.specs.Memory.{SourceMoves}
 use Rattle.tg_edges.proofs.Moves.{took_front, took_none}
 use Rattle.tg_edges.proofs.memory.MemSourceSource.take.Goals as goal
 
