@@ -55,7 +55,7 @@ pub struct Field {
 /// The fields of a text in order, which contracts see as a list.
 #[derive(Debug, Drop)]
 pub struct Fields {
-    fields: Vec<Field>,
+    pub(crate) fields: Vec<Field>,
 }
 
 impl Model for Fields {

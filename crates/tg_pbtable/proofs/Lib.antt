@@ -1,0 +1,3 @@
+pub mod Varints
+pub mod Putting
+pub mod Spellings
