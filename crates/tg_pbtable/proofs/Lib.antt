@@ -1,3 +1,4 @@
 pub mod Varints
 pub mod Putting
 pub mod Spellings
+pub mod Whole
