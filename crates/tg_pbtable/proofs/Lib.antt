@@ -2,3 +2,6 @@ pub mod Varints
 pub mod Putting
 pub mod Spellings
 pub mod Whole
+pub mod Numbers
+pub mod Causes
+pub mod Scanning
