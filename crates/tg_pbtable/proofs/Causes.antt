@@ -258,7 +258,7 @@ one_cause rules way text a b table p q = elim (where_it_holds rules way text a p
   ]
 ]
 
-at_most : (times : Times) (n : ℕ) → IsCount times n → IsAtMost times n
+pub at_most : (times : Times) (n : ℕ) → IsCount times n → IsAtMost times n
 at_most One n h = omega arith
 at_most Optional n h = h
 at_most Many n h = h

@@ -1,5 +1,5 @@
 -- What the scanner's private functions say.
-use Rattle.std.specs.Prelude.{◌≡◌, ◌≢◌, ℕ, ◌+◌, ◌<◌, ◌≤◌, ◌⊎◌, Option, Some, None, Bool, true, false, List, [], ◌∷◌, ◌++◌, length, take, drop, map, All, Contains, slice_get, ⊤, nat_lt, IsTrue}
+use Rattle.std.specs.Prelude.{◌≡◌, ◌≢◌, ℕ, ◌+◌, ◌<◌, ◌≤◌, ◌⊎◌, Option, Some, None, Bool, true, false, List, [], ◌∷◌, ◌++◌, length, take, drop, map, All, Contains, slice_get, slice_index_or, nat_lt}
 use Rattle.tg_pbtable.specs.declared.table.Rule.{Rule}
 use Rattle.tg_pbtable.specs.declared.table.Times.{Times}
 use Rattle.tg_pbtable.specs.declared.table.Times.TheVariants.{One, Optional, Many}
@@ -125,16 +125,21 @@ pub record Stands (rules : List Rule) (order : Order) (text : List ℕ) (fields 
   pub begins : Begins rules order text fields at (drop at text)
   pub seen_is : seen ≡ map (λ rule. has_number fields rule.number) rules
 
--- a rule that asks for a field has one
-abbrev pub AreMet : List Rule → List Bool → Type 0
-AreMet rules seen = (k : ℕ) (rule : Rule) → slice_get rules k ≡ Some rule → rule.times ≡ One → slice_get seen k ≡ Some true
+-- the first n rules that ask for a field have one
+abbrev pub AreMet : List Rule → List Bool → ℕ → Type 0
+AreMet rules seen n = (k : ℕ) (d : Rule) → k < n → (slice_index_or rules k d).times ≡ One → slice_index_or seen k false ≡ true
 
--- the lowest number of a rule that asks for a field and has none
-pub record IsLowestUnmet (rules : List Rule) (seen : List Bool) (number : ℕ) : Type 0 where
+-- the lowest number of those of the first n rules that ask for a field and have none
+pub record IsLowestUnmet (rules : List Rule) (seen : List Bool) (n number : ℕ) : Type 0 where
   pub k : ℕ
   pub rule : Rule
-  pub here : slice_get rules k ≡ Some rule
+  pub inside : k < n
+  pub here : (d : Rule) → slice_index_or rules k d ≡ rule
   pub number_is : rule.number ≡ number
   pub asks : rule.times ≡ One
-  pub unmet : slice_get seen k ≡ Some false
-  pub lowest : (j : ℕ) (other : Rule) → slice_get rules j ≡ Some other → other.times ≡ One → slice_get seen j ≡ Some false → number ≤ other.number
+  pub unmet : slice_index_or seen k false ≡ false
+  pub lowest : (j : ℕ) (d : Rule) → j < n → (slice_index_or rules j d).times ≡ One → slice_index_or seen j false ≡ false → number ≤ (slice_index_or rules j d).number
+
+abbrev pub IsLowest : List Rule → List Bool → ℕ → Option ℕ → Type 0
+IsLowest rules seen n None = AreMet rules seen n
+IsLowest rules seen n (Some number) = IsLowestUnmet rules seen n number

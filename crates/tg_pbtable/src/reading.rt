@@ -1,8 +1,8 @@
 //! A text read by a table.
-ghost use Rattle.std.specs.Prelude.{◌≡◌, ◌≢◌, ◌<◌, ◌≤◌, ◌⊎◌, ◌↔◌, ◌++◌, ◌∷◌, List, [], length, drop, All, Contains, IsTrue, IfOk, IfErr, MatchBool, MatchOption, MatchResult};
+ghost use Rattle.std.specs.Prelude.{◌≡◌, ◌≢◌, ◌<◌, ◌≤◌, ◌⊎◌, ◌↔◌, ◌++◌, ◌∷◌, List, [], length, drop, All, Contains, IsTrue, IfOk, IfErr, MatchBool, MatchOption, MatchResult, min};
 ghost use Rattle.tg_pbtable.specs.Message.{Message, IsTable, numbers_of, wire_of, IsInOrder};
 ghost use Rattle.tg_pbtable.specs.Faults.{HasCause, BreaksOrder};
-ghost use Rattle.tg_pbtable.specs.Reading.{Stands, IsRuled, IsRefused, HasNumberAt, EndsIn, AreMet, IsLowestUnmet};
+ghost use Rattle.tg_pbtable.specs.Reading.{Stands, IsRuled, IsRefused, HasNumberAt, EndsIn, IsLowest};
 ghost use Rattle.tg_pbtable.specs.declared.table.Field.{Field};
 ghost use Rattle.tg_pbtable.specs.declared.fault.PbFault.{PbFault};
 
@@ -143,13 +143,20 @@ fn follows_itself(fields: &[Field], number: u32) -> bool
 
 /// The lowest number of a rule that asks for a field and has none.
 fn missing<const N: usize>(rules: &[Rule; N], seen: &[bool; N]) -> Option<u32>
-    ensures { MatchOption result (AreMet rules.now seen.now) (λ number. IsLowestUnmet rules.now seen.now number) }
+    ensures { IsLowest rules.now seen.now (length rules.now) result }
 {
-    let mut lowest: Option<u32> = None;
+    let mut lowest = None;
     for (i, rule) in rules.iter().enumerate() {
-        if rule.times == Times::One && !seen[i] && lowest.is_none_or(|number| rule.number < number) {
-            lowest = Some(rule.number);
+        if rule.times == Times::One && !seen[i] {
+            lowest = Some(lower(lowest, rule.number));
         }
     }
     lowest
+}
+
+/// The lower of two numbers, of which the first may be none.
+fn lower(low: Option<u32>, number: u32) -> u32
+    ensures { MatchOption low (result ≡ number) (λ n. result ≡ min n number) }
+{
+    low.map_or(number, |low| low.min(number))
 }

@@ -1,5 +1,4 @@
 use Rattle.tg_pbtable.proofs.Spellings.{one_reading, one_text}
-use Rattle.tg_pbtable.proofs.Causes.{one_cause, no_cause}
 use Rattle.tg_pbtable.proofs.writing.one_message.Goals as goal
 
 pub returns-clause-one_reading : goal.returns-clause-one_reading
