@@ -1,12 +1,13 @@
 -- The numbers of fields: how many of one there are, and in which order they stand.
 use Rattle.std.proofs.Common.{◌≡◌, ℕ, zero, suc, ◌+◌, ◌-◌, ◌<◌, ◌≤◌, ◌≢◌, ◌⊎◌, Bool, true, false, cond, List, [], ◌∷◌, ◌++◌, length, take, drop, get_or, map, refl, sym, ap, ap₂, ◌∙◌, append_assoc, subst, inl, inr, arith}
-use Rattle.std.specs.Prelude.{All, Any, Contains, ◌==◌}
+use Rattle.std.specs.Prelude.{All, Any, Contains, ◌==◌, slice_get, Some, None}
 use Rattle.std.specs.List.Sorted.{IsNonDecreasing}
 use Rattle.std.proofs.lemmas.Bool.{cases_lt, cases_eq, eq-eqb, ne_eqb}
-use Rattle.std.proofs.lemmas.List.{length-append, append-nil, get_or_push, get_or_at, get_or_append_left, take_more, take_all, map-append, get_or_default}
+use Rattle.std.proofs.lemmas.List.{length-append, append-nil, get_or_push, get_or_at, get_or_append_left, take_more, take_all, map-append, get_or_default, get_or-map, length-map}
 use Rattle.std.proofs.lemmas.List.Elements.{All-push, All-contains, Contains-append_right}
 use Rattle.std.proofs.lemmas.List.Sorted.{IsNonDecreasingBy-push}
 use Rattle.std.proofs.lemmas.List.Sums.{sum_by-cons, sum_by-append, sum_by_push}
+use Rattle.std.proofs.lemmas.Option.{get_or_from_slice_get, slice_get_within, slice_get-get_or}
 use Rattle.std.proofs.lemmas.Map.Made.{Contains-tail}
 use Rattle.tg_pbtable.specs.declared.table.Field.{Field}
 use Rattle.tg_pbtable.specs.declared.table.Order.{Order}
@@ -179,3 +180,41 @@ same_run ns n h ends i j k ij jk kl e =
 
 pub numbers_push : (fs : List Field) (f : Field) (gs : List Field) → numbers_of (fs ++ f ∷ gs) ≡ numbers_of fs ++ f.number ∷ numbers_of gs
 numbers_push fs f gs = map-append (λ (x : Field). x.number) fs (f ∷ gs)
+
+-- ---- the last field
+
+last_number : (fs : List Field) (f : Field) → slice_get fs (length fs - 1) ≡ Some f → (0 < length (numbers_of fs)) × (get_or (numbers_of fs) (length (numbers_of fs) - 1) 0 ≡ f.number)
+last_number fs f e =
+    let size : length (numbers_of fs) ≡ length fs = length-map fs (λ (x : Field). x.number) in
+    let in' : length fs - 1 < length fs = slice_get_within fs (length fs - 1) f e in
+    (omega arith,
+    ap (λ (k : ℕ). get_or (numbers_of fs) (k - 1) 0) size ∙ get_or-map (λ (x : Field). x.number) fs (length fs - 1) f 0 in' ∙ ap (λ (x : Field). x.number) (get_or_from_slice_get fs (length fs - 1) f f e))
+
+pub ends_last : (fs : List Field) (f : Field) (n : ℕ) → slice_get fs (length fs - 1) ≡ Some f → f.number ≡ n → EndsIn (numbers_of fs) n
+ends_last fs f n e is = let last = last_number fs f e in ends_in_last (numbers_of fs) n last.0 (last.1 ∙ is)
+
+pub last_ends : (fs : List Field) (f : Field) (n : ℕ) → slice_get fs (length fs - 1) ≡ Some f → EndsIn (numbers_of fs) n → f.number ≡ n
+last_ends fs f n e ends = sym (last_number fs f e).1 ∙ (last_of (numbers_of fs) n ends).1
+
+pub none_ends : (fs : List Field) (n : ℕ) → slice_get fs (length fs - 1) ≡ None → EndsIn (numbers_of fs) n → ⊥
+none_ends [] n e ends = let last = last_of [] n ends in let some : 0 < 0 = last.0 in omega arith
+none_ends (f ∷ fs) n e ends =
+    let some = slice_get-get_or (f ∷ fs) (length (f ∷ fs) - 1) f (omega arith) in
+    let clash : Some (get_or (f ∷ fs) (length (f ∷ fs) - 1) f) ≡ None = sym some ∙ e in
+    cc
+
+pub falls : (fs : List Field) (f : Field) (n : ℕ) → slice_get fs (length fs - 1) ≡ Some f → n < f.number → Any (λ (m : ℕ). n < m) (numbers_of fs)
+falls fs f n e lt =
+    let last = last_number fs f e in
+    let some : 0 < length (numbers_of fs) = last.0 in
+    (length (numbers_of fs) - 1, f.number, omega arith, get_or_default (numbers_of fs) (length (numbers_of fs) - 1) f.number 0 (omega arith) ∙ last.1, lt)
+
+pub rises_after : (fs : List Field) (f : Field) (n : ℕ) → IsNonDecreasing (numbers_of fs) → slice_get fs (length fs - 1) ≡ Some f → f.number ≤ n → IsNonDecreasing (numbers_of fs ++ n ∷ [])
+rises_after fs f n h e le = let last = last_number fs f e in rises (numbers_of fs) n h (λ _. let is : get_or (numbers_of fs) (length (numbers_of fs) - 1) 0 ≡ f.number = last.1 in omega arith)
+
+pub rises_alone : (fs : List Field) (n : ℕ) → slice_get fs (length fs - 1) ≡ None → IsNonDecreasing (numbers_of fs) → IsNonDecreasing (numbers_of fs ++ n ∷ [])
+rises_alone [] n e h = rises [] n h (λ p. let none : 0 < 0 = p in absurd (omega arith))
+rises_alone (f ∷ fs) n e h =
+    let some = slice_get-get_or (f ∷ fs) (length (f ∷ fs) - 1) f (omega arith) in
+    let clash : Some (get_or (f ∷ fs) (length (f ∷ fs) - 1) f) ≡ None = sym some ∙ e in
+    absurd cc

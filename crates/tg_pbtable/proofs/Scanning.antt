@@ -1,22 +1,23 @@
 -- The steps of a scan, and what its end says.
 use Rattle.std.proofs.Common.{◌≡◌, ℕ, zero, suc, ◌+◌, ◌-◌, ◌<◌, ◌≤◌, ◌≢◌, ◌⊎◌, Option, Some, None, Bool, true, false, List, [], ◌∷◌, ◌++◌, length, take, drop, get_or, map, refl, sym, ap, ap₂, ◌∙◌, append_assoc, subst, inl, inr, arith, min}
-use Rattle.std.specs.Prelude.{All, Contains, nat_lt, slice_get, slice_set}
+use Rattle.std.specs.Prelude.{All, Contains, MatchOption, IfOk, IfErr, MatchResult, Result, Ok, Err, nat_lt, slice_get, slice_set, replicate}
 use Rattle.std.proofs.lemmas.Bool.{cases_lt, cases_eq, cases_order, cases_Bool}
 use Rattle.std.proofs.lemmas.Bool.Decides.{Decides-ltb}
-use Rattle.std.proofs.lemmas.List.{length-append, length-drop, length-map, length-set, append-nil, drop_at, drop_all, get_or-map, get_or_default, get_or-set_same, get_or-set_other, same_lists}
+use Rattle.std.proofs.lemmas.List.{length-append, length-drop, length-map, length-set, append-nil, drop_at, drop_all, get_or-map, get_or_default, get_or-set_same, get_or-set_other, same_lists, length-replicate, get_or-replicate}
 use Rattle.std.proofs.lemmas.List.Elements.{All-push, Contains-get_or}
 use Rattle.std.proofs.lemmas.Option.{get_or_from_slice_get, slice_get_within}
 use Rattle.tg_pbtable.specs.declared.table.Rule.{Rule}
 use Rattle.tg_pbtable.specs.declared.table.Times.{Times}
 use Rattle.tg_pbtable.specs.declared.table.Times.TheVariants.{One, Optional, Many}
 use Rattle.tg_pbtable.specs.declared.table.Order.{Order}
+use Rattle.tg_pbtable.specs.declared.table.Order.TheVariants.{Ascending, Runs}
 use Rattle.tg_pbtable.specs.declared.table.Field.{Field}
 use Rattle.tg_pbtable.specs.declared.fault.PbFault.{PbFault}
 use Rattle.tg_pbtable.specs.declared.fault.PbFault.TheVariants as faults
 use Rattle.tg_pbtable.specs.Message.{Message, IsTable, Spelled, FieldSpelling, AreRuled, HasRule, count_of, numbers_of, IsInOrder, IsAtMost, IsCount, wire_of, wire_code}
 use Rattle.tg_pbtable.specs.Faults.{Begins, FirstAt, HasCause, IsMissing, HasRuled, BreaksOrder}
 use Rattle.tg_pbtable.specs.Reading.{Stands, IsRuled, IsRuleAt, IsRefused, EndsIn, has_number, AreMet, IsLowest, IsLowestUnmet}
-use Rattle.tg_pbtable.proofs.Causes.{one_rule, at_most}
+use Rattle.tg_pbtable.proofs.Causes.{one_rule, one_cause, no_cause}
 use Rattle.tg_pbtable.proofs.Numbers.{count_push_same, count_push_other, contains_count, count_contains, none_before, numbers_push}
 use Rattle.tg_pbtable.proofs.Spellings.{spelled_push}
 
@@ -265,8 +266,7 @@ keep_lowest rules seen i (Some n) l met h = record {
 }
 
 abbrev pub Lower : Option ℕ → ℕ → ℕ → Type 0
-Lower None number result = result ≡ number
-Lower (Some n) number result = result ≡ min n number
+Lower low number result = MatchOption low (result ≡ number) (λ n. result ≡ min n number)
 
 new_lowest : (rules : List Rule) (seen : List Bool) (i number : ℕ) → i < length rules → ((d : Rule) → (get_or rules i d).times ≡ One) → ((d : Rule) → (get_or rules i d).number ≡ number) → get_or seen i false ≡ false
     → ((j : ℕ) (d : Rule) → j < i → (get_or rules j d).times ≡ One → get_or seen j false ≡ false → number ≤ (get_or rules j d).number) → (rule : Rule) → ((d : Rule) → get_or rules i d ≡ rule) → IsLowestUnmet rules seen (i + 1) number
@@ -316,3 +316,28 @@ take_lowest rules seen i (Some n) rule result l here asks unmet e h = elim (case
       new_lowest rules seen i result l (λ d. ap (λ (x : Rule). x.times) (here d) ∙ asks) (λ d. ap (λ (x : Rule). x.number) (here d) ∙ sym is) unmet
       (λ j d jl a u. let le : n ≤ (get_or rules j d).number = h.lowest j d jl a u in omega arith) rule here
 ]
+
+-- ---- what a result says of the whole text
+
+unseen : (rules : List Rule) (k : ℕ) (d : Bool) → k < length rules → get_or (map (λ (x : Rule). has_number [] x.number) rules) k d ≡ false
+unseen [] k d l = absurd (omega arith)
+unseen (r ∷ rs) zero d l = refl
+unseen (r ∷ rs) (suc k) d l = unseen rs k d (omega arith)
+
+pub none_in_order : (way : Order) → IsInOrder way []
+none_in_order Ascending = λ i j d ij jl. absurd (omega arith)
+none_in_order Runs = λ i j k ij jk kl e. absurd (omega arith)
+
+pub only_oom : (rules : List Rule) (way : Order) (text : List ℕ) (e : PbFault) → IsTable rules → (e ≡ faults.OutOfMemory) ⊎ HasCause rules way text e → (fields : List Field) → Message rules way text fields → e ≡ faults.OutOfMemory
+only_oom rules way text e t cause fields m = elim cause [ inl o ↦ o | inr h ↦ absurd (no_cause rules way text fields e t m h) ]
+
+pub that_one : (rules : List Rule) (way : Order) (text : List ℕ) (e : PbFault) → IsTable rules → (e ≡ faults.OutOfMemory) ⊎ HasCause rules way text e → (fault : PbFault) → HasCause rules way text fault → (e ≡ fault) ⊎ (e ≡ faults.OutOfMemory)
+that_one rules way text e t cause fault h = elim cause [ inl o ↦ inr o | inr k ↦ inl (one_cause rules way text e fault t k h) ]
+
+pub first_unseen : (rules : List Rule) (n : ℕ) → length rules ≡ n → replicate n false ≡ map (λ (r : Rule). has_number [] r.number) rules
+first_unseen rules n e =
+    same_lists (replicate n false) (map (λ (x : Rule). has_number [] x.number) rules) (length-replicate n false ∙ sym e ∙ sym (length-map rules (λ (x : Rule). has_number [] x.number)))
+    (λ (k : ℕ) (d : Bool) (kl : k < length (replicate n false)).
+        let kn : k < n = omega (arith, length-replicate n false) in
+        let kr : k < length rules = omega arith in
+        get_or-replicate n k false d kn ∙ sym (unseen rules k d kr))

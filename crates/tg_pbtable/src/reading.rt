@@ -129,7 +129,7 @@ fn is_out_of_order(order: Order, fields: &[Field], seen: bool, number: u32) -> b
         (IsInOrder order (numbers_of fields.now ++ number ∷ [])) }
 {
     match order {
-        Order::Ascending => fields.last().is_some_and(|last| number < last.number),
+        Order::Ascending => matches!(fields.last(), Some(last) if number < last.number),
         Order::Runs => seen && !follows_itself(fields, number),
     }
 }
@@ -138,7 +138,7 @@ fn is_out_of_order(order: Order, fields: &[Field], seen: bool, number: u32) -> b
 fn follows_itself(fields: &[Field], number: u32) -> bool
     ensures { IsTrue result ↔ EndsIn (numbers_of fields.now) number }
 {
-    fields.last().is_some_and(|last| last.number == number)
+    matches!(fields.last(), Some(last) if last.number == number)
 }
 
 /// The lowest number of a rule that asks for a field and has none.
