@@ -5,3 +5,4 @@ pub mod Whole
 pub mod Numbers
 pub mod Causes
 pub mod Scanning
+pub mod Emitting

@@ -27,7 +27,7 @@ one_if a b e = ap as_number (eq-eqb a b e)
 none_if : (a b : ℕ) → a ≢ b → as_number (a == b) ≡ 0
 none_if a b e = ap as_number (ne_eqb a b e)
 
-count_cons : (f : Field) (fs : List Field) (n : ℕ) → count_of (f ∷ fs) n ≡ cond (f.number == n) 1 0 + count_of fs n
+pub count_cons : (f : Field) (fs : List Field) (n : ℕ) → count_of (f ∷ fs) n ≡ cond (f.number == n) 1 0 + count_of fs n
 count_cons f fs n = sum_by-cons (λ (x : Field). cond (x.number == n) 1 0) f fs
 
 count_append : (xs ys : List Field) (n : ℕ) → count_of (xs ++ ys) n ≡ count_of xs n + count_of ys n

@@ -192,7 +192,7 @@ same_spelling m n (Place start end) (Place from to) before a behind before' b be
     let sizes : p.size ≡ q.size = same_bytes (length q.content) p.size q.size (subst (λ (k : ℕ). VarintSpelling k p.size) (ap length contents) p.size_is) q.size_is in
     p.whole ∙ ap₂ (λ (x y : List ℕ). x ++ y) keys (ap₂ (λ (x y : List ℕ). x ++ y) sizes contents) ∙ sym q.whole
 
-moved : (at : ℕ) (before front rest : List ℕ) (fs : List Field) → at ≡ length before → Spelled (at + length front) fs rest → Spelled (length (before ++ front)) fs rest
+pub moved : (at : ℕ) (before front rest : List ℕ) (fs : List Field) → at ≡ length before → Spelled (at + length front) fs rest → Spelled (length (before ++ front)) fs rest
 moved at before front rest fs e p =
     let here : at + length front ≡ length (before ++ front) = omega (arith, length-append before front) in
     subst (λ (n : ℕ). Spelled n fs rest) here p

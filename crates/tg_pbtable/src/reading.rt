@@ -129,7 +129,10 @@ fn is_out_of_order(order: Order, fields: &[Field], seen: bool, number: u32) -> b
         (IsInOrder order (numbers_of fields.now ++ number ∷ [])) }
 {
     match order {
-        Order::Ascending => matches!(fields.last(), Some(last) if number < last.number),
+        Order::Ascending => match fields.last() {
+            Some(last) => number < last.number,
+            None => false,
+        },
         Order::Runs => seen && !follows_itself(fields, number),
     }
 }
@@ -138,7 +141,10 @@ fn is_out_of_order(order: Order, fields: &[Field], seen: bool, number: u32) -> b
 fn follows_itself(fields: &[Field], number: u32) -> bool
     ensures { IsTrue result ↔ EndsIn (numbers_of fields.now) number }
 {
-    matches!(fields.last(), Some(last) if last.number == number)
+    match fields.last() {
+        Some(last) => last.number == number,
+        None => false,
+    }
 }
 
 /// The lowest number of a rule that asks for a field and has none.
