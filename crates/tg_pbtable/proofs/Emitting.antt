@@ -1,6 +1,7 @@
 -- The text of fields, one field after another.
 use Rattle.std.proofs.Common.{◌≡◌, ℕ, zero, suc, ◌+◌, ◌-◌, ◌*◌, ◌/◌, ◌%◌, ◌^◌, ◌<◌, ◌≤◌, ◌≢◌, ◌⊎◌, cond, List, [], ◌∷◌, ◌++◌, length, take, drop, get_or, refl, sym, ap, ap₂, ◌∙◌, append_assoc, subst, inl, inr, arith}
-use Rattle.std.specs.Prelude.{All, slice_range, ◌==◌}
+use Rattle.std.specs.Prelude.{All, slice_range, ◌==◌, Result, Ok, Err, OnOk}
+use Rattle.std.specs.Result.{is_ok}
 use Rattle.std.proofs.lemmas.List.{length-append, append-nil}
 use Rattle.std.proofs.lemmas.List.Elements.{All-nil, All-cons, All-head, All-tail, All-take, All-drop}
 use Rattle.tg_pbtable.specs.declared.table.Rule.{Rule}
@@ -151,3 +152,13 @@ message_again source text rules order fields ruled counts inorder w = record {
   counts = λ k d l. subst (λ (n : ℕ). IsCount (get_or rules k d).times n) (same_counts source text fields w.placed (get_or rules k d).number w.same) (counts k d l);
   ordered = subst (λ (ns : List ℕ). IsInOrder order ns) (same_numbers source text fields w.placed w.same) inorder;
 }
+
+-- ---- what a call that may fail leaves
+
+pub ok_then : {T E : Type 0} (r : Result T E) (P Q : Type 0) → (P → Q) → OnOk r P → OnOk r Q
+ok_then (Ok x) P Q f h = f h
+ok_then (Err e) P Q f h = tt
+
+pub extended : {T E : Type 0} (r : Result T E) (old more new : List ℕ) → new ≡ cond (is_ok r) (old ++ more) old → OnOk r (new ≡ old ++ more)
+extended (Ok x) old more new e = e
+extended (Err y) old more new e = tt
