@@ -6,3 +6,4 @@ pub mod Numbers
 pub mod Causes
 pub mod Scanning
 pub mod Emitting
+pub mod Tables

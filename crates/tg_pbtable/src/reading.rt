@@ -2,6 +2,7 @@
 ghost use Rattle.std.specs.Prelude.{◌≡◌, ◌≢◌, ◌<◌, ◌≤◌, ◌⊎◌, ◌↔◌, ◌++◌, ◌∷◌, List, [], length, drop, All, Contains, IsTrue, IfOk, IfErr, MatchBool, MatchOption, MatchResult, min};
 ghost use Rattle.tg_pbtable.specs.Message.{Message, IsTable, numbers_of, wire_of, IsInOrder};
 ghost use Rattle.tg_pbtable.specs.Faults.{HasCause, BreaksOrder};
+ghost use Rattle.tg_pbtable.specs.Emitted.{LiesIn};
 ghost use Rattle.tg_pbtable.specs.Reading.{Stands, IsRuled, IsRefused, HasNumberAt, EndsIn, IsLowest};
 ghost use Rattle.tg_pbtable.specs.declared.table.Field.{Field};
 ghost use Rattle.tg_pbtable.specs.declared.fault.PbFault.{PbFault};
@@ -24,6 +25,8 @@ pub fn scan<const N: usize>(
 ) -> Result<Fields, PbFault>
     requires { IsTable rules.now }
     ensures ok { IfOk result (λ fields. Message rules.now order bytes.now fields) }
+    // Each place lies in the text.
+    ensures places { IfOk result (λ fields. All (λ field. LiesIn bytes.now field.value) fields) }
     ensures only { (fields : List Field) → Message rules.now order bytes.now fields
         → MatchResult result (λ found. found ≡ fields) (λ e. e ≡ PbFault.OutOfMemory) }
 
@@ -42,7 +45,7 @@ pub fn scan<const N: usize>(
         Some(number) => Err(PbFault::Missing {
             number: u64::from(number),
         }),
-        None => Ok(Fields { fields }),
+        None => Ok(Fields::new(fields)),
     }
 }
 

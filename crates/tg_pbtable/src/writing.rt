@@ -32,7 +32,7 @@ pub fn emit<const N: usize>(
         × AreSameFields source.now fields.now text.items placed) }
 {
     let mut text = Vec::new(alloc);
-    for field in &fields.fields {
+    for field in fields.as_slice() {
         put_field(&mut text, field, source)?;
     }
     Ok(text)

@@ -9,6 +9,7 @@ use Rattle.tg_pbtable.specs.Faults.{HasCause}
 use Rattle.tg_pbtable.proofs.Causes.{no_cause}
 use Rattle.tg_pbtable.proofs.Spellings.{one_reading}
 use Rattle.tg_pbtable.proofs.Scanning.{nothing_yet, none_in_order, first_unseen, only_oom, that_one, missing_there, whole_message}
+use Rattle.tg_pbtable.proofs.Tables.{places_inside}
 use Rattle.tg_pbtable.proofs.reading.scan.Goals as goal
 
 pub loop-at-init : goal.loop-at-init
@@ -39,13 +40,17 @@ returns-in-Some-clause-given g c = λ fault h.
         [ inl e ↦ inl (ap (λ (x : PbFault). Err x) e) | inr e ↦ inr (ap (λ (x : PbFault). Err x) e) ])
 
 pub returns-in-None-clause-ok : goal.returns-in-None-clause-ok
-returns-in-None-clause-ok g c = whole_message c.args.rules.now c.args.order c.args.bytes.now c.loop-at.fields.items c.loop-at.seen c.loop-at.at c.loop-at-test.false c.loop-at.invariant c.in-None.ensures
+returns-in-None-clause-ok g c = rw c.new.ensures (whole_message c.args.rules.now c.args.order c.args.bytes.now c.loop-at.fields.items c.loop-at.seen c.loop-at.at c.loop-at-test.false c.loop-at.invariant c.in-None.ensures)
 
 pub returns-in-None-clause-only : goal.returns-in-None-clause-only
 returns-in-None-clause-only g c = λ fields m.
-    one_reading 0 c.args.bytes.now c.loop-at.fields.items fields
-    (whole_message c.args.rules.now c.args.order c.args.bytes.now c.loop-at.fields.items c.loop-at.seen c.loop-at.at c.loop-at-test.false c.loop-at.invariant c.in-None.ensures).spelled m.spelled
+    rw c.new.ensures (one_reading 0 c.args.bytes.now c.loop-at.fields.items fields
+    (whole_message c.args.rules.now c.args.order c.args.bytes.now c.loop-at.fields.items c.loop-at.seen c.loop-at.at c.loop-at-test.false c.loop-at.invariant c.in-None.ensures).spelled m.spelled)
 
 pub returns-in-None-clause-given : goal.returns-in-None-clause-given
 returns-in-None-clause-given g c = λ fault h. absurd (no_cause c.args.rules.now c.args.order c.args.bytes.now c.loop-at.fields.items fault c.requires
     (whole_message c.args.rules.now c.args.order c.args.bytes.now c.loop-at.fields.items c.loop-at.seen c.loop-at.at c.loop-at-test.false c.loop-at.invariant c.in-None.ensures) h)
+
+pub returns-in-None-clause-places : goal.returns-in-None-clause-places
+returns-in-None-clause-places g c = rw c.new.ensures (places_inside c.args.bytes.now c.loop-at.fields.items
+    (whole_message c.args.rules.now c.args.order c.args.bytes.now c.loop-at.fields.items c.loop-at.seen c.loop-at.at c.loop-at-test.false c.loop-at.invariant c.in-None.ensures).spelled)
