@@ -87,9 +87,11 @@ same_more source (f ∷ fs) (g ∷ gs) before mid more p same =
     let longer : before ++ (mid ++ more) ≡ before ++ (p.0 ++ (p.1 ++ more)) = ap (λ (t : List ℕ). before ++ t) (ap (λ (t : List ℕ). t ++ more) p.2 ∙ append_assoc p.0 p.1 more) in
     let value = same_value_more source before p.0 p.1 more f.value g.number g.value p.3 (subst (λ (t : List ℕ). IsSameValue source f.value t g.value) whole same.1) in
     let others = same_more source fs gs (before ++ p.0) p.1 more (moved (length before) before p.0 p.1 gs refl p.4)
-    (subst (λ (t : List ℕ). AreSameFields source fs t gs) (whole ∙ sym (append_assoc before p.0 p.1)) same.2) in
-    (same.0, subst (λ (t : List ℕ). IsSameValue source f.value t g.value) (sym longer) value,
-    subst (λ (t : List ℕ). AreSameFields source fs t gs) (append_assoc before p.0 (p.1 ++ more) ∙ sym longer) others)
+    (subst (λ (t : List ℕ). AreSameFields source fs t gs) (whole ∙ sym (append_assoc before p.0 p.1)) same.2) in (
+      same.0,
+      subst (λ (t : List ℕ). IsSameValue source f.value t g.value) (sym longer) value,
+      subst (λ (t : List ℕ). AreSameFields source fs t gs) (append_assoc before p.0 (p.1 ++ more) ∙ sym longer) others,
+    )
 
 same_push : (source text : List ℕ) (fs gs : List Field) (f g : Field) → AreSameFields source fs text gs → f.number ≡ g.number → IsSameValue source f.value text g.value → AreSameFields source (fs ++ f ∷ []) text (gs ++ g ∷ [])
 same_push source text [] [] f g same n v = (n, v, tt)

@@ -61,9 +61,10 @@ count_twice fs gs f n e h = omega (arith, count_append fs (f ∷ gs) n, count_co
 pub ends_in_last : (ns : List ℕ) (n : ℕ) → 0 < length ns → get_or ns (length ns - 1) 0 ≡ n → EndsIn ns n
 ends_in_last ns n some e =
     let last = length ns - 1 in
-    let all : last + 1 ≡ length ns = omega arith in
-    (take last ns,
-    sym (take_all (length ns) ns (omega arith)) ∙ ap (λ (k : ℕ). take k ns) (sym all) ∙ take_more ns last 0 (omega arith) ∙ ap (λ (k : ℕ). take last ns ++ k ∷ []) e)
+    let all : last + 1 ≡ length ns = omega arith in (
+      take last ns,
+      sym (take_all (length ns) ns (omega arith)) ∙ ap (λ (k : ℕ). take k ns) (sym all) ∙ take_more ns last 0 (omega arith) ∙ ap (λ (k : ℕ). take last ns ++ k ∷ []) e,
+    )
 
 pub last_of : (ns : List ℕ) (n : ℕ) → EndsIn ns n → (0 < length ns) × (get_or ns (length ns - 1) 0 ≡ n)
 last_of ns n h =
@@ -186,9 +187,10 @@ numbers_push fs f gs = map-append (λ (x : Field). x.number) fs (f ∷ gs)
 last_number : (fs : List Field) (f : Field) → slice_get fs (length fs - 1) ≡ Some f → (0 < length (numbers_of fs)) × (get_or (numbers_of fs) (length (numbers_of fs) - 1) 0 ≡ f.number)
 last_number fs f e =
     let size : length (numbers_of fs) ≡ length fs = length-map fs (λ (x : Field). x.number) in
-    let in' : length fs - 1 < length fs = slice_get_within fs (length fs - 1) f e in
-    (omega arith,
-    ap (λ (k : ℕ). get_or (numbers_of fs) (k - 1) 0) size ∙ get_or-map (λ (x : Field). x.number) fs (length fs - 1) f 0 in' ∙ ap (λ (x : Field). x.number) (get_or_from_slice_get fs (length fs - 1) f f e))
+    let in' : length fs - 1 < length fs = slice_get_within fs (length fs - 1) f e in (
+      omega arith,
+      ap (λ (k : ℕ). get_or (numbers_of fs) (k - 1) 0) size ∙ get_or-map (λ (x : Field). x.number) fs (length fs - 1) f 0 in' ∙ ap (λ (x : Field). x.number) (get_or_from_slice_get fs (length fs - 1) f f e),
+    )
 
 pub ends_last : (fs : List Field) (f : Field) (n : ℕ) → slice_get fs (length fs - 1) ≡ Some f → f.number ≡ n → EndsIn (numbers_of fs) n
 ends_last fs f n e is = let last = last_number fs f e in ends_in_last (numbers_of fs) n last.0 (last.1 ∙ is)

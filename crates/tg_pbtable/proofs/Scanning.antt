@@ -62,24 +62,24 @@ seen_more rules fields seen i rule f t e r is =
     let all_size : length (map (λ (x : Rule). has_number (fields ++ f ∷ []) x.number) rules) ≡ length rules = length-map rules (λ (x : Rule). has_number (fields ++ f ∷ []) x.number) in
     same_lists (slice_set seen i true) (map (λ (x : Rule). has_number (fields ++ f ∷ []) x.number) rules) (new_size ∙ size ∙ sym all_size)
     (λ (k : ℕ) (d : Bool) (kl : k < length (slice_set seen i true)).
-        let kl' : k < length rules = omega arith in
-        let new : get_or (map (λ (x : Rule). has_number (fields ++ f ∷ []) x.number) rules) k d ≡ has_number (fields ++ f ∷ []) (get_or rules k rule).number =
-        get_or-map (λ (x : Rule). has_number (fields ++ f ∷ []) x.number) rules k rule d kl' in
-        elim (cases_eq k i) [
-          | inl same ↦
-              let here : get_or rules k rule ≡ rule = ap (λ (x : ℕ). get_or rules x rule) same ∙ rule_is rules i rule rule r in
-              let number : f.number ≡ (get_or rules k rule).number = sym is ∙ ap (λ (x : Rule). x.number) (sym here) in
-              let some : 0 < count_of (fields ++ f ∷ []) (get_or rules k rule).number = omega (arith, count_push_same fields f (get_or rules k rule).number number) in
-              ap (λ (x : ℕ). get_or (slice_set seen i true) x d) same ∙ get_or-set_same seen i true d (omega (arith, r.inside))
-              ∙ sym (new ∙ (Decides-ltb 0 (count_of (fields ++ f ∷ []) (get_or rules k rule).number)).1 some)
-          | inr other ↦
-              let number : f.number ≡ (get_or rules k rule).number → ⊥ =
-              λ same. other_number rules i k rule t r.inside kl' other (ap (λ (x : Rule). x.number) (rule_is rules i rule rule r) ∙ is ∙ same) in
-              get_or-set_other seen i k true d other
-              ∙ ap (λ (x : List Bool). get_or x k d) e
-              ∙ get_or-map (λ (x : Rule). has_number fields x.number) rules k rule d kl'
-              ∙ sym (new ∙ ap (nat_lt 0) (count_push_other fields f (get_or rules k rule).number number))
-        ])
+    let kl' : k < length rules = omega arith in
+    let new : get_or (map (λ (x : Rule). has_number (fields ++ f ∷ []) x.number) rules) k d ≡ has_number (fields ++ f ∷ []) (get_or rules k rule).number =
+    get_or-map (λ (x : Rule). has_number (fields ++ f ∷ []) x.number) rules k rule d kl' in
+    elim (cases_eq k i) [
+      | inl same ↦
+          let here : get_or rules k rule ≡ rule = ap (λ (x : ℕ). get_or rules x rule) same ∙ rule_is rules i rule rule r in
+          let number : f.number ≡ (get_or rules k rule).number = sym is ∙ ap (λ (x : Rule). x.number) (sym here) in
+          let some : 0 < count_of (fields ++ f ∷ []) (get_or rules k rule).number = omega (arith, count_push_same fields f (get_or rules k rule).number number) in
+          ap (λ (x : ℕ). get_or (slice_set seen i true) x d) same ∙ get_or-set_same seen i true d (omega (arith, r.inside))
+          ∙ sym (new ∙ (Decides-ltb 0 (count_of (fields ++ f ∷ []) (get_or rules k rule).number)).1 some)
+      | inr other ↦
+          let number : f.number ≡ (get_or rules k rule).number → ⊥ =
+          λ same. other_number rules i k rule t r.inside kl' other (ap (λ (x : Rule). x.number) (rule_is rules i rule rule r) ∙ is ∙ same) in
+          get_or-set_other seen i k true d other
+          ∙ ap (λ (x : List Bool). get_or x k d) e
+          ∙ get_or-map (λ (x : Rule). has_number fields x.number) rules k rule d kl'
+          ∙ sym (new ∙ ap (nat_lt 0) (count_push_other fields f (get_or rules k rule).number number))
+    ])
 
 -- ---- one more field
 
@@ -117,20 +117,22 @@ stands_more rules way text fields seen at i f next t s r inorder once =
     let end : next ≡ length front = omega arith in
     let rest : drop next text ≡ p.behind = ap (drop next) whole ∙ drop_at front p.behind next (sym end) in
     let here : Contains rules r.rule = among rules i r.rule r.rule_at in
-    let spelled : FieldSpelling (0 + length b.front) f p.front = subst (λ (n : ℕ). FieldSpelling n f p.front) (let e : at ≡ 0 + length b.front = omega arith in e) p.spelled in
-    (omega (arith, p.more), record {
-      inside = omega (arith, ap length whole, length-append front p.behind);
-      begins = record {
-        front = front;
-        whole = whole ∙ ap (λ (x : List ℕ). front ++ x) (sym rest);
-        at_is = end;
-        spelled = spelled_push fields f 0 b.front p.front b.spelled spelled;
-        ruled = All-push (λ (x : Field). HasRule rules x.number (wire_of x.value)) fields f b.ruled (record { rule = r.rule; among = here; number_is = r.number_is; wire_is = r.wire_is });
-        counts = λ k d l. count_more rules way fields f r.rule (get_or rules k d) t here r.number_is inorder once (Contains-get_or rules k d l) (b.counts k d l);
-        ordered = subst (λ (ns : List ℕ). IsInOrder way ns) (sym (numbers_push fields f [])) inorder;
-      };
-      seen_is = seen_more rules fields seen i r.rule f t s.seen_is r.rule_at r.number_is;
-    })
+    let spelled : FieldSpelling (0 + length b.front) f p.front = subst (λ (n : ℕ). FieldSpelling n f p.front) (let e : at ≡ 0 + length b.front = omega arith in e) p.spelled in (
+      omega (arith, p.more),
+      record {
+        inside = omega (arith, ap length whole, length-append front p.behind);
+        begins = record {
+          front = front;
+          whole = whole ∙ ap (λ (x : List ℕ). front ++ x) (sym rest);
+          at_is = end;
+          spelled = spelled_push fields f 0 b.front p.front b.spelled spelled;
+          ruled = All-push (λ (x : Field). HasRule rules x.number (wire_of x.value)) fields f b.ruled (record { rule = r.rule; among = here; number_is = r.number_is; wire_is = r.wire_is });
+          counts = λ k d l. count_more rules way fields f r.rule (get_or rules k d) t here r.number_is inorder once (Contains-get_or rules k d l) (b.counts k d l);
+          ordered = subst (λ (ns : List ℕ). IsInOrder way ns) (sym (numbers_push fields f [])) inorder;
+        };
+        seen_is = seen_more rules fields seen i r.rule f t s.seen_is r.rule_at r.number_is;
+      },
+    )
 
 -- ---- refusals
 
@@ -338,6 +340,6 @@ pub first_unseen : (rules : List Rule) (n : ℕ) → length rules ≡ n → repl
 first_unseen rules n e =
     same_lists (replicate n false) (map (λ (x : Rule). has_number [] x.number) rules) (length-replicate n false ∙ sym e ∙ sym (length-map rules (λ (x : Rule). has_number [] x.number)))
     (λ (k : ℕ) (d : Bool) (kl : k < length (replicate n false)).
-        let kn : k < n = omega (arith, length-replicate n false) in
-        let kr : k < length rules = omega arith in
-        get_or-replicate n k false d kn ∙ sym (unseen rules k d kr))
+    let kn : k < n = omega (arith, length-replicate n false) in
+    let kr : k < length rules = omega arith in
+    get_or-replicate n k false d kn ∙ sym (unseen rules k d kr))

@@ -33,9 +33,10 @@ number_whole number value bytes r p = ap (λ (t : List ℕ). t ++ r) p.whole ∙
 
 -- lists of one length at the front are the same
 same_front : (a b r s : List ℕ) → length a ≡ length b → a ++ r ≡ b ++ s → (a ≡ b) × (r ≡ s)
-same_front a b r s l e =
-    (sym (take_at a r (length a) refl) ∙ ap (take (length a)) e ∙ take_at b s (length a) (sym l),
-    sym (drop_at a r (length a) refl) ∙ ap (drop (length a)) e ∙ drop_at b s (length a) (sym l))
+same_front a b r s l e = (
+  sym (take_at a r (length a) refl) ∙ ap (take (length a)) e ∙ take_at b s (length a) (sym l),
+  sym (drop_at a r (length a) refl) ∙ ap (drop (length a)) e ∙ drop_at b s (length a) (sym l),
+)
 
 pub one_value : (at m n : ℕ) (v w : Value) (a b r s : List ℕ) → ValueSpelling at m v a → ValueSpelling at n w b → a ++ r ≡ b ++ s → (m ≡ n) × (v ≡ w) × (a ≡ b) × (r ≡ s)
 one_value at m n (Number i) (Number j) a b r s p q e =
@@ -58,9 +59,12 @@ one_value at m n (Place start end) (Place from to) a b r s p q e =
     let size_lengths : length p.size ≡ length q.size = ap length sizes.1 in
     let lengths : length p.content ≡ length q.content = sizes.0 in
     let starts : start ≡ from = omega (arith, p.start_is, q.start_is) in
-    let ends : end ≡ to = omega (arith, p.end_is, q.end_is) in
-    (keys.0, ap₂ (λ (x y : ℕ). Place x y) starts ends,
-    p.whole ∙ ap₂ (λ (x y : List ℕ). x ++ y) keys.2 (ap₂ (λ (x y : List ℕ). x ++ y) sizes.1 contents.0) ∙ sym q.whole, contents.1)
+    let ends : end ≡ to = omega (arith, p.end_is, q.end_is) in (
+      keys.0,
+      ap₂ (λ (x y : ℕ). Place x y) starts ends,
+      p.whole ∙ ap₂ (λ (x y : List ℕ). x ++ y) keys.2 (ap₂ (λ (x y : List ℕ). x ++ y) sizes.1 contents.0) ∙ sym q.whole,
+      contents.1,
+    )
 
 pub one_field : (at : ℕ) (f g : Field) (a b r s : List ℕ) → FieldSpelling at f a → FieldSpelling at g b → a ++ r ≡ b ++ s → (f ≡ g) × (a ≡ b) × (r ≡ s)
 one_field at f g a b r s p q e =

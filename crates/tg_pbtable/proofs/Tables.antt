@@ -17,9 +17,10 @@ use Rattle.tg_pbtable.proofs.Spellings.{moved}
 
 value_inside : (before front rest : List ℕ) (number : ℕ) (v : Value) → ValueSpelling (length before) number v front → LiesIn (before ++ (front ++ rest)) v
 value_inside before front rest number (Number n) p = tt
-value_inside before front rest number (Place start end) p =
-    (omega (arith, p.end_is),
-    omega (arith, p.start_is, p.end_is, ap length p.whole, length-append before (front ++ rest), length-append front rest, length-append p.key (p.size ++ p.content), length-append p.size p.content))
+value_inside before front rest number (Place start end) p = (
+  omega (arith, p.end_is),
+  omega (arith, p.start_is, p.end_is, ap length p.whole, length-append before (front ++ rest), length-append front rest, length-append p.key (p.size ++ p.content), length-append p.size p.content),
+)
 
 inside : (fs : List Field) (before mid : List ℕ) → Spelled (length before) fs mid → All (λ (f : Field). LiesIn (before ++ mid) f.value) fs
 inside [] before mid p = All-nil (λ (f : Field). LiesIn (before ++ mid) f.value)

@@ -31,7 +31,6 @@ last_counts : (ys : List ℕ) (m : ℕ) → 0 < m → m < 128 → 0 < number_of 
 last_counts [] m p l = omega arith
 last_counts (y ∷ ys) m p l = omega (arith, last_counts ys m p l)
 
-
 -- ---- the first byte with no high bit
 
 pub first_stop : (f g : List ℕ) (l m : ℕ) (r s : List ℕ) → AllGoOn f → l < 128 → AllGoOn g → m < 128 → f ++ l ∷ r ≡ g ++ m ∷ s → (f ≡ g) × (l ≡ m) × (r ≡ s)
@@ -147,7 +146,7 @@ same_bytes n a b v w =
     let h = w.groups in
     let number : number_of (g.front ++ g.last ∷ []) ≡ number_of (h.front ++ h.last ∷ []) = sym (ap number_of g.whole) ∙ sym g.spells ∙ h.spells ∙ ap number_of h.whole in
     g.whole ∙ one_spelling g.front h.front g.last h.last g.goes_on (front_bytes g.front g.last (subst (λ (t : List ℕ). All (λ (b : ℕ). b < 256) t) g.whole g.are_bytes))
-        h.goes_on (front_bytes h.front h.last (subst (λ (t : List ℕ). All (λ (b : ℕ). b < 256) t) h.whole h.are_bytes)) g.ends h.ends g.shortest h.shortest number
+    h.goes_on (front_bytes h.front h.last (subst (λ (t : List ℕ). All (λ (b : ℕ). b < 256) t) h.whole h.are_bytes)) g.ends h.ends g.shortest h.shortest number
     ∙ sym h.whole
 
 pub not_empty : (n : ℕ) (a : List ℕ) → VarintSpelling n a → 0 < length a

@@ -77,37 +77,41 @@ spelled_there : (at number : ℕ) (rest : List ℕ) (size wire : ℕ) (v : Value
     → (wire ≡ wire_code (wire_of v)) × IsSpelledAt at rest number v next
 spelled_there at number rest size wire (Number n) next k l h =
     let whole : rest ≡ (k.key ++ h.amount) ++ h.rest = k.whole ∙ ap (λ (t : List ℕ). k.key ++ t) h.whole ∙ sym (append_assoc k.key h.amount h.rest) in
-    let key_is : KeySpelling number 0 k.key = subst (λ (w : ℕ). KeySpelling number w k.key) h.wire_is k.key_is in
-    (h.wire_is, record {
-      front = k.key ++ h.amount;
-      behind = h.rest;
-      whole = whole;
-      spelled = record { key = k.key; amount = h.amount; whole = refl; key_is = key_is; amount_is = h.amount_is };
-      next_is = omega (arith, h.next_is, length-append k.key h.amount);
-      more = omega (arith, length-append k.key h.amount, not_empty (number * 8 + 0) k.key key_is);
-    })
+    let key_is : KeySpelling number 0 k.key = subst (λ (w : ℕ). KeySpelling number w k.key) h.wire_is k.key_is in (
+      h.wire_is,
+      record {
+        front = k.key ++ h.amount;
+        behind = h.rest;
+        whole = whole;
+        spelled = record { key = k.key; amount = h.amount; whole = refl; key_is = key_is; amount_is = h.amount_is };
+        next_is = omega (arith, h.next_is, length-append k.key h.amount);
+        more = omega (arith, length-append k.key h.amount, not_empty (number * 8 + 0) k.key key_is);
+      },
+    )
 spelled_there at number rest size wire (Place start end) next k l h =
     let whole : rest ≡ (k.key ++ (h.size ++ h.content)) ++ h.rest =
     k.whole ∙ ap (λ (t : List ℕ). k.key ++ t) (h.whole ∙ sym (append_assoc h.size h.content h.rest)) ∙ sym (append_assoc k.key (h.size ++ h.content) h.rest) in
-    let key_is : KeySpelling number 2 k.key = subst (λ (w : ℕ). KeySpelling number w k.key) h.wire_is k.key_is in
-    (h.wire_is, record {
-      front = k.key ++ (h.size ++ h.content);
-      behind = h.rest;
-      whole = whole;
-      spelled = record {
-        key = k.key;
-        size = h.size;
-        content = h.content;
-        whole = refl;
-        key_is = key_is;
-        size_is = h.size_is;
-        are_bytes = h.are_bytes;
-        start_is = omega (arith, h.start_is);
-        end_is = h.end_is;
-      };
-      next_is = omega (arith, h.next_is, h.end_is, h.start_is, length-append k.key (h.size ++ h.content), length-append h.size h.content);
-      more = omega (arith, length-append k.key (h.size ++ h.content), not_empty (number * 8 + 2) k.key key_is);
-    })
+    let key_is : KeySpelling number 2 k.key = subst (λ (w : ℕ). KeySpelling number w k.key) h.wire_is k.key_is in (
+      h.wire_is,
+      record {
+        front = k.key ++ (h.size ++ h.content);
+        behind = h.rest;
+        whole = whole;
+        spelled = record {
+          key = k.key;
+          size = h.size;
+          content = h.content;
+          whole = refl;
+          key_is = key_is;
+          size_is = h.size_is;
+          are_bytes = h.are_bytes;
+          start_is = omega (arith, h.start_is);
+          end_is = h.end_is;
+        };
+        next_is = omega (arith, h.next_is, h.end_is, h.start_is, length-append k.key (h.size ++ h.content), length-append h.size h.content);
+        more = omega (arith, length-append k.key (h.size ++ h.content), not_empty (number * 8 + 2) k.key key_is);
+      },
+    )
 
 value_of : (at number : ℕ) (rest : List ℕ) (size wire : ℕ) (v : Option (Value × ℕ)) (k : HasKey number wire rest (drop size rest)) → length k.key ≡ size → IsValueAt (at + size) (drop size rest) wire v → IsValueOf at rest number wire v
 value_of at number rest size wire None k l h = h

@@ -8,7 +8,7 @@ ghost use Rattle.tg_pbtable.specs.declared.table.Field.{Field};
 ghost use Rattle.tg_pbtable.specs.declared.fault.PbFault.{PbFault};
 
 use crate::fault::PbFault;
-use crate::raw::{field_at, ReadFault};
+use crate::raw::{ReadFault, field_at};
 use crate::table::{Field, Fields, Order, Rule, Times, Value, Wire};
 use std::alloc::Global;
 
@@ -78,7 +78,11 @@ fn take_field<const N: usize>(
 }
 
 /// The index of the rule of the field at `at`, the field, and where the next one begins.
-fn ruled_field<const N: usize>(rules: &[Rule; N], bytes: &[u8], at: usize) -> Result<(usize, Field, usize), PbFault>
+fn ruled_field<const N: usize>(
+    rules: &[Rule; N],
+    bytes: &[u8],
+    at: usize,
+) -> Result<(usize, Field, usize), PbFault>
     requires { at < length bytes.now }
     ensures { MatchResult result (λ r. IsRuled rules.now at (drop at bytes.now) r.0 r.1 r.2)
         (λ e. IsRefused rules.now at (drop at bytes.now) e) }
@@ -111,7 +115,9 @@ fn rule_of<const N: usize>(rules: &[Rule; N], number: u64) -> Option<usize>
     ensures { MatchOption result (All (λ rule. rule.number ≢ number) rules.now)
         (λ i. HasNumberAt rules.now i number) }
 {
-    rules.iter().position(|rule| u64::from(rule.number) == number)
+    rules
+        .iter()
+        .position(|rule| u64::from(rule.number) == number)
 }
 
 /// How a value is spelled.

@@ -41,6 +41,8 @@ loop-i-preserved c =
     let is : c.from.result ≡ byte % 128 = omega arith in
     let last : c.loop-i.i ≡ 9 → byte ≡ 1 = λ e. elim c.else-i-eq9.branch [ else-i-eq9-via-then-i-eq9+else-byte-ne1 w ↦ omega arith | else-i-eq9-via-else-i-eq9 w ↦ omega arith ] in
     let high : 128 ≤ byte = omega arith in
-    let few : c.loop-i.i + 1 < 10 = elim c.else-i-eq9.branch [ else-i-eq9-via-then-i-eq9+else-byte-ne1 w ↦ omega arith | else-i-eq9-via-else-i-eq9 w ↦ omega arith ] in
-    (few, go_on c.args.bytes.now c.loop-i.i byte (omega arith) c.loop-i.invariant.1 high refl,
-    subst (λ (n : ℕ). c.loop-i.number + n * 2 ^ (7 * c.loop-i.i) % 2 ^ 64 ≡ number_of (take (c.loop-i.i + 1) c.args.bytes.now)) (sym is) (sum_is c.args.bytes.now c.loop-i.i byte c.loop-i.number (omega arith) c.loop-i.invariant.0 last c.loop-i.invariant.2 refl))
+    let few : c.loop-i.i + 1 < 10 = elim c.else-i-eq9.branch [ else-i-eq9-via-then-i-eq9+else-byte-ne1 w ↦ omega arith | else-i-eq9-via-else-i-eq9 w ↦ omega arith ] in (
+      few,
+      go_on c.args.bytes.now c.loop-i.i byte (omega arith) c.loop-i.invariant.1 high refl,
+      subst (λ (n : ℕ). c.loop-i.number + n * 2 ^ (7 * c.loop-i.i) % 2 ^ 64 ≡ number_of (take (c.loop-i.i + 1) c.args.bytes.now)) (sym is) (sum_is c.args.bytes.now c.loop-i.i byte c.loop-i.number (omega arith) c.loop-i.invariant.0 last c.loop-i.invariant.2 refl),
+    )

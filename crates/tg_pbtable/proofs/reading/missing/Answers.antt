@@ -36,9 +36,9 @@ loop-i-preserved g c =
       | else-eq w ↦
           subst (λ (low : Option ℕ). IsLowest rules seen (i + 1) low) (sym w.lowest-is)
           (keep_lowest rules seen i c.loop-i.lowest within
-            (λ d asks. elim w.else-eq.branch [
-              | else-eq-via-then-eq+else-not-seen-i v ↦ v.if-not-seen-i.false
-              | else-eq-via-else-eq v ↦ absurd (not_one rule.times (sym c.eq.ensures ∙ v.if-eq.false) (ap (λ (x : Rule). x.times) (get_or_default rules i _ d within) ∙ asks))
-            ])
-            c.loop-i.invariant)
+          (λ d asks. elim w.else-eq.branch [
+            | else-eq-via-then-eq+else-not-seen-i v ↦ v.if-not-seen-i.false
+            | else-eq-via-else-eq v ↦ absurd (not_one rule.times (sym c.eq.ensures ∙ v.if-eq.false) (ap (λ (x : Rule). x.times) (get_or_default rules i _ d within) ∙ asks))
+          ])
+          c.loop-i.invariant)
     ]

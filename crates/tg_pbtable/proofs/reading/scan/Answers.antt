@@ -36,8 +36,8 @@ returns-in-Some-clause-only g c = λ fields m.
 pub returns-in-Some-clause-given : goal.returns-in-Some-clause-given
 returns-in-Some-clause-given g c = λ fault h.
     rw c.from.ensures (elim (that_one c.args.rules.now c.args.order c.args.bytes.now (Missing c.in-Some.number) c.requires
-        (inr (missing_there c.args.rules.now c.args.order c.args.bytes.now c.loop-at.fields.items c.loop-at.seen c.loop-at.at c.in-Some.number c.loop-at-test.false c.loop-at.invariant c.in-Some.ensures)) fault h)
-        [ inl e ↦ inl (ap (λ (x : PbFault). Err x) e) | inr e ↦ inr (ap (λ (x : PbFault). Err x) e) ])
+    (inr (missing_there c.args.rules.now c.args.order c.args.bytes.now c.loop-at.fields.items c.loop-at.seen c.loop-at.at c.in-Some.number c.loop-at-test.false c.loop-at.invariant c.in-Some.ensures)) fault h)
+    [ inl e ↦ inl (ap (λ (x : PbFault). Err x) e) | inr e ↦ inr (ap (λ (x : PbFault). Err x) e) ])
 
 pub returns-in-None-clause-ok : goal.returns-in-None-clause-ok
 returns-in-None-clause-ok g c = rw c.new.ensures (whole_message c.args.rules.now c.args.order c.args.bytes.now c.loop-at.fields.items c.loop-at.seen c.loop-at.at c.loop-at-test.false c.loop-at.invariant c.in-None.ensures)

@@ -48,10 +48,10 @@ returns g c =
     let inorder : IsInOrder c.args.order (numbers_of fields ++ number ∷ []) =
     subst (λ (fs : List Field). IsInOrder c.args.order (numbers_of fs ++ number ∷ [])) c.as_slice.ensures.value c.if-is_out_of_order.ensures in
     let once : c.in_ok-index.ensures.rule.times ≢ Many → EndsIn (numbers_of fields) number → ⊥ = λ not_many' ends.
-        elim c.else-follows_itself.branch [
-          | else-follows_itself-via-then-follows_itself+else-ne w ↦ not_many' (times_is c.args.rules.now c.args.at _ c.in_ok-index.index c.in_ok-index.field c.in_ok-index.next _ c.in_ok-index.ensures (is_many _ (sym w.ne.ensures ∙ w.if-ne.false)))
-          | else-follows_itself-via-else-follows_itself w ↦
-              false_true (sym w.if-follows_itself.false ∙ c.follows_itself.ensures.1 (subst (λ (fs : List Field). EndsIn (numbers_of fs) number) (sym c.as_slice-2.ensures.value) ends))
-        ] in
+    elim c.else-follows_itself.branch [
+      | else-follows_itself-via-then-follows_itself+else-ne w ↦ not_many' (times_is c.args.rules.now c.args.at _ c.in_ok-index.index c.in_ok-index.field c.in_ok-index.next _ c.in_ok-index.ensures (is_many _ (sym w.ne.ensures ∙ w.if-ne.false)))
+      | else-follows_itself-via-else-follows_itself w ↦
+          false_true (sym w.if-follows_itself.false ∙ c.follows_itself.ensures.1 (subst (λ (fs : List Field). EndsIn (numbers_of fs) number) (sym c.as_slice-2.ensures.value) ends))
+    ] in
     rw c.in_ok-push.ensures.items
     (stands_more c.args.rules.now c.args.order c.args.bytes.now fields c.args.seen.now c.args.at c.in_ok-index.index c.in_ok-index.field c.in_ok-index.next c.requires.table c.requires.stands c.in_ok-index.ensures inorder once)
