@@ -1,16 +1,16 @@
 -- The text of fields, one field after another.
-use Rattle.std.proofs.Common.{◌≡◌, ℕ, zero, suc, ◌+◌, ◌-◌, ◌*◌, ◌/◌, ◌%◌, ◌^◌, ◌<◌, ◌≤◌, ◌≢◌, ◌⊎◌, cond, List, [], ◌∷◌, ◌++◌, length, take, drop, get_or, refl, sym, ap, ap₂, ◌∙◌, append_assoc, subst, inl, inr, arith}
+use Rattle.std.proofs.Common.{◌≡◌, ℕ, ◌+◌, ◌-◌, ◌*◌, ◌<◌, cond, List, [], ◌∷◌, ◌++◌, length, drop, get_or, refl, sym, ap, ap₂, ◌∙◌, append_assoc, subst, arith}
 use Rattle.std.specs.Prelude.{All, slice_range, ◌==◌, Result, Ok, Err, OnOk}
 use Rattle.std.specs.Result.{is_ok}
 use Rattle.std.proofs.lemmas.List.{length-append, append-nil}
-use Rattle.std.proofs.lemmas.List.Elements.{All-nil, All-cons, All-head, All-tail, All-take, All-drop}
+use Rattle.std.proofs.lemmas.List.Elements.{All-cons, All-head, All-tail, All-take, All-drop}
 use Rattle.tg_pbtable.specs.declared.table.Rule.{Rule}
 use Rattle.tg_pbtable.specs.declared.table.Order.{Order}
 use Rattle.tg_pbtable.specs.declared.table.Field.{Field}
 use Rattle.tg_pbtable.specs.declared.table.Value.{Value}
 use Rattle.tg_pbtable.specs.declared.table.Value.TheVariants.{Number, Place}
 use Rattle.tg_pbtable.specs.Varint.{VarintSpelling}
-use Rattle.tg_pbtable.specs.Message.{Message, ValueSpelling, FieldSpelling, Spelled, HasRule, AreRuled, IsCount, IsInOrder, count_of, numbers_of, wire_of, wire_code}
+use Rattle.tg_pbtable.specs.Message.{Message, ValueSpelling, FieldSpelling, Spelled, HasRule, AreRuled, IsCount, IsInOrder, count_of, numbers_of, wire_of}
 use Rattle.tg_pbtable.specs.Emitted.{IsSameValue, AreSameFields}
 use Rattle.tg_pbtable.specs.Writing.{Puts, PutsVarint}
 use Rattle.tg_pbtable.proofs.Numbers.{count_cons}

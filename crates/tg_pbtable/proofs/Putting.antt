@@ -1,11 +1,11 @@
 -- The groups of a number put one by one.
-use Rattle.std.proofs.Common.{◌≡◌, ℕ, zero, suc, ◌+◌, ◌-◌, ◌*◌, ◌/◌, ◌%◌, ◌^◌, ◌<◌, ◌≤◌, ◌≢◌, ◌⊎◌, List, [], ◌∷◌, ◌++◌, length, refl, sym, ap, ap₂, ◌∙◌, append_assoc, subst, inl, inr, arith}
+use Rattle.std.proofs.Common.{◌≡◌, ℕ, suc, ◌+◌, ◌*◌, ◌/◌, ◌%◌, ◌^◌, ◌<◌, ◌≤◌, List, [], ◌∷◌, ◌++◌, length, refl, sym, ap, ap₂, ◌∙◌, append_assoc, subst, inl, inr, arith}
 use Rattle.std.specs.Prelude.{All}
 use Rattle.std.proofs.lemmas.Bool.{cases_lt}
 use Rattle.std.proofs.lemmas.List.{length-append, append-nil}
 use Rattle.std.proofs.lemmas.List.Elements.{All-push, All-nil}
-use Rattle.std.proofs.lemmas.Nat.{pow_pos, pow-add, pow_below, mul-le}
-use Rattle.tg_pbtable.specs.Varint.{number_of, AllGoOn, Groups, VarintSpelling}
+use Rattle.std.proofs.lemmas.Nat.{pow-add, pow_below, mul-le}
+use Rattle.tg_pbtable.specs.Varint.{number_of, AllGoOn}
 use Rattle.tg_pbtable.specs.Writing.{PutsVarint}
 use Rattle.tg_pbtable.proofs.Varints.{number_push}
 

@@ -1,11 +1,11 @@
 -- The steps of a scan, and what its end says.
-use Rattle.std.proofs.Common.{◌≡◌, ℕ, zero, suc, ◌+◌, ◌-◌, ◌<◌, ◌≤◌, ◌≢◌, ◌⊎◌, Option, Some, None, Bool, true, false, List, [], ◌∷◌, ◌++◌, length, take, drop, get_or, map, refl, sym, ap, ap₂, ◌∙◌, append_assoc, subst, inl, inr, arith, min}
-use Rattle.std.specs.Prelude.{All, Contains, MatchOption, IfOk, IfErr, MatchResult, Result, Ok, Err, nat_lt, slice_get, slice_set, replicate}
-use Rattle.std.proofs.lemmas.Bool.{cases_lt, cases_eq, cases_order, cases_Bool}
+use Rattle.std.proofs.Common.{◌≡◌, ℕ, zero, suc, ◌+◌, ◌<◌, ◌≤◌, ◌≢◌, ◌⊎◌, Option, Some, None, Bool, true, false, List, [], ◌∷◌, ◌++◌, length, drop, get_or, map, refl, sym, ap, ◌∙◌, append_assoc, subst, inl, inr, arith, min}
+use Rattle.std.specs.Prelude.{Contains, MatchOption, nat_lt, slice_set, replicate}
+use Rattle.std.proofs.lemmas.Bool.{cases_lt, cases_eq, cases_order}
 use Rattle.std.proofs.lemmas.Bool.Decides.{Decides-ltb}
-use Rattle.std.proofs.lemmas.List.{length-append, length-drop, length-map, length-set, append-nil, drop_at, drop_all, get_or-map, get_or_default, get_or-set_same, get_or-set_other, same_lists, length-replicate, get_or-replicate}
+use Rattle.std.proofs.lemmas.List.{length-append, length-drop, length-map, length-set, append-nil, drop_at, drop_all, get_or-map, get_or-set_same, get_or-set_other, same_lists, length-replicate, get_or-replicate}
 use Rattle.std.proofs.lemmas.List.Elements.{All-push, Contains-get_or}
-use Rattle.std.proofs.lemmas.Option.{get_or_from_slice_get, slice_get_within}
+use Rattle.std.proofs.lemmas.Option.{get_or_from_slice_get}
 use Rattle.tg_pbtable.specs.declared.table.Rule.{Rule}
 use Rattle.tg_pbtable.specs.declared.table.Times.{Times}
 use Rattle.tg_pbtable.specs.declared.table.Times.TheVariants.{One, Optional, Many}
@@ -14,9 +14,9 @@ use Rattle.tg_pbtable.specs.declared.table.Order.TheVariants.{Ascending, Runs}
 use Rattle.tg_pbtable.specs.declared.table.Field.{Field}
 use Rattle.tg_pbtable.specs.declared.fault.PbFault.{PbFault}
 use Rattle.tg_pbtable.specs.declared.fault.PbFault.TheVariants as faults
-use Rattle.tg_pbtable.specs.Message.{Message, IsTable, Spelled, FieldSpelling, AreRuled, HasRule, count_of, numbers_of, IsInOrder, IsAtMost, IsCount, wire_of, wire_code}
-use Rattle.tg_pbtable.specs.Faults.{Begins, FirstAt, HasCause, IsMissing, HasRuled, BreaksOrder}
-use Rattle.tg_pbtable.specs.Reading.{Stands, IsRuled, IsRuleAt, IsRefused, EndsIn, has_number, AreMet, IsLowest, IsLowestUnmet}
+use Rattle.tg_pbtable.specs.Message.{Message, IsTable, Spelled, FieldSpelling, HasRule, count_of, numbers_of, IsInOrder, IsAtMost, IsCount, wire_of}
+use Rattle.tg_pbtable.specs.Faults.{Begins, HasCause, HasRuled, BreaksOrder}
+use Rattle.tg_pbtable.specs.Reading.{Stands, IsRuled, IsRuleAt, EndsIn, has_number, AreMet, IsLowest, IsLowestUnmet}
 use Rattle.tg_pbtable.proofs.Causes.{one_rule, one_cause, no_cause}
 use Rattle.tg_pbtable.proofs.Numbers.{count_push_same, count_push_other, contains_count, count_contains, none_before, numbers_push}
 use Rattle.tg_pbtable.proofs.Spellings.{spelled_push}

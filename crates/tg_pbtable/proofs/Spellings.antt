@@ -1,12 +1,12 @@
 -- Fields at the front of bytes: one field at each place, and one text for the same fields.
-use Rattle.std.proofs.Common.{◌≡◌, ℕ, zero, suc, ◌+◌, ◌-◌, ◌*◌, ◌/◌, ◌%◌, ◌^◌, ◌<◌, ◌≤◌, ◌≢◌, ◌⊎◌, List, [], ◌∷◌, ◌++◌, length, take, drop, get_or, refl, sym, ap, ap₂, ◌∙◌, append_assoc, subst, inl, inr, arith}
-use Rattle.std.specs.Prelude.{All, slice_range}
-use Rattle.std.proofs.lemmas.List.{length-append, append-nil, take_at, drop_at, nil_from_length}
+use Rattle.std.proofs.Common.{◌≡◌, ℕ, ◌+◌, ◌-◌, ◌*◌, ◌<◌, ◌⊎◌, List, [], ◌∷◌, ◌++◌, length, take, drop, refl, sym, ap, ap₂, ◌∙◌, append_assoc, subst, inl, inr, arith}
+use Rattle.std.specs.Prelude.{slice_range}
+use Rattle.std.proofs.lemmas.List.{length-append, append-nil, take_at, drop_at}
 use Rattle.tg_pbtable.specs.declared.table.Field.{Field}
 use Rattle.tg_pbtable.specs.declared.table.Value.{Value}
 use Rattle.tg_pbtable.specs.declared.table.Value.TheVariants.{Number, Place}
 use Rattle.tg_pbtable.specs.Varint.{VarintSpelling}
-use Rattle.tg_pbtable.specs.Message.{KeySpelling, NumberSpelling, PlaceSpelling, ValueSpelling, FieldSpelling, Spelled, wire_of, wire_code}
+use Rattle.tg_pbtable.specs.Message.{KeySpelling, NumberSpelling, PlaceSpelling, ValueSpelling, FieldSpelling, Spelled}
 use Rattle.tg_pbtable.specs.Emitted.{IsSameValue, AreSameFields}
 use Rattle.tg_pbtable.proofs.Varints.{one_number, same_bytes, not_empty}
 
@@ -45,11 +45,11 @@ one_value at m n (Number i) (Number j) a b r s p q e =
     (keys.0, ap (λ (x : ℕ). Number x) amounts.0, p.whole ∙ ap₂ (λ (x y : List ℕ). x ++ y) keys.2 amounts.1 ∙ sym q.whole, amounts.2)
 one_value at m n (Number i) (Place start end) a b r s p q e =
     let keys = one_key m n 0 2 p.key q.key (p.amount ++ r) (q.size ++ (q.content ++ s)) (omega arith) (omega arith) p.key_is q.key_is (sym (number_whole m i a r p) ∙ e ∙ place_whole at n start end b s q) in
-    let wires : 0 ≡ 2 = keys.1 in
+    let wires : ◌≡◌ {A = ℕ} 0 2 = keys.1 in
     absurd (omega arith)
 one_value at m n (Place start end) (Number j) a b r s p q e =
     let keys = one_key m n 2 0 p.key q.key (p.size ++ (p.content ++ r)) (q.amount ++ s) (omega arith) (omega arith) p.key_is q.key_is (sym (place_whole at m start end a r p) ∙ e ∙ number_whole n j b s q) in
-    let wires : 2 ≡ 0 = keys.1 in
+    let wires : ◌≡◌ {A = ℕ} 2 0 = keys.1 in
     absurd (omega arith)
 one_value at m n (Place start end) (Place from to) a b r s p q e =
     let keys = one_key m n 2 2 p.key q.key (p.size ++ (p.content ++ r)) (q.size ++ (q.content ++ s)) (omega arith) (omega arith) p.key_is q.key_is (sym (place_whole at m start end a r p) ∙ e ∙ place_whole at n from to b s q) in

@@ -1,13 +1,12 @@
 -- One spelling of a number, and one number at the front of bytes.
-use Rattle.std.proofs.Common.{◌≡◌, ℕ, zero, suc, ◌+◌, ◌-◌, ◌*◌, ◌/◌, ◌%◌, ◌^◌, ◌<◌, ◌≤◌, ◌≢◌, ◌⊎◌, List, [], ◌∷◌, ◌++◌, length, take, drop, get_or, refl, sym, ap, ap₂, ◌∙◌, append_assoc, subst, inl, inr, arith}
+use Rattle.std.proofs.Common.{◌≡◌, ℕ, suc, ◌+◌, ◌*◌, ◌%◌, ◌^◌, ◌<◌, ◌≤◌, ◌≢◌, List, [], ◌∷◌, ◌++◌, length, take, drop, get_or, refl, sym, ap, ap₂, ◌∙◌, append_assoc, subst, inl, inr, arith}
 use Rattle.std.specs.Prelude.{All}
-use Rattle.std.proofs.Math.Nat.{mod-lt}
-use Rattle.std.proofs.lemmas.Bool.{cases_lt, cases_eq}
-use Rattle.std.proofs.lemmas.List.{length-append, append-nil, get_or_at, get_or-take, length-take-le, take-append-drop, drop_more, take_more, take_all}
-use Rattle.std.proofs.lemmas.List.Elements.{All-push, All-nil, All-cons, All-head, All-tail, All-get_or, All-append, All-take, All-more}
-use Rattle.std.proofs.lemmas.Nat.{pow_pos, pow-add, pow_below, shl_whole, shl_below}
+use Rattle.std.proofs.lemmas.Bool.{cases_lt}
+use Rattle.std.proofs.lemmas.List.{length-append, get_or_at, get_or-take, length-take-le, take-append-drop, drop_more, take_more, take_all}
+use Rattle.std.proofs.lemmas.List.Elements.{All-push, All-nil, All-cons, All-head, All-tail, All-get_or, All-take, All-more}
+use Rattle.std.proofs.lemmas.Nat.{pow-add, pow_below, shl_whole, shl_below}
 use Rattle.tg_pbtable.specs.Reading.{IsVarintAt}
-use Rattle.tg_pbtable.specs.Varint.{number_of, AllGoOn, Groups, VarintSpelling, EndsInside, PassesTen, EndsInZero, PassesRange, IsBadVarint}
+use Rattle.tg_pbtable.specs.Varint.{number_of, AllGoOn, Groups, VarintSpelling, EndsInside, PassesTen, IsBadVarint}
 
 -- ---- the number
 

@@ -1,19 +1,18 @@
 -- Fields read from bytes, and why none is read: of these one holds at a place.
-use Rattle.std.proofs.Common.{◌≡◌, ℕ, zero, suc, ◌+◌, ◌-◌, ◌*◌, ◌/◌, ◌%◌, ◌^◌, ◌<◌, ◌≤◌, ◌≢◌, ◌⊎◌, Option, Some, None, List, [], ◌∷◌, ◌++◌, length, take, drop, get_or, refl, sym, ap, ap₂, ◌∙◌, append_assoc, subst, inl, inr, arith}
+use Rattle.std.proofs.Common.{◌≡◌, ℕ, ◌+◌, ◌-◌, ◌*◌, ◌/◌, ◌%◌, ◌<◌, ◌≤◌, ◌⊎◌, Option, Some, None, List, ◌++◌, length, take, drop, refl, sym, ap, ◌∙◌, append_assoc, subst, inl, inr, arith}
 use Rattle.std.specs.Prelude.{All}
 use Rattle.std.proofs.lemmas.List.{length-append, length-drop, length-take-le, take-append-drop, drop-drop, take_rest}
 use Rattle.std.proofs.lemmas.List.Elements.{All-take, All-drop}
 use Rattle.tg_pbtable.specs.declared.table.Value.{Value}
 use Rattle.tg_pbtable.specs.declared.table.Value.TheVariants.{Number, Place}
-use Rattle.tg_pbtable.specs.declared.raw.RawField.{RawField}
 use Rattle.tg_pbtable.specs.declared.raw.ReadFault.{ReadFault}
 use Rattle.tg_pbtable.specs.declared.raw.ReadFault.TheVariants.{Short, Bad}
 use Rattle.tg_pbtable.specs.Varint.{VarintSpelling, EndsInside, IsBadVarint}
-use Rattle.tg_pbtable.specs.Message.{KeySpelling, NumberSpelling, PlaceSpelling, ValueSpelling, wire_of, wire_code}
-use Rattle.tg_pbtable.specs.Faults.{HasKey, EndsInBytes, EndsInValue, IsShort, HasBadVarint, HasNumber, HasBytes, HasValue, HasField}
+use Rattle.tg_pbtable.specs.Message.{KeySpelling, ValueSpelling, wire_of, wire_code}
+use Rattle.tg_pbtable.specs.Faults.{HasKey, EndsInValue, IsShort, HasBadVarint, HasValue, HasField}
 use Rattle.tg_pbtable.specs.Reading.{IsVarintAt, IsNumberAt, IsPlaceAt, IsSomeValueAt, IsValueAt, IsValueFault, IsSpelledAt, IsValueOf, IsFieldAt, IsFieldFault}
 use Rattle.tg_pbtable.proofs.Varints.{short_number, short_bad, bad_number, one_number, not_empty}
-use Rattle.tg_pbtable.proofs.Spellings.{one_key, value_more}
+use Rattle.tg_pbtable.proofs.Spellings.{one_key}
 
 -- ---- what is read
 

@@ -1,8 +1,7 @@
 -- What the scanner's private functions say.
-use Rattle.std.specs.Prelude.{◌≡◌, ◌≢◌, ℕ, ◌+◌, ◌<◌, ◌≤◌, ◌⊎◌, Option, Some, None, Bool, true, false, List, [], ◌∷◌, ◌++◌, length, take, drop, map, All, Contains, slice_get, slice_index_or, nat_lt}
+use Rattle.std.specs.Prelude.{◌≡◌, ◌≢◌, ℕ, ◌+◌, ◌<◌, ◌≤◌, ◌⊎◌, Option, Some, None, Bool, true, false, List, [], ◌∷◌, ◌++◌, length, take, drop, map, All, slice_get, slice_index_or, nat_lt}
 use Rattle.tg_pbtable.specs.declared.table.Rule.{Rule}
-use Rattle.tg_pbtable.specs.declared.table.Times.{Times}
-use Rattle.tg_pbtable.specs.declared.table.Times.TheVariants.{One, Optional, Many}
+use Rattle.tg_pbtable.specs.declared.table.Times.TheVariants.{One}
 use Rattle.tg_pbtable.specs.declared.table.Order.{Order}
 use Rattle.tg_pbtable.specs.declared.table.Field.{Field}
 use Rattle.tg_pbtable.specs.declared.table.Value.{Value}

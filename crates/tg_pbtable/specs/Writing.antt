@@ -1,5 +1,5 @@
 -- What the emitter's private functions say.
-use Rattle.std.specs.Prelude.{◌≡◌, ℕ, ◌+◌, ◌<◌, ◌≤◌, List, [], ◌∷◌, ◌++◌, length, All}
+use Rattle.std.specs.Prelude.{◌≡◌, ℕ, List, ◌++◌, length}
 use Rattle.tg_pbtable.specs.declared.table.Field.{Field}
 use Rattle.tg_pbtable.specs.Varint.{VarintSpelling}
 use Rattle.tg_pbtable.specs.Message.{FieldSpelling}

@@ -1,6 +1,4 @@
-use Rattle.std.proofs.Common.{MatchResult, drop}
 use Rattle.std.proofs.lemmas.Result.{err_from_is_err_and}
-use Rattle.tg_pbtable.specs.Reading.{IsFieldAt, IsFieldFault}
 use Rattle.tg_pbtable.proofs.Whole.{field_there, fault_there, unsliced}
 use Rattle.tg_pbtable.proofs.raw.field_at.Goals as goal
 

@@ -1,5 +1,4 @@
-use Rattle.std.proofs.Common.{◌≡◌, ℕ, ◌+◌, ◌-◌, ◌<◌, ◌≤◌, List, length, drop, arith, rules}
-use Rattle.std.specs.Prelude.{All}
+use Rattle.std.proofs.Common.{ℕ, ◌<◌, drop, arith, rules}
 use Rattle.std.proofs.lemmas.List.Elements.{All-from_get_or}
 use Rattle.tg_pbtable.proofs.Whole.{number_there, place_there, short_place, unsliced}
 use Rattle.tg_pbtable.proofs.raw.value_at.Goals as goal

@@ -1,4 +1,4 @@
-use Rattle.std.proofs.Common.{◌≡◌, sym}
+use Rattle.std.proofs.Common.{sym}
 use Rattle.std.proofs.lemmas.Bool.Decides.{Decides-eqb}
 use Rattle.tg_pbtable.proofs.Numbers.{ends_last, last_ends, none_ends}
 use Rattle.tg_pbtable.proofs.reading.follows_itself.Goals as goal

@@ -1,11 +1,7 @@
-use Rattle.std.proofs.Common.{◌≡◌, ◌⊎◌, List, MatchResult, IfErr, Ok, Err, ap, sym, refl, subst, inl, inr, arith}
+use Rattle.std.proofs.Common.{Err, ap, inl, inr}
 use Rattle.std.proofs.lemmas.Result.{err_from_is_err_and}
-use Rattle.tg_pbtable.specs.declared.table.Field.{Field}
 use Rattle.tg_pbtable.specs.declared.fault.PbFault.{PbFault}
-use Rattle.tg_pbtable.specs.declared.fault.PbFault.TheVariants.{OutOfMemory, Missing}
-use Rattle.tg_pbtable.specs.Message.{Message, IsTable}
-use Rattle.tg_pbtable.specs.Reading.{Stands}
-use Rattle.tg_pbtable.specs.Faults.{HasCause}
+use Rattle.tg_pbtable.specs.declared.fault.PbFault.TheVariants.{Missing}
 use Rattle.tg_pbtable.proofs.Causes.{no_cause}
 use Rattle.tg_pbtable.proofs.Spellings.{one_reading}
 use Rattle.tg_pbtable.proofs.Scanning.{nothing_yet, none_in_order, first_unseen, only_oom, that_one, missing_there, whole_message}

@@ -1,14 +1,13 @@
-use Rattle.std.proofs.Common.{◌≡◌, ◌≢◌, ◌⊎◌, ℕ, List, Bool, true, false, get_or, inl, inr, refl, sym, ap, ◌∙◌, subst, ◌++◌, ◌∷◌, []}
-use Rattle.std.specs.Prelude.{Contains, not}
+use Rattle.std.proofs.Common.{◌≡◌, ◌≢◌, List, true, false, inr, refl, sym, ◌∙◌, subst, ◌++◌, ◌∷◌, []}
+use Rattle.std.specs.Prelude.{not}
 use Rattle.tg_pbtable.specs.declared.table.Field.{Field}
-use Rattle.tg_pbtable.specs.declared.table.Rule.{Rule}
 use Rattle.tg_pbtable.specs.declared.table.Times.{Times}
 use Rattle.tg_pbtable.specs.declared.table.Times.TheVariants.{One, Optional, Many}
 use Rattle.tg_pbtable.specs.contracts.table.Times.{the_type}
 use denote.Enum.Bare.{sameb}
 use Rattle.tg_pbtable.specs.Message.{numbers_of, IsInOrder}
 use Rattle.tg_pbtable.specs.Faults.{BreaksOrder}
-use Rattle.tg_pbtable.specs.Reading.{EndsIn, Stands}
+use Rattle.tg_pbtable.specs.Reading.{EndsIn}
 use Rattle.tg_pbtable.proofs.Scanning.{seen_means, out_of_order, doubled, stands_more, times_is}
 use Rattle.tg_pbtable.proofs.reading.take_field.Goals as goal
 use Rattle.tg_pbtable.proofs.reading.take_field.Goals.{else-follows_itself-via-then-follows_itself+else-ne, else-follows_itself-via-else-follows_itself}

@@ -1,7 +1,7 @@
-use Rattle.std.proofs.Common.{◌≡◌, ◌+◌, ◌*◌, ◌<◌, ℕ, List, ◌++◌, ap, sym, subst, arith, rules}
-use Rattle.std.specs.Prelude.{All, slice_range}
+use Rattle.std.proofs.Common.{◌≡◌, ◌+◌, ◌*◌, ◌<◌, ℕ, ◌++◌, subst, rules}
+use Rattle.std.specs.Prelude.{slice_range}
 use Rattle.std.proofs.lemmas.List.Elements.{All-from_get_or}
-use Rattle.tg_pbtable.specs.Writing.{Puts, PutsVarint}
+use Rattle.tg_pbtable.specs.Writing.{PutsVarint}
 use Rattle.tg_pbtable.proofs.Emitting.{number_put, place_put, ok_then, extended}
 use Rattle.tg_pbtable.proofs.writing.put_field.Goals as goal
 

@@ -1,5 +1,5 @@
-use Rattle.std.proofs.Common.{◌≡◌, ℕ, ◌+◌, ◌*◌, ◌/◌, ◌%◌, ◌<◌, ◌≤◌, List, [], ◌∷◌, ◌++◌, arith, rules}
-use Rattle.tg_pbtable.proofs.Putting.{none_put, one_put, all_put}
+use Rattle.std.proofs.Common.{arith}
+use Rattle.tg_pbtable.proofs.Putting.{one_put, all_put}
 use Rattle.tg_pbtable.proofs.writing.put_varint.Goals as goal
 
 pub loop-left-preserved : goal.loop-left-preserved

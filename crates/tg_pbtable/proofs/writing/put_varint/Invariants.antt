@@ -1,4 +1,3 @@
-use Rattle.std.proofs.Common.{◌≡◌, ℕ, ◌+◌, ◌*◌, ◌^◌, ◌<◌, List, ◌++◌, length}
 use Rattle.tg_pbtable.proofs.Putting.{HasPut}
 use Rattle.tg_pbtable.proofs.writing.put_varint.Given as goal
 
