@@ -1,12 +1,12 @@
 -- What is written for fields whose places lie in a source.
-use Rattle.std.specs.Prelude.{◌≡◌, ℕ, ◌^◌, ◌<◌, ◌≤◌, List, [], ◌∷◌, length, All, slice_range, ⊤}
+use Rattle.std.specs.Prelude.{◌≡◌, ℕ, ◌≤◌, List, [], ◌∷◌, length, slice_range, ⊤}
 use Rattle.tg_pbtable.specs.declared.table.Field.{Field}
 use Rattle.tg_pbtable.specs.declared.table.Value.{Value}
 use Rattle.tg_pbtable.specs.declared.table.Value.TheVariants.{Number, Place}
 
--- a number below 2 ^ 64, or a place inside the source
+-- a place lies inside the source
 abbrev pub LiesIn : List ℕ → Value → Type 0
-LiesIn source (Number n) = n < 2 ^ 64
+LiesIn source (Number n) = ⊤
 LiesIn source (Place start end) = (start ≤ end) × (end ≤ length source)
 
 -- two values, each in its own text, are the same number or the same bytes

@@ -1,9 +1,8 @@
 -- Why a text is no message under a table: the first field, from the left, at which a cause holds, and of several causes
 -- the first in the order of this file.
-use Rattle.std.specs.Prelude.{◌≡◌, ◌≢◌, ℕ, ◌+◌, ◌<◌, ◌≤◌, ◌⊎◌, List, [], ◌∷◌, ◌++◌, length, All, Any, Contains, ⊤}
+use Rattle.std.specs.Prelude.{◌≡◌, ◌≢◌, ℕ, ◌<◌, ◌≤◌, ◌⊎◌, List, [], ◌∷◌, ◌++◌, length, All, Any, Contains}
 use Rattle.tg_pbtable.specs.declared.table.Rule.{Rule}
-use Rattle.tg_pbtable.specs.declared.table.Times.{Times}
-use Rattle.tg_pbtable.specs.declared.table.Times.TheVariants.{One, Optional, Many}
+use Rattle.tg_pbtable.specs.declared.table.Times.TheVariants.{One, Many}
 use Rattle.tg_pbtable.specs.declared.table.Order.{Order}
 use Rattle.tg_pbtable.specs.declared.table.Order.TheVariants.{Ascending, Runs}
 use Rattle.tg_pbtable.specs.declared.table.Field.{Field}

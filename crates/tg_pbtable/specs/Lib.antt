@@ -2,3 +2,5 @@ pub mod Varint
 pub mod Message
 pub mod Faults
 pub mod Emitted
+pub mod Reading
+pub mod Writing

@@ -1,4 +1,8 @@
 //! Why a text is no message under a table.
+ghost use Rattle.std.specs.Prelude.{◌≡◌};
+ghost use Rattle.tg_pbtable.specs.declared.fault.PbFault.TheVariants.{OutOfMemory};
+
+use std::alloc::AllocFailed;
 use thiserror::Error;
 
 /// Why a text is no message under a table. `at` is the offset of the first byte of the field's key.
@@ -29,4 +33,12 @@ pub enum PbFault {
     /// No memory was found for the fields.
     #[error("out of memory")]
     OutOfMemory,
+}
+
+impl<T: Drop> From<AllocFailed<T>> for PbFault {
+    ghost from_gives = { λ _ e. e ≡ OutOfMemory };
+
+    fn from(_: AllocFailed<T>) -> Self {
+        PbFault::OutOfMemory
+    }
 }

@@ -2,6 +2,7 @@
 #![tactic(auto)]
 
 mod fault;
+mod raw;
 mod reading;
 mod table;
 mod writing;

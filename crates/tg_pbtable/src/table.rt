@@ -1,4 +1,6 @@
 //! Tables of fields, and the fields of a text.
+ghost use Rattle.std.specs.Prelude.{◌≡◌};
+
 use std::marker::Model;
 
 /// How a value is spelled (protobuf encoding guide, wire types).
@@ -56,6 +58,22 @@ pub struct Field {
 #[derive(Debug, Drop)]
 pub struct Fields {
     fields: Vec<Field>,
+}
+
+impl Fields {
+    /// These fields in this order.
+    pub fn new(fields: Vec<Field>) -> Self
+        ensures { result ≡ fields.items }
+    {
+        Fields { fields }
+    }
+
+    /// The fields in order.
+    pub fn as_slice(&self) -> &[Field]
+        ensures { result.now ≡ self.now }
+    {
+        self.fields.as_slice()
+    }
 }
 
 impl Model for Fields {

@@ -1,0 +1,290 @@
+ghost use Rattle.std.specs.Prelude.{◌≤◌, length};
+ghost use Rattle.tg_pbtable.specs.Message.{IsTable};
+
+use super::*;
+use std::alloc::Global;
+use std::process::Abort;
+use std::test::Fail;
+
+fn ascending() -> [Rule; 4]
+    ensures { IsTable result }
+{
+    [
+        Rule {
+            number: 1,
+            wire: Wire::Varint,
+            times: Times::One,
+        },
+        Rule {
+            number: 2,
+            wire: Wire::Bytes,
+            times: Times::Optional,
+        },
+        Rule {
+            number: 3,
+            wire: Wire::Varint,
+            times: Times::Optional,
+        },
+        Rule {
+            number: 4,
+            wire: Wire::Varint,
+            times: Times::Many,
+        },
+    ]
+}
+
+fn runs() -> [Rule; 2]
+    ensures { IsTable result }
+{
+    [
+        Rule {
+            number: 1,
+            wire: Wire::Bytes,
+            times: Times::Optional,
+        },
+        Rule {
+            number: 2,
+            wire: Wire::Bytes,
+            times: Times::Many,
+        },
+    ]
+}
+
+fn link() -> [Rule; 3]
+    ensures { IsTable result }
+{
+    [
+        Rule {
+            number: 1,
+            wire: Wire::Bytes,
+            times: Times::One,
+        },
+        Rule {
+            number: 2,
+            wire: Wire::Bytes,
+            times: Times::Optional,
+        },
+        Rule {
+            number: 3,
+            wire: Wire::Varint,
+            times: Times::Optional,
+        },
+    ]
+}
+
+const fn number(number: u32, value: u64) -> Field {
+    Field {
+        number,
+        value: Value::Number(value),
+    }
+}
+
+const fn place(number: u32, start: usize, end: usize) -> Field {
+    Field {
+        number,
+        value: Value::Place { start, end },
+    }
+}
+
+// What is found in a text is written back as that text.
+fn expect<const N: usize>(
+    rt: &impl Abort,
+    alloc: Global,
+    rules: &[Rule; N],
+    order: Order,
+    text: &[u8],
+    want: Result<&[Field], PbFault>,
+) -> Result<(), Fail>
+    requires { IsTable rules.now }
+{
+    match scan(alloc, rules, order, text) {
+        Ok(fields) => {
+            assert_eq!(rt; want, Ok(fields.as_slice()), "at {text:?}");
+            assert_eq!(rt; emit(alloc, rules, &fields, text)?.as_slice(), text);
+        }
+        Err(fault) => assert_eq!(rt; want, Err(fault), "at {text:?}"),
+    }
+    Ok(())
+}
+
+// What is written for the fields of a text with the bytes of another source.
+fn expect_from<const N: usize>(
+    rt: &impl Abort,
+    alloc: Global,
+    rules: &[Rule; N],
+    text: &[u8],
+    source: &[u8],
+    want: &[u8],
+) -> Result<(), Fail>
+    requires table { IsTable rules.now }
+    requires longer { length text.now ≤ length source.now }
+{
+    match scan(alloc, rules, Order::Ascending, text) {
+        Ok(fields) => assert_eq!(rt; emit(alloc, rules, &fields, source)?.as_slice(), want),
+        Err(fault) => assert_eq!(rt; Some(fault), None, "at {text:?}"),
+    }
+    Ok(())
+}
+
+// The texts and their fields are worked out by hand from the encoding guide: a key is the number times eight plus the wire
+// type.
+#[test]
+fn texts(rt: HostRuntime) -> Result<(), Fail> {
+    let whole = [
+        number(1, 5),
+        place(2, 4, 6),
+        number(3, 300),
+        number(4, 0),
+        number(4, 7),
+    ];
+    let greatest = [number(1, u64::MAX)];
+    let rows: [(&[u8], Result<&[Field], PbFault>); 34] = [
+        (
+            b"\x08\x05\x12\x02hi\x18\xac\x02\x20\x00\x20\x07",
+            Ok(&whole),
+        ),
+        (
+            b"\x08\xff\xff\xff\xff\xff\xff\xff\xff\xff\x01",
+            Ok(&greatest),
+        ),
+        (b"", Err(PbFault::Missing { number: 1 })),
+        (b"\x12\x00", Err(PbFault::Missing { number: 1 })),
+        (b"\x18\x01\x20\x01", Err(PbFault::Missing { number: 1 })),
+        // A number stands again.
+        (b"\x08\x05\x08\x05", Err(PbFault::Doubled { at: 2 })),
+        (b"\x08\x05\x12\x00\x12\x00", Err(PbFault::Doubled { at: 4 })),
+        (
+            b"\x08\x05\x12\x00\x08\x05",
+            Err(PbFault::OutOfOrder { at: 4 }),
+        ),
+        (b"\x12\x00\x08\x05", Err(PbFault::OutOfOrder { at: 2 })),
+        (
+            b"\x08\x05\x20\x01\x18\x01\x20\x01",
+            Err(PbFault::OutOfOrder { at: 4 }),
+        ),
+        // The text ends inside a field.
+        (b"\x08", Err(PbFault::Short { at: 0 })),
+        (b"\x88", Err(PbFault::Short { at: 0 })),
+        (b"\x08\x05\x18\x80", Err(PbFault::Short { at: 2 })),
+        (b"\x08\x05\x12", Err(PbFault::Short { at: 2 })),
+        (b"\x08\x05\x12\x03hi", Err(PbFault::Short { at: 2 })),
+        (
+            b"\x08\x05\x12\xff\xff\xff\xff\xff\xff\xff\xff\xff\x01hi",
+            Err(PbFault::Short { at: 2 }),
+        ),
+        // An unknown field is read before it is refused.
+        (b"\x7a\x03hi", Err(PbFault::Short { at: 0 })),
+        (b"\x7a\x02hi", Err(PbFault::Unknown { at: 0, number: 15 })),
+        (b"\x78\x80\x00", Err(PbFault::BadVarint { at: 0 })),
+        (b"\x78\x00", Err(PbFault::Unknown { at: 0, number: 15 })),
+        (
+            b"\x7d\x00\x00\x00\x00",
+            Err(PbFault::Unknown { at: 0, number: 15 }),
+        ),
+        (
+            b"\x08\x05\x00\x00",
+            Err(PbFault::Unknown { at: 2, number: 0 }),
+        ),
+        (
+            b"\x80\x80\x80\x80\x10\x00",
+            Err(PbFault::Unknown {
+                at: 0,
+                number: 536_870_912,
+            }),
+        ),
+        // Keys and numbers of too many bytes, not the shortest, or of 2 ^ 64 and more.
+        (
+            b"\x88\x80\x80\x80\x80\x80\x80\x80\x80\x80\x00\x05",
+            Err(PbFault::BadVarint { at: 0 }),
+        ),
+        (b"\x80\x00", Err(PbFault::BadVarint { at: 0 })),
+        (b"\x08\x85\x00", Err(PbFault::BadVarint { at: 0 })),
+        (
+            b"\x08\x80\x80\x80\x80\x80\x80\x80\x80\x80\x02",
+            Err(PbFault::BadVarint { at: 0 }),
+        ),
+        (
+            b"\x08\xff\xff\xff\xff\xff\xff\xff\xff\xff\x02",
+            Err(PbFault::BadVarint { at: 0 }),
+        ),
+        (
+            b"\x08\x05\x12\x80\x80\x80\x80\x80\x80\x80\x80\x80\x02",
+            Err(PbFault::BadVarint { at: 2 }),
+        ),
+        // Wire types 1, 3, 4, 5 and another one of the table.
+        (
+            b"\x09\x00\x00\x00\x00\x00\x00\x00\x00",
+            Err(PbFault::WrongWire { at: 0 }),
+        ),
+        (b"\x0b", Err(PbFault::WrongWire { at: 0 })),
+        (b"\x08\x05\x14", Err(PbFault::WrongWire { at: 2 })),
+        (
+            b"\x08\x05\x15\x00\x00\x00\x00",
+            Err(PbFault::WrongWire { at: 2 }),
+        ),
+        (b"\x0a\x00", Err(PbFault::WrongWire { at: 0 })),
+    ];
+    for (text, want) in rows {
+        expect(&rt, rt.alloc(), &ascending(), Order::Ascending, text, want)?;
+    }
+    let turned = [place(2, 2, 3), place(2, 5, 5), place(1, 7, 9)];
+    let rows: [(&[u8], Result<&[Field], PbFault>); 6] = [
+        (b"", Ok(&[])),
+        (b"\x12\x01a\x12\x00\x0a\x02bc", Ok(&turned)),
+        (
+            b"\x12\x01a\x0a\x00\x12\x00",
+            Err(PbFault::OutOfOrder { at: 5 }),
+        ),
+        (
+            b"\x0a\x00\x12\x00\x0a\x00",
+            Err(PbFault::OutOfOrder { at: 4 }),
+        ),
+        (b"\x0a\x00\x0a\x00", Err(PbFault::Doubled { at: 2 })),
+        (
+            b"\x0a\x00\x1a\x00",
+            Err(PbFault::Unknown { at: 2, number: 3 }),
+        ),
+    ];
+    for (text, want) in rows {
+        expect(&rt, rt.alloc(), &runs(), Order::Runs, text, want)?;
+    }
+    expect(
+        &rt,
+        rt.alloc(),
+        &link(),
+        Order::Ascending,
+        b"\x12\x00",
+        Err(PbFault::Missing { number: 1 }),
+    )
+}
+
+#[test]
+fn long_and_moved(rt: HostRuntime) -> Result<(), Fail> {
+    // A number that may stand many times stands a thousand times, and then the one that may stand once.
+    let mut text = Vec::new(rt.alloc());
+    let mut fields = Vec::new(rt.alloc());
+    for i in 0..1000 {
+        text.extend_from_slice(b"\x12\x01x")?;
+        fields.push(place(2, 3 * i + 2, 3 * i + 3))?;
+    }
+    text.extend_from_slice(b"\x0a\x00")?;
+    fields.push(place(1, 3002, 3002))?;
+    expect(
+        &rt,
+        rt.alloc(),
+        &runs(),
+        Order::Runs,
+        text.as_slice(),
+        Ok(fields.as_slice()),
+    )?;
+    // The bytes of a place are taken from another source.
+    let text: &[u8] = b"\x0a\x02hi\x12\x01j";
+    expect_from(
+        &rt,
+        rt.alloc(),
+        &link(),
+        text,
+        b"\x00\x00ok\x00\x00?",
+        b"\x0a\x02ok\x12\x01?",
+    )
+}

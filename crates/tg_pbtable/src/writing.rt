@@ -1,12 +1,13 @@
 //! The text of fields.
-ghost use Rattle.std.specs.Prelude.{◌≡◌, ℕ, List, All, IfOk};
+ghost use Rattle.std.specs.Prelude.{◌≡◌, ℕ, List, All, IfOk, OnOk};
 ghost use Rattle.tg_pbtable.specs.Message.{Message, IsTable, Spelled, AreRuled, IsCount, count_of, IsInOrder, numbers_of};
 ghost use Rattle.tg_pbtable.specs.Emitted.{LiesIn, AreSameFields};
+ghost use Rattle.tg_pbtable.specs.Writing.{Puts, PutsVarint};
 ghost use Rattle.tg_pbtable.specs.declared.table.Field.{Field};
 ghost use Rattle.tg_pbtable.specs.declared.table.Rule.{Rule};
 ghost use Rattle.tg_pbtable.specs.declared.table.Order.{Order};
 
-use crate::table::{Fields, Rule};
+use crate::table::{Field, Fields, Rule, Value};
 use std::alloc::{AllocError, Global};
 
 /// The text of fields in their order, each place taken from the source. The error is want of memory.
@@ -30,7 +31,11 @@ pub fn emit<const N: usize>(
         → IfOk result (λ text. (placed : List Field) × Message rules.now order text.items placed
         × AreSameFields source.now fields.now text.items placed) }
 {
-    Err(AllocError)
+    let mut text = Vec::new(alloc);
+    for field in fields.as_slice() {
+        put_field(&mut text, field, source)?;
+    }
+    Ok(text)
 }
 
 /// A text has one list of fields, and fields have one text: the bytes of two texts with the same fields are the same.
@@ -38,3 +43,36 @@ pub fn one_message()
     ensures one_reading { (at : ℕ) (text : List ℕ) (a b : List Field) → Spelled at a text → Spelled at b text → a ≡ b }
     ensures one_text { (s t : List ℕ) (a b : List Field) → Spelled 0 a s → Spelled 0 b t → AreSameFields s a t b → s ≡ t }
 {}
+
+/// Puts the spelling of a field behind the text.
+fn put_field(text: &mut Vec<u8>, field: &Field, source: &[u8]) -> Result<(), AllocError>
+    requires { LiesIn source.now field.now.value }
+    ensures { OnOk result (Puts source.now field.now text.old.items text.new.items) }
+{
+    let key = u64::from(field.number) * 8;
+    match field.value {
+        Value::Number(number) => {
+            put_varint(text, key)?;
+            put_varint(text, number)
+        }
+        Value::Place { start, end } => {
+            let content = &source[start..end];
+            put_varint(text, key + 2)?;
+            put_varint(text, content.len() as u64)?;
+            text.extend_from_slice(content)
+        }
+    }
+}
+
+/// Puts the spelling of a number behind the text.
+fn put_varint(text: &mut Vec<u8>, number: u64) -> Result<(), AllocError>
+    ensures { OnOk result (PutsVarint number text.old.items text.new.items) }
+{
+    let mut left = number;
+    while left >= 128 {
+        text.push((left % 128) as u8 + 128)?;
+        left /= 128;
+    }
+    text.push(left as u8)?;
+    Ok(())
+}

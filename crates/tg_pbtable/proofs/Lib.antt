@@ -1,0 +1,9 @@
+pub mod Varints
+pub mod Putting
+pub mod Spellings
+pub mod Whole
+pub mod Numbers
+pub mod Causes
+pub mod Scanning
+pub mod Emitting
+pub mod Tables

@@ -1,0 +1,228 @@
+-- Fields read from bytes, and why none is read: of these one holds at a place.
+use Rattle.std.proofs.Common.{◌≡◌, ℕ, ◌+◌, ◌-◌, ◌*◌, ◌/◌, ◌%◌, ◌<◌, ◌≤◌, ◌⊎◌, Option, Some, None, List, ◌++◌, length, take, drop, refl, sym, ap, ◌∙◌, append_assoc, subst, inl, inr, arith}
+use Rattle.std.specs.Prelude.{All}
+use Rattle.std.proofs.lemmas.List.{length-append, length-drop, length-take-le, take-append-drop, drop-drop, take_rest}
+use Rattle.std.proofs.lemmas.List.Elements.{All-take, All-drop}
+use Rattle.tg_pbtable.specs.declared.table.Value.{Value}
+use Rattle.tg_pbtable.specs.declared.table.Value.TheVariants.{Number, Place}
+use Rattle.tg_pbtable.specs.declared.raw.ReadFault.{ReadFault}
+use Rattle.tg_pbtable.specs.declared.raw.ReadFault.TheVariants.{Short, Bad}
+use Rattle.tg_pbtable.specs.Varint.{VarintSpelling, EndsInside, IsBadVarint}
+use Rattle.tg_pbtable.specs.Message.{KeySpelling, ValueSpelling, wire_of, wire_code}
+use Rattle.tg_pbtable.specs.Faults.{HasKey, EndsInValue, IsShort, HasBadVarint, HasValue, HasField}
+use Rattle.tg_pbtable.specs.Reading.{IsVarintAt, IsNumberAt, IsPlaceAt, IsSomeValueAt, IsValueAt, IsValueFault, IsSpelledAt, IsValueOf, IsFieldAt, IsFieldFault}
+use Rattle.tg_pbtable.proofs.Varints.{short_number, short_bad, bad_number, one_number, not_empty}
+use Rattle.tg_pbtable.proofs.Spellings.{one_key}
+
+-- ---- what is read
+
+pub number_there : (at : ℕ) (after : List ℕ) (wire value size : ℕ) → wire ≡ 0 → IsVarintAt after value size → IsNumberAt at after wire value (at + size)
+number_there at after wire value size w v = record {
+  wire_is = w;
+  amount = take size after;
+  rest = drop size after;
+  whole = sym (take-append-drop size after);
+  amount_is = v.spells;
+  next_is = ap (λ (n : ℕ). at + n) (sym (length-take-le size after v.inside));
+}
+
+pub place_there : (at : ℕ) (bytes : List ℕ) (wire amount size : ℕ) → at ≤ length bytes → wire ≡ 2 → IsVarintAt (drop at bytes) amount size → amount ≤ length bytes - (at + size) → All (λ (b : ℕ). b < 256) bytes
+    → IsPlaceAt at (drop at bytes) wire (at + size) (at + size + amount) (at + size + amount)
+place_there at bytes wire amount size l w v enough are =
+    let after = drop at bytes in
+    let left : length after ≡ length bytes - at = length-drop at bytes in
+    let behind : length (drop size after) ≡ length after - size = length-drop size after in
+    let content : length (take amount (drop size after)) ≡ amount = length-take-le amount (drop size after) (omega arith) in
+    let size_is : length (take size after) ≡ size = length-take-le size after v.inside in
+    record {
+      wire_is = w;
+      size = take size after;
+      content = take amount (drop size after);
+      rest = drop amount (drop size after);
+      whole = sym (take-append-drop size after) ∙ ap (λ (t : List ℕ). take size after ++ t) (sym (take-append-drop amount (drop size after)));
+      size_is = subst (λ (n : ℕ). VarintSpelling n (take size after)) (sym content) v.spells;
+      are_bytes = All-take (λ (b : ℕ). b < 256) amount (drop size after) (All-drop (λ (b : ℕ). b < 256) size after (All-drop (λ (b : ℕ). b < 256) at bytes are));
+      start_is = ap (λ (n : ℕ). at + n) (sym size_is);
+      end_is = ap (λ (n : ℕ). at + size + n) (sym content);
+      next_is = refl;
+    }
+
+pub short_place : (at : ℕ) (bytes : List ℕ) (wire amount size : ℕ) → at ≤ length bytes → wire ≡ 2 → IsVarintAt (drop at bytes) amount size → length bytes - (at + size) < amount → EndsInValue wire (drop at bytes)
+short_place at bytes wire amount size l w v fewer =
+    let after = drop at bytes in
+    let left : length after ≡ length bytes - at = length-drop at bytes in
+    let behind : length (drop size after) ≡ length after - size = length-drop size after in
+    inr (w, inr (record { amount = amount; size = take size after; content = drop size after; whole = sym (take-append-drop size after); size_is = v.spells; fewer = omega arith }))
+
+-- what the slice from `at` on says
+pub unsliced : (at : ℕ) (bytes : List ℕ) (number size : ℕ) → IsVarintAt (take (length bytes - at) (drop at bytes)) number size → IsVarintAt (drop at bytes) number size
+unsliced at bytes number size v = subst (λ (t : List ℕ). IsVarintAt t number size) (take_rest bytes at) v
+
+pub key_there : (rest : List ℕ) (key size : ℕ) → IsVarintAt rest key size → HasKey (key / 8) (key % 8) rest (drop size rest)
+key_there rest key size v =
+    let parts : key ≡ key / 8 * 8 + key % 8 = omega arith in
+    record { key = take size rest; whole = sym (take-append-drop size rest); wire_is = omega arith; key_is = subst (λ (n : ℕ). VarintSpelling n (take size rest)) parts v.spells }
+
+some_has : (at : ℕ) (after : List ℕ) (wire : ℕ) (v : Value) (next : ℕ) → IsSomeValueAt at after wire v next → HasValue wire after
+some_has at after wire (Number n) next h = inl (h.wire_is, record { amount = n; front = h.amount; rest = h.rest; whole = h.whole; amount_is = h.amount_is })
+some_has at after wire (Place start end) next h =
+    inr (inl (h.wire_is, record { amount = length h.content; size = h.size; content = h.content ++ h.rest; whole = h.whole; size_is = h.size_is; enough = omega (arith, length-append h.content h.rest) }))
+
+value_has : (at : ℕ) (after : List ℕ) (wire : ℕ) (v : Option (Value × ℕ)) → IsValueAt at after wire v → HasValue wire after
+value_has at after wire None h = inr (inr h)
+value_has at after wire (Some v) h = some_has at after wire v.0 v.1 h
+
+spelled_there : (at number : ℕ) (rest : List ℕ) (size wire : ℕ) (v : Value) (next : ℕ) (k : HasKey number wire rest (drop size rest)) → length k.key ≡ size → IsSomeValueAt (at + size) (drop size rest) wire v next
+    → (wire ≡ wire_code (wire_of v)) × IsSpelledAt at rest number v next
+spelled_there at number rest size wire (Number n) next k l h =
+    let whole : rest ≡ (k.key ++ h.amount) ++ h.rest = k.whole ∙ ap (λ (t : List ℕ). k.key ++ t) h.whole ∙ sym (append_assoc k.key h.amount h.rest) in
+    let key_is : KeySpelling number 0 k.key = subst (λ (w : ℕ). KeySpelling number w k.key) h.wire_is k.key_is in (
+      h.wire_is,
+      record {
+        front = k.key ++ h.amount;
+        behind = h.rest;
+        whole = whole;
+        spelled = record { key = k.key; amount = h.amount; whole = refl; key_is = key_is; amount_is = h.amount_is };
+        next_is = omega (arith, h.next_is, length-append k.key h.amount);
+        more = omega (arith, length-append k.key h.amount, not_empty (number * 8 + 0) k.key key_is);
+      },
+    )
+spelled_there at number rest size wire (Place start end) next k l h =
+    let whole : rest ≡ (k.key ++ (h.size ++ h.content)) ++ h.rest =
+    k.whole ∙ ap (λ (t : List ℕ). k.key ++ t) (h.whole ∙ sym (append_assoc h.size h.content h.rest)) ∙ sym (append_assoc k.key (h.size ++ h.content) h.rest) in
+    let key_is : KeySpelling number 2 k.key = subst (λ (w : ℕ). KeySpelling number w k.key) h.wire_is k.key_is in (
+      h.wire_is,
+      record {
+        front = k.key ++ (h.size ++ h.content);
+        behind = h.rest;
+        whole = whole;
+        spelled = record {
+          key = k.key;
+          size = h.size;
+          content = h.content;
+          whole = refl;
+          key_is = key_is;
+          size_is = h.size_is;
+          are_bytes = h.are_bytes;
+          start_is = omega (arith, h.start_is);
+          end_is = h.end_is;
+        };
+        next_is = omega (arith, h.next_is, h.end_is, h.start_is, length-append k.key (h.size ++ h.content), length-append h.size h.content);
+        more = omega (arith, length-append k.key (h.size ++ h.content), not_empty (number * 8 + 2) k.key key_is);
+      },
+    )
+
+value_of : (at number : ℕ) (rest : List ℕ) (size wire : ℕ) (v : Option (Value × ℕ)) (k : HasKey number wire rest (drop size rest)) → length k.key ≡ size → IsValueAt (at + size) (drop size rest) wire v → IsValueOf at rest number wire v
+value_of at number rest size wire None k l h = h
+value_of at number rest size wire (Some v) k l h = spelled_there at number rest size wire v.0 v.1 k l h
+
+pub field_there : (at : ℕ) (bytes : List ℕ) (key size : ℕ) (v : Option (Value × ℕ)) → IsVarintAt (drop at bytes) key size → IsValueAt (at + size) (drop (at + size) bytes) (key % 8) v → IsFieldAt at (drop at bytes) (record { number = key / 8; value = v })
+unfolding key_there
+field_there at bytes key size v k h =
+    let rest = drop at bytes in
+    let after : drop (at + size) bytes ≡ drop size rest = sym (drop-drop size at bytes) in
+    let has = subst (λ (t : List ℕ). IsValueAt (at + size) t (key % 8) v) after h in
+    record {
+      wire = key % 8;
+      field = record { after = drop size rest; has_key = key_there rest key size k; has_value = value_has (at + size) (drop size rest) (key % 8) v has };
+      value_is = value_of at (key / 8) rest size (key % 8) v (key_there rest key size k) (length-take-le size rest k.inside) has;
+    }
+
+fault_in : (rest : List ℕ) (key size : ℕ) (e : ReadFault) → IsVarintAt rest key size → IsValueFault e (key % 8) (drop size rest) → IsFieldFault e rest
+fault_in rest key size Short k h = inr (key / 8, key % 8, drop size rest, key_there rest key size k, h)
+fault_in rest key size Bad k h = inr (key / 8, key % 8, drop size rest, key_there rest key size k, h.0, h.1)
+
+pub fault_there : (at : ℕ) (bytes : List ℕ) (key size : ℕ) (e : ReadFault) → IsVarintAt (drop at bytes) key size → IsValueFault e (key % 8) (drop (at + size) bytes) → IsFieldFault e (drop at bytes)
+fault_there at bytes key size e k h = fault_in (drop at bytes) key size e k (subst (λ (t : List ℕ). IsValueFault e (key % 8) t) (sym (drop-drop size at bytes)) h)
+
+-- ---- one of the three holds of a value
+
+abbrev BadValue : ℕ → List ℕ → Type 0
+BadValue wire after = ((wire ≡ 0) ⊎ (wire ≡ 2)) × IsBadVarint after
+
+value_short_bad : (wire : ℕ) (after : List ℕ) → EndsInValue wire after → BadValue wire after → ⊥
+value_short_bad wire after (inl s) b = short_bad after s.1 b.1
+value_short_bad wire after (inr s) b = elim s.1 [
+  | inl h ↦ short_bad after h b.1
+  | inr h ↦ bad_number h.amount h.size h.content after b.1 h.size_is h.whole
+]
+
+value_short_has : (wire : ℕ) (after : List ℕ) → EndsInValue wire after → HasValue wire after → ⊥
+value_short_has wire after (inl s) (inl h) = short_number h.1.amount h.1.front h.1.rest after s.1 h.1.amount_is h.1.whole
+value_short_has wire after (inl s) (inr h) = elim h [
+  | inl m ↦ let zero_is : wire ≡ 0 = s.0 in let two_is : wire ≡ 2 = m.0 in omega arith
+  | inr m ↦ m.0 s.0
+]
+value_short_has wire after (inr s) (inl h) = let two_is : wire ≡ 2 = s.0 in let zero_is : wire ≡ 0 = h.0 in omega arith
+value_short_has wire after (inr s) (inr h) = elim h [
+  | inl m ↦ elim s.1 [
+    | inl e ↦ short_number m.1.amount m.1.size m.1.content after e m.1.size_is m.1.whole
+    | inr e ↦
+        let same = one_number e.amount m.1.amount e.size m.1.size e.content m.1.content e.size_is m.1.size_is (sym e.whole ∙ m.1.whole) in
+        let amounts : e.amount ≡ m.1.amount = same.0 in
+        let contents : length e.content ≡ length m.1.content = ap length same.2 in
+        omega (arith, e.fewer, m.1.enough)
+  ]
+  | inr m ↦ m.1 s.0
+]
+
+value_bad_has : (wire : ℕ) (after : List ℕ) → BadValue wire after → HasValue wire after → ⊥
+value_bad_has wire after b (inl h) = bad_number h.1.amount h.1.front h.1.rest after b.1 h.1.amount_is h.1.whole
+value_bad_has wire after b (inr h) = elim h [
+  | inl m ↦ bad_number m.1.amount m.1.size m.1.content after b.1 m.1.size_is m.1.whole
+  | inr m ↦ elim b.0 [ inl e ↦ m.0 e | inr e ↦ m.1 e ]
+]
+
+-- ---- and of a field
+
+keys : (m n v w : ℕ) (rest a b : List ℕ) → HasKey m v rest a → HasKey n w rest b → (m ≡ n) × (v ≡ w) × (a ≡ b)
+keys m n v w rest a b p q =
+    let same = one_key m n v w p.key q.key a b p.wire_is q.wire_is p.key_is q.key_is (sym p.whole ∙ q.whole) in
+    (same.0, same.1, same.3)
+
+short_key : (n w : ℕ) (rest after : List ℕ) → EndsInside rest → HasKey n w rest after → ⊥
+short_key n w rest after s k = short_number (n * 8 + w) k.key after rest s k.key_is k.whole
+
+bad_key : (n w : ℕ) (rest after : List ℕ) → IsBadVarint rest → HasKey n w rest after → ⊥
+bad_key n w rest after b k = bad_number (n * 8 + w) k.key after rest b k.key_is k.whole
+
+-- a fact of the value behind one key is one of the value behind another
+carried : (P : ℕ → List ℕ → Type 0) (m n v w : ℕ) (rest a b : List ℕ) → HasKey m v rest a → HasKey n w rest b → P v a → P w b
+carried P m n v w rest a b p q h =
+    let same = keys m n v w rest a b p q in
+    subst (λ (t : List ℕ). P w t) same.2 (subst (λ (x : ℕ). P x a) same.1 h)
+
+pub read_short_bad : (rest : List ℕ) → IsShort rest → HasBadVarint rest → ⊥
+read_short_bad rest (inl s) (inl b) = short_bad rest s b
+read_short_bad rest (inl s) (inr b) = short_key b.0 b.1 rest b.2 s b.3
+read_short_bad rest (inr s) (inl b) = bad_key s.0 s.1 rest s.2 b s.3
+read_short_bad rest (inr s) (inr b) = value_short_bad b.1 b.2 (carried EndsInValue s.0 b.0 s.1 b.1 rest s.2 b.2 s.3 b.3 s.4) (b.4, b.5)
+
+pub read_short_field : (rest : List ℕ) (n w : ℕ) → IsShort rest → HasField n w rest → ⊥
+read_short_field rest n w (inl s) f = short_key n w rest f.after s f.has_key
+read_short_field rest n w (inr s) f = value_short_has w f.after (carried EndsInValue s.0 n s.1 w rest s.2 f.after s.3 f.has_key s.4) f.has_value
+
+pub read_bad_field : (rest : List ℕ) (n w : ℕ) → HasBadVarint rest → HasField n w rest → ⊥
+read_bad_field rest n w (inl b) f = bad_key n w rest f.after b f.has_key
+read_bad_field rest n w (inr b) f = value_bad_has w f.after (carried BadValue b.0 n b.1 w rest b.2 f.after b.3 f.has_key (b.4, b.5)) f.has_value
+
+pub read_one_field : (rest : List ℕ) (m n v w : ℕ) → HasField m v rest → HasField n w rest → (m ≡ n) × (v ≡ w)
+read_one_field rest m n v w f g = let same = keys m n v w rest f.after g.after f.has_key g.has_key in (same.0, same.1)
+
+-- a spelled field is a whole one
+pub spelled_has : (at number : ℕ) (v : Value) (front behind rest : List ℕ) → ValueSpelling at number v front → rest ≡ front ++ behind → HasField number (wire_code (wire_of v)) rest
+spelled_has at number (Number n) front behind rest p e = record {
+  after = p.amount ++ behind;
+  has_key = record { key = p.key; whole = e ∙ ap (λ (t : List ℕ). t ++ behind) p.whole ∙ append_assoc p.key p.amount behind; wire_is = omega arith; key_is = p.key_is };
+  has_value = inl (refl, record { amount = n; front = p.amount; rest = behind; whole = refl; amount_is = p.amount_is });
+}
+spelled_has at number (Place start end) front behind rest p e = record {
+  after = p.size ++ (p.content ++ behind);
+  has_key = record {
+    key = p.key;
+    whole = e ∙ ap (λ (t : List ℕ). t ++ behind) p.whole ∙ append_assoc p.key (p.size ++ p.content) behind ∙ ap (λ (t : List ℕ). p.key ++ t) (append_assoc p.size p.content behind);
+    wire_is = omega arith;
+    key_is = p.key_is;
+  };
+  has_value = inr (inl (refl, record { amount = length p.content; size = p.size; content = p.content ++ behind; whole = refl; size_is = p.size_is; enough = omega (arith, length-append p.content behind) }));
+}

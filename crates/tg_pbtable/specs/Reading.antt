@@ -1,0 +1,144 @@
+-- What the scanner's private functions say.
+use Rattle.std.specs.Prelude.{◌≡◌, ◌≢◌, ℕ, ◌+◌, ◌<◌, ◌≤◌, ◌⊎◌, Option, Some, None, Bool, true, false, List, [], ◌∷◌, ◌++◌, length, take, drop, map, All, slice_get, slice_index_or, nat_lt}
+use Rattle.tg_pbtable.specs.declared.table.Rule.{Rule}
+use Rattle.tg_pbtable.specs.declared.table.Times.TheVariants.{One}
+use Rattle.tg_pbtable.specs.declared.table.Order.{Order}
+use Rattle.tg_pbtable.specs.declared.table.Field.{Field}
+use Rattle.tg_pbtable.specs.declared.table.Value.{Value}
+use Rattle.tg_pbtable.specs.declared.table.Value.TheVariants.{Number, Place}
+use Rattle.tg_pbtable.specs.declared.raw.RawField.{RawField}
+use Rattle.tg_pbtable.specs.declared.raw.ReadFault.{ReadFault}
+use Rattle.tg_pbtable.specs.declared.raw.ReadFault.TheVariants.{Short, Bad}
+use Rattle.tg_pbtable.specs.declared.fault.PbFault.{PbFault}
+use Rattle.tg_pbtable.specs.declared.fault.PbFault.TheVariants as faults
+use Rattle.tg_pbtable.specs.Varint.{VarintSpelling, EndsInside, IsBadVarint}
+use Rattle.tg_pbtable.specs.Message.{ValueSpelling, wire_of, wire_code, count_of}
+use Rattle.tg_pbtable.specs.Faults.{Begins, HasField, EndsInValue, IsShort, HasBadVarint, IsUnknown, HasWrongWire}
+
+-- the first bytes, as many as `size`, spell the number
+pub record IsVarintAt (bytes : List ℕ) (number size : ℕ) : Type 0 where
+  pub inside : size ≤ length bytes
+  pub spells : VarintSpelling number (take size bytes)
+
+abbrev pub IsVarintFault : ReadFault → List ℕ → Type 0
+IsVarintFault Short bytes = EndsInside bytes
+IsVarintFault Bad bytes = IsBadVarint bytes
+
+-- a number, which stands at the front of the bytes from `at` on
+pub record IsNumberAt (at : ℕ) (after : List ℕ) (wire value next : ℕ) : Type 0 where
+  pub wire_is : wire ≡ 0
+  pub amount : List ℕ
+  pub rest : List ℕ
+  pub whole : after ≡ amount ++ rest
+  pub amount_is : VarintSpelling value amount
+  pub next_is : next ≡ at + length amount
+
+-- a length and that many bytes
+pub record IsPlaceAt (at : ℕ) (after : List ℕ) (wire start end next : ℕ) : Type 0 where
+  pub wire_is : wire ≡ 2
+  pub size : List ℕ
+  pub content : List ℕ
+  pub rest : List ℕ
+  pub whole : after ≡ size ++ (content ++ rest)
+  pub size_is : VarintSpelling (length content) size
+  pub are_bytes : All (λ b. b < 256) content
+  pub start_is : start ≡ at + length size
+  pub end_is : end ≡ start + length content
+  pub next_is : next ≡ end
+
+abbrev pub IsSomeValueAt : ℕ → List ℕ → ℕ → Value → ℕ → Type 0
+IsSomeValueAt at after wire (Number n) next = IsNumberAt at after wire n next
+IsSomeValueAt at after wire (Place start end) next = IsPlaceAt at after wire start end next
+
+abbrev pub IsValueAt : ℕ → List ℕ → ℕ → Option (Value × ℕ) → Type 0
+IsValueAt at after wire None = (wire ≢ 0) × (wire ≢ 2)
+IsValueAt at after wire (Some v) = IsSomeValueAt at after wire v.0 v.1
+
+abbrev pub IsValueFault : ReadFault → ℕ → List ℕ → Type 0
+IsValueFault Short wire after = EndsInValue wire after
+IsValueFault Bad wire after = ((wire ≡ 0) ⊎ (wire ≡ 2)) × IsBadVarint after
+
+-- a field of this number and value stands at the front of the bytes from `at` on
+pub record IsSpelledAt (at : ℕ) (rest : List ℕ) (number : ℕ) (value : Value) (next : ℕ) : Type 0 where
+  pub front : List ℕ
+  pub behind : List ℕ
+  pub whole : rest ≡ front ++ behind
+  pub spelled : ValueSpelling at number value front
+  pub next_is : next ≡ at + length front
+  pub more : 0 < length front
+
+abbrev pub IsValueOf : ℕ → List ℕ → ℕ → ℕ → Option (Value × ℕ) → Type 0
+IsValueOf at rest number wire None = (wire ≢ 0) × (wire ≢ 2)
+IsValueOf at rest number wire (Some v) = (wire ≡ wire_code (wire_of v.0)) × IsSpelledAt at rest number v.0 v.1
+
+pub record IsFieldAt (at : ℕ) (rest : List ℕ) (raw : RawField) : Type 0 where
+  pub wire : ℕ
+  pub field : HasField raw.number wire rest
+  pub value_is : IsValueOf at rest raw.number wire raw.value
+
+abbrev pub IsFieldFault : ReadFault → List ℕ → Type 0
+IsFieldFault Short rest = IsShort rest
+IsFieldFault Bad rest = HasBadVarint rest
+
+-- the rule at an index
+pub record IsRuleAt (rules : List Rule) (i : ℕ) (rule : Rule) : Type 0 where
+  pub inside : i < length rules
+  pub here : slice_get rules i ≡ Some rule
+
+pub record HasNumberAt (rules : List Rule) (i number : ℕ) : Type 0 where
+  pub rule : Rule
+  pub rule_at : IsRuleAt rules i rule
+  pub number_is : rule.number ≡ number
+
+-- a field at the front has the rule at an index
+pub record IsRuled (rules : List Rule) (at : ℕ) (rest : List ℕ) (i : ℕ) (field : Field) (next : ℕ) : Type 0 where
+  pub rule : Rule
+  pub rule_at : IsRuleAt rules i rule
+  pub number_is : rule.number ≡ field.number
+  pub wire_is : rule.wire ≡ wire_of field.value
+  pub has_field : HasField rule.number (wire_code rule.wire) rest
+  pub spelled : IsSpelledAt at rest field.number field.value next
+
+-- why none has
+abbrev pub IsRefused : List Rule → ℕ → List ℕ → PbFault → Type 0
+IsRefused rules at rest (faults.Short place) = (place ≡ at) × IsShort rest
+IsRefused rules at rest (faults.BadVarint place) = (place ≡ at) × HasBadVarint rest
+IsRefused rules at rest (faults.Unknown place number) = (place ≡ at) × IsUnknown rules number rest
+IsRefused rules at rest (faults.WrongWire place) = (place ≡ at) × HasWrongWire rules rest
+IsRefused rules at rest (faults.OutOfOrder place) = ⊥
+IsRefused rules at rest (faults.Doubled place) = ⊥
+IsRefused rules at rest (faults.Missing number) = ⊥
+IsRefused rules at rest faults.OutOfMemory = ⊥
+
+-- the last of the numbers
+abbrev pub EndsIn : List ℕ → ℕ → Type 0
+EndsIn numbers number = (front : List ℕ) × (numbers ≡ front ++ number ∷ [])
+
+-- whether a field has the number
+abbrev pub has_number : List Field → ℕ → Bool
+has_number fields number = nat_lt 0 (count_of fields number)
+
+-- the fields up to `at` are read, and of each rule it is known whether it has one
+pub record Stands (rules : List Rule) (order : Order) (text : List ℕ) (fields : List Field) (seen : List Bool) (at : ℕ) : Type 0 where
+  pub inside : at ≤ length text
+  pub begins : Begins rules order text fields at (drop at text)
+  pub seen_is : seen ≡ map (λ rule. has_number fields rule.number) rules
+
+-- the first n rules that ask for a field have one
+abbrev pub AreMet : List Rule → List Bool → ℕ → Type 0
+AreMet rules seen n = (k : ℕ) (d : Rule) → k < n → (slice_index_or rules k d).times ≡ One → slice_index_or seen k false ≡ true
+
+-- the lowest number of those of the first n rules that ask for a field and have none
+pub record IsLowestUnmet (rules : List Rule) (seen : List Bool) (n number : ℕ) : Type 0 where
+  pub k : ℕ
+  pub rule : Rule
+  pub inside : k < n
+  pub here : (d : Rule) → slice_index_or rules k d ≡ rule
+  pub number_is : rule.number ≡ number
+  pub asks : rule.times ≡ One
+  pub unmet : slice_index_or seen k false ≡ false
+  pub lowest : (j : ℕ) (d : Rule) → j < n → (slice_index_or rules j d).times ≡ One → slice_index_or seen j false ≡ false → number ≤ (slice_index_or rules j d).number
+
+abbrev pub IsLowest : List Rule → List Bool → ℕ → Option ℕ → Type 0
+IsLowest rules seen n None = AreMet rules seen n
+IsLowest rules seen n (Some number) = IsLowestUnmet rules seen n number

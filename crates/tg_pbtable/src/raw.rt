@@ -1,0 +1,78 @@
+//! Varints and fields where they stand, before any table is asked.
+ghost use Rattle.std.specs.Prelude.{◌≡◌, ◌<◌, ◌≤◌, length, drop, MatchResult};
+ghost use Rattle.tg_pbtable.specs.Reading.{IsVarintAt, IsVarintFault, IsValueAt, IsValueFault, IsFieldAt, IsFieldFault};
+
+use crate::table::Value;
+
+/// Why nothing is read: the bytes end too soon, or a varint is bad.
+#[derive(Clone, Copy)]
+pub(crate) enum ReadFault {
+    Short,
+    Bad,
+}
+
+/// A field as it stands: its number, and its value with the offset behind it. One of a wire type that no table has isn't
+/// read.
+#[derive(Clone, Copy)]
+pub(crate) struct RawField {
+    pub(crate) number: u64,
+    pub(crate) value: Option<(Value, usize)>,
+}
+
+/// The field of which the key stands at `at`.
+pub(crate) fn field_at(bytes: &[u8], at: usize) -> Result<RawField, ReadFault>
+    requires { at ≤ length bytes.now }
+    ensures { MatchResult result (λ raw. IsFieldAt at (drop at bytes.now) raw)
+        (λ e. IsFieldFault e (drop at bytes.now)) }
+{
+    let (key, size) = varint_at(&bytes[at..])?;
+    let value = value_at(bytes, at + size, key % 8)?;
+    Ok(RawField {
+        number: key / 8,
+        value,
+    })
+}
+
+/// The value of a wire type at `at`, with the offset behind it.
+fn value_at(bytes: &[u8], at: usize, wire: u64) -> Result<Option<(Value, usize)>, ReadFault>
+    requires { at ≤ length bytes.now }
+    ensures { MatchResult result (λ value. IsValueAt at (drop at bytes.now) wire value)
+        (λ e. IsValueFault e wire (drop at bytes.now)) }
+{
+    match wire {
+        0 => {
+            let (number, size) = varint_at(&bytes[at..])?;
+            Ok(Some((Value::Number(number), at + size)))
+        }
+        2 => {
+            let (amount, size) = varint_at(&bytes[at..])?;
+            let start = at + size;
+            if amount > (bytes.len() - start) as u64 {
+                return Err(ReadFault::Short);
+            }
+            let end = start + amount as usize;
+            Ok(Some((Value::Place { start, end }, end)))
+        }
+        _ => Ok(None),
+    }
+}
+
+/// The number that a varint at the front spells, and how many bytes it takes.
+fn varint_at(bytes: &[u8]) -> Result<(u64, usize), ReadFault>
+    ensures { MatchResult result (λ r. IsVarintAt bytes.now r.0 r.1) (λ e. IsVarintFault e bytes.now) }
+{
+    let mut number = 0u64;
+    for (i, byte) in bytes.iter().enumerate() {
+        if i == 9 && *byte != 1 {
+            return Err(ReadFault::Bad);
+        }
+        number += u64::from(*byte % 128) << (7 * i);
+        if *byte < 128 {
+            if *byte == 0 && i > 0 {
+                return Err(ReadFault::Bad);
+            }
+            return Ok((number, i + 1));
+        }
+    }
+    Err(ReadFault::Short)
+}
