@@ -22,6 +22,13 @@ const E_HEX: &str = "0170122059948439065f29619ef41280cbb932be52c56d99c5966b65e01
 
 const E_V0_HEX: &str = "122059948439065f29619ef41280cbb932be52c56d99c5966b65e0111239f098bbef";
 
+/// The example of the CID specification, whose version 0 text is `QmbWqxBEKC3P8tqsKc98xmWNzrzDtRLMiMPL8wBuTGsMnR`.
+const SPEC: &str = "bafybeigdyrzt5sfp7udm7hu76uh7y26nf3efuylqabf3oclgtqy55fbzdi";
+
+const SPEC_HEX: &str = "01701220c3c4733ec8affd06cf9e9ff50ffc6bcd2ec85a6170004bb709669c31de94391a";
+
+const SPEC_V0_HEX: &str = "1220c3c4733ec8affd06cf9e9ff50ffc6bcd2ec85a6170004bb709669c31de94391a";
+
 /// The calls of the streams that fail, by their numbers.
 #[derive(Clone, Copy)]
 struct Failing {
@@ -156,7 +163,9 @@ fn other_words_are_refused(rt: HostRuntime) -> Result<(), Fail> {
 
 #[test]
 fn cid_goes_both_ways(rt: HostRuntime) -> Result<(), Fail> {
-    let rows: [(&[&str], &str); 7] = [
+    let rows: [(&[&str], &str); 9] = [
+        (&["cid", SPEC], SPEC_HEX),
+        (&["cid", "--hex", SPEC_V0_HEX], SPEC),
         (&["cid", H], H_HEX),
         (&["cid", E], E_HEX),
         (&["cid", "--", H], H_HEX),

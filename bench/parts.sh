@@ -1,5 +1,6 @@
 #!/usr/bin/env bash
-# The name hash over 1 MB of bytes beside a copy of the same memory, in MB/s and as a ratio.
+# The name hash over 1 MB of bytes beside a copy of the same memory, in MB/s and as a ratio; and the scan of protobuf
+# texts of 12,500 to 50,000 fields, whose speed stays the same as the text grows.
 set -u
 cd "$(dirname "$0")/.." || exit 1
 command -v rt >/dev/null 2>&1 || { echo "skipped: no rt"; exit 0; }
@@ -11,3 +12,4 @@ program=$PWD/crates/tg_bench/out/tg_bench
     /^copy/ { copy = $2 }
     { print }
     END { printf "name hash / copy of the memory: %.2f of its speed\n", hash / copy }'
+"$program" table
