@@ -1,3 +1,4 @@
+//! Texts under three tables, with their fields or faults, and what is written for fields.
 ghost use Rattle.std.specs.Prelude.{◌≤◌, length};
 ghost use Rattle.tg_pbtable.specs.Message.{IsTable};
 
@@ -138,7 +139,7 @@ fn texts(rt: HostRuntime) -> Result<(), Fail> {
         number(4, 7),
     ];
     let greatest = [number(1, u64::MAX)];
-    let rows: [(&[u8], Result<&[Field], PbFault>); 34] = [
+    let rows: [(&[u8], Result<&[Field], PbFault>); 37] = [
         (
             b"\x08\x05\x12\x02hi\x18\xac\x02\x20\x00\x20\x07",
             Ok(&whole),
@@ -177,6 +178,12 @@ fn texts(rt: HostRuntime) -> Result<(), Fail> {
         (b"\x7a\x02hi", Err(PbFault::Unknown { at: 0, number: 15 })),
         (b"\x78\x80\x00", Err(PbFault::BadVarint { at: 0 })),
         (b"\x78\x00", Err(PbFault::Unknown { at: 0, number: 15 })),
+        (
+            b"\x79\x00\x00\x00\x00\x00\x00\x00\x00",
+            Err(PbFault::Unknown { at: 0, number: 15 }),
+        ),
+        (b"\x7b", Err(PbFault::Unknown { at: 0, number: 15 })),
+        (b"\x7c", Err(PbFault::Unknown { at: 0, number: 15 })),
         (
             b"\x7d\x00\x00\x00\x00",
             Err(PbFault::Unknown { at: 0, number: 15 }),
