@@ -1,0 +1,2 @@
+pub mod Unix
+pub mod Faults
