@@ -1,0 +1,5 @@
+pub mod Parts
+pub mod Gathering
+pub mod Same
+pub mod Causes
+pub mod Listing
