@@ -3,3 +3,4 @@ pub mod Gathering
 pub mod Same
 pub mod Causes
 pub mod Listing
+pub mod Encoding
