@@ -16,7 +16,9 @@ ghost use Rattle.tg_unixfs.specs.declared.UnixFault.{UnixFault};
 
 use std::alloc::{AllocError, Global};
 use tg_edges::{Bytes, List};
-use tg_pbtable::{Field, Fields, Order, PbFault, Rule, Times, Value, Wire, emit, one_message, scan};
+use tg_pbtable::{
+    Field, Fields, Order, PbFault, Rule, Times, Value, Wire, emit, one_message, scan,
+};
 use thiserror::Error;
 
 /// The table of UnixFS data, whose fields stand in ascending order: 1 Type, 2 Data, 3 filesize, 4 blocksizes, 5 hashType,

@@ -61,7 +61,8 @@ fn expect(
 // times eight plus the wire type.
 #[test]
 fn payloads(rt: HostRuntime) -> Result<(), Fail> {
-    let shard: &[u8] = b"\x08\x05\x12\x1a\x08\0\0\0\0\0\0\0\0\0\0\0\0\0\0\0\0\0\0\0\0\0\0\0\0\0\x28\x22\x30\x80\x02";
+    let shard: &[u8] =
+        b"\x08\x05\x12\x1a\x08\0\0\0\0\0\0\0\0\0\0\0\0\0\0\0\0\0\0\0\0\0\0\0\0\0\x28\x22\x30\x80\x02";
     let file = Parts {
         filesize: Some(11),
         sizes: &[4, 4, 3],
@@ -96,10 +97,7 @@ fn payloads(rt: HostRuntime) -> Result<(), Fail> {
             b"\x08\x05\x28\x23\x30\x10",
             Err(UnixFault::BadHash { number: 35 }),
         ),
-        (
-            b"\x08\x05\x28\x22",
-            Err(UnixFault::BadFanout { number: 0 }),
-        ),
+        (b"\x08\x05\x28\x22", Err(UnixFault::BadFanout { number: 0 })),
         (
             b"\x08\x05\x28\x22\x30\x10",
             Err(UnixFault::BadFanout { number: 16 }),
