@@ -1,7 +1,7 @@
 //! UnixFS data: the message in a DAG-PB node's payload.
 #![tactic(auto)]
 
-ghost use Rattle.std.specs.Prelude.{◌≡◌, ℕ, ◌⊎◌, ◌++◌, ◌∷◌, [], List, All, IfOk, IfErr, OnOk, MatchResult};
+ghost use Rattle.std.specs.Prelude.{◌≡◌, ℕ, ◌⊎◌, ◌++◌, ◌∷◌, [], List as Items, All, IfOk, IfErr, OnOk, MatchResult};
 ghost use Rattle.tg_pbtable.specs.Message.{Message};
 ghost use Rattle.tg_pbtable.specs.Emitted.{LiesIn};
 ghost use Rattle.tg_pbtable.specs.declared.table.Order.TheVariants.{Ascending};
@@ -277,8 +277,8 @@ fn put_inline(fields: &mut Vec<Field>, inline: &Option<Bytes>) -> Result<(), All
 
 /// Data has one text, and a text is of one data.
 pub fn one_text()
-    ensures one_text { (unix : Unix) (s t : List ℕ) → UnixText unix s → UnixText unix t → s ≡ t }
-    ensures one_unix { (a b : Unix) (text : List ℕ) → UnixText a text → UnixText b text → a ≡ b }
+    ensures one_text { (unix : Unix) (s t : Items ℕ) → UnixText unix s → UnixText unix t → s ≡ t }
+    ensures one_unix { (a b : Unix) (text : Items ℕ) → UnixText a text → UnixText b text → a ≡ b }
 {
     one_message();
 }
