@@ -234,7 +234,7 @@ fn fields_of(alloc: Global, unix: &Unix) -> Result<Fields, AllocError>
     ensures { IfOk result (λ fields. fields ≡ all_fields unix.now) }
 {
     let sizes = unix.sizes.as_slice();
-    let mut fields = Vec::with_capacity(alloc, sizes.len().saturating_add(5))?;
+    let mut fields = Vec::with_capacity(alloc, 5 + sizes.len())?;
     put_number(&mut fields, 1, Some(unix.kind))?;
     put_inline(&mut fields, &unix.inline)?;
     put_number(&mut fields, 3, unix.filesize)?;
