@@ -1,0 +1,6 @@
+pub mod Parts
+pub mod Gathering
+pub mod Same
+pub mod Causes
+pub mod Listing
+pub mod Encoding

@@ -1,0 +1,62 @@
+-- UnixFS data as a message under its table (UnixFS specification, Data Format: message Data; the ascending order and the
+-- unpacked blocksizes are this project's own profile).
+use Rattle.std.specs.Prelude.{◌≡◌, ◌≢◌, ℕ, ◌^◌, ◌<◌, ◌⊎◌, List, [], ◌∷◌, ◌++◌, ◌==◌, slice_range, map, All, Option, Some, None, if◌then◌else◌, IfSome}
+use Rattle.tg_pbtable.specs.declared.table.Field.{Field}
+use Rattle.tg_pbtable.specs.declared.table.Order.TheVariants.{Ascending}
+use Rattle.tg_pbtable.specs.declared.table.Value.{Value}
+use Rattle.tg_pbtable.specs.declared.table.Value.TheVariants.{Number, Place}
+use Rattle.tg_pbtable.specs.Message.{Message}
+use Rattle.tg_unixfs.specs.declared.TheConstants.{DATA}
+use Rattle.tg_unixfs.specs.declared.Unix.{Unix}
+
+-- the numbers and the bytes of the fields of one number, in order
+abbrev pub number_in : Value → List ℕ
+number_in (Number n) = n ∷ []
+number_in (Place start end) = []
+
+abbrev pub bytes_in : List ℕ → Value → List (List ℕ)
+bytes_in text (Number n) = []
+bytes_in text (Place start end) = slice_range text start end ∷ []
+
+abbrev pub numbers_at : ℕ → List Field → List ℕ
+numbers_at number [] = []
+numbers_at number (field ∷ fields) = if field.number == number then number_in field.value ++ numbers_at number fields else numbers_at number fields
+
+abbrev pub bytes_at : List ℕ → ℕ → List Field → List (List ℕ)
+bytes_at text number [] = []
+bytes_at text number (field ∷ fields) = if field.number == number then bytes_in text field.value ++ bytes_at text number fields else bytes_at text number fields
+
+-- one value or none, as a list
+abbrev pub listed : {A : Type 0} → Option A → List A
+listed None = []
+listed (Some x) = x ∷ []
+
+-- the types of a node: 0 Raw, 1 Directory, 2 File, 4 Symlink, 5 HAMTShard
+abbrev pub IsKind : ℕ → Type 0
+IsKind kind = (kind ≡ 0) ⊎ ((kind ≡ 1) ⊎ ((kind ≡ 2) ⊎ ((kind ≡ 4) ⊎ (kind ≡ 5))))
+
+-- a shard has the hash murmur3-x64-64 and the fanout 256
+pub record IsShardOf (unix : Unix) : Type 0 where
+  pub hash : unix.hash ≡ Some 0x22
+  pub fanout : unix.fanout ≡ Some 256
+
+-- the fields of a text are the parts of the data
+pub record HasParts (text : List ℕ) (fields : List Field) (unix : Unix) : Type 0 where
+  pub kind : numbers_at 1 fields ≡ unix.kind ∷ []
+  pub inline : bytes_at text 2 fields ≡ listed unix.inline
+  pub filesize : numbers_at 3 fields ≡ listed unix.filesize
+  pub sizes : numbers_at 4 fields ≡ unix.sizes
+  pub hash : numbers_at 5 fields ≡ listed unix.hash
+  pub fanout : numbers_at 6 fields ≡ listed unix.fanout
+
+-- the data may stand: its type is known, and a shard is one
+pub record IsUnix (unix : Unix) : Type 0 where
+  pub known : IsKind unix.kind
+  pub shard : unix.kind ≡ 5 → IsShardOf unix
+
+-- the text is the data's
+pub record UnixText (unix : Unix) (text : List ℕ) : Type 0 where
+  pub fields : List Field
+  pub message : Message DATA.now Ascending text fields
+  pub parts : HasParts text fields unix
+  pub is_unix : IsUnix unix
