@@ -1,11 +1,10 @@
 -- A payload has one cause of a refusal, and none where it is a text of data.
-use Rattle.std.proofs.Common.{◌≡◌, ◌≢◌, ℕ, ◌⊎◌, List, refl, sym, ap, ◌∙◌, subst, inl, inr, Option, Some, None, arith}
+use Rattle.std.proofs.Common.{◌≡◌, ℕ, ◌⊎◌, List, refl, sym, ap, ◌∙◌, subst, inl, inr, Option, Some}
 use Rattle.std.specs.Prelude.{unwrap_or}
 use Rattle.tg_pbtable.specs.declared.fault.PbFault.{PbFault}
 use Rattle.tg_pbtable.specs.declared.fault.PbFault.TheVariants as pb
-use Rattle.tg_pbtable.specs.declared.table.Field.{Field}
 use Rattle.tg_pbtable.specs.declared.table.Order.TheVariants.{Ascending}
-use Rattle.tg_pbtable.specs.Message.{Message, IsTable}
+use Rattle.tg_pbtable.specs.Message.{IsTable}
 use Rattle.tg_pbtable.specs.Faults.{HasCause}
 use Rattle.tg_pbtable.proofs.Causes.{one_cause, no_cause}
 use Rattle.tg_pbtable.proofs.Tables.{table_of}
@@ -13,7 +12,7 @@ use Rattle.tg_unixfs.specs.declared.TheConstants.{DATA}
 use Rattle.tg_unixfs.specs.declared.Unix.{Unix}
 use Rattle.tg_unixfs.specs.declared.UnixFault.{UnixFault}
 use Rattle.tg_unixfs.specs.declared.UnixFault.TheVariants as faults
-use Rattle.tg_unixfs.specs.Unix.{IsKind, IsUnix, HasParts, UnixText}
+use Rattle.tg_unixfs.specs.Unix.{IsKind, IsUnix, UnixText}
 use Rattle.tg_unixfs.specs.Faults.{HasData, HasUnixCause}
 use Rattle.tg_unixfs.specs.Reading.{IsUnfit, carried}
 use Rattle.tg_unixfs.proofs.Same.{one_data}

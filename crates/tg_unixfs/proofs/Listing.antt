@@ -1,22 +1,21 @@
 -- The fields of data in ascending order are a message's, and have its parts.
-use Rattle.std.proofs.Common.{◌≡◌, ◌≢◌, ℕ, zero, suc, ◌+◌, ◌-◌, ◌<◌, ◌≤◌, Bool, true, false, cond, Option, Some, None, List, [], ◌∷◌, ◌++◌, length, take, drop, get_or, map, refl, sym, ap, ◌∙◌, append_assoc, subst, arith}
+use Rattle.std.proofs.Common.{◌≡◌, ℕ, zero, suc, ◌+◌, ◌-◌, ◌<◌, ◌≤◌, Bool, true, false, cond, Option, Some, None, List, [], ◌∷◌, ◌++◌, length, take, get_or, refl, sym, ap, ◌∙◌, append_assoc, subst, arith}
 use Rattle.std.specs.Prelude.{All, slice_range, ◌==◌, if◌then◌else◌}
 use Rattle.std.specs.List.Sorted.{IsNonDecreasing}
 use Rattle.std.proofs.lemmas.List.{append-nil, take_more, take_all}
 use Rattle.std.proofs.lemmas.List.Elements.{All-nil, All-cons, All-append, Contains-get_or}
 use Rattle.tg_pbtable.specs.declared.table.Rule.{Rule}
 use Rattle.tg_pbtable.specs.declared.table.Wire.TheVariants.{Varint, Bytes}
-use Rattle.tg_pbtable.specs.declared.table.Times.TheVariants.{One, Optional, Many}
+use Rattle.tg_pbtable.specs.declared.table.Times.TheVariants.{One}
 use Rattle.tg_pbtable.specs.declared.table.Field.{Field}
 use Rattle.tg_pbtable.specs.declared.table.Value.{Value}
 use Rattle.tg_pbtable.specs.declared.table.Value.TheVariants.{Number, Place}
-use Rattle.tg_pbtable.specs.declared.table.Order.TheVariants.{Ascending}
-use Rattle.tg_pbtable.specs.Message.{Message, HasRule, AreRuled, IsCount, count_of, numbers_of, wire_of}
+use Rattle.tg_pbtable.specs.Message.{HasRule, AreRuled, IsCount, count_of, numbers_of, wire_of}
 use Rattle.tg_pbtable.specs.Emitted.{LiesIn}
 use Rattle.tg_pbtable.proofs.Numbers.{count_cons}
 use Rattle.tg_unixfs.specs.declared.TheConstants.{DATA}
 use Rattle.tg_unixfs.specs.declared.Unix.{Unix}
-use Rattle.tg_unixfs.specs.Unix.{HasParts, number_in, bytes_in, numbers_at, bytes_at, listed}
+use Rattle.tg_unixfs.specs.Unix.{HasParts, number_in, bytes_in, listed}
 use Rattle.tg_unixfs.specs.Writing.{numbered, as_numbers, as_places, source_of, optional, placed, all_fields}
 use Rattle.tg_unixfs.proofs.Parts.{parts_at, numbers_are, bytes_are}
 
@@ -40,10 +39,6 @@ sizes_more xs i d first old new l e f =
     f ∙ ap (λ (t : List Field). t ++ optional 4 (Some (get_or xs i d))) e
     ∙ append_assoc first (numbered 4 (as_numbers (take i xs))) (optional 4 (Some (get_or xs i d)))
     ∙ ap (λ (t : List Field). first ++ t) (sym more)
-
-pub six_joined : (a b c d e f one two three four five six : List Field) → one ≡ [] ++ a → two ≡ one ++ b → three ≡ two ++ c → four ≡ three ++ d → five ≡ four ++ e → six ≡ five ++ f → six ≡ a ++ (b ++ (c ++ (d ++ (e ++ f))))
-six_joined a b c d e f one two three four five six h1 h2 h3 h4 h5 h6 =
-    rw (h6, h5, h4, h3, h2, h1) (simp append_assoc)
 
 -- ---- the parts of fields of one number
 

@@ -1,5 +1,5 @@
 -- The fields of UnixFS data in ascending order.
-use Rattle.std.specs.Prelude.{ℕ, List, [], ◌∷◌, ◌++◌, length, map, Option, Some, None}
+use Rattle.std.specs.Prelude.{ℕ, List, [], ◌∷◌, ◌++◌, length, Option, Some, None}
 use Rattle.tg_pbtable.specs.declared.table.Field.{Field}
 use Rattle.tg_pbtable.specs.declared.table.Value.{Value}
 use Rattle.tg_pbtable.specs.declared.table.Value.TheVariants.{Number, Place}
