@@ -1,6 +1,5 @@
 pub mod Parts
 pub mod Gathering
 pub mod Same
-pub mod Causes
 pub mod Listing
 pub mod Encoding
