@@ -13,7 +13,7 @@ cid=$(./tgate cid --hex="01551220$(sha256sum "$made/block" | cut -c1-64)") || ex
 ./tgate check "$cid" <"$made/block" | cmp - "$made/block" || exit 1
 
 python3 - "$PWD/crates/tgate/out/tgate" "$cid" "$made" <<'PY'
-import resource, subprocess, sys, time
+import subprocess, sys, time
 
 program, cid, made = sys.argv[1:]
 block, copy = made + "/block", made + "/copy"
@@ -43,14 +43,20 @@ print(f"tgate check / sha256sum: {best['tgate check'] / best['sha256sum']:.2f}")
 print(f"tgate check / cp: {best['tgate check'] / best['cp']:.2f}")
 
 
-def peak(words, name):
-    code = "import resource,subprocess,sys;subprocess.run(sys.argv[1:],stdout=subprocess.DEVNULL,check=True);print(resource.getrusage(resource.RUSAGE_CHILDREN).ru_maxrss)"
-    with open(name, "rb") as read:
-        done = subprocess.run([sys.executable, "-c", code] + words, stdin=read, stdout=subprocess.PIPE, check=True)
-    return int(done.stdout)
+def peak(words, bytes_read):
+    """The most memory that the program has held, asked when all of the block but its last byte has been read."""
+    run = subprocess.Popen(words, stdin=subprocess.PIPE, stdout=subprocess.DEVNULL)
+    run.stdin.write(bytes_read[:-1])
+    run.stdin.flush()
+    time.sleep(0.5)
+    with open(f"/proc/{run.pid}/status") as status:
+        held = [line.split()[1] for line in status if line.startswith("VmHWM")][0]
+    run.stdin.write(bytes_read[-1:])
+    run.stdin.close()
+    run.wait()
+    return int(held)
 
 
-usage = peak([program, "cid", empty], "/dev/null")
-full = peak([program, "check", cid], block)
-print(f"peak memory of tgate check: {full} KB, beside {usage} KB of a command that reads nothing")
+with open(block, "rb") as read:
+    print(f"peak memory of tgate check: {peak([program, 'check', cid], read.read())} KB, of which the block is 2048 KB")
 PY
