@@ -23,8 +23,12 @@ pub fn command<I: Source, O: Sink>(
     out: &mut O,
 ) -> Result<(), Refusal>
     ensures { MatchResult result
-        (λ _. Ends (map string_bytes words.now) None (input_of I.took I.at_end I.left I.faults input.old input.new) (output_of O.wrote O.held O.faults out.old out.new))
-        (λ refusal. Ends (map string_bytes words.now) (Some refusal) (input_of I.took I.at_end I.left I.faults input.old input.new) (output_of O.wrote O.held O.faults out.old out.new)) }
+        (λ _. Ends (map string_bytes words.now) None
+        (input_of I.took I.at_end I.left I.faults input.old input.new)
+        (output_of O.wrote O.held O.faults out.old out.new))
+        (λ refusal. Ends (map string_bytes words.now) (Some refusal)
+        (input_of I.took I.at_end I.left I.faults input.old input.new)
+        (output_of O.wrote O.held O.faults out.old out.new)) }
 {
     match tg_words::read(alloc, words)? {
         Command::Check(cid) => check(alloc, &cid, input, out),
@@ -40,8 +44,12 @@ fn check<I: Source, O: Sink>(
     input: &mut I,
     out: &mut O,
 ) -> Result<(), Refusal>
-    ensures done { OnOk result (Checked cid.now (input_of I.took I.at_end I.left I.faults input.old input.new) (output_of O.wrote O.held O.faults out.old out.new)) }
-    ensures refused { IfErr result (λ refusal. CheckRefused cid.now refusal (input_of I.took I.at_end I.left I.faults input.old input.new) (output_of O.wrote O.held O.faults out.old out.new)) }
+    ensures done { OnOk result (Checked cid.now
+        (input_of I.took I.at_end I.left I.faults input.old input.new)
+        (output_of O.wrote O.held O.faults out.old out.new)) }
+    ensures refused { IfErr result (λ refusal. CheckRefused cid.now refusal
+        (input_of I.took I.at_end I.left I.faults input.old input.new)
+        (output_of O.wrote O.held O.faults out.old out.new)) }
 {
     let text = cid.to_text(alloc)?;
     let mut buffer = zeros(alloc, BLOCK_LIMIT + 1)?;
@@ -58,8 +66,12 @@ fn check_in<I: Source, O: Sink>(
 ) -> Result<(), Refusal>
     requires room { length buffer.old ≡ 2097153 }
     requires text { CidText (record cid.now { version = 1 }) text }
-    ensures done { OnOk result (Checked cid.now (input_of I.took I.at_end I.left I.faults input.old input.new) (output_of O.wrote O.held O.faults out.old out.new)) }
-    ensures refused { IfErr result (λ refusal. CheckRefused cid.now refusal (input_of I.took I.at_end I.left I.faults input.old input.new) (output_of O.wrote O.held O.faults out.old out.new)) }
+    ensures done { OnOk result (Checked cid.now
+        (input_of I.took I.at_end I.left I.faults input.old input.new)
+        (output_of O.wrote O.held O.faults out.old out.new)) }
+    ensures refused { IfErr result (λ refusal. CheckRefused cid.now refusal
+        (input_of I.took I.at_end I.left I.faults input.old input.new)
+        (output_of O.wrote O.held O.faults out.old out.new)) }
     ensures memory { IfErr result (λ refusal. refusal ≢ Refusal.OutOfMemory) }
 {
     let Ok(filled) = read_front(input, buffer) else {
@@ -87,8 +99,10 @@ fn zeros(alloc: Global, size: usize) -> Result<Vec<u8>, AllocError>
 
 /// `cid CID`: the CID's bytes in lower-case hexadecimal and a line feed.
 fn cid_to_hex<O: Sink>(alloc: Global, cid: &Cid, out: &mut O) -> Result<(), Refusal>
-    ensures done { OnOk result (PutsLine (CidToHex cid.now) (output_of O.wrote O.held O.faults out.old out.new)) }
-    ensures refused { IfErr result (λ refusal. PrintRefused (CidToHex cid.now) refusal (output_of O.wrote O.held O.faults out.old out.new)) }
+    ensures done { OnOk result (PutsLine (CidToHex cid.now)
+        (output_of O.wrote O.held O.faults out.old out.new)) }
+    ensures refused { IfErr result (λ refusal. PrintRefused (CidToHex cid.now) refusal
+        (output_of O.wrote O.held O.faults out.old out.new)) }
 {
     let bytes = cid.to_bytes(alloc)?;
     let digits = hex::encode(alloc, bytes.as_slice())?;
@@ -97,8 +111,10 @@ fn cid_to_hex<O: Sink>(alloc: Global, cid: &Cid, out: &mut O) -> Result<(), Refu
 
 /// `cid --hex HEX`: the CID's text and a line feed.
 fn cid_to_text<O: Sink>(alloc: Global, cid: &Cid, out: &mut O) -> Result<(), Refusal>
-    ensures done { OnOk result (PutsLine (CidToText cid.now) (output_of O.wrote O.held O.faults out.old out.new)) }
-    ensures refused { IfErr result (λ refusal. PrintRefused (CidToText cid.now) refusal (output_of O.wrote O.held O.faults out.old out.new)) }
+    ensures done { OnOk result (PutsLine (CidToText cid.now)
+        (output_of O.wrote O.held O.faults out.old out.new)) }
+    ensures refused { IfErr result (λ refusal. PrintRefused (CidToText cid.now) refusal
+        (output_of O.wrote O.held O.faults out.old out.new)) }
 {
     let text = cid.to_text(alloc)?;
     put_line(out, text.as_slice())
@@ -106,8 +122,11 @@ fn cid_to_text<O: Sink>(alloc: Global, cid: &Cid, out: &mut O) -> Result<(), Ref
 
 /// Puts the text and a line feed.
 fn put_line<O: Sink>(out: &mut O, text: &[u8]) -> Result<(), Refusal>
-    ensures done { OnOk result (Put (text.now ++ 10 ∷ []) (output_of O.wrote O.held O.faults out.old out.new)) }
-    ensures refused { IfErr result (λ refusal. (refusal ≡ Refusal.SinkFault) × PutFront (text.now ++ 10 ∷ []) (output_of O.wrote O.held O.faults out.old out.new)) }
+    ensures done { OnOk result (Put (text.now ++ 10 ∷ [])
+        (output_of O.wrote O.held O.faults out.old out.new)) }
+    ensures refused { IfErr result (λ refusal. (refusal ≡ Refusal.SinkFault)
+        × PutFront (text.now ++ 10 ∷ [])
+        (output_of O.wrote O.held O.faults out.old out.new)) }
 {
     match put_pieces(out, &[text, b"\n"]) {
         Ok(()) => Ok(()),

@@ -75,8 +75,10 @@ impl Refusal {
     /// Puts the line that says why. The error is a fault of the sink, which then holds a front of the line. It takes no
     /// memory.
     pub fn report<E: Sink>(&self, err: &mut E) -> Result<(), Failed>
-        ensures put { OnOk result (Put (line_of self.now) (output_of E.wrote E.held E.faults err.old err.new)) }
-        ensures front { OnErr result (PutFront (line_of self.now) (output_of E.wrote E.held E.faults err.old err.new)) }
+        ensures put { OnOk result (Put (line_of self.now)
+            (output_of E.wrote E.held E.faults err.old err.new)) }
+        ensures front { OnErr result (PutFront (line_of self.now)
+            (output_of E.wrote E.held E.faults err.old err.new)) }
     {
         let (word, detail): (&[u8], &[u8]) = match self {
             Refusal::Usage => (b"usage", b""),

@@ -10,10 +10,13 @@ use tg_edges::{Failed, Sink, Source, put_all, take_piece};
 /// read. The error is a fault of the input.
 pub fn read_front<I: Source>(input: &mut I, buffer: &mut [u8]) -> Result<usize, Failed>
     ensures within { IfOk result (λ n. n ≤ length buffer.new) }
-    ensures took { IfOk result (λ n. Took (take n buffer.new) (input_of I.took I.at_end I.left I.faults input.old input.new)) }
-    ensures end { IfOk result (λ n. n < length buffer.new → I.at_end input.new × IsNothing (I.left input.new)) }
+    ensures took { IfOk result (λ n. Took (take n buffer.new)
+        (input_of I.took I.at_end I.left I.faults input.old input.new)) }
+    ensures end { IfOk result (λ n. n < length buffer.new
+        → I.at_end input.new × IsNothing (I.left input.new)) }
     ensures quiet { OnOk result (I.faults input.new ≡ I.faults input.old) }
-    ensures err_took { OnErr result ((bytes : List ℕ) × Took bytes (input_of I.took I.at_end I.left I.faults input.old input.new)) }
+    ensures err_took { OnErr result ((bytes : List ℕ) × Took bytes
+        (input_of I.took I.at_end I.left I.faults input.old input.new)) }
     ensures err_rose { OnErr result (Rose (I.faults input.old) (I.faults input.new)) }
 {
     let mut filled = 0;
@@ -29,9 +32,11 @@ pub fn read_front<I: Source>(input: &mut I, buffer: &mut [u8]) -> Result<usize, 
 
 /// Puts the pieces one after another. The error is a fault of the sink, which then holds a front of them.
 pub fn put_pieces<S: Sink>(sink: &mut S, pieces: &[&[u8]]) -> Result<(), Failed>
-    ensures put { OnOk result (Put (flat_map (λ piece. piece.now) pieces.now) (output_of S.wrote S.held S.faults sink.old sink.new)) }
+    ensures put { OnOk result (Put (flat_map (λ piece. piece.now) pieces.now)
+        (output_of S.wrote S.held S.faults sink.old sink.new)) }
     ensures quiet { OnOk result (S.faults sink.new ≡ S.faults sink.old) }
-    ensures front { OnErr result (PutFront (flat_map (λ piece. piece.now) pieces.now) (output_of S.wrote S.held S.faults sink.old sink.new)) }
+    ensures front { OnErr result (PutFront (flat_map (λ piece. piece.now) pieces.now)
+        (output_of S.wrote S.held S.faults sink.old sink.new)) }
 {
     for piece in pieces {
         put_all(sink, piece)?;

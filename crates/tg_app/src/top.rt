@@ -28,38 +28,59 @@ pub fn run<I: Source, O: Sink, E: Sink>(
 ) -> u8
     // How the command ends, with its status and its line.
     ensures ends { (end : Option Refusal) × (result ≡ exit_status end)
-        × Ends (map string_bytes words.now) end (input_of I.took I.at_end I.left I.faults input.old input.new) (output_of O.wrote O.held O.faults out.old out.new)
+        × Ends (map string_bytes words.now) end
+        (input_of I.took I.at_end I.left I.faults input.old input.new)
+        (output_of O.wrote O.held O.faults out.old out.new)
         × Says end (output_of E.wrote E.held E.faults err.old err.new) }
 
-    // Status 2 comes exactly where the words are no command. It leaves input and out as they were, and so does 8.
+    // Status 2 comes exactly where the words are no command. It leaves input and out as they were, and so
+    // does 8.
     ensures usage { result ≡ 2 → IsNoCommand (map string_bytes words.now) }
     ensures no_command { IsNoCommand (map string_bytes words.now) → (result ≡ 2) ⊎ (result ≡ 8) }
     ensures untouched { (result ≡ 2) ⊎ (result ≡ 8)
-        → Untouched (input_of I.took I.at_end I.left I.faults input.old input.new) (output_of O.wrote O.held O.faults out.old out.new) }
+        → Untouched
+        (input_of I.took I.at_end I.left I.faults input.old input.new)
+        (output_of O.wrote O.held O.faults out.old out.new) }
 
     // `check`: what each status says.
-    ensures checked { (cid : CidParts) → CommandLine (map string_bytes words.now) (Check cid) → result ≡ 0
-        → Checked cid (input_of I.took I.at_end I.left I.faults input.old input.new) (output_of O.wrote O.held O.faults out.old out.new) }
-    ensures other { (cid : CidParts) → CommandLine (map string_bytes words.now) (Check cid) → result ≡ 3
-        → CheckedOther cid (input_of I.took I.at_end I.left I.faults input.old input.new) (output_of O.wrote O.held O.faults out.old out.new) }
+    ensures checked { (cid : CidParts)
+        → CommandLine (map string_bytes words.now) (Check cid) → result ≡ 0
+        → Checked cid
+        (input_of I.took I.at_end I.left I.faults input.old input.new)
+        (output_of O.wrote O.held O.faults out.old out.new) }
+    ensures other { (cid : CidParts)
+        → CommandLine (map string_bytes words.now) (Check cid) → result ≡ 3
+        → CheckedOther cid
+        (input_of I.took I.at_end I.left I.faults input.old input.new)
+        (output_of O.wrote O.held O.faults out.old out.new) }
     ensures passed { result ≡ 7
-        → PassedLimit (input_of I.took I.at_end I.left I.faults input.old input.new) (output_of O.wrote O.held O.faults out.old out.new) }
-    ensures fault { result ≡ 6 → InputRose (input_of I.took I.at_end I.left I.faults input.old input.new)
+        → PassedLimit
+        (input_of I.took I.at_end I.left I.faults input.old input.new)
+        (output_of O.wrote O.held O.faults out.old out.new) }
+    ensures fault { result ≡ 6 → InputRose
+        (input_of I.took I.at_end I.left I.faults input.old input.new)
         ⊎ OutputRose (output_of O.wrote O.held O.faults out.old out.new) }
 
     // `check`: a root that is trusted vouches for every byte that was put.
-    ensures vouched { (cid : CidParts) (block : List ℕ) → CommandLine (map string_bytes words.now) (Check cid) → Names cid block → result ≡ 0
-        → Agrees block (input_of I.took I.at_end I.left I.faults input.old input.new) (output_of O.wrote O.held O.faults out.old out.new) }
-    // `check`: the status of an input that tells its bytes, where no fault is counted and memory is found.
-    ensures answered { (cid : CidParts) (bytes : List ℕ) → CommandLine (map string_bytes words.now) (Check cid) → I.left input.old ≡ Some bytes
+    ensures vouched { (cid : CidParts) (block : List ℕ)
+        → CommandLine (map string_bytes words.now) (Check cid) → Names cid block → result ≡ 0
+        → Agrees block
+        (input_of I.took I.at_end I.left I.faults input.old input.new)
+        (output_of O.wrote O.held O.faults out.old out.new) }
+    // `check`: the status of an input that tells its bytes, where no fault is counted and memory is
+    // found.
+    ensures answered { (cid : CidParts) (bytes : List ℕ)
+        → CommandLine (map string_bytes words.now) (Check cid) → I.left input.old ≡ Some bytes
         → (InputRose (input_of I.took I.at_end I.left I.faults input.old input.new) → ⊥)
         → (OutputRose (output_of O.wrote O.held O.faults out.old out.new) → ⊥)
         → (result ≡ 8) ⊎ CheckStatus cid bytes result }
 
     // `cid`: what is put.
-    ensures hex { (cid : CidParts) → CommandLine (map string_bytes words.now) (CidToHex cid) → result ≡ 0
+    ensures hex { (cid : CidParts)
+        → CommandLine (map string_bytes words.now) (CidToHex cid) → result ≡ 0
         → PutsLine (CidToHex cid) (output_of O.wrote O.held O.faults out.old out.new) }
-    ensures text { (cid : CidParts) → CommandLine (map string_bytes words.now) (CidToText cid) → result ≡ 0
+    ensures text { (cid : CidParts)
+        → CommandLine (map string_bytes words.now) (CidToText cid) → result ≡ 0
         → PutsLine (CidToText cid) (output_of O.wrote O.held O.faults out.old out.new) }
 {
     match command(alloc, words, input, out) {
@@ -74,7 +95,8 @@ pub fn run<I: Source, O: Sink, E: Sink>(
 /// Says on err that no memory was found for the words, and answers the exit status 8.
 pub fn out_of_memory<E: Sink>(err: &mut E) -> u8
     ensures status { result ≡ 8 }
-    ensures line { Says (Some Refusal.OutOfMemory) (output_of E.wrote E.held E.faults err.old err.new) }
+    ensures line { Says (Some Refusal.OutOfMemory)
+        (output_of E.wrote E.held E.faults err.old err.new) }
 {
     let _ = Refusal::OutOfMemory.report(err);
     Refusal::OutOfMemory.status()
