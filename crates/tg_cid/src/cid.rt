@@ -334,3 +334,8 @@ pub fn one_spelling()
     ensures one_text { (a : CidParts) (s t : List ℕ) → CidText a s → CidText a t → s ≡ t }
     ensures one_cid { (a b : CidParts) (t : List ℕ) → CidText a t → CidText b t → a ≡ b }
 {}
+
+/// Two CIDs are equal exactly where their four parts are.
+pub fn equality()
+    ensures { (a b : CidParts) → IsTrue (⟦<Cid as PartialEq>⟧.eq a b) ↔ (a ≡ b) }
+{}

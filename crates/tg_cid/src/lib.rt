@@ -6,7 +6,7 @@ mod fault;
 mod numbers;
 mod room;
 
-pub use cid::{Cid, Codec, HashKind, one_spelling};
+pub use cid::{Cid, Codec, HashKind, equality, one_spelling};
 pub use fault::CidFault;
 
 #[cfg(test)]

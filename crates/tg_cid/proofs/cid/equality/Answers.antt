@@ -1,0 +1,35 @@
+use Rattle.std.proofs.Common.{◌≡◌, ℕ, ◌-◌, List, ◌++◌, length, take, replicate, sym, ap, ◌∙◌, rules}
+use Rattle.std.proofs.Math.Seq.{take-append_seam}
+use Rattle.std.proofs.lemmas.Bool.{and_parts, and_from, eqb-true, eq-eqb}
+use Rattle.std.proofs.lemmas.Slice.Eq.{bytes_eq-Decides}
+use denote.Enum.Bare.{same_true, true_same}
+use Rattle.tg_cid.specs.Cid.{CidParts}
+use Rattle.tg_cid.specs.contracts.cid.Codec as codecs
+use Rattle.tg_cid.specs.contracts.cid.HashKind as hashes
+use Rattle.tg_cid.proofs.cid.equality.Goals as goal
+
+-- equal parts make equal CIDs
+same_parts : (a b : CidParts) → a.version ≡ b.version → a.codec ≡ b.codec → a.hash ≡ b.hash → a.digest ≡ b.digest → a ≡ b
+same_parts a b v c h d = λ i. record { version = v i; codec = c i; hash = h i; digest = d i }
+
+-- digests of one length whose rooms are equal are equal
+same_digests : (x y s t : List ℕ) → length x ≡ length y → x ++ s ≡ y ++ t → x ≡ y
+same_digests x y s t size room =
+    sym (take-append_seam x s) ∙ ap (take (length x)) room ∙ ap (λ n. take n (y ++ t)) size ∙ take-append_seam y t
+
+pub returns : goal.returns
+returns c = λ a b. (
+  λ h.
+      let versions = and_parts _ _ h in
+      let codecs_are = and_parts _ _ versions.1 in
+      let hashes_are = and_parts _ _ codecs_are.1 in
+      let sizes = and_parts _ _ hashes_are.1 in
+      same_parts a b (eqb-true _ _ versions.0) (same_true codecs.the_type (search rules) _ _ codecs_are.0) (same_true hashes.the_type (search rules) _ _ hashes_are.0)
+      (same_digests a.digest b.digest _ _ (eqb-true _ _ sizes.0) ((bytes_eq-Decides _ _).0 sizes.1)),
+  λ e.
+      let digest = ap (λ (p : CidParts). p.digest) e in
+      and_from _ _ (eq-eqb _ _ (ap (λ (p : CidParts). p.version) e))
+      (and_from _ _ (true_same codecs.the_type _ _ (ap (λ (p : CidParts). p.codec) e))
+      (and_from _ _ (true_same hashes.the_type _ _ (ap (λ (p : CidParts). p.hash) e))
+      (and_from _ _ (eq-eqb _ _ (ap length digest)) ((bytes_eq-Decides _ _).1 (ap (λ d. d ++ replicate (128 - length d) 0) digest))))),
+)
