@@ -10,7 +10,8 @@ made=$(mktemp -d) || exit 1
 trap 'rm -rf "$made"' EXIT
 head -c 2097152 /dev/urandom >"$made/block"
 cid=$(./tgate cid --hex="01551220$(sha256sum "$made/block" | cut -c1-64)") || exit 1
-./tgate check "$cid" <"$made/block" | cmp - "$made/block" || exit 1
+./tgate check "$cid" <"$made/block" >"$made/copy" || exit 1
+cmp "$made/copy" "$made/block" || exit 1
 
 python3 - "$PWD/crates/tgate/out/tgate" "$cid" "$made" <<'PY'
 import subprocess, sys, time
