@@ -4,3 +4,4 @@ pub mod Faults
 pub mod Emitted
 pub mod Reading
 pub mod Writing
+pub mod Values

@@ -8,7 +8,8 @@ use Rattle.tg_pbtable.specs.declared.table.Order.TheVariants.{Ascending}
 use Rattle.tg_pbtable.specs.Message.{Message, count_of}
 use Rattle.tg_unixfs.specs.declared.TheConstants.{DATA}
 use Rattle.tg_unixfs.specs.declared.Unix.{Unix}
-use Rattle.tg_unixfs.specs.Unix.{HasParts, numbers_at, bytes_at, number_in, bytes_in, listed}
+use Rattle.tg_pbtable.specs.Values.{numbers_at, bytes_at, number_in, bytes_in, listed}
+use Rattle.tg_unixfs.specs.Unix.{HasParts}
 use Rattle.tg_unixfs.specs.Reading.{later, Gathers, nothing}
 use Rattle.tg_unixfs.proofs.Parts.{numbers_are, bytes_are, parts_append, few_numbers, few_bytes, all_numbers}
 

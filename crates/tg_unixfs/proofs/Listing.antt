@@ -15,7 +15,8 @@ use Rattle.tg_pbtable.specs.Emitted.{LiesIn}
 use Rattle.tg_pbtable.proofs.Numbers.{count_cons}
 use Rattle.tg_unixfs.specs.declared.TheConstants.{DATA}
 use Rattle.tg_unixfs.specs.declared.Unix.{Unix}
-use Rattle.tg_unixfs.specs.Unix.{HasParts, number_in, bytes_in, listed}
+use Rattle.tg_pbtable.specs.Values.{number_in, bytes_in, listed}
+use Rattle.tg_unixfs.specs.Unix.{HasParts}
 use Rattle.tg_unixfs.specs.Writing.{numbered, as_numbers, as_places, source_of, optional, placed, all_fields}
 use Rattle.tg_unixfs.proofs.Parts.{parts_at, numbers_are, bytes_are}
 

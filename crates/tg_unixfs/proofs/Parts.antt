@@ -12,7 +12,7 @@ use Rattle.tg_pbtable.specs.declared.table.Value.TheVariants.{Number, Place}
 use Rattle.tg_pbtable.specs.Message.{HasRule, AreRuled, count_of, wire_of}
 use Rattle.tg_pbtable.proofs.Numbers.{count_cons}
 use Rattle.tg_unixfs.specs.declared.TheConstants.{DATA}
-use Rattle.tg_unixfs.specs.Unix.{number_in, bytes_in, numbers_at, bytes_at}
+use Rattle.tg_pbtable.specs.Values.{number_in, bytes_in, numbers_at, bytes_at}
 
 -- ---- a choice by a test
 

@@ -14,7 +14,8 @@ use Rattle.tg_pbtable.specs.Emitted.{IsSameValue, AreSameFields}
 use Rattle.tg_pbtable.proofs.Spellings.{one_reading}
 use Rattle.tg_unixfs.specs.declared.TheConstants.{DATA}
 use Rattle.tg_unixfs.specs.declared.Unix.{Unix}
-use Rattle.tg_unixfs.specs.Unix.{HasParts, UnixText, number_in, bytes_in, numbers_at, bytes_at, listed}
+use Rattle.tg_pbtable.specs.Values.{number_in, bytes_in, numbers_at, bytes_at, listed}
+use Rattle.tg_unixfs.specs.Unix.{HasParts, UnixText}
 use Rattle.tg_unixfs.proofs.Parts.{numbers_are, bytes_are, parts_here, parts_other, no_parts, IsKnown, known, no_numbers, no_bytes, none_outside}
 
 -- the parts of one number

@@ -6,7 +6,8 @@ use Rattle.tg_pbtable.specs.declared.fault.PbFault.TheVariants as pb
 use Rattle.tg_unixfs.specs.declared.Unix.{Unix}
 use Rattle.tg_unixfs.specs.declared.UnixFault.{UnixFault}
 use Rattle.tg_unixfs.specs.declared.UnixFault.TheVariants as faults
-use Rattle.tg_unixfs.specs.Unix.{IsKind, numbers_at, bytes_at}
+use Rattle.tg_pbtable.specs.Values.{numbers_at, bytes_at}
+use Rattle.tg_unixfs.specs.Unix.{IsKind}
 
 -- the last of the values, or the one from before where there is none
 abbrev pub later : {A : Type 0} → Option A → List A → Option A

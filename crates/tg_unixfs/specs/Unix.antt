@@ -1,35 +1,12 @@
 -- UnixFS data as a message under its table (UnixFS specification, Data Format: message Data; the ascending order and the
 -- unpacked blocksizes are this project's own profile).
-use Rattle.std.specs.Prelude.{◌≡◌, ℕ, ◌⊎◌, List, [], ◌∷◌, ◌++◌, ◌==◌, slice_range, Option, Some, None, if◌then◌else◌}
+use Rattle.std.specs.Prelude.{◌≡◌, ℕ, ◌⊎◌, List, [], ◌∷◌, Option, Some}
 use Rattle.tg_pbtable.specs.declared.table.Field.{Field}
 use Rattle.tg_pbtable.specs.declared.table.Order.TheVariants.{Ascending}
-use Rattle.tg_pbtable.specs.declared.table.Value.{Value}
-use Rattle.tg_pbtable.specs.declared.table.Value.TheVariants.{Number, Place}
 use Rattle.tg_pbtable.specs.Message.{Message}
+use Rattle.tg_pbtable.specs.Values.{numbers_at, bytes_at, listed}
 use Rattle.tg_unixfs.specs.declared.TheConstants.{DATA}
 use Rattle.tg_unixfs.specs.declared.Unix.{Unix}
-
--- the numbers and the bytes of the fields of one number, in order
-abbrev pub number_in : Value → List ℕ
-number_in (Number n) = n ∷ []
-number_in (Place start end) = []
-
-abbrev pub bytes_in : List ℕ → Value → List (List ℕ)
-bytes_in text (Number n) = []
-bytes_in text (Place start end) = slice_range text start end ∷ []
-
-abbrev pub numbers_at : ℕ → List Field → List ℕ
-numbers_at number [] = []
-numbers_at number (field ∷ fields) = if field.number == number then number_in field.value ++ numbers_at number fields else numbers_at number fields
-
-abbrev pub bytes_at : List ℕ → ℕ → List Field → List (List ℕ)
-bytes_at text number [] = []
-bytes_at text number (field ∷ fields) = if field.number == number then bytes_in text field.value ++ bytes_at text number fields else bytes_at text number fields
-
--- one value or none, as a list
-abbrev pub listed : {A : Type 0} → Option A → List A
-listed None = []
-listed (Some x) = x ∷ []
 
 -- the types of a node: 0 Raw, 1 Directory, 2 File, 4 Symlink, 5 HAMTShard
 abbrev pub IsKind : ℕ → Type 0

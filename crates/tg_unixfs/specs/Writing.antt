@@ -4,7 +4,7 @@ use Rattle.tg_pbtable.specs.declared.table.Field.{Field}
 use Rattle.tg_pbtable.specs.declared.table.Value.{Value}
 use Rattle.tg_pbtable.specs.declared.table.Value.TheVariants.{Number, Place}
 use Rattle.tg_unixfs.specs.declared.Unix.{Unix}
-use Rattle.tg_unixfs.specs.Unix.{listed}
+use Rattle.tg_pbtable.specs.Values.{listed}
 
 -- the fields of one number with these values
 abbrev pub numbered : ℕ → List Value → List Field

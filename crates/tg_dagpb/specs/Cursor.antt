@@ -1,0 +1,23 @@
+-- Cursors over the links of a block: a cursor stands behind some of the fields of a node, and so between two links.
+use Rattle.std.specs.Prelude.{◌≡◌, ℕ, ◌≤◌, List, [], ◌∷◌, ◌++◌, length, take}
+use Rattle.tg_pbtable.specs.declared.table.Field.{Field}
+use Rattle.tg_pbtable.specs.declared.table.Order.TheVariants.{Runs}
+use Rattle.tg_pbtable.specs.Message.{Message, Spelled}
+use Rattle.tg_pbtable.specs.Values.{bytes_at}
+use Rattle.tg_dagpb.specs.declared.TheConstants.{NODE}
+use Rattle.tg_dagpb.specs.declared.Link.{Link}
+use Rattle.tg_dagpb.specs.Node.{LinkTexts}
+
+-- at `at` these links of the node are behind, and those are to come
+pub record IsBetween (text : List ℕ) (at : ℕ) (behind ahead : List Link) : Type 0 where
+  pub front : List Field
+  pub rest : List Field
+  pub message : Message NODE.now Runs text (front ++ rest)
+  pub inside : at ≤ length text
+  pub spelled : Spelled 0 front (take at text)
+  pub links_behind : LinkTexts behind (bytes_at text 2 front)
+  pub links_ahead : LinkTexts ahead (bytes_at text 2 rest)
+
+-- a cursor of a text: 0, or one that stands behind a link
+abbrev pub IsCursor : List ℕ → ℕ → Type 0
+IsCursor text at = (behind : List Link) × (ahead : List Link) × IsBetween text at behind ahead
