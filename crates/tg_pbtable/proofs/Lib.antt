@@ -7,3 +7,4 @@ pub mod Causes
 pub mod Scanning
 pub mod Emitting
 pub mod Tables
+pub mod Values

@@ -10,7 +10,7 @@ mod writing;
 pub use fault::PbFault;
 pub use reading::scan;
 pub use table::{Field, Fields, Order, Rule, Times, Value, Wire};
-pub use writing::{emit, one_message};
+pub use writing::{emit, one_message, same_values};
 
 #[cfg(test)]
 mod tests;
