@@ -1,0 +1,5 @@
+pub mod Parts
+pub mod Same
+pub mod Orders
+pub mod Gathering
+pub mod Causes
