@@ -3,3 +3,4 @@ pub mod Same
 pub mod Orders
 pub mod Gathering
 pub mod Causes
+pub mod Encoding

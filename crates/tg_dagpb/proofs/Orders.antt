@@ -46,7 +46,7 @@ apart m n f a b xs ys ne fm an bm h =
     let same : a.number ≡ f.number = t 0 1 k (omega arith) (omega arith) (omega (arith, length-append ns (numbers_of (b ∷ ys)))) (fm ∙ sym bm ∙ sym last) in
     ne (sym fm ∙ sym same ∙ an)
 
-longer : (m n : ℕ) (f : Field) (fs : List Field) → f.number ≡ m → Halves m n fs → Halves m n (f ∷ fs)
+pub longer : (m n : ℕ) (f : Field) (fs : List Field) → f.number ≡ m → Halves m n fs → Halves m n (f ∷ fs)
 longer m n f fs e h = record {
   front = f ∷ h.front;
   rest = h.rest;
