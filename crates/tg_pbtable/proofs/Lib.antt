@@ -5,6 +5,7 @@ pub mod Whole
 pub mod Numbers
 pub mod Causes
 pub mod Scanning
+pub mod Places
 pub mod Emitting
 pub mod Tables
 pub mod Values

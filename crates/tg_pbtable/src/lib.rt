@@ -1,14 +1,18 @@
 //! One scanner and one emitter for every protobuf message that a table of fields describes.
 #![tactic(auto)]
 
+mod cursor;
 mod fault;
 mod raw;
 mod reading;
+mod ruled;
 mod table;
 mod writing;
 
+pub use cursor::FieldCursor;
 pub use fault::PbFault;
 pub use reading::scan;
+pub use ruled::field_at;
 pub use table::{Field, Fields, Order, Rule, Times, Value, Wire};
 pub use writing::{emit, one_message, same_values};
 

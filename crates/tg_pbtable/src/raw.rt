@@ -20,7 +20,7 @@ pub(crate) struct RawField {
 }
 
 /// The field of which the key stands at `at`.
-pub(crate) fn field_at(bytes: &[u8], at: usize) -> Result<RawField, ReadFault>
+pub(crate) fn raw_field_at(bytes: &[u8], at: usize) -> Result<RawField, ReadFault>
     requires { at ≤ length bytes.now }
     ensures { MatchResult result (λ raw. IsFieldAt at (drop at bytes.now) raw)
         (λ e. IsFieldFault e (drop at bytes.now)) }
