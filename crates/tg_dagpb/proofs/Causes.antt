@@ -20,7 +20,7 @@ use Rattle.tg_dagpb.specs.declared.Link.{Link}
 use Rattle.tg_dagpb.specs.declared.Node.{Node}
 use Rattle.tg_dagpb.specs.Node.{LinkText, LinkTexts, HasNodeParts, NodeText}
 use Rattle.tg_dagpb.specs.Faults.{IsLinkText, HasBadLink, HasNodeCause, moved_by}
-use Rattle.tg_dagpb.specs.Reading.{place_of, GathersNode, no_node, IsBadField}
+use Rattle.tg_dagpb.specs.Reading.{place_of, GathersNode, no_node, IsBadField, placed}
 use Rattle.tg_dagpb.proofs.Parts.{node_table, link_table, All-split}
 use Rattle.tg_dagpb.proofs.Same.{one_node}
 
@@ -34,9 +34,6 @@ all_links [] [] h = All-nil IsLinkText
 all_links [] (t ∷ texts) h = absurd h
 all_links (a ∷ links) [] h = absurd h
 all_links (a ∷ links) (t ∷ texts) h = All-cons IsLinkText t texts (a, h.0) (all_links links texts h.1)
-
-abbrev pub placed : ℕ → ℕ → Field
-placed start end = record { number = 2; value = Place start end }
 
 bytes_there : (text : List ℕ) (before after : List Field) (start end : ℕ) → bytes_at text 2 (before ++ placed start end ∷ after) ≡ bytes_at text 2 before ++ (slice_range text start end ∷ bytes_at text 2 after)
 bytes_there text before after start end = bytes_append text 2 before (placed start end ∷ after)

@@ -4,3 +4,5 @@ pub mod Orders
 pub mod Gathering
 pub mod Causes
 pub mod Encoding
+pub mod Cursors
+pub mod Checking

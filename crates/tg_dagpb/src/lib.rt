@@ -9,7 +9,7 @@ ghost use Rattle.tg_dagpb.specs.Node.{NodeText, CanonicalText, DataFirstText};
 ghost use Rattle.tg_dagpb.specs.Cursor.{IsBetween};
 ghost use Rattle.tg_dagpb.specs.declared.Node.{Node};
 
-pub use reading::decode;
+pub use reading::{check, decode, link_at};
 pub use writing::encode;
 
 use tg_edges::{Bytes, List};

@@ -28,4 +28,4 @@ returns c =
     let all = take_all c.loop-link.link-index c.as_slice-link-items.result.now c.loop-link-test.false ∙ c.as_slice-link-items.ensures in
     let links = subst (λ (ls : List Link). IsDrafted ls c.loop-link.draft.fields.items c.loop-link.draft.source) all c.loop-link.invariant in
     let d : IsNode c.args.node.now c.new.result c.as_slice-2.result.now = node_drafted c.args.node.now _ _ _ _ links (c.new.ensures ∙ c.in_ok-put_optional.ensures.fields) (c.as_slice-2.ensures ∙ c.in_ok-put_optional.ensures.source) in
-    rw c.from.ensures (node_done c.args.node.now c.new.result c.as_slice-2.result.now _ d c.in_ok-text.ensures.again)
+    rw c.from.ensures (node_done c.args.node.now c.new.result c.as_slice-2.result.now _ d c.in_ok-text-2.ensures.again)
