@@ -7,3 +7,7 @@ pub mod Causes
 pub mod Scanning
 pub mod Emitting
 pub mod Tables
+mod ComputedValues
+pub mod ComputedVarints
+pub mod ComputedRules
+pub mod ComputedFields

@@ -5,3 +5,4 @@ pub mod Emitted
 pub mod Reading
 pub mod Writing
 pub mod Values
+pub mod Computed
