@@ -5,7 +5,7 @@ use Rattle.std.proofs.lemmas.Bool.{cond_both, cond-true, eqb-true, eq-eqb, and_p
 use Rattle.std.proofs.lemmas.List.Elements.{All-cons, All-tail}
 use Rattle.tg_base32.proofs.ComputedText.{text_law}
 use Rattle.tg_cid.specs.Cid.{CidParts}
-use Rattle.tg_cid.specs.Spelling.{CidBytes, CidV0Bytes, CidV1Bytes, CidText, IsDigestSize, codec_code, hash_code}
+use Rattle.tg_cid.specs.Spelling.{CidBytes, CidV1Bytes, CidText, IsDigestSize, codec_code, hash_code}
 use Rattle.tg_cid.specs.Computed.{with_digest, with_code, version_one, cid_of, v1_bytes, cid_text}
 use Rattle.tg_cid.specs.declared.cid.Codec.{Codec}
 use Rattle.tg_cid.specs.declared.cid.Codec.TheVariants.{Raw, DagPb}
@@ -46,8 +46,8 @@ code_told code digest are =
     cond_both (code == 0x55) (with_digest 1 Raw digest) (if code == 0x70 then with_digest 1 DagPb digest else None) (Told (1 ∷ code ∷ 0x12 ∷ 0x20 ∷ digest))
     (λ t. subst (λ (n : ℕ). Told (1 ∷ n ∷ 0x12 ∷ 0x20 ∷ digest) (with_digest 1 Raw digest)) (sym (eqb-true code 0x55 t)) (digest_told Raw digest are))
     (λ f. cond_both (code == 0x70) (with_digest 1 DagPb digest) None (Told (1 ∷ code ∷ 0x12 ∷ 0x20 ∷ digest))
-      (λ t. subst (λ (n : ℕ). Told (1 ∷ n ∷ 0x12 ∷ 0x20 ∷ digest) (with_digest 1 DagPb digest)) (sym (eqb-true code 0x70 t)) (digest_told DagPb digest are))
-      (λ g. none_told (1 ∷ code ∷ 0x12 ∷ 0x20 ∷ digest)))
+    (λ t. subst (λ (n : ℕ). Told (1 ∷ n ∷ 0x12 ∷ 0x20 ∷ digest) (with_digest 1 DagPb digest)) (sym (eqb-true code 0x70 t)) (digest_told DagPb digest are))
+    (λ g. none_told (1 ∷ code ∷ 0x12 ∷ 0x20 ∷ digest)))
 
 -- what is told of one list is told of the same one
 moved : (a b : List ℕ) (o : Option CidParts) → a ≡ b → Told a o → Told b o
@@ -63,11 +63,11 @@ one_told version code (hash ∷ size ∷ digest) are =
     let digest_are = All-tail (λ (b : ℕ). b < 256) size digest (All-tail (λ (b : ℕ). b < 256) hash (size ∷ digest) are) in
     cond_both (version == 1 && (hash == 0x12 && size == 0x20)) (with_code code digest) None (Told (version ∷ code ∷ hash ∷ size ∷ digest))
     (λ t.
-      let first = and_parts (version == 1) (hash == 0x12 && size == 0x20) t in
-      let second = and_parts (hash == 0x12) (size == 0x20) first.1 in
-      moved (1 ∷ code ∷ 0x12 ∷ 0x20 ∷ digest) (version ∷ code ∷ hash ∷ size ∷ digest) (with_code code digest)
-      (four version code hash size 1 0x12 0x20 digest (eqb-true version 1 first.0) (eqb-true hash 0x12 second.0) (eqb-true size 0x20 second.1))
-      (code_told code digest digest_are))
+    let first = and_parts (version == 1) (hash == 0x12 && size == 0x20) t in
+    let second = and_parts (hash == 0x12) (size == 0x20) first.1 in
+    moved (1 ∷ code ∷ 0x12 ∷ 0x20 ∷ digest) (version ∷ code ∷ hash ∷ size ∷ digest) (with_code code digest)
+    (four version code hash size 1 0x12 0x20 digest (eqb-true version 1 first.0) (eqb-true hash 0x12 second.0) (eqb-true size 0x20 second.1))
+    (code_told code digest digest_are))
     (λ f. none_told (version ∷ code ∷ hash ∷ size ∷ digest))
 
 two : (a b x y : ℕ) (rest : List ℕ) → a ≡ x → b ≡ y → x ∷ y ∷ rest ≡ a ∷ b ∷ rest
@@ -81,8 +81,8 @@ cid_told (first ∷ second ∷ rest) are =
     let rest_are = All-tail (λ (b : ℕ). b < 256) second rest (All-tail (λ (b : ℕ). b < 256) first (second ∷ rest) are) in
     cond_both (first == 0x12 && second == 0x20) (with_digest 0 DagPb rest) (version_one first second rest) (Told (first ∷ second ∷ rest))
     (λ t.
-      let both = and_parts (first == 0x12) (second == 0x20) t in
-      moved (0x12 ∷ 0x20 ∷ rest) (first ∷ second ∷ rest) (with_digest 0 DagPb rest) (two first second 0x12 0x20 rest (eqb-true first 0x12 both.0) (eqb-true second 0x20 both.1)) (zero_told rest rest_are))
+    let both = and_parts (first == 0x12) (second == 0x20) t in
+    moved (0x12 ∷ 0x20 ∷ rest) (first ∷ second ∷ rest) (with_digest 0 DagPb rest) (two first second 0x12 0x20 rest (eqb-true first 0x12 both.0) (eqb-true second 0x20 both.1)) (zero_told rest rest_are))
     (λ f. one_told first second rest rest_are)
 
 -- ---- a CID that is spelled is computed
