@@ -13,7 +13,7 @@ use Rattle.tg_pbtable.specs.declared.fault.PbFault.{PbFault}
 use Rattle.tg_pbtable.specs.declared.fault.PbFault.TheVariants as faults
 use Rattle.tg_pbtable.specs.Message.{Message, IsTable, Spelled, AreRuled, HasRule, count_of, numbers_of, IsInOrder, IsAtMost, IsCount, wire_of, wire_code}
 use Rattle.tg_pbtable.specs.Faults.{Begins, FirstAt, IsShort, HasBadVarint, IsUnknown, HasWrongWire, IsOutOfOrder, IsDoubled, IsMissing, HasField, BreaksOrder, HasCause}
-use Rattle.tg_pbtable.specs.Reading.{EndsIn}
+use Rattle.tg_pbtable.specs.Cursor.{EndsIn}
 use Rattle.tg_pbtable.proofs.Whole.{read_short_bad, read_short_field, read_bad_field, read_one_field, spelled_has}
 use Rattle.tg_pbtable.proofs.Spellings.{Further, compare, further_more, one_reading}
 use Rattle.tg_pbtable.proofs.Numbers.{no_break, break_last, count_twice, ends_contains, numbers_push}
@@ -63,12 +63,12 @@ Judged rules way fields rest on = GoesOn rules way fields rest
 
 -- ---- pairs of them
 
-unknown_known : (rules : List Rule) (rest : List ℕ) (n : ℕ) (rule : Rule) (number wire : ℕ) → IsUnknown rules n rest → Contains rules rule → rule.number ≡ number → HasField number wire rest → ⊥
+pub unknown_known : (rules : List Rule) (rest : List ℕ) (n : ℕ) (rule : Rule) (number wire : ℕ) → IsUnknown rules n rest → Contains rules rule → rule.number ≡ number → HasField number wire rest → ⊥
 unknown_known rules rest n rule number wire u among e f =
     let same : n ≡ number = (read_one_field rest n number u.wire wire u.field f).0 in
     All-contains (λ (r : Rule). r.number ≢ n) rules rule u.unknown among (e ∙ sym same)
 
-wrong_right : (rules : List Rule) (rest : List ℕ) (rule : Rule) → IsTable rules → HasWrongWire rules rest → Contains rules rule → HasField rule.number (wire_code rule.wire) rest → ⊥
+pub wrong_right : (rules : List Rule) (rest : List ℕ) (rule : Rule) → IsTable rules → HasWrongWire rules rest → Contains rules rule → HasField rule.number (wire_code rule.wire) rest → ⊥
 wrong_right rules rest rule t w among f =
     let same = read_one_field rest w.number rule.number w.wire (wire_code rule.wire) w.field f in
     let rules_same : w.rule ≡ rule = one_rule rules w.rule rule t w.among among (w.number_is ∙ same.0) in

@@ -21,7 +21,8 @@ use Rattle.tg_pbtable.specs.declared.fault.PbFault.{PbFault}
 use Rattle.tg_pbtable.specs.declared.fault.PbFault.TheVariants as faults
 use Rattle.tg_pbtable.specs.Message.{wire_code, wire_of, count_of, numbers_of, IsInOrder}
 use Rattle.tg_pbtable.specs.Faults.{HasField, BreaksOrder}
-use Rattle.tg_pbtable.specs.Reading.{IsValueOf, IsSpelledAt, IsRuleAt, IsRuled, IsRefused, EndsIn, has_number}
+use Rattle.tg_pbtable.specs.Cursor.{IsRefused, EndsIn, has_number}
+use Rattle.tg_pbtable.specs.Reading.{IsValueOf, IsSpelledAt, IsRuleAt, IsRuled}
 use Rattle.tg_pbtable.specs.Computed.{rule_of, Ruled, with_value, with_rule, ruled, ends_in, breaks_order, is_many, asks, lower, lowest_missing}
 use Rattle.tg_pbtable.proofs.Numbers.{count_contains, contains_count, last_of, rises, new_run, same_run}
 use Rattle.tg_pbtable.proofs.ComputedVarints.{FieldTold}

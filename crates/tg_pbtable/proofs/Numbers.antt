@@ -1,20 +1,21 @@
 -- The numbers of fields: how many of one there are, and in which order they stand.
-use Rattle.std.proofs.Common.{◌≡◌, ℕ, ◌+◌, ◌-◌, ◌<◌, ◌≤◌, ◌≢◌, Bool, cond, List, [], ◌∷◌, ◌++◌, length, take, get_or, refl, sym, ap, ◌∙◌, inl, inr, arith}
-use Rattle.std.specs.Prelude.{Any, Contains, ◌==◌, slice_get, Some, None}
+use Rattle.std.proofs.Common.{◌≡◌, ℕ, ◌+◌, ◌-◌, ◌<◌, ◌≤◌, ◌≢◌, Bool, true, false, cond, Option, Some, None, List, [], ◌∷◌, ◌++◌, length, take, get_or, refl, sym, ap, ◌∙◌, subst, inl, inr, arith}
+use Rattle.std.specs.Prelude.{Any, Contains, ◌==◌}
+use Rattle.std.specs.Option.{option_eq}
 use Rattle.std.specs.List.Sorted.{IsNonDecreasing}
+use Rattle.std.proofs.lemmas.Bool.Decides.{Decides-eqb}
 use Rattle.std.proofs.lemmas.Bool.{cases_lt, cases_eq, eq-eqb, ne_eqb}
 use Rattle.std.proofs.lemmas.List.{length-append, get_or_push, get_or_at, get_or_append_left, take_more, take_all, map-append, get_or_default, get_or-map, length-map}
 use Rattle.std.proofs.lemmas.List.Elements.{Contains-append_right}
 use Rattle.std.proofs.lemmas.List.Sorted.{IsNonDecreasingBy-push}
 use Rattle.std.proofs.lemmas.List.Sums.{sum_by-cons, sum_by-append, sum_by_push}
-use Rattle.std.proofs.lemmas.Option.{get_or_from_slice_get, slice_get_within, slice_get-get_or}
 use Rattle.std.proofs.lemmas.Map.Made.{Contains-tail}
 use Rattle.tg_pbtable.specs.declared.table.Field.{Field}
 use Rattle.tg_pbtable.specs.declared.table.Order.{Order}
 use Rattle.tg_pbtable.specs.declared.table.Order.TheVariants.{Ascending, Runs}
 use Rattle.tg_pbtable.specs.Message.{count_of, numbers_of, StandTogether, IsInOrder}
 use Rattle.tg_pbtable.specs.Faults.{BreaksOrder}
-use Rattle.tg_pbtable.specs.Reading.{EndsIn}
+use Rattle.tg_pbtable.specs.Cursor.{EndsIn, IsLast}
 
 -- ---- counts
 
@@ -182,41 +183,30 @@ same_run ns n h ends i j k ij jk kl e =
 pub numbers_push : (fs : List Field) (f : Field) (gs : List Field) → numbers_of (fs ++ f ∷ gs) ≡ numbers_of fs ++ f.number ∷ numbers_of gs
 numbers_push fs f gs = map-append (λ (x : Field). x.number) fs (f ∷ gs)
 
--- ---- the last field
+-- ---- a number behind the last one
 
-last_number : (fs : List Field) (f : Field) → slice_get fs (length fs - 1) ≡ Some f → (0 < length (numbers_of fs)) × (get_or (numbers_of fs) (length (numbers_of fs) - 1) 0 ≡ f.number)
-last_number fs f e =
-    let size : length (numbers_of fs) ≡ length fs = length-map fs (λ (x : Field). x.number) in
-    let in' : length fs - 1 < length fs = slice_get_within fs (length fs - 1) f e in (
-      omega arith,
-      ap (λ (k : ℕ). get_or (numbers_of fs) (k - 1) 0) size ∙ get_or-map (λ (x : Field). x.number) fs (length fs - 1) f 0 in' ∙ ap (λ (x : Field). x.number) (get_or_from_slice_get fs (length fs - 1) f f e),
-    )
+pub falls : (ns : List ℕ) (last n : ℕ) → EndsIn ns last → n < last → Any (λ (m : ℕ). n < m) ns
+falls ns last n e lt =
+    let h = last_of ns last e in
+    let some : 0 < length ns = h.0 in
+    (length ns - 1, last, omega arith, get_or_default ns (length ns - 1) last 0 (omega arith) ∙ h.1, lt)
 
-pub ends_last : (fs : List Field) (f : Field) (n : ℕ) → slice_get fs (length fs - 1) ≡ Some f → f.number ≡ n → EndsIn (numbers_of fs) n
-ends_last fs f n e is = let last = last_number fs f e in ends_in_last (numbers_of fs) n last.0 (last.1 ∙ is)
+pub rises_after : (ns : List ℕ) (last n : ℕ) → IsNonDecreasing ns → EndsIn ns last → last ≤ n → IsNonDecreasing (ns ++ n ∷ [])
+rises_after ns last n h e le = rises ns n h (λ _. let is : get_or ns (length ns - 1) 0 ≡ last = (last_of ns last e).1 in omega arith)
 
-pub last_ends : (fs : List Field) (f : Field) (n : ℕ) → slice_get fs (length fs - 1) ≡ Some f → EndsIn (numbers_of fs) n → f.number ≡ n
-last_ends fs f n e ends = sym (last_number fs f e).1 ∙ (last_of (numbers_of fs) n ends).1
+pub rises_alone : (ns : List ℕ) (n : ℕ) → IsNonDecreasing ns → ns ≡ [] → IsNonDecreasing (ns ++ n ∷ [])
+rises_alone ns n h e = rises ns n h (λ p. let none : length ns ≡ 0 = ap length e in absurd (omega arith))
 
-pub none_ends : (fs : List Field) (n : ℕ) → slice_get fs (length fs - 1) ≡ None → EndsIn (numbers_of fs) n → ⊥
-none_ends [] n e ends = let last = last_of [] n ends in let some : 0 < 0 = last.0 in omega arith
-none_ends (f ∷ fs) n e ends =
-    let some = slice_get-get_or (f ∷ fs) (length (f ∷ fs) - 1) f (omega arith) in
-    let clash : Some (get_or (f ∷ fs) (length (f ∷ fs) - 1) f) ≡ None = sym some ∙ e in
-    cc
+-- a list has one last number
+pub one_last : (ns : List ℕ) (last n : ℕ) → EndsIn ns last → EndsIn ns n → last ≡ n
+one_last ns last n a b = sym (last_of ns last a).1 ∙ (last_of ns n b).1
 
-pub falls : (fs : List Field) (f : Field) (n : ℕ) → slice_get fs (length fs - 1) ≡ Some f → n < f.number → Any (λ (m : ℕ). n < m) (numbers_of fs)
-falls fs f n e lt =
-    let last = last_number fs f e in
-    let some : 0 < length (numbers_of fs) = last.0 in
-    (length (numbers_of fs) - 1, f.number, omega arith, get_or_default (numbers_of fs) (length (numbers_of fs) - 1) f.number 0 (omega arith) ∙ last.1, lt)
+pub none_ends : (ns : List ℕ) (n : ℕ) → ns ≡ [] → EndsIn ns n → ⊥
+none_ends ns n e ends =
+    let none : length ns ≡ 0 = ap length e in
+    let some : 0 < length ns = (last_of ns n ends).0 in
+    omega arith
 
-pub rises_after : (fs : List Field) (f : Field) (n : ℕ) → IsNonDecreasing (numbers_of fs) → slice_get fs (length fs - 1) ≡ Some f → f.number ≤ n → IsNonDecreasing (numbers_of fs ++ n ∷ [])
-rises_after fs f n h e le = let last = last_number fs f e in rises (numbers_of fs) n h (λ _. let is : get_or (numbers_of fs) (length (numbers_of fs) - 1) 0 ≡ f.number = last.1 in omega arith)
-
-pub rises_alone : (fs : List Field) (n : ℕ) → slice_get fs (length fs - 1) ≡ None → IsNonDecreasing (numbers_of fs) → IsNonDecreasing (numbers_of fs ++ n ∷ [])
-rises_alone [] n e h = rises [] n h (λ p. let none : 0 < 0 = p in absurd (omega arith))
-rises_alone (f ∷ fs) n e h =
-    let some = slice_get-get_or (f ∷ fs) (length (f ∷ fs) - 1) f (omega arith) in
-    let clash : Some (get_or (f ∷ fs) (length (f ∷ fs) - 1) f) ≡ None = sym some ∙ e in
-    absurd cc
+pub same_last : (ns : List ℕ) (last : Option ℕ) (n : ℕ) → IsLast ns last → (option_eq ◌==◌ last (Some n) ≡ true → EndsIn ns n) × (EndsIn ns n → option_eq ◌==◌ last (Some n) ≡ true)
+same_last ns None n h = (λ e. absurd (cc), λ ends. absurd (none_ends ns n h ends))
+same_last ns (Some m) n h = (λ e. subst (λ (k : ℕ). EndsIn ns k) ((Decides-eqb m n).0 e) h, λ ends. (Decides-eqb m n).1 (one_last ns m n h ends))

@@ -12,21 +12,25 @@ use Rattle.tg_pbtable.specs.declared.table.Times.TheVariants.{One, Optional, Man
 use Rattle.tg_pbtable.specs.declared.table.Order.{Order}
 use Rattle.tg_pbtable.specs.declared.table.Order.TheVariants.{Ascending, Runs}
 use Rattle.tg_pbtable.specs.declared.table.Field.{Field}
+use Rattle.tg_pbtable.specs.declared.cursor.FieldCursor.{FieldCursor}
 use Rattle.tg_pbtable.specs.declared.fault.PbFault.{PbFault}
 use Rattle.tg_pbtable.specs.declared.fault.PbFault.TheVariants as faults
 use Rattle.tg_pbtable.specs.Message.{Message, IsTable, Spelled, FieldSpelling, HasRule, count_of, numbers_of, IsInOrder, IsAtMost, IsCount, wire_of}
 use Rattle.tg_pbtable.specs.Faults.{Begins, HasCause, HasRuled, BreaksOrder}
-use Rattle.tg_pbtable.specs.Reading.{Stands, IsRuled, IsRuleAt, EndsIn, has_number, AreMet, IsLowest, IsLowestUnmet}
+use Rattle.tg_pbtable.specs.Emitted.{LiesIn}
+use Rattle.tg_pbtable.specs.Cursor.{HasRead, EndsIn, has_number}
+use Rattle.tg_pbtable.specs.Reading.{IsRuled, IsRuleAt, AreMet, IsLowest, IsLowestUnmet}
 use Rattle.tg_pbtable.proofs.Causes.{one_rule, one_cause, no_cause}
 use Rattle.tg_pbtable.proofs.Numbers.{count_push_same, count_push_other, contains_count, count_contains, none_before, numbers_push}
 use Rattle.tg_pbtable.proofs.Spellings.{spelled_push}
+use Rattle.tg_pbtable.proofs.Tables.{value_inside}
 
 -- ---- which rules have a field
 
 rule_is : (rules : List Rule) (i : ℕ) (rule d : Rule) → IsRuleAt rules i rule → get_or rules i d ≡ rule
 rule_is rules i rule d r = get_or_from_slice_get rules i rule d r.here
 
-among : (rules : List Rule) (i : ℕ) (rule : Rule) → IsRuleAt rules i rule → Contains rules rule
+pub among : (rules : List Rule) (i : ℕ) (rule : Rule) → IsRuleAt rules i rule → Contains rules rule
 among rules i rule r = (i, r.inside, rule_is rules i rule rule r)
 
 seen_value : (rules : List Rule) (fields : List Field) (seen : List Bool) (i : ℕ) (rule : Rule) → seen ≡ map (λ (r : Rule). has_number fields r.number) rules → IsRuleAt rules i rule → get_or seen i false ≡ has_number fields rule.number
@@ -103,35 +107,41 @@ count_more rules way fields f rule other t here is inorder once there most = eli
       subst (λ (n : ℕ). IsAtMost other.times n) (sym (count_push_same fields f other.number same)) (times_more other.times (count_of fields other.number) none)
 ]
 
-pub stands_more : (rules : List Rule) (way : Order) (text : List ℕ) (fields : List Field) (seen : List Bool) (at i : ℕ) (f : Field) (next : ℕ) → IsTable rules → Stands rules way text fields seen at → (r : IsRuled rules at (drop at text) i f next)
+abbrev pub cursor_after : {N : ℕ} → FieldCursor N → ℕ → Field → ℕ → FieldCursor N
+cursor_after c i f next = record { at = next; seen = slice_set c.seen i true; last = Some f.number }
+
+pub read_more : {N : ℕ} (rules : List Rule) (way : Order) (text : List ℕ) (fields : List Field) (c : FieldCursor N) (i : ℕ) (f : Field) (next : ℕ) → IsTable rules → HasRead rules way text fields c → (r : IsRuled rules c.at (drop c.at text) i f next)
     → IsInOrder way (numbers_of fields ++ f.number ∷ []) → (r.rule.times ≢ Many → EndsIn (numbers_of fields) f.number → ⊥)
-    → (at < next) × Stands rules way text (fields ++ f ∷ []) (slice_set seen i true) next
-stands_more rules way text fields seen at i f next t s r inorder once =
+    → HasRead rules way text (fields ++ f ∷ []) (cursor_after c i f next) × LiesIn text f.value × (c.at < next)
+read_more rules way text fields c i f next t s r inorder once =
     let b = s.begins in
     let p = r.spelled in
     let front = b.front ++ p.front in
     let whole : text ≡ front ++ p.behind = b.whole ∙ ap (λ (x : List ℕ). b.front ++ x) p.whole ∙ sym (append_assoc b.front p.front p.behind) in
     let size : length front ≡ length b.front + length p.front = length-append b.front p.front in
-    let at_is : at ≡ length b.front = b.at_is in
-    let next_is : next ≡ at + length p.front = p.next_is in
+    let at_is : c.at ≡ length b.front = b.at_is in
+    let next_is : next ≡ c.at + length p.front = p.next_is in
     let end : next ≡ length front = omega arith in
     let rest : drop next text ≡ p.behind = ap (drop next) whole ∙ drop_at front p.behind next (sym end) in
     let here : Contains rules r.rule = among rules i r.rule r.rule_at in
-    let spelled : FieldSpelling (0 + length b.front) f p.front = subst (λ (n : ℕ). FieldSpelling n f p.front) (let e : at ≡ 0 + length b.front = omega arith in e) p.spelled in (
-      omega (arith, p.more),
+    let numbers : numbers_of (fields ++ f ∷ []) ≡ numbers_of fields ++ f.number ∷ [] = numbers_push fields f [] in
+    let place : FieldSpelling (length b.front) f p.front = subst (λ (n : ℕ). FieldSpelling n f p.front) at_is p.spelled in (
       record {
         inside = omega (arith, ap length whole, length-append front p.behind);
         begins = record {
           front = front;
           whole = whole ∙ ap (λ (x : List ℕ). front ++ x) (sym rest);
           at_is = end;
-          spelled = spelled_push fields f 0 b.front p.front b.spelled spelled;
+          spelled = spelled_push fields f 0 b.front p.front b.spelled (subst (λ (n : ℕ). FieldSpelling n f p.front) (let e : length b.front ≡ 0 + length b.front = omega arith in e) place);
           ruled = All-push (λ (x : Field). HasRule rules x.number (wire_of x.value)) fields f b.ruled (record { rule = r.rule; among = here; number_is = r.number_is; wire_is = r.wire_is });
           counts = λ k d l. count_more rules way fields f r.rule (get_or rules k d) t here r.number_is inorder once (Contains-get_or rules k d l) (b.counts k d l);
-          ordered = subst (λ (ns : List ℕ). IsInOrder way ns) (sym (numbers_push fields f [])) inorder;
+          ordered = subst (λ (ns : List ℕ). IsInOrder way ns) (sym numbers) inorder;
         };
-        seen_is = seen_more rules fields seen i r.rule f t s.seen_is r.rule_at r.number_is;
+        seen_is = seen_more rules fields c.seen i r.rule f t s.seen_is r.rule_at r.number_is;
+        last_is = (numbers_of fields, numbers);
       },
+      subst (λ (x : List ℕ). LiesIn x f.value) (sym (b.whole ∙ ap (λ (x : List ℕ). b.front ++ x) p.whole)) (value_inside b.front p.front p.behind f.number f.value place),
+      omega (arith, p.more),
     )
 
 -- ---- refusals
@@ -142,26 +152,26 @@ has_ruled rules at rest i f next r = record { among = among rules i r.rule r.rul
 more_left : (text : List ℕ) (at : ℕ) → at < length text → 0 < length (drop at text)
 more_left text at l = omega (arith, length-drop at text)
 
-pub out_of_order : (rules : List Rule) (way : Order) (text : List ℕ) (fields : List Field) (seen : List Bool) (at i : ℕ) (f : Field) (next : ℕ) → at < length text → Stands rules way text fields seen at → IsRuled rules at (drop at text) i f next
-    → BreaksOrder way (numbers_of fields) f.number → HasCause rules way text (faults.OutOfOrder at)
-out_of_order rules way text fields seen at i f next l s r breaks = record {
+pub out_of_order : {N : ℕ} (rules : List Rule) (way : Order) (text : List ℕ) (fields : List Field) (c : FieldCursor N) (i : ℕ) (f : Field) (next : ℕ) → c.at < length text → HasRead rules way text fields c → IsRuled rules c.at (drop c.at text) i f next
+    → BreaksOrder way (numbers_of fields) f.number → HasCause rules way text (faults.OutOfOrder c.at)
+out_of_order rules way text fields c i f next l s r breaks = record {
   fields = fields;
-  rest = drop at text;
+  rest = drop c.at text;
   begins = s.begins;
-  more = more_left text at l;
-  cause = record { rule = r.rule; ruled = has_ruled rules at (drop at text) i f next r; breaks = subst (λ (n : ℕ). BreaksOrder way (numbers_of fields) n) (sym r.number_is) breaks };
+  more = more_left text c.at l;
+  cause = record { rule = r.rule; ruled = has_ruled rules c.at (drop c.at text) i f next r; breaks = subst (λ (n : ℕ). BreaksOrder way (numbers_of fields) n) (sym r.number_is) breaks };
 }
 
-pub doubled : (rules : List Rule) (way : Order) (text : List ℕ) (fields : List Field) (seen : List Bool) (at i : ℕ) (f : Field) (next : ℕ) (d : Rule) → at < length text → Stands rules way text fields seen at → IsRuled rules at (drop at text) i f next
-    → (get_or rules i d).times ≢ Many → EndsIn (numbers_of fields) f.number → HasCause rules way text (faults.Doubled at)
-doubled rules way text fields seen at i f next d l s r once ends = record {
+pub doubled : {N : ℕ} (rules : List Rule) (way : Order) (text : List ℕ) (fields : List Field) (c : FieldCursor N) (i : ℕ) (f : Field) (next : ℕ) (d : Rule) → c.at < length text → HasRead rules way text fields c → IsRuled rules c.at (drop c.at text) i f next
+    → (get_or rules i d).times ≢ Many → EndsIn (numbers_of fields) f.number → HasCause rules way text (faults.Doubled c.at)
+doubled rules way text fields c i f next d l s r once ends = record {
   fields = fields;
-  rest = drop at text;
+  rest = drop c.at text;
   begins = s.begins;
-  more = more_left text at l;
+  more = more_left text c.at l;
   cause = record {
     rule = r.rule;
-    ruled = has_ruled rules at (drop at text) i f next r;
+    ruled = has_ruled rules c.at (drop c.at text) i f next r;
     once = λ e. once (ap (λ (x : Rule). x.times) (rule_is rules i r.rule d r.rule_at) ∙ e);
     front = ends.0;
     last = ends.1 ∙ ap (λ (n : ℕ). ends.0 ++ n ∷ []) (sym r.number_is);
@@ -178,8 +188,11 @@ none_at_most One = omega arith
 none_at_most Optional = omega arith
 none_at_most Many = tt
 
-pub nothing_yet : (rules : List Rule) (way : Order) (text : List ℕ) (seen : List Bool) → IsInOrder way [] → seen ≡ map (λ (r : Rule). has_number [] r.number) rules → Stands rules way text [] seen 0
-nothing_yet rules way text seen inorder e = record {
+abbrev pub first_cursor : (N : ℕ) → List Bool → FieldCursor N
+first_cursor N seen = record { at = 0; seen = seen; last = None }
+
+pub nothing_yet : (N : ℕ) (rules : List Rule) (way : Order) (text : List ℕ) (seen : List Bool) → IsInOrder way [] → seen ≡ map (λ (r : Rule). has_number [] r.number) rules → HasRead rules way text [] (first_cursor N seen)
+nothing_yet N rules way text seen inorder e = record {
   inside = omega arith;
   begins = record {
     front = [];
@@ -191,12 +204,13 @@ nothing_yet rules way text seen inorder e = record {
     ordered = inorder;
   };
   seen_is = e;
+  last_is = refl;
 }
 
-pub end_begins : (rules : List Rule) (way : Order) (text : List ℕ) (fields : List Field) (seen : List Bool) (at : ℕ) → length text ≤ at → Stands rules way text fields seen at → Begins rules way text fields (length text) []
-end_begins rules way text fields seen at past s =
-    let all : at ≡ length text = omega (arith, s.inside) in
-    subst (λ (n : ℕ). Begins rules way text fields n []) all (subst (λ (t : List ℕ). Begins rules way text fields at t) (drop_all at text past) s.begins)
+pub end_begins : {N : ℕ} (rules : List Rule) (way : Order) (text : List ℕ) (fields : List Field) (c : FieldCursor N) → length text ≤ c.at → HasRead rules way text fields c → Begins rules way text fields (length text) []
+end_begins rules way text fields c past s =
+    let all : c.at ≡ length text = omega (arith, s.inside) in
+    subst (λ (n : ℕ). Begins rules way text fields n []) all (subst (λ (t : List ℕ). Begins rules way text fields c.at t) (drop_all c.at text past) s.begins)
 
 some_count : (rules : List Rule) (fields : List Field) (seen : List Bool) (k : ℕ) (d : Rule) → seen ≡ map (λ (r : Rule). has_number fields r.number) rules → k < length rules → get_or seen k false ≡ has_number fields (get_or rules k d).number
 some_count rules fields seen k d e l = ap (λ (t : List Bool). get_or t k false) e ∙ get_or-map (λ (x : Rule). has_number fields x.number) rules k d false l
@@ -206,14 +220,14 @@ exact_count One n most some = let p : 0 < n = some refl in omega arith
 exact_count Optional n most some = most
 exact_count Many n most some = tt
 
-pub whole_message : (rules : List Rule) (way : Order) (text : List ℕ) (fields : List Field) (seen : List Bool) (at : ℕ) → length text ≤ at → Stands rules way text fields seen at → AreMet rules seen (length rules) → Message rules way text fields
-whole_message rules way text fields seen at past s met =
-    let b = end_begins rules way text fields seen at past s in
+pub whole_message : {N : ℕ} (rules : List Rule) (way : Order) (text : List ℕ) (fields : List Field) (c : FieldCursor N) → length text ≤ c.at → HasRead rules way text fields c → AreMet rules c.seen (length rules) → Message rules way text fields
+whole_message rules way text fields c past s met =
+    let b = end_begins rules way text fields c past s in
     record {
       spelled = subst (λ (t : List ℕ). Spelled 0 fields t) (sym (b.whole ∙ append-nil b.front)) b.spelled;
       ruled = b.ruled;
       counts = λ k d l. exact_count (get_or rules k d).times (count_of fields (get_or rules k d).number) (b.counts k d l)
-          (λ asks. (Decides-ltb 0 (count_of fields (get_or rules k d).number)).0 (sym (some_count rules fields seen k d s.seen_is l) ∙ met k d l asks));
+          (λ asks. (Decides-ltb 0 (count_of fields (get_or rules k d).number)).0 (sym (some_count rules fields c.seen k d s.seen_is l) ∙ met k d l asks));
       ordered = b.ordered;
     }
 
@@ -226,18 +240,18 @@ none_counted fields n e = elim (cases_lt 0 (count_of fields n)) [
 unmet_value : (fields : List Field) (n : ℕ) → count_of fields n ≡ 0 → has_number fields n ≡ false
 unmet_value fields n e = ap (nat_lt 0) e
 
-pub missing_there : (rules : List Rule) (way : Order) (text : List ℕ) (fields : List Field) (seen : List Bool) (at number : ℕ) → length text ≤ at → Stands rules way text fields seen at → IsLowestUnmet rules seen (length rules) number → HasCause rules way text (faults.Missing number)
-missing_there rules way text fields seen at number past s h = record {
+pub missing_there : {N : ℕ} (rules : List Rule) (way : Order) (text : List ℕ) (fields : List Field) (c : FieldCursor N) (number : ℕ) → length text ≤ c.at → HasRead rules way text fields c → IsLowestUnmet rules c.seen (length rules) number → HasCause rules way text (faults.Missing number)
+missing_there rules way text fields c number past s h = record {
   fields = fields;
-  begins = end_begins rules way text fields seen at past s;
+  begins = end_begins rules way text fields c past s;
   rule = h.rule;
   among = (h.k, h.inside, h.here h.rule);
   number_is = h.number_is;
   asks = h.asks;
   none =
       let number_here : (get_or rules h.k h.rule).number ≡ number = ap (λ (x : Rule). x.number) (h.here h.rule) ∙ h.number_is in
-      none_counted fields number (ap (has_number fields) (sym number_here) ∙ sym (some_count rules fields seen h.k h.rule s.seen_is h.inside) ∙ h.unmet);
-  lowest = λ j d l asks none. h.lowest j d l asks (some_count rules fields seen j d s.seen_is l ∙ unmet_value fields (get_or rules j d).number none);
+      none_counted fields number (ap (has_number fields) (sym number_here) ∙ sym (some_count rules fields c.seen h.k h.rule s.seen_is h.inside) ∙ h.unmet);
+  lowest = λ j d l asks none. h.lowest j d l asks (some_count rules fields c.seen j d s.seen_is l ∙ unmet_value fields (get_or rules j d).number none);
 }
 
 -- ---- the lowest of the rules that are not met

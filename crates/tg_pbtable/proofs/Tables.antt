@@ -14,7 +14,7 @@ use Rattle.tg_pbtable.proofs.Spellings.{moved}
 
 -- ---- places
 
-value_inside : (before front rest : List ℕ) (number : ℕ) (v : Value) → ValueSpelling (length before) number v front → LiesIn (before ++ (front ++ rest)) v
+pub value_inside : (before front rest : List ℕ) (number : ℕ) (v : Value) → ValueSpelling (length before) number v front → LiesIn (before ++ (front ++ rest)) v
 value_inside before front rest number (Number n) p = tt
 value_inside before front rest number (Place start end) p = (
   omega (arith, p.end_is),

@@ -16,7 +16,7 @@ use Rattle.tg_pbtable.specs.declared.fault.PbFault.{PbFault}
 use Rattle.tg_pbtable.specs.declared.fault.PbFault.TheVariants as faults
 use Rattle.tg_pbtable.specs.Varint.{number_of}
 use Rattle.tg_pbtable.specs.Message.{wire_code, wire_of, numbers_of}
-use Rattle.tg_pbtable.specs.Reading.{has_number}
+use Rattle.tg_pbtable.specs.Cursor.{has_number}
 
 -- goes on with what was read, and keeps a fault
 abbrev pub and_then : {A B E : Type 0} → Result A E → (A → Result B E) → Result B E

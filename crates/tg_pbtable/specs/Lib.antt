@@ -2,6 +2,7 @@ pub mod Varint
 pub mod Message
 pub mod Faults
 pub mod Emitted
+pub mod Cursor
 pub mod Reading
 pub mod Writing
 pub mod Values

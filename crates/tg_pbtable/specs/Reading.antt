@@ -9,8 +9,6 @@ use Rattle.tg_pbtable.specs.declared.table.Value.TheVariants.{Number, Place}
 use Rattle.tg_pbtable.specs.declared.raw.RawField.{RawField}
 use Rattle.tg_pbtable.specs.declared.raw.ReadFault.{ReadFault}
 use Rattle.tg_pbtable.specs.declared.raw.ReadFault.TheVariants.{Short, Bad}
-use Rattle.tg_pbtable.specs.declared.fault.PbFault.{PbFault}
-use Rattle.tg_pbtable.specs.declared.fault.PbFault.TheVariants as faults
 use Rattle.tg_pbtable.specs.Varint.{VarintSpelling, EndsInside, IsBadVarint}
 use Rattle.tg_pbtable.specs.Message.{ValueSpelling, wire_of, wire_code, count_of}
 use Rattle.tg_pbtable.specs.Faults.{Begins, HasField, EndsInValue, IsShort, HasBadVarint, IsUnknown, HasWrongWire}
@@ -98,31 +96,6 @@ pub record IsRuled (rules : List Rule) (at : ℕ) (rest : List ℕ) (i : ℕ) (f
   pub wire_is : rule.wire ≡ wire_of field.value
   pub has_field : HasField rule.number (wire_code rule.wire) rest
   pub spelled : IsSpelledAt at rest field.number field.value next
-
--- why none has
-abbrev pub IsRefused : List Rule → ℕ → List ℕ → PbFault → Type 0
-IsRefused rules at rest (faults.Short place) = (place ≡ at) × IsShort rest
-IsRefused rules at rest (faults.BadVarint place) = (place ≡ at) × HasBadVarint rest
-IsRefused rules at rest (faults.Unknown place number) = (place ≡ at) × IsUnknown rules number rest
-IsRefused rules at rest (faults.WrongWire place) = (place ≡ at) × HasWrongWire rules rest
-IsRefused rules at rest (faults.OutOfOrder place) = ⊥
-IsRefused rules at rest (faults.Doubled place) = ⊥
-IsRefused rules at rest (faults.Missing number) = ⊥
-IsRefused rules at rest faults.OutOfMemory = ⊥
-
--- the last of the numbers
-abbrev pub EndsIn : List ℕ → ℕ → Type 0
-EndsIn numbers number = (front : List ℕ) × (numbers ≡ front ++ number ∷ [])
-
--- whether a field has the number
-abbrev pub has_number : List Field → ℕ → Bool
-has_number fields number = nat_lt 0 (count_of fields number)
-
--- the fields up to `at` are read, and of each rule it is known whether it has one
-pub record Stands (rules : List Rule) (order : Order) (text : List ℕ) (fields : List Field) (seen : List Bool) (at : ℕ) : Type 0 where
-  pub inside : at ≤ length text
-  pub begins : Begins rules order text fields at (drop at text)
-  pub seen_is : seen ≡ map (λ rule. has_number fields rule.number) rules
 
 -- the first n rules that ask for a field have one
 abbrev pub AreMet : List Rule → List Bool → ℕ → Type 0

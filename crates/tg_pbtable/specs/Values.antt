@@ -1,5 +1,5 @@
 -- What the fields of one number say, in their order.
-use Rattle.std.specs.Prelude.{ℕ, List, [], ◌∷◌, ◌++◌, ◌==◌, slice_range, Option, Some, None, if◌then◌else◌}
+use Rattle.std.specs.Prelude.{◌≡◌, ℕ, List, [], ◌∷◌, ◌++◌, ◌==◌, slice_range, Option, Some, None, if◌then◌else◌}
 use Rattle.tg_pbtable.specs.declared.table.Field.{Field}
 use Rattle.tg_pbtable.specs.declared.table.Value.{Value}
 use Rattle.tg_pbtable.specs.declared.table.Value.TheVariants.{Number, Place}
@@ -25,3 +25,8 @@ bytes_at text number (field ∷ fields) = if field.number == number then bytes_i
 abbrev pub listed : {A : Type 0} → Option A → List A
 listed None = []
 listed (Some x) = x ∷ []
+
+-- two texts, each with its fields, have the same values of each number
+pub record HasSameValues (source : List ℕ) (fields : List Field) (text : List ℕ) (others : List Field) : Type 0 where
+  pub numbers : (number : ℕ) → numbers_at number fields ≡ numbers_at number others
+  pub bytes : (number : ℕ) → bytes_at source number fields ≡ bytes_at text number others

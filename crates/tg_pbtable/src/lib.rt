@@ -2,17 +2,21 @@
 #![tactic(auto)]
 
 mod computed;
+mod cursor;
 mod fault;
 mod raw;
 mod reading;
+mod ruled;
 mod table;
 mod writing;
 
 pub use computed::computes;
+pub use cursor::FieldCursor;
 pub use fault::PbFault;
 pub use reading::scan;
+pub use ruled::field_at;
 pub use table::{Field, Fields, Order, Rule, Times, Value, Wire};
-pub use writing::{emit, one_message};
+pub use writing::{emit, one_message, same_values};
 
 #[cfg(test)]
 mod tests;

@@ -6,6 +6,8 @@ ghost use Rattle.tg_pbtable.specs.Writing.{Puts, PutsVarint};
 ghost use Rattle.tg_pbtable.specs.declared.table.Field.{Field};
 ghost use Rattle.tg_pbtable.specs.declared.table.Rule.{Rule};
 ghost use Rattle.tg_pbtable.specs.declared.table.Order.{Order};
+ghost use Rattle.tg_pbtable.specs.declared.table.Order.TheVariants.{Ascending};
+ghost use Rattle.tg_pbtable.specs.Values.{HasSameValues};
 
 use crate::table::{Field, Fields, Rule, Value};
 use std::alloc::{AllocError, Global};
@@ -42,6 +44,16 @@ pub fn emit<const N: usize>(
 pub fn one_message()
     ensures one_reading { (at : ℕ) (text : List ℕ) (a b : List Field) → Spelled at a text → Spelled at b text → a ≡ b }
     ensures one_text { (s t : List ℕ) (a b : List Field) → Spelled 0 a s → Spelled 0 b t → AreSameFields s a t b → s ≡ t }
+{}
+
+/// Two messages with the same values of each number are one text: in ascending order, and in any order where the numbers
+/// of their fields are the same, one by one.
+pub fn same_values()
+    ensures ascending { (rules : List Rule) (s t : List ℕ) (a b : List Field) → IsTable rules
+        → Message rules Ascending s a → Message rules Ascending t b → HasSameValues s a t b → s ≡ t }
+    ensures any_order { (rules : List Rule) (order : Order) (s t : List ℕ) (a b : List Field) → IsTable rules
+        → Message rules order s a → Message rules order t b → numbers_of a ≡ numbers_of b
+        → HasSameValues s a t b → s ≡ t }
 {}
 
 /// Puts the spelling of a field behind the text.

@@ -1,22 +1,18 @@
 -- The text that is written for data is the data's.
-use Rattle.std.proofs.Common.{◌≡◌, ℕ, List, refl, sym, subst}
+use Rattle.std.proofs.Common.{◌≡◌, ℕ, List, sym, subst}
 use Rattle.std.specs.Prelude.{All}
 use Rattle.tg_pbtable.specs.declared.table.Rule.{Rule}
 use Rattle.tg_pbtable.specs.declared.table.Field.{Field}
 use Rattle.tg_pbtable.specs.declared.table.Order.{Order}
 use Rattle.tg_pbtable.specs.declared.table.Order.TheVariants.{Ascending}
-use Rattle.tg_pbtable.specs.Message.{Message, IsTable, AreRuled, IsCount, IsInOrder, count_of, numbers_of}
+use Rattle.tg_pbtable.specs.Message.{Message, AreRuled, IsCount, IsInOrder, count_of, numbers_of}
 use Rattle.tg_pbtable.specs.Emitted.{LiesIn, AreSameFields}
-use Rattle.tg_pbtable.proofs.Tables.{table_of}
 use Rattle.tg_unixfs.specs.declared.TheConstants.{DATA}
 use Rattle.tg_unixfs.specs.declared.Unix.{Unix}
 use Rattle.tg_unixfs.specs.Unix.{IsUnix, UnixText}
 use Rattle.tg_unixfs.specs.Writing.{source_of, all_fields}
 use Rattle.tg_unixfs.proofs.Same.{parts_again}
 use Rattle.tg_unixfs.proofs.Listing.{listed_parts, listed_counts, listed_rise, listed_ruled, listed_inside}
-
-pub data_table : IsTable DATA.now
-data_table = table_of DATA.now refl
 
 pub encoded : (u : Unix) (source text : List ℕ) (fs : List Field) → IsUnix u → source ≡ source_of u.inline → fs ≡ all_fields u
     → ((order : Order) → All (λ (rule : Rule). IsCount rule.times (count_of fs rule.number)) DATA.now → IsInOrder order (numbers_of fs)

@@ -1,23 +1,15 @@
 -- Data gathered from the fields of a message has them as its parts.
 use Rattle.std.proofs.Common.{◌≡◌, ℕ, ◌≤◌, Option, Some, None, List, [], ◌∷◌, ◌++◌, length, refl, sym, ap, ◌∙◌, append_assoc, arith}
 use Rattle.tg_pbtable.specs.declared.table.Field.{Field}
-use Rattle.tg_pbtable.specs.declared.table.Rule.{Rule}
-use Rattle.tg_pbtable.specs.declared.table.Wire.TheVariants.{Varint}
-use Rattle.tg_pbtable.specs.declared.table.Times.TheVariants.{One}
 use Rattle.tg_pbtable.specs.declared.table.Order.TheVariants.{Ascending}
 use Rattle.tg_pbtable.specs.Message.{Message, count_of}
 use Rattle.tg_unixfs.specs.declared.TheConstants.{DATA}
 use Rattle.tg_unixfs.specs.declared.Unix.{Unix}
-use Rattle.tg_pbtable.specs.Values.{numbers_at, bytes_at, number_in, bytes_in, listed}
+use Rattle.tg_pbtable.specs.Values.{numbers_at, bytes_at, listed}
 use Rattle.tg_unixfs.specs.Unix.{HasParts}
 use Rattle.tg_unixfs.specs.Reading.{later, Gathers, nothing}
-use Rattle.tg_unixfs.proofs.Parts.{numbers_are, bytes_are, parts_append, few_numbers, few_bytes, all_numbers}
-
-numbers_append : (n : ℕ) (xs ys : List Field) → numbers_at n (xs ++ ys) ≡ numbers_at n xs ++ numbers_at n ys
-numbers_append n xs ys = rw (numbers_are n (xs ++ ys), numbers_are n xs, numbers_are n ys) (parts_append number_in n xs ys)
-
-bytes_append : (text : List ℕ) (n : ℕ) (xs ys : List Field) → bytes_at text n (xs ++ ys) ≡ bytes_at text n xs ++ bytes_at text n ys
-bytes_append text n xs ys = rw (bytes_are text n (xs ++ ys), bytes_are text n xs, bytes_are text n ys) (parts_append (bytes_in text) n xs ys)
+use Rattle.tg_pbtable.proofs.Values.{numbers_append, bytes_append, values_count, all_numbers}
+use Rattle.tg_unixfs.proofs.Parts.{data_table, any_rule, rule_at}
 
 later_append : {A : Type 0} (o : Option A) (xs ys : List A) → later o (xs ++ ys) ≡ later (later o xs) ys
 later_append o [] ys = refl
@@ -48,9 +40,6 @@ exactly_one [] k l e = absurd (omega arith)
 exactly_one (x ∷ []) k l e = ap listed (sym e)
 exactly_one (x ∷ y ∷ xs) k l e = absurd (omega arith)
 
-any_rule : Rule
-any_rule = record { number = 1; wire = Varint; times = One }
-
 pub gathered_parts : (text : List ℕ) (fs : List Field) (u : Unix) → Message DATA.now Ascending text fs → Gathers text fs nothing u → HasParts text fs u
 gathered_parts text fs u m g =
     let one : count_of fs 1 ≡ 1 = m.counts 0 any_rule (omega arith) in
@@ -59,10 +48,10 @@ gathered_parts text fs u m g =
     let five : count_of fs 5 ≤ 1 = m.counts 4 any_rule (omega arith) in
     let six : count_of fs 6 ≤ 1 = m.counts 5 any_rule (omega arith) in
     record {
-      kind = exactly_one (numbers_at 1 fs) u.kind (all_numbers fs m.ruled ∙ one) g.kind;
-      inline = at_most_one (bytes_at text 2 fs) u.inline (omega (arith, few_bytes text 2 fs)) g.inline;
-      filesize = at_most_one (numbers_at 3 fs) u.filesize (omega (arith, few_numbers 3 fs)) g.filesize;
+      kind = exactly_one (numbers_at 1 fs) u.kind (all_numbers DATA.now 1 fs data_table (rule_at 0 (omega arith)) m.ruled ∙ one) g.kind;
+      inline = at_most_one (bytes_at text 2 fs) u.inline (omega (arith, values_count text 2 fs)) g.inline;
+      filesize = at_most_one (numbers_at 3 fs) u.filesize (omega (arith, values_count text 3 fs)) g.filesize;
       sizes = sym g.sizes;
-      hash = at_most_one (numbers_at 5 fs) u.hash (omega (arith, few_numbers 5 fs)) g.hash;
-      fanout = at_most_one (numbers_at 6 fs) u.fanout (omega (arith, few_numbers 6 fs)) g.fanout;
+      hash = at_most_one (numbers_at 5 fs) u.hash (omega (arith, values_count text 5 fs)) g.hash;
+      fanout = at_most_one (numbers_at 6 fs) u.fanout (omega (arith, values_count text 6 fs)) g.fanout;
     }

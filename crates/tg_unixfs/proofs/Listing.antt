@@ -3,10 +3,9 @@ use Rattle.std.proofs.Common.{◌≡◌, ℕ, zero, suc, ◌+◌, ◌-◌, ◌<�
 use Rattle.std.specs.Prelude.{All, slice_range, ◌==◌, if◌then◌else◌}
 use Rattle.std.specs.List.Sorted.{IsNonDecreasing}
 use Rattle.std.proofs.lemmas.List.{append-nil, take_more, take_all}
-use Rattle.std.proofs.lemmas.List.Elements.{All-nil, All-cons, All-append, Contains-get_or}
+use Rattle.std.proofs.lemmas.List.Elements.{All-nil, All-cons, All-append}
 use Rattle.tg_pbtable.specs.declared.table.Rule.{Rule}
 use Rattle.tg_pbtable.specs.declared.table.Wire.TheVariants.{Varint, Bytes}
-use Rattle.tg_pbtable.specs.declared.table.Times.TheVariants.{One}
 use Rattle.tg_pbtable.specs.declared.table.Field.{Field}
 use Rattle.tg_pbtable.specs.declared.table.Value.{Value}
 use Rattle.tg_pbtable.specs.declared.table.Value.TheVariants.{Number, Place}
@@ -18,7 +17,8 @@ use Rattle.tg_unixfs.specs.declared.Unix.{Unix}
 use Rattle.tg_pbtable.specs.Values.{number_in, bytes_in, listed}
 use Rattle.tg_unixfs.specs.Unix.{HasParts}
 use Rattle.tg_unixfs.specs.Writing.{numbered, as_numbers, as_places, source_of, optional, placed, all_fields}
-use Rattle.tg_unixfs.proofs.Parts.{parts_at, numbers_are, bytes_are}
+use Rattle.tg_pbtable.proofs.Values.{parts_at, numbers_are, bytes_are}
+use Rattle.tg_unixfs.proofs.Parts.{rule_at}
 
 -- ---- the sizes, one after another
 
@@ -233,9 +233,6 @@ listed_rise u = six_rise (Number u.kind ∷ []) (as_places u.inline) (as_numbers
 
 -- ---- rules and places
 
-any_rule : Rule
-any_rule = record { number = 1; wire = Varint; times = One }
-
 abbrev IsFit : List ℕ → Field → Type 0
 IsFit source f = HasRule DATA.now f.number (wire_of f.value) × LiesIn source f.value
 
@@ -246,9 +243,6 @@ fit_numbers source k h (n ∷ ns) = All-cons (IsFit source) (record { number = k
 fit_inline : (inline : Option (List ℕ)) → HasRule DATA.now 2 Bytes → All (IsFit (source_of inline)) (placed inline)
 fit_inline None h = All-nil (IsFit [])
 fit_inline (Some bytes) h = All-cons (IsFit bytes) (record { number = 2; value = Place 0 (length bytes) }) [] (h, (omega arith, omega arith)) (All-nil (IsFit bytes))
-
-rule_at : (i : ℕ) → i < length DATA.now → HasRule DATA.now (get_or DATA.now i any_rule).number (get_or DATA.now i any_rule).wire
-rule_at i l = record { rule = get_or DATA.now i any_rule; among = Contains-get_or DATA.now i any_rule l; number_is = refl; wire_is = refl }
 
 listed_fit : (u : Unix) → All (IsFit (source_of u.inline)) (all_fields u)
 listed_fit u =

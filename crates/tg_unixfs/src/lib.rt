@@ -17,7 +17,7 @@ ghost use Rattle.tg_unixfs.specs.declared.UnixFault.{UnixFault};
 use std::alloc::{AllocError, Global};
 use tg_edges::{Bytes, List};
 use tg_pbtable::{
-    Field, Fields, Order, PbFault, Rule, Times, Value, Wire, emit, one_message, scan,
+    Field, Fields, Order, PbFault, Rule, Times, Value, Wire, emit, same_values, scan,
 };
 use thiserror::Error;
 
@@ -280,7 +280,7 @@ pub fn one_text()
     ensures one_text { (unix : Unix) (s t : Items ℕ) → UnixText unix s → UnixText unix t → s ≡ t }
     ensures one_unix { (a b : Unix) (text : Items ℕ) → UnixText a text → UnixText b text → a ≡ b }
 {
-    one_message();
+    same_values();
 }
 
 #[cfg(test)]

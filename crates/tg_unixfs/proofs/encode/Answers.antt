@@ -1,5 +1,6 @@
 use Rattle.std.proofs.Common.{arith}
-use Rattle.tg_unixfs.proofs.Encoding.{data_table, encoded, ruled, inside}
+use Rattle.tg_unixfs.proofs.Encoding.{encoded, ruled, inside}
+use Rattle.tg_unixfs.proofs.Parts.{data_table}
 use Rattle.tg_unixfs.proofs.encode.Goals as goal
 
 pub emit-requires : goal.emit-requires

@@ -9,8 +9,8 @@ use Rattle.tg_pbtable.specs.contracts.table.Times.{the_type}
 use denote.Enum.Bare.{sameb}
 use Rattle.tg_pbtable.specs.Reading.{IsLowest}
 use Rattle.tg_pbtable.proofs.Scanning.{keep_lowest, take_lowest}
-use Rattle.tg_pbtable.proofs.reading.missing.Goals as goal
-use Rattle.tg_pbtable.proofs.reading.missing.Goals.{then-eq+then-not-seen-i, else-eq, else-eq-via-then-eq+else-not-seen-i, else-eq-via-else-eq}
+use Rattle.tg_pbtable.proofs.cursor.missing.Goals as goal
+use Rattle.tg_pbtable.proofs.cursor.missing.Goals.{then-eq+then-not-seen-i, else-eq, else-eq-via-then-eq+else-not-seen-i, else-eq-via-else-eq}
 
 is_one : (t : Times) → sameb the_type t One ≡ true → t ≡ One
 is_one One e = refl

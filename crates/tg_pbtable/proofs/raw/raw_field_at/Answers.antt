@@ -1,6 +1,6 @@
 use Rattle.std.proofs.lemmas.Result.{err_from_is_err_and}
 use Rattle.tg_pbtable.proofs.Whole.{field_there, fault_there, unsliced}
-use Rattle.tg_pbtable.proofs.raw.field_at.Goals as goal
+use Rattle.tg_pbtable.proofs.raw.raw_field_at.Goals as goal
 
 pub returns : goal.returns
 returns c = field_there c.args.at c.args.bytes.now c.in_ok-key.key c.in_ok-key.size c.in_ok-value.value (unsliced c.args.at c.args.bytes.now _ _ c.in_ok-key.ensures) c.in_ok-value.ensures

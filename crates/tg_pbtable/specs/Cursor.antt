@@ -1,0 +1,50 @@
+-- A place between two fields of a text, and the field at a place.
+use Rattle.std.specs.Prelude.{◌≡◌, ℕ, ◌+◌, ◌≤◌, Option, Some, None, Bool, List, [], ◌∷◌, ◌++◌, length, drop, map, nat_lt}
+use Rattle.tg_pbtable.specs.declared.table.Rule.{Rule}
+use Rattle.tg_pbtable.specs.declared.table.Order.{Order}
+use Rattle.tg_pbtable.specs.declared.table.Field.{Field}
+use Rattle.tg_pbtable.specs.declared.cursor.FieldCursor.{FieldCursor}
+use Rattle.tg_pbtable.specs.declared.fault.PbFault.{PbFault}
+use Rattle.tg_pbtable.specs.declared.fault.PbFault.TheVariants as faults
+use Rattle.tg_pbtable.specs.Message.{FieldSpelling, HasRule, wire_of, count_of, numbers_of}
+use Rattle.tg_pbtable.specs.Faults.{Begins, IsShort, HasBadVarint, IsUnknown, HasWrongWire}
+
+-- the last of the numbers
+abbrev pub EndsIn : List ℕ → ℕ → Type 0
+EndsIn numbers number = (front : List ℕ) × (numbers ≡ front ++ number ∷ [])
+
+abbrev pub IsLast : List ℕ → Option ℕ → Type 0
+IsLast numbers None = numbers ≡ []
+IsLast numbers (Some number) = EndsIn numbers number
+
+-- whether a field has the number
+abbrev pub has_number : List Field → ℕ → Bool
+has_number fields number = nat_lt 0 (count_of fields number)
+
+-- the text begins with these fields, which the table allows so far, and the cursor stands behind them: of each rule it is
+-- known whether it has a field, and of the last field its number
+pub record HasRead {N : ℕ} (rules : List Rule) (order : Order) (text : List ℕ) (fields : List Field) (cursor : FieldCursor N) : Type 0 where
+  pub inside : cursor.at ≤ length text
+  pub begins : Begins rules order text fields cursor.at (drop cursor.at text)
+  pub seen_is : cursor.seen ≡ map (λ rule. has_number fields rule.number) rules
+  pub last_is : IsLast (numbers_of fields) cursor.last
+
+-- a field under a rule of the table stands at `at` of the text, and `next` is the place behind it
+pub record StandsAt (rules : List Rule) (text : List ℕ) (at : ℕ) (field : Field) (next : ℕ) : Type 0 where
+  pub front : List ℕ
+  pub rest : List ℕ
+  pub whole : drop at text ≡ front ++ rest
+  pub spelled : FieldSpelling at field front
+  pub ruled : HasRule rules field.number (wire_of field.value)
+  pub next_is : next ≡ at + length front
+
+-- why no field under a rule stands at a place
+abbrev pub IsRefused : List Rule → ℕ → List ℕ → PbFault → Type 0
+IsRefused rules at rest (faults.Short place) = (place ≡ at) × IsShort rest
+IsRefused rules at rest (faults.BadVarint place) = (place ≡ at) × HasBadVarint rest
+IsRefused rules at rest (faults.Unknown place number) = (place ≡ at) × IsUnknown rules number rest
+IsRefused rules at rest (faults.WrongWire place) = (place ≡ at) × HasWrongWire rules rest
+IsRefused rules at rest (faults.OutOfOrder place) = ⊥
+IsRefused rules at rest (faults.Doubled place) = ⊥
+IsRefused rules at rest (faults.Missing number) = ⊥
+IsRefused rules at rest faults.OutOfMemory = ⊥
