@@ -4,3 +4,4 @@ pub mod Laws
 pub mod Steps
 pub mod Reading
 pub mod Writing
+pub mod ComputedText

@@ -1,2 +1,3 @@
 pub mod Base32
 pub mod Held
+pub mod Computed

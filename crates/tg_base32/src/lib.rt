@@ -7,6 +7,9 @@ ghost use Rattle.tg_base32.specs.Held.{IsHeld, bits_of, Reads, TakesLetter, Take
 ghost use Rattle.tg_base32.specs.declared.Base32Fault.{Base32Fault};
 ghost use Rattle.tg_base32.specs.declared.Base32Fault.TheVariants.{OutOfMemory};
 
+mod computed;
+
+pub use computed::computes;
 use std::alloc::{AllocError, Global};
 use thiserror::Error;
 

@@ -23,7 +23,7 @@ varints_once (n ∷ numbers) a b h k =
     let rest : h.1 ≡ k.1 = varints_once numbers h.1 k.1 h.4 k.4 in
     h.2 ∙ (ap₂ (λ (p q : List ℕ). p ++ q) front rest ∙ sym k.2)
 
-one_bytes : (a : CidParts) (u v : List ℕ) → CidV1Bytes a u → CidV1Bytes a v → u ≡ v
+pub one_bytes : (a : CidParts) (u v : List ℕ) → CidV1Bytes a u → CidV1Bytes a v → u ≡ v
 one_bytes a u v h k =
     let heads : h.head ≡ k.head =
     varints_once (1 ∷ codec_code a.codec ∷ hash_code a.hash ∷ length a.digest ∷ []) h.head k.head h.numbers k.numbers in

@@ -7,3 +7,5 @@ mod Whole
 mod Texts
 mod Laws
 mod Written
+pub mod ComputedCid
+mod ComputedValues

@@ -4,3 +4,4 @@ pub mod Spelling
 pub mod Digest
 pub mod Faults
 pub mod Reading
+pub mod Computed

@@ -9,3 +9,7 @@ pub mod Places
 pub mod Emitting
 pub mod Tables
 pub mod Values
+mod ComputedValues
+pub mod ComputedVarints
+pub mod ComputedRules
+pub mod ComputedFields

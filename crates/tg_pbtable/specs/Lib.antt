@@ -6,3 +6,4 @@ pub mod Cursor
 pub mod Reading
 pub mod Writing
 pub mod Values
+pub mod Computed

@@ -1,6 +1,7 @@
 //! One scanner and one emitter for every protobuf message that a table of fields describes.
 #![tactic(auto)]
 
+mod computed;
 mod cursor;
 mod fault;
 mod raw;
@@ -9,6 +10,7 @@ mod ruled;
 mod table;
 mod writing;
 
+pub use computed::computes;
 pub use cursor::FieldCursor;
 pub use fault::PbFault;
 pub use reading::scan;
