@@ -215,7 +215,7 @@ pub link_may : (link : Link) (fields : List Field) (source : List ℕ) → IsLin
 link_may link fields source d = (
   subst (λ (fs : List Field). AreRuled LINK.now fs) (sym d.fields_are) (link_ruled link),
   subst (λ (fs : List Field). All (λ (f : Field). LiesIn source f.value) fs) (sym d.fields_are)
-  (subst (λ (s : List ℕ). All (λ (f : Field). LiesIn s f.value) (link_fields link)) (sym d.source_is) (link_inside link)),
+      (subst (λ (s : List ℕ). All (λ (f : Field). LiesIn s f.value) (link_fields link)) (sym d.source_is) (link_inside link)),
 )
 
 pub link_done : (link : Link) (fields : List Field) (source text : List ℕ) → IsLink link fields source → Again LINK.now source fields text → LinkText link text
@@ -343,7 +343,7 @@ pub node_may : (node : Node) (fields : List Field) (source : List ℕ) → IsNod
 node_may node fields source d = (
   subst (λ (fs : List Field). AreRuled NODE.now fs) (sym d.fields_are) (node_ruled d.texts node.payload),
   subst (λ (fs : List Field). All (λ (f : Field). LiesIn source f.value) fs) (sym d.fields_are)
-  (subst (λ (s : List ℕ). All (λ (f : Field). LiesIn s f.value) (node_fields d.texts node.payload)) (sym d.source_is) (node_inside d.texts node.payload)),
+      (subst (λ (s : List ℕ). All (λ (f : Field). LiesIn s f.value) (node_fields d.texts node.payload)) (sym d.source_is) (node_inside d.texts node.payload)),
 )
 
 pub node_done : (node : Node) (fields : List Field) (source text : List ℕ) → IsNode node fields source → Again NODE.now source fields text → CanonicalText node text

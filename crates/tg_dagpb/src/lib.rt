@@ -10,10 +10,9 @@ ghost use Rattle.tg_dagpb.specs.Cursor.{IsBetween};
 ghost use Rattle.tg_dagpb.specs.declared.Node.{Node};
 
 pub use reading::{check, decode, link_at};
-pub use writing::encode;
-
 use tg_edges::{Bytes, List};
 use tg_pbtable::{Rule, Times, Wire, one_message};
+pub use writing::encode;
 
 /// The table of a node, of which the fields of one number stand together: 1 Data, 2 Links.
 ///
@@ -72,7 +71,7 @@ pub struct Node {
 }
 
 /// A link where it stands in its block.
-#[derive(Clone, Copy, Debug)]
+#[derive(Clone, Copy, Debug, PartialEq, Eq)]
 pub struct LinkSpan<'a> {
     pub hash: &'a [u8],
     pub name: Option<&'a [u8]>,
@@ -93,5 +92,5 @@ pub fn one_text()
     one_message();
 }
 
-
-
+#[cfg(test)]
+mod tests;
