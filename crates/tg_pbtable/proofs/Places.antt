@@ -1,5 +1,5 @@
 -- The field at a place of a text, and the fields before a cursor.
-use Rattle.std.proofs.Common.{◌≡◌, ◌≢◌, ℕ, ◌+◌, ◌≤◌, List, ◌++◌, length, take, drop, refl, sym, ap, ◌∙◌, subst, arith}
+use Rattle.std.proofs.Common.{◌≡◌, ℕ, ◌≤◌, List, ◌++◌, length, take, drop, sym, ap, ◌∙◌, subst, arith}
 use Rattle.std.proofs.lemmas.List.{length-append, length-drop, length-take-le, take-append-drop, take_at}
 use Rattle.tg_pbtable.specs.declared.table.Rule.{Rule}
 use Rattle.tg_pbtable.specs.declared.table.Wire.{Wire}
@@ -8,7 +8,7 @@ use Rattle.tg_pbtable.specs.declared.table.Field.{Field}
 use Rattle.tg_pbtable.specs.declared.cursor.FieldCursor.{FieldCursor}
 use Rattle.tg_pbtable.specs.declared.fault.PbFault.{PbFault}
 use Rattle.tg_pbtable.specs.declared.fault.PbFault.TheVariants as faults
-use Rattle.tg_pbtable.specs.Message.{IsTable, Spelled, HasRule, FieldSpelling, wire_of, wire_code}
+use Rattle.tg_pbtable.specs.Message.{IsTable, Spelled, FieldSpelling, wire_of, wire_code}
 use Rattle.tg_pbtable.specs.Faults.{HasField}
 use Rattle.tg_pbtable.specs.Emitted.{LiesIn}
 use Rattle.tg_pbtable.specs.Cursor.{HasRead, StandsAt, IsRefused}

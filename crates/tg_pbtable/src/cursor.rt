@@ -59,8 +59,8 @@ impl<const N: usize> FieldCursor<N> {
         ensures next { (fields : List Field) → HasRead rules.now order bytes.now fields self.old
             → MatchResult result
             (λ next. MatchOption next (Message rules.now order bytes.now fields)
-                (λ field. HasRead rules.now order bytes.now (fields ++ field ∷ []) self.new
-                    × LiesIn bytes.now field.value × (self.old.at < self.new.at)))
+            (λ field. HasRead rules.now order bytes.now (fields ++ field ∷ []) self.new
+            × LiesIn bytes.now field.value × (self.old.at < self.new.at)))
             (λ e. HasCause rules.now order bytes.now e) }
         ensures kept { MatchResult result (λ next. MatchOption next (self.new ≡ self.old) (λ _. ⊤))
             (λ _. self.new ≡ self.old) }

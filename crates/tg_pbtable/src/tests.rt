@@ -392,7 +392,25 @@ fn places(rt: HostRuntime) {
         expect_at(&rt, &ascending(), text, at, want);
     }
     let text: &[u8] = b"\x12\x00\x08\x85\x00\x0a\x00\x80\x00";
-    expect_at(&rt, &ascending(), text, 2, Err(PbFault::BadVarint { at: 2 }));
-    expect_at(&rt, &ascending(), text, 5, Err(PbFault::WrongWire { at: 5 }));
-    expect_at(&rt, &ascending(), text, 7, Err(PbFault::BadVarint { at: 7 }));
+    expect_at(
+        &rt,
+        &ascending(),
+        text,
+        2,
+        Err(PbFault::BadVarint { at: 2 }),
+    );
+    expect_at(
+        &rt,
+        &ascending(),
+        text,
+        5,
+        Err(PbFault::WrongWire { at: 5 }),
+    );
+    expect_at(
+        &rt,
+        &ascending(),
+        text,
+        7,
+        Err(PbFault::BadVarint { at: 7 }),
+    );
 }
