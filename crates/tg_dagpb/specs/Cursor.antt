@@ -1,11 +1,13 @@
 -- Cursors over the links of a block: a cursor stands behind some of the fields of a node, and so between two links.
-use Rattle.std.specs.Prelude.{◌≡◌, ℕ, ◌≤◌, List, [], ◌∷◌, ◌++◌, length, take}
+use Rattle.std.specs.Prelude.{◌≡◌, ℕ, ◌≤◌, List, [], ◌∷◌, ◌++◌, length, take, Option, Some, None}
+use Rattle.std.specs.Borrow.{Bor}
 use Rattle.tg_pbtable.specs.declared.table.Field.{Field}
 use Rattle.tg_pbtable.specs.declared.table.Order.TheVariants.{Runs}
 use Rattle.tg_pbtable.specs.Message.{Message, Spelled}
 use Rattle.tg_pbtable.specs.Values.{bytes_at}
 use Rattle.tg_dagpb.specs.declared.TheConstants.{NODE}
 use Rattle.tg_dagpb.specs.declared.Link.{Link}
+use Rattle.tg_dagpb.specs.declared.LinkSpan.{LinkSpan}
 use Rattle.tg_dagpb.specs.Node.{LinkTexts}
 
 -- at `at` these links of the node are behind, and those are to come
@@ -21,3 +23,12 @@ pub record IsBetween (text : List ℕ) (at : ℕ) (behind ahead : List Link) : T
 -- a cursor of a text: 0, or one that stands behind a link
 abbrev pub IsCursor : List ℕ → ℕ → Type 0
 IsCursor text at = (behind : List Link) × (ahead : List Link) × IsBetween text at behind ahead
+
+-- the bytes that a slice stands for, where there is one
+abbrev pub held : Option (Bor (List ℕ)) → Option (List ℕ)
+held None = None
+held (Some bytes) = Some bytes.now
+
+-- the link of a span
+abbrev pub link_of : LinkSpan → Link
+link_of span = record { hash = span.hash.now; name = held span.name; tsize = span.tsize }

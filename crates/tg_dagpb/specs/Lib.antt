@@ -1,3 +1,5 @@
 pub mod Node
 pub mod Faults
 pub mod Cursor
+pub mod Reading
+pub mod Writing

@@ -1,0 +1,102 @@
+-- The steps of reading a link and a node.
+use Rattle.std.specs.Prelude.{◌≡◌, ℕ, List, [], ◌∷◌, ◌++◌, Option, Some, None, slice_range, All}
+use Rattle.tg_pbtable.specs.declared.table.Field.{Field}
+use Rattle.tg_pbtable.specs.declared.table.Order.TheVariants.{Ascending, Runs}
+use Rattle.tg_pbtable.specs.declared.table.Value.TheVariants.{Place}
+use Rattle.tg_pbtable.specs.declared.fault.PbFault.{PbFault}
+use Rattle.tg_pbtable.specs.declared.fault.PbFault.TheVariants as faults
+use Rattle.tg_pbtable.specs.Values.{numbers_at, bytes_at}
+use Rattle.tg_pbtable.specs.Faults.{HasCause}
+use Rattle.tg_pbtable.specs.declared.cursor.FieldCursor.{FieldCursor}
+use Rattle.tg_pbtable.specs.Cursor.{HasRead}
+use Rattle.tg_dagpb.specs.declared.TheConstants.{NODE, LINK}
+use Rattle.tg_dagpb.specs.declared.Link.{Link}
+use Rattle.tg_dagpb.specs.declared.Node.{Node}
+use Rattle.tg_dagpb.specs.Node.{LinkTexts}
+use Rattle.tg_dagpb.specs.Faults.{moved_by, IsLinkText}
+use Rattle.tg_dagpb.specs.Cursor.{IsBetween}
+
+-- the last of the values, or the one from before where there is none
+abbrev pub later : {A : Type 0} → Option A → List A → Option A
+later before [] = before
+later before (x ∷ xs) = later (Some x) xs
+
+-- the link after the fields: of each number the last value
+pub record GathersLink (text : List ℕ) (fields : List Field) (old new : Link) : Type 0 where
+  pub hash : Some new.hash ≡ later (Some old.hash) (bytes_at text 1 fields)
+  pub name : new.name ≡ later old.name (bytes_at text 2 fields)
+  pub tsize : new.tsize ≡ later old.tsize (numbers_at 3 fields)
+
+-- a field that is a link at a place
+abbrev pub placed : ℕ → ℕ → Field
+placed start end = record { number = 2; value = Place start end }
+
+-- the link before any field
+abbrev pub no_link : Link
+no_link = record { hash = []; name = None; tsize = None }
+
+-- the node after the fields: all links, and the last data
+pub record GathersNode (text : List ℕ) (fields : List Field) (old new : Node) : Type 0 where
+  pub more : List Link
+  pub links : new.links ≡ old.links ++ more
+  pub texts : LinkTexts more (bytes_at text 2 fields)
+  pub payload : new.payload ≡ later old.payload (bytes_at text 1 fields)
+
+-- the node before any field
+abbrev pub no_node : Node
+no_node = record { links = []; payload = None }
+
+-- the bytes at a place are no link's, for this fault
+pub record IsBadPlace (text : List ℕ) (start end : ℕ) (fault : PbFault) : Type 0 where
+  pub cause : PbFault
+  pub cause_is : HasCause LINK.now Ascending (slice_range text start end) cause
+  pub fault_is : fault ≡ moved_by start cause
+
+-- the field is a link that is none, for this fault
+pub record IsBadField (text : List ℕ) (field : Field) (fault : PbFault) : Type 0 where
+  pub start : ℕ
+  pub end : ℕ
+  pub field_is : field ≡ placed start end
+  pub bad : IsBadPlace text start end fault
+
+-- the place of a fault, 0 where it has none
+abbrev pub place_of : PbFault → ℕ
+place_of (faults.Short at) = at
+place_of (faults.BadVarint at) = at
+place_of (faults.Unknown at number) = at
+place_of (faults.WrongWire at) = at
+place_of (faults.OutOfOrder at) = at
+place_of (faults.Doubled at) = at
+place_of (faults.Missing number) = 0
+place_of faults.OutOfMemory = 0
+
+-- the link after the fields that a cursor has read
+pub record LinkSoFar (text : List ℕ) (cursor : FieldCursor 3) (link : Link) : Type 0 where
+  pub fields : List Field
+  pub read : HasRead LINK.now Ascending text fields cursor
+  pub gathers : GathersLink text fields no_link link
+
+-- of the fields that are links one is none, and those before it are
+pub record HasFirstBad (text : List ℕ) (fields : List Field) (fault : PbFault) : Type 0 where
+  pub before : List Field
+  pub start : ℕ
+  pub end : ℕ
+  pub after : List Field
+  pub whole : fields ≡ before ++ placed start end ∷ after
+  pub earlier : All IsLinkText (bytes_at text 2 before)
+  pub bad : IsBadPlace text start end fault
+
+-- whether the fields that are links all are, or why the first that is none isn't
+abbrev pub IsVerdict : List ℕ → List Field → Option PbFault → Type 0
+IsVerdict text fields None = All IsLinkText (bytes_at text 2 fields)
+IsVerdict text fields (Some fault) = HasFirstBad text fields fault
+
+-- the verdict on the fields that a cursor has read
+pub record CheckedSoFar (text : List ℕ) (cursor : FieldCursor 2) (bad : Option PbFault) : Type 0 where
+  pub fields : List Field
+  pub read : HasRead NODE.now Runs text fields cursor
+  pub verdict : IsVerdict text fields bad
+
+-- every cursor of links at the one place is one at the other
+abbrev pub IsSameCursor : List ℕ → ℕ → ℕ → Type 0
+IsSameCursor text at from = (behind ahead : List Link) → IsBetween text at behind ahead → IsBetween text from behind ahead

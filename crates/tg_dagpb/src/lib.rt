@@ -1,0 +1,96 @@
+//! DAG-PB nodes: links to other blocks, and data.
+#![tactic(auto)]
+
+mod reading;
+mod writing;
+
+ghost use Rattle.std.specs.Prelude.{◌≡◌, ℕ, ◌⊎◌, [], List as Items};
+ghost use Rattle.tg_dagpb.specs.Node.{NodeText, CanonicalText, DataFirstText};
+ghost use Rattle.tg_dagpb.specs.Cursor.{IsBetween};
+ghost use Rattle.tg_dagpb.specs.declared.Node.{Node};
+
+pub use reading::{check, decode, link_at};
+use tg_edges::{Bytes, List};
+use tg_pbtable::{Rule, Times, Wire, one_message};
+pub use writing::encode;
+
+/// The table of a node, of which the fields of one number stand together: 1 Data, 2 Links.
+///
+/// IPLD specification, DAG-PB, Serial Format: message PBNode.
+pub const NODE: &[Rule; 2] = &[
+    Rule {
+        number: 1,
+        wire: Wire::Bytes,
+        times: Times::Optional,
+    },
+    Rule {
+        number: 2,
+        wire: Wire::Bytes,
+        times: Times::Many,
+    },
+];
+
+/// The table of a link, whose fields stand in ascending order: 1 Hash, 2 Name, 3 Tsize.
+///
+/// IPLD specification, DAG-PB, Serial Format: message PBLink.
+pub const LINK: &[Rule; 3] = &[
+    Rule {
+        number: 1,
+        wire: Wire::Bytes,
+        times: Times::One,
+    },
+    Rule {
+        number: 2,
+        wire: Wire::Bytes,
+        times: Times::Optional,
+    },
+    Rule {
+        number: 3,
+        wire: Wire::Varint,
+        times: Times::Optional,
+    },
+];
+
+/// A link: the bytes of the CID that it names, its name, and the size that it tells of all below it.
+///
+/// IPLD specification, DAG-PB, Logical Format: PBLink.
+#[derive(Debug, Drop)]
+pub struct Link {
+    pub hash: Bytes,
+    pub name: Option<Bytes>,
+    pub tsize: Option<u64>,
+}
+
+/// A node: its links in order, and its data. Absent data differs from empty data.
+///
+/// IPLD specification, DAG-PB, Logical Format: PBNode.
+#[derive(Debug, Drop)]
+pub struct Node {
+    pub links: List<Link>,
+    pub payload: Option<Bytes>,
+}
+
+/// A link where it stands in its block.
+#[derive(Clone, Copy, Debug, PartialEq, Eq)]
+pub struct LinkSpan<'a> {
+    pub hash: &'a [u8],
+    pub name: Option<&'a [u8]>,
+    pub tsize: Option<u64>,
+}
+
+/// A text is of one node, and a node has one canonical text and at most one other: that with the data before all links.
+pub fn one_text()
+    ensures one_node { (a b : Node) (text : Items ℕ) → NodeText a text → NodeText b text → a ≡ b }
+    ensures canonical { (node : Node) (s t : Items ℕ) → CanonicalText node s → CanonicalText node t → s ≡ t }
+    ensures other { (node : Node) (s t : Items ℕ) → DataFirstText node s → DataFirstText node t → s ≡ t }
+    // Links never stand on both sides of the data.
+    ensures orders { (node : Node) (text : Items ℕ) → NodeText node text
+        → CanonicalText node text ⊎ DataFirstText node text }
+    // A cursor over the links begins at the front.
+    ensures start { (node : Node) (text : Items ℕ) → NodeText node text → IsBetween text 0 [] node.links }
+{
+    one_message();
+}
+
+#[cfg(test)]
+mod tests;
