@@ -76,10 +76,10 @@ shard_told text u d kind five =
     let fanout = unwrap_or u.fanout 0 in
     cond_both (hash == 0x22) (if fanout == 256 then Ok u else Err (faults.BadFanout fanout)) (Err (faults.BadHash hash)) (UnixTold text)
     (λ t.
-      let murmur : hash ≡ 0x22 = eqb-true hash 0x22 t in
-      cond_both (fanout == 256) (Ok u) (Err (faults.BadFanout fanout)) (UnixTold text)
-      (λ s. unix_text text u d kind (λ _. record { hash = is_there u.hash 0x22 (omega arith) murmur; fanout = is_there u.fanout 256 (omega arith) (eqb-true fanout 256 s) }))
-      (λ f. record { unix = u; has = d; kind = five; hash = murmur; number_is = refl; other = eqb-false fanout 256 f }))
+    let murmur : hash ≡ 0x22 = eqb-true hash 0x22 t in
+    cond_both (fanout == 256) (Ok u) (Err (faults.BadFanout fanout)) (UnixTold text)
+    (λ s. unix_text text u d kind (λ _. record { hash = is_there u.hash 0x22 (omega arith) murmur; fanout = is_there u.fanout 256 (omega arith) (eqb-true fanout 256 s) }))
+    (λ f. record { unix = u; has = d; kind = five; hash = murmur; number_is = refl; other = eqb-false fanout 256 f }))
     (λ f. record { unix = u; has = d; kind = five; number_is = refl; other = eqb-false hash 0x22 f })
 
 checked_told : (text : List ℕ) (u : Unix) → HasData text u → UnixTold text (checked u)
@@ -87,8 +87,8 @@ checked_told text u d =
     let decides = kind_decides u.kind in
     cond_both (is_kind u.kind) (if u.kind == 5 then checked_shard u else Ok u) (Err (faults.BadKind u.kind)) (UnixTold text)
     (λ t. cond_both (u.kind == 5) (checked_shard u) (Ok u) (UnixTold text)
-      (λ s. shard_told text u d (decides.0 t) (eqb-true u.kind 5 s))
-      (λ f. unix_text text u d (decides.0 t) (λ five. absurd (eqb-false u.kind 5 f five))))
+    (λ s. shard_told text u d (decides.0 t) (eqb-true u.kind 5 s))
+    (λ f. unix_text text u d (decides.0 t) (λ five. absurd (eqb-false u.kind 5 f five))))
     (λ f. record { unix = u; has = d; kind = refl; unknown = λ k. let clash : true ≡ false = sym (decides.1 k) ∙ f in cc })
 
 -- ---- what the checks answer
