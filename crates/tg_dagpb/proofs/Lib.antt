@@ -6,3 +6,5 @@ pub mod Causes
 pub mod Encoding
 pub mod Cursors
 pub mod Checking
+pub mod ComputedNode
+mod ComputedValues

@@ -3,3 +3,4 @@ pub mod Faults
 pub mod Cursor
 pub mod Reading
 pub mod Writing
+pub mod Computed

@@ -1,6 +1,7 @@
 //! DAG-PB nodes: links to other blocks, and data.
 #![tactic(auto)]
 
+mod computed;
 mod reading;
 mod writing;
 
@@ -9,6 +10,7 @@ ghost use Rattle.tg_dagpb.specs.Node.{NodeText, CanonicalText, DataFirstText};
 ghost use Rattle.tg_dagpb.specs.Cursor.{IsBetween};
 ghost use Rattle.tg_dagpb.specs.declared.Node.{Node};
 
+pub use computed::computes;
 pub use reading::{check, decode, link_at};
 use tg_edges::{Bytes, List};
 use tg_pbtable::{Rule, Times, Wire, one_message};

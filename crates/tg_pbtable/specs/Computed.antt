@@ -160,3 +160,10 @@ fields_from rules order (suc most) fields at (b ∷ rest) =
 -- the fields of a text under a table, or its first fault
 unfoldable pub fields_of : List Rule → Order → List ℕ → Result (List Field) PbFault
 fields_of rules order text = fields_from rules order (length text) [] 0 text
+
+-- ---- values
+
+-- the first of the values of a number
+abbrev pub first_of : {A : Type 0} → List A → Option A
+first_of [] = None
+first_of (x ∷ xs) = Some x

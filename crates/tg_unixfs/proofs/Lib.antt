@@ -3,3 +3,5 @@ pub mod Gathering
 pub mod Same
 pub mod Listing
 pub mod Encoding
+pub mod ComputedUnix
+mod ComputedValues

@@ -2,3 +2,4 @@ pub mod Unix
 pub mod Faults
 pub mod Reading
 pub mod Writing
+pub mod Computed

@@ -14,6 +14,9 @@ ghost use Rattle.tg_unixfs.specs.declared.UnixFault.TheVariants.{OutOfMemory};
 ghost use Rattle.tg_unixfs.specs.declared.Unix.{Unix};
 ghost use Rattle.tg_unixfs.specs.declared.UnixFault.{UnixFault};
 
+mod computed;
+
+pub use computed::computes;
 use std::alloc::{AllocError, Global};
 use tg_edges::{Bytes, List};
 use tg_pbtable::{

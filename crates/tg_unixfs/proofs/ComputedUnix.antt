@@ -1,0 +1,177 @@
+-- The data that is computed of a text is its own, and the fault that is computed has its cause.
+use Rattle.std.proofs.Common.{◌≡◌, ◌≢◌, ℕ, ◌<◌, ◌≤◌, ◌⊎◌, Bool, true, false, Option, Some, None, Result, Ok, Err, List, [], ◌∷◌, length, refl, sym, ap, ◌∙◌, subst, inl, inr, arith}
+use Rattle.std.specs.Prelude.{All, MatchResult, ◌↔◌, ◌==◌, ◌||◌, unwrap_or, if◌then◌else◌}
+use Rattle.std.proofs.lemmas.Bool.{cond_both, cond-true, cond-false, eqb-true, eqb-false, eq-eqb, ne_eqb, cases_eq, false_from_ne_true}
+use Rattle.std.proofs.lemmas.Bool.Decides.{Decides-eqb, Decides-or}
+use Rattle.tg_pbtable.specs.declared.table.Field.{Field}
+use Rattle.tg_pbtable.specs.declared.table.Order.TheVariants.{Ascending}
+use Rattle.tg_pbtable.specs.declared.fault.PbFault.{PbFault}
+use Rattle.tg_pbtable.specs.Message.{Message, count_of}
+use Rattle.tg_pbtable.specs.Faults.{HasCause}
+use Rattle.tg_pbtable.specs.Values.{numbers_at, bytes_at, listed}
+use Rattle.tg_pbtable.specs.Computed.{fields_of}
+use Rattle.tg_pbtable.proofs.Values.{values_count, all_numbers}
+use Rattle.tg_pbtable.proofs.ComputedFields.{fields_law, fault_law}
+use Rattle.tg_unixfs.specs.declared.TheConstants.{DATA}
+use Rattle.tg_unixfs.specs.declared.Unix.{Unix}
+use Rattle.tg_unixfs.specs.declared.UnixFault.{UnixFault}
+use Rattle.tg_unixfs.specs.declared.UnixFault.TheVariants as faults
+use Rattle.tg_unixfs.specs.Unix.{UnixText, HasParts, IsUnix, IsKind, IsShardOf}
+use Rattle.tg_unixfs.specs.Faults.{HasData, HasUnixCause}
+use Rattle.tg_unixfs.specs.Computed.{first_of, parts_of, is_kind, checked_shard, checked, with_fields, unix_of}
+use Rattle.tg_unixfs.proofs.Parts.{data_table, any_rule, rule_at}
+use Rattle.tg_unixfs.proofs.Same.{one_data}
+
+-- ---- the parts
+
+at_most_one : {A : Type 0} (xs : List A) → length xs ≤ 1 → xs ≡ listed (first_of xs)
+at_most_one [] l = refl
+at_most_one (x ∷ []) l = refl
+at_most_one (x ∷ y ∷ xs) l = absurd (omega arith)
+
+exactly_one : (xs : List ℕ) → length xs ≡ 1 → xs ≡ unwrap_or (first_of xs) 0 ∷ []
+exactly_one [] l = absurd (omega arith)
+exactly_one (x ∷ []) l = refl
+exactly_one (x ∷ y ∷ xs) l = absurd (omega arith)
+
+pub parts_told : (text : List ℕ) (fs : List Field) → Message DATA.now Ascending text fs → HasParts text fs (parts_of text fs)
+parts_told text fs m =
+    let one : count_of fs 1 ≡ 1 = m.counts 0 any_rule (omega arith) in
+    let two : count_of fs 2 ≤ 1 = m.counts 1 any_rule (omega arith) in
+    let three : count_of fs 3 ≤ 1 = m.counts 2 any_rule (omega arith) in
+    let five : count_of fs 5 ≤ 1 = m.counts 4 any_rule (omega arith) in
+    let six : count_of fs 6 ≤ 1 = m.counts 5 any_rule (omega arith) in
+    record {
+      kind = exactly_one (numbers_at 1 fs) (all_numbers DATA.now 1 fs data_table (rule_at 0 (omega arith)) m.ruled ∙ one);
+      inline = at_most_one (bytes_at text 2 fs) (omega (arith, values_count text 2 fs));
+      filesize = at_most_one (numbers_at 3 fs) (omega (arith, values_count text 3 fs));
+      sizes = refl;
+      hash = at_most_one (numbers_at 5 fs) (omega (arith, values_count text 5 fs));
+      fanout = at_most_one (numbers_at 6 fs) (omega (arith, values_count text 6 fs));
+    }
+
+-- ---- the checks
+
+kind_decides : (kind : ℕ) → (is_kind kind ≡ true → IsKind kind) × (IsKind kind → is_kind kind ≡ true)
+kind_decides kind =
+    Decides-or (kind == 0) (kind == 1 || (kind == 2 || (kind == 4 || kind == 5))) (Decides-eqb kind 0)
+    (Decides-or (kind == 1) (kind == 2 || (kind == 4 || kind == 5)) (Decides-eqb kind 1)
+    (Decides-or (kind == 2) (kind == 4 || kind == 5) (Decides-eqb kind 2)
+    (Decides-or (kind == 4) (kind == 5) (Decides-eqb kind 4) (Decides-eqb kind 5))))
+
+-- a part that counts as a number other than 0 is there
+is_there : (o : Option ℕ) (n : ℕ) → 0 < n → unwrap_or o 0 ≡ n → o ≡ Some n
+is_there None n some e = absurd (omega arith)
+is_there (Some m) n some e = ap (λ (k : ℕ). Some k) e
+
+abbrev UnixTold : List ℕ → Result Unix UnixFault → Type 0
+UnixTold text r = MatchResult r (λ unix. UnixText unix text) (λ e. HasUnixCause text e)
+
+unix_text : (text : List ℕ) (u : Unix) → HasData text u → IsKind u.kind → (u.kind ≡ 5 → IsShardOf u) → UnixText u text
+unix_text text u d kind shard = record { fields = d.fields; message = d.message; parts = d.parts; is_unix = record { known = kind; shard = shard } }
+
+shard_told : (text : List ℕ) (u : Unix) → HasData text u → IsKind u.kind → u.kind ≡ 5 → UnixTold text (checked_shard u)
+shard_told text u d kind five =
+    let hash = unwrap_or u.hash 0 in
+    let fanout = unwrap_or u.fanout 0 in
+    cond_both (hash == 0x22) (if fanout == 256 then Ok u else Err (faults.BadFanout fanout)) (Err (faults.BadHash hash)) (UnixTold text)
+    (λ t.
+    let murmur : hash ≡ 0x22 = eqb-true hash 0x22 t in
+    cond_both (fanout == 256) (Ok u) (Err (faults.BadFanout fanout)) (UnixTold text)
+    (λ s. unix_text text u d kind (λ _. record { hash = is_there u.hash 0x22 (omega arith) murmur; fanout = is_there u.fanout 256 (omega arith) (eqb-true fanout 256 s) }))
+    (λ f. record { unix = u; has = d; kind = five; hash = murmur; number_is = refl; other = eqb-false fanout 256 f }))
+    (λ f. record { unix = u; has = d; kind = five; number_is = refl; other = eqb-false hash 0x22 f })
+
+checked_told : (text : List ℕ) (u : Unix) → HasData text u → UnixTold text (checked u)
+checked_told text u d =
+    let decides = kind_decides u.kind in
+    cond_both (is_kind u.kind) (if u.kind == 5 then checked_shard u else Ok u) (Err (faults.BadKind u.kind)) (UnixTold text)
+    (λ t. cond_both (u.kind == 5) (checked_shard u) (Ok u) (UnixTold text)
+    (λ s. shard_told text u d (decides.0 t) (eqb-true u.kind 5 s))
+    (λ f. unix_text text u d (decides.0 t) (λ five. absurd (eqb-false u.kind 5 f five))))
+    (λ f. record { unix = u; has = d; kind = refl; unknown = λ k. let clash : true ≡ false = sym (decides.1 k) ∙ f in cc })
+
+-- ---- what the checks answer
+
+shard_is : (u : Unix) → u.kind ≡ 5 → checked u ≡ checked_shard u
+shard_is u five =
+    cond-true (is_kind u.kind) (if u.kind == 5 then checked_shard u else Ok u) (Err (faults.BadKind u.kind)) ((kind_decides u.kind).1 (inr (inr (inr (inr five)))))
+    ∙ cond-true (u.kind == 5) (checked_shard u) (Ok u) (eq-eqb u.kind 5 five)
+
+murmur_is : (u : Unix) → unwrap_or u.hash 0 ≡ 0x22
+    → checked_shard u ≡ (if unwrap_or u.fanout 0 == 256 then Ok u else Err (faults.BadFanout (unwrap_or u.fanout 0)))
+murmur_is u e =
+    cond-true (unwrap_or u.hash 0 == 0x22) (if unwrap_or u.fanout 0 == 256 then Ok u else Err (faults.BadFanout (unwrap_or u.fanout 0)))
+    (Err (faults.BadHash (unwrap_or u.hash 0))) (eq-eqb (unwrap_or u.hash 0) 0x22 e)
+
+checked_ok : (u : Unix) → IsUnix u → checked u ≡ Ok u
+checked_ok u is = elim (cases_eq u.kind 5) [
+  | inl five ↦
+      let shard = is.shard five in
+      shard_is u five ∙ murmur_is u (ap (λ (o : Option ℕ). unwrap_or o 0) shard.hash)
+      ∙ cond-true (unwrap_or u.fanout 0 == 256) (Ok u) (Err (faults.BadFanout (unwrap_or u.fanout 0))) (eq-eqb (unwrap_or u.fanout 0) 256 (ap (λ (o : Option ℕ). unwrap_or o 0) shard.fanout))
+  | inr other ↦
+      cond-true (is_kind u.kind) (if u.kind == 5 then checked_shard u else Ok u) (Err (faults.BadKind u.kind)) ((kind_decides u.kind).1 is.known)
+      ∙ cond-false (u.kind == 5) (checked_shard u) (Ok u) (ne_eqb u.kind 5 other)
+]
+
+bad_kind : (u : Unix) (number : ℕ) → u.kind ≡ number → (IsKind number → ⊥) → checked u ≡ Err (faults.BadKind number)
+bad_kind u number e unknown =
+    cond-false (is_kind u.kind) (if u.kind == 5 then checked_shard u else Ok u) (Err (faults.BadKind u.kind))
+    (false_from_ne_true (is_kind u.kind) (λ t. unknown (subst (λ (n : ℕ). IsKind n) e ((kind_decides u.kind).0 t))))
+    ∙ ap (λ (n : ℕ). Err (faults.BadKind n)) e
+
+bad_hash : (u : Unix) (number : ℕ) → u.kind ≡ 5 → number ≡ unwrap_or u.hash 0 → number ≢ 0x22 → checked u ≡ Err (faults.BadHash number)
+bad_hash u number five e other =
+    shard_is u five
+    ∙ cond-false (unwrap_or u.hash 0 == 0x22) (if unwrap_or u.fanout 0 == 256 then Ok u else Err (faults.BadFanout (unwrap_or u.fanout 0)))
+    (Err (faults.BadHash (unwrap_or u.hash 0))) (ne_eqb (unwrap_or u.hash 0) 0x22 (λ h. other (e ∙ h)))
+    ∙ ap (λ (n : ℕ). Err (faults.BadHash n)) (sym e)
+
+bad_fanout : (u : Unix) (number : ℕ) → u.kind ≡ 5 → unwrap_or u.hash 0 ≡ 0x22 → number ≡ unwrap_or u.fanout 0 → number ≢ 256 → checked u ≡ Err (faults.BadFanout number)
+bad_fanout u number five murmur e other =
+    shard_is u five ∙ murmur_is u murmur
+    ∙ cond-false (unwrap_or u.fanout 0 == 256) (Ok u) (Err (faults.BadFanout (unwrap_or u.fanout 0))) (ne_eqb (unwrap_or u.fanout 0) 256 (λ h. other (e ∙ h)))
+    ∙ ap (λ (n : ℕ). Err (faults.BadFanout n)) (sym e)
+
+-- ---- the text
+
+with_told : (text : List ℕ) (r : Result (List Field) PbFault) → All (λ (b : ℕ). b < 256) text → fields_of DATA.now Ascending text ≡ r → UnixTold text (with_fields text r)
+with_told text (Ok fields) are e =
+    let m = (fields_law DATA.now Ascending text fields data_table are).0 e in
+    checked_told text (parts_of text fields) (record { fields = fields; message = m; parts = parts_told text fields m })
+with_told text (Err fault) are e = (fault_law DATA.now Ascending text fault data_table are).0 e
+
+unix_told : (text : List ℕ) → All (λ (b : ℕ). b < 256) text → UnixTold text (unix_of text)
+unfolding unix_of
+unix_told text are = with_told text (fields_of DATA.now Ascending text) are refl
+
+-- data of a text is computed up to the checks
+data_is : (text : List ℕ) (u : Unix) → All (λ (b : ℕ). b < 256) text → HasData text u → unix_of text ≡ checked u
+unfolding unix_of
+data_is text u are d =
+    ap (with_fields text) ((fields_law DATA.now Ascending text d.fields data_table are).1 d.message)
+    ∙ ap checked (one_data text d.fields d.fields (parts_of text d.fields) u d.message d.message (parts_told text d.fields d.message) d.parts)
+
+fault_is : (text : List ℕ) (fault : PbFault) → All (λ (b : ℕ). b < 256) text → HasCause DATA.now Ascending text fault → unix_of text ≡ Err (faults.Pb fault)
+unfolding unix_of
+fault_is text fault are h = ap (with_fields text) ((fault_law DATA.now Ascending text fault data_table are).1 h)
+
+cause_is : (text : List ℕ) (fault : UnixFault) → All (λ (b : ℕ). b < 256) text → HasUnixCause text fault → unix_of text ≡ Err fault
+cause_is text (faults.Pb fault) are h = fault_is text fault are h
+cause_is text (faults.BadKind number) are h = data_is text h.unix are h.has ∙ bad_kind h.unix number h.kind h.unknown
+cause_is text (faults.BadHash number) are h = data_is text h.unix are h.has ∙ bad_hash h.unix number h.kind h.number_is h.other
+cause_is text (faults.BadFanout number) are h = data_is text h.unix are h.has ∙ bad_fanout h.unix number h.kind h.hash h.number_is h.other
+cause_is text faults.OutOfMemory are h = absurd h
+
+pub data_law : (text : List ℕ) (unix : Unix) → All (λ (b : ℕ). b < 256) text → (unix_of text ≡ Ok unix) ↔ UnixText unix text
+data_law text unix are = (
+  λ e. subst (λ (r : Result Unix UnixFault). UnixTold text r) e (unix_told text are),
+  λ h. data_is text unix are (record { fields = h.fields; message = h.message; parts = h.parts }) ∙ checked_ok unix h.is_unix,
+)
+
+pub unix_fault_law : (text : List ℕ) (fault : UnixFault) → All (λ (b : ℕ). b < 256) text → (unix_of text ≡ Err fault) ↔ HasUnixCause text fault
+unix_fault_law text fault are = (
+  λ e. subst (λ (r : Result Unix UnixFault). UnixTold text r) e (unix_told text are),
+  λ h. cause_is text fault are h,
+)

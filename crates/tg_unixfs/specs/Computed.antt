@@ -1,0 +1,50 @@
+-- The UnixFS data of a text, or why there is none, as a function: what `UnixText` and `HasUnixCause` say as relations.
+use Rattle.std.specs.Prelude.{ℕ, List, [], ◌∷◌, Option, Some, None, unwrap_or, Result, Ok, Err, Bool, ◌||◌, ◌==◌, if◌then◌else◌}
+use Rattle.tg_pbtable.specs.declared.table.Field.{Field}
+use Rattle.tg_pbtable.specs.declared.table.Order.TheVariants.{Ascending}
+use Rattle.tg_pbtable.specs.declared.fault.PbFault.{PbFault}
+use Rattle.tg_pbtable.specs.Values.{numbers_at, bytes_at}
+use Rattle.tg_pbtable.specs.Computed.{fields_of}
+use Rattle.tg_unixfs.specs.declared.TheConstants.{DATA}
+use Rattle.tg_unixfs.specs.declared.Unix.{Unix}
+use Rattle.tg_unixfs.specs.declared.UnixFault.{UnixFault}
+use Rattle.tg_unixfs.specs.declared.UnixFault.TheVariants as faults
+
+-- the first of the values
+abbrev pub first_of : {A : Type 0} → List A → Option A
+first_of [] = None
+first_of (x ∷ xs) = Some x
+
+-- the parts of the data that the fields of a message are
+abbrev pub parts_of : List ℕ → List Field → Unix
+parts_of text fields = record {
+  kind = unwrap_or (first_of (numbers_at 1 fields)) 0;
+  inline = first_of (bytes_at text 2 fields);
+  filesize = first_of (numbers_at 3 fields);
+  sizes = numbers_at 4 fields;
+  hash = first_of (numbers_at 5 fields);
+  fanout = first_of (numbers_at 6 fields);
+}
+
+abbrev pub is_kind : ℕ → Bool
+is_kind kind = kind == 0 || (kind == 1 || (kind == 2 || (kind == 4 || kind == 5)))
+
+-- a shard, of which an absent hash or fanout counts as 0
+abbrev pub checked_shard : Unix → Result Unix UnixFault
+checked_shard unix =
+    if unwrap_or unix.hash 0 == 0x22
+    then (if unwrap_or unix.fanout 0 == 256 then Ok unix else Err (faults.BadFanout (unwrap_or unix.fanout 0)))
+    else Err (faults.BadHash (unwrap_or unix.hash 0))
+
+-- the data, where it may stand
+abbrev pub checked : Unix → Result Unix UnixFault
+checked unix =
+    if is_kind unix.kind then (if unix.kind == 5 then checked_shard unix else Ok unix) else Err (faults.BadKind unix.kind)
+
+abbrev pub with_fields : List ℕ → Result (List Field) PbFault → Result Unix UnixFault
+with_fields text (Ok fields) = checked (parts_of text fields)
+with_fields text (Err fault) = Err (faults.Pb fault)
+
+-- the data of a text, or its first fault
+unfoldable pub unix_of : List ℕ → Result Unix UnixFault
+unix_of text = with_fields text (fields_of DATA.now Ascending text)
