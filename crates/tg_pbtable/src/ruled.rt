@@ -29,7 +29,8 @@ pub fn field_at<const N: usize>(
 
     // Each refusal comes only where its cause holds, and where a cause holds it comes.
     ensures cause { IfErr result (λ e. IsRefused rules.now at (drop at bytes.now) e) }
-    ensures given { (fault : PbFault) → IsRefused rules.now at (drop at bytes.now) fault → result ≡ Err fault }
+    ensures given { (fault : PbFault) → IsRefused rules.now at (drop at bytes.now) fault
+        → result ≡ Err fault }
 {
     let (_, field, next) = ruled_field(rules, bytes, at)?;
     Ok((field, next))
