@@ -1,4 +1,4 @@
--- The steps of a scan, and what its end says.
+-- The steps of a cursor, and what the end of the text says.
 use Rattle.std.proofs.Common.{◌≡◌, ℕ, zero, suc, ◌+◌, ◌<◌, ◌≤◌, ◌≢◌, ◌⊎◌, Option, Some, None, Bool, true, false, List, [], ◌∷◌, ◌++◌, length, drop, get_or, map, refl, sym, ap, ◌∙◌, append_assoc, subst, inl, inr, arith, min}
 use Rattle.std.specs.Prelude.{Contains, MatchOption, nat_lt, slice_set, replicate}
 use Rattle.std.proofs.lemmas.Bool.{cases_lt, cases_eq, cases_order}
