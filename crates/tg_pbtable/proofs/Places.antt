@@ -1,14 +1,15 @@
 -- The field at a place of a text, and the fields before a cursor.
-use Rattle.std.proofs.Common.{◌≡◌, ◌≢◌, ℕ, ◌+◌, ◌≤◌, List, ◌++◌, length, take, drop, refl, sym, ap, ◌∙◌, subst, arith}
+use Rattle.std.proofs.Common.{◌≡◌, ℕ, ◌≤◌, List, [], ◌++◌, length, take, drop, sym, ap, ◌∙◌, subst, arith}
 use Rattle.std.proofs.lemmas.List.{length-append, length-drop, length-take-le, take-append-drop, take_at}
 use Rattle.tg_pbtable.specs.declared.table.Rule.{Rule}
 use Rattle.tg_pbtable.specs.declared.table.Wire.{Wire}
 use Rattle.tg_pbtable.specs.declared.table.Order.{Order}
+use Rattle.tg_pbtable.specs.declared.table.Order.TheVariants.{Ascending}
 use Rattle.tg_pbtable.specs.declared.table.Field.{Field}
 use Rattle.tg_pbtable.specs.declared.cursor.FieldCursor.{FieldCursor}
 use Rattle.tg_pbtable.specs.declared.fault.PbFault.{PbFault}
 use Rattle.tg_pbtable.specs.declared.fault.PbFault.TheVariants as faults
-use Rattle.tg_pbtable.specs.Message.{IsTable, Spelled, HasRule, FieldSpelling, wire_of, wire_code}
+use Rattle.tg_pbtable.specs.Message.{IsTable, Spelled, FieldSpelling, wire_of, wire_code}
 use Rattle.tg_pbtable.specs.Faults.{HasField}
 use Rattle.tg_pbtable.specs.Emitted.{LiesIn}
 use Rattle.tg_pbtable.specs.Cursor.{HasRead, StandsAt, IsRefused}
@@ -16,8 +17,8 @@ use Rattle.tg_pbtable.specs.Reading.{IsRuled}
 use Rattle.tg_pbtable.proofs.Spellings.{one_field}
 use Rattle.tg_pbtable.proofs.Tables.{value_inside}
 use Rattle.tg_pbtable.proofs.Whole.{spelled_has, read_short_field, read_bad_field}
-use Rattle.tg_pbtable.proofs.Causes.{unknown_known, wrong_right}
-use Rattle.tg_pbtable.proofs.Scanning.{among}
+use Rattle.tg_pbtable.proofs.Causes.{Verdict, short, bad, unknown, wrong, Judged, fault_of, one_verdict, unknown_known, wrong_right}
+use Rattle.tg_pbtable.proofs.Scanning.{among, none_in_order}
 
 -- the fields before a cursor are spelled by the text up to it
 pub read_front : {N : ℕ} (rules : List Rule) (order : Order) (text : List ℕ) (fields : List Field) (c : FieldCursor N) → HasRead rules order text fields c → Spelled 0 fields (take c.at text)
@@ -77,3 +78,26 @@ not_refused rules text at f next (faults.OutOfOrder place) t s h = absurd h
 not_refused rules text at f next (faults.Doubled place) t s h = absurd h
 not_refused rules text at f next (faults.Missing number) t s h = absurd h
 not_refused rules text at f next faults.OutOfMemory t s h = absurd h
+
+-- ---- one refusal at a place
+
+record Refusal (rules : List Rule) (at : ℕ) (rest : List ℕ) (e : PbFault) : Type 0 where
+  verdict : Verdict
+  judged : Judged rules Ascending [] rest verdict
+  is : e ≡ fault_of at verdict
+
+refusal : (rules : List Rule) (at : ℕ) (rest : List ℕ) (e : PbFault) → IsRefused rules at rest e → Refusal rules at rest e
+refusal rules at rest (faults.Short place) h = record { verdict = short; judged = h.1; is = ap (λ (n : ℕ). faults.Short n) h.0 }
+refusal rules at rest (faults.BadVarint place) h = record { verdict = bad; judged = h.1; is = ap (λ (n : ℕ). faults.BadVarint n) h.0 }
+refusal rules at rest (faults.Unknown place number) h = record { verdict = unknown number; judged = h.1; is = ap (λ (n : ℕ). faults.Unknown n number) h.0 }
+refusal rules at rest (faults.WrongWire place) h = record { verdict = wrong; judged = h.1; is = ap (λ (n : ℕ). faults.WrongWire n) h.0 }
+refusal rules at rest (faults.OutOfOrder place) h = absurd h
+refusal rules at rest (faults.Doubled place) h = absurd h
+refusal rules at rest (faults.Missing number) h = absurd h
+refusal rules at rest faults.OutOfMemory h = absurd h
+
+pub one_refusal : (rules : List Rule) (at : ℕ) (rest : List ℕ) (a b : PbFault) → IsTable rules → IsRefused rules at rest a → IsRefused rules at rest b → a ≡ b
+one_refusal rules at rest a b t p q =
+    let x = refusal rules at rest a p in
+    let y = refusal rules at rest b q in
+    x.is ∙ ap (fault_of at) (one_verdict rules Ascending [] rest x.verdict y.verdict t (none_in_order Ascending) x.judged y.judged) ∙ sym y.is

@@ -1,5 +1,5 @@
 -- One spelling of a number, and one number at the front of bytes.
-use Rattle.std.proofs.Common.{◌≡◌, ℕ, suc, ◌+◌, ◌*◌, ◌%◌, ◌^◌, ◌<◌, ◌≤◌, ◌≢◌, List, [], ◌∷◌, ◌++◌, length, take, drop, get_or, refl, sym, ap, ap₂, ◌∙◌, append_assoc, subst, inl, inr, arith}
+use Rattle.std.proofs.Common.{◌≡◌, ℕ, suc, ◌+◌, ◌*◌, ◌%◌, ◌^◌, ◌<◌, ◌≤◌, ◌≢◌, List, [], ◌∷◌, ◌++◌, length, slice_get, Some, take, drop, get_or, refl, sym, ap, ap₂, ◌∙◌, append_assoc, subst, inl, inr, arith}
 use Rattle.std.specs.Prelude.{All}
 use Rattle.std.proofs.lemmas.Bool.{cases_lt}
 use Rattle.std.proofs.lemmas.List.{length-append, get_or_at, get_or-take, length-take-le, take-append-drop, drop_more, take_more, take_all}
@@ -272,3 +272,27 @@ spelled_at bytes i byte number l are on few last low short e here =
 
 pub ends_at : (bytes : List ℕ) (i : ℕ) → length bytes ≤ i → i < 10 → AllGoOn (take i bytes) → EndsInside bytes
 ends_at bytes i past few on = record { goes_on = subst (λ (t : List ℕ). AllGoOn t) (take_all i bytes past) on; fewer = omega arith }
+
+-- a byte without the high bit spells itself
+pub one_byte : (bytes : List ℕ) (byte : ℕ) → slice_get bytes 0 ≡ Some byte → byte < 128 → IsVarintAt bytes byte 1
+one_byte [] byte e l = absurd (cc)
+one_byte (b ∷ bytes) byte e l =
+    let same : b ≡ byte = cc in
+    let low : b < 128 = omega arith in
+    subst (λ (n : ℕ). IsVarintAt (b ∷ bytes) n 1) same (record {
+      inside = omega arith;
+      spells = record {
+        groups = record {
+          front = [];
+          last = b;
+          whole = refl;
+          are_bytes = All-cons (λ (x : ℕ). x < 256) b [] (omega arith) (All-nil (λ (x : ℕ). x < 256));
+          goes_on = All-nil (λ (x : ℕ). 128 ≤ x);
+          ends = low;
+          shortest = λ p. absurd (omega arith);
+          at_most_ten = omega arith;
+          spells = omega arith;
+        };
+        fits = omega arith;
+      };
+    })

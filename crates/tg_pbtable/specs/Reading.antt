@@ -1,8 +1,7 @@
 -- What the scanner's private functions say.
-use Rattle.std.specs.Prelude.{◌≡◌, ◌≢◌, ℕ, ◌+◌, ◌<◌, ◌≤◌, ◌⊎◌, Option, Some, None, Bool, true, false, List, [], ◌∷◌, ◌++◌, length, take, drop, map, All, slice_get, slice_index_or, nat_lt}
+use Rattle.std.specs.Prelude.{◌≡◌, ◌≢◌, ℕ, ◌+◌, ◌<◌, ◌≤◌, ◌⊎◌, Option, Some, None, Bool, true, false, List, ◌++◌, length, take, All, slice_get, slice_index_or}
 use Rattle.tg_pbtable.specs.declared.table.Rule.{Rule}
 use Rattle.tg_pbtable.specs.declared.table.Times.TheVariants.{One}
-use Rattle.tg_pbtable.specs.declared.table.Order.{Order}
 use Rattle.tg_pbtable.specs.declared.table.Field.{Field}
 use Rattle.tg_pbtable.specs.declared.table.Value.{Value}
 use Rattle.tg_pbtable.specs.declared.table.Value.TheVariants.{Number, Place}
@@ -10,8 +9,8 @@ use Rattle.tg_pbtable.specs.declared.raw.RawField.{RawField}
 use Rattle.tg_pbtable.specs.declared.raw.ReadFault.{ReadFault}
 use Rattle.tg_pbtable.specs.declared.raw.ReadFault.TheVariants.{Short, Bad}
 use Rattle.tg_pbtable.specs.Varint.{VarintSpelling, EndsInside, IsBadVarint}
-use Rattle.tg_pbtable.specs.Message.{ValueSpelling, wire_of, wire_code, count_of}
-use Rattle.tg_pbtable.specs.Faults.{Begins, HasField, EndsInValue, IsShort, HasBadVarint, IsUnknown, HasWrongWire}
+use Rattle.tg_pbtable.specs.Message.{ValueSpelling, wire_of, wire_code}
+use Rattle.tg_pbtable.specs.Faults.{HasField, EndsInValue, IsShort, HasBadVarint}
 
 -- the first bytes, as many as `size`, spell the number
 pub record IsVarintAt (bytes : List ℕ) (number size : ℕ) : Type 0 where

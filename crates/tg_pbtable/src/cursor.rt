@@ -1,6 +1,6 @@
 //! The fields of a text one after another.
-ghost use Rattle.std.specs.Prelude.{◌≡◌, ◌<◌, ◌≤◌, ◌↔◌, ◌++◌, ◌∷◌, ℕ, List, [], length, Contains, IsTrue, MatchBool, MatchOption, MatchResult, min, ⊤};
-ghost use Rattle.tg_pbtable.specs.Message.{Message, IsTable, IsInOrder};
+ghost use Rattle.std.specs.Prelude.{◌≡◌, ◌<◌, ◌≤◌, ◌↔◌, ◌++◌, ◌∷◌, ℕ, List, [], length, take, Contains, IsTrue, MatchBool, MatchOption, MatchResult, min, ⊤};
+ghost use Rattle.tg_pbtable.specs.Message.{Message, IsTable, Spelled, IsInOrder};
 ghost use Rattle.tg_pbtable.specs.Faults.{HasCause, BreaksOrder};
 ghost use Rattle.tg_pbtable.specs.Emitted.{LiesIn};
 ghost use Rattle.tg_pbtable.specs.Cursor.{HasRead, IsLast};
@@ -37,7 +37,11 @@ impl<const N: usize> FieldCursor<N> {
 
     /// The offset of the next field's first byte.
     pub fn at(&self) -> usize
-        ensures { result ≡ self.now.at }
+        ensures place { result ≡ self.now.at }
+        // The text up to there is the spellings of the fields that were read.
+        ensures front { (rules : List Rule) (order : Order) (text : List ℕ) (fields : List Field)
+            → HasRead rules order text fields self.now
+            → Spelled 0 fields (take result text) × (result ≤ length text) }
     {
         self.at
     }
@@ -59,8 +63,8 @@ impl<const N: usize> FieldCursor<N> {
         ensures next { (fields : List Field) → HasRead rules.now order bytes.now fields self.old
             → MatchResult result
             (λ next. MatchOption next (Message rules.now order bytes.now fields)
-                (λ field. HasRead rules.now order bytes.now (fields ++ field ∷ []) self.new
-                    × LiesIn bytes.now field.value × (self.old.at < self.new.at)))
+            (λ field. HasRead rules.now order bytes.now (fields ++ field ∷ []) self.new
+            × LiesIn bytes.now field.value × (self.old.at < self.new.at)))
             (λ e. HasCause rules.now order bytes.now e) }
         ensures kept { MatchResult result (λ next. MatchOption next (self.new ≡ self.old) (λ _. ⊤))
             (λ _. self.new ≡ self.old) }

@@ -58,7 +58,20 @@ fn value_at(bytes: &[u8], at: usize, wire: u64) -> Result<Option<(Value, usize)>
 }
 
 /// The number that a varint at the front spells, and how many bytes it takes.
+#[inline]
 fn varint_at(bytes: &[u8]) -> Result<(u64, usize), ReadFault>
+    ensures { MatchResult result (λ r. IsVarintAt bytes.now r.0 r.1) (λ e. IsVarintFault e bytes.now) }
+{
+    match bytes.first() {
+        // Most keys and lengths take one byte.
+        Some(byte) if *byte < 128 => Ok((u64::from(*byte), 1)),
+        _ => long_varint_at(bytes),
+    }
+}
+
+/// The number and the size of a varint of any size.
+#[inline(never)]
+fn long_varint_at(bytes: &[u8]) -> Result<(u64, usize), ReadFault>
     ensures { MatchResult result (λ r. IsVarintAt bytes.now r.0 r.1) (λ e. IsVarintFault e bytes.now) }
 {
     let mut number = 0u64;

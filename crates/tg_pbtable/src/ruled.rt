@@ -5,6 +5,7 @@ ghost use Rattle.tg_pbtable.specs.Emitted.{LiesIn};
 ghost use Rattle.tg_pbtable.specs.Cursor.{StandsAt, IsRefused};
 ghost use Rattle.tg_pbtable.specs.Reading.{IsRuled, HasNumberAt};
 ghost use Rattle.tg_pbtable.specs.declared.table.Field.{Field};
+ghost use Rattle.tg_pbtable.specs.declared.fault.PbFault.{PbFault};
 
 use crate::fault::PbFault;
 use crate::raw::{ReadFault, raw_field_at};
@@ -25,7 +26,10 @@ pub fn field_at<const N: usize>(
         × LiesIn bytes.now r.0.value × (r.1 ≤ length bytes.now)) }
     ensures only { (field : Field) (next : ℕ) → StandsAt rules.now bytes.now at field next
         → result ≡ Ok (field, next) }
+
+    // Each refusal comes only where its cause holds, and where a cause holds it comes.
     ensures cause { IfErr result (λ e. IsRefused rules.now at (drop at bytes.now) e) }
+    ensures given { (fault : PbFault) → IsRefused rules.now at (drop at bytes.now) fault → result ≡ Err fault }
 {
     let (_, field, next) = ruled_field(rules, bytes, at)?;
     Ok((field, next))

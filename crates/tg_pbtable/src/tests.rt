@@ -105,7 +105,78 @@ fn expect<const N: usize>(
         }
         Err(fault) => assert_eq!(rt; want, Err(fault), "at {text:?}"),
     }
+    expect_one_by_one(rt, alloc, rules, order, text, want)
+}
+
+// A cursor gives the same fields, or the same fault, which it gives again.
+fn expect_one_by_one<const N: usize>(
+    rt: &impl Abort,
+    alloc: Global,
+    rules: &[Rule; N],
+    order: Order,
+    text: &[u8],
+    want: Result<&[Field], PbFault>,
+) -> Result<(), Fail>
+    requires { IsTable rules.now }
+{
+    let mut fields = Vec::new(alloc);
+    let mut cursor = FieldCursor::new();
+    let mut fault = None;
+    for _ in 0..text.len() {
+        match cursor.next(rules, order, text) {
+            Ok(Some(field)) => fields.push(field)?,
+            Ok(None) => break,
+            Err(found) => {
+                fault = Some(found);
+                break;
+            }
+        }
+    }
+    match fault {
+        Some(fault) => {
+            assert_eq!(rt; want, Err(fault), "at {text:?}");
+            assert_eq!(rt; cursor.next(rules, order, text), Err(fault));
+        }
+        None => expect_end(rt, rules, order, &mut cursor, text, want, fields.as_slice()),
+    }
     Ok(())
+}
+
+// What a cursor says behind the last field.
+fn expect_end<const N: usize>(
+    rt: &impl Abort,
+    rules: &[Rule; N],
+    order: Order,
+    cursor: &mut FieldCursor<N>,
+    text: &[u8],
+    want: Result<&[Field], PbFault>,
+    fields: &[Field],
+)
+    requires table { IsTable rules.now }
+    requires inside { cursor.old.at ≤ length text.now }
+{
+    assert_eq!(rt; cursor.at(), text.len(), "at {text:?}");
+    match cursor.next(rules, order, text) {
+        Ok(field) => {
+            assert_eq!(rt; field, None);
+            assert_eq!(rt; want, Ok(fields), "at {text:?}");
+        }
+        Err(fault) => assert_eq!(rt; want, Err(fault), "at {text:?}"),
+    }
+}
+
+// The field at a place of a text.
+fn expect_at<const N: usize>(
+    rt: &impl Abort,
+    rules: &[Rule; N],
+    text: &[u8],
+    at: usize,
+    want: Result<(Field, usize), PbFault>,
+)
+    requires { IsTable rules.now }
+{
+    assert!(rt; at <= text.len());
+    assert_eq!(rt; field_at(rules, text, at), want, "at {at} of {text:?}");
 }
 
 // What is written for the fields of a text with the bytes of another source.
@@ -294,4 +365,52 @@ fn long_and_moved(rt: HostRuntime) -> Result<(), Fail> {
         b"\x00\x00ok\x00\x00?",
         b"\x0a\x02ok\x12\x01?",
     )
+}
+
+// In the middle of a text a field is read without those before it. The key is the byte at the place: `h` is the number 13
+// with wire type 0, `i` the number 13 with wire type 1.
+#[test]
+fn places(rt: HostRuntime) {
+    let text: &[u8] = b"\x08\x05\x12\x02hi\x18\xac\x02\x20\x00\x08\x07";
+    let rows: [(usize, Result<(Field, usize), PbFault>); 14] = [
+        (0, Ok((number(1, 5), 2))),
+        (1, Err(PbFault::Unknown { at: 1, number: 0 })),
+        (2, Ok((place(2, 4, 6), 6))),
+        (3, Err(PbFault::Short { at: 3 })),
+        (4, Err(PbFault::Unknown { at: 4, number: 13 })),
+        (5, Err(PbFault::Unknown { at: 5, number: 13 })),
+        (6, Ok((number(3, 300), 9))),
+        (7, Err(PbFault::Unknown { at: 7, number: 37 })),
+        (8, Err(PbFault::Short { at: 8 })),
+        (9, Ok((number(4, 0), 11))),
+        (10, Err(PbFault::Unknown { at: 10, number: 0 })),
+        (11, Ok((number(1, 7), 13))),
+        (12, Err(PbFault::Unknown { at: 12, number: 0 })),
+        (13, Err(PbFault::Short { at: 13 })),
+    ];
+    for (at, want) in rows {
+        expect_at(&rt, &ascending(), text, at, want);
+    }
+    let text: &[u8] = b"\x12\x00\x08\x85\x00\x0a\x00\x80\x00";
+    expect_at(
+        &rt,
+        &ascending(),
+        text,
+        2,
+        Err(PbFault::BadVarint { at: 2 }),
+    );
+    expect_at(
+        &rt,
+        &ascending(),
+        text,
+        5,
+        Err(PbFault::WrongWire { at: 5 }),
+    );
+    expect_at(
+        &rt,
+        &ascending(),
+        text,
+        7,
+        Err(PbFault::BadVarint { at: 7 }),
+    );
 }

@@ -1,13 +1,11 @@
-use Rattle.std.proofs.Common.{◌≡◌, ◌≢◌, ℕ, ◌<◌, ◌≤◌, List, [], ◌∷◌, ◌++◌, length, true, false, refl, sym, ◌∙◌, subst, arith}
+use Rattle.std.proofs.Common.{◌≡◌, ◌≢◌, [], ◌∷◌, ◌++◌, true, false, refl, sym, ◌∙◌, arith}
 use Rattle.std.specs.Prelude.{not}
-use Rattle.tg_pbtable.specs.declared.table.Field.{Field}
 use Rattle.tg_pbtable.specs.declared.table.Times.{Times}
 use Rattle.tg_pbtable.specs.declared.table.Times.TheVariants.{One, Optional, Many}
 use Rattle.tg_pbtable.specs.contracts.table.Times.{the_type}
 use denote.Enum.Bare.{sameb}
 use Rattle.tg_pbtable.specs.Message.{numbers_of, IsInOrder}
-use Rattle.tg_pbtable.specs.Faults.{BreaksOrder}
-use Rattle.tg_pbtable.specs.Cursor.{HasRead, EndsIn}
+use Rattle.tg_pbtable.specs.Cursor.{EndsIn}
 use Rattle.tg_pbtable.proofs.Scanning.{seen_means, missing_there, out_of_order, doubled, read_more, times_is}
 use Rattle.tg_pbtable.proofs.Places.{next_inside}
 use Rattle.tg_pbtable.proofs.Numbers.{same_last}
