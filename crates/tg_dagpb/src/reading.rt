@@ -81,6 +81,7 @@ pub fn link_at(bytes: &[u8], at: usize) -> Option<(LinkSpan<'_>, usize)>
     ensures next { (behind ahead : Items Link) → IsBetween bytes.now at behind ahead
         → MatchOption result (ahead ≡ []) (λ found. (more : Items Link) × (ahead ≡ link_of found.0 ∷ more)
         × IsBetween bytes.now found.1 (behind ++ link_of found.0 ∷ []) more) }
+    ensures cursor { IfSome result (λ found. IsCursor bytes.now found.1) }
     ensures forward { IfSome result (λ found. (at < found.1) × (found.1 ≤ length bytes.now)) }
 {
     let mut from = at;

@@ -45,6 +45,11 @@ const SHARD_DATA: &[u8] =
 // The CID in the fixtures of IPLD's DAG-PB codec: version 1, raw, and an identity hash of five bytes.
 const FIVE: &[u8] = b"\x01\x55\x00\x05\x00\x01\x02\x03\x04";
 
+// Hashes of one byte, which are none of CIDs.
+const A: &[u8] = b"a";
+
+const B: &[u8] = b"b";
+
 /// The parts of a node, borrowed, and its canonical text.
 #[derive(Clone, Copy, Debug)]
 struct Parts<'a> {
@@ -58,6 +63,22 @@ const fn bare(hash: &[u8]) -> LinkSpan<'_> {
         hash,
         name: None,
         tsize: None,
+    }
+}
+
+const fn named<'a>(span: LinkSpan<'a>, name: &'a [u8]) -> LinkSpan<'a> {
+    LinkSpan {
+        hash: span.hash,
+        name: Some(name),
+        tsize: span.tsize,
+    }
+}
+
+const fn sized(span: LinkSpan<'_>, tsize: u64) -> LinkSpan<'_> {
+    LinkSpan {
+        hash: span.hash,
+        name: span.name,
+        tsize: Some(tsize),
     }
 }
 
@@ -118,59 +139,21 @@ fn expect_node(rt: &impl Abort, alloc: Global, block: &[u8], want: Parts<'_>) ->
 #[test]
 fn nodes(rt: HostRuntime) -> Result<(), Fail> {
     let file = [
-        LinkSpan {
-            name: Some(b""),
-            tsize: Some(4),
-            ..bare(HELL)
-        },
-        LinkSpan {
-            name: Some(b""),
-            tsize: Some(4),
-            ..bare(O_WO)
-        },
-        LinkSpan {
-            name: Some(b""),
-            tsize: Some(3),
-            ..bare(RLD)
-        },
+        sized(named(bare(HELL), b""), 4),
+        sized(named(bare(O_WO), b""), 4),
+        sized(named(bare(RLD), b""), 3),
     ];
-    let shard = [LinkSpan {
-        name: Some(b"CBhello"),
-        tsize: Some(11),
-        ..bare(WORLD)
-    }];
+    let shard = [sized(named(bare(WORLD), b"CBhello"), 11)];
     let five = [bare(FIVE)];
-    let no_name = [LinkSpan {
-        name: Some(b""),
-        ..bare(FIVE)
-    }];
-    let name = [LinkSpan {
-        name: Some(b"some name"),
-        ..bare(FIVE)
-    }];
-    let no_size = [LinkSpan {
-        tsize: Some(0),
-        ..bare(FIVE)
-    }];
-    let size = [LinkSpan {
-        tsize: Some(9_007_199_254_740_991),
-        ..bare(FIVE)
-    }];
-    let all = [LinkSpan {
-        hash: FIVE,
-        name: Some(b"some name"),
-        tsize: Some(9_007_199_254_740_991),
-    }];
-    let odd = [LinkSpan {
-        name: Some(b"\xff\x00/"),
-        ..bare(b"a")
-    }];
-    let largest = [LinkSpan {
-        tsize: Some(u64::MAX),
-        ..bare(b"a")
-    }];
+    let no_name = [named(bare(FIVE), b"")];
+    let name = [named(bare(FIVE), b"some name")];
+    let no_size = [sized(bare(FIVE), 0)];
+    let size = [sized(bare(FIVE), 9_007_199_254_740_991)];
+    let all = [sized(named(bare(FIVE), b"some name"), 9_007_199_254_740_991)];
+    let odd = [named(bare(b"a"), b"\xff\0/")];
+    let largest = [sized(bare(b"a"), u64::MAX)];
     let no_hash = [bare(b"")];
-    let two = [bare(b"a"), bare(b"b")];
+    let two = [bare(A), bare(B)];
     let rows: [(&[u8], &[LinkSpan<'_>], Option<&[u8]>); 18] = [
         (
             FILE,

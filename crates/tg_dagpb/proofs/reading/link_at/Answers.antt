@@ -1,4 +1,4 @@
-use Rattle.std.proofs.Common.{◌≡◌, ◌≤◌, sym, ◌∙◌, arith}
+use Rattle.std.proofs.Common.{◌≡◌, ◌≤◌, [], ◌∷◌, ◌++◌, sym, ◌∙◌, arith}
 use Rattle.tg_pbtable.specs.Cursor.{StandsAt}
 use Rattle.tg_dagpb.specs.declared.TheConstants.{NODE}
 use Rattle.tg_dagpb.specs.Cursor.{link_of}
@@ -25,6 +25,13 @@ returns-in-Some-clause-next c = λ behind ahead between.
     let is = link_there c.args.bytes.now c.in-Some.start c.in-Some.end c.link_between.result c.in_ok-span.span (sym c.ok.ensures.value ∙ c.in_ok-span.was) c.link_between.ensures in
     let passed = between_link c.args.bytes.now c.loop-from.from behind ahead c.in-Ok.field c.in-Ok.next c.in-Some.start c.in-Some.end (link_of c.in_ok-span.span) c.loop-from-test.true c.in-Ok.ensures.found.0 c.in-Some.ensures is here in
     (passed.more, passed.ahead_is, passed.between)
+
+pub returns-in-Some-clause-cursor : goal.returns-in-Some-clause-cursor
+returns-in-Some-clause-cursor c =
+    let cursor = c.loop-from.invariant.cursor in
+    let is = link_there c.args.bytes.now c.in-Some.start c.in-Some.end c.link_between.result c.in_ok-span.span (sym c.ok.ensures.value ∙ c.in_ok-span.was) c.link_between.ensures in
+    let passed = between_link c.args.bytes.now c.loop-from.from cursor.0 cursor.1 c.in-Ok.field c.in-Ok.next c.in-Some.start c.in-Some.end (link_of c.in_ok-span.span) c.loop-from-test.true c.in-Ok.ensures.found.0 c.in-Some.ensures is cursor.2 in
+    (cursor.0 ++ link_of c.in_ok-span.span ∷ [], passed.more, passed.between)
 
 pub loop-from-preserved : goal.loop-from-preserved
 loop-from-preserved c =
