@@ -1,5 +1,5 @@
 -- The node that is computed of a text is its own, and the fault that is computed has its cause.
-use Rattle.std.proofs.Common.{◌≡◌, ◌≢◌, ℕ, ◌-◌, ◌<◌, ◌≤◌, ◌⊎◌, Bool, true, false, Option, Some, None, Result, Ok, Err, List, [], ◌∷◌, ◌++◌, length, drop, refl, sym, ap, ap₂, ◌∙◌, subst, inl, inr, arith}
+use Rattle.std.proofs.Common.{◌≡◌, ◌≢◌, ℕ, ◌-◌, ◌<◌, ◌≤◌, Option, Some, None, Result, Ok, Err, List, [], ◌∷◌, ◌++◌, length, drop, refl, sym, ap, ap₂, ◌∙◌, subst, inl, inr, arith}
 use Rattle.std.specs.Prelude.{All, MatchResult, ◌↔◌, ◌==◌, unwrap_or, slice_range}
 use Rattle.std.proofs.lemmas.Bool.{cond-true, cond-false, cases_eq, eq-eqb, ne_eqb}
 use Rattle.std.proofs.lemmas.List.Elements.{All-nil, All-cons, All-head, All-tail, All-append, All-take, All-drop}
@@ -17,9 +17,9 @@ use Rattle.tg_pbtable.proofs.ComputedFields.{fields_law, fault_law}
 use Rattle.tg_dagpb.specs.declared.TheConstants.{NODE, LINK}
 use Rattle.tg_dagpb.specs.declared.Link.{Link}
 use Rattle.tg_dagpb.specs.declared.Node.{Node}
-use Rattle.tg_dagpb.specs.Node.{LinkText, HasLinkParts, LinkTexts, HasNodeParts, NodeText}
-use Rattle.tg_dagpb.specs.Faults.{moved_by, IsLinkText, HasBadLink, HasNodeCause}
-use Rattle.tg_dagpb.specs.Reading.{placed, IsBadPlace, HasFirstBad}
+use Rattle.tg_dagpb.specs.Node.{LinkText, HasLinkParts, LinkTexts, NodeText}
+use Rattle.tg_dagpb.specs.Faults.{moved_by, IsLinkText, HasNodeCause}
+use Rattle.tg_dagpb.specs.Reading.{placed, HasFirstBad}
 use Rattle.tg_dagpb.specs.Computed.{link_parts, link_in, moved_to, with_link, links_in, with_links, with_fields, node_of}
 use Rattle.tg_dagpb.proofs.Parts.{node_table, link_table, any_rule, link_rule}
 

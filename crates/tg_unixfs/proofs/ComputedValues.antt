@@ -1,5 +1,5 @@
 -- Worked values, so that a wrong definition does not check.
-use Rattle.std.proofs.Common.{◌≡◌, ℕ, List, [], ◌∷◌, Some, None, Ok, Err, refl}
+use Rattle.std.proofs.Common.{◌≡◌, [], ◌∷◌, Some, None, Ok, Err, refl}
 use Rattle.tg_pbtable.specs.declared.table.Order.TheVariants.{Ascending}
 use Rattle.tg_pbtable.specs.declared.table.Value.TheVariants.{Number}
 use Rattle.tg_pbtable.specs.declared.fault.PbFault.TheVariants as pb
