@@ -50,36 +50,103 @@ const A: &[u8] = b"a";
 
 const B: &[u8] = b"b";
 
+const FILE_LINKS: &[LinkSpan<'static>] = &[
+    LinkSpan {
+        hash: HELL,
+        name: Some(b""),
+        tsize: Some(4),
+    },
+    LinkSpan {
+        hash: O_WO,
+        name: Some(b""),
+        tsize: Some(4),
+    },
+    LinkSpan {
+        hash: RLD,
+        name: Some(b""),
+        tsize: Some(3),
+    },
+];
+
+const SHARD_LINKS: &[LinkSpan<'static>] = &[LinkSpan {
+    hash: WORLD,
+    name: Some(b"CBhello"),
+    tsize: Some(11),
+}];
+
+const BARE: &[LinkSpan<'static>] = &[LinkSpan {
+    hash: FIVE,
+    name: None,
+    tsize: None,
+}];
+
+const EMPTY_NAME: &[LinkSpan<'static>] = &[LinkSpan {
+    hash: FIVE,
+    name: Some(b""),
+    tsize: None,
+}];
+
+const NAMED: &[LinkSpan<'static>] = &[LinkSpan {
+    hash: FIVE,
+    name: Some(b"some name"),
+    tsize: None,
+}];
+
+const NO_SIZE: &[LinkSpan<'static>] = &[LinkSpan {
+    hash: FIVE,
+    name: None,
+    tsize: Some(0),
+}];
+
+const SIZED: &[LinkSpan<'static>] = &[LinkSpan {
+    hash: FIVE,
+    name: None,
+    tsize: Some(9_007_199_254_740_991),
+}];
+
+const FULL: &[LinkSpan<'static>] = &[LinkSpan {
+    hash: FIVE,
+    name: Some(b"some name"),
+    tsize: Some(9_007_199_254_740_991),
+}];
+
+const ODD_NAME: &[LinkSpan<'static>] = &[LinkSpan {
+    hash: A,
+    name: Some(b"\xff\0/"),
+    tsize: None,
+}];
+
+const LARGEST: &[LinkSpan<'static>] = &[LinkSpan {
+    hash: A,
+    name: None,
+    tsize: Some(u64::MAX),
+}];
+
+const NO_HASH: &[LinkSpan<'static>] = &[LinkSpan {
+    hash: b"",
+    name: None,
+    tsize: None,
+}];
+
+const TWO: &[LinkSpan<'static>] = &[
+    LinkSpan {
+        hash: A,
+        name: None,
+        tsize: None,
+    },
+    LinkSpan {
+        hash: B,
+        name: None,
+        tsize: None,
+    },
+];
+
 /// The parts of a node, borrowed, and its canonical text.
 #[derive(Clone, Copy, Debug)]
 struct Parts<'a> {
     links: &'a [LinkSpan<'a>],
     payload: Option<&'a [u8]>,
     canonical: &'a [u8],
-}
-
-const fn bare(hash: &[u8]) -> LinkSpan<'_> {
-    LinkSpan {
-        hash,
-        name: None,
-        tsize: None,
-    }
-}
-
-const fn named<'a>(span: LinkSpan<'a>, name: &'a [u8]) -> LinkSpan<'a> {
-    LinkSpan {
-        hash: span.hash,
-        name: Some(name),
-        tsize: span.tsize,
-    }
-}
-
-const fn sized(span: LinkSpan<'_>, tsize: u64) -> LinkSpan<'_> {
-    LinkSpan {
-        hash: span.hash,
-        name: span.name,
-        tsize: Some(tsize),
-    }
 }
 
 fn span_of(link: &Link) -> LinkSpan<'_> {
@@ -138,29 +205,13 @@ fn expect_node(rt: &impl Abort, alloc: Global, block: &[u8], want: Parts<'_>) ->
 // for a size.
 #[test]
 fn nodes(rt: HostRuntime) -> Result<(), Fail> {
-    let file = [
-        sized(named(bare(HELL), b""), 4),
-        sized(named(bare(O_WO), b""), 4),
-        sized(named(bare(RLD), b""), 3),
-    ];
-    let shard = [sized(named(bare(WORLD), b"CBhello"), 11)];
-    let five = [bare(FIVE)];
-    let no_name = [named(bare(FIVE), b"")];
-    let name = [named(bare(FIVE), b"some name")];
-    let no_size = [sized(bare(FIVE), 0)];
-    let size = [sized(bare(FIVE), 9_007_199_254_740_991)];
-    let all = [sized(named(bare(FIVE), b"some name"), 9_007_199_254_740_991)];
-    let odd = [named(bare(b"a"), b"\xff\0/")];
-    let largest = [sized(bare(b"a"), u64::MAX)];
-    let no_hash = [bare(b"")];
-    let two = [bare(A), bare(B)];
     let rows: [(&[u8], &[LinkSpan<'_>], Option<&[u8]>); 18] = [
         (
             FILE,
-            &file,
+            FILE_LINKS,
             Some(b"\x08\x02\x18\x0b\x20\x04\x20\x04\x20\x03"),
         ),
-        (SHARD, &shard, Some(SHARD_DATA)),
+        (SHARD, SHARD_LINKS, Some(SHARD_DATA)),
         // IPLD's fixtures of the DAG-PB codec, by their names there: empty; Data zero; Data some; Links Hash some, and then
         // with Name zero, Name some, Tsize zero, Tsize some; and the last with a name and a size.
         (b"", &[], None),
@@ -172,53 +223,53 @@ fn nodes(rt: HostRuntime) -> Result<(), Fail> {
         ),
         (
             b"\x12\x0b\x0a\x09\x01\x55\0\x05\0\x01\x02\x03\x04",
-            &five,
+            BARE,
             None,
         ),
         (
             b"\x12\x0d\x0a\x09\x01\x55\0\x05\0\x01\x02\x03\x04\x12\0",
-            &no_name,
+            EMPTY_NAME,
             None,
         ),
         (
             b"\x12\x16\x0a\x09\x01\x55\0\x05\0\x01\x02\x03\x04\x12\x09some name",
-            &name,
+            NAMED,
             None,
         ),
         (
             b"\x12\x0d\x0a\x09\x01\x55\0\x05\0\x01\x02\x03\x04\x18\0",
-            &no_size,
+            NO_SIZE,
             None,
         ),
         (
             b"\x12\x14\x0a\x09\x01\x55\0\x05\0\x01\x02\x03\x04\x18\xff\xff\xff\xff\xff\xff\xff\x0f",
-            &size,
+            SIZED,
             None,
         ),
         (
             b"\x12\x1f\x0a\x09\x01\x55\0\x05\0\x01\x02\x03\x04\x12\x09some name\
         \x18\xff\xff\xff\xff\xff\xff\xff\x0f",
-            &all,
+            FULL,
             None,
         ),
         // A hash of no bytes is none of a CID, which the layer above reads.
-        (b"\x12\x02\x0a\0", &no_hash, None),
-        (b"\x12\x08\x0a\x01a\x12\x03\xff\0/", &odd, None),
+        (b"\x12\x02\x0a\0", NO_HASH, None),
+        (b"\x12\x08\x0a\x01a\x12\x03\xff\0/", ODD_NAME, None),
         (
             b"\x12\x0e\x0a\x01a\x18\xff\xff\xff\xff\xff\xff\xff\xff\xff\x01",
-            &largest,
+            LARGEST,
             None,
         ),
-        (b"\x12\x03\x0a\x01a\x12\x03\x0a\x01b", &two, None),
-        (b"\x12\x03\x0a\x01a\x12\x03\x0a\x01b\x0a\0", &two, Some(b"")),
+        (b"\x12\x03\x0a\x01a\x12\x03\x0a\x01b", TWO, None),
+        (b"\x12\x03\x0a\x01a\x12\x03\x0a\x01b\x0a\0", TWO, Some(b"")),
         (
             b"\x12\x03\x0a\x01a\x12\x03\x0a\x01b\x0a\x01c",
-            &two,
+            TWO,
             Some(b"c"),
         ),
         (
             b"\x12\x0b\x0a\x09\x01\x55\0\x05\0\x01\x02\x03\x04\x0a\x05\0\x01\x02\x03\x04",
-            &five,
+            BARE,
             Some(b"\0\x01\x02\x03\x04"),
         ),
     ];
@@ -232,17 +283,14 @@ fn nodes(rt: HostRuntime) -> Result<(), Fail> {
     }
 
     // The data may stand before the links, and is written behind them.
-    let want = Parts {
-        links: &two,
-        payload: Some(b"c"),
-        canonical: b"\x12\x03\x0a\x01a\x12\x03\x0a\x01b\x0a\x01c",
-    };
-    expect_node(
-        &rt,
-        rt.alloc(),
+    let (block, canonical): (&[u8], &[u8]) = (
         b"\x0a\x01c\x12\x03\x0a\x01a\x12\x03\x0a\x01b",
-        want,
-    )
+        b"\x12\x03\x0a\x01a\x12\x03\x0a\x01b\x0a\x01c",
+    );
+    let node = decode(rt.alloc(), block)?;
+    assert_eq!(rt; check(block), Ok(()));
+    assert_eq!(rt; encode(rt.alloc(), &node)?.as_slice(), canonical);
+    Ok(())
 }
 
 #[test]
