@@ -1,0 +1,4 @@
+pub mod CarText
+pub mod Fronts
+pub mod Faults
+pub mod History

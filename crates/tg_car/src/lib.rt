@@ -1,0 +1,10 @@
+//! CARs: their header and sections written, and read in pieces of any lengths.
+#![tactic(auto)]
+
+mod event;
+mod fault;
+mod section;
+
+pub use event::Event;
+pub use fault::CarFault;
+pub use section::Section;
