@@ -1,4 +1,5 @@
 pub mod CarText
 pub mod Fronts
 pub mod Faults
+pub mod Heads
 pub mod History
