@@ -2,3 +2,4 @@ pub mod CarText
 pub mod Fronts
 pub mod Faults
 pub mod History
+pub mod HeaderState
