@@ -3,3 +3,4 @@ pub mod Fronts
 pub mod Faults
 pub mod Heads
 pub mod History
+pub mod HeaderState

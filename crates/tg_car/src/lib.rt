@@ -3,8 +3,10 @@
 
 mod event;
 mod fault;
+mod header;
 mod section;
 
 pub use event::Event;
 pub use fault::CarFault;
+pub use header::{one_header, one_section};
 pub use section::Section;
