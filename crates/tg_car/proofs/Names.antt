@@ -2,6 +2,7 @@
 use Rattle.std.proofs.Common.{◌≡◌, ℕ, zero, suc, ◌+◌, ◌-◌, ◌<◌, ◌≤◌, ◌⊎◌, List, [], ◌∷◌, ◌++◌, length, take, drop, replicate, All, min, refl, ap, ap₂, sym, ◌∙◌, subst, inl, inr, arith}
 use Rattle.std.proofs.lemmas.List.{append_assoc, append-nil, append_cancel_left, length-append, length-drop, length-replicate, length-take-le, take-append-drop, take-append-le, take_at, take_all}
 use Rattle.std.proofs.lemmas.List.Elements.{All-append, All-drop, All-nil, All-replicate}
+use Rattle.std.proofs.lemmas.Bool.{cases_lt}
 use Rattle.tg_varint.specs.Varint.{VarintSpelling}
 use Rattle.tg_varint.proofs.Uniqueness.{one_spelling_each}
 use Rattle.tg_cid.specs.Cid.{CidParts}
@@ -81,7 +82,7 @@ spelled cid name (inr h) =
     subst (λ (n : ℕ). Varints (1 ∷ codec_code cid.codec ∷ hash_code cid.hash ∷ n ∷ []) h.head) kinds.1 h.numbers in
     let numbers : Varints (1 ∷ codec_code cid.codec ∷ 0x12 ∷ 0x20 ∷ []) h.head =
     subst (λ (k : HashKind). Varints (1 ∷ codec_code cid.codec ∷ hash_code k ∷ 0x20 ∷ []) h.head) kinds.0 sized in
-    let head : h.head ≡ one_head_of cid.codec = varints_once _ h.head (one_head_of cid.codec) numbers (four_numbers cid.codec) in
+    let head : h.head ≡ one_head_of cid.codec = varints_once (1 ∷ codec_code cid.codec ∷ 0x12 ∷ 0x20 ∷ []) h.head (one_head_of cid.codec) numbers (four_numbers cid.codec) in
     record {
       size = kinds.1;
       hash = kinds.0;
@@ -126,7 +127,7 @@ cid_head cid name h =
 
 same_digests : (d e x y : List ℕ) → length d ≡ 32 → length e ≡ 32 → d ++ x ≡ e ++ y → d ≡ e
 same_digests d e x y m n same =
-    sym (take_at d x 32 (sym m)) ∙ (ap (λ (l : List ℕ). take 32 l) same ∙ take_at e y 32 (sym n))
+    sym (take_at d x 32 m) ∙ (ap (λ (l : List ℕ). take 32 l) same ∙ take_at e y 32 n)
 
 same_cids : (a b : CidParts) → a.version ≡ b.version → a.codec ≡ b.codec → a.hash ≡ b.hash → a.digest ≡ b.digest → a ≡ b
 same_cids a b p q r s =
@@ -210,28 +211,28 @@ zeros_are_bytes n = All-replicate (λ (b : ℕ). b < 256) n 0 (omega arith)
 
 pub name_goes_on : (head name : List ℕ) → Agrees name head → All (λ b. b < 256) name → length name < length head + 32
     → Completes head name
-name_goes_on head name agrees bytes fewer = elim (le-or-lt (length name) (length head)) [
-| inl less ↦ record {
-    digest = replicate 32 0;
-    more = drop (length name) head ++ replicate 32 0;
-    some = omega (arith, length-append (drop (length name) head) (replicate {A = ℕ} 32 0), length-replicate {A = ℕ} 32 0);
-    size = length-replicate {A = ℕ} 32 0;
-    are_bytes = zeros_are_bytes 32;
-    whole = sym (append_assoc name (drop (length name) head) (replicate 32 0)) ∙ ap (λ (l : List ℕ). l ++ replicate 32 0) (head_goes_on head name agrees less);
-  }
-| inr more ↦
-    let past = drop (length head) name in
-    let left : ℕ = 32 - length past in
-    let long : length past ≡ length name - length head = length-drop (length head) name in
-    let zero_count : length (replicate {A = ℕ} left 0) ≡ left = length-replicate {A = ℕ} left 0 in
-    let count : length (past ++ replicate {A = ℕ} left 0) ≡ length past + length (replicate {A = ℕ} left 0) = length-append past (replicate {A = ℕ} left 0) in
-    record {
-      digest = past ++ replicate left 0;
-      more = replicate left 0;
-      some = omega arith;
-      size = omega arith;
-      are_bytes = All-append (λ (b : ℕ). b < 256) past (replicate left 0) (All-drop (λ (b : ℕ). b < 256) (length head) name bytes) (zeros_are_bytes left);
-      whole = ap (λ (l : List ℕ). l ++ replicate left 0) (sym (name_goes_past head name agrees (omega arith))) ∙ append_assoc head past (replicate left 0);
+name_goes_on head name agrees bytes fewer = elim (cases_lt (length head) (length name)) [
+  | inl past_it ↦
+      let past = drop (length head) name in
+      let left : ℕ = 32 - length past in
+      let long : length past ≡ length name - length head = length-drop (length head) name in
+      let zero_count : length (replicate {A = ℕ} left 0) ≡ left = length-replicate {A = ℕ} left 0 in
+      let count : length (past ++ replicate {A = ℕ} left 0) ≡ length past + length (replicate {A = ℕ} left 0) = length-append past (replicate {A = ℕ} left 0) in
+      record {
+        digest = past ++ replicate left 0;
+        more = replicate left 0;
+        some = omega arith;
+        size = omega arith;
+        are_bytes = All-append (λ (b : ℕ). b < 256) past (replicate left 0) (All-drop (λ (b : ℕ). b < 256) (length head) name bytes) (zeros_are_bytes left);
+        whole = ap (λ (l : List ℕ). l ++ replicate left 0) (sym (name_goes_past head name agrees (omega arith))) ∙ append_assoc head past (replicate left 0);
+      }
+  | inr less ↦ record {
+      digest = replicate 32 0;
+      more = drop (length name) head ++ replicate 32 0;
+      some = omega (arith, length-append (drop (length name) head) (replicate {A = ℕ} 32 0), length-replicate {A = ℕ} 32 0);
+      size = length-replicate {A = ℕ} 32 0;
+      are_bytes = zeros_are_bytes 32;
+      whole = sym (append_assoc name (drop (length name) head) (replicate 32 0)) ∙ ap (λ (l : List ℕ). l ++ replicate 32 0) (head_goes_on head name agrees less);
     }
 ]
 

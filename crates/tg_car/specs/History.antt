@@ -39,24 +39,35 @@ abbrev pub with_end : {A : Type 0} → History → Result A CarFault → History
 with_end h (Ok done) = h
 with_end h (Err fault) = with_refusal h [] fault h.refused
 
--- nothing is refused, and the header isn't whole yet
+-- the header isn't whole yet, and nothing was given
 pub record IsBeforeSections (h : History) : Type 0 where
   pub no_header : h.header ≡ false
   pub no_sections : h.sections ≡ []
   pub inside : IsInHeader h.fed
 
--- nothing is refused, and the header and the sections were given, each as soon as its last byte had come
-pub record IsAmongSections (limit : ℕ) (h : History) : Type 0 where
+-- the header and the sections were given, each as soon as its last byte had come, and these bytes of the next section came
+pub record IsAmongSections (limit : ℕ) (h : History) (rest : List ℕ) : Type 0 where
   pub header : h.header ≡ true
-  pub rest : List ℕ
   pub reaches : Reaches limit h.fed h.sections rest
   pub inside : IsInSection rest
   pub within : IsWithin limit rest
 
+-- what was given is what the bytes are, and some CAR goes on so
+abbrev pub GoesOn : ℕ → History → Type 0
+GoesOn limit h = IsBeforeSections h ⊎ ((rest : List ℕ) × IsAmongSections limit h rest)
+
+-- what was given is what a front of the bytes is, and they have the fault
+pub record StopsWith (limit : ℕ) (h : History) (fault : CarFault) : Type 0 where
+  pub front : List ℕ
+  pub more : List ℕ
+  pub whole : h.fed ≡ front ++ more
+  pub went_on : GoesOn limit (record h { fed = front })
+  pub cause : (fault ≡ OutOfMemory) ⊎ (HasCarCause limit h.fed fault ⊎ HasEndCause limit h.fed fault)
+
 -- what was given and refused is what the bytes are
 abbrev pub IsExactly : ℕ → History → Option CarFault → Type 0
-IsExactly limit h None = IsBeforeSections h ⊎ IsAmongSections limit h
-IsExactly limit h (Some fault) = (fault ≡ OutOfMemory) ⊎ (HasCarCause limit h.fed fault ⊎ HasEndCause limit h.fed fault)
+IsExactly limit h None = GoesOn limit h
+IsExactly limit h (Some fault) = StopsWith limit h fault
 
 -- the history is exact for a reader with this limit
 abbrev pub IsExact : ℕ → History → Type 0

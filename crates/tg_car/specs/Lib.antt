@@ -4,3 +4,4 @@ pub mod Faults
 pub mod Heads
 pub mod History
 pub mod HeaderState
+pub mod State
