@@ -1,5 +1,5 @@
 -- The length and the CID at the front of a section.
-use Rattle.std.specs.Prelude.{◌≡◌, ℕ, ◌+◌, ◌<◌, ◌⊎◌, List, [], ◌∷◌, ◌++◌, length, take, min}
+use Rattle.std.specs.Prelude.{◌≡◌, ℕ, ◌+◌, ◌<◌, ◌≤◌, ◌⊎◌, List, [], ◌∷◌, ◌++◌, length, take, min}
 use Rattle.tg_varint.specs.Varint.{VarintSpelling}
 use Rattle.tg_cid.specs.Cid.{CidParts}
 use Rattle.tg_cid.specs.Spelling.{CidBytes, codec_code}
@@ -38,3 +38,15 @@ pub record IsInHead (bytes : List ℕ) : Type 0 where
 -- no section's length and CID begin with these bytes
 pub record IsNoHead (bytes : List ℕ) : Type 0 where
   pub none : (cid : CidParts) (number : ℕ) (more : List ℕ) → HeadText cid number (bytes ++ more) → ⊥
+
+-- the fewest bytes of a CID that begins so
+pub record IsFewest (name : List ℕ) (count : ℕ) : Type 0 where
+  pub head : List ℕ
+  pub kind : IsNameHead head
+  pub agrees : Agrees name head
+  pub count_is : count ≡ length head + 32
+  pub fewest : (other : List ℕ) → IsNameHead other → Agrees name other → length head ≤ length other
+
+-- no CID begins so
+pub record IsNoName (name : List ℕ) : Type 0 where
+  pub none : (head : List ℕ) → IsNameHead head → Agrees name head → ⊥

@@ -3,10 +3,15 @@
 
 mod event;
 mod fault;
+mod head;
 mod header;
+mod part;
+mod reader;
+mod room;
 mod section;
 
 pub use event::Event;
 pub use fault::CarFault;
 pub use header::{one_header, one_section};
+pub use reader::{CarReader, none_missed, one_division};
 pub use section::Section;

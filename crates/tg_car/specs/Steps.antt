@@ -1,0 +1,47 @@
+-- One call of a reader that has refused nothing.
+use Rattle.std.specs.Prelude.{◌≡◌, ℕ, ◌+◌, ◌<◌, ◌≤◌, ◌⊎◌, Bool, true, false, Option, Some, None, List, ◌∷◌, ◌++◌, [], length, take, Result, Ok, Err}
+use Rattle.tg_car.specs.declared.event.Event.{Event}
+use Rattle.tg_car.specs.declared.event.Event.TheVariants.{Need}
+use Rattle.tg_car.specs.declared.fault.CarFault.{CarFault}
+use Rattle.tg_car.specs.declared.fault.CarFault.TheVariants.{OutOfMemory}
+use Rattle.tg_car.specs.declared.header.HeaderState.{HeaderState}
+use Rattle.tg_car.specs.declared.reader.Followed.{Followed}
+use Rattle.tg_car.specs.CarText.{HeaderText}
+use Rattle.tg_car.specs.Faults.{HasCarCause}
+use Rattle.tg_car.specs.Fronts.{IsInHeader}
+use Rattle.tg_car.specs.HeaderState.{FollowsHeader}
+use Rattle.tg_car.specs.History.{History, with_event}
+use Rattle.tg_car.specs.State.{ReaderState, Holds}
+
+-- a byte of the piece is one with which no header goes on
+pub record StopsHeader (bytes piece : List ℕ) : Type 0 where
+  pub front : List ℕ
+  pub last : ℕ
+  pub more : List ℕ
+  pub whole : piece ≡ front ++ last ∷ more
+  pub went_on : IsInHeader (bytes ++ front)
+  pub none : (roots : List (List ℕ)) (rest : List ℕ) → HeaderText roots ((bytes ++ front) ++ last ∷ rest) → ⊥
+
+-- so many bytes of the piece make the header whole, or all of them don't
+abbrev pub Ends : Bool → List ℕ → ℕ → List ℕ → Type 0
+Ends true piece taken bytes = (0 < taken) × (taken ≤ length piece) × ((roots : List (List ℕ)) × HeaderText roots (bytes ++ take taken piece))
+Ends false piece taken bytes = (taken ≡ length piece) × IsInHeader (bytes ++ take taken piece)
+
+abbrev pub TakesHeader : List ℕ → List ℕ → Option Followed → Type 0
+TakesHeader bytes piece None = StopsHeader bytes piece
+TakesHeader bytes piece (Some found) = FollowsHeader found.state (bytes ++ take found.taken piece) × Ends found.whole piece found.taken bytes
+
+-- so many bytes of the piece were taken, with this event
+pub record Steps (old new : ReaderState) (piece : List ℕ) (taken : ℕ) (event : Event) : Type 0 where
+  pub within : taken ≤ length piece
+  pub moves : 0 < length piece → 0 < taken
+  pub need : event ≡ Need → taken ≡ length piece
+  pub limit : new.limit ≡ old.limit
+  pub refused : new.refused ≡ old.refused
+  pub holds : (h : History) → Holds old.in_header old h → Holds new.in_header new (with_event h piece taken event)
+
+-- the piece is refused with this fault
+pub record Stops (old new : ReaderState) (piece : List ℕ) (fault : CarFault) : Type 0 where
+  pub limit : new.limit ≡ old.limit
+  pub refused : new.refused ≡ old.refused
+  pub cause : (h : History) → Holds old.in_header old h → (fault ≡ OutOfMemory) ⊎ HasCarCause old.limit (h.fed ++ piece) fault
