@@ -1,3 +1,6 @@
 mod Names
 mod Heads
+mod Openings
+mod Parts
+mod Takings
 mod Sections

@@ -17,7 +17,7 @@ one_byte : (n : ℕ) → n < 128 → All (λ b. b < 256) (n ∷ [])
 one_byte n l zero d h = omega arith
 one_byte n l (suc k) d h = absurd (omega arith)
 
-alone : (n : ℕ) → n < 128 → VarintSpelling n (n ∷ [])
+pub alone : (n : ℕ) → n < 128 → VarintSpelling n (n ∷ [])
 alone n l = record {
   front = [];
   last = n;
@@ -189,7 +189,7 @@ head_goes_on head name agrees less =
     let whole : name ≡ take (length name) head = sym (take_all (length name) name (omega arith)) ∙ same in
     ap (λ (l : List ℕ). l ++ drop (length name) head) whole ∙ take-append-drop (length name) head
 
-name_goes_past : (head name : List ℕ) → Agrees name head → length head ≤ length name → head ++ drop (length head) name ≡ name
+pub name_goes_past : (head name : List ℕ) → Agrees name head → length head ≤ length name → head ++ drop (length head) name ≡ name
 name_goes_past head name agrees less =
     let least : min (length name) (length head) ≡ length head = omega arith in
     let same : take (length head) name ≡ take (length head) head =
@@ -241,3 +241,12 @@ pub name_agrees : (head name more digest : List ℕ) → name ++ more ≡ head +
 name_agrees head name more digest e =
     let n : ℕ = min (length name) (length head) in
     sym (take-append-le n name more (omega arith)) ∙ (ap (λ (l : List ℕ). take n l) e ∙ take-append-le n head digest (omega arith))
+
+-- two heads with one whole are as long
+pub heads_differ : (a b x y : List ℕ) → IsNameHead a → IsNameHead b → a ++ x ≡ b ++ y → length a ≡ length b
+heads_differ a b x y (inl h) (inl k) e = ap length h ∙ sym (ap length k)
+heads_differ a b x y (inl h) (inr k) e =
+    absurd (first_differs _ _ (ap (λ (l : List ℕ). l ++ x) (sym h) ∙ (e ∙ ap (λ (l : List ℕ). l ++ y) k.1)))
+heads_differ a b x y (inr h) (inl k) e =
+    absurd (first_differs _ _ (ap (λ (l : List ℕ). l ++ y) (sym k) ∙ (sym e ∙ ap (λ (l : List ℕ). l ++ x) h.1)))
+heads_differ a b x y (inr h) (inr k) e = ap length h.1 ∙ sym (ap length k.1)

@@ -1,5 +1,5 @@
 -- How the bytes of a section come: its length and CID, and then its block.
-use Rattle.std.specs.Prelude.{◌≡◌, ℕ, ◌+◌, ◌<◌, ◌≤◌, ⊤, Option, Some, None, List, [], ◌∷◌, ◌++◌, length, take}
+use Rattle.std.specs.Prelude.{◌≡◌, ℕ, ◌+◌, ◌<◌, ◌≤◌, ⊤, Option, Some, None, List, [], ◌∷◌, ◌++◌, length, take, All}
 use Rattle.tg_car.specs.declared.section.Section.{Section}
 use Rattle.tg_car.specs.declared.head.Declared.{Declared}
 use Rattle.tg_car.specs.declared.head.Front.{Front}
@@ -37,6 +37,7 @@ Fills old new piece taken fronts.Broken = BreaksHead old piece
 abbrev pub IsPartOf : Option Declared → Part → Type 0
 IsPartOf None part = IsInHead part.head × (part.block.items ≡ [])
 IsPartOf (Some declared) part = HeadText declared.cid declared.number part.head × (length part.block.items < declared.number)
+    × All (λ b. b < 256) part.block.items
 
 abbrev pub IsPart : Part → Type 0
 IsPart part = IsPartOf part.declared part

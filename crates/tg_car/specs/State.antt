@@ -1,5 +1,5 @@
 -- What a contract sees of a reader of a CAR, and the histories that it stands for.
-use Rattle.std.specs.Prelude.{◌≡◌, ℕ, ◌-◌, Bool, true, false, Option, Some, None, List, length}
+use Rattle.std.specs.Prelude.{◌≡◌, ℕ, ◌-◌, Bool, true, false, Option, Some, None, List, [], length}
 use Rattle.tg_car.specs.declared.header.HeaderState.{HeaderState}
 use Rattle.tg_car.specs.declared.fault.CarFault.{CarFault}
 use Rattle.tg_car.specs.HeaderState.{FollowsHeader}
@@ -18,6 +18,7 @@ pub record ReaderState : Type 0 where
 pub record HoldsHeader (state : ReaderState) (h : History) : Type 0 where
   pub before : IsBeforeSections h
   pub follows : FollowsHeader state.header h.fed
+  pub none_came : state.came ≡ []
   pub place_is : state.place ≡ shown (length h.fed)
 
 -- the section at hand is the one that the bytes have reached

@@ -22,14 +22,20 @@ pub record StopsHeader (bytes piece : List ℕ) : Type 0 where
   pub went_on : IsInHeader (bytes ++ front)
   pub none : (roots : List (List ℕ)) (rest : List ℕ) → HeaderText roots ((bytes ++ front) ++ last ∷ rest) → ⊥
 
--- so many bytes of the piece make the header whole, or all of them don't
-abbrev pub Ends : Bool → List ℕ → ℕ → List ℕ → Type 0
-Ends true piece taken bytes = (0 < taken) × (taken ≤ length piece) × ((roots : List (List ℕ)) × HeaderText roots (bytes ++ take taken piece))
-Ends false piece taken bytes = (taken ≡ length piece) × IsInHeader (bytes ++ take taken piece)
+-- so many bytes of the piece were taken: all of them where the header isn't whole with them
+abbrev pub IsTaken : Bool → List ℕ → ℕ → Type 0
+IsTaken true piece taken = (0 < taken) × (taken ≤ length piece)
+IsTaken false piece taken = taken ≡ length piece
+
+-- the bytes are a header, or a header goes on so
+abbrev pub IsHeaderSoFar : Bool → List ℕ → Type 0
+IsHeaderSoFar true bytes = (roots : List (List ℕ)) × HeaderText roots bytes
+IsHeaderSoFar false bytes = IsInHeader bytes
 
 abbrev pub TakesHeader : List ℕ → List ℕ → Option Followed → Type 0
 TakesHeader bytes piece None = StopsHeader bytes piece
-TakesHeader bytes piece (Some found) = FollowsHeader found.state (bytes ++ take found.taken piece) × Ends found.whole piece found.taken bytes
+TakesHeader bytes piece (Some found) =
+    FollowsHeader found.state (bytes ++ take found.taken piece) × IsHeaderSoFar found.whole (bytes ++ take found.taken piece)
 
 -- so many bytes of the piece were taken, with this event
 pub record Steps (old new : ReaderState) (piece : List ℕ) (taken : ℕ) (event : Event) : Type 0 where

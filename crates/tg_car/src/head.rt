@@ -42,7 +42,8 @@ pub(crate) fn front_of(bytes: &[u8]) -> Front
     match tg_varint::read(bytes) {
         Ok((size, at)) => behind_size(size, &bytes[at..]),
         Err(VarintFault::Short) => Front::Open,
-        Err(VarintFault::TooLong | VarintFault::NotShortest) => Front::Broken,
+        Err(VarintFault::TooLong) => Front::Broken,
+        Err(VarintFault::NotShortest) => Front::Broken,
     }
 }
 

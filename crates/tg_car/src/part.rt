@@ -1,5 +1,5 @@
 //! The section at hand: what of it came.
-ghost use Rattle.std.specs.Prelude.{◌≡◌, ◌↔◌, ◌≤◌, [], length, Option, Some, None, IsTrue, MatchResult};
+ghost use Rattle.std.specs.Prelude.{◌≡◌, ◌↔◌, ◌<◌, ◌≤◌, [], length, Option, Some, None, IsTrue, All, MatchResult};
 ghost use Rattle.tg_car.specs.Faults.{shown};
 ghost use Rattle.tg_car.specs.Filling.{IsPart, StopsPart, Takes, TakesBlock, TakesHead, came_of};
 ghost use Rattle.tg_car.specs.Heads.{HeadText};
@@ -132,6 +132,7 @@ impl Part {
     ) -> Result<(usize, Option<Section>), PartFault>
         requires head { HeadText declared.cid declared.number self.old.head }
         requires block { length self.old.block.items ≤ declared.number }
+        requires bytes { All (λ b. b < 256) self.old.block.items }
         ensures part { IsPart self.new }
         ensures took { MatchResult result (λ found. TakesBlock declared self.old self.new piece.now found.0 found.1)
             (λ fault. fault ≡ PartFault.OutOfMemory) }

@@ -1,12 +1,12 @@
 //! A CAR read in pieces of any lengths.
-ghost use Rattle.std.specs.Prelude.{◌≡◌, ℕ, ◌<◌, ◌≤◌, true, false, List, length, Option, Some, None, IfOk, OnOk, MatchResult};
+ghost use Rattle.std.specs.Prelude.{◌≡◌, ℕ, ◌<◌, ◌≤◌, true, false, List, length, Option, Some, None, IfOk, IfSome, OnOk, MatchResult};
 ghost use Rattle.tg_car.specs.CarText.{CarText};
 ghost use Rattle.tg_car.specs.Fronts.{IsInHeader};
 ghost use Rattle.tg_car.specs.Faults.{HasCarCause};
 ghost use Rattle.tg_car.specs.HeaderState.{FollowsHeader};
 ghost use Rattle.tg_car.specs.History.{History, IsExact, nothing, with_end, with_feed};
 ghost use Rattle.tg_car.specs.State.{StandsFor};
-ghost use Rattle.tg_car.specs.Steps.{Steps, Stops, TakesHeader};
+ghost use Rattle.tg_car.specs.Steps.{IsTaken, Steps, Stops, TakesHeader};
 ghost use Rattle.tg_car.specs.declared.fault.CarFault.{CarFault};
 
 use crate::event::Event;
@@ -173,7 +173,8 @@ impl CarReader {
 
 /// Takes bytes of the piece into a header up to its end, or none where no header goes on so.
 fn follow(mut state: HeaderState, piece: &[u8]) -> Option<Followed>
-    ensures { (bytes : List ℕ) → FollowsHeader state bytes → IsInHeader bytes → TakesHeader bytes piece.now result }
+    ensures taken { IfSome result (λ found. IsTaken found.whole piece.now found.taken) }
+    ensures bytes { (bytes : List ℕ) → FollowsHeader state bytes → IsInHeader bytes → TakesHeader bytes piece.now result }
 {
     for (at, byte) in piece.iter().enumerate() {
         state = state.step(*byte)?;
