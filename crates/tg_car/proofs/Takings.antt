@@ -1,15 +1,17 @@
 -- What is taken of a piece into the section at hand.
-use Rattle.std.proofs.Common.{◌≡◌, ℕ, ◌+◌, ◌-◌, ◌<◌, ◌≤◌, ◌⊎◌, Option, Some, None, List, [], ◌∷◌, ◌++◌, length, take, drop, All, refl, ap, ap₂, sym, ◌∙◌, subst, inl, inr, arith}
-use Rattle.std.proofs.lemmas.List.{append_assoc, append-nil, length-append, length-drop, length-take-le, take-append-drop}
+use Rattle.std.proofs.Common.{◌≡◌, ℕ, ◌+◌, ◌-◌, ◌<◌, ◌≤◌, ◌⊎◌, Option, Some, None, List, [], ◌∷◌, ◌++◌, length, take, drop, get_or, All, refl, ap, ap₂, sym, ◌∙◌, subst, inl, inr, arith}
+use Rattle.std.proofs.lemmas.List.{append_assoc, append-nil, length-append, length-drop, length-take-le, take-append-drop, take_more, drop_more}
 use Rattle.std.proofs.lemmas.List.Elements.{All-append, All-take, All-drop, All-nil}
 use Rattle.std.proofs.Math.Seq.{take-add}
 use Rattle.tg_car.specs.declared.section.Section.{Section}
 use Rattle.tg_car.specs.declared.head.Declared.{Declared}
+use Rattle.tg_car.specs.declared.head.Front.{Front}
+use Rattle.tg_car.specs.declared.head.Front.TheVariants.{Open, Whole, Broken}
 use Rattle.tg_car.specs.declared.part.Part.{Part}
 use Rattle.tg_car.specs.CarText.{SectionText}
 use Rattle.tg_car.specs.Fronts.{IsInSection, IsWithin}
-use Rattle.tg_car.specs.Heads.{HeadText, IsInHead}
-use Rattle.tg_car.specs.Filling.{IsPart, IsPartOf, came_of, Takes, TakesHead, TakesBlock, BreaksHead, DeclaresMore}
+use Rattle.tg_car.specs.Heads.{HeadText, IsInHead, IsNoHead}
+use Rattle.tg_car.specs.Filling.{IsPart, IsPartOf, IsFront, Fills, came_of, Takes, TakesHead, TakesBlock, BreaksHead, DeclaresMore}
 use Rattle.tg_car.proofs.Openings.{nothing_in_head}
 use Rattle.tg_car.proofs.Parts.{whole_section, head_inside, head_within, block_inside, whole_within, declared_within}
 
@@ -141,3 +143,27 @@ stops_above limit old piece part e b =
     let o = open_part old part e in
     let before : came_of old ≡ old.head = ap (λ (l : List ℕ). old.head ++ l) o.1 ∙ append-nil old.head in
     subst (λ (l : List ℕ). DeclaresMore limit l piece) (sym before) b
+
+-- one more byte of a piece
+pub one_more : (bytes piece : List ℕ) (at : ℕ) → at < length piece → (bytes ++ take at piece) ++ get_or piece at 0 ∷ [] ≡ bytes ++ take (at + 1) piece
+one_more bytes piece at less =
+    append_assoc bytes (take at piece) (get_or piece at 0 ∷ []) ∙ ap (λ (l : List ℕ). bytes ++ l) (sym (take_more piece at 0 less))
+
+pub one_behind : (piece : List ℕ) (at : ℕ) → at < length piece → piece ≡ take at piece ++ get_or piece at 0 ∷ drop (at + 1) piece
+one_behind piece at less =
+    sym (take-append-drop at piece) ∙ ap (λ (l : List ℕ). take at piece ++ l) (drop_more piece at 0 less)
+
+-- the head is whole or broken with one more byte
+pub filled : (old head new piece : List ℕ) (at : ℕ) (front : Front) → at < length piece → head ≡ old ++ take at piece → IsInHead head
+    → new ≡ head ++ get_or piece at 0 ∷ [] → IsFront new front → (front ≡ Open → ⊥) → Fills old new piece (at + 1) front
+filled old head new piece at Open less e inside pushed is other = absurd (other refl)
+filled old head new piece at (Whole declared) less e inside pushed is other =
+    (omega arith, omega arith, pushed ∙ (ap (λ (l : List ℕ). l ++ get_or piece at 0 ∷ []) e ∙ one_more old piece at less), is)
+filled old head new piece at Broken less e inside pushed is other = record {
+  front = take at piece;
+  last = get_or piece at 0;
+  more = drop (at + 1) piece;
+  whole = one_behind piece at less;
+  went_on = subst IsInHead e inside;
+  none = subst IsNoHead (pushed ∙ ap (λ (l : List ℕ). l ++ get_or piece at 0 ∷ []) e) is;
+}
