@@ -44,7 +44,7 @@ pub record BytesThen (left : ℕ) (roots : Roots) (rest : List ℕ) : Type 0 whe
   pub whole : rest ≡ front ++ more
   pub left_is : length front ≡ left
   pub are_bytes : All (λ b. b < 256) front
-  pub then : RootsThen roots.count roots.bytes more
+  pub behind : RootsThen roots.count roots.bytes more
 
 -- what may follow in a state
 abbrev pub Follows : HeaderState → List ℕ → Type 0

@@ -1,8 +1,9 @@
 //! The header of a CAR, looked at byte by byte: it is refused at the first byte after which no header goes on.
-ghost use Rattle.std.specs.Prelude.{◌≡◌, ℕ, ◌+◌, ◌≤◌, ◌<◌, ◌↔◌, List, [], ◌∷◌, ◌++◌, IsTrue, MatchBool, MatchOption};
+ghost use Rattle.std.specs.Prelude.{◌≡◌, ℕ, ◌+◌, ◌-◌, ◌≤◌, ◌<◌, ◌↔◌, List, [], ◌∷◌, ◌++◌, IsTrue, MatchBool, MatchOption};
 ghost use Rattle.tg_car.specs.CarText.{HeaderText, SectionText};
 ghost use Rattle.tg_car.specs.Fronts.{IsInHeader};
 ghost use Rattle.tg_car.specs.HeaderState.{FollowsHeader, GoesOn, CanBe, IsMapSize};
+ghost use Rattle.tg_car.specs.declared.header.Roots.{Roots};
 ghost use Rattle.tg_car.specs.declared.section.Section.{Section};
 
 // The bytes of the map before the array of roots, and those behind it.

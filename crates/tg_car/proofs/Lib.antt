@@ -1,0 +1,6 @@
+mod Sizes
+mod RootTexts
+mod StringSteps
+mod ArraySteps
+mod Lengths
+mod Live
