@@ -3,4 +3,5 @@ mod RootTexts
 mod StringSteps
 mod ArraySteps
 mod Lengths
+mod ByteSteps
 mod Live

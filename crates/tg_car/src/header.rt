@@ -95,7 +95,10 @@ impl HeaderState {
         ensures { (bytes : List ℕ) → FollowsHeader self.now bytes
             → MatchBool result ((roots : List (List ℕ)) × HeaderText roots bytes) (IsInHeader bytes) }
     {
-        matches!(self, HeaderState::Back { at: 9 })
+        match self {
+            HeaderState::Back { at } => *at == 9,
+            _ => false,
+        }
     }
 
     fn next(self, byte: u8) -> Option<HeaderState>
