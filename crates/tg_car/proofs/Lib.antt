@@ -5,3 +5,4 @@ mod ArraySteps
 mod Lengths
 mod ByteSteps
 mod Live
+mod OneText

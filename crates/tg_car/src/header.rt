@@ -271,9 +271,14 @@ fn back(at: u8, byte: u8) -> Option<HeaderState>
 /// No header begins another, and a header is of one list of roots.
 pub fn one_header()
     ensures { (a b : List (List ℕ)) (u v x y : List ℕ) → HeaderText a u → HeaderText b v → u ++ x ≡ v ++ y → (u ≡ v) × (a ≡ b) }
-{}
+{
+    tg_varint::one_spelling();
+}
 
 /// No section begins another, and the bytes of a section are of one section.
 pub fn one_section()
     ensures { (a b : Section) (u v x y : List ℕ) → SectionText a u → SectionText b v → u ++ x ≡ v ++ y → (u ≡ v) × (a ≡ b) }
-{}
+{
+    tg_varint::one_spelling();
+    tg_cid::one_spelling();
+}
