@@ -3,3 +3,4 @@ pub mod Fronts
 pub mod Faults
 pub mod History
 pub mod HeaderState
+pub mod Writing

@@ -5,8 +5,10 @@ mod event;
 mod fault;
 mod header;
 mod section;
+mod writing;
 
 pub use event::Event;
 pub use fault::CarFault;
 pub use header::{one_header, one_section};
 pub use section::Section;
+pub use writing::{header, section_head};
