@@ -4,9 +4,9 @@ use Rattle.std.specs.Bool.{then_some}
 use Rattle.std.specs.List.{flat_map}
 use Rattle.tg_car.specs.CarText.{IsRoot, array_head, root_text, header_map}
 use Rattle.tg_car.specs.HeaderState.{CanBe, IsLive, RootsThen, ArrayThen, Follows, GoesOn, map_back}
-use Rattle.tg_car.specs.declared.header.Roots.{Roots}
-use Rattle.tg_car.specs.declared.header.HeaderState.{HeaderState}
-use Rattle.tg_car.specs.declared.header.HeaderState.TheVariants as states
+use Rattle.tg_car.specs.declared.header_state.Roots.{Roots}
+use Rattle.tg_car.specs.declared.header_state.HeaderState.{HeaderState}
+use Rattle.tg_car.specs.declared.header_state.HeaderState.TheVariants as states
 use Rattle.tg_car.proofs.Sizes.{array_head_is, map_size, roots_can_be}
 use Rattle.tg_car.proofs.RootTexts.{roots_then_can_be}
 

@@ -3,8 +3,8 @@ use Rattle.std.proofs.Common.{◌≡◌, ◌↔◌, ℕ, ◌+◌, ◌-◌, ◌<�
 use Rattle.std.proofs.Math.Seq.{drop-cons}
 use Rattle.std.proofs.lemmas.List.Elements.{All-head, All-tail, All-nil, All-cons}
 use Rattle.tg_car.specs.HeaderState.{BytesThen, RootsThen, Follows, map_front}
-use Rattle.tg_car.specs.declared.header.Roots.{Roots}
-use Rattle.tg_car.specs.declared.header.HeaderState.TheVariants as states
+use Rattle.tg_car.specs.declared.header_state.Roots.{Roots}
+use Rattle.tg_car.specs.declared.header_state.HeaderState.TheVariants as states
 
 front_parts : (at : ℕ) → at < 7 → drop at map_front ≡ get_or map_front at 0 ∷ drop (at + 1) map_front
 front_parts at below = rw add-one (drop-cons map_front at 0 below)

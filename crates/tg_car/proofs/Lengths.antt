@@ -5,8 +5,8 @@ use Rattle.std.proofs.lemmas.List.Elements.{All-head, All-nil, All-cons}
 use Rattle.tg_varint.specs.Varint.{number_of, AllGoOn, VarintSpelling}
 use Rattle.tg_car.specs.CarText.{IsRoot, array_head, root_text, header_map, HeaderText}
 use Rattle.tg_car.specs.HeaderState.{IsMapSize, IsLive, ArrayThen, Follows, GoesOn, map_front, map_back}
-use Rattle.tg_car.specs.declared.header.HeaderState.{HeaderState}
-use Rattle.tg_car.specs.declared.header.HeaderState.TheVariants as states
+use Rattle.tg_car.specs.declared.header_state.HeaderState.{HeaderState}
+use Rattle.tg_car.specs.declared.header_state.HeaderState.TheVariants as states
 use Rattle.tg_car.proofs.Sizes.{map_size_is}
 
 -- what `map_of` answers

@@ -7,9 +7,9 @@ use Rattle.std.proofs.lemmas.List.Elements.{All-nil, All-cons}
 use Rattle.tg_car.specs.CarText.{IsRoot, HeaderText, string_head, root_text, header_map}
 use Rattle.tg_car.specs.Fronts.{IsInHeader}
 use Rattle.tg_car.specs.HeaderState.{CanBe, IsMapSize, IsLive, RootsThen, ArrayThen, BytesThen, Follows, FollowsHeader, GoesOn, map_front, map_back}
-use Rattle.tg_car.specs.declared.header.Roots.{Roots}
-use Rattle.tg_car.specs.declared.header.HeaderState.{HeaderState}
-use Rattle.tg_car.specs.declared.header.HeaderState.TheVariants as states
+use Rattle.tg_car.specs.declared.header_state.Roots.{Roots}
+use Rattle.tg_car.specs.declared.header_state.HeaderState.{HeaderState}
+use Rattle.tg_car.specs.declared.header_state.HeaderState.TheVariants as states
 use Rattle.tg_car.proofs.Sizes.{root_size}
 use Rattle.tg_car.proofs.RootTexts.{RootThen, first_root, behind_head, with_root, zero_then, long_from}
 use Rattle.tg_car.proofs.ArraySteps as arrays

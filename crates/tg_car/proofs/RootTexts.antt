@@ -5,8 +5,8 @@ use Rattle.std.proofs.lemmas.List.{length-append, append_assoc}
 use Rattle.std.proofs.lemmas.List.Elements.{All-head, All-tail, All-cons}
 use Rattle.tg_car.specs.CarText.{IsRoot, string_head, root_text}
 use Rattle.tg_car.specs.HeaderState.{CanBe, RootsThen, BytesThen, map_back, Follows}
-use Rattle.tg_car.specs.declared.header.Roots.{Roots}
-use Rattle.tg_car.specs.declared.header.HeaderState.TheVariants as states
+use Rattle.tg_car.specs.declared.header_state.Roots.{Roots}
+use Rattle.tg_car.specs.declared.header_state.HeaderState.TheVariants as states
 use Rattle.tg_car.proofs.Sizes.{string_head_is, root_size, root_bounds, roots_can_be}
 
 -- the first of so many roots, of so many bytes together

@@ -2,9 +2,9 @@
 use Rattle.std.proofs.Common.{◌≡◌, ◌↔◌, ℕ, ◌+◌, ◌-◌, ◌*◌, ◌<◌, ◌≤◌, Option, Some, None, Bool, true, false, List, [], ◌∷◌, ◌++◌, length, ap, sym, ◌∙◌, refl, subst, MatchOption, inl, inr, arith}
 use Rattle.std.specs.Bool.{then_some}
 use Rattle.tg_car.specs.HeaderState.{CanBe, IsLive, RootsThen, Follows, GoesOn}
-use Rattle.tg_car.specs.declared.header.Roots.{Roots}
-use Rattle.tg_car.specs.declared.header.HeaderState.{HeaderState}
-use Rattle.tg_car.specs.declared.header.HeaderState.TheVariants as states
+use Rattle.tg_car.specs.declared.header_state.Roots.{Roots}
+use Rattle.tg_car.specs.declared.header_state.HeaderState.{HeaderState}
+use Rattle.tg_car.specs.declared.header_state.HeaderState.TheVariants as states
 use Rattle.tg_car.proofs.Sizes.{root_size}
 use Rattle.tg_car.proofs.RootTexts.{RootThen, first_root, behind_head, short_to, short_from, long_to, long_from, zero_then, then_zero, roots_then_can_be}
 

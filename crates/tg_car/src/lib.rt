@@ -3,12 +3,12 @@
 
 mod event;
 mod fault;
-mod header;
+mod header_state;
 mod section;
 mod writing;
 
 pub use event::Event;
 pub use fault::CarFault;
-pub use header::{one_header, one_section};
+pub use header_state::{one_header, one_section};
 pub use section::Section;
 pub use writing::{header, section_head};

@@ -1,8 +1,8 @@
 -- A length of two bytes.
 use Rattle.std.proofs.Common.{◌≡◌, ℕ, ◌+◌, ◌*◌, ◌%◌, ◌<◌, arith}
 use Rattle.tg_car.proofs.Lengths.{two_step, second_refused}
-use Rattle.tg_car.proofs.header.second_byte.Goals as goal
-use Rattle.tg_car.proofs.header.second_byte.Goals.{then-byte-eq0-via-then-byte-eq0, then-byte-eq0-via-else-byte-eq0+then-byte-ge128}
+use Rattle.tg_car.proofs.header_state.second_byte.Goals as goal
+use Rattle.tg_car.proofs.header_state.second_byte.Goals.{then-byte-eq0-via-then-byte-eq0, then-byte-eq0-via-else-byte-eq0+then-byte-ge128}
 
 pub returns : goal.returns
 returns c =

@@ -2,7 +2,7 @@
 use Rattle.std.proofs.Common.{◌≡◌, ℕ, ◌<◌, ◌+◌, get_or, ◌∙◌, sym, ap, arith}
 use Rattle.tg_car.specs.HeaderState.{map_front}
 use Rattle.tg_car.proofs.ByteSteps.{front_to, front_from}
-use Rattle.tg_car.proofs.header.front.Goals as goal
+use Rattle.tg_car.proofs.header_state.front.Goals as goal
 
 pub returns-then-branch-byte : goal.returns-then-branch-byte
 returns-then-branch-byte c = λ live rest f.

@@ -2,9 +2,9 @@
 use Rattle.std.proofs.Common.{◌≡◌, eqb, subst}
 use Rattle.std.proofs.lemmas.Bool.{eqb-true, eqb-false}
 use Rattle.tg_car.specs.HeaderState.{FollowsHeader}
-use Rattle.tg_car.specs.declared.header.HeaderState.{HeaderState}
+use Rattle.tg_car.specs.declared.header_state.HeaderState.{HeaderState}
 use Rattle.tg_car.proofs.Live.{at_end, has_more, in_header}
-use Rattle.tg_car.proofs.header.HeaderState.is_whole.Goals as goal
+use Rattle.tg_car.proofs.header_state.HeaderState.is_whole.Goals as goal
 
 pub returns-in-Back : goal.returns-in-Back
 returns-in-Back c = λ bytes f.

@@ -1,7 +1,7 @@
 -- The second byte of a head of two.
 use Rattle.std.proofs.Common.{◌≤◌, arith}
 use Rattle.tg_car.proofs.StringSteps.{long_step}
-use Rattle.tg_car.proofs.header.string_size.Goals as goal
+use Rattle.tg_car.proofs.header_state.string_size.Goals as goal
 
 pub returns-in-24-to-200 : goal.returns-in-24-to-200
 returns-in-24-to-200 c =

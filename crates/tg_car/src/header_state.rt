@@ -3,7 +3,7 @@ ghost use Rattle.std.specs.Prelude.{◌≡◌, ℕ, ◌+◌, ◌-◌, ◌≤◌,
 ghost use Rattle.tg_car.specs.CarText.{HeaderText, SectionText};
 ghost use Rattle.tg_car.specs.Fronts.{IsInHeader};
 ghost use Rattle.tg_car.specs.HeaderState.{FollowsHeader, GoesOn, CanBe, IsMapSize};
-ghost use Rattle.tg_car.specs.declared.header.Roots.{Roots};
+ghost use Rattle.tg_car.specs.declared.header_state.Roots.{Roots};
 ghost use Rattle.tg_car.specs.declared.section.Section.{Section};
 
 // The bytes of the map before the array of roots, and those behind it.

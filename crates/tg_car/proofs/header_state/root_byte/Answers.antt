@@ -1,7 +1,7 @@
 -- The last byte of a root, and another.
 use Rattle.std.proofs.Common.{◌≡◌, ◌<◌, arith}
 use Rattle.tg_car.proofs.ByteSteps.{last_byte, bytes_to, bytes_from}
-use Rattle.tg_car.proofs.header.root_byte.Goals as goal
+use Rattle.tg_car.proofs.header_state.root_byte.Goals as goal
 
 pub returns-in-0 : goal.returns-in-0
 returns-in-0 c = λ live. (live.1, λ rest. last_byte c.args.left c.args.roots c.args.byte rest (omega (arith, live.0)) (omega arith))

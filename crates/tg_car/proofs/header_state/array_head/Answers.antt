@@ -3,10 +3,10 @@ use Rattle.std.proofs.Common.{◌≡◌, ℕ, ◌≤◌, ◌<◌, ◌+◌, ◌-�
 use Rattle.std.specs.Bool.{then_some}
 use Rattle.std.proofs.lemmas.Bool.{leb-true, leb-false}
 use Rattle.tg_car.specs.HeaderState.{GoesOn}
-use Rattle.tg_car.specs.declared.header.HeaderState.{HeaderState}
-use Rattle.tg_car.specs.declared.header.HeaderState.TheVariants as states
+use Rattle.tg_car.specs.declared.header_state.HeaderState.{HeaderState}
+use Rattle.tg_car.specs.declared.header_state.HeaderState.TheVariants as states
 use Rattle.tg_car.proofs.ArraySteps.{short_step, long_next}
-use Rattle.tg_car.proofs.header.array_head.Goals as goal
+use Rattle.tg_car.proofs.header_state.array_head.Goals as goal
 
 pub returns-in-152 : goal.returns-in-152
 returns-in-152 c =

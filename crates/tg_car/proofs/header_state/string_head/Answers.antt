@@ -2,11 +2,11 @@
 use Rattle.std.proofs.Common.{◌≡◌, ℕ, ◌+◌, ◌-◌, ◌*◌, ◌≤◌, ◌<◌, leb, true, false, Option, sym, subst, arith}
 use Rattle.std.specs.Bool.{then_some}
 use Rattle.std.proofs.lemmas.Bool.{leb-true, leb-false}
-use Rattle.tg_car.specs.declared.header.HeaderState.{HeaderState}
+use Rattle.tg_car.specs.declared.header_state.HeaderState.{HeaderState}
 use Rattle.tg_car.specs.HeaderState.{GoesOn}
-use Rattle.tg_car.specs.declared.header.HeaderState.TheVariants as states
+use Rattle.tg_car.specs.declared.header_state.HeaderState.TheVariants as states
 use Rattle.tg_car.proofs.StringSteps.{short_step, long_next}
-use Rattle.tg_car.proofs.header.string_head.Goals as goal
+use Rattle.tg_car.proofs.header_state.string_head.Goals as goal
 
 pub returns-in-66-to-87 : goal.returns-in-66-to-87
 returns-in-66-to-87 c =

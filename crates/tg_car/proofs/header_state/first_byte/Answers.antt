@@ -1,7 +1,7 @@
 -- A length of one byte.
 use Rattle.std.proofs.Common.{◌≡◌, ℕ, subst}
 use Rattle.tg_car.proofs.Lengths.{IsMapOf, one_step}
-use Rattle.tg_car.proofs.header.first_byte.Goals as goal
+use Rattle.tg_car.proofs.header_state.first_byte.Goals as goal
 
 pub returns : goal.returns
 returns c =
