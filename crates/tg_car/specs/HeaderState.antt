@@ -2,9 +2,9 @@
 use Rattle.std.specs.Prelude.{◌≡◌, ◌≢◌, ◌↔◌, ℕ, ◌+◌, ◌*◌, ◌<◌, ◌≤◌, Option, Some, None, List, [], ◌∷◌, ◌++◌, length, drop, All, codes}
 use Rattle.std.specs.List.{flat_map}
 use Rattle.tg_car.specs.CarText.{IsRoot, root_text, array_head, header_map, HeaderText}
-use Rattle.tg_car.specs.declared.header.Roots.{Roots}
-use Rattle.tg_car.specs.declared.header.HeaderState.{HeaderState}
-use Rattle.tg_car.specs.declared.header.HeaderState.TheVariants as states
+use Rattle.tg_car.specs.declared.header_state.Roots.{Roots}
+use Rattle.tg_car.specs.declared.header_state.HeaderState.{HeaderState}
+use Rattle.tg_car.specs.declared.header_state.HeaderState.TheVariants as states
 
 -- the bytes of the map before the array of roots, and those behind it
 abbrev pub map_front : List ℕ
@@ -44,7 +44,7 @@ pub record BytesThen (left : ℕ) (roots : Roots) (rest : List ℕ) : Type 0 whe
   pub whole : rest ≡ front ++ more
   pub left_is : length front ≡ left
   pub are_bytes : All (λ b. b < 256) front
-  pub then : RootsThen roots.count roots.bytes more
+  pub behind : RootsThen roots.count roots.bytes more
 
 -- what may follow in a state
 abbrev pub Follows : HeaderState → List ℕ → Type 0

@@ -7,3 +7,4 @@ pub mod History
 pub mod HeaderState
 pub mod State
 pub mod Steps
+pub mod Writing

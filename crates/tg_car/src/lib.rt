@@ -4,14 +4,16 @@
 mod event;
 mod fault;
 mod head;
-mod header;
+mod header_state;
 mod part;
 mod reader;
 mod room;
 mod section;
+mod writing;
 
 pub use event::Event;
 pub use fault::CarFault;
-pub use header::{one_header, one_section};
+pub use header_state::{one_header, one_section};
 pub use reader::{CarReader, none_missed, one_division};
 pub use section::Section;
+pub use writing::{header, section_head};

@@ -83,13 +83,12 @@ impl Part {
         if let Some(declared) = self.declared {
             return self.take_block(alloc, declared, piece);
         }
-        match self.take_head(limit, piece)? {
-            (taken, None) => Ok((taken, None)),
-            (taken, Some(declared)) => {
-                let (more, section) = self.take_block(alloc, declared, &piece[taken..])?;
-                Ok((taken + more, section))
-            }
-        }
+        let (taken, declared) = self.take_head(limit, piece)?;
+        let Some(declared) = declared else {
+            return Ok((taken, None));
+        };
+        let (more, section) = self.take_block(alloc, declared, &piece[taken..])?;
+        Ok((taken + more, section))
     }
 
     /// Takes bytes of the piece into the length and the CID, and says how many and what they declare once they are whole.

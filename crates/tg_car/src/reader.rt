@@ -11,7 +11,7 @@ ghost use Rattle.tg_car.specs.declared.fault.CarFault.{CarFault};
 
 use crate::event::Event;
 use crate::fault::CarFault;
-use crate::header::HeaderState;
+use crate::header_state::HeaderState;
 use crate::part::{Part, PartFault};
 use std::alloc::Global;
 use std::marker::Model;

@@ -1,8 +1,9 @@
 //! The header of a CAR, looked at byte by byte: it is refused at the first byte after which no header goes on.
-ghost use Rattle.std.specs.Prelude.{◌≡◌, ℕ, ◌+◌, ◌≤◌, ◌<◌, ◌↔◌, List, [], ◌∷◌, ◌++◌, IsTrue, MatchBool, MatchOption};
+ghost use Rattle.std.specs.Prelude.{◌≡◌, ℕ, ◌+◌, ◌-◌, ◌≤◌, ◌<◌, ◌↔◌, List, [], ◌∷◌, ◌++◌, IsTrue, MatchBool, MatchOption};
 ghost use Rattle.tg_car.specs.CarText.{HeaderText, SectionText};
 ghost use Rattle.tg_car.specs.Fronts.{IsInHeader};
 ghost use Rattle.tg_car.specs.HeaderState.{FollowsHeader, GoesOn, CanBe, IsMapSize};
+ghost use Rattle.tg_car.specs.declared.header_state.Roots.{Roots};
 ghost use Rattle.tg_car.specs.declared.section.Section.{Section};
 
 // The bytes of the map before the array of roots, and those behind it.
@@ -94,7 +95,10 @@ impl HeaderState {
         ensures { (bytes : List ℕ) → FollowsHeader self.now bytes
             → MatchBool result ((roots : List (List ℕ)) × HeaderText roots bytes) (IsInHeader bytes) }
     {
-        matches!(self, HeaderState::Back { at: 9 })
+        match self {
+            HeaderState::Back { at } => *at == 9,
+            _ => false,
+        }
     }
 
     fn next(self, byte: u8) -> Option<HeaderState>
@@ -267,9 +271,14 @@ fn back(at: u8, byte: u8) -> Option<HeaderState>
 /// No header begins another, and a header is of one list of roots.
 pub fn one_header()
     ensures { (a b : List (List ℕ)) (u v x y : List ℕ) → HeaderText a u → HeaderText b v → u ++ x ≡ v ++ y → (u ≡ v) × (a ≡ b) }
-{}
+{
+    tg_varint::one_spelling();
+}
 
 /// No section begins another, and the bytes of a section are of one section.
 pub fn one_section()
     ensures { (a b : Section) (u v x y : List ℕ) → SectionText a u → SectionText b v → u ++ x ≡ v ++ y → (u ≡ v) × (a ≡ b) }
-{}
+{
+    tg_varint::one_spelling();
+    tg_cid::one_spelling();
+}
