@@ -1,5 +1,5 @@
 -- What is taken of a piece into the section at hand.
-use Rattle.std.proofs.Common.{◌≡◌, ℕ, ◌+◌, ◌-◌, ◌<◌, ◌≤◌, ◌⊎◌, Option, Some, None, List, [], ◌∷◌, ◌++◌, length, take, drop, get_or, All, refl, ap, ap₂, sym, ◌∙◌, subst, inl, inr, arith}
+use Rattle.std.proofs.Common.{◌≡◌, ℕ, ◌+◌, ◌-◌, ◌<◌, ◌≤◌, ◌⊎◌, Option, Some, None, Result, Ok, Err, MatchResult, List, [], ◌∷◌, ◌++◌, length, take, drop, get_or, All, refl, ap, ap₂, sym, ◌∙◌, subst, inl, inr, arith}
 use Rattle.std.proofs.lemmas.List.{append_assoc, append-nil, length-append, length-drop, length-take-le, take-append-drop, take_more, drop_more}
 use Rattle.std.proofs.lemmas.List.Elements.{All-append, All-take, All-drop, All-nil}
 use Rattle.std.proofs.Math.Seq.{take-add}
@@ -8,10 +8,12 @@ use Rattle.tg_car.specs.declared.head.Declared.{Declared}
 use Rattle.tg_car.specs.declared.head.Front.{Front}
 use Rattle.tg_car.specs.declared.head.Front.TheVariants.{Open, Whole, Broken}
 use Rattle.tg_car.specs.declared.part.Part.{Part}
+use Rattle.tg_car.specs.declared.part.PartFault.{PartFault}
+use Rattle.tg_car.specs.declared.part.PartFault.TheVariants.{OutOfMemory}
 use Rattle.tg_car.specs.CarText.{SectionText}
 use Rattle.tg_car.specs.Fronts.{IsInSection, IsWithin}
 use Rattle.tg_car.specs.Heads.{HeadText, IsInHead, IsNoHead}
-use Rattle.tg_car.specs.Filling.{IsPart, IsPartOf, IsFront, Fills, came_of, Takes, TakesHead, TakesBlock, BreaksHead, DeclaresMore}
+use Rattle.tg_car.specs.Filling.{IsPart, IsPartOf, IsFront, Fills, came_of, Takes, TakesHead, TakesBlock, StopsPart, BreaksHead, DeclaresMore}
 use Rattle.tg_car.proofs.Openings.{nothing_in_head}
 use Rattle.tg_car.proofs.Parts.{whole_section, head_inside, head_within, block_inside, whole_within, declared_within}
 
@@ -167,3 +169,10 @@ filled old head new piece at Broken less e inside pushed is other = record {
   went_on = subst IsInHead e inside;
   none = subst IsNoHead (pushed ∙ ap (λ (l : List ℕ). l ++ get_or piece at 0 ∷ []) e) is;
 }
+
+pub block_result : (limit : ℕ) (d : Declared) (old new : Part) (piece : List ℕ) (r : Result (ℕ × Option Section) PartFault) → IsPart old
+    → old.declared ≡ Some d → All (λ b. b < 256) piece
+    → MatchResult r (λ found. TakesBlock d old new piece found.0 found.1) (λ fault. fault ≡ OutOfMemory)
+    → MatchResult r (λ found. Takes limit (came_of old) (came_of new) piece found.0 found.1) (λ fault. StopsPart limit (came_of old) piece fault)
+block_result limit d old new piece (Ok found) part e bytes t = takes_block limit d old new piece found.0 found.1 part e bytes t
+block_result limit d old new piece (Err fault) part e bytes t = subst (λ (f : PartFault). StopsPart limit (came_of old) piece f) (sym t) tt

@@ -112,10 +112,13 @@ impl CarReader {
         if let Some(fault) = self.refused {
             return Err(fault);
         }
-        if !self.in_header && self.part.is_empty() {
+        let at = if self.in_header {
+            0
+        } else if self.part.is_empty() {
             return Ok(());
-        }
-        let at = if self.in_header { 0 } else { self.place };
+        } else {
+            self.place
+        };
         let fault = CarFault::Torn { at };
         self.refused = Some(fault);
         Err(fault)
