@@ -13,7 +13,7 @@ use Rattle.tg_car.proofs.Sizes.{map_size_is}
 abbrev pub IsMapOf : ℕ → Option HeaderState → Type 0
 IsMapOf size result = MatchOption result (IsMapSize size → ⊥) (λ state. (state ≡ states.Front 0 size) × IsMapSize size)
 
-positive : (front : List ℕ) (last : ℕ) → last < 128 → 0 < last → 0 < number_of (front ++ last ∷ [])
+pub positive : (front : List ℕ) (last : ℕ) → last < 128 → 0 < last → 0 < number_of (front ++ last ∷ [])
 positive [] last below above = omega arith
 positive (byte ∷ front) last below above =
     let rest : 0 < number_of (front ++ last ∷ []) = positive front last below above in

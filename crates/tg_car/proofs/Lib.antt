@@ -6,3 +6,4 @@ mod Lengths
 mod ByteSteps
 mod Live
 mod OneText
+mod Written
