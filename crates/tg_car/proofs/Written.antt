@@ -96,8 +96,8 @@ one_root name bytes long are_bytes e =
         spells = refl;
       });
       whole = e ∙ sym (
-        ap (λ l. 0x3a ∷ 0xa2 ∷ 0x65 ∷ 114 ∷ 111 ∷ 111 ∷ 116 ∷ 115 ∷ 0x81 ∷ (l ++ map_back)) (append-nil (root_text root))
-        ∙ ap (λ l. 0x3a ∷ 0xa2 ∷ 0x65 ∷ 114 ∷ 111 ∷ 111 ∷ 116 ∷ 115 ∷ 0x81 ∷ 0xd8 ∷ 0x2a ∷ ((l ++ root) ++ map_back)) head);
+          ap (λ l. 0x3a ∷ 0xa2 ∷ 0x65 ∷ 114 ∷ 111 ∷ 111 ∷ 116 ∷ 115 ∷ 0x81 ∷ (l ++ map_back)) (append-nil (root_text root))
+          ∙ ap (λ l. 0x3a ∷ 0xa2 ∷ 0x65 ∷ 114 ∷ 111 ∷ 111 ∷ 116 ∷ 115 ∷ 0x81 ∷ 0xd8 ∷ 0x2a ∷ ((l ++ root) ++ map_back)) head);
     }
 
 -- the length and the CID before a block

@@ -12,3 +12,6 @@ pub use fault::CarFault;
 pub use header_state::{one_header, one_section};
 pub use section::Section;
 pub use writing::{header, section_head};
+
+#[cfg(test)]
+mod tests;

@@ -15,6 +15,9 @@ returns c =
     let size = cid_size root name refl is in
     let first = c.in_ok-bytes.ensures in
     let second = c.in_ok-push_all.ensures.ok in
-    let third = c.in_ok-push_all-2.ensures.ok in
-    (name, is, one_root name c.push_all-2.new.self size.0 size.1
-    (third ∙ ap (λ l. l ++ map_back) (second ∙ ap (λ l. l ++ name) first)))
+    let third = c.in_ok-push_all-2.ensures.ok in (
+      name,
+      is,
+      one_root name c.push_all-2.new.self size.0 size.1
+          (third ∙ ap (λ l. l ++ map_back) (second ∙ ap (λ l. l ++ name) first)),
+    )
