@@ -58,7 +58,7 @@ pub last_byte : (left : ℕ) (roots : Roots) (byte : ℕ) (rest : List ℕ) → 
     → BytesThen left roots (byte ∷ rest) ↔ RootsThen roots.count roots.bytes rest
 last_byte left roots byte rest one small = (
   λ h. (let b = bytes_to left roots byte rest (omega arith) h in
-    no_bytes roots rest b.front b.more b.whole (omega (arith, b.left_is)) b.behind),
+      no_bytes roots rest b.front b.more b.whole (omega (arith, b.left_is)) b.behind),
   λ h. bytes_from left roots byte rest (omega arith) small (record {
     front = [];
     more = rest;

@@ -13,7 +13,7 @@ use Rattle.tg_car.proofs.Sizes.{map_size_is}
 abbrev pub IsMapOf : ℕ → Option HeaderState → Type 0
 IsMapOf size result = MatchOption result (IsMapSize size → ⊥) (λ state. (state ≡ states.Front 0 size) × IsMapSize size)
 
-positive : (front : List ℕ) (last : ℕ) → last < 128 → 0 < last → 0 < number_of (front ++ last ∷ [])
+pub positive : (front : List ℕ) (last : ℕ) → last < 128 → 0 < last → 0 < number_of (front ++ last ∷ [])
 positive [] last below above = omega arith
 positive (byte ∷ front) last below above =
     let rest : 0 < number_of (front ++ last ∷ []) = positive front last below above in
@@ -50,29 +50,36 @@ one_to : (byte : ℕ) (rest : List ℕ) → byte < 128 → ((roots : List (List 
 one_to byte rest small (roots, h) =
     let v = h.size_is in
     let parts = one_part v.front v.last (length (header_map roots)) byte rest (header_map roots) v.goes_on v.ends
-    (v.spells ∙ ap number_of v.whole) (h.whole ∙ ap (λ l. l ++ header_map roots) v.whole) small in
-    (subst IsMapSize parts.0 (map_size_is roots h.few h.each),
-      (array_head (length roots) ++ (flat_map root_text roots ++ map_back), parts.1,
-        record { roots = roots; few = h.few; each = h.each; size_is = parts.0; whole = refl }))
+    (v.spells ∙ ap number_of v.whole) (h.whole ∙ ap (λ l. l ++ header_map roots) v.whole) small in (
+      subst IsMapSize parts.0 (map_size_is roots h.few h.each),
+      (
+        array_head (length roots) ++ (flat_map root_text roots ++ map_back),
+        parts.1,
+        record { roots = roots; few = h.few; each = h.each; size_is = parts.0; whole = refl },
+      ),
+    )
 
 pub one_from : (byte : ℕ) (rest : List ℕ) → byte < 128 → Follows (states.Front 0 byte) rest → (roots : List (List ℕ)) × HeaderText roots (byte ∷ rest)
-one_from byte rest small (more, e, a) = (a.roots, record {
-  few = a.few;
-  each = a.each;
-  size = byte ∷ [];
-  size_is = subst (λ n. VarintSpelling n (byte ∷ [])) (sym a.size_is) (record {
-    front = [];
-    last = byte;
-    whole = refl;
-    are_bytes = All-cons (λ b. b < 256) byte [] (omega arith) (All-nil (λ b. b < 256));
-    goes_on = All-nil (λ b. 128 ≤ b);
-    ends = small;
-    shortest = λ some. absurd (omega arith);
-    at_most_nine = omega arith;
-    spells = omega arith;
-  });
-  whole = ap (λ l. byte ∷ l) (e ∙ ap (λ l. map_front ++ l) a.whole);
-})
+one_from byte rest small (more, e, a) = (
+  a.roots,
+  record {
+    few = a.few;
+    each = a.each;
+    size = byte ∷ [];
+    size_is = subst (λ n. VarintSpelling n (byte ∷ [])) (sym a.size_is) (record {
+      front = [];
+      last = byte;
+      whole = refl;
+      are_bytes = All-cons (λ b. b < 256) byte [] (omega arith) (All-nil (λ b. b < 256));
+      goes_on = All-nil (λ b. 128 ≤ b);
+      ends = small;
+      shortest = λ some. absurd (omega arith);
+      at_most_nine = omega arith;
+      spells = omega arith;
+    });
+    whole = ap (λ l. byte ∷ l) (e ∙ ap (λ l. map_front ++ l) a.whole);
+  },
+)
 
 -- the map behind a length of two bytes
 two_to : (first second : ℕ) (rest : List ℕ) → 128 ≤ first → ((roots : List (List ℕ)) × HeaderText roots (first ∷ second ∷ rest))
@@ -81,30 +88,39 @@ two_to first second rest large (roots, h) =
     let v = h.size_is in
     let size = map_size_is roots h.few h.each in
     let parts = two_parts v.front v.last (length (header_map roots)) first second rest (header_map roots) v.goes_on v.ends v.shortest
-    (v.spells ∙ ap number_of v.whole) size.1 (h.whole ∙ ap (λ l. l ++ header_map roots) v.whole) large in
-    (parts.0, parts.1, subst IsMapSize parts.2 size,
-      (array_head (length roots) ++ (flat_map root_text roots ++ map_back), parts.3,
-        record { roots = roots; few = h.few; each = h.each; size_is = parts.2; whole = refl }))
+    (v.spells ∙ ap number_of v.whole) size.1 (h.whole ∙ ap (λ l. l ++ header_map roots) v.whole) large in (
+      parts.0,
+      parts.1,
+      subst IsMapSize parts.2 size,
+      (
+        array_head (length roots) ++ (flat_map root_text roots ++ map_back),
+        parts.3,
+        record { roots = roots; few = h.few; each = h.each; size_is = parts.2; whole = refl },
+      ),
+    )
 
 pub two_from : (first second : ℕ) (rest : List ℕ) → 128 ≤ first → first < 256 → 0 < second → second < 128
     → Follows (states.Front 0 (first % 128 + 128 * second)) rest → (roots : List (List ℕ)) × HeaderText roots (first ∷ second ∷ rest)
-two_from first second rest large byte some small (more, e, a) = (a.roots, record {
-  few = a.few;
-  each = a.each;
-  size = first ∷ second ∷ [];
-  size_is = subst (λ n. VarintSpelling n (first ∷ second ∷ [])) (sym a.size_is) (record {
-    front = first ∷ [];
-    last = second;
-    whole = refl;
-    are_bytes = All-cons (λ b. b < 256) first (second ∷ []) byte (All-cons (λ b. b < 256) second [] (omega arith) (All-nil (λ b. b < 256)));
-    goes_on = All-cons (λ b. 128 ≤ b) first [] large (All-nil (λ b. 128 ≤ b));
-    ends = small;
-    shortest = λ _. some;
-    at_most_nine = omega arith;
-    spells = omega arith;
-  });
-  whole = ap (λ l. first ∷ second ∷ l) (e ∙ ap (λ l. map_front ++ l) a.whole);
-})
+two_from first second rest large byte some small (more, e, a) = (
+  a.roots,
+  record {
+    few = a.few;
+    each = a.each;
+    size = first ∷ second ∷ [];
+    size_is = subst (λ n. VarintSpelling n (first ∷ second ∷ [])) (sym a.size_is) (record {
+      front = first ∷ [];
+      last = second;
+      whole = refl;
+      are_bytes = All-cons (λ b. b < 256) first (second ∷ []) byte (All-cons (λ b. b < 256) second [] (omega arith) (All-nil (λ b. b < 256)));
+      goes_on = All-cons (λ b. 128 ≤ b) first [] large (All-nil (λ b. 128 ≤ b));
+      ends = small;
+      shortest = λ _. some;
+      at_most_nine = omega arith;
+      spells = omega arith;
+    });
+    whole = ap (λ l. first ∷ second ∷ l) (e ∙ ap (λ l. map_front ++ l) a.whole);
+  },
+)
 
 pub one_step : (byte : ℕ) (result : Option HeaderState) → byte < 128 → IsMapOf byte result → GoesOn states.Length byte result
 one_step byte None small h = λ live rest f. h (one_to byte rest small f).0
@@ -118,10 +134,13 @@ two_step first second size None e some small h = λ live rest f.
     h (subst IsMapSize (sym e) (two_to first second rest live.0 f).2)
 two_step first second size (Some state) e some small h = λ live.
     let P : HeaderState → Type 0 = λ s. IsLive s × ((rest : List ℕ) → Follows (states.SecondByte first) (second ∷ rest) ↔ Follows s rest) in
-    subst P (sym h.0) ((omega arith, h.1), λ rest. (
-      λ f. subst (λ n. Follows (states.Front 0 n) rest) (sym e) (two_to first second rest live.0 f).3,
-      λ f. two_from first second rest live.0 live.1 some small (subst (λ n. Follows (states.Front 0 n) rest) e f),
-    ))
+    subst P (sym h.0) (
+      (omega arith, h.1),
+      λ rest. (
+        λ f. subst (λ n. Follows (states.Front 0 n) rest) (sym e) (two_to first second rest live.0 f).3,
+        λ f. two_from first second rest live.0 live.1 some small (subst (λ n. Follows (states.Front 0 n) rest) e f),
+      ),
+    )
 
 pub second_refused : (first second : ℕ) (rest : List ℕ) → 128 ≤ first → ((roots : List (List ℕ)) × HeaderText roots (first ∷ second ∷ rest))
     → (0 < second) × (second < 128)

@@ -14,3 +14,4 @@ mod Takings
 mod Sections
 mod Divisions
 mod Feeding
+mod Written

@@ -3,7 +3,7 @@ use Rattle.std.proofs.Common.{◌≡◌, ◌↔◌, ℕ, suc, zero, ◌+◌, ◌
 use Rattle.std.specs.List.{flat_map}
 use Rattle.std.proofs.lemmas.Bool.{cases_lt, cases_eq}
 use Rattle.std.proofs.lemmas.List.{append_assoc, append-nil, length-append, length-replicate, length-drop}
-use Rattle.std.proofs.lemmas.List.Elements.{All-nil, All-cons}
+use Rattle.std.proofs.lemmas.List.Elements.{All-nil, All-cons, All-replicate}
 use Rattle.tg_car.specs.CarText.{IsRoot, HeaderText, string_head, root_text, header_map}
 use Rattle.tg_car.specs.Fronts.{IsInHeader}
 use Rattle.tg_car.specs.HeaderState.{CanBe, IsMapSize, IsLive, RootsThen, ArrayThen, BytesThen, Follows, FollowsHeader, GoesOn, map_front, map_back}
@@ -24,10 +24,10 @@ step_follows state byte (Some next) bytes f g =
     record {
       live = s.0;
       follows = λ rest.
-        let parts : (bytes ++ byte ∷ []) ++ rest ≡ bytes ++ byte ∷ rest = append_assoc bytes (byte ∷ []) rest in (
-          λ (roots, h). (s.1 rest).0 ((f.follows (byte ∷ rest)).0 (roots, subst (HeaderText roots) parts h)),
-          λ t. (let h = (f.follows (byte ∷ rest)).1 ((s.1 rest).1 t) in (h.0, subst (HeaderText h.0) (sym parts) h.1)),
-        );
+          let parts : (bytes ++ byte ∷ []) ++ rest ≡ bytes ++ byte ∷ rest = append_assoc bytes (byte ∷ []) rest in (
+            λ (roots, h). (s.1 rest).0 ((f.follows (byte ∷ rest)).0 (roots, subst (HeaderText roots) parts h)),
+            λ t. (let h = (f.follows (byte ∷ rest)).1 ((s.1 rest).1 t) in (h.0, subst (HeaderText h.0) (sym parts) h.1)),
+          );
     }
 
 -- more may follow in the state
@@ -46,55 +46,58 @@ record FirstSize (low count bytes : ℕ) : Type 0 where
 first_size : (low count bytes : ℕ) → (low ≡ 5) ⊎ (low ≡ 28) → low + 5 * count ≤ bytes → bytes ≤ 204 * (count + 1) → (count ≡ 0 → bytes ≡ 27 → ⊥)
     → FirstSize low count bytes
 first_size low count bytes lows least most hole = elim (cases_eq count 0) [
-    inl none ↦ record {
-      first = bytes;
-      above = omega arith;
-      below = omega arith;
-      hole = hole none;
-      within = omega arith;
-      others = (omega arith, omega arith, λ one. absurd (omega arith));
-    }
+  | inl none ↦ record {
+    first = bytes;
+    above = omega arith;
+    below = omega arith;
+    hole = hole none;
+    within = omega arith;
+    others = (omega arith, omega arith, λ one. absurd (omega arith));
+  }
   | inr some ↦ elim (cases_lt (204 * count + low) bytes) [
-      inl many ↦ elim (cases_eq bytes 231) [
-        inl gap ↦ record {
-          first = 203;
-          above = omega arith;
-          below = omega arith;
-          hole = λ e. absurd (omega arith);
-          within = omega arith;
-          others = (omega arith, omega arith, λ one e. absurd (omega arith));
-        }
+    | inl many ↦ elim (cases_eq bytes 231) [
+      | inl gap ↦ record {
+        first = 203;
+        above = omega arith;
+        below = omega arith;
+        hole = λ e. absurd (omega arith);
+        within = omega arith;
+        others = (omega arith, omega arith, λ one e. absurd (omega arith));
+      }
       | inr fine ↦ record {
-          first = 204;
-          above = omega arith;
-          below = omega arith;
-          hole = λ e. absurd (omega arith);
-          within = omega arith;
-          others = (omega arith, omega arith, λ one e. fine (omega arith));
-        } ]
+        first = 204;
+        above = omega arith;
+        below = omega arith;
+        hole = λ e. absurd (omega arith);
+        within = omega arith;
+        others = (omega arith, omega arith, λ one e. fine (omega arith));
+      }
+    ]
     | inr few ↦ elim (cases_eq bytes (low + 27)) [
-        inl gap ↦ record {
-          first = low + 1;
-          above = omega arith;
-          below = omega arith;
-          hole = λ e. absurd (omega arith);
-          within = omega arith;
-          others = (omega arith, omega arith, λ one e. absurd (omega arith));
-        }
+      | inl gap ↦ record {
+        first = low + 1;
+        above = omega arith;
+        below = omega arith;
+        hole = λ e. absurd (omega arith);
+        within = omega arith;
+        others = (omega arith, omega arith, λ one e. absurd (omega arith));
+      }
       | inr fine ↦ record {
-          first = low;
-          above = omega arith;
-          below = omega arith;
-          hole = λ e. absurd (omega arith);
-          within = omega arith;
-          others = (omega arith, omega arith, λ one e. fine (omega arith));
-        } ] ] ]
+        first = low;
+        above = omega arith;
+        below = omega arith;
+        hole = λ e. absurd (omega arith);
+        within = omega arith;
+        others = (omega arith, omega arith, λ one e. fine (omega arith));
+      }
+    ]
+  ]
+]
+
+zeros_are_bytes : (n : ℕ) → All (λ b. b < 256) (replicate n 0)
+zeros_are_bytes n = All-replicate (λ b. b < 256) n 0 (omega arith)
 
 -- a root of so many bytes
-zeros_are_bytes : (n : ℕ) → All (λ b. b < 256) (replicate n 0)
-zeros_are_bytes zero = All-nil (λ b. b < 256)
-zeros_are_bytes (suc n) = All-cons (λ b. b < 256) 0 (replicate n 0) (omega arith) (zeros_are_bytes n)
-
 zeros : ℕ → List ℕ
 zeros n = 0 ∷ replicate (n - 1) 0
 
@@ -117,13 +120,18 @@ zeros_root n low high =
 -- a root whose text has so many bytes
 sized_root : (first : ℕ) → 5 ≤ first → first ≤ 204 → (first ≡ 27 → ⊥) → (root : List ℕ) × IsRoot root × (length (root_text root) ≡ first)
 sized_root first low high hole = elim (cases_lt first 27) [
-    inl small ↦ (let long : length (zeros (first - 3)) ≡ first - 3 = zeros_long (first - 3) (omega arith) in
-      (zeros (first - 3), zeros_root (first - 3) (omega arith) (omega arith),
-        elim (root_size (zeros (first - 3))) [ inl s ↦ omega (arith, s.1) | inr s ↦ absurd (omega (arith, s.0)) ]))
+  | inl small ↦ (let long : length (zeros (first - 3)) ≡ first - 3 = zeros_long (first - 3) (omega arith) in (
+    zeros (first - 3),
+    zeros_root (first - 3) (omega arith) (omega arith),
+    elim (root_size (zeros (first - 3))) [ inl s ↦ omega (arith, s.1) | inr s ↦ absurd (omega (arith, s.0)) ],
+  ))
   | inr large ↦ (let more : first ≡ 27 → ⊥ = hole in
-      let long : length (zeros (first - 4)) ≡ first - 4 = zeros_long (first - 4) (omega arith) in
-      (zeros (first - 4), zeros_root (first - 4) (omega arith) (omega arith),
-        elim (root_size (zeros (first - 4))) [ inl s ↦ absurd (omega (arith, s.0)) | inr s ↦ omega (arith, s.1) ])) ]
+      let long : length (zeros (first - 4)) ≡ first - 4 = zeros_long (first - 4) (omega arith) in (
+        zeros (first - 4),
+        zeros_root (first - 4) (omega arith) (omega arith),
+        elim (root_size (zeros (first - 4))) [ inl s ↦ absurd (omega (arith, s.0)) | inr s ↦ omega (arith, s.1) ],
+      ))
+]
 
 some_roots : (count bytes : ℕ) → CanBe count bytes → (rest : List ℕ) × RootsThen count bytes rest
 some_roots zero bytes can =
@@ -135,16 +143,18 @@ some_roots (suc count) bytes can =
     let f = first_size 5 count bytes (inl refl) (omega arith) (omega arith) (λ none e. can.2 (omega arith) e) in
     let root = sized_root f.first f.above f.below f.hole in
     let tail = some_roots count (bytes - f.first) f.others in
-    let fewer : count ≡ suc count - 1 = omega arith in
-    (root_text root.0 ++ tail.0, with_root (suc count) bytes (root_text root.0 ++ tail.0) (omega arith) (record {
-      root = root.0;
-      more = tail.0;
-      left = bytes - f.first;
-      is = root.1;
-      whole = refl;
-      bytes_is = omega (arith, f.within, root.2);
-      behind = subst (λ n. RootsThen n (bytes - f.first) tail.0) fewer tail.1;
-    }))
+    let fewer : count ≡ suc count - 1 = omega arith in (
+      root_text root.0 ++ tail.0,
+      with_root (suc count) bytes (root_text root.0 ++ tail.0) (omega arith) (record {
+        root = root.0;
+        more = tail.0;
+        left = bytes - f.first;
+        is = root.1;
+        whole = refl {a = root_text root.0 ++ tail.0};
+        bytes_is = omega (arith, f.within, root.2);
+        behind = subst (λ n. RootsThen n (bytes - f.first) tail.0) fewer tail.1;
+      }),
+    )
 
 root_more : (roots : Roots) → CanBe roots.count roots.bytes → HasMore (states.Root roots)
 root_more roots can =
@@ -181,45 +191,54 @@ size_more roots live =
     let above : 28 ≤ f.first = f.above in
     let below : f.first ≤ 204 = f.below in
     let within : f.first ≤ roots.bytes = f.within in
-    let left : roots.bytes - f.first ≡ roots.bytes - (size + 4) = omega arith in
-    (size ∷ (zeros size ++ tail.0), omega arith, long_from roots.count roots.bytes size (zeros size ++ tail.0) some (omega arith) (omega arith) (record {
-      root = zeros size;
-      more = tail.0;
-      is = zeros_root size (omega arith) (omega arith);
-      size_is = zeros_long size (omega arith);
-      whole = refl;
-      behind = subst (λ n. RootsThen (roots.count - 1) n tail.0) left tail.1;
-    }))
+    let left : roots.bytes - f.first ≡ roots.bytes - (size + 4) = omega arith in (
+      size ∷ (zeros size ++ tail.0),
+      omega arith,
+      long_from roots.count roots.bytes size (zeros size ++ tail.0) some (omega arith) (omega arith) (record {
+        root = zeros size;
+        more = tail.0;
+        is = zeros_root size (omega arith) (omega arith);
+        size_is = zeros_long size (omega arith);
+        whole = refl;
+        behind = subst (λ n. RootsThen (roots.count - 1) n tail.0) left tail.1;
+      }),
+    )
 
 zero_more : (size : ℕ) (roots : Roots) → IsLive (states.Zero size roots) → HasMore (states.Zero size roots)
 zero_more size roots live =
     let tail = some_roots roots.count roots.bytes live.2 in
     let low : 2 ≤ size = live.0 in
     let long : length (zeros size) ≡ size = zeros_long size low in
-    let all : length (zeros size ++ tail.0) ≡ length (zeros size) + length tail.0 = length-append (zeros size) tail.0 in
-    (zeros size ++ tail.0, omega arith, zero_then size roots (zeros size ++ tail.0) (record {
-      root = zeros size;
-      more = tail.0;
-      is = zeros_root size low live.1;
-      size_is = long;
-      whole = refl;
-      behind = tail.1;
-    }))
+    let all : length (zeros size ++ tail.0) ≡ length (zeros size) + length tail.0 = length-append (zeros size) tail.0 in (
+      zeros size ++ tail.0,
+      omega arith,
+      zero_then size roots (zeros size ++ tail.0) (record {
+        root = zeros size;
+        more = tail.0;
+        is = zeros_root size low live.1;
+        size_is = long;
+        whole = refl;
+        behind = tail.1;
+      }),
+    )
 
 bytes_more : (left : ℕ) (roots : Roots) → IsLive (states.Bytes left roots) → HasMore (states.Bytes left roots)
 bytes_more left roots live =
     let tail = some_roots roots.count roots.bytes live.1 in
     let some : 1 ≤ left = live.0 in
     let long : length (replicate {A = ℕ} left 0) ≡ left = length-replicate left 0 in
-    let all : length (replicate left 0 ++ tail.0) ≡ length (replicate {A = ℕ} left 0) + length tail.0 = length-append (replicate left 0) tail.0 in
-    (replicate left 0 ++ tail.0, omega arith, record {
-      front = replicate left 0;
-      more = tail.0;
-      whole = refl;
-      left_is = long;
-      are_bytes = zeros_are_bytes left;
-      behind = tail.1;
-    })
+    let all : length (replicate left 0 ++ tail.0) ≡ length (replicate {A = ℕ} left 0) + length tail.0 = length-append (replicate left 0) tail.0 in (
+      replicate left 0 ++ tail.0,
+      omega arith,
+      record {
+        front = replicate left 0;
+        more = tail.0;
+        whole = refl;
+        left_is = long;
+        are_bytes = zeros_are_bytes left;
+        behind = tail.1;
+      },
+    )
 
 short_array : (count size : ℕ) → count < 24 → 17 ≤ size → CanBe count (size - 17) → HasMore (states.ArrayHead size)
 short_array count size few enough can =
@@ -231,26 +250,31 @@ count_more size live =
     let low : 138 ≤ size = live.0 in
     let high : size ≤ 13074 = live.1 in
     elim (cases_lt size 4915) [
-      inl small ↦ (let tail = some_roots 24 (size - 18) (omega arith, omega arith, λ one. absurd (omega arith)) in
-        (24 ∷ tail.0, omega arith, arrays.long_from 24 size tail.0 (omega arith) (omega arith) (omega arith) tail.1))
-    | inr large ↦ (let tail = some_roots 64 (size - 18) (omega arith, omega arith, λ one. absurd (omega arith)) in
-        (64 ∷ tail.0, omega arith, arrays.long_from 64 size tail.0 (omega arith) (omega arith) (omega arith) tail.1)) ]
+      | inl small ↦ (let tail = some_roots 24 (size - 18) (omega arith, omega arith, λ one. absurd (omega arith)) in
+          (24 ∷ tail.0, omega arith, arrays.long_from 24 size tail.0 (omega arith) (omega arith) (omega arith) tail.1))
+      | inr large ↦ (let tail = some_roots 64 (size - 18) (omega arith, omega arith, λ one. absurd (omega arith)) in
+          (64 ∷ tail.0, omega arith, arrays.long_from 64 size tail.0 (omega arith) (omega arith) (omega arith) tail.1))
+    ]
 
 array_more : (size : ℕ) → IsMapSize size → HasMore (states.ArrayHead size)
 array_more size is =
     let low : 17 ≤ size = is.0 in
     let high : size ≤ 13074 = is.1 in
     elim (cases_lt size 22) [
-      inl none ↦ (let least : size ≡ 17 = is.2 none in
-        short_array 0 size (omega arith) low (omega arith, omega arith, λ one. absurd (omega arith)))
-    | inr some ↦ elim (cases_eq size 44) [
-        inl gap ↦ short_array 2 size (omega arith) low (omega arith, omega arith, λ one. absurd (omega arith))
-      | inr fine ↦ elim (cases_lt size 222) [
-          inl one ↦ short_array 1 size (omega arith) low (omega arith, omega arith, λ _ e. fine (omega arith))
-        | inr more ↦ elim (cases_lt size 4710) [
-            inl short ↦ short_array 23 size (omega arith) low (omega arith, omega arith, λ one. absurd (omega arith))
-          | inr long ↦ (let tail = count_more size (omega arith, high) in
-              (0x98 ∷ tail.0, omega arith, tail.2)) ] ] ] ]
+      | inl none ↦ (let least : size ≡ 17 = is.2 none in
+          short_array 0 size (omega arith) low (omega arith, omega arith, λ one. absurd (omega arith)))
+      | inr some ↦ elim (cases_eq size 44) [
+        | inl gap ↦ short_array 2 size (omega arith) low (omega arith, omega arith, λ one. absurd (omega arith))
+        | inr fine ↦ elim (cases_lt size 222) [
+          | inl one ↦ short_array 1 size (omega arith) low (omega arith, omega arith, λ _ e. fine (omega arith))
+          | inr more ↦ elim (cases_lt size 4710) [
+            | inl short ↦ short_array 23 size (omega arith) low (omega arith, omega arith, λ one. absurd (omega arith))
+            | inr long ↦ (let tail = count_more size (omega arith, high) in
+                (0x98 ∷ tail.0, omega arith, tail.2))
+          ]
+        ]
+      ]
+    ]
 
 front_more : (at size : ℕ) → IsLive (states.Front at size) → HasMore (states.Front at size)
 front_more at size live =

@@ -31,24 +31,27 @@ same_fronts (a ∷ p) (b ∷ q) x y l e =
 -- no byte string begins another
 same_strings : (p q x y : List ℕ) → (string_head (length p) ++ p) ++ x ≡ (string_head (length q) ++ q) ++ y → (p ≡ q) × (x ≡ y)
 same_strings p q x y e = elim (string_head_is (length p)) [
-    inl s ↦ elim (string_head_is (length q)) [
-      inl t ↦ (let parts : (0x40 + length p) ∷ (p ++ x) ≡ (0x40 + length q) ∷ (q ++ y) =
-          sym (ap (λ l. (l ++ p) ++ x) s.1) ∙ (e ∙ ap (λ l. (l ++ q) ++ y) t.1) in
+  | inl s ↦ elim (string_head_is (length q)) [
+    | inl t ↦ (let parts : (0x40 + length p) ∷ (p ++ x) ≡ (0x40 + length q) ∷ (q ++ y) =
+        sym (ap (λ l. (l ++ p) ++ x) s.1) ∙ (e ∙ ap (λ l. (l ++ q) ++ y) t.1) in
         let heads : 0x40 + length p ≡ 0x40 + length q = cc in
         same_fronts p q x y (omega arith) cc)
     | inr t ↦ (let parts : (0x40 + length p) ∷ (p ++ x) ≡ 0x58 ∷ length q ∷ (q ++ y) =
-          sym (ap (λ l. (l ++ p) ++ x) s.1) ∙ (e ∙ ap (λ l. (l ++ q) ++ y) t.1) in
+        sym (ap (λ l. (l ++ p) ++ x) s.1) ∙ (e ∙ ap (λ l. (l ++ q) ++ y) t.1) in
         let heads : 0x40 + length p ≡ 0x58 = cc in
-        absurd (omega (arith, s.0))) ]
+        absurd (omega (arith, s.0)))
+  ]
   | inr s ↦ elim (string_head_is (length q)) [
-      inl t ↦ (let parts : 0x58 ∷ length p ∷ (p ++ x) ≡ (0x40 + length q) ∷ (q ++ y) =
-          sym (ap (λ l. (l ++ p) ++ x) s.1) ∙ (e ∙ ap (λ l. (l ++ q) ++ y) t.1) in
+    | inl t ↦ (let parts : 0x58 ∷ length p ∷ (p ++ x) ≡ (0x40 + length q) ∷ (q ++ y) =
+        sym (ap (λ l. (l ++ p) ++ x) s.1) ∙ (e ∙ ap (λ l. (l ++ q) ++ y) t.1) in
         let heads : 0x58 ≡ 0x40 + length q = cc in
         absurd (omega (arith, t.0)))
     | inr t ↦ (let parts : 0x58 ∷ length p ∷ (p ++ x) ≡ 0x58 ∷ length q ∷ (q ++ y) =
-          sym (ap (λ l. (l ++ p) ++ x) s.1) ∙ (e ∙ ap (λ l. (l ++ q) ++ y) t.1) in
+        sym (ap (λ l. (l ++ p) ++ x) s.1) ∙ (e ∙ ap (λ l. (l ++ q) ++ y) t.1) in
         let long : length p ≡ length q = cc in
-        same_fronts p q x y long cc) ] ]
+        same_fronts p q x y long cc)
+  ]
+]
 
 same_roots : (a b : List (List ℕ)) (x y : List ℕ) → length a ≡ length b → flat_map root_text a ++ x ≡ flat_map root_text b ++ y → a ≡ b
 same_roots [] [] x y l e = refl
@@ -64,24 +67,27 @@ same_roots (p ∷ a) (q ∷ b) x y l e =
 -- the arrays of roots from their heads on
 same_arrays : (a b : List (List ℕ)) → array_head (length a) ++ (flat_map root_text a ++ map_back) ≡ array_head (length b) ++ (flat_map root_text b ++ map_back) → a ≡ b
 same_arrays a b e = elim (array_head_is (length a)) [
-    inl s ↦ elim (array_head_is (length b)) [
-      inl t ↦ (let parts : (0x80 + length a) ∷ (flat_map root_text a ++ map_back) ≡ (0x80 + length b) ∷ (flat_map root_text b ++ map_back) =
-          sym (ap (λ l. l ++ (flat_map root_text a ++ map_back)) s.1) ∙ (e ∙ ap (λ l. l ++ (flat_map root_text b ++ map_back)) t.1) in
+  | inl s ↦ elim (array_head_is (length b)) [
+    | inl t ↦ (let parts : (0x80 + length a) ∷ (flat_map root_text a ++ map_back) ≡ (0x80 + length b) ∷ (flat_map root_text b ++ map_back) =
+        sym (ap (λ l. l ++ (flat_map root_text a ++ map_back)) s.1) ∙ (e ∙ ap (λ l. l ++ (flat_map root_text b ++ map_back)) t.1) in
         let heads : 0x80 + length a ≡ 0x80 + length b = cc in
         same_roots a b map_back map_back (omega arith) cc)
     | inr t ↦ (let parts : (0x80 + length a) ∷ (flat_map root_text a ++ map_back) ≡ 0x98 ∷ length b ∷ (flat_map root_text b ++ map_back) =
-          sym (ap (λ l. l ++ (flat_map root_text a ++ map_back)) s.1) ∙ (e ∙ ap (λ l. l ++ (flat_map root_text b ++ map_back)) t.1) in
+        sym (ap (λ l. l ++ (flat_map root_text a ++ map_back)) s.1) ∙ (e ∙ ap (λ l. l ++ (flat_map root_text b ++ map_back)) t.1) in
         let heads : 0x80 + length a ≡ 0x98 = cc in
-        absurd (omega (arith, s.0))) ]
+        absurd (omega (arith, s.0)))
+  ]
   | inr s ↦ elim (array_head_is (length b)) [
-      inl t ↦ (let parts : 0x98 ∷ length a ∷ (flat_map root_text a ++ map_back) ≡ (0x80 + length b) ∷ (flat_map root_text b ++ map_back) =
-          sym (ap (λ l. l ++ (flat_map root_text a ++ map_back)) s.1) ∙ (e ∙ ap (λ l. l ++ (flat_map root_text b ++ map_back)) t.1) in
+    | inl t ↦ (let parts : 0x98 ∷ length a ∷ (flat_map root_text a ++ map_back) ≡ (0x80 + length b) ∷ (flat_map root_text b ++ map_back) =
+        sym (ap (λ l. l ++ (flat_map root_text a ++ map_back)) s.1) ∙ (e ∙ ap (λ l. l ++ (flat_map root_text b ++ map_back)) t.1) in
         let heads : 0x98 ≡ 0x80 + length b = cc in
         absurd (omega (arith, t.0)))
     | inr t ↦ (let parts : 0x98 ∷ length a ∷ (flat_map root_text a ++ map_back) ≡ 0x98 ∷ length b ∷ (flat_map root_text b ++ map_back) =
-          sym (ap (λ l. l ++ (flat_map root_text a ++ map_back)) s.1) ∙ (e ∙ ap (λ l. l ++ (flat_map root_text b ++ map_back)) t.1) in
+        sym (ap (λ l. l ++ (flat_map root_text a ++ map_back)) s.1) ∙ (e ∙ ap (λ l. l ++ (flat_map root_text b ++ map_back)) t.1) in
         let long : length a ≡ length b = cc in
-        same_roots a b map_back map_back long cc) ] ]
+        same_roots a b map_back map_back long cc)
+  ]
+]
 
 pub one_header : VarintsOnce → (a b : List (List ℕ)) (u v x y : List ℕ) → HeaderText a u → HeaderText b v → u ++ x ≡ v ++ y → (u ≡ v) × (a ≡ b)
 one_header once a b u v x y h k e =

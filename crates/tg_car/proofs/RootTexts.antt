@@ -50,9 +50,9 @@ with_root count bytes rest some f =
       each = All-cons IsRoot f.root behind.roots f.is behind.each;
       count_is = omega arith;
       bytes_is = length-append (root_text f.root) (flat_map root_text behind.roots)
-        ∙ (ap (λ n. length (root_text f.root) + n) behind.bytes_is ∙ sym f.bytes_is);
+          ∙ (ap (λ n. length (root_text f.root) + n) behind.bytes_is ∙ sym f.bytes_is);
       whole = f.whole ∙ (ap (λ l. root_text f.root ++ l) behind.whole
-        ∙ sym (append_assoc (root_text f.root) (flat_map root_text behind.roots) map_back));
+          ∙ sym (append_assoc (root_text f.root) (flat_map root_text behind.roots) map_back));
     }
 
 pub roots_then_can_be : (count bytes : ℕ) (rest : List ℕ) → RootsThen count bytes rest → CanBe count bytes
@@ -66,12 +66,13 @@ pub behind_head : (byte : ℕ) (rest root more : List ℕ) → 0xd8 ∷ 0x2a ∷
 behind_head byte rest root more e =
     let inner : byte ∷ rest ≡ (string_head (length root) ++ root) ++ more = cc in
     elim (string_head_is (length root)) [
-      inl s ↦ (let computed : byte ∷ rest ≡ (0x40 + length root) ∷ (root ++ more) =
+      | inl s ↦ (let computed : byte ∷ rest ≡ (0x40 + length root) ∷ (root ++ more) =
           inner ∙ ap (λ l. (l ++ root) ++ more) s.1 in
-        inl (s.0, cc, cc))
-    | inr s ↦ (let computed : byte ∷ rest ≡ 0x58 ∷ length root ∷ (root ++ more) =
+          inl (s.0, cc, cc))
+      | inr s ↦ (let computed : byte ∷ rest ≡ 0x58 ∷ length root ∷ (root ++ more) =
           inner ∙ ap (λ l. (l ++ root) ++ more) s.1 in
-        inr (s.0, cc, cc)) ]
+          inr (s.0, cc, cc))
+    ]
 
 -- a root's bytes, and then so many roots of so many bytes
 pub record RootThen (size count bytes : ℕ) (rest : List ℕ) : Type 0 where
@@ -85,15 +86,20 @@ pub record RootThen (size count bytes : ℕ) (rest : List ℕ) : Type 0 where
 pub zero_then : (size : ℕ) (roots : Roots) (rest : List ℕ) → RootThen size roots.count roots.bytes rest → Follows (states.Zero size roots) rest
 zero_then size roots rest h =
     let root = h.is in
-    let long : length h.root ≡ length root.rest + 1 = ap length root.begins ∙ (omega arith) in
-    (root.rest ++ h.more, h.whole ∙ ap (λ l. l ++ h.more) root.begins, length root.rest, sym h.size_is ∙ long, record {
-      front = root.rest;
-      more = h.more;
-      whole = refl;
-      left_is = refl;
-      are_bytes = All-tail (λ b. b < 256) 0 root.rest (subst (λ l. All (λ b. b < 256) l) root.begins root.are_bytes);
-      behind = h.behind;
-    })
+    let long : length h.root ≡ length root.rest + 1 = ap length root.begins ∙ (omega arith) in (
+      root.rest ++ h.more,
+      h.whole ∙ ap (λ l. l ++ h.more) root.begins,
+      length root.rest,
+      sym h.size_is ∙ long,
+      record {
+        front = root.rest;
+        more = h.more;
+        whole = refl;
+        left_is = refl;
+        are_bytes = All-tail (λ b. b < 256) 0 root.rest (subst (λ l. All (λ b. b < 256) l) root.begins root.are_bytes);
+        behind = h.behind;
+      },
+    )
 
 pub then_zero : (size : ℕ) (roots : Roots) (rest : List ℕ) → 2 ≤ size → size ≤ 200 → Follows (states.Zero size roots) rest → RootThen size roots.count roots.bytes rest
 then_zero size roots rest low high h =
@@ -123,11 +129,12 @@ short_to count bytes size rest some small h =
     let f = first_root count bytes (0xd8 ∷ 0x2a ∷ (0x40 + size) ∷ rest) some h in
     let bytes_is : bytes ≡ length (root_text f.root) + f.left = f.bytes_is in
     elim (behind_head (0x40 + size) rest f.root f.more f.whole) [
-      inl s ↦ (let same : length f.root ≡ size = omega (arith, s.1) in
-        let long : length (root_text f.root) ≡ size + 3 = elim (root_size f.root) [ inl r ↦ omega (arith, r.1) | inr r ↦ omega (arith, r.0) ] in
-        let left : f.left ≡ bytes - (size + 3) = omega arith in
-        (omega arith, record { root = f.root; more = f.more; is = f.is; size_is = same; whole = s.2; behind = subst (λ n. RootsThen (count - 1) n f.more) left f.behind }))
-    | inr s ↦ absurd (omega (arith, s.1)) ]
+      | inl s ↦ (let same : length f.root ≡ size = omega (arith, s.1) in
+          let long : length (root_text f.root) ≡ size + 3 = elim (root_size f.root) [ inl r ↦ omega (arith, r.1) | inr r ↦ omega (arith, r.0) ] in
+          let left : f.left ≡ bytes - (size + 3) = omega arith in
+          (omega arith, record { root = f.root; more = f.more; is = f.is; size_is = same; whole = s.2; behind = subst (λ n. RootsThen (count - 1) n f.more) left f.behind }))
+      | inr s ↦ absurd (omega (arith, s.1))
+    ]
 
 pub short_from : (count bytes size : ℕ) (rest : List ℕ) → 0 < count → size < 24 → size + 3 ≤ bytes
     → RootThen size (count - 1) (bytes - (size + 3)) rest → RootsThen count bytes (0xd8 ∷ 0x2a ∷ (0x40 + size) ∷ rest)
@@ -156,14 +163,18 @@ long_to count bytes size rest some h =
     let is = f.is in
     let high : length f.root ≤ 200 = is.high in
     elim (behind_head 0x58 (size ∷ rest) f.root f.more f.whole) [
-      inl s ↦ absurd (omega (arith, s.0, s.1))
-    | inr s ↦ (let tails : size ∷ rest ≡ length f.root ∷ (f.root ++ f.more) = s.2 in
-        let same : length f.root ≡ size = cc in
-        let above : 24 ≤ length f.root = s.0 in
-        let long : length (root_text f.root) ≡ size + 4 = elim (root_size f.root) [ inl r ↦ omega (arith, r.0) | inr r ↦ omega (arith, r.1) ] in
-        let left : f.left ≡ bytes - (size + 4) = omega arith in
-        (omega arith, omega arith, omega arith,
-          record { root = f.root; more = f.more; is = f.is; size_is = same; whole = cc; behind = subst (λ n. RootsThen (count - 1) n f.more) left f.behind })) ]
+      | inl s ↦ absurd (omega (arith, s.0, s.1))
+      | inr s ↦ (let tails : size ∷ rest ≡ length f.root ∷ (f.root ++ f.more) = s.2 in
+          let same : length f.root ≡ size = cc in
+          let above : 24 ≤ length f.root = s.0 in
+          let long : length (root_text f.root) ≡ size + 4 = elim (root_size f.root) [ inl r ↦ omega (arith, r.0) | inr r ↦ omega (arith, r.1) ] in
+          let left : f.left ≡ bytes - (size + 4) = omega arith in (
+            omega arith,
+            omega arith,
+            omega arith,
+            record { root = f.root; more = f.more; is = f.is; size_is = same; whole = cc; behind = subst (λ n. RootsThen (count - 1) n f.more) left f.behind },
+          ))
+    ]
 
 pub long_from : (count bytes size : ℕ) (rest : List ℕ) → 0 < count → 24 ≤ size → size + 4 ≤ bytes
     → RootThen size (count - 1) (bytes - (size + 4)) rest → RootsThen count bytes (0xd8 ∷ 0x2a ∷ 0x58 ∷ size ∷ rest)

@@ -13,7 +13,7 @@ abbrev pub IsStringOf : Roots → ℕ → ℕ → Option HeaderState → Type 0
 IsStringOf roots size head result = MatchOption result
     (CanBe (roots.count - 1) (roots.bytes - (size + head)) → size + head ≤ roots.bytes → 0 < roots.count → ⊥)
     (λ state. (rest : Roots) × (state ≡ states.Zero size rest) × CanBe rest.count rest.bytes
-      × (rest.count + 1 ≡ roots.count) × (rest.bytes + (size + head) ≡ roots.bytes))
+    × (rest.count + 1 ≡ roots.count) × (rest.bytes + (size + head) ≡ roots.bytes))
 
 -- the roots behind the first, as the state has them
 behind_is : (roots behind : Roots) (size head : ℕ) (rest : List ℕ) → behind.count + 1 ≡ roots.count → behind.bytes + (size + head) ≡ roots.bytes
@@ -69,10 +69,12 @@ long_fits roots rest live f =
     let some : 0 < roots.count = live.0 in
     let can = roots_then_can_be (roots.count - 1) g.left g.more g.behind in
     elim (behind_head 0x58 rest g.root g.more g.whole) [
-      inl s ↦ absurd (omega (arith, s.0, s.1))
-    | inr s ↦ elim (root_size g.root) [
-        inl r ↦ absurd (omega (arith, s.0, r.0))
-      | inr r ↦ omega (arith, s.0, r.1, can.0, g.bytes_is) ] ]
+      | inl s ↦ absurd (omega (arith, s.0, s.1))
+      | inr s ↦ elim (root_size g.root) [
+        | inl r ↦ absurd (omega (arith, s.0, r.0))
+        | inr r ↦ omega (arith, s.0, r.1, can.0, g.bytes_is)
+      ]
+    ]
 
 pub long_next : (roots : Roots) (fits : Bool) → (fits ≡ true → 5 * roots.count + 23 ≤ roots.bytes)
     → (fits ≡ false → roots.bytes < 5 * roots.count + 23) → GoesOn (states.StringHead roots) 0x58 (then_some fits (states.StringSize roots))

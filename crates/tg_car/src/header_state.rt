@@ -85,7 +85,7 @@ impl HeaderState {
     pub(crate) fn step(self, byte: u8) -> Option<HeaderState>
         ensures { (bytes : List ℕ) → FollowsHeader self bytes
             → MatchOption result ((roots : List (List ℕ)) (more : List ℕ) → HeaderText roots (bytes ++ byte ∷ more) → ⊥)
-                (λ next. FollowsHeader next (bytes ++ byte ∷ [])) }
+            (λ next. FollowsHeader next (bytes ++ byte ∷ [])) }
     {
         self.next(byte)
     }
@@ -209,8 +209,9 @@ fn string_head(roots: Roots, byte: u8) -> Option<HeaderState>
 {
     match byte {
         0x42..=0x57 => string_of(byte - 0x40, 3, roots),
-        0x58 => (5 * u16::from(roots.count) + 23 <= roots.bytes)
-            .then_some(HeaderState::StringSize { roots }),
+        0x58 => (5 * u16::from(roots.count) + 23 <= roots.bytes).then_some(HeaderState::StringSize {
+            roots,
+        }),
         _ => None,
     }
 }
@@ -231,7 +232,7 @@ fn string_of(size: u8, head: u16, roots: Roots) -> Option<HeaderState>
     ensures { MatchOption result (CanBe (roots.count - 1) (roots.bytes - (size + head)) → size + head ≤ roots.bytes
         → 0 < roots.count → ⊥)
         (λ state. (rest : Roots) × (state ≡ HeaderState.Zero size rest) × CanBe rest.count rest.bytes
-            × (rest.count + 1 ≡ roots.count) × (rest.bytes + (size + head) ≡ roots.bytes)) }
+        × (rest.count + 1 ≡ roots.count) × (rest.bytes + (size + head) ≡ roots.bytes)) }
 {
     let roots = roots.behind(u16::from(size) + head)?;
     Some(HeaderState::Zero { size, roots })
@@ -254,7 +255,10 @@ fn root_byte(left: u8, roots: Roots, byte: u8) -> Option<HeaderState>
 {
     match left {
         0 | 1 => Some(HeaderState::Root { roots }),
-        _ => Some(HeaderState::Bytes { left: left - 1, roots }),
+        _ => Some(HeaderState::Bytes {
+            left: left - 1,
+            roots,
+        }),
     }
 }
 

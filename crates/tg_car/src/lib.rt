@@ -17,3 +17,6 @@ pub use header_state::{one_header, one_section};
 pub use reader::{CarReader, none_missed, one_division};
 pub use section::Section;
 pub use writing::{header, section_head};
+
+#[cfg(test)]
+mod tests;

@@ -44,9 +44,25 @@ pub fn section_head(cid: &Cid, size: u64) -> ([u8; HEAD], usize)
 {
     let (name, name_size) = cid.spelling();
     let (number, number_size) = tg_varint::write(name_size as u64 + size);
-    let head_size = number_size + name_size;
     let mut head = [0; HEAD];
-    head[..number_size].copy_from_slice(&number[..number_size]);
-    head[number_size..head_size].copy_from_slice(&name[..name_size]);
-    (head, head_size)
+    fill_both(&mut head, &number[..number_size], &name[..name_size]);
+    (head, number_size + name_size)
+}
+
+/// Copies the one bytes and then the others into the front of the room.
+fn fill_both(room: &mut [u8], first: &[u8], second: &[u8])
+    requires { length first.now + length second.now ≤ length room.old }
+    ensures { room.new ≡ first.now ++ (second.now ++ drop (length first.now + length second.now) room.old) }
+{
+    let (head, rest) = room.split_at_mut(first.len());
+    head.copy_from_slice(first);
+    fill_front(rest, second);
+}
+
+/// Copies the bytes into the front of the room.
+fn fill_front(room: &mut [u8], bytes: &[u8])
+    requires { length bytes.now ≤ length room.old }
+    ensures { room.new ≡ bytes.now ++ drop (length bytes.now) room.old }
+{
+    room[..bytes.len()].copy_from_slice(bytes);
 }

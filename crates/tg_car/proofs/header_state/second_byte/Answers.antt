@@ -15,5 +15,6 @@ pub returns-then-byte-eq0 : goal.returns-then-byte-eq0
 returns-then-byte-eq0 c = λ live rest f.
     let kept = second_refused c.args.first c.args.byte rest live.0 f in
     elim c.then-byte-eq0.branch [
-      then-byte-eq0-via-then-byte-eq0 w ↦ omega (arith, kept.0)
-    | then-byte-eq0-via-else-byte-eq0+then-byte-ge128 w ↦ omega (arith, kept.1) ]
+      | then-byte-eq0-via-then-byte-eq0 w ↦ omega (arith, kept.0)
+      | then-byte-eq0-via-else-byte-eq0+then-byte-ge128 w ↦ omega (arith, kept.1)
+    ]
