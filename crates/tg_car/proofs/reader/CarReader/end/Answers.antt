@@ -1,4 +1,5 @@
 use Rattle.std.proofs.Common.{◌≡◌, Bool, true, false, List, [], IsTrue, Some, ap, ◌∙◌, refl, subst}
+use Rattle.std.proofs.lemmas.Bool.{false≢true}
 use Rattle.tg_car.specs.declared.fault.CarFault.TheVariants.{Torn}
 use Rattle.tg_car.specs.Faults.{HasEndCause}
 use Rattle.tg_car.specs.Filling.{came_of}
@@ -22,7 +23,7 @@ returns-clause-stands c =
     let new : ReaderState = record old { refused = Some (Torn at) } in
     let cause : (h : History) → Holds old.in_header old h → HasEndCause old.limit h.fed (Torn at) = elim c.if-self.branch [
       | then-self w ↦ torn_header old at w.if-self.true w.at-is
-      | else-self+else-is_empty w ↦ torn_section old at w.if-self.false w.at-is (λ e. w.if-is_empty.ensures.1 e)
+      | else-self+else-is_empty w ↦ torn_section old at w.if-self.false w.at-is (λ e. false≢true (w.if-is_empty.ensures.1 e))
     ] in
     subst (λ (s : ReaderState). (h : History) → StandsFor s h → StandsFor new (with_refusal h [] (Torn at) h.refused)) c.self.view_is
     (stands_torn old new at c.in_default.is refl refl cause)
