@@ -41,13 +41,13 @@ no_car_in_header a b inside none front =
     let more = front.2 in
     let whole : car.header ++ car.rest ≡ a ++ b ∷ more = sym car.whole ∙ append_assoc a (b ∷ []) more in
     elim (cases_lt (length a) (length car.header)) [
-    | inl past ↦
-        let long : (a ++ b ∷ []) ++ more ≡ a ++ b ∷ more = append_assoc a (b ∷ []) more in
-        let l = longer car.header (a ++ b ∷ []) car.rest more (whole ∙ sym long) (omega (arith, length_push a b)) in
-        none front.0 l.middle (subst (HeaderText front.0) (l.first ∙ append_assoc a (b ∷ []) l.middle) car.header_is)
-    | inr less ↦
-        let l = longer a car.header (b ∷ more) car.rest (sym whole) less in
-        none_in_header front.0 car.header l.middle a car.header_is (sym l.first) inside
+      | inl past ↦
+          let long : (a ++ b ∷ []) ++ more ≡ a ++ b ∷ more = append_assoc a (b ∷ []) more in
+          let l = longer car.header (a ++ b ∷ []) car.rest more (whole ∙ sym long) (omega (arith, length_push a b)) in
+          none front.0 l.middle (subst (HeaderText front.0) (l.first ∙ append_assoc a (b ∷ []) l.middle) car.header_is)
+      | inr less ↦
+          let l = longer a car.header (b ∷ more) car.rest (sym whole) less in
+          none_in_header front.0 car.header l.middle a car.header_is (sym l.first) inside
     ]
 
 nothing_inside : IsInSection []
@@ -94,25 +94,34 @@ no_car_in_section limit bytes ts head b reached inside none front =
 -- bytes inside a section begin a CAR
 pub section_front : (limit : ℕ) (bytes : List ℕ) (ss : List Section) (r : List ℕ) → Reaches limit bytes ss r → IsInSection r → IsCarFront bytes
 section_front limit bytes ss r reached inside =
-    let text = push_section ss inside.section reached.done (r ++ inside.more) reached.sections_are inside.text in
-    (reached.roots, ss ++ inside.section ∷ [], inside.more, record {
-      header = reached.header;
-      rest = reached.done ++ (r ++ inside.more);
-      whole = ap (λ (l : List ℕ). l ++ inside.more) reached.whole
-          ∙ (append_assoc reached.header (reached.done ++ r) inside.more
-          ∙ ap (λ (l : List ℕ). reached.header ++ l) (append_assoc reached.done r inside.more));
-      header_is = reached.header_is;
-      sections_are = text;
-    })
+    let text = push_section ss inside.section reached.done (r ++ inside.more) reached.sections_are inside.text in (
+      reached.roots,
+      ss ++ inside.section ∷ [],
+      inside.more,
+      record {
+        header = reached.header;
+        rest = reached.done ++ (r ++ inside.more);
+        whole = ap (λ (l : List ℕ). l ++ inside.more) reached.whole
+            ∙ (append_assoc reached.header (reached.done ++ r) inside.more
+            ∙ ap (λ (l : List ℕ). reached.header ++ l) (append_assoc reached.done r inside.more));
+        header_is = reached.header_is;
+        sections_are = text;
+      },
+    )
 
 pub header_front : (bytes : List ℕ) → IsInHeader bytes → IsCarFront bytes
-header_front bytes inside = (inside.roots, [], inside.more, record {
-  header = bytes ++ inside.more;
-  rest = [];
-  whole = sym (append-nil (bytes ++ inside.more));
-  header_is = inside.text;
-  sections_are = refl;
-})
+header_front bytes inside = (
+  inside.roots,
+  [],
+  inside.more,
+  record {
+    header = bytes ++ inside.more;
+    rest = [];
+    whole = sym (append-nil (bytes ++ inside.more));
+    header_is = inside.text;
+    sections_are = refl;
+  },
+)
 
 shorter_front : (front more bytes : List ℕ) → bytes ≡ front ++ more → IsCarFront bytes → IsCarFront front
 shorter_front front more bytes e f =

@@ -121,13 +121,21 @@ header_bad old piece was f = record {
       let whole : h.fed ++ piece ≡ (before ++ b.last ∷ []) ++ b.more =
       ap (λ (l : List ℕ). h.fed ++ l) b.whole
       ∙ (sym (append_assoc h.fed b.front (b.last ∷ b.more)) ∙ sym (append_assoc before (b.last ∷ []) b.more)) in
-      inr (refl, (before ++ b.last ∷ [], b.more, whole, record {
-        before = before;
-        last = b.last;
-        whole = refl;
-        went_on = b.went_on;
-        hopeless = no_car_in_header before b.last b.went_on b.none;
-      }));
+      inr (
+        refl,
+        (
+          before ++ b.last ∷ [],
+          b.more,
+          whole,
+          record {
+            before = before;
+            last = b.last;
+            whole = refl;
+            went_on = b.went_on;
+            hopeless = no_car_in_header before b.last b.went_on b.none;
+          },
+        ),
+      );
 }
 
 reaches_more : (limit : ℕ) (bytes : List ℕ) (ss : List Section) (rest more : List ℕ) → Reaches limit bytes ss rest → Reaches limit (bytes ++ more) ss (rest ++ more)
@@ -238,18 +246,27 @@ section_bad old new piece at limit refused was at_is b = record {
       let whole : h.fed ++ piece ≡ (before ++ b.last ∷ []) ++ b.more =
       ap (λ (l : List ℕ). h.fed ++ l) b.whole
       ∙ (sym (append_assoc h.fed b.front (b.last ∷ b.more)) ∙ sym (append_assoc before (b.last ∷ []) b.more)) in
-      inr (length h.fed - length old.came, at_is ∙ o.place_is, (before ++ b.last ∷ [], b.more, whole, record {
-        before = before;
-        last = b.last;
-        whole = refl;
-        sections = h.sections;
-        rest = rest;
-        reaches = reached;
-        went_on = head_inside rest b.went_on;
-        within = head_within old.limit rest b.went_on;
-        at_is = omega (arith, length-append h.fed b.front, length-append old.came b.front);
-        hopeless = no_car_in_section old.limit before h.sections rest b.last reached b.went_on b.none;
-      }));
+      inr (
+        length h.fed - length old.came,
+        at_is ∙ o.place_is,
+        (
+          before ++ b.last ∷ [],
+          b.more,
+          whole,
+          record {
+            before = before;
+            last = b.last;
+            whole = refl;
+            sections = h.sections;
+            rest = rest;
+            reaches = reached;
+            went_on = head_inside rest b.went_on;
+            within = head_within old.limit rest b.went_on;
+            at_is = omega (arith, length-append h.fed b.front, length-append old.came b.front);
+            hopeless = no_car_in_section old.limit before h.sections rest b.last reached b.went_on b.none;
+          },
+        ),
+      );
 }
 
 pub section_above : (old new : ReaderState) (piece : List ℕ) (number : ℕ) → new.limit ≡ old.limit → new.refused ≡ old.refused → old.in_header ≡ false
@@ -262,18 +279,26 @@ section_above old new piece number limit refused was number_is d = record {
       let front = take d.taken piece in
       let whole : h.fed ++ piece ≡ (h.fed ++ front) ++ drop d.taken piece =
       ap (λ (l : List ℕ). h.fed ++ l) (sym (take-append-drop d.taken piece)) ∙ sym (append_assoc h.fed front (drop d.taken piece)) in
-      inr (number_is, (h.fed ++ front, drop d.taken piece, whole, record {
-        sections = h.sections;
-        cid = d.declared.cid;
-        size = d.text.size;
-        name = d.text.name;
-        number = d.declared.number;
-        reaches = subst (λ (l : List ℕ). Reaches old.limit (h.fed ++ front) h.sections l) d.text.whole
-            (reaches_more old.limit h.fed h.sections old.came front o.among.reaches);
-        size_is = d.text.size_is;
-        name_is = d.text.name_is;
-        above = d.above;
-      }));
+      inr (
+        number_is,
+        (
+          h.fed ++ front,
+          drop d.taken piece,
+          whole,
+          record {
+            sections = h.sections;
+            cid = d.declared.cid;
+            size = d.text.size;
+            name = d.text.name;
+            number = d.declared.number;
+            reaches = subst (λ (l : List ℕ). Reaches old.limit (h.fed ++ front) h.sections l) d.text.whole
+                (reaches_more old.limit h.fed h.sections old.came front o.among.reaches);
+            size_is = d.text.size_is;
+            name_is = d.text.name_is;
+            above = d.above;
+          },
+        ),
+      );
 }
 
 pub no_memory : (old new : ReaderState) (piece : List ℕ) → new.limit ≡ old.limit → new.refused ≡ old.refused → Stops old new piece faults.OutOfMemory
@@ -359,28 +384,34 @@ pub torn_section : (old : ReaderState) (at : ℕ) → old.in_header ≡ false �
     → Holds old.in_header old h → HasEndCause old.limit h.fed (faults.Torn at)
 torn_section old at was e some h k =
     let o = as_section old h was k in
-    inr (length h.fed - length old.came, e ∙ o.place_is, record {
-      sections = h.sections;
-      rest = old.came;
-      reaches = o.among.reaches;
-      inside = o.among.inside;
-      begun = some_left old.came some;
-      at_is = refl;
-    })
+    inr (
+      length h.fed - length old.came,
+      e ∙ o.place_is,
+      record {
+        sections = h.sections;
+        rest = old.came;
+        reaches = o.among.reaches;
+        inside = o.among.inside;
+        begun = some_left old.came some;
+        at_is = refl;
+      },
+    )
 
 -- the bytes end where a section may begin
 pub whole_car : (old : ReaderState) → old.refused ≡ None → old.in_header ≡ false → old.came ≡ [] → (h : History) → StandsFor old h
     → (roots : List (List ℕ)) × CarText roots h.sections h.fed
 whole_car old none was nothing_came h k =
     let o = as_section old h was (k.holds (sym k.refused ∙ none)) in
-    let r = o.among.reaches in
-    (r.roots, record {
-      header = r.header;
-      rest = r.done;
-      whole = r.whole ∙ ap (λ (l : List ℕ). r.header ++ l) (ap (λ (l : List ℕ). r.done ++ l) nothing_came ∙ append-nil r.done);
-      header_is = r.header_is;
-      sections_are = r.sections_are;
-    })
+    let r = o.among.reaches in (
+      r.roots,
+      record {
+        header = r.header;
+        rest = r.done;
+        whole = r.whole ∙ ap (λ (l : List ℕ). r.header ++ l) (ap (λ (l : List ℕ). r.done ++ l) nothing_came ∙ append-nil r.done);
+        header_is = r.header_is;
+        sections_are = r.sections_are;
+      },
+    )
 
 nothing_in_header : IsInHeader []
 nothing_in_header = record {

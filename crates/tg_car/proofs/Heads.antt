@@ -64,8 +64,8 @@ name_size c name h =
     let whole : length name ≡ length k.0 + length c.digest = ap length k.2 ∙ length-append k.0 c.digest in
     let digest : length c.digest ≡ 32 = k.3 in
     elim k.1 [
-    | inl e ↦ let long : length k.0 ≡ 2 = ap length e in (omega arith, omega arith)
-    | inr e ↦ let long : length k.0 ≡ 4 = ap length e.1 in (omega arith, omega arith)
+      | inl e ↦ let long : length k.0 ≡ 2 = ap length e in (omega arith, omega arith)
+      | inr e ↦ let long : length k.0 ≡ 4 = ap length e.1 in (omega arith, omega arith)
     ]
 
 pub head_size : (c : CidParts) (m : ℕ) (a : List ℕ) → HeadText c m a → (0 < length a) × (length a ≤ 45)

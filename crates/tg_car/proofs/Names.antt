@@ -121,8 +121,8 @@ pub cid_head : (cid : CidParts) (name : List ℕ) → CidBytes cid name → (hea
 cid_head cid name h =
     let s = spelled cid name h in
     elim s.parts [
-    | inl p ↦ (zero_head, inl refl, p.2, s.size)
-    | inr p ↦ (one_head_of cid.codec, inr (cid.codec, refl), p.1, s.size)
+      | inl p ↦ (zero_head, inl refl, p.2, s.size)
+      | inr p ↦ (one_head_of cid.codec, inr (cid.codec, refl), p.1, s.size)
     ]
 
 same_digests : (d e x y : List ℕ) → length d ≡ 32 → length e ≡ 32 → d ++ x ≡ e ++ y → d ≡ e
@@ -150,34 +150,33 @@ one_name a b u v x y h k e =
     let s = spelled a u h in
     let t = spelled b v k in
     elim s.parts [
-    | inl p ↦ elim t.parts [
-      | inl q ↦
-          let whole : 0x12 ∷ 0x20 ∷ (a.digest ++ x) ≡ 0x12 ∷ 0x20 ∷ (b.digest ++ y) =
-          ap (λ (l : List ℕ). l ++ x) (sym p.2) ∙ (e ∙ ap (λ (l : List ℕ). l ++ y) q.2) in
-          let rest : a.digest ++ x ≡ b.digest ++ y = cc in
-          let digests : a.digest ≡ b.digest = same_digests a.digest b.digest x y s.size t.size rest in
-          (p.2 ∙ (ap (λ (l : List ℕ). zero_head ++ l) digests ∙ sym q.2), same_cids a b (p.0 ∙ sym q.0) (p.1 ∙ sym q.1) (s.hash ∙ sym t.hash) digests)
-      | inr q ↦
-          let whole : 0x12 ∷ 0x20 ∷ (a.digest ++ x) ≡ 1 ∷ codec_code b.codec ∷ 0x12 ∷ 0x20 ∷ (b.digest ++ y) =
-          ap (λ (l : List ℕ). l ++ x) (sym p.2) ∙ (e ∙ ap (λ (l : List ℕ). l ++ y) q.1) in
-          absurd (first_differs _ _ whole)
+      | inl p ↦ elim t.parts [
+        | inl q ↦
+            let whole : 0x12 ∷ 0x20 ∷ (a.digest ++ x) ≡ 0x12 ∷ 0x20 ∷ (b.digest ++ y) =
+            ap (λ (l : List ℕ). l ++ x) (sym p.2) ∙ (e ∙ ap (λ (l : List ℕ). l ++ y) q.2) in
+            let rest : a.digest ++ x ≡ b.digest ++ y = cc in
+            let digests : a.digest ≡ b.digest = same_digests a.digest b.digest x y s.size t.size rest in
+            (p.2 ∙ (ap (λ (l : List ℕ). zero_head ++ l) digests ∙ sym q.2), same_cids a b (p.0 ∙ sym q.0) (p.1 ∙ sym q.1) (s.hash ∙ sym t.hash) digests)
+        | inr q ↦
+            let whole : 0x12 ∷ 0x20 ∷ (a.digest ++ x) ≡ 1 ∷ codec_code b.codec ∷ 0x12 ∷ 0x20 ∷ (b.digest ++ y) =
+            ap (λ (l : List ℕ). l ++ x) (sym p.2) ∙ (e ∙ ap (λ (l : List ℕ). l ++ y) q.1) in
+            absurd (first_differs _ _ whole)
       ]
-    | inr p ↦ elim t.parts [
-      | inl q ↦
-          let whole : 1 ∷ codec_code a.codec ∷ 0x12 ∷ 0x20 ∷ (a.digest ++ x) ≡ 0x12 ∷ 0x20 ∷ (b.digest ++ y) =
-          ap (λ (l : List ℕ). l ++ x) (sym p.1) ∙ (e ∙ ap (λ (l : List ℕ). l ++ y) q.2) in
-          absurd (first_differs _ _ (sym whole))
-      | inr q ↦
-          let whole : 1 ∷ codec_code a.codec ∷ 0x12 ∷ 0x20 ∷ (a.digest ++ x) ≡ 1 ∷ codec_code b.codec ∷ 0x12 ∷ 0x20 ∷ (b.digest ++ y) =
-          ap (λ (l : List ℕ). l ++ x) (sym p.1) ∙ (e ∙ ap (λ (l : List ℕ). l ++ y) q.1) in
-          let codes : codec_code a.codec ≡ codec_code b.codec = cc in
-          let codecs : a.codec ≡ b.codec = code_differs a.codec b.codec codes in
-          let rest : a.digest ++ x ≡ b.digest ++ y = cc in
-          let digests : a.digest ≡ b.digest = same_digests a.digest b.digest x y s.size t.size rest in
-          (
-            p.1 ∙ (ap₂ (λ c (l : List ℕ). one_head_of c ++ l) codecs digests ∙ sym q.1),
-            same_cids a b (p.0 ∙ sym q.0) codecs (s.hash ∙ sym t.hash) digests,
-          )
+      | inr p ↦ elim t.parts [
+        | inl q ↦
+            let whole : 1 ∷ codec_code a.codec ∷ 0x12 ∷ 0x20 ∷ (a.digest ++ x) ≡ 0x12 ∷ 0x20 ∷ (b.digest ++ y) =
+            ap (λ (l : List ℕ). l ++ x) (sym p.1) ∙ (e ∙ ap (λ (l : List ℕ). l ++ y) q.2) in
+            absurd (first_differs _ _ (sym whole))
+        | inr q ↦
+            let whole : 1 ∷ codec_code a.codec ∷ 0x12 ∷ 0x20 ∷ (a.digest ++ x) ≡ 1 ∷ codec_code b.codec ∷ 0x12 ∷ 0x20 ∷ (b.digest ++ y) =
+            ap (λ (l : List ℕ). l ++ x) (sym p.1) ∙ (e ∙ ap (λ (l : List ℕ). l ++ y) q.1) in
+            let codes : codec_code a.codec ≡ codec_code b.codec = cc in
+            let codecs : a.codec ≡ b.codec = code_differs a.codec b.codec codes in
+            let rest : a.digest ++ x ≡ b.digest ++ y = cc in
+            let digests : a.digest ≡ b.digest = same_digests a.digest b.digest x y s.size t.size rest in (
+              p.1 ∙ (ap₂ (λ c (l : List ℕ). one_head_of c ++ l) codecs digests ∙ sym q.1),
+              same_cids a b (p.0 ∙ sym q.0) codecs (s.hash ∙ sym t.hash) digests,
+            )
       ]
     ]
 
@@ -227,13 +226,13 @@ name_goes_on head name agrees bytes fewer = elim (cases_lt (length head) (length
         whole = ap (λ (l : List ℕ). l ++ replicate left 0) (sym (name_goes_past head name agrees (omega arith))) ∙ append_assoc head past (replicate left 0);
       }
   | inr less ↦ record {
-      digest = replicate 32 0;
-      more = drop (length name) head ++ replicate 32 0;
-      some = omega (arith, length-append (drop (length name) head) (replicate {A = ℕ} 32 0), length-replicate {A = ℕ} 32 0);
-      size = length-replicate {A = ℕ} 32 0;
-      are_bytes = zeros_are_bytes 32;
-      whole = sym (append_assoc name (drop (length name) head) (replicate 32 0)) ∙ ap (λ (l : List ℕ). l ++ replicate 32 0) (head_goes_on head name agrees less);
-    }
+    digest = replicate 32 0;
+    more = drop (length name) head ++ replicate 32 0;
+    some = omega (arith, length-append (drop (length name) head) (replicate {A = ℕ} 32 0), length-replicate {A = ℕ} 32 0);
+    size = length-replicate {A = ℕ} 32 0;
+    are_bytes = zeros_are_bytes 32;
+    whole = sym (append_assoc name (drop (length name) head) (replicate 32 0)) ∙ ap (λ (l : List ℕ). l ++ replicate 32 0) (head_goes_on head name agrees less);
+  }
 ]
 
 -- bytes with which a CID begins agree with its head

@@ -44,7 +44,7 @@ gives limit d old new piece taken None text bytes piece_bytes t =
       t.0,
       came ∙ sym (append_assoc old.head old.block.items piece),
       subst IsInSection (sym came)
-      (block_inside d.cid d.number old.head all text less (All-append (λ (b : ℕ). b < 256) old.block.items piece bytes piece_bytes)),
+          (block_inside d.cid d.number old.head all text less (All-append (λ (b : ℕ). b < 256) old.block.items piece bytes piece_bytes)),
       λ within. subst (IsWithin limit) (sym came)
           (whole_within limit d.cid d.number old.head all text (declared_within limit d.cid d.number old.head old.block.items text within)),
     )
@@ -60,7 +60,7 @@ gives limit d old new piece taken (Some section) text bytes piece_bytes t =
       t.0,
       t.2,
       subst (λ (s : Section). SectionText s (came_of old ++ front)) (sym t.3)
-      (subst (SectionText (record { cid = d.cid; block = all })) (sym (append_assoc old.head old.block.items front)) made),
+          (subst (SectionText (record { cid = d.cid; block = all })) (sym (append_assoc old.head old.block.items front)) made),
       λ within.
           let most : d.number ≤ limit = declared_within limit d.cid d.number old.head old.block.items text within in
           let long : length section.block ≡ length all = ap length block in
@@ -101,7 +101,7 @@ lift limit old mid new piece taken more None less some e within g =
     let rest : more ≡ length (drop taken piece) = g.0 in (
       omega (arith, length-drop taken piece),
       g.1 ∙ (ap (λ (l : List ℕ). l ++ drop taken piece) e
-      ∙ (append_assoc old (take taken piece) (drop taken piece) ∙ ap (λ (l : List ℕ). old ++ l) (take-append-drop taken piece))),
+          ∙ (append_assoc old (take taken piece) (drop taken piece) ∙ ap (λ (l : List ℕ). old ++ l) (take-append-drop taken piece))),
       g.2,
       λ _. g.3 within,
     )

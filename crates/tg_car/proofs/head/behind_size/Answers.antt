@@ -15,7 +15,7 @@ returns-then-name-count c =
     let bytes : All (λ b. b < 256) c.args.name.now =
     All-from_get_or (λ b. b < 256) c.args.name.now 0 (λ i l. omega (arith, c.type_inv.name i)) in
     λ spelling v.
-        open_name c.args.size spelling c.args.name.now c.in-Some.count v c.in-Some.ensures c.if-size-count.false c.if-name-count.true bytes
+    open_name c.args.size spelling c.args.name.now c.in-Some.count v c.in-Some.ensures c.if-size-count.false c.if-name-count.true bytes
 
 pub returns-in-Ok : goal.returns-in-Ok
 returns-in-Ok c = λ spelling v.
