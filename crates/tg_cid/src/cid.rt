@@ -1,5 +1,5 @@
 //! The CID: read and written as bytes and as text, its parts, and whether it names a block.
-ghost use Rattle.std.specs.Prelude.{◌≡◌, ℕ, ◌<◌, ◌≤◌, ◌↔◌, ◌⊎◌, List, ◌∷◌, ◌++◌, length, take, All, IsTrue, IfOk, IfErr, MatchResult};
+ghost use Rattle.std.specs.Prelude.{◌≡◌, ℕ, ◌-◌, ◌<◌, ◌≤◌, ◌↔◌, ◌⊎◌, List, ◌∷◌, ◌++◌, length, take, drop, replicate, All, IsTrue, IfOk, IfErr, MatchResult};
 ghost use Rattle.sha2.specs.Sha256.{sha256};
 ghost use Rattle.tg_cid.specs.Cid.{CidParts};
 ghost use Rattle.tg_cid.specs.Faults.{HasPrefixCause, HasBytesCause, HasTextCause, IsCodec};
@@ -10,7 +10,7 @@ ghost use Rattle.tg_cid.specs.declared.fault.CidFault.{CidFault};
 
 use crate::fault::CidFault;
 use crate::numbers::number_at;
-use crate::room::{ROOM, fill_both, in_room};
+use crate::room::{LONGEST, ROOM, fill_both, in_longest, in_room};
 use sha2::{Digest, Sha256};
 use std::alloc::{AllocError, Global};
 use std::marker::Model;
@@ -152,12 +152,24 @@ impl Cid {
     pub fn to_bytes(&self, alloc: Global) -> Result<Bytes, AllocError>
         ensures { IfOk result (λ bytes. CidBytes self.now bytes) }
     {
+        let (bytes, size) = self.spelling();
+        Bytes::of(alloc, &bytes[..size])
+    }
+
+    /// The CID's bytes, in the front of an array whose other bytes are zero, and how many they are. It takes no memory.
+    ///
+    /// CID specification; multihash.
+    pub fn spelling(&self) -> ([u8; LONGEST], usize)
+        ensures size { result.1 ≤ 133 }
+        ensures spelled { CidBytes self.now (take result.1 result.0) }
+        ensures rest { drop result.1 result.0 ≡ replicate (133 - result.1) 0 }
+    {
         let bytes = self.version_one_bytes();
         if self.version == 0 {
             // A CIDv0 is the multihash alone, which stands in a CIDv1 behind the version and the codec.
-            return Bytes::of(alloc, &bytes[2..]);
+            return in_longest(&bytes[2..]);
         }
-        Bytes::of(alloc, &bytes)
+        in_longest(&bytes)
     }
 
     /// The text of the CID's version 1 form: the letter `b` and the lower-case base 32 of its bytes. The error is want of

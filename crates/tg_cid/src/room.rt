@@ -1,8 +1,11 @@
 //! The room that a CID keeps its digest in.
-ghost use Rattle.std.specs.Prelude.{◌≡◌, ◌+◌, ◌-◌, ◌≤◌, ◌++◌, length, drop, replicate};
+ghost use Rattle.std.specs.Prelude.{◌≡◌, ◌+◌, ◌-◌, ◌≤◌, ◌++◌, length, take, drop, replicate};
 
 /// How many digest bytes a CID has room for.
 pub const ROOM: usize = 128;
+
+/// How many bytes the longest CID has: a CIDv1 whose digest fills that room.
+pub const LONGEST: usize = 133;
 
 /// The digest in the front of a room whose other bytes are zero.
 pub fn in_room(digest: &[u8]) -> [u8; ROOM]
@@ -12,6 +15,18 @@ pub fn in_room(digest: &[u8]) -> [u8; ROOM]
     let mut room = [0; ROOM];
     fill_front(&mut room, digest);
     room
+}
+
+/// The bytes of a CID in the front of an array whose other bytes are zero, and how many they are.
+pub fn in_longest(bytes: &[u8]) -> ([u8; LONGEST], usize)
+    requires { length bytes.now ≤ 133 }
+    ensures size { result.1 ≡ length bytes.now }
+    ensures front { take result.1 result.0 ≡ bytes.now }
+    ensures rest { drop result.1 result.0 ≡ replicate (133 - result.1) 0 }
+{
+    let mut room = [0; LONGEST];
+    fill_front(&mut room, bytes);
+    (room, bytes.len())
 }
 
 /// Copies the bytes into the front of the room.

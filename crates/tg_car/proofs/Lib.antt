@@ -1,0 +1,17 @@
+mod Sizes
+mod RootTexts
+mod StringSteps
+mod ArraySteps
+mod Lengths
+mod ByteSteps
+mod Live
+mod OneText
+mod Names
+mod Heads
+mod Openings
+mod Parts
+mod Takings
+mod Sections
+mod Divisions
+mod Feeding
+mod Written

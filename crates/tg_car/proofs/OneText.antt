@@ -1,0 +1,121 @@
+-- No header and no section begins another.
+use Rattle.std.proofs.Common.{◌≡◌, ℕ, ◌+◌, ◌<◌, ◌≤◌, List, [], ◌∷◌, ◌++◌, length, All, ap, ap₂, sym, ◌∙◌, refl, subst, inl, inr, arith}
+use Rattle.std.specs.List.{flat_map}
+use Rattle.std.proofs.lemmas.List.{append_assoc, append_cancel_right}
+use Rattle.tg_varint.specs.Varint.{VarintSpelling}
+use Rattle.tg_cid.specs.Cid.{CidParts}
+use Rattle.tg_cid.specs.Spelling.{CidBytes}
+use Rattle.tg_car.specs.CarText.{string_head, array_head, root_text, header_map, HeaderText, SectionText}
+use Rattle.tg_car.specs.HeaderState.{map_back}
+use Rattle.tg_car.specs.declared.section.Section.{Section}
+use Rattle.tg_car.proofs.Sizes.{string_head_is, array_head_is}
+
+-- no varint begins another, and no CID does
+abbrev pub VarintsOnce : Type 0
+VarintsOnce = (m n : ℕ) (a b x y : List ℕ) → VarintSpelling m a → VarintSpelling n b → a ++ x ≡ b ++ y → (a ≡ b) × (m ≡ n)
+
+abbrev pub CidsOnce : Type 0
+CidsOnce = (a b : CidParts) (u v x y : List ℕ) → CidBytes a u → CidBytes b v → u ++ x ≡ v ++ y → (u ≡ v) × (a ≡ b)
+
+-- fronts of one length are one
+same_fronts : (p q x y : List ℕ) → length p ≡ length q → p ++ x ≡ q ++ y → (p ≡ q) × (x ≡ y)
+same_fronts [] [] x y l e = (refl, e)
+same_fronts [] (b ∷ q) x y l e = absurd (omega arith)
+same_fronts (a ∷ p) [] x y l e = absurd (omega arith)
+same_fronts (a ∷ p) (b ∷ q) x y l e =
+    let heads : a ≡ b = cc in
+    let tails : p ++ x ≡ q ++ y = cc in
+    let rest = same_fronts p q x y (omega arith) tails in
+    (ap₂ (λ n l. n ∷ l) heads rest.0, rest.1)
+
+-- no byte string begins another
+same_strings : (p q x y : List ℕ) → (string_head (length p) ++ p) ++ x ≡ (string_head (length q) ++ q) ++ y → (p ≡ q) × (x ≡ y)
+same_strings p q x y e = elim (string_head_is (length p)) [
+  | inl s ↦ elim (string_head_is (length q)) [
+    | inl t ↦ (let parts : (0x40 + length p) ∷ (p ++ x) ≡ (0x40 + length q) ∷ (q ++ y) =
+        sym (ap (λ l. (l ++ p) ++ x) s.1) ∙ (e ∙ ap (λ l. (l ++ q) ++ y) t.1) in
+        let heads : 0x40 + length p ≡ 0x40 + length q = cc in
+        same_fronts p q x y (omega arith) cc)
+    | inr t ↦ (let parts : (0x40 + length p) ∷ (p ++ x) ≡ 0x58 ∷ length q ∷ (q ++ y) =
+        sym (ap (λ l. (l ++ p) ++ x) s.1) ∙ (e ∙ ap (λ l. (l ++ q) ++ y) t.1) in
+        let heads : 0x40 + length p ≡ 0x58 = cc in
+        absurd (omega (arith, s.0)))
+  ]
+  | inr s ↦ elim (string_head_is (length q)) [
+    | inl t ↦ (let parts : 0x58 ∷ length p ∷ (p ++ x) ≡ (0x40 + length q) ∷ (q ++ y) =
+        sym (ap (λ l. (l ++ p) ++ x) s.1) ∙ (e ∙ ap (λ l. (l ++ q) ++ y) t.1) in
+        let heads : 0x58 ≡ 0x40 + length q = cc in
+        absurd (omega (arith, t.0)))
+    | inr t ↦ (let parts : 0x58 ∷ length p ∷ (p ++ x) ≡ 0x58 ∷ length q ∷ (q ++ y) =
+        sym (ap (λ l. (l ++ p) ++ x) s.1) ∙ (e ∙ ap (λ l. (l ++ q) ++ y) t.1) in
+        let long : length p ≡ length q = cc in
+        same_fronts p q x y long cc)
+  ]
+]
+
+same_roots : (a b : List (List ℕ)) (x y : List ℕ) → length a ≡ length b → flat_map root_text a ++ x ≡ flat_map root_text b ++ y → a ≡ b
+same_roots [] [] x y l e = refl
+same_roots [] (q ∷ b) x y l e = absurd (omega arith)
+same_roots (p ∷ a) [] x y l e = absurd (omega arith)
+same_roots (p ∷ a) (q ∷ b) x y l e =
+    let parts : root_text p ++ (flat_map root_text a ++ x) ≡ root_text q ++ (flat_map root_text b ++ y) =
+    sym (append_assoc (root_text p) (flat_map root_text a) x) ∙ (e ∙ append_assoc (root_text q) (flat_map root_text b) y) in
+    let strings : (string_head (length p) ++ p) ++ (flat_map root_text a ++ x) ≡ (string_head (length q) ++ q) ++ (flat_map root_text b ++ y) = cc in
+    let first = same_strings p q (flat_map root_text a ++ x) (flat_map root_text b ++ y) strings in
+    ap₂ (λ r rs. r ∷ rs) first.0 (same_roots a b x y (omega arith) first.1)
+
+-- the arrays of roots from their heads on
+same_arrays : (a b : List (List ℕ)) → array_head (length a) ++ (flat_map root_text a ++ map_back) ≡ array_head (length b) ++ (flat_map root_text b ++ map_back) → a ≡ b
+same_arrays a b e = elim (array_head_is (length a)) [
+  | inl s ↦ elim (array_head_is (length b)) [
+    | inl t ↦ (let parts : (0x80 + length a) ∷ (flat_map root_text a ++ map_back) ≡ (0x80 + length b) ∷ (flat_map root_text b ++ map_back) =
+        sym (ap (λ l. l ++ (flat_map root_text a ++ map_back)) s.1) ∙ (e ∙ ap (λ l. l ++ (flat_map root_text b ++ map_back)) t.1) in
+        let heads : 0x80 + length a ≡ 0x80 + length b = cc in
+        same_roots a b map_back map_back (omega arith) cc)
+    | inr t ↦ (let parts : (0x80 + length a) ∷ (flat_map root_text a ++ map_back) ≡ 0x98 ∷ length b ∷ (flat_map root_text b ++ map_back) =
+        sym (ap (λ l. l ++ (flat_map root_text a ++ map_back)) s.1) ∙ (e ∙ ap (λ l. l ++ (flat_map root_text b ++ map_back)) t.1) in
+        let heads : 0x80 + length a ≡ 0x98 = cc in
+        absurd (omega (arith, s.0)))
+  ]
+  | inr s ↦ elim (array_head_is (length b)) [
+    | inl t ↦ (let parts : 0x98 ∷ length a ∷ (flat_map root_text a ++ map_back) ≡ (0x80 + length b) ∷ (flat_map root_text b ++ map_back) =
+        sym (ap (λ l. l ++ (flat_map root_text a ++ map_back)) s.1) ∙ (e ∙ ap (λ l. l ++ (flat_map root_text b ++ map_back)) t.1) in
+        let heads : 0x98 ≡ 0x80 + length b = cc in
+        absurd (omega (arith, t.0)))
+    | inr t ↦ (let parts : 0x98 ∷ length a ∷ (flat_map root_text a ++ map_back) ≡ 0x98 ∷ length b ∷ (flat_map root_text b ++ map_back) =
+        sym (ap (λ l. l ++ (flat_map root_text a ++ map_back)) s.1) ∙ (e ∙ ap (λ l. l ++ (flat_map root_text b ++ map_back)) t.1) in
+        let long : length a ≡ length b = cc in
+        same_roots a b map_back map_back long cc)
+  ]
+]
+
+pub one_header : VarintsOnce → (a b : List (List ℕ)) (u v x y : List ℕ) → HeaderText a u → HeaderText b v → u ++ x ≡ v ++ y → (u ≡ v) × (a ≡ b)
+one_header once a b u v x y h k e =
+    let left : u ++ x ≡ h.size ++ (header_map a ++ x) = ap (λ l. l ++ x) h.whole ∙ append_assoc h.size (header_map a) x in
+    let right : v ++ y ≡ k.size ++ (header_map b ++ y) = ap (λ l. l ++ y) k.whole ∙ append_assoc k.size (header_map b) y in
+    let parts : h.size ++ (header_map a ++ x) ≡ k.size ++ (header_map b ++ y) = sym left ∙ (e ∙ right) in
+    let sizes = once (length (header_map a)) (length (header_map b)) h.size k.size (header_map a ++ x) (header_map b ++ y) h.size_is k.size_is parts in
+    let maps = same_fronts h.size k.size (header_map a ++ x) (header_map b ++ y) (ap length sizes.0) parts in
+    let map = same_fronts (header_map a) (header_map b) x y sizes.1 maps.1 in
+    let same : header_map a ≡ header_map b = map.0 in (
+      h.whole ∙ (ap₂ (λ p q. p ++ q) sizes.0 same ∙ sym k.whole),
+      same_arrays a b cc,
+    )
+
+pub one_section : VarintsOnce → CidsOnce → (a b : Section) (u v x y : List ℕ) → SectionText a u → SectionText b v → u ++ x ≡ v ++ y → (u ≡ v) × (a ≡ b)
+one_section once cids a b u v x y h k e =
+    let left : u ++ x ≡ h.size ++ (h.name ++ (a.block ++ x)) =
+    ap (λ l. l ++ x) h.whole ∙ (append_assoc h.size (h.name ++ a.block) x ∙ ap (λ l. h.size ++ l) (append_assoc h.name a.block x)) in
+    let right : v ++ y ≡ k.size ++ (k.name ++ (b.block ++ y)) =
+    ap (λ l. l ++ y) k.whole ∙ (append_assoc k.size (k.name ++ b.block) y ∙ ap (λ l. k.size ++ l) (append_assoc k.name b.block y)) in
+    let parts : h.size ++ (h.name ++ (a.block ++ x)) ≡ k.size ++ (k.name ++ (b.block ++ y)) = sym left ∙ (e ∙ right) in
+    let sizes = once (length h.name + length a.block) (length k.name + length b.block) h.size k.size (h.name ++ (a.block ++ x)) (k.name ++ (b.block ++ y)) h.size_is k.size_is parts in
+    let behind = same_fronts h.size k.size (h.name ++ (a.block ++ x)) (k.name ++ (b.block ++ y)) (ap length sizes.0) parts in
+    let names = cids a.cid b.cid h.name k.name (a.block ++ x) (b.block ++ y) h.name_is k.name_is behind.1 in
+    let long : length h.name ≡ length k.name = ap length names.0 in
+    let all : length h.name + length a.block ≡ length k.name + length b.block = sizes.1 in
+    let rest = same_fronts h.name k.name (a.block ++ x) (b.block ++ y) long behind.1 in
+    let block = same_fronts a.block b.block x y (omega arith) rest.1 in (
+      h.whole ∙ (ap₂ (λ p q. p ++ q) sizes.0 (ap₂ (λ p q. p ++ q) names.0 block.0) ∙ sym k.whole),
+      ap₂ (λ (cid : CidParts) (bytes : List ℕ). let s : Section = record { cid = cid; block = bytes } in s) names.1 block.0,
+    )

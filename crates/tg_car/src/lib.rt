@@ -1,0 +1,22 @@
+//! CARs: their header and sections written, and read in pieces of any lengths.
+#![tactic(auto)]
+
+mod event;
+mod fault;
+mod head;
+mod header_state;
+mod part;
+mod reader;
+mod room;
+mod section;
+mod writing;
+
+pub use event::Event;
+pub use fault::CarFault;
+pub use header_state::{one_header, one_section};
+pub use reader::{CarReader, none_missed, one_division};
+pub use section::Section;
+pub use writing::{header, section_head};
+
+#[cfg(test)]
+mod tests;

@@ -1,0 +1,657 @@
+//! A CAR of one empty directory, as published, and headers made by hand. The bytes at which headers are refused were
+//! compared with an independent program in python3, which sums the sizes that roots can have.
+use super::*;
+use crate::header_state::HeaderState;
+use std::alloc::{AllocError, Global};
+use std::process::Abort;
+use std::test::Fail;
+use tg_cid::Cid;
+
+// A CAR whose root is an empty directory, whose block is its one section.
+const DIRECTORY: &[u8] = b"bafybeiczsscdsbs7ffqz55asqdf3smv6klcw3gofszvwlyarci47bgf354";
+
+const DIRECTORY_HEADER: &[u8] =
+    b"\x3a\xa2\x65roots\x81\xd8\x2a\x58\x25\x00\x01\x70\x12\x20\x59\x94\x84\x39\x06\x5f\x29\x61\x9e\
+        \xf4\x12\x80\xcb\xb9\x32\xbe\x52\xc5\x6d\x99\xc5\x96\x6b\x65\xe0\x11\x12\x39\xf0\x98\xbb\xef\
+        \x67version\x01";
+
+const DIRECTORY_SECTION_HEAD: &[u8] =
+    b"\x28\x01\x70\x12\x20\x59\x94\x84\x39\x06\x5f\x29\x61\x9e\xf4\x12\x80\xcb\xb9\x32\xbe\x52\xc5\
+        \x6d\x99\xc5\x96\x6b\x65\xe0\x11\x12\x39\xf0\x98\xbb\xef";
+
+const DIRECTORY_BLOCK: &[u8] = b"\x0a\x02\x08\x01";
+
+// Its CIDv0.
+const DIRECTORY_ZERO: &[u8] =
+    b"\x12\x20\x59\x94\x84\x39\x06\x5f\x29\x61\x9e\xf4\x12\x80\xcb\xb9\x32\xbe\x52\xc5\x6d\x99\xc5\
+        \x96\x6b\x65\xe0\x11\x12\x39\xf0\x98\xbb\xef";
+
+// The end of each header.
+const END: &[u8] = b"\x67version\x01";
+
+// What becomes of bytes as a header.
+#[derive(Clone, Copy, Debug, PartialEq, Eq)]
+enum Outcome {
+    // No header goes on so at this byte.
+    Refused(usize),
+    // A header begins so.
+    Inside,
+    // They are a header.
+    Whole,
+}
+
+fn outcome_of(bytes: &[u8]) -> Outcome {
+    let mut state = HeaderState::new();
+    for (at, byte) in bytes.iter().enumerate() {
+        match state.step(*byte) {
+            Some(next) => state = next,
+            None => return Outcome::Refused(at),
+        }
+    }
+    if state.is_whole() {
+        Outcome::Whole
+    } else {
+        Outcome::Inside
+    }
+}
+
+// A front of a header, and its roots, each of these bytes, and so many; and what is behind them.
+#[derive(Clone, Copy)]
+struct Case<'a> {
+    front: &'a [u8],
+    root: &'a [u8],
+    count: usize,
+    behind: &'a [u8],
+    wanted: Outcome,
+}
+
+fn row<'a>(
+    front: &'a [u8],
+    root: &'a [u8],
+    count: usize,
+    behind: &'a [u8],
+    wanted: Outcome,
+) -> Case<'a> {
+    Case {
+        front,
+        root,
+        count,
+        behind,
+        wanted,
+    }
+}
+
+#[test]
+fn headers(rt: HostRuntime) -> Result<(), Fail> {
+    // Any bytes may stand behind the zero byte of a root.
+    let small: &[u8] = b"\xd8\x2a\x42\x00\xff";
+    let middle: &[u8] = b"\xd8\x2a\x58\x18\x00abcdefghijklmnopqrstuvw";
+    let mut large = [7; 204];
+    large[..5].copy_from_slice(b"\xd8\x2a\x58\xc8\x00");
+    let large: &[u8] = &large;
+    let rows = [
+        // Lengths: 17 is the least, and the next is 22; 13,074 is the greatest, and each is in its shortest spelling.
+        row(b"", b"", 0, b"", Outcome::Inside),
+        row(b"\x00", b"", 0, b"", Outcome::Refused(0)),
+        row(b"\x10", b"", 0, b"", Outcome::Refused(0)),
+        row(b"\x11", b"", 0, b"", Outcome::Inside),
+        row(b"\x12", b"", 0, b"", Outcome::Refused(0)),
+        row(b"\x14", b"", 0, b"", Outcome::Refused(0)),
+        row(b"\x15", b"", 0, b"", Outcome::Refused(0)),
+        row(b"\x16", b"", 0, b"", Outcome::Inside),
+        row(b"\x7f", b"", 0, b"", Outcome::Inside),
+        row(b"\x91\x00", b"", 0, b"", Outcome::Refused(1)),
+        row(b"\x80\x01", b"", 0, b"", Outcome::Inside),
+        row(b"\x92\x66", b"", 0, b"", Outcome::Inside),
+        row(b"\x93\x66", b"", 0, b"", Outcome::Refused(1)),
+        row(b"\xb0\x6d", b"", 0, b"", Outcome::Refused(1)),
+        row(b"\x80\x80", b"", 0, b"", Outcome::Refused(1)),
+        // No roots.
+        row(b"\x11\xa2\x65roots\x80", b"", 0, END, Outcome::Whole),
+        row(
+            b"\x11\xa2\x65roots\x80",
+            b"",
+            0,
+            b"\x67version",
+            Outcome::Inside,
+        ),
+        row(
+            b"\x11\xa2\x65roots\x80",
+            b"",
+            0,
+            b"\x67version\x02",
+            Outcome::Refused(17),
+        ),
+        row(
+            b"\x11\xa2\x65roots\x80",
+            b"",
+            0,
+            b"\x67version\x01\x00",
+            Outcome::Refused(18),
+        ),
+        row(b"\x11\xa1", b"", 0, b"", Outcome::Refused(1)),
+        row(b"\x11\xa2\x67", b"", 0, b"", Outcome::Refused(2)),
+        row(b"\x11\xa2\x65root\x00", b"", 0, b"", Outcome::Refused(7)),
+        row(b"\x11\xa2\x65roots\x81", b"", 0, b"", Outcome::Refused(8)),
+        row(b"\x16\xa2\x65roots\x80", b"", 0, b"", Outcome::Refused(8)),
+        // One root: 44 bytes would leave it 27.
+        row(b"\x16\xa2\x65roots\x81", small, 1, END, Outcome::Whole),
+        row(b"\x16\xa2\x65roots\x82", b"", 0, b"", Outcome::Refused(8)),
+        row(b"\x2b\xa2\x65roots\x81", b"", 0, b"", Outcome::Inside),
+        row(b"\x2c\xa2\x65roots\x81", b"", 0, b"", Outcome::Refused(8)),
+        row(b"\x2c\xa2\x65roots\x82", b"", 0, b"", Outcome::Inside),
+        row(b"\x2d\xa2\x65roots\x81", middle, 1, END, Outcome::Whole),
+        row(b"\xdd\x01\xa2\x65roots\x81", large, 1, END, Outcome::Whole),
+        row(
+            b"\xde\x01\xa2\x65roots\x81",
+            b"",
+            0,
+            b"",
+            Outcome::Refused(9),
+        ),
+        // The parts of a root.
+        row(
+            b"\x16\xa2\x65roots\x81\xd9",
+            b"",
+            0,
+            b"",
+            Outcome::Refused(9),
+        ),
+        row(
+            b"\x16\xa2\x65roots\x81\xd8\x2b",
+            b"",
+            0,
+            b"",
+            Outcome::Refused(10),
+        ),
+        row(
+            b"\x16\xa2\x65roots\x81\xd8\x2a\x41",
+            b"",
+            0,
+            b"",
+            Outcome::Refused(11),
+        ),
+        row(
+            b"\x16\xa2\x65roots\x81\xd8\x2a\x43",
+            b"",
+            0,
+            b"",
+            Outcome::Refused(11),
+        ),
+        row(
+            b"\x16\xa2\x65roots\x81\xd8\x2a\x42\x01",
+            b"",
+            0,
+            b"",
+            Outcome::Refused(12),
+        ),
+        row(
+            b"\x2b\xa2\x65roots\x81\xd8\x2a\x58",
+            b"",
+            0,
+            b"",
+            Outcome::Refused(11),
+        ),
+        row(
+            b"\x2d\xa2\x65roots\x81\xd8\x2a\x58\x17",
+            b"",
+            0,
+            b"",
+            Outcome::Refused(12),
+        ),
+        row(
+            b"\x2d\xa2\x65roots\x81\xd8\x2a\x58\x19",
+            b"",
+            0,
+            b"",
+            Outcome::Refused(12),
+        ),
+        row(
+            b"\x2d\xa2\x65roots\x81\xd8\x2a\x59",
+            b"",
+            0,
+            b"",
+            Outcome::Refused(11),
+        ),
+        row(
+            b"\xd2\x02\xa2\x65roots\x82\xd8\x2a\x58\xc9",
+            b"",
+            0,
+            b"",
+            Outcome::Refused(13),
+        ),
+        row(
+            b"\x16\xa2\x65roots\x81",
+            small,
+            1,
+            b"\xd8",
+            Outcome::Refused(14),
+        ),
+        // Two roots: 32 bytes for both leave 27 for none behind one of 5.
+        row(
+            b"\x63\xa2\x65roots\x82",
+            &DIRECTORY_HEADER[9..50],
+            2,
+            END,
+            Outcome::Whole,
+        ),
+        row(b"\x1b\xa2\x65roots\x82", small, 2, END, Outcome::Whole),
+        row(
+            b"\x1b\xa2\x65roots\x82",
+            small,
+            1,
+            END,
+            Outcome::Refused(14),
+        ),
+        row(
+            b"\x31\xa2\x65roots\x82\xd8\x2a\x42",
+            b"",
+            0,
+            b"",
+            Outcome::Refused(11),
+        ),
+        row(
+            b"\x31\xa2\x65roots\x82\xd8\x2a\x43",
+            b"",
+            0,
+            b"",
+            Outcome::Inside,
+        ),
+        // Counts of one byte go to 23, and of two from 24 to 64.
+        row(b"\x84\x01\xa2\x65roots\x97", small, 23, END, Outcome::Whole),
+        row(
+            b"\x89\x01\xa2\x65roots\x98",
+            b"",
+            0,
+            b"",
+            Outcome::Refused(9),
+        ),
+        row(b"\x8a\x01\xa2\x65roots\x98", b"", 0, b"", Outcome::Inside),
+        row(
+            b"\x8a\x01\xa2\x65roots\x98\x17",
+            b"",
+            0,
+            b"",
+            Outcome::Refused(10),
+        ),
+        row(
+            b"\x8a\x01\xa2\x65roots\x98\x18",
+            small,
+            24,
+            END,
+            Outcome::Whole,
+        ),
+        row(
+            b"\x8a\x01\xa2\x65roots\x98\x19",
+            b"",
+            0,
+            b"",
+            Outcome::Refused(10),
+        ),
+        row(
+            b"\xd2\x02\xa2\x65roots\x98\x40",
+            small,
+            64,
+            END,
+            Outcome::Whole,
+        ),
+        row(
+            b"\xd7\x02\xa2\x65roots\x98\x41",
+            b"",
+            0,
+            b"",
+            Outcome::Refused(10),
+        ),
+        row(
+            b"\x84\x01\xa2\x65roots\x99",
+            b"",
+            0,
+            b"",
+            Outcome::Refused(9),
+        ),
+        // The longest header: 64 roots of 200 bytes each.
+        row(
+            b"\x92\x66\xa2\x65roots\x98\x40",
+            large,
+            64,
+            END,
+            Outcome::Whole,
+        ),
+        row(
+            b"\x92\x66\xa2\x65roots\x98\x40",
+            large,
+            64,
+            b"\x67version\x01\x01",
+            Outcome::Refused(13076),
+        ),
+        row(
+            b"\x92\x66\xa2\x65roots\x98\x3f",
+            b"",
+            0,
+            b"",
+            Outcome::Refused(10),
+        ),
+        row(
+            b"\x92\x66\xa2\x65roots\x98\x40\xd8\x2a\x58\xc7",
+            b"",
+            0,
+            b"",
+            Outcome::Refused(14),
+        ),
+    ];
+    for row in rows {
+        let mut bytes = Vec::from_slice(rt.alloc(), row.front)?;
+        for _ in 0..row.count {
+            bytes.extend_from_slice(row.root)?;
+        }
+        bytes.extend_from_slice(row.behind)?;
+        assert_eq!(rt; outcome_of(bytes.as_slice()), row.wanted);
+    }
+    Ok(())
+}
+
+#[test]
+fn written(rt: HostRuntime) -> Result<(), Fail> {
+    let one = Cid::from_text(rt.alloc(), DIRECTORY)?;
+    let zero = Cid::from_bytes(DIRECTORY_ZERO)?;
+    assert_eq!(rt; header(rt.alloc(), &one)?.as_slice(), DIRECTORY_HEADER);
+    assert_eq!(rt; header(rt.alloc(), &zero)?.as_slice(), DIRECTORY_HEADER);
+    assert_eq!(rt; outcome_of(DIRECTORY_HEADER), Outcome::Whole);
+
+    let (head, size) = section_head(&one, 4);
+    assert_eq!(rt; &head[..size], DIRECTORY_SECTION_HEAD);
+    let (head, size) = section_head(&zero, 4);
+    assert_eq!(rt; &head[..1], b"\x26".as_slice());
+    assert_eq!(rt; &head[1..size], DIRECTORY_ZERO);
+    // 36 and 2,097,152 are 36 + 0 * 128 + 0 * 128 ^ 2 + 128 ^ 3.
+    let (head, size) = section_head(&one, 2_097_152);
+    assert_eq!(rt; &head[..4], b"\xa4\x80\x80\x01".as_slice());
+    assert_eq!(rt; size, 40);
+    one_header();
+    one_section();
+    Ok(())
+}
+
+// What a reader answered: whether it gave the header, how many sections and these written again, how many bytes it took
+// of all pieces, its end or refusal, and whether it kept that.
+#[derive(Debug, Drop)]
+struct Answers {
+    header: bool,
+    sections: usize,
+    again: Vec<u8>,
+    taken: usize,
+    ended: Result<(), CarFault>,
+    kept: bool,
+}
+
+// A reader's answers to a text in pieces of so many bytes.
+fn read_in_pieces(
+    alloc: Global,
+    limit: u64,
+    text: &[u8],
+    size: usize,
+) -> Result<Answers, AllocError>
+    requires { 0 < size }
+{
+    let mut reader = CarReader::new(alloc, limit);
+    let mut answers = Answers {
+        header: false,
+        sections: 0,
+        again: Vec::new(alloc),
+        taken: 0,
+        ended: Ok(()),
+        kept: true,
+    };
+    for piece in text.chunks(size) {
+        feed_piece(&mut reader, &mut answers, piece)?;
+    }
+    if answers.ended.is_ok() {
+        answers.ended = reader.end();
+    }
+    if let Err(fault) = answers.ended {
+        answers.kept = matches!(reader.feed(b"\x11"), Err(other) if other == fault)
+            && matches!(reader.feed(b""), Err(other) if other == fault)
+            && reader.end() == Err(fault);
+    }
+    Ok(answers)
+}
+
+fn feed_piece(
+    reader: &mut CarReader,
+    answers: &mut Answers,
+    piece: &[u8],
+) -> Result<(), AllocError> {
+    let mut rest = piece;
+    while !rest.is_empty() && answers.ended.is_ok() {
+        match reader.feed(rest) {
+            Ok((taken, event)) => {
+                rest = &rest[taken..];
+                answers.taken = answers.taken.saturating_add(taken);
+                add_event(answers, event)?;
+            }
+            Err(fault) => answers.ended = Err(fault),
+        }
+    }
+    Ok(())
+}
+
+fn add_event(answers: &mut Answers, event: Event) -> Result<(), AllocError> {
+    match event {
+        Event::Need => {}
+        Event::Header => answers.header = true,
+        Event::Section(section) => {
+            let block = section.block.as_slice();
+            answers.sections = answers.sections.saturating_add(1);
+            if block.len() <= 1000 {
+                let (head, size) = section_head(&section.cid, block.len() as u64);
+                answers.again.extend_from_slice(&head[..size])?;
+                answers.again.extend_from_slice(block)?;
+            }
+        }
+    }
+    Ok(())
+}
+
+// A text as its parts, one after another, and how many bytes its header has, or 0.
+#[derive(Clone, Copy)]
+struct Text<'a> {
+    header: usize,
+    parts: [&'a [u8]; 4],
+    limit: u64,
+    sections: usize,
+    ended: Result<(), CarFault>,
+}
+
+// Sections behind the header of the directory, which has 59 bytes.
+fn sections_of<'a>(
+    parts: [&'a [u8]; 3],
+    limit: u64,
+    sections: usize,
+    ended: Result<(), CarFault>,
+) -> Text<'a> {
+    Text {
+        header: 59,
+        parts: [DIRECTORY_HEADER, parts[0], parts[1], parts[2]],
+        limit,
+        sections,
+        ended,
+    }
+}
+
+// A header alone, or its refusal.
+fn header_of<'a>(header: usize, front: &'a [u8], ended: Result<(), CarFault>) -> Text<'a> {
+    Text {
+        header,
+        parts: [front, b"", b"", b""],
+        limit: 1000,
+        sections: 0,
+        ended,
+    }
+}
+
+const BAD_HEADER: Result<(), CarFault> = Err(CarFault::BadHeader { at: 0 });
+
+const BAD_SECTION: Result<(), CarFault> = Err(CarFault::BadSection { at: 59 });
+
+// 2 ^ 63 - 1, the greatest length.
+const HUGE: &[u8] = b"\xff\xff\xff\xff\xff\xff\xff\xff\x7f";
+
+// Texts that are refused are refused at their last byte, whatever follows it; the sections of the others are given whole.
+#[test]
+fn read(rt: HostRuntime) -> Result<(), Fail> {
+    let cid = &DIRECTORY_SECTION_HEAD[1..];
+    let rows = [
+        header_of(18, b"\x11\xa2\x65roots\x80\x67version\x01", Ok(())),
+        header_of(
+            23,
+            b"\x16\xa2\x65roots\x81\xd8\x2a\x42\x00\xff\x67version\x01",
+            Ok(()),
+        ),
+        header_of(
+            28,
+            b"\x1b\xa2\x65roots\x82\xd8\x2a\x42\x00\xff\xd8\x2a\x42\x00\xff\x67version\x01",
+            Ok(()),
+        ),
+        header_of(0, b"\x10", BAD_HEADER),
+        header_of(0, b"\x14", BAD_HEADER),
+        header_of(0, b"\xb0\x6d", BAD_HEADER),
+        header_of(0, b"\x11\xa2\x65roots\x81", BAD_HEADER),
+        header_of(0, b"", Err(CarFault::Torn { at: 0 })),
+        // Lengths below 34, not shortest and of ten bytes.
+        sections_of([b"\x00", b"", b""], 1000, 0, BAD_SECTION),
+        sections_of([b"\x21", b"", b""], 1000, 0, BAD_SECTION),
+        sections_of([b"\xa8\x00", b"", b""], 1000, 0, BAD_SECTION),
+        sections_of(
+            [b"\x80\x80\x80\x80\x80\x80\x80\x80\x80", b"", b""],
+            1000,
+            0,
+            BAD_SECTION,
+        ),
+        // CIDs refused at each of their first bytes; a CIDv1 has 36 bytes.
+        sections_of([b"\x28\x00", b"", b""], 1000, 0, BAD_SECTION),
+        sections_of([b"\x28\x02", b"", b""], 1000, 0, BAD_SECTION),
+        sections_of([b"\x22\x01", b"", b""], 1000, 0, BAD_SECTION),
+        sections_of([b"\x23\x01", b"", b""], 1000, 0, BAD_SECTION),
+        sections_of([b"\x28\x01\x71", b"", b""], 1000, 0, BAD_SECTION),
+        sections_of([b"\x28\x01\xd5", b"", b""], 1000, 0, BAD_SECTION),
+        sections_of([b"\x28\x01\x70\x13", b"", b""], 1000, 0, BAD_SECTION),
+        sections_of([b"\x28\x01\x55\x12\x21", b"", b""], 1000, 0, BAD_SECTION),
+        sections_of([b"\x28\x12\x21", b"", b""], 1000, 0, BAD_SECTION),
+        // A CID is looked at before the limit, which the last byte of the CID passes.
+        sections_of([HUGE, b"\x01\x55\x13", b""], 1000, 0, BAD_SECTION),
+        sections_of(
+            [HUGE, cid, b""],
+            1000,
+            0,
+            Err(CarFault::BlockLimit { number: 1000 }),
+        ),
+        sections_of(
+            [HUGE, DIRECTORY_ZERO, b""],
+            7,
+            0,
+            Err(CarFault::BlockLimit { number: 7 }),
+        ),
+        sections_of(
+            [DIRECTORY_SECTION_HEAD, b"", b""],
+            3,
+            0,
+            Err(CarFault::BlockLimit { number: 3 }),
+        ),
+        sections_of([DIRECTORY_SECTION_HEAD, DIRECTORY_BLOCK, b""], 4, 1, Ok(())),
+        // CIDv0 sections, and sections without block bytes.
+        sections_of([b"\x26", DIRECTORY_ZERO, DIRECTORY_BLOCK], 1000, 1, Ok(())),
+        sections_of([b"\x22", DIRECTORY_ZERO, b""], 0, 1, Ok(())),
+        sections_of([b"\x24", cid, b""], 0, 1, Ok(())),
+        // The second section.
+        sections_of(
+            [DIRECTORY_SECTION_HEAD, DIRECTORY_BLOCK, b"\x21"],
+            1000,
+            1,
+            Err(CarFault::BadSection { at: 100 }),
+        ),
+        sections_of(
+            [DIRECTORY_SECTION_HEAD, DIRECTORY_BLOCK, b"\x28"],
+            1000,
+            1,
+            Err(CarFault::Torn { at: 100 }),
+        ),
+    ];
+    for row in rows {
+        let mut text = Vec::new(rt.alloc());
+        for part in row.parts {
+            text.extend_from_slice(part)?;
+        }
+        check(&rt, row, text.as_slice())?;
+    }
+    Ok(())
+}
+
+fn check(rt: &(impl Abort + AllocGlobal), row: Text, text: &[u8]) -> Result<(), Fail> {
+    let torn = matches!(row.ended, Err(CarFault::Torn { .. }));
+    let refused = row.ended.is_err() && !torn;
+    for size in [1, 7, 100, 1000] {
+        let answers = read_in_pieces(rt.alloc(), row.limit, text, size)?;
+        assert_eq!(rt; answers.ended, row.ended);
+        assert!(rt; answers.kept);
+        assert_eq!(rt; answers.header, row.header > 0);
+        assert_eq!(rt; answers.sections, row.sections);
+        if !refused {
+            assert_eq!(rt; answers.taken, text.len());
+        } else if size == 1 {
+            assert_eq!(rt; answers.taken + 1, text.len());
+        }
+        let sections = text.get(row.header..).unwrap_or(b"");
+        assert!(rt; sections.starts_with(answers.again.as_slice()));
+        if row.ended.is_ok() {
+            assert_eq!(rt; answers.again.len(), sections.len());
+        }
+    }
+    if refused {
+        let mut longer = Vec::from_slice(rt.alloc(), text)?;
+        longer.extend_from_slice(text)?;
+        let answers = read_in_pieces(rt.alloc(), row.limit, longer.as_slice(), 1000)?;
+        assert_eq!(rt; answers.ended, row.ended);
+        assert_eq!(rt; answers.sections, row.sections);
+    }
+    Ok(())
+}
+
+#[test]
+fn cut(rt: HostRuntime) -> Result<(), Fail> {
+    let mut text = Vec::from_slice(rt.alloc(), DIRECTORY_HEADER)?;
+    text.extend_from_slice(DIRECTORY_SECTION_HEAD)?;
+    text.extend_from_slice(DIRECTORY_BLOCK)?;
+    let text = text.as_slice();
+    assert_eq!(rt; text.len(), 100);
+    for end in 0..=text.len() {
+        let ended = match end {
+            0..59 => Err(CarFault::Torn { at: 0 }),
+            59 | 100 => Ok(()),
+            _ => Err(CarFault::Torn { at: 59 }),
+        };
+        for size in [1, 7, 100] {
+            let answers = read_in_pieces(rt.alloc(), 4, &text[..end], size)?;
+            assert_eq!(rt; answers.ended, ended);
+            assert!(rt; answers.kept);
+            assert_eq!(rt; answers.header, end >= 59);
+            assert_eq!(rt; answers.sections, usize::from(end == 100));
+            assert_eq!(rt; answers.taken, end);
+        }
+    }
+
+    // 10,000 sections behind the header.
+    let mut long = Vec::from_slice(rt.alloc(), DIRECTORY_HEADER)?;
+    for _ in 0..10_000 {
+        long.extend_from_slice(&text[59..])?;
+    }
+    for size in [7, 65_536] {
+        let answers = read_in_pieces(rt.alloc(), 4, long.as_slice(), size)?;
+        assert_eq!(rt; answers.ended, Ok(()));
+        assert_eq!(rt; answers.sections, 10_000);
+        assert!(rt; long.as_slice().ends_with(answers.again.as_slice()));
+        assert_eq!(rt; answers.again.len(), 410_000);
+    }
+    none_missed();
+    one_division();
+    Ok(())
+}

@@ -1,0 +1,68 @@
+//! CARs written: the header, and what stands before a block.
+ghost use Rattle.std.specs.Prelude.{◌≡◌, ℕ, ◌+◌, ◌-◌, ◌<◌, ◌≤◌, List, ◌++◌, length, take, drop, replicate, All, IfOk};
+ghost use Rattle.tg_car.specs.CarText.{SectionText};
+ghost use Rattle.tg_car.specs.Writing.{HeaderOf};
+
+use std::alloc::{AllocError, Global};
+use tg_cid::Cid;
+use tg_edges::Bytes;
+
+// What stands before and behind the CID in the header of one root, whose CIDv1 has 36 bytes: the length, the map up to
+// the byte string of 37 bytes and its zero byte, and the version.
+const BEFORE: [u8; 14] = [
+    0x3a, 0xa2, 0x65, b'r', b'o', b'o', b't', b's', 0x81, 0xd8, 0x2a, 0x58, 0x25, 0x00,
+];
+
+const BEHIND: [u8; 9] = [0x67, b'v', b'e', b'r', b's', b'i', b'o', b'n', 1];
+
+// How many bytes the length of a section and its CID have at most.
+const HEAD: usize = 142;
+
+/// The header of a CAR with one root, in its version 1 form. The error is want of memory.
+///
+/// CARv1 specification, Header; DAG-CBOR.
+pub fn header(alloc: Global, root: &Cid) -> Result<Bytes, AllocError>
+    ensures { IfOk result (λ bytes. HeaderOf root.now bytes) }
+{
+    let (name, size) = root.to_v1().spelling();
+    let mut bytes = Bytes::of(alloc, &BEFORE)?;
+    bytes.push_all(&name[..size])?;
+    bytes.push_all(&BEHIND)?;
+    Ok(bytes)
+}
+
+/// The length and the CID before a block of `size` bytes, at most 2,097,152, in the front of an array whose other bytes
+/// are zero, and how many they are. It takes no memory.
+///
+/// CARv1 specification, Data.
+pub fn section_head(cid: &Cid, size: u64) -> ([u8; HEAD], usize)
+    requires { size ≤ 2097152 }
+    ensures size { result.1 ≤ 142 }
+    ensures head { (block : List ℕ) → length block ≡ size → All (λ b. b < 256) block
+        → SectionText (record { cid = cid.now; block = block }) (take result.1 result.0 ++ block) }
+    ensures rest { drop result.1 result.0 ≡ replicate (142 - result.1) 0 }
+{
+    let (name, name_size) = cid.spelling();
+    let (number, number_size) = tg_varint::write(name_size as u64 + size);
+    let mut head = [0; HEAD];
+    fill_both(&mut head, &number[..number_size], &name[..name_size]);
+    (head, number_size + name_size)
+}
+
+/// Copies the one bytes and then the others into the front of the room.
+fn fill_both(room: &mut [u8], first: &[u8], second: &[u8])
+    requires { length first.now + length second.now ≤ length room.old }
+    ensures { room.new ≡ first.now ++ (second.now ++ drop (length first.now + length second.now) room.old) }
+{
+    let (head, rest) = room.split_at_mut(first.len());
+    head.copy_from_slice(first);
+    fill_front(rest, second);
+}
+
+/// Copies the bytes into the front of the room.
+fn fill_front(room: &mut [u8], bytes: &[u8])
+    requires { length bytes.now ≤ length room.old }
+    ensures { room.new ≡ bytes.now ++ drop (length bytes.now) room.old }
+{
+    room[..bytes.len()].copy_from_slice(bytes);
+}
