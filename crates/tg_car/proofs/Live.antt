@@ -199,7 +199,7 @@ size_more roots live =
         more = tail.0;
         is = zeros_root size (omega arith) (omega arith);
         size_is = zeros_long size (omega arith);
-        whole = refl;
+        whole = refl {a = zeros size ++ tail.0};
         behind = subst (λ n. RootsThen (roots.count - 1) n tail.0) left tail.1;
       }),
     )
