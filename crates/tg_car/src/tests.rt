@@ -29,6 +29,18 @@ const DIRECTORY_ZERO: &[u8] =
 // The end of each header.
 const END: &[u8] = b"\x67version\x01";
 
+// The texts of roots of 2, 24, 37 and 200 bytes. Any bytes may stand behind the zero byte.
+const SMALL: &[u8] = b"\xd8\x2a\x42\x00\xff";
+
+const MIDDLE: &[u8] = b"\xd8\x2a\x58\x18\x00abcdefghijklmnopqrstuvw";
+
+const CID: &[u8] = b"\xd8\x2a\x58\x25\x00\x01\x70\x12\x20abcdefghijklmnopqrstuvwxyz012345";
+
+const LARGE: &[u8] =
+    b"\xd8\x2a\x58\xc8\x00abcdefghijklmnopqrstuvwxyzabcdefghijklmnopqrstuvwxyzabcdefghijklmnopqrst\
+        uvwxyzabcdefghijklmnopqrstuvwxyzabcdefghijklmnopqrstuvwxyzabcdefghijklmnopqrstuvwxyzabcdefghi\
+        jklmnopqrstuvwxyzabcdefghijklmnopq";
+
 // What becomes of bytes as a header.
 #[derive(Clone, Copy, Debug, PartialEq, Eq)]
 enum Outcome {
@@ -55,297 +67,261 @@ fn outcome_of(bytes: &[u8]) -> Outcome {
     }
 }
 
-// A front of a header, and its roots, each of these bytes, and so many; and what is behind them.
-#[derive(Clone, Copy)]
-struct Case<'a> {
-    front: &'a [u8],
-    root: &'a [u8],
-    count: usize,
-    behind: &'a [u8],
-    wanted: Outcome,
-}
-
-fn row<'a>(
-    front: &'a [u8],
-    root: &'a [u8],
-    count: usize,
-    behind: &'a [u8],
-    wanted: Outcome,
-) -> Case<'a> {
-    Case {
-        front,
-        root,
-        count,
-        behind,
-        wanted,
-    }
-}
+// The front of a header, a root and how many of it follow, and what is behind them; and the outcome.
+const HEADERS: [(&[u8], &[u8], usize, &[u8], Outcome); 61] = [
+    // Lengths: 17 is the least, and the next is 22; 13,074 is the greatest, and each is in its shortest spelling.
+    (b"", b"", 0, b"", Outcome::Inside),
+    (b"\x00", b"", 0, b"", Outcome::Refused(0)),
+    (b"\x10", b"", 0, b"", Outcome::Refused(0)),
+    (b"\x11", b"", 0, b"", Outcome::Inside),
+    (b"\x12", b"", 0, b"", Outcome::Refused(0)),
+    (b"\x14", b"", 0, b"", Outcome::Refused(0)),
+    (b"\x15", b"", 0, b"", Outcome::Refused(0)),
+    (b"\x16", b"", 0, b"", Outcome::Inside),
+    (b"\x7f", b"", 0, b"", Outcome::Inside),
+    (b"\x91\x00", b"", 0, b"", Outcome::Refused(1)),
+    (b"\x80\x01", b"", 0, b"", Outcome::Inside),
+    (b"\x92\x66", b"", 0, b"", Outcome::Inside),
+    (b"\x93\x66", b"", 0, b"", Outcome::Refused(1)),
+    (b"\xb0\x6d", b"", 0, b"", Outcome::Refused(1)),
+    (b"\x80\x80", b"", 0, b"", Outcome::Refused(1)),
+    // No roots.
+    (b"\x11\xa2\x65roots\x80", b"", 0, END, Outcome::Whole),
+    (
+        b"\x11\xa2\x65roots\x80",
+        b"",
+        0,
+        b"\x67version",
+        Outcome::Inside,
+    ),
+    (
+        b"\x11\xa2\x65roots\x80",
+        b"",
+        0,
+        b"\x67version\x02",
+        Outcome::Refused(17),
+    ),
+    (
+        b"\x11\xa2\x65roots\x80",
+        b"",
+        0,
+        b"\x67version\x01\x00",
+        Outcome::Refused(18),
+    ),
+    (b"\x11\xa1", b"", 0, b"", Outcome::Refused(1)),
+    (b"\x11\xa2\x67", b"", 0, b"", Outcome::Refused(2)),
+    (b"\x11\xa2\x65root\x00", b"", 0, b"", Outcome::Refused(7)),
+    (b"\x11\xa2\x65roots\x81", b"", 0, b"", Outcome::Refused(8)),
+    (b"\x16\xa2\x65roots\x80", b"", 0, b"", Outcome::Refused(8)),
+    // One root: 44 bytes would leave it 27.
+    (b"\x16\xa2\x65roots\x81", SMALL, 1, END, Outcome::Whole),
+    (b"\x16\xa2\x65roots\x82", b"", 0, b"", Outcome::Refused(8)),
+    (b"\x2b\xa2\x65roots\x81", b"", 0, b"", Outcome::Inside),
+    (b"\x2c\xa2\x65roots\x81", b"", 0, b"", Outcome::Refused(8)),
+    (b"\x2c\xa2\x65roots\x82", b"", 0, b"", Outcome::Inside),
+    (b"\x2d\xa2\x65roots\x81", MIDDLE, 1, END, Outcome::Whole),
+    (b"\xdd\x01\xa2\x65roots\x81", LARGE, 1, END, Outcome::Whole),
+    (
+        b"\xde\x01\xa2\x65roots\x81",
+        b"",
+        0,
+        b"",
+        Outcome::Refused(9),
+    ),
+    // The parts of a root.
+    (
+        b"\x16\xa2\x65roots\x81\xd9",
+        b"",
+        0,
+        b"",
+        Outcome::Refused(9),
+    ),
+    (
+        b"\x16\xa2\x65roots\x81\xd8\x2b",
+        b"",
+        0,
+        b"",
+        Outcome::Refused(10),
+    ),
+    (
+        b"\x16\xa2\x65roots\x81\xd8\x2a\x41",
+        b"",
+        0,
+        b"",
+        Outcome::Refused(11),
+    ),
+    (
+        b"\x16\xa2\x65roots\x81\xd8\x2a\x43",
+        b"",
+        0,
+        b"",
+        Outcome::Refused(11),
+    ),
+    (
+        b"\x16\xa2\x65roots\x81\xd8\x2a\x42\x01",
+        b"",
+        0,
+        b"",
+        Outcome::Refused(12),
+    ),
+    (
+        b"\x2b\xa2\x65roots\x81\xd8\x2a\x58",
+        b"",
+        0,
+        b"",
+        Outcome::Refused(11),
+    ),
+    (
+        b"\x2d\xa2\x65roots\x81\xd8\x2a\x58\x17",
+        b"",
+        0,
+        b"",
+        Outcome::Refused(12),
+    ),
+    (
+        b"\x2d\xa2\x65roots\x81\xd8\x2a\x58\x19",
+        b"",
+        0,
+        b"",
+        Outcome::Refused(12),
+    ),
+    (
+        b"\x2d\xa2\x65roots\x81\xd8\x2a\x59",
+        b"",
+        0,
+        b"",
+        Outcome::Refused(11),
+    ),
+    (
+        b"\xd2\x02\xa2\x65roots\x82\xd8\x2a\x58\xc9",
+        b"",
+        0,
+        b"",
+        Outcome::Refused(13),
+    ),
+    (
+        b"\x16\xa2\x65roots\x81",
+        SMALL,
+        1,
+        b"\xd8",
+        Outcome::Refused(14),
+    ),
+    // Two roots: 32 bytes for both leave 27 for none behind one of 5.
+    (b"\x63\xa2\x65roots\x82", CID, 2, END, Outcome::Whole),
+    (b"\x1b\xa2\x65roots\x82", SMALL, 2, END, Outcome::Whole),
+    (
+        b"\x1b\xa2\x65roots\x82",
+        SMALL,
+        1,
+        END,
+        Outcome::Refused(14),
+    ),
+    (
+        b"\x31\xa2\x65roots\x82\xd8\x2a\x42",
+        b"",
+        0,
+        b"",
+        Outcome::Refused(11),
+    ),
+    (
+        b"\x31\xa2\x65roots\x82\xd8\x2a\x43",
+        b"",
+        0,
+        b"",
+        Outcome::Inside,
+    ),
+    // Counts of one byte go to 23, and of two from 24 to 64.
+    (b"\x84\x01\xa2\x65roots\x97", SMALL, 23, END, Outcome::Whole),
+    (
+        b"\x89\x01\xa2\x65roots\x98",
+        b"",
+        0,
+        b"",
+        Outcome::Refused(9),
+    ),
+    (b"\x8a\x01\xa2\x65roots\x98", b"", 0, b"", Outcome::Inside),
+    (
+        b"\x8a\x01\xa2\x65roots\x98\x17",
+        b"",
+        0,
+        b"",
+        Outcome::Refused(10),
+    ),
+    (
+        b"\x8a\x01\xa2\x65roots\x98\x18",
+        SMALL,
+        24,
+        END,
+        Outcome::Whole,
+    ),
+    (
+        b"\x8a\x01\xa2\x65roots\x98\x19",
+        b"",
+        0,
+        b"",
+        Outcome::Refused(10),
+    ),
+    (
+        b"\xd2\x02\xa2\x65roots\x98\x40",
+        SMALL,
+        64,
+        END,
+        Outcome::Whole,
+    ),
+    (
+        b"\xd7\x02\xa2\x65roots\x98\x41",
+        b"",
+        0,
+        b"",
+        Outcome::Refused(10),
+    ),
+    (
+        b"\x84\x01\xa2\x65roots\x99",
+        b"",
+        0,
+        b"",
+        Outcome::Refused(9),
+    ),
+    // The longest header: 64 roots of 200 bytes each.
+    (
+        b"\x92\x66\xa2\x65roots\x98\x40",
+        LARGE,
+        64,
+        END,
+        Outcome::Whole,
+    ),
+    (
+        b"\x92\x66\xa2\x65roots\x98\x40",
+        LARGE,
+        64,
+        b"\x67version\x01\x01",
+        Outcome::Refused(13076),
+    ),
+    (
+        b"\x92\x66\xa2\x65roots\x98\x3f",
+        b"",
+        0,
+        b"",
+        Outcome::Refused(10),
+    ),
+    (
+        b"\x92\x66\xa2\x65roots\x98\x40\xd8\x2a\x58\xc7",
+        b"",
+        0,
+        b"",
+        Outcome::Refused(14),
+    ),
+];
 
 #[test]
 fn headers(rt: HostRuntime) -> Result<(), Fail> {
-    // Any bytes may stand behind the zero byte of a root.
-    let small: &[u8] = b"\xd8\x2a\x42\x00\xff";
-    let middle: &[u8] = b"\xd8\x2a\x58\x18\x00abcdefghijklmnopqrstuvw";
-    let mut large = [7; 204];
-    large[..5].copy_from_slice(b"\xd8\x2a\x58\xc8\x00");
-    let large: &[u8] = &large;
-    let rows = [
-        // Lengths: 17 is the least, and the next is 22; 13,074 is the greatest, and each is in its shortest spelling.
-        row(b"", b"", 0, b"", Outcome::Inside),
-        row(b"\x00", b"", 0, b"", Outcome::Refused(0)),
-        row(b"\x10", b"", 0, b"", Outcome::Refused(0)),
-        row(b"\x11", b"", 0, b"", Outcome::Inside),
-        row(b"\x12", b"", 0, b"", Outcome::Refused(0)),
-        row(b"\x14", b"", 0, b"", Outcome::Refused(0)),
-        row(b"\x15", b"", 0, b"", Outcome::Refused(0)),
-        row(b"\x16", b"", 0, b"", Outcome::Inside),
-        row(b"\x7f", b"", 0, b"", Outcome::Inside),
-        row(b"\x91\x00", b"", 0, b"", Outcome::Refused(1)),
-        row(b"\x80\x01", b"", 0, b"", Outcome::Inside),
-        row(b"\x92\x66", b"", 0, b"", Outcome::Inside),
-        row(b"\x93\x66", b"", 0, b"", Outcome::Refused(1)),
-        row(b"\xb0\x6d", b"", 0, b"", Outcome::Refused(1)),
-        row(b"\x80\x80", b"", 0, b"", Outcome::Refused(1)),
-        // No roots.
-        row(b"\x11\xa2\x65roots\x80", b"", 0, END, Outcome::Whole),
-        row(
-            b"\x11\xa2\x65roots\x80",
-            b"",
-            0,
-            b"\x67version",
-            Outcome::Inside,
-        ),
-        row(
-            b"\x11\xa2\x65roots\x80",
-            b"",
-            0,
-            b"\x67version\x02",
-            Outcome::Refused(17),
-        ),
-        row(
-            b"\x11\xa2\x65roots\x80",
-            b"",
-            0,
-            b"\x67version\x01\x00",
-            Outcome::Refused(18),
-        ),
-        row(b"\x11\xa1", b"", 0, b"", Outcome::Refused(1)),
-        row(b"\x11\xa2\x67", b"", 0, b"", Outcome::Refused(2)),
-        row(b"\x11\xa2\x65root\x00", b"", 0, b"", Outcome::Refused(7)),
-        row(b"\x11\xa2\x65roots\x81", b"", 0, b"", Outcome::Refused(8)),
-        row(b"\x16\xa2\x65roots\x80", b"", 0, b"", Outcome::Refused(8)),
-        // One root: 44 bytes would leave it 27.
-        row(b"\x16\xa2\x65roots\x81", small, 1, END, Outcome::Whole),
-        row(b"\x16\xa2\x65roots\x82", b"", 0, b"", Outcome::Refused(8)),
-        row(b"\x2b\xa2\x65roots\x81", b"", 0, b"", Outcome::Inside),
-        row(b"\x2c\xa2\x65roots\x81", b"", 0, b"", Outcome::Refused(8)),
-        row(b"\x2c\xa2\x65roots\x82", b"", 0, b"", Outcome::Inside),
-        row(b"\x2d\xa2\x65roots\x81", middle, 1, END, Outcome::Whole),
-        row(b"\xdd\x01\xa2\x65roots\x81", large, 1, END, Outcome::Whole),
-        row(
-            b"\xde\x01\xa2\x65roots\x81",
-            b"",
-            0,
-            b"",
-            Outcome::Refused(9),
-        ),
-        // The parts of a root.
-        row(
-            b"\x16\xa2\x65roots\x81\xd9",
-            b"",
-            0,
-            b"",
-            Outcome::Refused(9),
-        ),
-        row(
-            b"\x16\xa2\x65roots\x81\xd8\x2b",
-            b"",
-            0,
-            b"",
-            Outcome::Refused(10),
-        ),
-        row(
-            b"\x16\xa2\x65roots\x81\xd8\x2a\x41",
-            b"",
-            0,
-            b"",
-            Outcome::Refused(11),
-        ),
-        row(
-            b"\x16\xa2\x65roots\x81\xd8\x2a\x43",
-            b"",
-            0,
-            b"",
-            Outcome::Refused(11),
-        ),
-        row(
-            b"\x16\xa2\x65roots\x81\xd8\x2a\x42\x01",
-            b"",
-            0,
-            b"",
-            Outcome::Refused(12),
-        ),
-        row(
-            b"\x2b\xa2\x65roots\x81\xd8\x2a\x58",
-            b"",
-            0,
-            b"",
-            Outcome::Refused(11),
-        ),
-        row(
-            b"\x2d\xa2\x65roots\x81\xd8\x2a\x58\x17",
-            b"",
-            0,
-            b"",
-            Outcome::Refused(12),
-        ),
-        row(
-            b"\x2d\xa2\x65roots\x81\xd8\x2a\x58\x19",
-            b"",
-            0,
-            b"",
-            Outcome::Refused(12),
-        ),
-        row(
-            b"\x2d\xa2\x65roots\x81\xd8\x2a\x59",
-            b"",
-            0,
-            b"",
-            Outcome::Refused(11),
-        ),
-        row(
-            b"\xd2\x02\xa2\x65roots\x82\xd8\x2a\x58\xc9",
-            b"",
-            0,
-            b"",
-            Outcome::Refused(13),
-        ),
-        row(
-            b"\x16\xa2\x65roots\x81",
-            small,
-            1,
-            b"\xd8",
-            Outcome::Refused(14),
-        ),
-        // Two roots: 32 bytes for both leave 27 for none behind one of 5.
-        row(
-            b"\x63\xa2\x65roots\x82",
-            &DIRECTORY_HEADER[9..50],
-            2,
-            END,
-            Outcome::Whole,
-        ),
-        row(b"\x1b\xa2\x65roots\x82", small, 2, END, Outcome::Whole),
-        row(
-            b"\x1b\xa2\x65roots\x82",
-            small,
-            1,
-            END,
-            Outcome::Refused(14),
-        ),
-        row(
-            b"\x31\xa2\x65roots\x82\xd8\x2a\x42",
-            b"",
-            0,
-            b"",
-            Outcome::Refused(11),
-        ),
-        row(
-            b"\x31\xa2\x65roots\x82\xd8\x2a\x43",
-            b"",
-            0,
-            b"",
-            Outcome::Inside,
-        ),
-        // Counts of one byte go to 23, and of two from 24 to 64.
-        row(b"\x84\x01\xa2\x65roots\x97", small, 23, END, Outcome::Whole),
-        row(
-            b"\x89\x01\xa2\x65roots\x98",
-            b"",
-            0,
-            b"",
-            Outcome::Refused(9),
-        ),
-        row(b"\x8a\x01\xa2\x65roots\x98", b"", 0, b"", Outcome::Inside),
-        row(
-            b"\x8a\x01\xa2\x65roots\x98\x17",
-            b"",
-            0,
-            b"",
-            Outcome::Refused(10),
-        ),
-        row(
-            b"\x8a\x01\xa2\x65roots\x98\x18",
-            small,
-            24,
-            END,
-            Outcome::Whole,
-        ),
-        row(
-            b"\x8a\x01\xa2\x65roots\x98\x19",
-            b"",
-            0,
-            b"",
-            Outcome::Refused(10),
-        ),
-        row(
-            b"\xd2\x02\xa2\x65roots\x98\x40",
-            small,
-            64,
-            END,
-            Outcome::Whole,
-        ),
-        row(
-            b"\xd7\x02\xa2\x65roots\x98\x41",
-            b"",
-            0,
-            b"",
-            Outcome::Refused(10),
-        ),
-        row(
-            b"\x84\x01\xa2\x65roots\x99",
-            b"",
-            0,
-            b"",
-            Outcome::Refused(9),
-        ),
-        // The longest header: 64 roots of 200 bytes each.
-        row(
-            b"\x92\x66\xa2\x65roots\x98\x40",
-            large,
-            64,
-            END,
-            Outcome::Whole,
-        ),
-        row(
-            b"\x92\x66\xa2\x65roots\x98\x40",
-            large,
-            64,
-            b"\x67version\x01\x01",
-            Outcome::Refused(13076),
-        ),
-        row(
-            b"\x92\x66\xa2\x65roots\x98\x3f",
-            b"",
-            0,
-            b"",
-            Outcome::Refused(10),
-        ),
-        row(
-            b"\x92\x66\xa2\x65roots\x98\x40\xd8\x2a\x58\xc7",
-            b"",
-            0,
-            b"",
-            Outcome::Refused(14),
-        ),
-    ];
-    for row in rows {
-        let mut bytes = Vec::from_slice(rt.alloc(), row.front)?;
-        for _ in 0..row.count {
-            bytes.extend_from_slice(row.root)?;
+    for (front, root, count, behind, wanted) in HEADERS {
+        let mut bytes = Vec::from_slice(rt.alloc(), front)?;
+        for _ in 0..count {
+            bytes.extend_from_slice(root)?;
         }
-        bytes.extend_from_slice(row.behind)?;
-        assert_eq!(rt; outcome_of(bytes.as_slice()), row.wanted);
+        bytes.extend_from_slice(behind)?;
+        assert_eq!(rt; outcome_of(bytes.as_slice()), wanted);
     }
     Ok(())
 }

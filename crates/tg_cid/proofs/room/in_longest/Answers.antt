@@ -1,4 +1,4 @@
-use Rattle.std.proofs.Common.{◌++◌, length, drop, replicate, refl, ap, ◌∙◌}
+use Rattle.std.proofs.Common.{length, drop, replicate, refl, ap, ◌∙◌}
 use Rattle.std.proofs.lemmas.List.{drop_at, drop-replicate}
 use Rattle.tg_cid.proofs.room.in_longest.Goals as goal
 
