@@ -1,17 +1,24 @@
-//! The edges of the program: lists of bytes, sources and sinks, their forms in memory and over the standard streams.
+//! The edges of the program: lists of bytes, sources and sinks, folders and packs, and their forms in memory and over
+//! the system.
 #![tactic(auto)]
 
+mod folders;
 mod lists;
 mod memory;
+mod packs;
 mod sinks;
 mod sources;
 mod standard;
+mod tree;
 
+pub use folders::{Folder, FolderFault, Item, Sort};
 pub use lists::{Bytes, List};
 pub use memory::{MemSink, MemSource};
+pub use packs::Pack;
 pub use sinks::{Sink, put_all};
 pub use sources::{Failed, Source, take_piece};
 pub use standard::{StdSink, StdSource};
+pub use tree::Tree;
 
 #[cfg(test)]
 mod tests;

@@ -1,0 +1,24 @@
+-- What a folder lists.
+use Rattle.std.specs.Prelude.{◌≡◌, ℕ, List, Option, Some, None, option_map, ⊤}
+use Rattle.std.specs.List.Sorted.{IsPermutation}
+use Rattle.tg_edges.specs.declared.folders.FolderFault.{FolderFault}
+use Rattle.tg_edges.specs.declared.folders.FolderFault.TheVariants.{Failed, OutOfMemory}
+use Rattle.tg_edges.specs.declared.folders.Item.{Item}
+use Rattle.tg_edges.specs.declared.tree.Tree.{Tree}
+use Rattle.tg_edges.specs.Streams.{Rose}
+use Rattle.tg_edges.specs.Tree.{child, items_of, sort_of}
+
+-- these are the names in a folder, each with its sort, in some order
+abbrev pub Lists : Option Tree → List Item → Type 0
+Lists (Some tree) items = IsPermutation (items_of tree) items
+Lists None items = ⊤
+
+-- below a folder the item's name leads to a tree of its sort
+abbrev pub Leads : Option Tree → Item → Type 0
+Leads (Some tree) item = option_map sort_of (child (Some tree) item.name) ≡ Some item.sort
+Leads None item = ⊤
+
+-- a fault of a folder is counted, and want of memory is not
+abbrev pub Counts : FolderFault → ℕ → ℕ → Type 0
+Counts Failed before now = Rose before now
+Counts OutOfMemory before now = now ≡ before
