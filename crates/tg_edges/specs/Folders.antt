@@ -22,3 +22,10 @@ Leads None item = ⊤
 abbrev pub Counts : FolderFault → ℕ → ℕ → Type 0
 Counts Failed before now = Rose before now
 Counts OutOfMemory before now = now ≡ before
+
+-- what a contract sees of a tree of files in memory that is read
+pub record FolderState : Type 0 where
+  pub tree : Tree
+  pub fails : List ℕ  -- the numbers of the calls that fail, counted from 0
+  pub calls : ℕ  -- how many calls were made
+  pub faults : ℕ  -- how many of them failed

@@ -33,3 +33,10 @@ emptied None = None
 -- what an attached pack holds: nothing where it is fresh, and else what it held
 abbrev pub attached : Bool → Option (List ℕ) → Option (List ℕ)
 attached fresh content = cond fresh (emptied content) content
+
+-- what a contract sees of a pack in memory
+pub record PackState : Type 0 where
+  pub content : Option (List ℕ)  -- what it holds, until a write fails
+  pub fails : List ℕ  -- the numbers of the calls that fail, counted from 0
+  pub calls : ℕ  -- how many calls were made
+  pub faults : ℕ  -- how many of them failed

@@ -2,8 +2,11 @@
 //! the system.
 #![tactic(auto)]
 
+mod calls;
 mod folders;
 mod lists;
+mod mem_folder;
+mod mem_pack;
 mod memory;
 mod packs;
 mod sinks;
@@ -13,6 +16,8 @@ mod tree;
 
 pub use folders::{Folder, FolderFault, Item, Sort};
 pub use lists::{Bytes, List};
+pub use mem_folder::MemFolder;
+pub use mem_pack::MemPack;
 pub use memory::{MemSink, MemSource};
 pub use packs::Pack;
 pub use sinks::{Sink, put_all};
