@@ -1,8 +1,9 @@
 -- Bytes that move in pieces.
-use Rattle.std.proofs.Common.{arith, min, ◌≡◌, ℕ, ◌+◌, ◌-◌, ◌<◌, ◌≤◌, List, [], ◌++◌, length, take, drop, Option, Some, None, Ok, Err, OnErr, refl, sym, ap, ◌∙◌, length-append, append_assoc, take-append-drop}
+use Rattle.std.proofs.Common.{arith, inl, inr, min, ◌≡◌, ℕ, ◌+◌, ◌-◌, ◌<◌, ◌≤◌, List, [], ◌++◌, length, take, drop, Option, Some, None, Ok, Err, OnErr, refl, sym, ap, ◌∙◌, length-append, append_assoc, take-append-drop}
 use Rattle.std.proofs.Math.Seq.{take-add, take-append_seam, drop-drop}
 use Rattle.std.proofs.Math.ListN.{drop_of_length-le}
 use Rattle.std.proofs.Math.Nat.{min-eq_left}
+use Rattle.std.proofs.lemmas.Bool.{cases_lt}
 use Rattle.std.proofs.lemmas.List.{take_rest, length-take, length-drop}
 use Rattle.std.specs.declared.result.Result.{Result}
 use Rattle.tg_edges.specs.Streams.{grown}
@@ -37,3 +38,22 @@ took_none piece at n copied buf bytes p room e amount none =
     let size = ap length e ∙ length-take n (drop at bytes) in
     let left = length-drop at bytes in
     drop_of_length-le bytes (omega arith)
+
+-- an offset past the end is one at the end
+pub drop_to_end : (a b : ℕ) (xs : List ℕ) → a ≡ min (length xs) b → drop a xs ≡ drop b xs
+drop_to_end a b xs e = elim (cases_lt (length xs) b) [
+    inl past ↦ drop_of_length-le xs (omega arith) ∙ sym (drop_of_length-le xs (omega arith))
+  | inr within ↦ let same : a ≡ b = omega arith in ap (λ n. drop n xs) same
+  ]
+
+-- What was copied from an offset into the front of a buffer is what stands there.
+pub read_from : (copied buf content : List ℕ) (offset at n : ℕ) → copied ≡ take n (take (length content - at) (drop at content)) → at ≡ min (length content) offset
+    → n ≡ min (length buf) (length (take (length content - at) (drop at content))) → drop offset content ≡ take n (copied ++ drop n buf) ++ drop (offset + n) content
+read_from copied buf content offset at n e from amount =
+    let whole : take (length content - at) (drop at content) ≡ drop at content = take_rest content at in
+    let size : n ≡ min (length buf) (length (drop at content)) = rw whole at amount in
+    let left = length-drop at content in
+    let same : drop at content ≡ drop offset content = drop_to_end at offset content from in
+    let behind : drop (at + n) content ≡ drop (offset + n) content = drop_to_end (at + n) (offset + n) content (omega arith) in
+    let piece = took_front copied buf content at n (e ∙ ap (take n) whole) (omega arith) in
+    sym same ∙ piece ∙ ap (λ xs. take n (copied ++ drop n buf) ++ xs) behind

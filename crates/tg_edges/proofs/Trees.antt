@@ -1,18 +1,20 @@
 -- Places in trees, and trees in which the names differ.
-use Rattle.std.proofs.Common.{◌≡◌, ℕ, zero, suc, ◌<◌, ◌+◌, List, [], ◌∷◌, ◌++◌, length, take, drop, get_or, map, Bool, true, false, Option, Some, None, IfSome, All, is_some, option_copied, ap, sym, refl, ◌∙◌, subst, arith, add-one, drop-cons}
+use Rattle.std.proofs.Common.{◌≡◌, ℕ, zero, suc, ◌<◌, ◌+◌, List, [], ◌∷◌, ◌++◌, length, take, drop, get_or, map, Bool, true, false, Option, Some, None, IfSome, All, Result, Ok, Err, IfOk, option_map, is_some, option_copied, ap, sym, refl, ◌∙◌, subst, arith, add-one, drop-cons}
 use Rattle.std.proofs.lemmas.Cmp.{nat_list_eq_equiv}
 use Rattle.std.proofs.lemmas.Map.Entries.{All-lookup, lookup_from_place}
-use Rattle.std.proofs.lemmas.List.Elements.{All-push}
+use Rattle.std.proofs.lemmas.List.Elements.{All-push, All-map}
 use Rattle.std.proofs.lemmas.Map.Keys.{IsDistinct-head, IsDistinct-tail, IsDistinct-push}
 use Rattle.std.proofs.lemmas.Map.Made.{is_some-lookup}
-use Rattle.std.proofs.lemmas.Option.{slice_get_read}
+use Rattle.std.proofs.lemmas.Option.{slice_get_read, slice_get-get_or}
 use Rattle.std.proofs.Math.Seq.{take-suc}
 use denote.Ref.{Bor}
 use Rattle.std.specs.List.{IsDistinct, AllByRecursion, list_any, slice_get}
 use Rattle.std.specs.Map.{keys_of, lookup}
 use Rattle.std.specs.Str.{bytes_eq}
 use Rattle.tg_edges.specs.declared.tree.Tree.{Tree}
-use Rattle.tg_edges.specs.Tree.{NamesDiffer, child, entries_of, names_of, tree_at}
+use Rattle.tg_edges.specs.declared.folders.Item.{Item}
+use Rattle.tg_edges.specs.Folders.{Leads}
+use Rattle.tg_edges.specs.Tree.{NamesDiffer, child, entries_of, item_of, items_of, names_of, sort_of, tree_at}
 
 -- nothing stands below nothing
 pub nothing_below : (path : List (List ℕ)) → tree_at None path ≡ None
@@ -86,3 +88,25 @@ found_again tree i e h at some differ =
 pub is_some-copied : {X : Type 0} (o : Option (Bor X)) → is_some (option_copied o) ≡ is_some o
 is_some-copied None = refl
 is_some-copied (Some x) = refl
+
+pub none_found : (o : Option (Bor Tree)) (key name : List ℕ) (es fs : List (List ℕ × Tree)) → option_copied o ≡ lookup (bytes_eq key) es → key ≡ name → es ≡ fs → o ≡ None → lookup (bytes_eq name) fs ≡ None
+none_found o key name es fs found k e none = let copied = ap option_copied none in cc
+
+-- in a folder in which the names differ each name leads to what has it
+pub entries_lead : (tree : Tree) → IsDistinct bytes_eq (keys_of (entries_of tree)) → All (λ e. Leads (Some tree) (item_of e)) (entries_of tree)
+entries_lead tree h k d inside =
+    let es = entries_of tree in
+    let e : List ℕ × Tree = get_or es k d in
+    let found : lookup (bytes_eq e.0) es ≡ Some e.1 = lookup_from_place nat_list_eq_equiv es k e.0 e.1 h (slice_get-get_or es k d inside) in
+    ap (option_map sort_of) found
+
+pub items_lead : (tree : Tree) (path : List (List ℕ)) (found : Option Tree) (items : List Item) → NamesDiffer tree → tree_at (Some tree) path ≡ found → IfSome found (λ t. items ≡ items_of t) → All (Leads found) items
+items_lead tree path None items differ at e = λ k d h. tt
+items_lead tree path (Some t) items differ at e =
+    let here : IsDistinct bytes_eq (keys_of (entries_of t)) = subst (λ (o : Option Tree). IsDistinct bytes_eq (names_of o)) at (differ path) in
+    subst (All (Leads (Some t))) (sym e) (All-map (Leads (Some t)) item_of (entries_of t) (entries_lead t here))
+
+pub listed_lead : {E : Type 0} (tree : Tree) (path : List (List ℕ)) (r : Result (List Item) E) → NamesDiffer tree → IfOk r (λ items. IfSome (tree_at (Some tree) path) (λ t. items ≡ items_of t))
+    → IfOk r (λ items. All (Leads (tree_at (Some tree) path)) items)
+listed_lead tree path (Err e) differ h = tt
+listed_lead tree path (Ok items) differ h = items_lead tree path (tree_at (Some tree) path) items differ refl h

@@ -36,6 +36,7 @@ impl Calls {
         ensures made { self.new.made ≡ counted self.old.made }
         ensures quiet { OnOk result (self.new.faults ≡ self.old.faults) }
         ensures err { OnErr result (self.new.faults ≡ counted self.old.faults) }
+        ensures err_counted { OnErr result (self.old.faults ≤ self.new.faults) }
     {
         let fails = self.fails.as_slice().contains(&self.made);
         self.made = self.made.saturating_add(1);
@@ -44,7 +45,8 @@ impl Calls {
 
     /// Counts a fault of the call that is under way.
     pub(crate) fn fault(&mut self) -> Failed
-        ensures { self.new ≡ record { fails = self.old.fails; made = self.old.made; faults = counted self.old.faults } }
+        ensures count { self.new ≡ record { fails = self.old.fails; made = self.old.made; faults = counted self.old.faults } }
+        ensures counted { self.old.faults ≤ self.new.faults }
     {
         self.faults = self.faults.saturating_add(1);
         Failed

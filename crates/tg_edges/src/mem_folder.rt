@@ -25,8 +25,12 @@ pub struct MemFolder {
 impl Model for MemFolder {
     ghost use Rattle.tg_edges.specs.Folders.{FolderState};
     ghost use Rattle.tg_edges.specs.Tree.{IsFolderOfFiles};
+    ghost use Rattle.tg_edges.specs.contracts.tree.Tree as trees;
+    ghost use Rattle.std.specs.Coded.{codes};
 
     ghost Value = { FolderState };
+
+    ghost coded = { Prim.hlevel (codes, trees.the_row.coded) };
 
     ghost view = { λ f. record { tree = f.tree; fails = f.calls.fails; calls = f.calls.made; faults = f.calls.faults } };
 
@@ -124,10 +128,6 @@ impl Folder for MemFolder {
         ensures err_count { OnErr result (self.new.faults ≡ counted self.old.faults) }
     {
         self.calls.next()?;
-        let bytes = match self.tree.at(path) {
-            Some(found) => found.bytes(),
-            None => &[],
-        };
-        Ok(read_front(bytes, offset, buf))
+        Ok(read_front(self.tree.bytes_at(path), offset, buf))
     }
 }

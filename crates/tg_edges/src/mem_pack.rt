@@ -130,6 +130,7 @@ impl Pack for MemPack {
 
     /// It fails exactly where the call's number stands in the list that it was given.
     fn write_at(&mut self, offset: u64, bytes: &[u8]) -> Result<(), Failed>
+        requires { Reaches self.old.content (offset + length bytes.now) }
         ensures bytes { OnOk result (self.new.content ≡ overwritten self.old.content offset bytes.now) }
         ensures quiet { OnOk result (self.new.faults ≡ self.old.faults) }
         ensures err_content { OnErr result (self.new.content ≡ None) }

@@ -65,12 +65,12 @@ impl Tree {
         }
     }
 
-    /// The bytes of a file, and none of anything else.
-    pub(crate) fn bytes(&self) -> &[u8]
-        ensures { IfSome (bytes_of (Some self.now)) (λ bytes. result.now ≡ bytes) }
+    /// The bytes of the file at a path of names below the tree, and none where there is no file.
+    pub(crate) fn bytes_at(&self, path: &[Bytes]) -> &[u8]
+        ensures { IfSome (bytes_of (tree_at (Some self.now) path.now)) (λ bytes. result.now ≡ bytes) }
     {
-        match self {
-            Tree::File(bytes) => bytes.as_slice(),
+        match self.at(path) {
+            Some(Tree::File(bytes)) => bytes.as_slice(),
             _ => &[],
         }
     }
