@@ -1,5 +1,5 @@
 -- What a folder lists.
-use Rattle.std.specs.Prelude.{◌≡◌, ℕ, List, Option, Some, None, option_map, ⊤}
+use Rattle.std.specs.Prelude.{◌≡◌, ◌≢◌, ℕ, List, [], ◌∷◌, ◌++◌, Contains, Option, Some, None, option_map, ⊤}
 use Rattle.std.specs.List.Sorted.{IsPermutation}
 use Rattle.tg_edges.specs.declared.folders.FolderFault.{FolderFault}
 use Rattle.tg_edges.specs.declared.folders.FolderFault.TheVariants.{Failed, OutOfMemory}
@@ -22,6 +22,15 @@ Leads None item = ⊤
 abbrev pub Counts : FolderFault → ℕ → ℕ → Type 0
 Counts Failed before now = Rose before now
 Counts OutOfMemory before now = now ≡ before
+
+-- a name leads into a folder, and no further: it isn't empty, has no slash, and is neither one dot nor two
+abbrev pub IsEntryName : List ℕ → Type 0
+IsEntryName name = (name ≢ []) × (name ≢ 46 ∷ []) × (name ≢ 46 ∷ 46 ∷ []) × ¬ Contains name 47
+
+-- the path of the system that names lead to below a root
+abbrev pub path_below : List ℕ → List (List ℕ) → List ℕ
+path_below root [] = root
+path_below root (name ∷ names) = path_below (root ++ 47 ∷ name) names
 
 -- what a contract sees of a tree of files in memory that is read
 pub record FolderState : Type 0 where

@@ -4,6 +4,8 @@
 
 mod calls;
 mod folders;
+mod host_folder;
+mod host_pack;
 mod lists;
 mod mem_folder;
 mod mem_pack;
@@ -15,6 +17,8 @@ mod standard;
 mod tree;
 
 pub use folders::{Folder, FolderFault, Item, Sort};
+pub use host_folder::HostFolder;
+pub use host_pack::HostPack;
 pub use lists::{Bytes, List};
 pub use mem_folder::MemFolder;
 pub use mem_pack::MemPack;
