@@ -1,11 +1,12 @@
--- Bytes that move in pieces.
-use Rattle.std.proofs.Common.{arith, inl, inr, min, ◌≡◌, ℕ, ◌+◌, ◌-◌, ◌<◌, ◌≤◌, List, [], ◌++◌, length, take, drop, Option, Some, None, Ok, Err, OnErr, refl, sym, ap, ◌∙◌, length-append, append_assoc, take-append-drop}
+-- Bytes that move in pieces, and paths that grow by a name.
+use Rattle.std.proofs.Common.{arith, inl, inr, suc, get_or, drop-cons, add-one, ◌∷◌, min, ◌≡◌, ℕ, ◌+◌, ◌-◌, ◌<◌, ◌≤◌, List, [], ◌++◌, length, take, drop, Option, Some, None, Ok, Err, OnErr, refl, sym, ap, ◌∙◌, length-append, append_assoc, take-append-drop}
 use Rattle.std.proofs.Math.Seq.{take-add, take-append_seam, drop-drop}
 use Rattle.std.proofs.Math.ListN.{drop_of_length-le}
 use Rattle.std.proofs.Math.Nat.{min-eq_left}
 use Rattle.std.proofs.lemmas.Bool.{cases_lt}
 use Rattle.std.proofs.lemmas.List.{take_rest, length-take, length-drop}
 use Rattle.std.specs.declared.result.Result.{Result}
+use Rattle.tg_edges.specs.Folders.{path_below}
 use Rattle.tg_edges.specs.Streams.{grown}
 
 pub grown-grown : (held : Option (List ℕ)) (u v : List ℕ) → grown (grown held u) v ≡ grown held (u ++ v)
@@ -57,3 +58,10 @@ read_from copied buf content offset at n e from amount =
     let behind : drop (at + n) content ≡ drop (offset + n) content = drop_to_end (at + n) (offset + n) content (omega arith) in
     let piece = took_front copied buf content at n (e ∙ ap (take n) whole) (omega arith) in
     sym same ∙ piece ∙ ap (λ xs. take n (copied ++ drop n buf) ++ xs) behind
+
+-- a path that stands for one more name
+pub path_on : (root path : List ℕ) (names : List (List ℕ)) (i : ℕ) (name : List ℕ) → i < length names → name ≡ get_or names i name → path_below root names ≡ path_below path (drop i names)
+    → path_below root names ≡ path_below ((path ++ 47 ∷ []) ++ name) (drop (i + 1) names)
+path_on root path names i name h at so =
+    let here : drop i names ≡ name ∷ drop (i + 1) names = rw add-one (drop-cons names i name h ∙ ap (λ n. n ∷ drop (suc i) names) (sym at)) in
+    so ∙ ap (path_below path) here ∙ ap (λ p. path_below p (drop (i + 1) names)) (sym (append_assoc path (47 ∷ []) name))

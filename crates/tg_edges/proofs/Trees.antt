@@ -16,20 +16,15 @@ use Rattle.tg_edges.specs.declared.folders.Item.{Item}
 use Rattle.tg_edges.specs.Folders.{Leads}
 use Rattle.tg_edges.specs.Tree.{NamesDiffer, child, entries_of, item_of, items_of, names_of, sort_of, tree_at}
 
--- nothing stands below nothing
-pub nothing_below : (path : List (List ℕ)) → tree_at None path ≡ None
-nothing_below [] = refl
-nothing_below (name ∷ path) = nothing_below path
-
 -- a path leads nowhere where one of its names does
 pub led_nowhere : (start : Option Tree) (found : Tree) (path : List (List ℕ)) (i : ℕ) (name : List ℕ) → i < length path → name ≡ get_or path i name → start ≡ tree_at (Some found) (drop i path) → lookup (bytes_eq name) (entries_of found) ≡ None → start ≡ None
 led_nowhere start found path i name h at so none =
     let here : drop i path ≡ name ∷ drop (suc i) path = drop-cons path i name h ∙ ap (λ n. n ∷ drop (suc i) path) (sym at) in
-    so ∙ ap (tree_at (Some found)) here ∙ ap (λ (o : Option Tree). tree_at o (drop (suc i) path)) none ∙ nothing_below (drop (suc i) path)
+    so ∙ ap (tree_at (Some found)) here ∙ ap (λ (o : Option Tree). tree_at o (drop (suc i) path)) none
 
 pub no_names_below : (path : List (List ℕ)) → IsDistinct bytes_eq (names_of (tree_at None path))
 unfolding IsDistinct
-no_names_below path = rw nothing_below tt
+no_names_below path = tt
 
 pub differ_within : (found : Option Tree) → IfSome found NamesDiffer → (path : List (List ℕ)) → IsDistinct bytes_eq (names_of (tree_at found path))
 differ_within None h path = no_names_below path

@@ -1,12 +1,12 @@
 -- What a folder lists.
-use Rattle.std.specs.Prelude.{◌≡◌, ◌≢◌, ℕ, List, [], ◌∷◌, ◌++◌, Contains, Option, Some, None, option_map, ⊤}
+use Rattle.std.specs.Prelude.{◌≡◌, ◌≢◌, ℕ, List, [], ◌∷◌, ◌++◌, length, Contains, Option, Some, None, option_map, ⊤}
 use Rattle.std.specs.List.Sorted.{IsPermutation}
 use Rattle.tg_edges.specs.declared.folders.FolderFault.{FolderFault}
 use Rattle.tg_edges.specs.declared.folders.FolderFault.TheVariants.{Failed, OutOfMemory}
 use Rattle.tg_edges.specs.declared.folders.Item.{Item}
 use Rattle.tg_edges.specs.declared.tree.Tree.{Tree}
 use Rattle.tg_edges.specs.Streams.{Rose}
-use Rattle.tg_edges.specs.Tree.{child, items_of, sort_of}
+use Rattle.tg_edges.specs.Tree.{bytes_of, child, items_of, sort_of}
 
 -- these are the names in a folder, each with its sort, in some order
 abbrev pub Lists : Option Tree → List Item → Type 0
@@ -15,7 +15,7 @@ Lists None items = ⊤
 
 -- below a folder the item's name leads to a tree of its sort
 abbrev pub Leads : Option Tree → Item → Type 0
-Leads (Some tree) item = option_map sort_of (child (Some tree) item.name) ≡ Some item.sort
+Leads (Some tree) item = option_map sort_of (child tree item.name) ≡ Some item.sort
 Leads None item = ⊤
 
 -- a fault of a folder is counted, and want of memory is not
@@ -31,6 +31,14 @@ IsEntryName name = (name ≢ []) × (name ≢ 46 ∷ []) × (name ≢ 46 ∷ 46 
 abbrev pub path_below : List ℕ → List (List ℕ) → List ℕ
 path_below root [] = root
 path_below root (name ∷ names) = path_below (root ++ 47 ∷ name) names
+
+-- how many bytes the file of that name in a folder has, and none where it is no file
+abbrev pub size_of : Option (List ℕ) → ℕ
+size_of (Some bytes) = length bytes
+size_of None = 0
+
+abbrev pub file_size : Tree → Item → ℕ
+file_size tree item = size_of (bytes_of (child tree item.name))
 
 -- what a contract sees of a tree of files in memory that is read
 pub record FolderState : Type 0 where

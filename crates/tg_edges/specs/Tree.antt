@@ -1,5 +1,6 @@
 -- Trees of files, and what stands in them at a path of names.
 use Rattle.std.specs.Prelude.{◌≡◌, ℕ, List, [], ◌∷◌, map, Option, Some, None, IsSomeAnd}
+use Rattle.std.specs.Option.{option_and_then}
 use Rattle.std.specs.List.{IsDistinct}
 use Rattle.std.specs.Map.{keys_of, lookup}
 use Rattle.std.specs.Str.{bytes_eq}
@@ -38,21 +39,24 @@ bytes_of (Some tree) = bytes_within (out-Tree tree)
 bytes_of None = None
 
 -- the entry of that name in a folder; the first one where there are several
-abbrev pub child : Option Tree → List ℕ → Option Tree
-child (Some tree) name = lookup (bytes_eq name) (entries_of tree)
-child None name = None
+abbrev pub child : Tree → List ℕ → Option Tree
+child tree name = lookup (bytes_eq name) (entries_of tree)
 
 -- what stands at a path of names below a tree
+abbrev pub below : Tree → List (List ℕ) → Option Tree
+below tree [] = Some tree
+below tree (name ∷ path) = option_and_then (λ found. below found path) (child tree name)
+
+-- the same below a tree that may not be told
 abbrev pub tree_at : Option Tree → List (List ℕ) → Option Tree
-tree_at found [] = found
-tree_at found (name ∷ path) = tree_at (child found name) path
+tree_at tree path = option_and_then (λ found. below found path) tree
 
 -- at the path stands a folder, and a file
 abbrev pub HasFolderAt : Tree → List (List ℕ) → Type 0
-HasFolderAt tree path = IsSomeAnd (tree_at (Some tree) path) (λ found. sort_of found ≡ sorts.Folder)
+HasFolderAt tree path = IsSomeAnd (below tree path) (λ found. sort_of found ≡ sorts.Folder)
 
 abbrev pub HasFileAt : Tree → List (List ℕ) → Type 0
-HasFileAt tree path = IsSomeAnd (tree_at (Some tree) path) (λ found. sort_of found ≡ sorts.File)
+HasFileAt tree path = IsSomeAnd (below tree path) (λ found. sort_of found ≡ sorts.File)
 
 -- the names in a folder
 abbrev pub names_of : Option Tree → List (List ℕ)
@@ -61,7 +65,7 @@ names_of None = []
 
 -- in each folder of a tree the names differ
 abbrev pub NamesDiffer : Tree → Type 0
-NamesDiffer tree = (path : List (List ℕ)) → IsDistinct bytes_eq (names_of (tree_at (Some tree) path))
+NamesDiffer tree = (path : List (List ℕ)) → IsDistinct bytes_eq (names_of (below tree path))
 
 -- a folder in which, and in each folder below, the names differ
 abbrev pub IsFolderOfFiles : Tree → Type 0

@@ -160,7 +160,10 @@ fn joined(alloc: Global, root: &str, names: &[Bytes]) -> Result<String, FolderFa
 fn is_entry_name(name: &str) -> bool
     ensures { IsTrue result ↔ IsEntryName name.now }
 {
-    !name.is_empty() && name != "." && name != ".." && !name.as_bytes().contains(&b'/')
+    match name {
+        "" | "." | ".." => false,
+        _ => !name.as_bytes().contains(&b'/'),
+    }
 }
 
 /// What a file is, where a symbolic link isn't followed.

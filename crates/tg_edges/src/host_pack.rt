@@ -1,5 +1,6 @@
 //! Packs that are files of the system.
-ghost use Rattle.std.specs.Prelude.{◌≡◌, ◌≤◌, None, OnOk, OnErr, result_ok};
+ghost use Rattle.std.specs.Prelude.{◌≡◌, ◌≤◌, None, OnOk, OnErr};
+ghost use Rattle.std.specs.Result.{result_ok};
 ghost use Rattle.tg_edges.specs.Streams.{Rose};
 
 use crate::host_folder::read_from;

@@ -30,4 +30,8 @@ pub use standard::{StdSink, StdSource};
 pub use tree::Tree;
 
 #[cfg(test)]
+mod folder_tests;
+#[cfg(test)]
+mod pack_tests;
+#[cfg(test)]
 mod tests;
