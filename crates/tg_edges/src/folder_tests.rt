@@ -5,8 +5,12 @@ ghost use Rattle.tg_edges.specs.Streams.{Rose};
 ghost use Rattle.tg_edges.specs.Folders.{Counts, file_size};
 ghost use Rattle.tg_edges.specs.Tree.{HasFileAt, HasFolderAt, bytes_of, items_of, tree_at};
 
+use super::tests::numbers;
 use super::*;
 use std::alloc::{AllocError, Global};
+use std::os::unix::fs::symlink;
+use std::test::Fail;
+use std::{env, fs, process};
 
 /// How many bytes the files in a folder have together, without those further below; 2 ^ 64 - 1 where it is more.
 fn folder_bytes<F: Folder>(folder: &mut F, alloc: Global, path: &[Bytes]) -> Result<u64, FolderFault>
@@ -59,4 +63,196 @@ fn child_path(alloc: Global, path: &[Bytes], name: &Bytes) -> Result<List<Bytes>
     }
     child.push(Bytes::of(alloc, name.as_slice())?)?;
     Ok(child)
+}
+
+/// A list of bytes for each name of a path.
+fn path_of(rt: &HostRuntime, names: &[&str]) -> Result<List<Bytes>, Fail> {
+    let mut path = List::new(rt.alloc());
+    for name in names {
+        path.push(Bytes::of(rt.alloc(), name.as_bytes())?)?;
+    }
+    Ok(path)
+}
+
+/// A folder with a file of eleven bytes, a folder of two files, an empty folder and a symbolic link.
+fn sample(rt: &HostRuntime) -> Result<Tree, Fail> {
+    let alloc = rt.alloc();
+    let mut docs = Vec::new(alloc);
+    docs.push((Bytes::of(alloc, b"b.txt")?, Tree::File(Bytes::of(alloc, b"abc")?)))?;
+    docs.push((Bytes::of(alloc, b"none")?, Tree::File(Bytes::new(alloc))))?;
+    let mut top = Vec::new(alloc);
+    top.push((Bytes::of(alloc, b"a.txt")?, Tree::File(Bytes::of(alloc, b"hello world")?)))?;
+    top.push((Bytes::of(alloc, b"docs")?, Tree::Folder(docs)))?;
+    top.push((Bytes::of(alloc, b"empty")?, Tree::Folder(Vec::new(alloc))))?;
+    top.push((Bytes::of(alloc, b"link")?, Tree::Symlink(Bytes::of(alloc, b"a.txt")?)))?;
+    Ok(Tree::Folder(top))
+}
+
+/// The sort of the item of that name.
+fn sort_named(items: &[Item], name: &str) -> Option<Sort> {
+    for item in items {
+        if item.name.as_slice() == name.as_bytes() {
+            return Some(item.sort);
+        }
+    }
+    None
+}
+
+/// Whether the folder at a path has these names and sorts and no others.
+fn holds<F: Folder>(folder: &mut F, path: &[Bytes], wanted: &[(&str, Sort)]) -> Result<bool, FolderFault>
+    requires { ForSome (F.tree folder.old) (λ t. HasFolderAt t path.now) }
+    ensures { F.tree folder.new ≡ F.tree folder.old }
+{
+    let items = folder.list(path)?;
+    for (name, sort) in wanted {
+        if sort_named(items.as_slice(), name) != Some(*sort) {
+            return Ok(false);
+        }
+    }
+    Ok(items.as_slice().len() == wanted.len())
+}
+
+#[test]
+fn a_folder_in_memory_lists_and_reads(rt: HostRuntime) -> Result<(), Fail> {
+    let file = path_of(&rt, &["docs", "b.txt"])?;
+    let docs = path_of(&rt, &["docs"])?;
+    for failing in 0..5 {
+        let tree = sample(&rt)?;
+        assert!(rt; tree.names_differ());
+        assert_eq!(rt; tree.sort(), Sort::Folder);
+        let mut folder = MemFolder::new(rt.alloc(), tree, numbers(&rt, &[failing])?);
+        let mut buf = [0; 8];
+        let attached = folder.attach("anywhere");
+        assert_eq!(rt; attached.is_err(), failing == 0);
+        let wanted = [
+            ("a.txt", Sort::File),
+            ("docs", Sort::Folder),
+            ("empty", Sort::Folder),
+            ("link", Sort::Symlink),
+        ];
+        let listed = holds(&mut folder, &[], &wanted);
+        assert_eq!(rt; listed, if failing == 1 { Err(FolderFault::Failed) } else { Ok(true) });
+        let read = folder.read_at(file.as_slice(), 1, &mut buf);
+        assert_eq!(rt; read, if failing == 2 { Err(Failed) } else { Ok(2) });
+        assert_eq!(rt; buf.starts_with(b"bc"), failing != 2);
+        let past = folder.read_at(file.as_slice(), u64::MAX, &mut buf);
+        assert_eq!(rt; past, if failing == 3 { Err(Failed) } else { Ok(0) });
+        let names = folder.list(docs.as_slice());
+        assert_eq!(rt; names.is_err(), failing == 4);
+        assert_eq!(rt; folder.count(), 1, "at {failing}");
+    }
+    Ok(())
+}
+
+#[test]
+fn names_that_repeat_are_found(rt: HostRuntime) -> Result<(), Fail> {
+    let alloc = rt.alloc();
+    let mut inner = Vec::new(alloc);
+    inner.push((Bytes::of(alloc, b"x")?, Tree::File(Bytes::new(alloc))))?;
+    inner.push((Bytes::of(alloc, b"x")?, Tree::Folder(Vec::new(alloc))))?;
+    let mut top = Vec::new(alloc);
+    top.push((Bytes::of(alloc, b"in")?, Tree::Folder(inner)))?;
+    assert!(rt; !Tree::Folder(top).names_differ());
+    Ok(())
+}
+
+#[test]
+fn any_folder_is_added_up(rt: HostRuntime) -> Result<(), Fail> {
+    let tree = sample(&rt)?;
+    assert!(rt; tree.names_differ());
+    assert_eq!(rt; tree.sort(), Sort::Folder);
+    let mut folder = MemFolder::new(rt.alloc(), tree, numbers(&rt, &[])?);
+    assert_eq!(rt; folder_bytes(&mut folder, rt.alloc(), &[]), Ok(11));
+    let mut folder = HostFolder::new(rt);
+    assert_eq!(rt;
+        folder_bytes(&mut folder, rt.alloc(), &[]),
+        Err(FolderFault::Failed)
+    );
+    assert_eq!(rt; folder.count(), 1);
+    Ok(())
+}
+
+/// An empty folder of the test's own.
+fn fresh_folder(rt: &HostRuntime) -> Result<String, Fail> {
+    let id = process::id(rt.process());
+    let temp = env::temp_dir(rt)?;
+    let path = format!(in rt.alloc(); "{}/tg_edges_folder_{id}", temp.as_str())?;
+    if fs::exists(rt, path.as_str())? {
+        fs::remove_dir_all(rt, path.as_str())?;
+    }
+    fs::create_dir(rt, path.as_str())?;
+    Ok(path)
+}
+
+/// A file of the folder at `top`.
+fn write(rt: &HostRuntime, top: &str, name: &str, bytes: &[u8]) -> Result<(), Fail> {
+    fs::write(rt, format!(in rt.alloc(); "{top}/{name}")?.as_str(), bytes)?;
+    Ok(())
+}
+
+/// Whether a file is read back as these bytes, in pieces.
+fn reads_back<F: Folder>(folder: &mut F, path: &[Bytes], bytes: &[u8]) -> Result<bool, Failed>
+    requires { ForSome (F.tree folder.old) (λ t. HasFileAt t path.now) }
+{
+    let mut buf = [0; 40000];
+    let mut at = 0;
+    while at < bytes.len() {
+        let n = folder.read_at(path, at as u64, &mut buf)?;
+        if n == 0 || !bytes[at..].starts_with(&buf[..n]) {
+            return Ok(false);
+        }
+        at += n;
+    }
+    Ok(folder.read_at(path, bytes.len() as u64, &mut buf)? == 0)
+}
+
+#[test]
+fn a_folder_of_the_system_is_read_back(rt: HostRuntime) -> Result<(), Fail> {
+    let top = fresh_folder(&rt)?;
+    let long = "n".repeat(rt.alloc(), 255)?;
+    let mut large = Vec::with_capacity(rt.alloc(), 3_000_000)?;
+    for i in 0..3_000_000u32 {
+        large.push((i % 251) as u8)?;
+    }
+    fs::create_dir(&rt, format!(in rt.alloc(); "{top}/empty folder")?.as_str())?;
+    write(&rt, top.as_str(), "none", b"")?;
+    write(&rt, top.as_str(), "large", large.as_slice())?;
+    write(&rt, top.as_str(), long.as_str(), b"long")?;
+    symlink(&rt, "large", format!(in rt.alloc(); "{top}/link")?.as_str())?;
+
+    let mut folder = HostFolder::new(rt);
+    assert_eq!(rt; folder.attach(format!(in rt.alloc(); "{top}/missing")?.as_str()), Err(Failed));
+    assert_eq!(rt; folder.attach(format!(in rt.alloc(); "{top}/none")?.as_str()), Err(Failed));
+    assert_eq!(rt; folder.list(&[]).is_err(), true);
+    assert_eq!(rt; folder.count(), 3);
+    assert_eq!(rt; folder.attach(top.as_str()), Ok(()));
+    let wanted = [
+        ("empty folder", Sort::Folder),
+        ("none", Sort::File),
+        ("large", Sort::File),
+        (long.as_str(), Sort::File),
+        ("link", Sort::Symlink),
+    ];
+    assert_eq!(rt; holds(&mut folder, &[], &wanted), Ok(true));
+    let empty = path_of(&rt, &["empty folder"])?;
+    assert_eq!(rt; holds(&mut folder, empty.as_slice(), &[]), Ok(true));
+    for (name, bytes) in [("none", b"".as_slice()), ("large", large.as_slice()), (long.as_str(), b"long")] {
+        let path = path_of(&rt, &[name])?;
+        assert_eq!(rt; reads_back(&mut folder, path.as_slice(), bytes), Ok(true), "{name}");
+    }
+    assert_eq!(rt; folder_bytes(&mut folder, rt.alloc(), &[]), Ok(3_000_004));
+    assert_eq!(rt; folder.count(), 3);
+
+    let refused = ["link", "missing", "empty folder", "..", ".", "", "empty folder/../none"];
+    for name in refused {
+        let path = path_of(&rt, &[name])?;
+        assert_eq!(rt; reads_back(&mut folder, path.as_slice(), b""), Err(Failed), "{name}");
+    }
+    assert_eq!(rt; folder.count(), 10);
+    fs::remove_dir_all(&rt, top.as_str())?;
+    assert_eq!(rt; folder.list(&[]).is_err(), true);
+    assert_eq!(rt; folder.count(), 11);
+    assert_eq!(rt; folder.attach("/dev"), Ok(()));
+    assert_eq!(rt; sort_named(folder.list(&[])?.as_slice(), "null"), Some(Sort::Other));
+    Ok(())
 }
