@@ -9,6 +9,7 @@ use super::tests::numbers;
 use super::*;
 use std::alloc::{AllocError, Global};
 use std::os::unix::fs::symlink;
+use std::rt::Files;
 use std::test::Fail;
 use std::{env, fs, process};
 
@@ -98,85 +99,60 @@ fn sort_named(items: &[Item], name: &str) -> Option<Sort> {
     None
 }
 
-/// Whether the folder at a path has these names and sorts and no others.
-fn holds<F: Folder>(folder: &mut F, path: &[Bytes], wanted: &[(&str, Sort)]) -> Result<bool, FolderFault>
-    requires { ForSome (F.tree folder.old) (λ t. HasFolderAt t path.now) }
-    ensures { F.tree folder.new ≡ F.tree folder.old }
-{
-    let items = folder.list(path)?;
+/// Whether a folder lists these names and sorts and no others.
+fn are(listed: Result<List<Item>, FolderFault>, wanted: &[(&str, Sort)]) -> bool {
+    let Ok(items) = listed else {
+        return false;
+    };
     for (name, sort) in wanted {
         if sort_named(items.as_slice(), name) != Some(*sort) {
-            return Ok(false);
+            return false;
         }
     }
-    Ok(items.as_slice().len() == wanted.len())
+    items.as_slice().len() == wanted.len()
+}
+
+/// Which of five calls went wrong.
+fn gone_wrong(folder: &mut MemFolder, docs: &[Bytes], file: &[Bytes]) -> [bool; 5] {
+    let mut buf = [0; 8];
+    let wanted = [("b.txt", Sort::File), ("none", Sort::File)];
+    let attached = folder.attach("anywhere");
+    let listed = folder.list(docs);
+    let read = folder.read_at(file, 1, &mut buf);
+    let at_end = folder.read_at(file, 3, &mut buf);
+    let past = folder.read_at(file, u64::MAX, &mut buf);
+    [
+        attached.is_err(),
+        !are(listed, &wanted),
+        read != Ok(2) || !buf.starts_with(b"bc"),
+        at_end != Ok(0),
+        past != Ok(0),
+    ]
 }
 
 #[test]
-fn a_folder_in_memory_lists_and_reads(rt: HostRuntime) -> Result<(), Fail> {
-    let file = path_of(&rt, &["docs", "b.txt"])?;
+fn a_folder_in_memory_fails_at_its_numbers(rt: HostRuntime) -> Result<(), Fail> {
     let docs = path_of(&rt, &["docs"])?;
+    let file = path_of(&rt, &["docs", "b.txt"])?;
     for failing in 0..5 {
         let tree = sample(&rt)?;
-        assert!(rt; tree.names_differ());
-        assert_eq!(rt; tree.sort(), Sort::Folder);
+        assert!(rt; tree.sort() == Sort::Folder && tree.names_differ());
         let mut folder = MemFolder::new(rt.alloc(), tree, numbers(&rt, &[failing])?);
-        let mut buf = [0; 8];
-        let attached = folder.attach("anywhere");
-        assert_eq!(rt; attached.is_err(), failing == 0);
-        let wanted = [
-            ("a.txt", Sort::File),
-            ("docs", Sort::Folder),
-            ("empty", Sort::Folder),
-            ("link", Sort::Symlink),
-        ];
-        let listed = holds(&mut folder, &[], &wanted);
-        assert_eq!(rt; listed, if failing == 1 { Err(FolderFault::Failed) } else { Ok(true) });
-        let read = folder.read_at(file.as_slice(), 1, &mut buf);
-        assert_eq!(rt; read, if failing == 2 { Err(Failed) } else { Ok(2) });
-        assert_eq!(rt; buf.starts_with(b"bc"), failing != 2);
-        let past = folder.read_at(file.as_slice(), u64::MAX, &mut buf);
-        assert_eq!(rt; past, if failing == 3 { Err(Failed) } else { Ok(0) });
-        let names = folder.list(docs.as_slice());
-        assert_eq!(rt; names.is_err(), failing == 4);
-        assert_eq!(rt; folder.count(), 1, "at {failing}");
+        let wrong = gone_wrong(&mut folder, docs.as_slice(), file.as_slice());
+        for (call, is_wrong) in (0..).zip(wrong) {
+            assert_eq!(rt; is_wrong, call == failing, "call {call} of {failing}");
+        }
+        assert_eq!(rt; folder.count(), 1);
+        assert_eq!(rt; folder_bytes(&mut folder, rt.alloc(), &[]), Ok(11));
     }
-    Ok(())
-}
-
-#[test]
-fn names_that_repeat_are_found(rt: HostRuntime) -> Result<(), Fail> {
-    let alloc = rt.alloc();
-    let mut inner = Vec::new(alloc);
-    inner.push((Bytes::of(alloc, b"x")?, Tree::File(Bytes::new(alloc))))?;
-    inner.push((Bytes::of(alloc, b"x")?, Tree::Folder(Vec::new(alloc))))?;
-    let mut top = Vec::new(alloc);
-    top.push((Bytes::of(alloc, b"in")?, Tree::Folder(inner)))?;
-    assert!(rt; !Tree::Folder(top).names_differ());
-    Ok(())
-}
-
-#[test]
-fn any_folder_is_added_up(rt: HostRuntime) -> Result<(), Fail> {
-    let tree = sample(&rt)?;
-    assert!(rt; tree.names_differ());
-    assert_eq!(rt; tree.sort(), Sort::Folder);
-    let mut folder = MemFolder::new(rt.alloc(), tree, numbers(&rt, &[])?);
-    assert_eq!(rt; folder_bytes(&mut folder, rt.alloc(), &[]), Ok(11));
-    let mut folder = HostFolder::new(rt);
-    assert_eq!(rt;
-        folder_bytes(&mut folder, rt.alloc(), &[]),
-        Err(FolderFault::Failed)
-    );
-    assert_eq!(rt; folder.count(), 1);
     Ok(())
 }
 
 /// An empty folder of the test's own.
-fn fresh_folder(rt: &HostRuntime) -> Result<String, Fail> {
+fn fresh_folder(rt: &HostRuntime, test: &str) -> Result<String, Fail> {
     let id = process::id(rt.process());
     let temp = env::temp_dir(rt)?;
-    let path = format!(in rt.alloc(); "{}/tg_edges_folder_{id}", temp.as_str())?;
+    let path = format!(in rt.alloc(); "{}/tg_edges_{test}_{id}", temp.as_str())?;
     if fs::exists(rt, path.as_str())? {
         fs::remove_dir_all(rt, path.as_str())?;
     }
@@ -190,10 +166,26 @@ fn write(rt: &HostRuntime, top: &str, name: &str, bytes: &[u8]) -> Result<(), Fa
     Ok(())
 }
 
+/// A file of three million bytes, an empty one, one with a long name, an empty folder and a symbolic link.
+fn fill(rt: &HostRuntime, top: &str, long: &str) -> Result<Vec<u8>, Fail> {
+    let mut large = Vec::with_capacity(rt.alloc(), 3_000_000)?;
+    for i in 0..3_000_000u32 {
+        large.push((i % 251) as u8)?;
+    }
+    fs::create_dir(rt, format!(in rt.alloc(); "{top}/empty folder")?.as_str())?;
+    write(rt, top, "large", large.as_slice())?;
+    write(rt, top, "none", b"")?;
+    write(rt, top, long, b"long")?;
+    symlink(rt, "large", format!(in rt.alloc(); "{top}/link")?.as_str())?;
+    Ok(large)
+}
+
 /// Whether a file is read back as these bytes, in pieces.
-fn reads_back<F: Folder>(folder: &mut F, path: &[Bytes], bytes: &[u8]) -> Result<bool, Failed>
-    requires { ForSome (F.tree folder.old) (λ t. HasFileAt t path.now) }
-{
+fn reads_back<R: Files + AllocGlobal + Clone + Drop>(
+    folder: &mut HostFolder<R>,
+    path: &[Bytes],
+    bytes: &[u8],
+) -> Result<bool, Failed> {
     let mut buf = [0; 40000];
     let mut at = 0;
     while at < bytes.len() {
@@ -201,30 +193,17 @@ fn reads_back<F: Folder>(folder: &mut F, path: &[Bytes], bytes: &[u8]) -> Result
         if n == 0 || !bytes[at..].starts_with(&buf[..n]) {
             return Ok(false);
         }
-        at += n;
+        at += n.min(bytes.len() - at);
     }
     Ok(folder.read_at(path, bytes.len() as u64, &mut buf)? == 0)
 }
 
 #[test]
 fn a_folder_of_the_system_is_read_back(rt: HostRuntime) -> Result<(), Fail> {
-    let top = fresh_folder(&rt)?;
+    let top = fresh_folder(&rt, "folder")?;
     let long = "n".repeat(rt.alloc(), 255)?;
-    let mut large = Vec::with_capacity(rt.alloc(), 3_000_000)?;
-    for i in 0..3_000_000u32 {
-        large.push((i % 251) as u8)?;
-    }
-    fs::create_dir(&rt, format!(in rt.alloc(); "{top}/empty folder")?.as_str())?;
-    write(&rt, top.as_str(), "none", b"")?;
-    write(&rt, top.as_str(), "large", large.as_slice())?;
-    write(&rt, top.as_str(), long.as_str(), b"long")?;
-    symlink(&rt, "large", format!(in rt.alloc(); "{top}/link")?.as_str())?;
-
+    let large = fill(&rt, top.as_str(), long.as_str())?;
     let mut folder = HostFolder::new(rt);
-    assert_eq!(rt; folder.attach(format!(in rt.alloc(); "{top}/missing")?.as_str()), Err(Failed));
-    assert_eq!(rt; folder.attach(format!(in rt.alloc(); "{top}/none")?.as_str()), Err(Failed));
-    assert_eq!(rt; folder.list(&[]).is_err(), true);
-    assert_eq!(rt; folder.count(), 3);
     assert_eq!(rt; folder.attach(top.as_str()), Ok(()));
     let wanted = [
         ("empty folder", Sort::Folder),
@@ -233,26 +212,43 @@ fn a_folder_of_the_system_is_read_back(rt: HostRuntime) -> Result<(), Fail> {
         (long.as_str(), Sort::File),
         ("link", Sort::Symlink),
     ];
-    assert_eq!(rt; holds(&mut folder, &[], &wanted), Ok(true));
-    let empty = path_of(&rt, &["empty folder"])?;
-    assert_eq!(rt; holds(&mut folder, empty.as_slice(), &[]), Ok(true));
-    for (name, bytes) in [("none", b"".as_slice()), ("large", large.as_slice()), (long.as_str(), b"long")] {
+    assert!(rt; are(folder.list(&[]), &wanted));
+    let files = [
+        ("none", b"".as_slice()),
+        ("large", large.as_slice()),
+        (long.as_str(), b"long".as_slice()),
+    ];
+    for (name, bytes) in files {
         let path = path_of(&rt, &[name])?;
         assert_eq!(rt; reads_back(&mut folder, path.as_slice(), bytes), Ok(true), "{name}");
     }
     assert_eq!(rt; folder_bytes(&mut folder, rt.alloc(), &[]), Ok(3_000_004));
-    assert_eq!(rt; folder.count(), 3);
+    assert_eq!(rt; folder.count(), 0);
+    fs::remove_dir_all(&rt, top.as_str())?;
+    Ok(())
+}
 
-    let refused = ["link", "missing", "empty folder", "..", ".", "", "empty folder/../none"];
-    for name in refused {
+#[test]
+fn faults_of_a_folder_of_the_system_are_counted(rt: HostRuntime) -> Result<(), Fail> {
+    let top = fresh_folder(&rt, "faults")?;
+    write(&rt, top.as_str(), "file", b"")?;
+    symlink(&rt, "file", format!(in rt.alloc(); "{top}/link")?.as_str())?;
+    let mut folder = HostFolder::new(rt);
+    assert!(rt; folder.list(&[]).is_err());
+    for name in ["missing", "file"] {
+        let path = format!(in rt.alloc(); "{top}/{name}")?;
+        assert_eq!(rt; folder.attach(path.as_str()), Err(Failed), "{name}");
+    }
+    assert_eq!(rt; folder.attach(top.as_str()), Ok(()));
+    for name in ["link", "missing", "", ".", "..", "../file", "file/"] {
         let path = path_of(&rt, &[name])?;
         assert_eq!(rt; reads_back(&mut folder, path.as_slice(), b""), Err(Failed), "{name}");
     }
     assert_eq!(rt; folder.count(), 10);
     fs::remove_dir_all(&rt, top.as_str())?;
-    assert_eq!(rt; folder.list(&[]).is_err(), true);
-    assert_eq!(rt; folder.count(), 11);
+    assert!(rt; folder.list(&[]).is_err());
     assert_eq!(rt; folder.attach("/dev"), Ok(()));
     assert_eq!(rt; sort_named(folder.list(&[])?.as_slice(), "null"), Some(Sort::Other));
+    assert_eq!(rt; folder.count(), 11);
     Ok(())
 }

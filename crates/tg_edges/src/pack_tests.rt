@@ -28,81 +28,93 @@ fn read_all<P: Pack>(pack: &mut P, into: &mut Bytes) -> Result<(), FolderFault>
     Ok(())
 }
 
-#[test]
-fn a_pack_in_memory_is_read_and_written(rt: HostRuntime) -> Result<(), Fail> {
-    for failing in 0..6 {
-        let bytes = Bytes::of(rt.alloc(), b"hello world")?;
-        let mut pack = MemPack::new(bytes, numbers(&rt, &[failing])?);
-        let mut buf = [0; 8];
-        assert_eq!(rt; pack.attach("anywhere", false).is_err(), failing == 0);
-        assert_eq!(rt; pack.size(), if failing == 1 { Err(Failed) } else { Ok(11) });
-        let read = pack.read_at(6, &mut buf);
-        assert_eq!(rt; read, if failing == 2 { Err(Failed) } else { Ok(5) });
-        assert_eq!(rt; buf.starts_with(b"world"), failing != 2);
-        assert_eq!(rt; pack.write_at(6, b"there").is_err(), failing == 3);
-        assert_eq!(rt; pack.append(b"!").is_err(), failing == 4);
-        let wanted = b"hello there!".as_slice();
-        let held = if failing == 3 || failing == 4 { None } else { Some(wanted) };
-        assert_eq!(rt; pack.content() == held, true, "at {failing}");
-        assert_eq!(rt; pack.attach("anywhere", true).is_err(), failing == 5);
-        assert_eq!(rt; pack.content() == Some(b"".as_slice()), failing < 3, "at {failing}");
-        assert_eq!(rt; pack.count(), 1, "at {failing}");
-    }
-    Ok(())
+/// Which of six calls went wrong.
+fn gone_wrong(pack: &mut MemPack) -> [bool; 6] {
+    let mut buf = [0; 8];
+    let attached = pack.attach("anywhere", false);
+    let size = pack.size();
+    let read = pack.read_at(6, &mut buf);
+    let written = pack.write_at(6, b"there");
+    let appended = pack.append(b"!");
+    let wanted = b"hello there!".as_slice();
+    let is_lost = pack.content() != Some(wanted);
+    [
+        attached.is_err(),
+        size != Ok(11),
+        read != Ok(5) || !buf.starts_with(b"world"),
+        written.is_err() && is_lost,
+        appended.is_err() && is_lost,
+        pack.attach("anywhere", true).is_err(),
+    ]
 }
 
 #[test]
-fn any_pack_is_read_whole(rt: HostRuntime) -> Result<(), Fail> {
-    let mut bytes = Bytes::new(rt.alloc());
-    for _ in 0..900 {
-        bytes.push_all(b"0123456789")?;
-    }
-    let mut pack = MemPack::new(Bytes::of(rt.alloc(), bytes.as_slice())?, numbers(&rt, &[])?);
+fn a_pack_in_memory_fails_at_its_numbers(rt: HostRuntime) -> Result<(), Fail> {
     let mut into = Bytes::new(rt.alloc());
-    assert_eq!(rt; read_all(&mut pack, &mut into), Ok(()));
-    assert_eq!(rt; into.as_slice(), bytes.as_slice());
-    let mut pack = HostPack::new(rt);
-    assert_eq!(rt; read_all(&mut pack, &mut into), Err(FolderFault::Failed));
-    assert_eq!(rt; pack.count(), 1);
+    for failing in 0..7 {
+        let bytes = Bytes::of(rt.alloc(), b"hello world")?;
+        let mut pack = MemPack::new(bytes, numbers(&rt, &[failing])?);
+        let wrong = gone_wrong(&mut pack);
+        for (call, is_wrong) in (0..).zip(wrong) {
+            assert_eq!(rt; is_wrong, call == failing, "call {call} of {failing}");
+        }
+        assert_eq!(rt; pack.append(b"read to the end").is_err(), failing == 6);
+        assert_eq!(rt; read_all(&mut pack, &mut into), Ok(()));
+        assert_eq!(rt; pack.count(), 1);
+    }
+    // Three packs were emptied and written again, two were lost, one was not emptied, and one was lost at the last write.
+    let text = "read to the endread to the endread to the endhello there!read to the end";
+    assert_eq!(rt; into.as_slice(), text.as_bytes());
     Ok(())
+}
+
+/// The path of a pack in a folder of the test's own, which isn't there.
+fn fresh_place(rt: &HostRuntime) -> Result<String, Fail> {
+    let id = process::id(rt.process());
+    let temp = env::temp_dir(rt)?;
+    let top = format!(in rt.alloc(); "{}/tg_edges_pack_{id}", temp.as_str())?;
+    if fs::exists(rt, top.as_str())? {
+        fs::remove_dir_all(rt, top.as_str())?;
+    }
+    Ok(top)
 }
 
 #[test]
 fn a_pack_of_the_system_is_kept(rt: HostRuntime) -> Result<(), Fail> {
-    let id = process::id(rt.process());
-    let temp = env::temp_dir(&rt)?;
-    let top = format!(in rt.alloc(); "{}/tg_edges_pack_{id}", temp.as_str())?;
+    let top = fresh_place(&rt)?;
     let path = format!(in rt.alloc(); "{top}/pack")?;
-    if fs::exists(&rt, top.as_str())? {
-        fs::remove_dir_all(&rt, top.as_str())?;
-    }
+    fs::create_dir(&rt, top.as_str())?;
     let mut pack = HostPack::new(rt);
     let mut buf = [0; 8];
-    assert_eq!(rt; pack.append(b"x"), Err(Failed));
-    assert_eq!(rt; pack.attach(path.as_str(), true), Err(Failed));
-    fs::create_dir(&rt, top.as_str())?;
-    assert_eq!(rt; pack.attach(path.as_str(), false), Err(Failed));
-    assert_eq!(rt; pack.attach(top.as_str(), true), Err(Failed));
-    assert_eq!(rt; pack.attach(top.as_str(), false), Err(Failed));
-    assert_eq!(rt; pack.count(), 5);
-
     assert_eq!(rt; pack.attach(path.as_str(), true), Ok(()));
     assert_eq!(rt; pack.append(b"hello "), Ok(()));
     assert_eq!(rt; pack.append(b"world"), Ok(()));
     assert_eq!(rt; pack.write_at(2, b"LLO W"), Ok(()));
     assert_eq!(rt; pack.read_at(1, &mut buf), Ok(8));
-    assert_eq!(rt; &buf, b"eLLO Wor");
-    let mut again = HostPack::new(rt);
+    assert_eq!(rt; buf.as_slice(), b"eLLO Wor".as_slice());
     let mut into = Bytes::new(rt.alloc());
-    assert_eq!(rt; again.attach(path.as_str(), false), Ok(()));
-    assert_eq!(rt; again.size(), Ok(11));
-    assert_eq!(rt; read_all(&mut again, &mut into), Ok(()));
+    assert_eq!(rt; pack.attach(path.as_str(), false), Ok(()));
+    assert_eq!(rt; read_all(&mut pack, &mut into), Ok(()));
     assert_eq!(rt; into.as_slice(), b"heLLO World".as_slice());
-    assert_eq!(rt; again.read_at(11, &mut buf), Ok(0));
-    assert_eq!(rt; again.read_at(u64::MAX, &mut buf), Err(Failed));
-    assert_eq!(rt; again.count(), 1);
-    assert_eq!(rt; again.attach(path.as_str(), true), Ok(()));
-    assert_eq!(rt; again.size(), Ok(0));
+    assert_eq!(rt; pack.read_at(11, &mut buf), Ok(0));
+    assert_eq!(rt; pack.attach(path.as_str(), true), Ok(()));
+    assert_eq!(rt; pack.size(), Ok(0));
+    assert_eq!(rt; pack.count(), 0);
     fs::remove_dir_all(&rt, top.as_str())?;
+    Ok(())
+}
+
+#[test]
+fn faults_of_a_pack_of_the_system_are_counted(rt: HostRuntime) -> Result<(), Fail> {
+    let top = fresh_place(&rt)?;
+    let path = format!(in rt.alloc(); "{top}/pack")?;
+    let mut pack = HostPack::new(rt);
+    assert_eq!(rt; pack.append(b"x"), Err(Failed));
+    assert_eq!(rt; pack.size(), Err(Failed));
+    // A pack in a missing folder, and one that is a folder.
+    for (path, fresh) in [(path.as_str(), true), (path.as_str(), false), ("/", true), ("/", false)] {
+        assert_eq!(rt; pack.attach(path, fresh), Err(Failed), "{path}");
+    }
+    assert_eq!(rt; pack.count(), 6);
     Ok(())
 }

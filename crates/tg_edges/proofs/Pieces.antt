@@ -1,0 +1,166 @@
+-- What generic code reads of packs and of folders, piece by piece.
+use Rattle.std.proofs.Common.{◌≡◌, ◌≢◌, ℕ, ◌+◌, ◌-◌, ◌^◌, ◌<◌, ◌≤◌, min, List, [], ◌∷◌, ◌++◌, length, take, drop, get_or, sum_by, Option, Some, None, IfSome, All, IsSomeAnd, ap, sym, refl, ◌∙◌, subst, arith, append_assoc, append-nil, length-append}
+use Rattle.std.proofs.lemmas.List.{length-drop, take_all}
+use Rattle.std.proofs.lemmas.List.Sorted.{sum_by-IsPermutation}
+use Rattle.std.proofs.lemmas.List.Sums.{sum_by-append}
+use Rattle.std.proofs.Math.ListN.{drop_of_length-le}
+use Rattle.std.specs.Option.{ForSome, option_and_then, option_map}
+use Rattle.std.specs.List.Sorted.{IsPermutation}
+use Rattle.tg_edges.specs.declared.folders.Item.{Item}
+use Rattle.tg_edges.specs.declared.folders.Sort.{Sort}
+use Rattle.tg_edges.specs.declared.folders.Sort.TheVariants as sorts
+use Rattle.tg_edges.specs.declared.tree.Tree.{Tree, Tree-F, out-Tree}
+use Rattle.tg_edges.specs.declared.tree.Tree.TheOpen.{File, Folder, Symlink}
+use Rattle.tg_edges.specs.Folders.{Leads, Lists, file_size, size_of}
+use Rattle.tg_edges.specs.Packs.{HasLength, rest_at}
+use Rattle.tg_edges.specs.Streams.{IsNothing, after_front}
+use Rattle.tg_edges.specs.Tree.{HasFileAt, HasFolderAt, below, bytes_of, bytes_within, child, items_of, sort_of, sort_within, tree_at}
+use Rattle.tg_edges.proofs.Trees.{take_more}
+
+pub after_front-joins : (u v : List ℕ) (rest : Option (List ℕ)) → after_front u (after_front v rest) ≡ after_front (u ++ v) rest
+after_front-joins u v None = refl
+after_front-joins u v (Some xs) = ap (λ ys. Some ys) (sym (append_assoc u v xs))
+
+-- past its length nothing stands
+pub past_end : (held : Option (List ℕ)) (size at : ℕ) → HasLength held size → size ≤ at → IsNothing (rest_at held at)
+past_end None size at h l = tt
+past_end (Some xs) size at h l = drop_of_length-le xs (omega arith)
+
+-- a piece that was read is no longer than what is left
+pub piece_within : (xs got : List ℕ) (at n : ℕ) → at ≤ length xs → rest_at (Some xs) at ≡ after_front got (rest_at (Some xs) (at + n)) → length got ≡ n → at + n ≤ length xs
+piece_within xs got at n h e size =
+    let same : drop at xs ≡ got ++ drop (at + n) xs = cc in
+    let sizes : length (drop at xs) ≡ length got + length (drop (at + n) xs) = ap length same ∙ length-append got (drop (at + n) xs) in
+    let left = length-drop at xs in
+    let rest = length-drop (at + n) xs in
+    omega arith
+
+-- one more piece
+pub read_on : (held : Option (List ℕ)) (size at n next : ℕ) (read got : List ℕ) → HasLength held size → size < 18446744073709551616 → at < size → length got ≡ n → next ≡ min (at + n) 18446744073709551615
+    → rest_at held 0 ≡ after_front read (rest_at held at) → rest_at held at ≡ after_front got (rest_at held (at + n)) → rest_at held 0 ≡ after_front (read ++ got) (rest_at held next)
+read_on None size at n next read got l s h size_is step before here = refl
+read_on (Some xs) size at n next read got l s h size_is step before here =
+    let within : at + n ≤ length xs = piece_within xs got at n (omega arith) here size_is in
+    let same : next ≡ at + n = omega arith in
+    rw same (before ∙ ap (after_front read) here ∙ after_front-joins read got (rest_at (Some xs) (at + n)))
+
+-- all was read where nothing is left
+pub all_read : (held : Option (List ℕ)) (at : ℕ) (old into read : List ℕ) → into ≡ old ++ read → rest_at held 0 ≡ after_front read (rest_at held at) → IsNothing (rest_at held at) → IfSome held (λ xs. into ≡ old ++ xs)
+all_read None at old into read e h nothing = tt
+all_read (Some xs) at old into read e h nothing =
+    let whole : xs ≡ read ++ drop at xs = cc in
+    let bare : xs ≡ read = whole ∙ ap (λ ys. read ++ ys) nothing ∙ append-nil read in
+    e ∙ ap (λ ys. old ++ ys) (sym bare)
+
+-- a name after a path
+alone : (o : Option Tree) → option_and_then (λ found. Some found) o ≡ o
+alone None = refl
+alone (Some found) = refl
+
+append_within : (path : List (List ℕ)) (name : List ℕ) → ((t : Tree) → below t (path ++ name ∷ []) ≡ option_and_then (λ found. child found name) (below t path))
+    → (o : Option Tree) → option_and_then (λ found. below found (path ++ name ∷ [])) o ≡ option_and_then (λ found. child found name) (option_and_then (λ found. below found path) o)
+append_within path name h None = refl
+append_within path name h (Some found) = h found
+
+pub below-append : (tree : Tree) (path : List (List ℕ)) (name : List ℕ) → below tree (path ++ name ∷ []) ≡ option_and_then (λ found. child found name) (below tree path)
+below-append tree [] name = alone (child tree name)
+below-append tree (next ∷ path) name = append_within path name (λ t. below-append t path name) (child tree next)
+
+-- each item that is listed leads to what it says
+pub lead_at : (o : Option Tree) (items listed : List Item) (i : ℕ) (item : Item) → All (Leads o) items → listed ≡ items → i < length listed → item ≡ get_or listed i item → Leads o item
+lead_at o items listed i item leads same h at =
+    let here : Leads o (get_or listed i item) = subst (All (Leads o)) (sym same) leads i item h in
+    subst (Leads o) (sym at) here
+
+-- an item that is a file leads to one
+is_file_there : (o : Option Tree) (item : Item) → IsSomeAnd o (λ found. sort_of found ≡ sorts.Folder) → Leads o item → item.sort ≡ sorts.File
+    → IsSomeAnd (option_and_then (λ found. child found item.name) o) (λ found. sort_of found ≡ sorts.File)
+is_file_there None item folder leads file = absurd folder
+is_file_there (Some t) item folder leads file = within (child t item.name) leads
+  where
+    within : (o : Option Tree) → option_map sort_of o ≡ Some item.sort → IsSomeAnd o (λ found. sort_of found ≡ sorts.File)
+    within None e = absurd (cc)
+    within (Some found) e = let same : sort_of found ≡ item.sort = cc in same ∙ file
+
+pub file_there : (tree : Option Tree) (path longer : List (List ℕ)) (item : Item) → ForSome tree (λ t. HasFolderAt t path) → Leads (tree_at tree path) item → item.sort ≡ sorts.File
+    → longer ≡ path ++ item.name ∷ [] → ForSome tree (λ t. HasFileAt t longer)
+file_there tree path longer item folder leads file e = λ t told.
+    let here : Leads (below t path) item = subst (λ (o : Option Tree). Leads (tree_at o path) item) told leads in
+    let led : below t longer ≡ option_and_then (λ found. child found item.name) (below t path) = ap (below t) e ∙ below-append t path item.name in
+    subst (λ (o : Option Tree). IsSomeAnd o (λ found. sort_of found ≡ sorts.File)) (sym led) (is_file_there (below t path) item (folder t told) here file)
+
+-- how many bytes a file has
+file_has : (layer : Tree-F Tree) (n : ℕ) → sort_within layer ≡ sorts.File → IfSome (bytes_within layer) (λ bytes. n ≡ min (length bytes) 18446744073709551615) → n ≡ min (size_of (bytes_within layer)) 18446744073709551615
+file_has (File bytes) n file h = h
+file_has (Folder entries) n file h = absurd (cc)
+file_has (Symlink target) n file h = absurd (cc)
+
+counts_within : (o : Option Tree) (item : Item) (n : ℕ) → Leads o item → item.sort ≡ sorts.File
+    → IfSome (bytes_of (option_and_then (λ found. child found item.name) o)) (λ bytes. n ≡ min (length bytes) 18446744073709551615) → IfSome o (λ found. n ≡ min (file_size found item) 18446744073709551615)
+counts_within None item n leads file h = tt
+counts_within (Some t) item n leads file h = within (child t item.name) leads h
+  where
+    within : (o : Option Tree) → option_map sort_of o ≡ Some item.sort → IfSome (bytes_of o) (λ bytes. n ≡ min (length bytes) 18446744073709551615) → n ≡ min (size_of (bytes_of o)) 18446744073709551615
+    within None e h = absurd (cc)
+    within (Some found) e h = let same : sort_of found ≡ item.sort = cc in file_has (out-Tree found) n (same ∙ file) h
+
+pub file_counts : (tree : Option Tree) (path longer : List (List ℕ)) (item : Item) (n : ℕ) → Leads (tree_at tree path) item → item.sort ≡ sorts.File → longer ≡ path ++ item.name ∷ []
+    → IfSome (bytes_of (tree_at tree longer)) (λ bytes. n ≡ min (length bytes) 18446744073709551615) → IfSome (tree_at tree path) (λ found. n ≡ min (file_size found item) 18446744073709551615)
+file_counts None path longer item n leads file e h = tt
+file_counts (Some t) path longer item n leads file e h =
+    let led : below t longer ≡ option_and_then (λ found. child found item.name) (below t path) = ap (below t) e ∙ below-append t path item.name in
+    counts_within (below t path) item n leads file (subst (λ (o : Option Tree). IfSome (bytes_of o) (λ bytes. n ≡ min (length bytes) 18446744073709551615)) led h)
+
+other_has : (layer : Tree-F Tree) → sort_within layer ≢ sorts.File → size_of (bytes_within layer) ≡ 0
+other_has (File bytes) other = absurd (other refl)
+other_has (Folder entries) other = refl
+other_has (Symlink target) other = refl
+
+pub other_counts : (o : Option Tree) (item : Item) → Leads o item → item.sort ≢ sorts.File → IfSome o (λ found. file_size found item ≡ 0)
+other_counts None item leads other = tt
+other_counts (Some t) item leads other = within (child t item.name) leads
+  where
+    within : (o : Option Tree) → option_map sort_of o ≡ Some item.sort → size_of (bytes_of o) ≡ 0
+    within None e = refl
+    within (Some found) e = let same : sort_of found ≡ item.sort = cc in other_has (out-Tree found) (λ file. other (sym same ∙ file))
+
+-- one more item
+pub sum_more : (f : Item → ℕ) (items : List Item) (i : ℕ) (item : Item) → i < length items → item ≡ get_or items i item → sum_by f (take (i + 1) items) ≡ sum_by f (take i items) + f item
+sum_more f items i item h at =
+    let one : sum_by f (item ∷ []) ≡ f item = omega arith in
+    ap (sum_by f) (take_more items i item h at) ∙ sum_by-append f (take i items) (item ∷ []) ∙ ap (λ n. sum_by f (take i items) + n) one
+
+pub counted_on : (o : Option Tree) (items : List Item) (i : ℕ) (item : Item) (total next n : ℕ) → i < length items → item ≡ get_or items i item → next ≡ min (total + n) 18446744073709551615
+    → IfSome o (λ found. total ≡ min (sum_by (file_size found) (take i items)) 18446744073709551615) → IfSome o (λ found. n ≡ min (file_size found item) 18446744073709551615)
+    → IfSome o (λ found. next ≡ min (sum_by (file_size found) (take (i + 1) items)) 18446744073709551615)
+counted_on None items i item total next n h at e before here = tt
+counted_on (Some t) items i item total next n h at e before here = let more = sum_more (file_size t) items i item h at in omega arith
+
+pub passed_over : (o : Option Tree) (items : List Item) (i : ℕ) (item : Item) (total : ℕ) → i < length items → item ≡ get_or items i item
+    → IfSome o (λ found. total ≡ min (sum_by (file_size found) (take i items)) 18446744073709551615) → IfSome o (λ found. file_size found item ≡ 0)
+    → IfSome o (λ found. total ≡ min (sum_by (file_size found) (take (i + 1) items)) 18446744073709551615)
+passed_over None items i item total h at before here = tt
+passed_over (Some t) items i item total h at before here = let more = sum_more (file_size t) items i item h at in omega arith
+
+-- all that is listed
+pub sums_up : (o : Option Tree) (items : List Item) (i total : ℕ) → Lists o items → length items ≤ i → IfSome o (λ found. total ≡ min (sum_by (file_size found) (take i items)) 18446744073709551615)
+    → IfSome o (λ found. total ≡ min (sum_by (file_size found) (items_of found)) (2 ^ 64 - 1))
+sums_up None items i total listed h before = tt
+sums_up (Some t) items i total listed h before =
+    let whole : sum_by (file_size t) (take i items) ≡ sum_by (file_size t) items = ap (sum_by (file_size t)) (take_all i items h) in
+    let same = sum_by-IsPermutation (file_size t) (items_of t) items listed in
+    omega arith
+
+-- how far a file was read
+pub size_on : (held : Option (List ℕ)) (at n next : ℕ) (got : List ℕ) → length got ≡ n → next ≡ min (at + n) 18446744073709551615 → IfSome held (λ bytes. at ≤ length bytes)
+    → rest_at held at ≡ after_front got (rest_at held (at + n)) → IfSome held (λ bytes. next ≤ length bytes)
+size_on None at n next got size e h here = tt
+size_on (Some xs) at n next got size e h here = let within : at + n ≤ length xs = piece_within xs got at n h here size in omega arith
+
+pub size_at_most : (held : Option (List ℕ)) (at : ℕ) → 18446744073709551615 ≤ at → at ≤ 18446744073709551615 → IfSome held (λ bytes. at ≤ length bytes) → IfSome held (λ bytes. at ≡ min (length bytes) 18446744073709551615)
+size_at_most None at above below h = tt
+size_at_most (Some xs) at above below h = omega arith
+
+pub size_at_end : (held : Option (List ℕ)) (at : ℕ) → at ≤ 18446744073709551615 → IfSome held (λ bytes. at ≤ length bytes) → IsNothing (rest_at held at) → IfSome held (λ bytes. at ≡ min (length bytes) 18446744073709551615)
+size_at_end None at below h nothing = tt
+size_at_end (Some xs) at below h nothing = let none = ap length nothing in let left = length-drop at xs in omega arith
