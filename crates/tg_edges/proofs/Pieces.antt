@@ -1,10 +1,11 @@
 -- What generic code reads of packs and of folders, piece by piece.
-use Rattle.std.proofs.Common.{◌≡◌, ◌≢◌, ℕ, ◌+◌, ◌-◌, ◌^◌, ◌<◌, ◌≤◌, min, List, [], ◌∷◌, ◌++◌, length, take, drop, get_or, sum_by, Option, Some, None, IfSome, All, IsSomeAnd, ap, sym, refl, ◌∙◌, subst, arith, append_assoc, append-nil, length-append}
+use Rattle.std.proofs.Common.{◌≡◌, ◌≢◌, ℕ, ◌+◌, ◌-◌, ◌^◌, ◌<◌, ◌≤◌, min, List, [], ◌∷◌, ◌++◌, length, take, drop, get_or, sum_by, Option, Some, None, IfSome, All, ap, sym, refl, ◌∙◌, subst, arith, append_assoc, append-nil, length-append}
 use Rattle.std.proofs.lemmas.List.{length-drop, take_all}
 use Rattle.std.proofs.lemmas.List.Sorted.{sum_by-IsPermutation}
 use Rattle.std.proofs.lemmas.List.Sums.{sum_by-append}
 use Rattle.std.proofs.Math.ListN.{drop_of_length-le}
-use Rattle.std.specs.Option.{ForSome, option_and_then, option_map}
+use Rattle.std.specs.Bool.{⊤}
+use Rattle.std.specs.Option.{option_and_then, option_map}
 use Rattle.std.specs.List.Sorted.{IsPermutation}
 use Rattle.tg_edges.specs.declared.folders.Item.{Item}
 use Rattle.tg_edges.specs.declared.folders.Sort.{Sort}
@@ -14,8 +15,8 @@ use Rattle.tg_edges.specs.declared.tree.Tree.TheOpen.{File, Folder, Symlink}
 use Rattle.tg_edges.specs.Folders.{Leads, Lists, file_size, size_of}
 use Rattle.tg_edges.specs.Packs.{HasLength, rest_at}
 use Rattle.tg_edges.specs.Streams.{IsNothing, after_front}
-use Rattle.tg_edges.specs.Tree.{HasFileAt, HasFolderAt, below, bytes_of, bytes_within, child, items_of, sort_of, sort_within, tree_at}
-use Rattle.tg_edges.proofs.Trees.{take_more}
+use Rattle.tg_edges.specs.Tree.{HasFileAt, IsAt, below, bytes_of, bytes_within, child, items_of, sort_of, sort_within, tree_at}
+use Rattle.tg_edges.proofs.Trees.{below-append, take_more}
 
 pub after_front-joins : (u v : List ℕ) (rest : Option (List ℕ)) → after_front u (after_front v rest) ≡ after_front (u ++ v) rest
 after_front-joins u v None = refl
@@ -52,42 +53,27 @@ all_read (Some xs) at old into read e h nothing =
     let bare : xs ≡ read = whole ∙ ap (λ ys. read ++ ys) nothing ∙ append-nil read in
     e ∙ ap (λ ys. old ++ ys) (sym bare)
 
--- a name after a path
-alone : (o : Option Tree) → option_and_then (λ found. Some found) o ≡ o
-alone None = refl
-alone (Some found) = refl
-
-append_within : (path : List (List ℕ)) (name : List ℕ) → ((t : Tree) → below t (path ++ name ∷ []) ≡ option_and_then (λ found. child found name) (below t path))
-    → (o : Option Tree) → option_and_then (λ found. below found (path ++ name ∷ [])) o ≡ option_and_then (λ found. child found name) (option_and_then (λ found. below found path) o)
-append_within path name h None = refl
-append_within path name h (Some found) = h found
-
-pub below-append : (tree : Tree) (path : List (List ℕ)) (name : List ℕ) → below tree (path ++ name ∷ []) ≡ option_and_then (λ found. child found name) (below tree path)
-below-append tree [] name = alone (child tree name)
-below-append tree (next ∷ path) name = append_within path name (λ t. below-append t path name) (child tree next)
-
 -- each item that is listed leads to what it says
-pub lead_at : (o : Option Tree) (items listed : List Item) (i : ℕ) (item : Item) → All (Leads o) items → listed ≡ items → i < length listed → item ≡ get_or listed i item → Leads o item
-lead_at o items listed i item leads same h at =
-    let here : Leads o (get_or listed i item) = subst (All (Leads o)) (sym same) leads i item h in
-    subst (Leads o) (sym at) here
+pub lead_at : (tree : Option Tree) (path : List (List ℕ)) (items listed : List Item) (i : ℕ) (item : Item) → All (Leads tree path) items → listed ≡ items → i < length listed → item ≡ get_or listed i item → Leads tree path item
+lead_at tree path items listed i item leads same h at =
+    let here : Leads tree path (get_or listed i item) = subst (All (Leads tree path)) (sym same) leads i item h in
+    subst (Leads tree path) (sym at) here
 
--- an item that is a file leads to one
-is_file_there : (o : Option Tree) (item : Item) → IsSomeAnd o (λ found. sort_of found ≡ sorts.Folder) → Leads o item → item.sort ≡ sorts.File
-    → IsSomeAnd (option_and_then (λ found. child found item.name) o) (λ found. sort_of found ≡ sorts.File)
-is_file_there None item folder leads file = absurd folder
-is_file_there (Some t) item folder leads file = within (child t item.name) leads
+pub file_there : (tree : Option Tree) (path longer : List (List ℕ)) (item : Item) → Leads tree path item → item.sort ≡ sorts.File → longer ≡ path ++ item.name ∷ [] → HasFileAt tree longer
+file_there tree path longer item leads file e = subst (λ (p : List (List ℕ)). HasFileAt tree p) (sym e) (subst (λ (s : Sort). IsAt s tree (path ++ item.name ∷ [])) file leads)
+
+-- what an item leads to, below the folder itself
+abbrev LeadsWithin : Option Tree → Item → Type 0
+LeadsWithin (Some found) item = option_map sort_of (child found item.name) ≡ Some item.sort
+LeadsWithin None item = ⊤
+
+leads_within : (tree : Option Tree) (path : List (List ℕ)) (item : Item) → Leads tree path item → LeadsWithin (tree_at tree path) item
+leads_within None path item leads = tt
+leads_within (Some t) path item leads = go (below t path) (subst (λ (o : Option Tree). option_map sort_of o ≡ Some item.sort) (below-append t path item.name) leads)
   where
-    within : (o : Option Tree) → option_map sort_of o ≡ Some item.sort → IsSomeAnd o (λ found. sort_of found ≡ sorts.File)
-    within None e = absurd (cc)
-    within (Some found) e = let same : sort_of found ≡ item.sort = cc in same ∙ file
-
-pub file_there : (tree : Option Tree) (path longer : List (List ℕ)) (item : Item) → ForSome tree (λ t. HasFolderAt t path) → Leads (tree_at tree path) item → item.sort ≡ sorts.File
-    → longer ≡ path ++ item.name ∷ [] → ForSome tree (λ t. HasFileAt t longer)
-file_there tree path longer item folder leads file e = λ t told.
-    let here : Leads (below t path) item = subst (λ (o : Option Tree). Leads (tree_at o path) item) told leads in
-    let led : below t longer ≡ option_and_then (λ found. child found item.name) (below t path) = ap (below t) e ∙ below-append t path item.name in
-    subst (λ (o : Option Tree). IsSomeAnd o (λ found. sort_of found ≡ sorts.File)) (sym led) (is_file_there (below t path) item (folder t told) here file)
+    go : (o : Option Tree) → option_map sort_of (option_and_then (λ found. child found item.name) o) ≡ Some item.sort → LeadsWithin o item
+    go None e = tt
+    go (Some found) e = e
 
 -- how many bytes a file has
 file_has : (layer : Tree-F Tree) (n : ℕ) → sort_within layer ≡ sorts.File → IfSome (bytes_within layer) (λ bytes. n ≡ min (length bytes) 18446744073709551615) → n ≡ min (size_of (bytes_within layer)) 18446744073709551615
@@ -95,7 +81,7 @@ file_has (File bytes) n file h = h
 file_has (Folder entries) n file h = absurd (cc)
 file_has (Symlink target) n file h = absurd (cc)
 
-counts_within : (o : Option Tree) (item : Item) (n : ℕ) → Leads o item → item.sort ≡ sorts.File
+counts_within : (o : Option Tree) (item : Item) (n : ℕ) → LeadsWithin o item → item.sort ≡ sorts.File
     → IfSome (bytes_of (option_and_then (λ found. child found item.name) o)) (λ bytes. n ≡ min (length bytes) 18446744073709551615) → IfSome o (λ found. n ≡ min (file_size found item) 18446744073709551615)
 counts_within None item n leads file h = tt
 counts_within (Some t) item n leads file h = within (child t item.name) leads h
@@ -104,25 +90,28 @@ counts_within (Some t) item n leads file h = within (child t item.name) leads h
     within None e h = absurd (cc)
     within (Some found) e h = let same : sort_of found ≡ item.sort = cc in file_has (out-Tree found) n (same ∙ file) h
 
-pub file_counts : (tree : Option Tree) (path longer : List (List ℕ)) (item : Item) (n : ℕ) → Leads (tree_at tree path) item → item.sort ≡ sorts.File → longer ≡ path ++ item.name ∷ []
+pub file_counts : (tree : Option Tree) (path longer : List (List ℕ)) (item : Item) (n : ℕ) → Leads tree path item → item.sort ≡ sorts.File → longer ≡ path ++ item.name ∷ []
     → IfSome (bytes_of (tree_at tree longer)) (λ bytes. n ≡ min (length bytes) 18446744073709551615) → IfSome (tree_at tree path) (λ found. n ≡ min (file_size found item) 18446744073709551615)
 file_counts None path longer item n leads file e h = tt
 file_counts (Some t) path longer item n leads file e h =
     let led : below t longer ≡ option_and_then (λ found. child found item.name) (below t path) = ap (below t) e ∙ below-append t path item.name in
-    counts_within (below t path) item n leads file (subst (λ (o : Option Tree). IfSome (bytes_of o) (λ bytes. n ≡ min (length bytes) 18446744073709551615)) led h)
+    counts_within (below t path) item n (leads_within (Some t) path item leads) file (subst (λ (o : Option Tree). IfSome (bytes_of o) (λ bytes. n ≡ min (length bytes) 18446744073709551615)) led h)
 
 other_has : (layer : Tree-F Tree) → sort_within layer ≢ sorts.File → size_of (bytes_within layer) ≡ 0
 other_has (File bytes) other = absurd (other refl)
 other_has (Folder entries) other = refl
 other_has (Symlink target) other = refl
 
-pub other_counts : (o : Option Tree) (item : Item) → Leads o item → item.sort ≢ sorts.File → IfSome o (λ found. file_size found item ≡ 0)
-other_counts None item leads other = tt
-other_counts (Some t) item leads other = within (child t item.name) leads
+other_within : (o : Option Tree) (item : Item) → LeadsWithin o item → item.sort ≢ sorts.File → IfSome o (λ found. file_size found item ≡ 0)
+other_within None item leads other = tt
+other_within (Some t) item leads other = within (child t item.name) leads
   where
     within : (o : Option Tree) → option_map sort_of o ≡ Some item.sort → size_of (bytes_of o) ≡ 0
     within None e = refl
     within (Some found) e = let same : sort_of found ≡ item.sort = cc in other_has (out-Tree found) (λ file. other (sym same ∙ file))
+
+pub other_counts : (tree : Option Tree) (path : List (List ℕ)) (item : Item) → Leads tree path item → item.sort ≢ sorts.File → IfSome (tree_at tree path) (λ found. file_size found item ≡ 0)
+other_counts tree path item leads other = other_within (tree_at tree path) item (leads_within tree path item leads) other
 
 -- one more item
 pub sum_more : (f : Item → ℕ) (items : List Item) (i : ℕ) (item : Item) → i < length items → item ≡ get_or items i item → sum_by f (take (i + 1) items) ≡ sum_by f (take i items) + f item

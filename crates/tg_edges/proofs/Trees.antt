@@ -14,7 +14,8 @@ use Rattle.std.specs.Str.{bytes_eq}
 use Rattle.tg_edges.specs.declared.tree.Tree.{Tree}
 use Rattle.tg_edges.specs.declared.folders.Item.{Item}
 use Rattle.tg_edges.specs.Folders.{Leads}
-use Rattle.tg_edges.specs.Tree.{NamesDiffer, child, entries_of, item_of, items_of, names_of, sort_of, tree_at}
+use Rattle.std.specs.Option.{MatchOption, option_and_then}
+use Rattle.tg_edges.specs.Tree.{NamesDiffer, below, child, entries_of, item_of, items_of, names_of, sort_of, tree_at}
 
 -- a path leads nowhere where one of its names does
 pub led_nowhere : (start : Option Tree) (found : Tree) (path : List (List ℕ)) (i : ℕ) (name : List ℕ) → i < length path → name ≡ get_or path i name → start ≡ tree_at (Some found) (drop i path) → lookup (bytes_eq name) (entries_of found) ≡ None → start ≡ None
@@ -87,21 +88,37 @@ is_some-copied (Some x) = refl
 pub none_found : (o : Option (Bor Tree)) (key name : List ℕ) (es fs : List (List ℕ × Tree)) → option_copied o ≡ lookup (bytes_eq key) es → key ≡ name → es ≡ fs → o ≡ None → lookup (bytes_eq name) fs ≡ None
 none_found o key name es fs found k e none = let copied = ap option_copied none in cc
 
--- in a folder in which the names differ each name leads to what has it
-pub entries_lead : (tree : Tree) → IsDistinct bytes_eq (keys_of (entries_of tree)) → All (λ e. Leads (Some tree) (item_of e)) (entries_of tree)
-entries_lead tree h k d inside =
-    let es = entries_of tree in
-    let e : List ℕ × Tree = get_or es k d in
-    let found : lookup (bytes_eq e.0) es ≡ Some e.1 = lookup_from_place nat_list_eq_equiv es k e.0 e.1 h (slice_get-get_or es k d inside) in
-    ap (option_map sort_of) found
+-- a name after a path
+alone : (o : Option Tree) → option_and_then (λ found. Some found) o ≡ o
+alone None = refl
+alone (Some found) = refl
 
-pub items_lead : (tree : Tree) (path : List (List ℕ)) (found : Option Tree) (items : List Item) → NamesDiffer tree → tree_at (Some tree) path ≡ found → IfSome found (λ t. items ≡ items_of t) → All (Leads found) items
-items_lead tree path None items differ at e = λ k d h. tt
+append_within : (path : List (List ℕ)) (name : List ℕ) → ((t : Tree) → below t (path ++ name ∷ []) ≡ option_and_then (λ found. child found name) (below t path))
+    → (o : Option Tree) → option_and_then (λ found. below found (path ++ name ∷ [])) o ≡ option_and_then (λ found. child found name) (option_and_then (λ found. below found path) o)
+append_within path name h None = refl
+append_within path name h (Some found) = h found
+
+pub below-append : (tree : Tree) (path : List (List ℕ)) (name : List ℕ) → below tree (path ++ name ∷ []) ≡ option_and_then (λ found. child found name) (below tree path)
+below-append tree [] name = alone (child tree name)
+below-append tree (next ∷ path) name = append_within path name (λ t. below-append t path name) (child tree next)
+
+-- in a folder in which the names differ each name leads to what has it
+entries_lead : (tree : Tree) (path : List (List ℕ)) (found : Tree) → below tree path ≡ Some found → IsDistinct bytes_eq (keys_of (entries_of found)) → All (λ e. Leads (Some tree) path (item_of e)) (entries_of found)
+entries_lead tree path found at h k d inside =
+    let es = entries_of found in
+    let e : List ℕ × Tree = get_or es k d in
+    let led : below tree (path ++ e.0 ∷ []) ≡ child found e.0 = below-append tree path e.0 ∙ ap (option_and_then (λ t. child t e.0)) at in
+    let here : child found e.0 ≡ Some e.1 = lookup_from_place nat_list_eq_equiv es k e.0 e.1 h (slice_get-get_or es k d inside) in
+    ap (option_map sort_of) (led ∙ here)
+
+-- a path that leads nowhere lists nothing
+items_lead : (tree : Tree) (path : List (List ℕ)) (found : Option Tree) (items : List Item) → NamesDiffer tree → below tree path ≡ found → MatchOption found (items ≡ []) (λ t. items ≡ items_of t) → All (Leads (Some tree) path) items
+items_lead tree path None items differ at e = subst (All (Leads (Some tree) path)) (sym e) (λ k d h. absurd (omega (arith, h)))
 items_lead tree path (Some t) items differ at e =
     let here : IsDistinct bytes_eq (keys_of (entries_of t)) = subst (λ (o : Option Tree). IsDistinct bytes_eq (names_of o)) at (differ path) in
-    subst (All (Leads (Some t))) (sym e) (All-map (Leads (Some t)) item_of (entries_of t) (entries_lead t here))
+    subst (All (Leads (Some tree) path)) (sym e) (All-map (Leads (Some tree) path) item_of (entries_of t) (entries_lead tree path t at here))
 
-pub listed_lead : {E : Type 0} (tree : Tree) (path : List (List ℕ)) (r : Result (List Item) E) → NamesDiffer tree → IfOk r (λ items. IfSome (tree_at (Some tree) path) (λ t. items ≡ items_of t))
-    → IfOk r (λ items. All (Leads (tree_at (Some tree) path)) items)
+pub listed_lead : {E : Type 0} (tree : Tree) (path : List (List ℕ)) (r : Result (List Item) E) → NamesDiffer tree → IfOk r (λ items. MatchOption (tree_at (Some tree) path) (items ≡ []) (λ t. items ≡ items_of t))
+    → IfOk r (λ items. All (Leads (Some tree) path) items)
 listed_lead tree path (Err e) differ h = tt
-listed_lead tree path (Ok items) differ h = items_lead tree path (tree_at (Some tree) path) items differ refl h
+listed_lead tree path (Ok items) differ h = items_lead tree path (below tree path) items differ refl h

@@ -1,22 +1,21 @@
 -- What a folder lists.
-use Rattle.std.specs.Prelude.{◌≡◌, ◌≢◌, ℕ, List, [], ◌∷◌, ◌++◌, length, Contains, Option, Some, None, option_map, ⊤}
+use Rattle.std.specs.Prelude.{◌≡◌, ◌≢◌, ℕ, List, [], ◌∷◌, ◌++◌, length, Contains, Option, Some, None, ⊤}
 use Rattle.std.specs.List.Sorted.{IsPermutation}
 use Rattle.tg_edges.specs.declared.folders.FolderFault.{FolderFault}
 use Rattle.tg_edges.specs.declared.folders.FolderFault.TheVariants.{Failed, OutOfMemory}
 use Rattle.tg_edges.specs.declared.folders.Item.{Item}
 use Rattle.tg_edges.specs.declared.tree.Tree.{Tree}
 use Rattle.tg_edges.specs.Streams.{Rose}
-use Rattle.tg_edges.specs.Tree.{bytes_of, child, items_of, sort_of}
+use Rattle.tg_edges.specs.Tree.{IsAt, bytes_of, child, items_of}
 
 -- these are the names in a folder, each with its sort, in some order
 abbrev pub Lists : Option Tree → List Item → Type 0
 Lists (Some tree) items = IsPermutation (items_of tree) items
 Lists None items = ⊤
 
--- below a folder the item's name leads to a tree of its sort
-abbrev pub Leads : Option Tree → Item → Type 0
-Leads (Some tree) item = option_map sort_of (child tree item.name) ≡ Some item.sort
-Leads None item = ⊤
+-- below the folder at a path the item's name leads to a tree of its sort
+abbrev pub Leads : Option Tree → List (List ℕ) → Item → Type 0
+Leads tree path item = IsAt item.sort tree (path ++ item.name ∷ [])
 
 -- a fault of a folder is counted, and want of memory is not
 abbrev pub Counts : FolderFault → ℕ → ℕ → Type 0

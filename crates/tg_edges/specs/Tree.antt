@@ -1,5 +1,5 @@
 -- Trees of files, and what stands in them at a path of names.
-use Rattle.std.specs.Prelude.{◌≡◌, ℕ, List, [], ◌∷◌, map, Option, Some, None, IsSomeAnd}
+use Rattle.std.specs.Prelude.{◌≡◌, ℕ, List, [], ◌∷◌, map, Option, Some, None, option_map, ⊤}
 use Rattle.std.specs.Option.{option_and_then}
 use Rattle.std.specs.List.{IsDistinct}
 use Rattle.std.specs.Map.{keys_of, lookup}
@@ -51,12 +51,17 @@ below tree (name ∷ path) = option_and_then (λ found. below found path) (child
 abbrev pub tree_at : Option Tree → List (List ℕ) → Option Tree
 tree_at tree path = option_and_then (λ found. below found path) tree
 
--- at the path stands a folder, and a file
-abbrev pub HasFolderAt : Tree → List (List ℕ) → Type 0
-HasFolderAt tree path = IsSomeAnd (below tree path) (λ found. sort_of found ≡ sorts.Folder)
+-- what stands at a path is of that sort, as far as it is told
+abbrev pub IsAt : Sort → Option Tree → List (List ℕ) → Type 0
+IsAt sort (Some tree) path = option_map sort_of (below tree path) ≡ Some sort
+IsAt sort None path = ⊤
 
-abbrev pub HasFileAt : Tree → List (List ℕ) → Type 0
-HasFileAt tree path = IsSomeAnd (below tree path) (λ found. sort_of found ≡ sorts.File)
+-- at the path stands a folder, and a file, as far as it is told
+abbrev pub HasFolderAt : Option Tree → List (List ℕ) → Type 0
+HasFolderAt tree path = IsAt sorts.Folder tree path
+
+abbrev pub HasFileAt : Option Tree → List (List ℕ) → Type 0
+HasFileAt tree path = IsAt sorts.File tree path
 
 -- the names in a folder
 abbrev pub names_of : Option Tree → List (List ℕ)

@@ -1,6 +1,5 @@
 //! Folders in memory and of the system, and what generic code knows of any folder.
 ghost use Rattle.std.specs.Prelude.{◌≡◌, ◌+◌, ◌-◌, ◌^◌, ◌≤◌, ◌++◌, ◌∷◌, [], length, min, sum_by, IfOk, IfErr, IfSome, OnOk, OnErr};
-ghost use Rattle.std.specs.Option.{ForSome};
 ghost use Rattle.tg_edges.specs.Streams.{Rose};
 ghost use Rattle.tg_edges.specs.Folders.{Counts, file_size};
 ghost use Rattle.tg_edges.specs.Tree.{HasFileAt, HasFolderAt, bytes_of, items_of, tree_at};
@@ -15,7 +14,7 @@ use std::{env, fs, process};
 
 /// How many bytes the files in a folder have together, without those further below; 2 ^ 64 - 1 where it is more.
 fn folder_bytes<F: Folder>(folder: &mut F, alloc: Global, path: &[Bytes]) -> Result<u64, FolderFault>
-    requires { ForSome (F.tree folder.old) (λ t. HasFolderAt t path.now) }
+    requires { HasFolderAt (F.tree folder.old) path.now }
     ensures total { IfOk result (λ n. IfSome (tree_at (F.tree folder.old) path.now)
         (λ found. n ≡ min (sum_by (file_size found) (items_of found)) (2 ^ 64 - 1))) }
     ensures same { F.tree folder.new ≡ F.tree folder.old }
@@ -35,7 +34,7 @@ fn folder_bytes<F: Folder>(folder: &mut F, alloc: Global, path: &[Bytes]) -> Res
 
 /// How many bytes a file has; 2 ^ 64 - 1 where it is more.
 fn file_bytes<F: Folder>(folder: &mut F, path: &[Bytes]) -> Result<u64, Failed>
-    requires { ForSome (F.tree folder.old) (λ t. HasFileAt t path.now) }
+    requires { HasFileAt (F.tree folder.old) path.now }
     ensures size { IfOk result (λ n. IfSome (bytes_of (tree_at (F.tree folder.old) path.now))
         (λ bytes. n ≡ min (length bytes) (2 ^ 64 - 1))) }
     ensures same { F.tree folder.new ≡ F.tree folder.old }

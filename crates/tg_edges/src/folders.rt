@@ -83,9 +83,9 @@ pub trait Folder {
     /// The names in the folder at a path, each with its sort, in any order. The error is a fault of the folder, or want
     /// of memory.
     fn list(&mut self, path: &[Bytes]) -> Result<List<Item>, FolderFault>
-        requires { ForSome (tree self.old) (λ t. HasFolderAt t path.now) }
+        requires { HasFolderAt (tree self.old) path.now }
         ensures items { IfOk result (λ items. Lists (tree_at (tree self.old) path.now) items) }
-        ensures leads { IfOk result (λ items. All (Leads (tree_at (tree self.old) path.now)) items) }
+        ensures leads { IfOk result (λ items. All (Leads (tree self.old) path.now) items) }
         ensures same { tree self.new ≡ tree self.old }
         ensures quiet { OnOk result (faults self.new ≡ faults self.old) }
         ensures err_counts { IfErr result (λ e. Counts e (faults self.old) (faults self.new)) }
@@ -94,7 +94,7 @@ pub trait Folder {
     /// Reads bytes of the file at a path, from `offset` on, into the front of the buffer and says how many: none on a
     /// buffer that has room says that the file ends at the offset or before it. The error is a fault of the folder.
     fn read_at(&mut self, path: &[Bytes], offset: u64, buf: &mut [u8]) -> Result<usize, Failed>
-        requires { ForSome (tree self.old) (λ t. HasFileAt t path.now) }
+        requires { HasFileAt (tree self.old) path.now }
         ensures within { IfOk result (λ n. n ≤ length buf.new) }
         ensures bytes { let file = bytes_of (tree_at (tree self.old) path.now) in
             IfOk result (λ n. rest_at file offset ≡ after_front (take n buf.new) (rest_at file (offset + n))) }

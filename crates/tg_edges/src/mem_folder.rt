@@ -1,10 +1,10 @@
 //! A tree of files in memory, which is read and fails at the calls that it is given.
-ghost use Rattle.std.specs.Prelude.{◌≡◌, ◌+◌, ◌-◌, ◌<◌, ◌≤◌, ◌↔◌, min, [], length, take, drop, Some, All, IsErr, IsErrOf, Contains, OnErr, OnOk, IfOk, IfErr, IfSome};
+ghost use Rattle.std.specs.Prelude.{◌≡◌, ◌+◌, ◌-◌, ◌<◌, ◌≤◌, ◌↔◌, min, [], length, take, drop, Some, All, IsErr, IsErrOf, Contains, OnErr, OnOk, IfOk, IfErr, IfSome, MatchOption};
 ghost use Rattle.std.specs.Option.{ForSome};
 ghost use Rattle.tg_edges.specs.Streams.{after_front, IsNothing, Rose, counted};
 ghost use Rattle.tg_edges.specs.Packs.{rest_at};
 ghost use Rattle.tg_edges.specs.Folders.{Counts, Leads, Lists};
-ghost use Rattle.tg_edges.specs.Tree.{HasFileAt, HasFolderAt, IsFolderOfFiles, bytes_of, items_of, tree_at};
+ghost use Rattle.tg_edges.specs.Tree.{IsFolderOfFiles, bytes_of, items_of, tree_at};
 
 use crate::calls::{Calls, read_front};
 use crate::folders::{Folder, FolderFault, Item};
@@ -85,7 +85,7 @@ impl Folder for MemFolder {
     /// given.
     fn list(&mut self, path: &[Bytes]) -> Result<List<Item>, FolderFault>
         ensures items { IfOk result (λ items. Lists (tree_at (Some self.old.tree) path.now) items) }
-        ensures leads { IfOk result (λ items. All (Leads (tree_at (Some self.old.tree) path.now)) items) }
+        ensures leads { IfOk result (λ items. All (Leads (Some self.old.tree) path.now) items) }
         ensures same { Some self.new.tree ≡ Some self.old.tree }
         ensures quiet { OnOk result (self.new.faults ≡ self.old.faults) }
         ensures err_counts { IfErr result (λ e. Counts e self.old.faults self.new.faults) }
@@ -93,7 +93,7 @@ impl Folder for MemFolder {
 
         ensures fails { IsErrOf result FolderFault.Failed ↔ Contains self.old.fails self.old.calls }
         ensures in_order { IfOk result (λ items.
-            IfSome (tree_at (Some self.old.tree) path.now) (λ found. items ≡ items_of found)) }
+            MatchOption (tree_at (Some self.old.tree) path.now) (items ≡ []) (λ found. items ≡ items_of found)) }
         ensures call { (self.new.calls ≡ counted self.old.calls) × (self.new.fails ≡ self.old.fails) }
         ensures err_count { IsErrOf result FolderFault.Failed → self.new.faults ≡ counted self.old.faults }
     {

@@ -1,5 +1,4 @@
 use Rattle.std.proofs.Common.{◌≡◌, ◌≤◌, ◌<◌, ◌+◌, ◌∷◌, [], ◌++◌, length, take, min, sum_by, Option, IfSome, ap, sym, subst, ◌∙◌}
-use Rattle.std.specs.Option.{ForSome}
 use Rattle.tg_edges.specs.declared.tree.Tree.{Tree}
 use Rattle.tg_edges.specs.Folders.{Leads, Lists, file_size}
 use Rattle.tg_edges.specs.Tree.{HasFileAt, bytes_of, tree_at}
@@ -10,15 +9,15 @@ use Rattle.tg_edges.proofs.folder_tests.folder_bytes.Goals.{in-File+in_ok-path+i
 pub file_bytes-requires : goal.file_bytes-requires
 file_bytes-requires g c =
     let item = c.item-item.result in
-    let leads : Leads (tree_at (g.F.Folder.tree c.args.folder.now) c.args.path.now) item = lead_at _ c.in_ok-items.items _ c.loop-item.item-index item c.in_ok-items.ensures.leads c.as_slice-item-items.ensures c.loop-item-test.true c.item-item.is in
-    let there : ForSome (g.F.Folder.tree c.args.folder.now) (λ t. HasFileAt t c.as_slice.result.now) = file_there (g.F.Folder.tree c.args.folder.now) c.args.path.now c.as_slice.result.now item c.requires leads c.in-File.is (c.as_slice.ensures ∙ c.in_ok-path.ensures) in
-    subst (λ (o : Option Tree). ForSome o (λ t. HasFileAt t c.as_slice.result.now)) (sym c.loop-item.invariant.same) there
+    let leads : Leads (g.F.Folder.tree c.args.folder.now) c.args.path.now item = lead_at (g.F.Folder.tree c.args.folder.now) c.args.path.now c.in_ok-items.items _ c.loop-item.item-index item c.in_ok-items.ensures.leads c.as_slice-item-items.ensures c.loop-item-test.true c.item-item.is in
+    let there : HasFileAt (g.F.Folder.tree c.args.folder.now) c.as_slice.result.now = file_there (g.F.Folder.tree c.args.folder.now) c.args.path.now c.as_slice.result.now item leads c.in-File.is (c.as_slice.ensures ∙ c.in_ok-path.ensures) in
+    subst (λ (o : Option Tree). HasFileAt o c.as_slice.result.now) (sym c.loop-item.invariant.same) there
 
 pub loop-item-preserved : goal.loop-item-preserved
 loop-item-preserved g c =
     let item = c.item-item.result in
     let tree = g.F.Folder.tree c.args.folder.now in
-    let leads : Leads (tree_at tree c.args.path.now) item = lead_at _ c.in_ok-items.items _ c.loop-item.item-index item c.in_ok-items.ensures.leads c.as_slice-item-items.ensures c.loop-item-test.true c.item-item.is in
+    let leads : Leads tree c.args.path.now item = lead_at tree c.args.path.now c.in_ok-items.items _ c.loop-item.item-index item c.in_ok-items.ensures.leads c.as_slice-item-items.ensures c.loop-item-test.true c.item-item.is in
     elim c.match-item.branch [
       in-File+in_ok-path+in_ok-file_bytes w ↦
         let size : IfSome (bytes_of (tree_at tree w.as_slice.result.now)) (λ bytes. w.in_ok-file_bytes.field-0 ≡ min (length bytes) 18446744073709551615) = rw c.loop-item.invariant.same at w.in_ok-file_bytes.ensures.size in
@@ -33,7 +32,7 @@ loop-item-preserved g c =
         record {
           same = ap g.F.Folder.tree w.folder-is ∙ c.loop-item.invariant.same;
           quiet = ap g.F.Folder.faults w.folder-is ∙ c.loop-item.invariant.quiet;
-          total = passed_over _ c.as_slice-item-items.result.now c.loop-item.item-index item c.match-item.total c.loop-item-test.true c.item-item.is before (other_counts _ item leads w.in_default.not-File);
+          total = passed_over _ c.as_slice-item-items.result.now c.loop-item.item-index item c.match-item.total c.loop-item-test.true c.item-item.is before (other_counts tree c.args.path.now item leads w.in_default.not-File);
         }
     ]
 
