@@ -1,31 +1,21 @@
--- What generic code reads of packs and of folders, piece by piece.
-use Rattle.std.proofs.Common.{◌≡◌, ◌≢◌, ℕ, ◌+◌, ◌-◌, ◌^◌, ◌<◌, ◌≤◌, min, List, [], ◌∷◌, ◌++◌, length, take, drop, get_or, sum_by, Option, Some, None, IfSome, All, ap, sym, refl, ◌∙◌, subst, arith, append_assoc, append-nil, length-append}
+-- What generic code reads of a folder, piece by piece and item by item.
+use Rattle.std.proofs.Common.{◌≡◌, ◌≢◌, ℕ, ◌+◌, ◌-◌, ◌^◌, ◌<◌, ◌≤◌, min, List, [], ◌∷◌, ◌++◌, length, take, drop, get_or, sum_by, Option, Some, None, IfSome, All, ap, sym, refl, ◌∙◌, subst, arith, length-append}
 use Rattle.std.proofs.lemmas.List.{length-drop, take_all}
 use Rattle.std.proofs.lemmas.List.Sorted.{sum_by-IsPermutation}
 use Rattle.std.proofs.lemmas.List.Sums.{sum_by-append}
 use Rattle.std.proofs.Math.ListN.{drop_of_length-le}
 use Rattle.std.specs.Bool.{⊤}
 use Rattle.std.specs.Option.{option_and_then, option_map}
-use Rattle.std.specs.List.Sorted.{IsPermutation}
 use Rattle.tg_edges.specs.declared.folders.Item.{Item}
 use Rattle.tg_edges.specs.declared.folders.Sort.{Sort}
 use Rattle.tg_edges.specs.declared.folders.Sort.TheVariants as sorts
 use Rattle.tg_edges.specs.declared.tree.Tree.{Tree, Tree-F, out-Tree}
 use Rattle.tg_edges.specs.declared.tree.Tree.TheOpen.{File, Folder, Symlink}
 use Rattle.tg_edges.specs.Folders.{Leads, Lists, file_size, size_of}
-use Rattle.tg_edges.specs.Packs.{HasLength, rest_at}
+use Rattle.tg_edges.specs.Packs.{rest_at}
 use Rattle.tg_edges.specs.Streams.{IsNothing, after_front}
 use Rattle.tg_edges.specs.Tree.{HasFileAt, IsAt, below, bytes_of, bytes_within, child, items_of, sort_of, sort_within, tree_at}
 use Rattle.tg_edges.proofs.Trees.{below-append, take_more}
-
-pub after_front-joins : (u v : List ℕ) (rest : Option (List ℕ)) → after_front u (after_front v rest) ≡ after_front (u ++ v) rest
-after_front-joins u v None = refl
-after_front-joins u v (Some xs) = ap (λ ys. Some ys) (sym (append_assoc u v xs))
-
--- past its length nothing stands
-pub past_end : (held : Option (List ℕ)) (size at : ℕ) → HasLength held size → size ≤ at → IsNothing (rest_at held at)
-past_end None size at h l = tt
-past_end (Some xs) size at h l = drop_of_length-le xs (omega arith)
 
 -- a piece that was read is no longer than what is left
 pub piece_within : (xs got : List ℕ) (at n : ℕ) → at ≤ length xs → rest_at (Some xs) at ≡ after_front got (rest_at (Some xs) (at + n)) → length got ≡ n → at + n ≤ length xs
@@ -35,23 +25,6 @@ piece_within xs got at n h e size =
     let left = length-drop at xs in
     let rest = length-drop (at + n) xs in
     omega arith
-
--- one more piece
-pub read_on : (held : Option (List ℕ)) (size at n next : ℕ) (read got : List ℕ) → HasLength held size → size < 18446744073709551616 → at < size → length got ≡ n → next ≡ min (at + n) 18446744073709551615
-    → rest_at held 0 ≡ after_front read (rest_at held at) → rest_at held at ≡ after_front got (rest_at held (at + n)) → rest_at held 0 ≡ after_front (read ++ got) (rest_at held next)
-read_on None size at n next read got l s h size_is step before here = refl
-read_on (Some xs) size at n next read got l s h size_is step before here =
-    let within : at + n ≤ length xs = piece_within xs got at n (omega arith) here size_is in
-    let same : next ≡ at + n = omega arith in
-    rw same (before ∙ ap (after_front read) here ∙ after_front-joins read got (rest_at (Some xs) (at + n)))
-
--- all was read where nothing is left
-pub all_read : (held : Option (List ℕ)) (at : ℕ) (old into read : List ℕ) → into ≡ old ++ read → rest_at held 0 ≡ after_front read (rest_at held at) → IsNothing (rest_at held at) → IfSome held (λ xs. into ≡ old ++ xs)
-all_read None at old into read e h nothing = tt
-all_read (Some xs) at old into read e h nothing =
-    let whole : xs ≡ read ++ drop at xs = cc in
-    let bare : xs ≡ read = whole ∙ ap (λ ys. read ++ ys) nothing ∙ append-nil read in
-    e ∙ ap (λ ys. old ++ ys) (sym bare)
 
 -- each item that is listed leads to what it says
 pub lead_at : (tree : Option Tree) (path : List (List ℕ)) (items listed : List Item) (i : ℕ) (item : Item) → All (Leads tree path) items → listed ≡ items → i < length listed → item ≡ get_or listed i item → Leads tree path item

@@ -4,7 +4,7 @@ ghost use Rattle.std.specs.Option.{ForSome};
 ghost use Rattle.tg_edges.specs.Streams.{after_front, IsNothing, Rose};
 ghost use Rattle.tg_edges.specs.Packs.{rest_at};
 ghost use Rattle.tg_edges.specs.Folders.{Counts, Leads, Lists};
-ghost use Rattle.tg_edges.specs.Tree.{HasFileAt, HasFolderAt, IsFolderOfFiles, bytes_of, tree_at};
+ghost use Rattle.tg_edges.specs.Tree.{HasFileAt, HasFolderAt, NamesDiffer, bytes_of, tree_at};
 ghost use Rattle.tg_edges.specs.declared.folders.FolderFault.TheVariants.{Failed as FolderFailed, OutOfMemory};
 ghost use Rattle.tg_edges.specs.declared.tree.Tree.{Tree as FileTree};
 
@@ -71,10 +71,11 @@ pub trait Folder {
 
     ghost faults: { Self → ℕ };
 
-    /// Reads the folder at a path of the system from now on. The error is a fault of the folder, which stays the one
-    /// that it was.
+    /// Reads the folder at a path of the system from now on, in which, and in each folder below, the names differ. The
+    /// error is a fault of the folder, which stays the one that it was.
     fn attach(&mut self, path: &str) -> Result<(), Failed>
-        ensures folder { OnOk result (ForSome (tree self.new) IsFolderOfFiles) }
+        ensures folder { OnOk result (HasFolderAt (tree self.new) []) }
+        ensures names { OnOk result (ForSome (tree self.new) NamesDiffer) }
         ensures quiet { OnOk result (faults self.new ≡ faults self.old) }
         ensures err_tree { OnErr result (tree self.new ≡ tree self.old) }
         ensures err_rose { OnErr result (Rose (faults self.old) (faults self.new)) }

@@ -4,7 +4,7 @@ ghost use Rattle.std.specs.Option.{ForSome};
 ghost use Rattle.tg_edges.specs.Streams.{after_front, IsNothing, Rose, counted};
 ghost use Rattle.tg_edges.specs.Packs.{rest_at};
 ghost use Rattle.tg_edges.specs.Folders.{Counts, Leads, Lists};
-ghost use Rattle.tg_edges.specs.Tree.{IsFolderOfFiles, bytes_of, items_of, tree_at};
+ghost use Rattle.tg_edges.specs.Tree.{HasFolderAt, IsFolderOfFiles, NamesDiffer, bytes_of, items_of, tree_at};
 
 use crate::calls::{Calls, read_front};
 use crate::folders::{Folder, FolderFault, Item};
@@ -67,7 +67,8 @@ impl Folder for MemFolder {
     /// The path isn't looked at, and the tree stays. It fails exactly where the call's number stands in the list that it
     /// was given.
     fn attach(&mut self, _path: &str) -> Result<(), Failed>
-        ensures folder { OnOk result (ForSome (Some self.new.tree) IsFolderOfFiles) }
+        ensures folder { OnOk result (HasFolderAt (Some self.new.tree) []) }
+        ensures names { OnOk result (ForSome (Some self.new.tree) NamesDiffer) }
         ensures quiet { OnOk result (self.new.faults ≡ self.old.faults) }
         ensures err_tree { OnErr result (Some self.new.tree ≡ Some self.old.tree) }
         ensures err_rose { OnErr result (Rose self.old.faults self.new.faults) }
