@@ -1,5 +1,6 @@
 //! Lists that contracts see as plain lists.
-ghost use Rattle.std.specs.Prelude.{◌≡◌, [], ◌∷◌, ◌++◌, IfOk, OnOk, OnErr};
+ghost use Rattle.std.specs.Prelude.{◌≡◌, ◌+◌, ◌≤◌, [], ◌∷◌, ◌++◌, length, IfOk, OnOk, OnErr};
+ghost use Rattle.tg_edges.specs.Packs.{over};
 
 use std::alloc::{AllocError, Global};
 use std::marker::Model;
@@ -43,6 +44,21 @@ impl Bytes {
         ensures err { OnErr result (self.new ≡ self.old) }
     {
         self.bytes.extend_from_slice(bytes)
+    }
+
+    /// Puts the bytes in place of as many from `at` on, which are all there.
+    pub fn overwrite(&mut self, at: usize, bytes: &[u8])
+        requires { at + length bytes.now ≤ length self.old }
+        ensures { self.new ≡ over self.old at bytes.now }
+    {
+        self.bytes.as_mut_slice()[at..at + bytes.len()].copy_from_slice(bytes);
+    }
+
+    /// Removes all of the bytes.
+    pub fn clear(&mut self)
+        ensures { self.new ≡ [] }
+    {
+        self.bytes.clear();
     }
 
     /// The bytes in order.

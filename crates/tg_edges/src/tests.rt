@@ -125,7 +125,7 @@ fn a_link_keeps_what_it_heard(rt: HostRuntime) -> Result<(), Fail> {
 }
 
 /// A list of call numbers.
-fn numbers(rt: &HostRuntime, calls: &[u64]) -> Result<List<u64>, Fail> {
+pub(super) fn numbers(rt: &HostRuntime, calls: &[u64]) -> Result<List<u64>, Fail> {
     Ok(List::from(Vec::from_slice(rt.alloc(), calls)?))
 }
 
