@@ -1,4 +1,4 @@
-use Rattle.std.proofs.Common.{◌≡◌, ◌≤◌, ◌<◌, ◌+◌, ◌∷◌, [], ◌++◌, length, take, min, sum_by, Option, IfSome, ap, sym, subst, ◌∙◌}
+use Rattle.std.proofs.Common.{◌≡◌, length, take, min, sum_by, Option, IfSome, ap, sym, subst, ◌∙◌}
 use Rattle.tg_edges.specs.declared.tree.Tree.{Tree}
 use Rattle.tg_edges.specs.Folders.{Leads, Lists, file_size}
 use Rattle.tg_edges.specs.Tree.{HasFileAt, bytes_of, tree_at}

@@ -1,4 +1,4 @@
-use Rattle.std.proofs.Common.{◌≡◌, ◌<◌, IsTrue, length, take, ap, sym, ◌∙◌, subst, true, false, refl, All, List, get_or, Bool, arith, is_some, slice_get, ℕ, Some}
+use Rattle.std.proofs.Common.{◌≡◌, ◌<◌, IsTrue, length, take, ap, ◌∙◌, subst, true, false, refl, All, List, get_or, arith, is_some, ℕ}
 use Rattle.std.proofs.lemmas.List.{take_all}
 use Rattle.std.proofs.lemmas.Option.{slice_get_read}
 use Rattle.std.specs.List.{IsDistinct}
