@@ -43,9 +43,9 @@ took_none piece at n copied buf bytes p room e amount none =
 -- an offset past the end is one at the end
 pub drop_to_end : (a b : ℕ) (xs : List ℕ) → a ≡ min (length xs) b → drop a xs ≡ drop b xs
 drop_to_end a b xs e = elim (cases_lt (length xs) b) [
-    inl past ↦ drop_of_length-le xs (omega arith) ∙ sym (drop_of_length-le xs (omega arith))
+  | inl past ↦ drop_of_length-le xs (omega arith) ∙ sym (drop_of_length-le xs (omega arith))
   | inr within ↦ let same : a ≡ b = omega arith in ap (λ n. drop n xs) same
-  ]
+]
 
 -- What was copied from an offset into the front of a buffer is what stands there.
 pub read_from : (copied buf content : List ℕ) (offset at n : ℕ) → copied ≡ take n (take (length content - at) (drop at content)) → at ≡ min (length content) offset

@@ -1,5 +1,5 @@
 -- Places in trees, and trees in which the names differ.
-use Rattle.std.proofs.Common.{◌≡◌, ℕ, zero, suc, ◌<◌, ◌+◌, List, [], ◌∷◌, ◌++◌, length, take, drop, get_or, map, Bool, true, false, Option, Some, None, IfSome, All, Result, Ok, Err, IfOk, option_map, is_some, option_copied, ap, sym, refl, ◌∙◌, subst, arith, add-one, drop-cons}
+use Rattle.std.proofs.Common.{◌≡◌, ℕ, zero, suc, ◌<◌, ◌+◌, List, [], ◌∷◌, ◌++◌, length, take, drop, get_or, true, false, Option, Some, None, IfSome, All, Result, Ok, Err, IfOk, option_map, is_some, option_copied, ap, sym, refl, ◌∙◌, subst, arith, add-one, drop-cons}
 use Rattle.std.proofs.lemmas.Cmp.{nat_list_eq_equiv}
 use Rattle.std.proofs.lemmas.Map.Entries.{All-lookup, lookup_from_place}
 use Rattle.std.proofs.lemmas.List.Elements.{All-push, All-map}

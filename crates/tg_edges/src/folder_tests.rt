@@ -13,7 +13,11 @@ use std::test::Fail;
 use std::{env, fs, process};
 
 /// How many bytes the files in a folder have together, without those further below; 2 ^ 64 - 1 where it is more.
-fn folder_bytes<F: Folder>(folder: &mut F, alloc: Global, path: &[Bytes]) -> Result<u64, FolderFault>
+fn folder_bytes<F: Folder>(
+    folder: &mut F,
+    alloc: Global,
+    path: &[Bytes],
+) -> Result<u64, FolderFault>
     requires { HasFolderAt (F.tree folder.old) path.now }
     ensures total { IfOk result (λ n. IfSome (tree_at (F.tree folder.old) path.now)
         (λ found. n ≡ min (sum_by (file_size found) (items_of found)) (2 ^ 64 - 1))) }
@@ -78,13 +82,22 @@ fn path_of(rt: &HostRuntime, names: &[&str]) -> Result<List<Bytes>, Fail> {
 fn sample(rt: &HostRuntime) -> Result<Tree, Fail> {
     let alloc = rt.alloc();
     let mut docs = Vec::new(alloc);
-    docs.push((Bytes::of(alloc, b"b.txt")?, Tree::File(Bytes::of(alloc, b"abc")?)))?;
+    docs.push((
+        Bytes::of(alloc, b"b.txt")?,
+        Tree::File(Bytes::of(alloc, b"abc")?),
+    ))?;
     docs.push((Bytes::of(alloc, b"none")?, Tree::File(Bytes::new(alloc))))?;
     let mut top = Vec::new(alloc);
-    top.push((Bytes::of(alloc, b"a.txt")?, Tree::File(Bytes::of(alloc, b"hello world")?)))?;
+    top.push((
+        Bytes::of(alloc, b"a.txt")?,
+        Tree::File(Bytes::of(alloc, b"hello world")?),
+    ))?;
     top.push((Bytes::of(alloc, b"docs")?, Tree::Folder(docs)))?;
     top.push((Bytes::of(alloc, b"empty")?, Tree::Folder(Vec::new(alloc))))?;
-    top.push((Bytes::of(alloc, b"link")?, Tree::Symlink(Bytes::of(alloc, b"a.txt")?)))?;
+    top.push((
+        Bytes::of(alloc, b"link")?,
+        Tree::Symlink(Bytes::of(alloc, b"a.txt")?),
+    ))?;
     Ok(Tree::Folder(top))
 }
 
@@ -112,7 +125,9 @@ fn are(listed: Result<List<Item>, FolderFault>, wanted: &[(&str, Sort)]) -> bool
 }
 
 /// Which of five calls went wrong.
-fn gone_wrong(folder: &mut MemFolder, docs: &[Bytes], file: &[Bytes]) -> [bool; 5] {
+fn gone_wrong(folder: &mut MemFolder, docs: &[Bytes], file: &[Bytes]) -> [bool; 5]
+    ensures { folder.new.tree ≡ folder.old.tree }
+{
     let mut buf = [0; 8];
     let wanted = [("b.txt", Sort::File), ("none", Sort::File)];
     let attached = folder.attach("anywhere");
@@ -219,7 +234,11 @@ fn a_folder_of_the_system_is_read_back(rt: HostRuntime) -> Result<(), Fail> {
     ];
     for (name, bytes) in files {
         let path = path_of(&rt, &[name])?;
-        assert_eq!(rt; reads_back(&mut folder, path.as_slice(), bytes), Ok(true), "{name}");
+        assert_eq!(rt;
+            reads_back(&mut folder, path.as_slice(), bytes),
+            Ok(true),
+            "{name}"
+        );
     }
     assert_eq!(rt; folder_bytes(&mut folder, rt.alloc(), &[]), Ok(3_000_004));
     assert_eq!(rt; folder.count(), 0);
@@ -241,13 +260,20 @@ fn faults_of_a_folder_of_the_system_are_counted(rt: HostRuntime) -> Result<(), F
     assert_eq!(rt; folder.attach(top.as_str()), Ok(()));
     for name in ["link", "missing", "", ".", "..", "../file", "file/"] {
         let path = path_of(&rt, &[name])?;
-        assert_eq!(rt; reads_back(&mut folder, path.as_slice(), b""), Err(Failed), "{name}");
+        assert_eq!(rt;
+            reads_back(&mut folder, path.as_slice(), b""),
+            Err(Failed),
+            "{name}"
+        );
     }
     assert_eq!(rt; folder.count(), 10);
     fs::remove_dir_all(&rt, top.as_str())?;
     assert!(rt; folder.list(&[]).is_err());
     assert_eq!(rt; folder.attach("/dev"), Ok(()));
-    assert_eq!(rt; sort_named(folder.list(&[])?.as_slice(), "null"), Some(Sort::Other));
+    assert_eq!(rt;
+        sort_named(folder.list(&[])?.as_slice(), "null"),
+        Some(Sort::Other)
+    );
     assert_eq!(rt; folder.count(), 11);
     Ok(())
 }

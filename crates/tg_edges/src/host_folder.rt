@@ -16,7 +16,7 @@ use std::{fs, io, str};
 /// A tree of files of the system that is read. Its files aren't told. A file is opened anew for each read.
 ///
 /// Every call before it is attached is a fault, and so is a path with a name that isn't text or that doesn't lead into a
-/// folder: an empty one, one with a slash, one dot and two. What isn't a file of its own is never opened to be read.
+/// folder: an empty one, one with a slash, one dot and two. What is no file, such as a symbolic link, isn't opened.
 #[derive(Drop)]
 pub struct HostFolder<R> {
     rt: R,
@@ -108,7 +108,7 @@ impl<R: Files + AllocGlobal + Clone + Drop> Folder for HostFolder<R> {
         listed
     }
 
-    /// One read. Want of memory for the path is a fault.
+    /// One read. Want of memory for the path is a fault, and so is an offset of 2 ^ 63 or more.
     fn read_at(&mut self, path: &[Bytes], offset: u64, buf: &mut [u8]) -> Result<usize, Failed> {
         match self.piece(path, offset, buf) {
             Ok(n) => Ok(n),
@@ -184,7 +184,11 @@ fn sort_of(found: &Metadata) -> Sort
 }
 
 /// One read from an offset on.
-pub(crate) fn read_from<F: Read + Seek>(file: &mut F, offset: u64, buf: &mut [u8]) -> io::Result<usize>
+pub(crate) fn read_from<F: Read + Seek>(
+    file: &mut F,
+    offset: u64,
+    buf: &mut [u8],
+) -> io::Result<usize>
     ensures { ReadsAtMost result buf.new }
 {
     file.seek(SeekFrom::Start(offset))?;

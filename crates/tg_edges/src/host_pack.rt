@@ -80,7 +80,7 @@ impl<R: Files + Drop> Pack for HostPack<R> {
         self.counted(size)
     }
 
-    /// One read.
+    /// One read. An offset of 2 ^ 63 or more is a fault.
     fn read_at(&mut self, offset: u64, buf: &mut [u8]) -> Result<usize, Failed> {
         let read = match &mut self.file {
             Some(file) => read_from(file, offset, buf),

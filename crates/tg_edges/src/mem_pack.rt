@@ -164,7 +164,10 @@ impl Pack for MemPack {
         ensures err_count { OnErr result (self.new.faults ≡ counted self.old.faults) }
     {
         let mut called = self.calls.next();
-        if called.is_ok() && let Some(content) = &mut self.content && content.push_all(bytes).is_err() {
+        if called.is_ok()
+            && let Some(content) = &mut self.content
+            && content.push_all(bytes).is_err()
+        {
             called = Err(self.calls.fault());
         }
         if called.is_err() {

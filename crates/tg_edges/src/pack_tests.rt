@@ -1,6 +1,7 @@
 //! Packs in memory and of the system, and what generic code knows of any pack.
 ghost use Rattle.std.specs.Prelude.{◌≡◌, ◌++◌, IfErr, IfSome, OnOk};
 ghost use Rattle.tg_edges.specs.Folders.{Counts};
+ghost use Rattle.tg_edges.specs.Packs.{Reaches};
 
 use super::tests::numbers;
 use super::*;
@@ -29,7 +30,9 @@ fn read_all<P: Pack>(pack: &mut P, into: &mut Bytes) -> Result<(), FolderFault>
 }
 
 /// Which of six calls went wrong.
-fn gone_wrong(pack: &mut MemPack) -> [bool; 6] {
+fn gone_wrong(pack: &mut MemPack) -> [bool; 6]
+    requires { Reaches pack.old.content 11 }
+{
     let mut buf = [0; 8];
     let attached = pack.attach("anywhere", false);
     let size = pack.size();
@@ -112,7 +115,12 @@ fn faults_of_a_pack_of_the_system_are_counted(rt: HostRuntime) -> Result<(), Fai
     assert_eq!(rt; pack.append(b"x"), Err(Failed));
     assert_eq!(rt; pack.size(), Err(Failed));
     // A pack in a missing folder, and one that is a folder.
-    for (path, fresh) in [(path.as_str(), true), (path.as_str(), false), ("/", true), ("/", false)] {
+    for (path, fresh) in [
+        (path.as_str(), true),
+        (path.as_str(), false),
+        ("/", true),
+        ("/", false),
+    ] {
         assert_eq!(rt; pack.attach(path, fresh), Err(Failed), "{path}");
     }
     assert_eq!(rt; pack.count(), 6);

@@ -1,4 +1,4 @@
-use Rattle.std.proofs.Common.{◌≡◌, ◌≤◌, ◌-◌, ◌++◌, List, ℕ}
+use Rattle.std.proofs.Common.{◌≡◌, ◌-◌, ◌++◌, List, ℕ}
 use Rattle.tg_edges.specs.Packs.{rest_at}
 use Rattle.tg_edges.specs.Streams.{after_front}
 use Rattle.tg_edges.proofs.pack_tests.read_all.Given as goal

@@ -1,4 +1,4 @@
-use Rattle.std.proofs.Common.{ℕ, ◌-◌, ◌≤◌, length, take, drop, Some, sym, ap, ◌∙◌, subst, min}
+use Rattle.std.proofs.Common.{ℕ, ◌≤◌, length, drop, Some, sym, ap, ◌∙◌, subst}
 use Rattle.std.proofs.lemmas.List.{take_rest}
 use Rattle.std.proofs.Math.Nat.{min-le_right}
 use Rattle.tg_edges.proofs.Moves.{took_front, took_none}

@@ -1,4 +1,4 @@
-use Rattle.std.proofs.Common.{◌≡◌, ◌<◌, IsTrue, length, take, ap, sym, ◌∙◌, subst, true, false, refl, All, List, get_or, Bool, arith, is_some, slice_get, ℕ, Some}
+use Rattle.std.proofs.Common.{◌≡◌, ◌<◌, IsTrue, length, take, ap, ◌∙◌, subst, true, false, refl, All, List, get_or, arith, is_some, ℕ}
 use Rattle.std.proofs.lemmas.List.{take_all}
 use Rattle.std.proofs.lemmas.Option.{slice_get_read}
 use Rattle.std.specs.List.{IsDistinct}
@@ -20,16 +20,18 @@ returns-then-is_some t c =
     let e = c.index-entries-i.result in
     let es : c.entries-entries.result.now ≡ entries_of c.args.self.now = c.entries-entries.ensures in
     let inside : c.loop-i.i < length (entries_of c.args.self.now) = subst (λ (xs : List (List ℕ × Tree)). c.loop-i.i < length xs) es c.loop-i-test.true in
-    let at : e ≡ get_or (entries_of c.args.self.now) c.loop-i.i e = c.index-entries-i.is ∙ ap (λ (xs : List (List ℕ × Tree)). get_or xs c.loop-i.i e) es in
-    (λ h. absurd (cc), λ differ.
-      elim c.then-is_some.branch [
-        then-is_some-via-then-is_some w ↦
-          let some : is_some (lookup (bytes_eq e.0) (take c.loop-i.i (entries_of c.args.self.now))) ≡ true = let copied = is_some-copied c.find.result in let same = w.if-is_some.true in cc in
-          absurd (found_again c.args.self.now c.loop-i.i e inside at some differ)
-      | then-is_some-via-else-is_some+then-not-names_differ w ↦
-          let below : NamesDiffer e.1 = differ_below c.args.self.now c.loop-i.i e differ (slice_get_read _ _ c.loop-i.i e refl inside at) in
-          subst IsTrue w.if-not-names_differ.true (w.names_differ.ensures.1 below)
-      ])
+    let at : e ≡ get_or (entries_of c.args.self.now) c.loop-i.i e = c.index-entries-i.is ∙ ap (λ (xs : List (List ℕ × Tree)). get_or xs c.loop-i.i e) es in (
+      λ h. absurd (cc),
+      λ differ.
+          elim c.then-is_some.branch [
+            | then-is_some-via-then-is_some w ↦
+                let some : is_some (lookup (bytes_eq e.0) (take c.loop-i.i (entries_of c.args.self.now))) ≡ true = let copied = is_some-copied c.find.result in let same = w.if-is_some.true in cc in
+                absurd (found_again c.args.self.now c.loop-i.i e inside at some differ)
+            | then-is_some-via-else-is_some+then-not-names_differ w ↦
+                let below : NamesDiffer e.1 = differ_below c.args.self.now c.loop-i.i e differ (slice_get_read _ _ c.loop-i.i e refl inside at) in
+                subst IsTrue w.if-not-names_differ.true (w.names_differ.ensures.1 below)
+          ],
+    )
 
 pub loop-i-preserved : goal.loop-i-preserved
 loop-i-preserved t c =
