@@ -101,6 +101,7 @@ impl HeaderState {
         }
     }
 
+    /// The state behind one more byte, by what may follow in each.
     fn next(self, byte: u8) -> Option<HeaderState>
         ensures { GoesOn self byte result }
     {

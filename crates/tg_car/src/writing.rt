@@ -24,7 +24,8 @@ const HEAD: usize = 142;
 pub fn header(alloc: Global, root: &Cid) -> Result<Bytes, AllocError>
     ensures { IfOk result (λ bytes. HeaderOf root.now bytes) }
 {
-    let (name, size) = root.to_v1().spelling();
+    let one = root.to_v1();
+    let (name, size) = one.spelling();
     let mut bytes = Bytes::of(alloc, &BEFORE)?;
     bytes.push_all(&name[..size])?;
     bytes.push_all(&BEHIND)?;

@@ -10,7 +10,7 @@ pub returns : goal.returns
 returns c =
     let name = take c.spelling-size.result.1 c.spelling-size.result.0 in
     let root : CidParts = record c.args.root.now { version = 1 } in
-    let is : CidBytes root name = subst (λ (p : CidParts). CidBytes p name) c.to_v1.ensures c.spelling-size.ensures.spelled in
+    let is : CidBytes root name = subst (λ (p : CidParts). CidBytes p name) c.to_v1-one.ensures c.spelling-size.ensures.spelled in
     let size = cid_size root name refl is in
     let first = c.in_ok-bytes.ensures in
     let second = c.in_ok-push_all.ensures.ok in
