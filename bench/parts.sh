@@ -1,6 +1,7 @@
 #!/usr/bin/env bash
 # The name hash over 1 MB of bytes beside a copy of the same memory, in MB/s and as a ratio; and the scan of protobuf
-# texts of 12,500 to 50,000 fields, whose speed stays the same as the text grows.
+# texts of 12,500 to 50,000 fields, whose speed stays the same as the text grows; and the reader of CARs over 256 MB beside
+# a copy of the same memory.
 set -u
 cd "$(dirname "$0")/.." || exit 1
 command -v rt >/dev/null 2>&1 || { echo "skipped: no rt"; exit 0; }
@@ -13,3 +14,8 @@ program=$PWD/crates/tg_bench/out/tg_bench
     { print }
     END { printf "name hash / copy of the memory: %.2f of its speed\n", hash / copy }'
 "$program" table
+"$program" car | awk '
+    /^reader/ { car = $5 }
+    /^copy/ { copy = $2 }
+    { print }
+    END { printf "reader of a CAR / copy of the memory: %.2f of its speed\n", car / copy }'

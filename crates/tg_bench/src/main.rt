@@ -1,7 +1,8 @@
-//! Speeds of parts that no command shows on their own: `tg_bench name-hash` and `tg_bench table`. Without a word it does nothing, as `rt ci` runs
-//! it.
+//! Speeds of parts that no command shows on their own: `tg_bench name-hash`, `tg_bench table` and `tg_bench car`. Without a word
+//! it does nothing, as `rt ci` runs it.
 #![tactic(auto)]
 
+mod car;
 mod name_hash;
 mod table;
 
@@ -13,6 +14,7 @@ fn main(rt: HostRuntime) -> io::Result<()> {
     match words.next() {
         Some(word) if word.as_str() == "name-hash" => name_hash::run(&rt),
         Some(word) if word.as_str() == "table" => table::run(&rt),
+        Some(word) if word.as_str() == "car" => car::run(&rt),
         _ => Ok(()),
     }
 }

@@ -38,7 +38,14 @@ impl Model for CarReader {
 
     ghost Value = { ReaderState };
 
-    ghost view = { λ r. record { limit = r.limit; refused = r.refused; place = r.place; in_header = r.in_header; header = r.header; came = came_of r.part } };
+    ghost view = { λ r. record {
+      limit = r.limit;
+      refused = r.refused;
+      place = r.place;
+      in_header = r.in_header;
+      header = r.header;
+      came = came_of r.part;
+    } };
 
     ghost invariant = { λ r. IsPart r.part };
 }
@@ -78,9 +85,11 @@ impl CarReader {
         ensures moves { IfOk result (λ found. 0 < length piece.now → 0 < found.0) }
         ensures need { IfOk result (λ found. found.1 ≡ Event.Need → found.0 ≡ length piece.now) }
         // Each history that the reader stood for, with this call added, is one that it stands for.
-        ensures stands { (h : History) → StandsFor self.old h → StandsFor self.new (with_feed h piece.now result) }
+        ensures stands { (h : History) → StandsFor self.old h
+            → StandsFor self.new (with_feed h piece.now result) }
         // After a refusal each call gives that refusal and changes nothing.
-        ensures again { (fault : CarFault) → self.old.refused ≡ Some fault → (result ≡ Err fault) × (self.new ≡ self.old) }
+        ensures again { (fault : CarFault) → self.old.refused ≡ Some fault
+            → (result ≡ Err fault) × (self.new ≡ self.old) }
         ensures kept { MatchResult result (λ _. (self.old.refused ≡ None) × (self.new.refused ≡ None))
             (λ fault. self.new.refused ≡ Some fault) }
         ensures limit { self.new.limit ≡ self.old.limit }
@@ -101,10 +110,13 @@ impl CarReader {
     ///
     /// CARv1 specification. Errors: `Torn` where the bytes end inside the header or a section, and a refusal of before.
     pub fn end(&mut self) -> Result<(), CarFault>
-        ensures whole { (h : History) → StandsFor self.old h → OnOk result ((roots : List (List ℕ)) × CarText roots h.sections h.fed) }
+        // What was fed is then a CAR of the sections that were given.
+        ensures whole { (h : History) → StandsFor self.old h
+            → OnOk result ((roots : List (List ℕ)) × CarText roots h.sections h.fed) }
         ensures stands { (h : History) → StandsFor self.old h → StandsFor self.new (with_end h result) }
         // After a refusal each call gives that refusal and changes nothing.
-        ensures again { (fault : CarFault) → self.old.refused ≡ Some fault → (result ≡ Err fault) × (self.new ≡ self.old) }
+        ensures again { (fault : CarFault) → self.old.refused ≡ Some fault
+            → (result ≡ Err fault) × (self.new ≡ self.old) }
         ensures kept { MatchResult result (λ _. (self.old.refused ≡ None) × (self.new ≡ self.old))
             (λ fault. self.new.refused ≡ Some fault) }
         ensures limit { self.new.limit ≡ self.old.limit }
@@ -124,7 +136,7 @@ impl CarReader {
         Err(fault)
     }
 
-    /// The same as `feed` of a reader that refused nothing, but that it doesn't keep its refusal.
+    /// The same as `feed` of a reader that refused nothing, but that no refusal is kept.
     fn advance(&mut self, piece: &[u8]) -> Result<(usize, Event), CarFault>
         ensures { MatchResult result (λ found. Steps self.old self.new piece.now found.0 found.1)
             (λ fault. Stops self.old self.new piece.now fault) }
@@ -198,11 +210,12 @@ fn follow(mut state: HeaderState, piece: &[u8]) -> Option<Followed>
 
 /// A reader that refused nothing missed no refusal: no cause of one holds of the bytes that it was fed.
 pub fn none_missed()
-    ensures { (limit : ℕ) (h : History) (fault : CarFault) → IsExact limit h → h.refused ≡ None → HasCarCause limit h.fed fault → ⊥ }
+    ensures { (limit : ℕ) (h : History) (fault : CarFault) → IsExact limit h → h.refused ≡ None
+        → HasCarCause limit h.fed fault → ⊥ }
 {}
 
 /// Bytes have one division: readers that refused nothing of the same bytes gave the same.
 pub fn one_division()
-    ensures { (limit : ℕ) (g h : History) → IsExact limit g → IsExact limit h → g.refused ≡ None → h.refused ≡ None → g.fed ≡ h.fed
-        → g ≡ h }
+    ensures { (limit : ℕ) (g h : History) → IsExact limit g → IsExact limit h
+        → g.refused ≡ None → h.refused ≡ None → g.fed ≡ h.fed → g ≡ h }
 {}
