@@ -118,7 +118,8 @@ impl Pack for MemPack {
         ensures err_counted { OnErr result (self.old.faults ≤ self.new.faults) }
 
         ensures fails { IsErr result ↔ Contains self.old.fails self.old.calls }
-        ensures amount { IfOk result (λ n. IfSome self.old.content (λ held. n ≡ min (length buf.new) (length held - offset))) }
+        ensures amount { IfOk result (λ n. IfSome self.old.content
+            (λ held. n ≡ min (length buf.new) (length held - offset))) }
         ensures others { IfOk result (λ n. drop n buf.new ≡ drop n buf.old) }
         ensures err_buffer { OnErr result (buf.new ≡ buf.old) }
         ensures call { (self.new.calls ≡ counted self.old.calls) × (self.new.fails ≡ self.old.fails) }
