@@ -1,10 +1,9 @@
 -- The steps over the head of the array of roots.
-use Rattle.std.proofs.Common.{◌≡◌, ◌↔◌, ℕ, ◌+◌, ◌-◌, ◌*◌, ◌<◌, ◌≤◌, ◌⊎◌, Option, Some, None, Bool, true, false, List, [], ◌∷◌, ◌++◌, length, ap, sym, ◌∙◌, refl, subst, MatchOption, inl, inr, arith}
+use Rattle.std.proofs.Common.{◌≡◌, ◌↔◌, ℕ, ◌+◌, ◌-◌, ◌<◌, ◌≤◌, ◌⊎◌, Option, Some, None, Bool, true, false, List, [], ◌∷◌, ◌++◌, length, ap, sym, ◌∙◌, refl, subst, MatchOption, inl, inr, arith}
 use Rattle.std.specs.Bool.{then_some}
 use Rattle.std.specs.List.{flat_map}
-use Rattle.tg_car.specs.CarText.{IsRoot, array_head, root_text, header_map}
+use Rattle.tg_car.specs.CarText.{array_head, root_text, header_map}
 use Rattle.tg_car.specs.HeaderState.{CanBe, IsLive, RootsThen, ArrayThen, Follows, GoesOn, map_back}
-use Rattle.tg_car.specs.declared.header_state.Roots.{Roots}
 use Rattle.tg_car.specs.declared.header_state.HeaderState.{HeaderState}
 use Rattle.tg_car.specs.declared.header_state.HeaderState.TheVariants as states
 use Rattle.tg_car.proofs.Sizes.{array_head_is, map_size, roots_can_be}

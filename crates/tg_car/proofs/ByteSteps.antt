@@ -1,7 +1,7 @@
 -- The steps over a byte of the front of the map and of a root.
-use Rattle.std.proofs.Common.{◌≡◌, ◌↔◌, ℕ, ◌+◌, ◌-◌, ◌<◌, ◌≤◌, List, [], ◌∷◌, ◌++◌, length, drop, get_or, All, ap, sym, ◌∙◌, refl, subst, add-one, arith}
+use Rattle.std.proofs.Common.{◌≡◌, ◌↔◌, ℕ, ◌+◌, ◌-◌, ◌<◌, List, [], ◌∷◌, ◌++◌, length, drop, get_or, All, ap, sym, ◌∙◌, refl, subst, add-one, arith}
 use Rattle.std.proofs.Math.Seq.{drop-cons}
-use Rattle.std.proofs.lemmas.List.Elements.{All-head, All-tail, All-nil, All-cons}
+use Rattle.std.proofs.lemmas.List.Elements.{All-tail, All-nil, All-cons}
 use Rattle.tg_car.specs.HeaderState.{BytesThen, RootsThen, Follows, map_front}
 use Rattle.tg_car.specs.declared.header_state.Roots.{Roots}
 use Rattle.tg_car.specs.declared.header_state.HeaderState.TheVariants as states

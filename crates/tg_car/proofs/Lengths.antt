@@ -1,10 +1,10 @@
 -- The length before the map: a varint of one byte or two.
-use Rattle.std.proofs.Common.{◌≡◌, ◌↔◌, ℕ, ◌+◌, ◌-◌, ◌*◌, ◌%◌, ◌<◌, ◌≤◌, ◌⊎◌, Option, Some, None, List, [], ◌∷◌, ◌++◌, length, All, ap, sym, ◌∙◌, refl, subst, MatchOption, inl, inr, arith}
+use Rattle.std.proofs.Common.{◌≡◌, ◌↔◌, ℕ, ◌+◌, ◌*◌, ◌%◌, ◌<◌, ◌≤◌, Option, Some, None, List, [], ◌∷◌, ◌++◌, length, ap, sym, ◌∙◌, refl, subst, MatchOption, arith}
 use Rattle.std.specs.List.{flat_map}
 use Rattle.std.proofs.lemmas.List.Elements.{All-head, All-nil, All-cons}
 use Rattle.tg_varint.specs.Varint.{number_of, AllGoOn, VarintSpelling}
-use Rattle.tg_car.specs.CarText.{IsRoot, array_head, root_text, header_map, HeaderText}
-use Rattle.tg_car.specs.HeaderState.{IsMapSize, IsLive, ArrayThen, Follows, GoesOn, map_front, map_back}
+use Rattle.tg_car.specs.CarText.{array_head, root_text, header_map, HeaderText}
+use Rattle.tg_car.specs.HeaderState.{IsMapSize, IsLive, Follows, GoesOn, map_front, map_back}
 use Rattle.tg_car.specs.declared.header_state.HeaderState.{HeaderState}
 use Rattle.tg_car.specs.declared.header_state.HeaderState.TheVariants as states
 use Rattle.tg_car.proofs.Sizes.{map_size_is}

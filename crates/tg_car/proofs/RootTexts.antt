@@ -1,13 +1,13 @@
 -- The first of some roots, and what is behind it.
-use Rattle.std.proofs.Common.{◌≡◌, ◌↔◌, ℕ, ◌+◌, ◌-◌, ◌*◌, ◌<◌, ◌≤◌, ◌⊎◌, List, [], ◌∷◌, ◌++◌, length, All, ap, ap₂, sym, ◌∙◌, refl, subst, inl, inr, arith}
+use Rattle.std.proofs.Common.{◌≡◌, ℕ, ◌+◌, ◌-◌, ◌<◌, ◌≤◌, ◌⊎◌, List, [], ◌∷◌, ◌++◌, length, All, ap, sym, ◌∙◌, refl, subst, inl, inr, arith}
 use Rattle.std.specs.List.{flat_map}
 use Rattle.std.proofs.lemmas.List.{length-append, append_assoc}
 use Rattle.std.proofs.lemmas.List.Elements.{All-head, All-tail, All-cons}
 use Rattle.tg_car.specs.CarText.{IsRoot, string_head, root_text}
-use Rattle.tg_car.specs.HeaderState.{CanBe, RootsThen, BytesThen, map_back, Follows}
+use Rattle.tg_car.specs.HeaderState.{CanBe, RootsThen, map_back, Follows}
 use Rattle.tg_car.specs.declared.header_state.Roots.{Roots}
 use Rattle.tg_car.specs.declared.header_state.HeaderState.TheVariants as states
-use Rattle.tg_car.proofs.Sizes.{string_head_is, root_size, root_bounds, roots_can_be}
+use Rattle.tg_car.proofs.Sizes.{string_head_is, root_size, roots_can_be}
 
 -- the first of so many roots, of so many bytes together
 pub record FirstRoot (count bytes : ℕ) (rest : List ℕ) : Type 0 where

@@ -1,7 +1,7 @@
 -- The steps over the head of a root's byte string.
-use Rattle.std.proofs.Common.{◌≡◌, ◌↔◌, ℕ, ◌+◌, ◌-◌, ◌*◌, ◌<◌, ◌≤◌, Option, Some, None, Bool, true, false, List, [], ◌∷◌, ◌++◌, length, ap, sym, ◌∙◌, refl, subst, MatchOption, inl, inr, arith}
+use Rattle.std.proofs.Common.{◌≡◌, ◌↔◌, ℕ, ◌+◌, ◌-◌, ◌*◌, ◌<◌, ◌≤◌, Option, Some, None, Bool, true, false, List, ◌∷◌, sym, refl, subst, MatchOption, inl, inr, arith}
 use Rattle.std.specs.Bool.{then_some}
-use Rattle.tg_car.specs.HeaderState.{CanBe, IsLive, RootsThen, Follows, GoesOn}
+use Rattle.tg_car.specs.HeaderState.{CanBe, IsLive, Follows, GoesOn}
 use Rattle.tg_car.specs.declared.header_state.Roots.{Roots}
 use Rattle.tg_car.specs.declared.header_state.HeaderState.{HeaderState}
 use Rattle.tg_car.specs.declared.header_state.HeaderState.TheVariants as states

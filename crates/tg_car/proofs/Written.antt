@@ -1,18 +1,17 @@
 -- What is written: a header of one root, and what stands before a block.
-use Rattle.std.proofs.Common.{◌≡◌, ℕ, ◌+◌, ◌-◌, ◌*◌, ◌%◌, ◌<◌, ◌≤◌, List, [], ◌∷◌, ◌++◌, length, take, drop, replicate, All, ap, ap₂, sym, ◌∙◌, refl, subst, inl, inr, arith}
+use Rattle.std.proofs.Common.{◌≡◌, ℕ, ◌+◌, ◌<◌, ◌≤◌, List, [], ◌∷◌, ◌++◌, length, take, drop, All, ap, sym, ◌∙◌, refl, subst, inl, inr, arith}
 use Rattle.std.proofs.lemmas.List.{append_assoc, append-nil, length-append, take_at, drop_at}
 use Rattle.std.proofs.lemmas.List.Elements.{All-nil, All-cons, All-append}
 use Rattle.std.specs.List.{flat_map}
 use Rattle.tg_varint.specs.Varint.{number_of, VarintSpelling}
 use Rattle.tg_cid.specs.Cid.{CidParts}
-use Rattle.tg_cid.specs.Spelling.{CidBytes, CidV0Bytes, CidV1Bytes, IsDigestSize, Varints, codec_code, hash_code}
+use Rattle.tg_cid.specs.Spelling.{CidBytes, CidV1Bytes, IsDigestSize, codec_code, hash_code}
 use Rattle.tg_cid.specs.declared.cid.Codec.{Codec}
 use Rattle.tg_cid.specs.declared.cid.Codec.TheVariants.{Raw, DagPb}
 use Rattle.tg_cid.specs.declared.cid.HashKind.{HashKind}
 use Rattle.tg_cid.specs.declared.cid.HashKind.TheVariants.{Sha256, Identity}
 use Rattle.tg_car.specs.CarText.{IsRoot, string_head, root_text, header_map, HeaderText, SectionText}
 use Rattle.tg_car.specs.HeaderState.{map_back}
-use Rattle.tg_car.specs.declared.section.Section.{Section}
 use Rattle.tg_car.proofs.Sizes.{string_head_is, root_size, map_size}
 use Rattle.tg_car.proofs.Lengths.{positive}
 

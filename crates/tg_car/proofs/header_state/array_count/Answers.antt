@@ -1,5 +1,5 @@
 -- The second byte of a head of two.
-use Rattle.std.proofs.Common.{◌≡◌, ◌≤◌, ◌+◌, ◌-◌, arith}
+use Rattle.std.proofs.Common.{◌≡◌, ◌≤◌, ◌-◌, arith}
 use Rattle.tg_car.proofs.ArraySteps.{long_step}
 use Rattle.tg_car.proofs.header_state.array_count.Goals as goal
 

@@ -1,5 +1,5 @@
 -- A length of one byte.
-use Rattle.std.proofs.Common.{◌≡◌, ℕ, subst}
+use Rattle.std.proofs.Common.{subst}
 use Rattle.tg_car.proofs.Lengths.{IsMapOf, one_step}
 use Rattle.tg_car.proofs.header_state.first_byte.Goals as goal
 

@@ -1,5 +1,5 @@
 -- The byte that came is compared with the one that stands there.
-use Rattle.std.proofs.Common.{◌≡◌, ℕ, ◌<◌, ◌+◌, get_or, ◌∙◌, sym, ap, arith}
+use Rattle.std.proofs.Common.{◌≡◌, get_or, ◌∙◌, sym, ap, arith}
 use Rattle.tg_car.specs.HeaderState.{map_front}
 use Rattle.tg_car.proofs.ByteSteps.{front_to, front_from}
 use Rattle.tg_car.proofs.header_state.front.Goals as goal

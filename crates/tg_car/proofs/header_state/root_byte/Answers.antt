@@ -1,5 +1,5 @@
 -- The last byte of a root, and another.
-use Rattle.std.proofs.Common.{◌≡◌, ◌<◌, arith}
+use Rattle.std.proofs.Common.{arith}
 use Rattle.tg_car.proofs.ByteSteps.{last_byte, bytes_to, bytes_from}
 use Rattle.tg_car.proofs.header_state.root_byte.Goals as goal
 

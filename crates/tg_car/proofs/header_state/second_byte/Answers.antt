@@ -1,5 +1,5 @@
 -- A length of two bytes.
-use Rattle.std.proofs.Common.{◌≡◌, ℕ, ◌+◌, ◌*◌, ◌%◌, ◌<◌, arith}
+use Rattle.std.proofs.Common.{◌≡◌, ◌+◌, ◌*◌, ◌%◌, arith}
 use Rattle.tg_car.proofs.Lengths.{two_step, second_refused}
 use Rattle.tg_car.proofs.header_state.second_byte.Goals as goal
 use Rattle.tg_car.proofs.header_state.second_byte.Goals.{then-byte-eq0-via-then-byte-eq0, then-byte-eq0-via-else-byte-eq0+then-byte-ge128}

@@ -1,6 +1,5 @@
 -- What was pushed, one behind another.
-use Rattle.std.proofs.Common.{◌≡◌, ℕ, ◌++◌, List, take, ap, ◌∙◌, refl, subst, arith}
-use Rattle.std.proofs.lemmas.List.{append_assoc}
+use Rattle.std.proofs.Common.{◌++◌, take, ap, ◌∙◌, refl, subst}
 use Rattle.tg_cid.specs.Cid.{CidParts}
 use Rattle.tg_cid.specs.Spelling.{CidBytes}
 use Rattle.tg_car.specs.HeaderState.{map_back}

@@ -1,5 +1,5 @@
 -- Both stand in the front of the array.
-use Rattle.std.proofs.Common.{◌≡◌, ℕ, ◌+◌, ◌-◌, ◌≤◌, List, ◌++◌, length, take, drop, replicate, sym, ap, ap₂, ◌∙◌, refl, subst, arith}
+use Rattle.std.proofs.Common.{◌≡◌, ℕ, ◌+◌, ◌-◌, ◌≤◌, List, ◌++◌, length, take, drop, replicate, sym, ap, ◌∙◌, subst, arith}
 use Rattle.std.proofs.lemmas.List.{length-take-le, drop-replicate}
 use Rattle.tg_varint.specs.Varint.{VarintSpelling}
 use Rattle.tg_car.proofs.Written.{before_block, front_of_room}

@@ -1,5 +1,5 @@
 -- Only at the end of the map nothing more may follow.
-use Rattle.std.proofs.Common.{◌≡◌, eqb, subst}
+use Rattle.std.proofs.Common.{eqb, subst}
 use Rattle.std.proofs.lemmas.Bool.{eqb-true, eqb-false}
 use Rattle.tg_car.specs.HeaderState.{FollowsHeader}
 use Rattle.tg_car.specs.declared.header_state.HeaderState.{HeaderState}
