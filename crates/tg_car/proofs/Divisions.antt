@@ -1,5 +1,5 @@
 -- What bytes that a reader took are, and that they are so in one way.
-use Rattle.std.proofs.Common.{◌≡◌, ℕ, ◌+◌, ◌-◌, ◌<◌, ◌≤◌, ◌⊎◌, Bool, true, false, Option, Some, None, List, [], ◌∷◌, ◌++◌, length, take, drop, All, refl, ap, ap₂, sym, ◌∙◌, subst, inl, inr, arith}
+use Rattle.std.proofs.Common.{◌≡◌, ℕ, ◌<◌, ◌≤◌, Option, None, List, [], ◌∷◌, ◌++◌, length, All, refl, ap, ap₂, sym, ◌∙◌, subst, inl, inr, arith}
 use Rattle.std.proofs.lemmas.Bool.{cases_lt}
 use Rattle.std.proofs.lemmas.List.{append_assoc, append-nil, append_cancel_left, length-append, length_push}
 use Rattle.std.proofs.lemmas.List.Elements.{All-head, All-tail}
@@ -8,12 +8,12 @@ use Rattle.tg_cid.specs.Cid.{CidParts}
 use Rattle.tg_car.specs.declared.section.Section.{Section}
 use Rattle.tg_car.specs.declared.fault.CarFault.{CarFault}
 use Rattle.tg_car.specs.declared.fault.CarFault.TheVariants as faults
-use Rattle.tg_car.specs.CarText.{HeaderText, SectionText, SectionsText, CarText}
-use Rattle.tg_car.specs.Fronts.{IsCarFront, IsInHeader, IsInSection, IsWithin, Declares, Reaches}
-use Rattle.tg_car.specs.Faults.{BreaksHeader, BreaksSection, PassesLimit, HasFront, HasCarCause}
+use Rattle.tg_car.specs.CarText.{HeaderText, SectionsText, CarText}
+use Rattle.tg_car.specs.Fronts.{IsCarFront, IsInHeader, IsInSection, IsWithin, Reaches}
+use Rattle.tg_car.specs.Faults.{PassesLimit, HasCarCause}
 use Rattle.tg_car.specs.Heads.{HeadText, IsInHead, IsNoHead}
 use Rattle.tg_car.specs.History.{History, IsBeforeSections, IsAmongSections, GoesOn, IsExact, IsExactly}
-use Rattle.tg_car.proofs.Heads.{Longer, longer, one_head, no_head_behind}
+use Rattle.tg_car.proofs.Heads.{longer, one_head, no_head_behind}
 use Rattle.tg_car.proofs.OneText.{one_header}
 use Rattle.tg_car.proofs.Openings.{nothing_in_head}
 use Rattle.tg_car.proofs.Parts.{head_inside}

@@ -1,17 +1,16 @@
 -- One call of a reader, and the histories that it stands for.
-use Rattle.std.proofs.Common.{◌≡◌, ℕ, ◌+◌, ◌-◌, ◌^◌, ◌<◌, ◌≤◌, ◌⊎◌, Bool, true, false, Option, Some, None, List, [], ◌∷◌, ◌++◌, length, take, drop, min, All, refl, ap, ap₂, sym, ◌∙◌, subst, inl, inr, arith}
-use Rattle.std.proofs.lemmas.List.{append_assoc, append-nil, length-append, length-take-le, take-append-drop, take_all, length_push}
-use Rattle.std.proofs.lemmas.List.Elements.{All-append, All-nil, All-push}
+use Rattle.std.proofs.Common.{◌≡◌, ℕ, ◌+◌, ◌-◌, ◌^◌, ◌<◌, ◌≤◌, ◌⊎◌, Bool, true, false, Option, Some, None, List, [], ◌∷◌, ◌++◌, length, take, drop, min, All, refl, ap, sym, ◌∙◌, subst, inl, inr, arith}
+use Rattle.std.proofs.lemmas.List.{append_assoc, append-nil, length-append, length-take-le, take-append-drop, take_all}
+use Rattle.std.proofs.lemmas.List.Elements.{All-nil, All-push}
 use Rattle.tg_car.specs.declared.section.Section.{Section}
 use Rattle.tg_car.specs.declared.event.Event.{Event}
 use Rattle.tg_car.specs.declared.event.Event.TheVariants as events
 use Rattle.tg_car.specs.declared.fault.CarFault.{CarFault}
 use Rattle.tg_car.specs.declared.fault.CarFault.TheVariants as faults
 use Rattle.tg_car.specs.declared.header_state.HeaderState.{HeaderState}
-use Rattle.tg_car.specs.declared.reader.Followed.{Followed}
-use Rattle.tg_car.specs.CarText.{IsRoot, HeaderText, SectionText, SectionsText, CarText, header_map}
-use Rattle.tg_car.specs.Fronts.{IsInHeader, IsInSection, IsWithin, Reaches}
-use Rattle.tg_car.specs.Faults.{shown, BreaksHeader, BreaksSection, PassesLimit, HasCarCause, HasEndCause, EndsInSection}
+use Rattle.tg_car.specs.CarText.{IsRoot, HeaderText, SectionsText, CarText, header_map}
+use Rattle.tg_car.specs.Fronts.{IsInHeader, Reaches}
+use Rattle.tg_car.specs.Faults.{shown, HasCarCause, HasEndCause}
 use Rattle.tg_car.specs.Filling.{Takes, BreaksHead, DeclaresMore}
 use Rattle.tg_car.specs.HeaderState.{FollowsHeader}
 use Rattle.tg_car.specs.History.{History, IsBeforeSections, IsAmongSections, GoesOn, StopsWith, IsExact, IsExactly, nothing, with_event, with_refusal}

@@ -1,13 +1,12 @@
 -- No section's length and CID begin another's.
-use Rattle.std.proofs.Common.{◌≡◌, ℕ, ◌+◌, ◌-◌, ◌^◌, ◌<◌, ◌≤◌, ◌⊎◌, List, [], ◌∷◌, ◌++◌, length, take, drop, replicate, All, refl, ap, ap₂, sym, ◌∙◌, subst, inl, inr, arith}
+use Rattle.std.proofs.Common.{◌≡◌, ℕ, ◌+◌, ◌<◌, ◌≤◌, List, [], ◌∷◌, ◌++◌, length, take, drop, ap, ap₂, sym, ◌∙◌, subst, inl, inr, arith}
 use Rattle.std.proofs.lemmas.Bool.{cases_lt}
-use Rattle.std.proofs.lemmas.List.{append_assoc, append-nil, append_cancel_left, length-append, length-drop, length-replicate, take-append-drop, take-append-le, length_push}
-use Rattle.std.proofs.Math.Seq.{drop-append-add, take-append-add}
-use Rattle.tg_varint.specs.Varint.{VarintSpelling, AllGoOn, EndsInside}
+use Rattle.std.proofs.lemmas.List.{append_assoc, append-nil, append_cancel_left, length-append, take-append-drop, take-append-le, length_push}
+use Rattle.std.proofs.Math.Seq.{take-append-add}
 use Rattle.tg_varint.proofs.Uniqueness.{no_front_of_another}
 use Rattle.tg_cid.specs.Cid.{CidParts}
-use Rattle.tg_cid.specs.Spelling.{CidBytes, codec_code}
-use Rattle.tg_car.specs.Heads.{HeadText, IsInHead, IsNoHead, IsNameHead, zero_head, one_head_of}
+use Rattle.tg_cid.specs.Spelling.{CidBytes}
+use Rattle.tg_car.specs.Heads.{HeadText, IsInHead, IsNoHead}
 use Rattle.tg_car.proofs.Names.{one_name, cid_head}
 
 -- two lists with one whole: the first begins with the second or is shorter and begins it

@@ -1,12 +1,12 @@
 -- The three heads behind which a CID's digest stands.
 use Rattle.std.proofs.Common.{◌≡◌, ℕ, zero, suc, ◌+◌, ◌-◌, ◌<◌, ◌≤◌, ◌⊎◌, List, [], ◌∷◌, ◌++◌, length, take, drop, replicate, All, min, refl, ap, ap₂, sym, ◌∙◌, subst, inl, inr, arith}
-use Rattle.std.proofs.lemmas.List.{append_assoc, append-nil, append_cancel_left, length-append, length-drop, length-replicate, length-take-le, take-append-drop, take-append-le, take_at, take_all}
+use Rattle.std.proofs.lemmas.List.{append_assoc, length-append, length-drop, length-replicate, take-append-drop, take-append-le, take_at, take_all}
 use Rattle.std.proofs.lemmas.List.Elements.{All-append, All-drop, All-nil, All-replicate}
 use Rattle.std.proofs.lemmas.Bool.{cases_lt}
 use Rattle.tg_varint.specs.Varint.{VarintSpelling}
 use Rattle.tg_varint.proofs.Uniqueness.{one_spelling_each}
 use Rattle.tg_cid.specs.Cid.{CidParts}
-use Rattle.tg_cid.specs.Spelling.{CidBytes, CidV0Bytes, CidV1Bytes, IsDigestSize, Varints, codec_code, hash_code}
+use Rattle.tg_cid.specs.Spelling.{CidBytes, IsDigestSize, Varints, codec_code, hash_code}
 use Rattle.tg_cid.specs.declared.cid.Codec.{Codec}
 use Rattle.tg_cid.specs.declared.cid.Codec.TheVariants.{Raw, DagPb}
 use Rattle.tg_cid.specs.declared.cid.HashKind.{HashKind}

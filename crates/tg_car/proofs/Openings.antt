@@ -1,5 +1,5 @@
 -- What bytes at the front of a section are, by their length and what is behind it.
-use Rattle.std.proofs.Common.{◌≡◌, ℕ, zero, suc, ◌+◌, ◌-◌, ◌*◌, ◌<◌, ◌≤◌, ◌⊎◌, List, [], ◌∷◌, ◌++◌, length, take, drop, replicate, All, refl, ap, ap₂, sym, ◌∙◌, subst, inl, inr, arith}
+use Rattle.std.proofs.Common.{◌≡◌, ℕ, zero, suc, ◌+◌, ◌-◌, ◌<◌, ◌≤◌, List, [], ◌∷◌, ◌++◌, length, take, drop, replicate, All, refl, ap, sym, ◌∙◌, subst, inl, arith}
 use Rattle.std.proofs.lemmas.List.{append_assoc, append-nil, append_cancel_left, length-append, length-replicate, take-append-le}
 use Rattle.std.proofs.lemmas.List.Elements.{All-append, All-nil, All-replicate}
 use Rattle.tg_varint.specs.Varint.{VarintSpelling, number_of, EndsInside, PassesNine, EndsInZero}
@@ -7,7 +7,7 @@ use Rattle.tg_varint.proofs.Uniqueness.{no_front_of_another}
 use Rattle.tg_varint.proofs.Reading.{stops_once, stops_by_spelling, stops_by_zero, not_past}
 use Rattle.tg_cid.specs.Cid.{CidParts}
 use Rattle.tg_cid.specs.Spelling.{CidBytes}
-use Rattle.tg_car.specs.Heads.{HeadText, IsInHead, IsNoHead, IsNameHead, Agrees, IsFewest, IsNoName, zero_head, one_head_of}
+use Rattle.tg_car.specs.Heads.{HeadText, IsInHead, IsNoHead, IsFewest, IsNoName, zero_head}
 use Rattle.tg_car.proofs.Names.{head_cid, cid_head, name_goes_on, name_goes_past, name_agrees, alone, heads_differ}
 
 -- the CID behind a length

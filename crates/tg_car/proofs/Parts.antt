@@ -1,14 +1,13 @@
 -- A section whose length and CID are whole, and bytes of its block.
-use Rattle.std.proofs.Common.{◌≡◌, ℕ, ◌+◌, ◌-◌, ◌<◌, ◌≤◌, ◌⊎◌, List, [], ◌∷◌, ◌++◌, length, take, drop, replicate, All, refl, ap, ap₂, sym, ◌∙◌, subst, inl, inr, arith}
-use Rattle.std.proofs.lemmas.List.{append_assoc, append-nil, append_cancel_left, length-append, length-replicate}
+use Rattle.std.proofs.Common.{◌≡◌, ℕ, ◌+◌, ◌-◌, ◌<◌, ◌≤◌, List, ◌++◌, length, replicate, All, refl, ap, sym, ◌∙◌, subst, arith}
+use Rattle.std.proofs.lemmas.List.{append_assoc, length-append, length-replicate}
 use Rattle.std.proofs.lemmas.List.Elements.{All-append, All-replicate}
 use Rattle.tg_varint.specs.Varint.{VarintSpelling}
 use Rattle.tg_cid.specs.Cid.{CidParts}
-use Rattle.tg_car.specs.declared.section.Section.{Section}
 use Rattle.tg_car.specs.CarText.{SectionText}
 use Rattle.tg_car.specs.Fronts.{IsInSection, IsWithin, Declares}
-use Rattle.tg_car.specs.Heads.{HeadText, IsInHead, IsNoHead}
-use Rattle.tg_car.proofs.Heads.{SameHeads, one_head, not_both}
+use Rattle.tg_car.specs.Heads.{HeadText, IsInHead}
+use Rattle.tg_car.proofs.Heads.{one_head, not_both}
 
 pub whole_section : (c : CidParts) (n : ℕ) (head block : List ℕ) → HeadText c n head → length block ≡ n → All (λ b. b < 256) block
     → SectionText (record { cid = c; block = block }) (head ++ block)

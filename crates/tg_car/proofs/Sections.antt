@@ -1,15 +1,11 @@
 -- No section begins another, and bytes have one division into sections.
-use Rattle.std.proofs.Common.{◌≡◌, ℕ, ◌+◌, ◌-◌, ◌<◌, ◌≤◌, ◌⊎◌, List, [], ◌∷◌, ◌++◌, length, take, drop, All, refl, ap, ap₂, sym, ◌∙◌, subst, inl, inr, arith}
-use Rattle.std.proofs.lemmas.Bool.{cases_lt}
-use Rattle.std.proofs.lemmas.List.{append_assoc, append-nil, append_cancel_left, length-append, take_at, length_push}
-use Rattle.tg_varint.specs.Varint.{VarintSpelling}
-use Rattle.tg_cid.specs.Cid.{CidParts}
-use Rattle.tg_cid.specs.Spelling.{CidBytes}
+use Rattle.std.proofs.Common.{◌≡◌, ℕ, ◌<◌, List, [], ◌∷◌, ◌++◌, length, take, refl, ap, ap₂, sym, ◌∙◌, arith}
+use Rattle.std.proofs.lemmas.List.{append_assoc, append-nil, append_cancel_left, length-append, take_at}
 use Rattle.tg_car.specs.declared.section.Section.{Section}
-use Rattle.tg_car.specs.CarText.{HeaderText, SectionText, SectionsText, CarText}
-use Rattle.tg_car.specs.Fronts.{IsCarFront, IsInHeader, IsInSection, IsWithin, Declares, Reaches}
-use Rattle.tg_car.specs.Heads.{HeadText, IsInHead, IsNoHead}
-use Rattle.tg_car.proofs.Heads.{longer, one_head, no_head_behind, head_size, not_both}
+use Rattle.tg_car.specs.CarText.{SectionText, SectionsText}
+use Rattle.tg_car.specs.Fronts.{IsInSection}
+use Rattle.tg_car.specs.Heads.{HeadText}
+use Rattle.tg_car.proofs.Heads.{one_head}
 
 -- the length and the CID of a section
 pub section_head : (s : Section) (a : List ℕ) → (t : SectionText s a) → HeadText s.cid (length s.block) (t.size ++ t.name)

@@ -1,10 +1,9 @@
 -- One call of a reader that has refused nothing.
-use Rattle.std.specs.Prelude.{◌≡◌, ℕ, ◌+◌, ◌<◌, ◌≤◌, ◌⊎◌, Bool, true, false, Option, Some, None, List, ◌∷◌, ◌++◌, [], length, take, Result, Ok, Err}
+use Rattle.std.specs.Prelude.{◌≡◌, ℕ, ◌<◌, ◌≤◌, ◌⊎◌, Bool, true, false, Option, Some, None, List, ◌∷◌, ◌++◌, length, take}
 use Rattle.tg_car.specs.declared.event.Event.{Event}
 use Rattle.tg_car.specs.declared.event.Event.TheVariants.{Need}
 use Rattle.tg_car.specs.declared.fault.CarFault.{CarFault}
 use Rattle.tg_car.specs.declared.fault.CarFault.TheVariants.{OutOfMemory}
-use Rattle.tg_car.specs.declared.header_state.HeaderState.{HeaderState}
 use Rattle.tg_car.specs.declared.reader.Followed.{Followed}
 use Rattle.tg_car.specs.CarText.{HeaderText}
 use Rattle.tg_car.specs.Faults.{HasCarCause}

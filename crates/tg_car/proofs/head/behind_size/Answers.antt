@@ -1,4 +1,4 @@
-use Rattle.std.proofs.Common.{◌≡◌, ℕ, ◌<◌, List, All, arith}
+use Rattle.std.proofs.Common.{◌<◌, All, arith}
 use Rattle.std.proofs.lemmas.List.Elements.{All-from_get_or}
 use Rattle.tg_car.proofs.Openings.{no_name, too_few, open_name, whole_name, broken_name}
 use Rattle.tg_car.proofs.head.behind_size.Goals as goal

@@ -1,5 +1,4 @@
-use Rattle.std.proofs.Common.{◌≡◌, ℕ, ◌+◌, ◌<◌, ◌≤◌, List, ◌∷◌, [], ◌++◌, length, take, get_or, ap, sym, subst, ◌∙◌, arith}
-use Rattle.std.proofs.lemmas.List.{append_assoc, take_more}
+use Rattle.std.proofs.Common.{ℕ, List, subst, arith}
 use Rattle.tg_car.specs.Filling.{IsFront}
 use Rattle.tg_car.proofs.Heads.{in_head_size}
 use Rattle.tg_car.proofs.Takings.{filled}

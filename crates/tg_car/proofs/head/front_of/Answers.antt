@@ -1,4 +1,4 @@
-use Rattle.std.proofs.Common.{◌≡◌, ℕ, ◌<◌, All, arith}
+use Rattle.std.proofs.Common.{◌<◌, All, arith}
 use Rattle.std.proofs.lemmas.List.Elements.{All-from_get_or}
 use Rattle.tg_car.proofs.Openings.{short_size, long_size, zero_size}
 use Rattle.tg_car.proofs.head.front_of.Goals as goal

@@ -1,4 +1,4 @@
-use Rattle.std.proofs.Common.{◌≡◌, ℕ, ◌<◌, All, arith}
+use Rattle.std.proofs.Common.{◌<◌, All, arith}
 use Rattle.std.proofs.lemmas.List.{take_rest}
 use Rattle.std.proofs.lemmas.List.Elements.{All-from_get_or}
 use Rattle.tg_car.proofs.Takings.{block_result, takes_head, takes_both}

@@ -1,4 +1,4 @@
-use Rattle.std.proofs.Common.{◌∙◌, ap, rules}
+use Rattle.std.proofs.Common.{rules}
 use Rattle.tg_car.proofs.Openings.{nothing_in_head}
 use Rattle.tg_car.proofs.part.Part.take_block.Goals as goal
 

@@ -1,4 +1,4 @@
-use Rattle.std.proofs.Common.{◌≡◌, ◌∙◌, ap, subst, rules}
+use Rattle.std.proofs.Common.{◌∙◌}
 use Rattle.tg_car.proofs.Takings.{no_part, open_part}
 use Rattle.tg_car.proofs.part.Part.take_head.Goals as goal
 

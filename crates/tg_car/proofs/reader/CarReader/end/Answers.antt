@@ -1,4 +1,4 @@
-use Rattle.std.proofs.Common.{◌≡◌, Bool, true, false, List, [], IsTrue, Some, ap, ◌∙◌, refl, subst}
+use Rattle.std.proofs.Common.{[], Some, refl, subst}
 use Rattle.std.proofs.lemmas.Bool.{false≢true}
 use Rattle.tg_car.specs.declared.fault.CarFault.TheVariants.{Torn}
 use Rattle.tg_car.specs.Faults.{HasEndCause}

@@ -1,4 +1,4 @@
-use Rattle.std.proofs.Common.{◌≡◌, ℕ, ap, ◌∙◌, sym, refl}
+use Rattle.std.proofs.Common.{ap, ◌∙◌, sym, refl}
 use Rattle.tg_car.specs.State.{ReaderState}
 use Rattle.tg_car.proofs.Feeding.{stands_on, stands_refused}
 use Rattle.tg_car.proofs.reader.CarReader.feed.Goals as goal

@@ -1,6 +1,6 @@
-use Rattle.std.proofs.Common.{◌≡◌, Bool, true, false, ap, ◌∙◌, refl, subst}
-use Rattle.tg_car.specs.declared.event.Event.TheVariants.{Need, Header, Section}
-use Rattle.tg_car.specs.declared.fault.CarFault.TheVariants.{BadHeader, BadSection, BlockLimit}
+use Rattle.std.proofs.Common.{◌≡◌, true, false, ap, ◌∙◌, refl, subst}
+use Rattle.tg_car.specs.declared.event.Event.TheVariants.{Need, Header}
+use Rattle.tg_car.specs.declared.fault.CarFault.TheVariants.{BadHeader}
 use Rattle.tg_car.specs.Filling.{came_of}
 use Rattle.tg_car.specs.State.{ReaderState}
 use Rattle.tg_car.specs.Steps.{Steps, Stops}
