@@ -141,13 +141,112 @@ const TWO: &[LinkSpan<'static>] = &[
     },
 ];
 
-/// The parts of a node, borrowed, and its canonical text.
-#[derive(Clone, Copy, Debug)]
-struct Parts<'a> {
+/// A block, which is the canonical text of its node, and the node's parts.
+#[derive(Clone, Copy)]
+struct Row<'a> {
+    block: &'a [u8],
     links: &'a [LinkSpan<'a>],
     payload: Option<&'a [u8]>,
-    canonical: &'a [u8],
 }
+
+// Published blocks, and blocks that are worked out by hand: a key is the number times eight plus the wire type 2, or 0 for a
+// size.
+const BLOCKS: &[Row<'static>] = &[
+    Row {
+        block: FILE,
+        links: FILE_LINKS,
+        payload: Some(b"\x08\x02\x18\x0b\x20\x04\x20\x04\x20\x03"),
+    },
+    Row {
+        block: SHARD,
+        links: SHARD_LINKS,
+        payload: Some(SHARD_DATA),
+    },
+    // IPLD's fixtures of the DAG-PB codec, by their names there: empty; Data zero; Data some; Links Hash some, and then
+    // with Name zero, Name some, Tsize zero, Tsize some; and the last with a name and a size.
+    Row {
+        block: b"",
+        links: &[],
+        payload: None,
+    },
+    Row {
+        block: b"\x0a\x00",
+        links: &[],
+        payload: Some(b""),
+    },
+    Row {
+        block: b"\x0a\x05\0\x01\x02\x03\x04",
+        links: &[],
+        payload: Some(b"\0\x01\x02\x03\x04"),
+    },
+    Row {
+        block: b"\x12\x0b\x0a\x09\x01\x55\0\x05\0\x01\x02\x03\x04",
+        links: BARE,
+        payload: None,
+    },
+    Row {
+        block: b"\x12\x0d\x0a\x09\x01\x55\0\x05\0\x01\x02\x03\x04\x12\0",
+        links: EMPTY_NAME,
+        payload: None,
+    },
+    Row {
+        block: b"\x12\x16\x0a\x09\x01\x55\0\x05\0\x01\x02\x03\x04\x12\x09some name",
+        links: NAMED,
+        payload: None,
+    },
+    Row {
+        block: b"\x12\x0d\x0a\x09\x01\x55\0\x05\0\x01\x02\x03\x04\x18\0",
+        links: NO_SIZE,
+        payload: None,
+    },
+    Row {
+        block: b"\x12\x14\x0a\x09\x01\x55\0\x05\0\x01\x02\x03\x04\x18\xff\xff\xff\xff\xff\xff\xff\x0f",
+        links: SIZED,
+        payload: None,
+    },
+    Row {
+        block: b"\x12\x1f\x0a\x09\x01\x55\0\x05\0\x01\x02\x03\x04\x12\x09some name\
+        \x18\xff\xff\xff\xff\xff\xff\xff\x0f",
+        links: FULL,
+        payload: None,
+    },
+    // A hash of no bytes is none of a CID, which the layer above reads.
+    Row {
+        block: b"\x12\x02\x0a\0",
+        links: NO_HASH,
+        payload: None,
+    },
+    Row {
+        block: b"\x12\x08\x0a\x01a\x12\x03\xff\0/",
+        links: ODD_NAME,
+        payload: None,
+    },
+    Row {
+        block: b"\x12\x0e\x0a\x01a\x18\xff\xff\xff\xff\xff\xff\xff\xff\xff\x01",
+        links: LARGEST,
+        payload: None,
+    },
+    Row {
+        block: b"\x12\x03\x0a\x01a\x12\x03\x0a\x01b",
+        links: TWO,
+        payload: None,
+    },
+    Row {
+        block: b"\x12\x03\x0a\x01a\x12\x03\x0a\x01b\x0a\0",
+        links: TWO,
+        payload: Some(b""),
+    },
+    Row {
+        block: b"\x12\x03\x0a\x01a\x12\x03\x0a\x01b\x0a\x01c",
+        links: TWO,
+        payload: Some(b"c"),
+    },
+    Row {
+        block: b"\x12\x0b\x0a\x09\x01\x55\0\x05\0\x01\x02\x03\x04\x0a\x05\0\x01\x02\x03\x04",
+        links: BARE,
+        payload: Some(b"\0\x01\x02\x03\x04"),
+    },
+];
 
 fn span_of(link: &Link) -> LinkSpan<'_> {
     LinkSpan {
@@ -178,108 +277,26 @@ fn walked(alloc: Global, block: &[u8]) -> Result<Vec<LinkSpan<'_>>, Fail>
 }
 
 // Decode finds the node, check agrees, cursors find its links, and it is written as its canonical text.
-fn expect_node(rt: &impl Abort, alloc: Global, block: &[u8], want: Parts<'_>) -> Result<(), Fail> {
+fn expect_node(rt: &impl Abort, alloc: Global, row: Row<'_>) -> Result<(), Fail> {
     one_text();
+    let block = row.block;
     let node = decode(alloc, block)?;
     assert_eq!(rt; check(block), Ok(()), "at {block:?}");
-    assert_eq!(rt; bytes_of(&node.payload), want.payload, "at {block:?}");
+    assert_eq!(rt; bytes_of(&node.payload), row.payload, "at {block:?}");
     let links = node.links.as_slice();
-    assert_eq!(rt; links.len(), want.links.len(), "at {block:?}");
-    for (link, want) in links.iter().zip(want.links) {
+    assert_eq!(rt; links.len(), row.links.len(), "at {block:?}");
+    for (link, want) in links.iter().zip(row.links) {
         assert_eq!(rt; span_of(link), *want, "at {block:?}");
     }
-    assert_eq!(rt;
-        walked(alloc, block)?.as_slice(),
-        want.links,
-        "at {block:?}"
-    );
-    assert_eq!(rt;
-        encode(alloc, &node)?.as_slice(),
-        want.canonical,
-        "at {block:?}"
-    );
+    assert_eq!(rt; walked(alloc, block)?.as_slice(), row.links, "at {block:?}");
+    assert_eq!(rt; encode(alloc, &node)?.as_slice(), block, "at {block:?}");
     Ok(())
 }
 
-// The published blocks, and blocks that are worked out by hand: a key is the number times eight plus the wire type 2, or 0
-// for a size.
 #[test]
 fn nodes(rt: HostRuntime) -> Result<(), Fail> {
-    let rows: [(&[u8], &[LinkSpan<'_>], Option<&[u8]>); 18] = [
-        (
-            FILE,
-            FILE_LINKS,
-            Some(b"\x08\x02\x18\x0b\x20\x04\x20\x04\x20\x03"),
-        ),
-        (SHARD, SHARD_LINKS, Some(SHARD_DATA)),
-        // IPLD's fixtures of the DAG-PB codec, by their names there: empty; Data zero; Data some; Links Hash some, and then
-        // with Name zero, Name some, Tsize zero, Tsize some; and the last with a name and a size.
-        (b"", &[], None),
-        (b"\x0a\x00", &[], Some(b"")),
-        (
-            b"\x0a\x05\0\x01\x02\x03\x04",
-            &[],
-            Some(b"\0\x01\x02\x03\x04"),
-        ),
-        (
-            b"\x12\x0b\x0a\x09\x01\x55\0\x05\0\x01\x02\x03\x04",
-            BARE,
-            None,
-        ),
-        (
-            b"\x12\x0d\x0a\x09\x01\x55\0\x05\0\x01\x02\x03\x04\x12\0",
-            EMPTY_NAME,
-            None,
-        ),
-        (
-            b"\x12\x16\x0a\x09\x01\x55\0\x05\0\x01\x02\x03\x04\x12\x09some name",
-            NAMED,
-            None,
-        ),
-        (
-            b"\x12\x0d\x0a\x09\x01\x55\0\x05\0\x01\x02\x03\x04\x18\0",
-            NO_SIZE,
-            None,
-        ),
-        (
-            b"\x12\x14\x0a\x09\x01\x55\0\x05\0\x01\x02\x03\x04\x18\xff\xff\xff\xff\xff\xff\xff\x0f",
-            SIZED,
-            None,
-        ),
-        (
-            b"\x12\x1f\x0a\x09\x01\x55\0\x05\0\x01\x02\x03\x04\x12\x09some name\
-        \x18\xff\xff\xff\xff\xff\xff\xff\x0f",
-            FULL,
-            None,
-        ),
-        // A hash of no bytes is none of a CID, which the layer above reads.
-        (b"\x12\x02\x0a\0", NO_HASH, None),
-        (b"\x12\x08\x0a\x01a\x12\x03\xff\0/", ODD_NAME, None),
-        (
-            b"\x12\x0e\x0a\x01a\x18\xff\xff\xff\xff\xff\xff\xff\xff\xff\x01",
-            LARGEST,
-            None,
-        ),
-        (b"\x12\x03\x0a\x01a\x12\x03\x0a\x01b", TWO, None),
-        (b"\x12\x03\x0a\x01a\x12\x03\x0a\x01b\x0a\0", TWO, Some(b"")),
-        (
-            b"\x12\x03\x0a\x01a\x12\x03\x0a\x01b\x0a\x01c",
-            TWO,
-            Some(b"c"),
-        ),
-        (
-            b"\x12\x0b\x0a\x09\x01\x55\0\x05\0\x01\x02\x03\x04\x0a\x05\0\x01\x02\x03\x04",
-            BARE,
-            Some(b"\0\x01\x02\x03\x04"),
-        ),
-    ];
-    for (block, links, payload) in rows {
-        let want = Parts {
-            links,
-            payload,
-            canonical: block,
-        };
-        expect_node(&rt, rt.alloc(), block, want)?;
+    for row in BLOCKS {
+        expect_node(&rt, rt.alloc(), *row)?;
     }
 
     // The data may stand before the links, and is written behind them.
