@@ -1,7 +1,7 @@
 #!/usr/bin/env bash
 # The name hash over 1 MB of bytes beside a copy of the same memory, in MB/s and as a ratio; and the scan of protobuf
 # texts of 12,500 to 50,000 fields, whose speed stays the same as the text grows; and the reader of CARs over 256 MB beside
-# a copy of the same memory.
+# a copy of the same memory; and 200 MB of a file read through a pack by offsets, with the most memory that takes, beside cat.
 set -u
 cd "$(dirname "$0")/.." || exit 1
 command -v rt >/dev/null 2>&1 || { echo "skipped: no rt"; exit 0; }
@@ -19,3 +19,10 @@ program=$PWD/crates/tg_bench/out/tg_bench
     /^copy/ { copy = $2 }
     { print }
     END { printf "reader of a CAR / copy of the memory: %.2f of its speed\n", car / copy }'
+made=$(mktemp -d) || exit 1
+trap 'rm -rf "$made"' EXIT
+head -c 200000000 /dev/zero >"$made/pack"
+"$program" pack "$made/pack"
+seconds() { "$@" >/dev/null; }
+TIMEFORMAT='cat of the same file: %R seconds'
+time seconds cat "$made/pack"
