@@ -1,16 +1,15 @@
 -- A text that is a node's has no cause of a fault, and a text has one.
-use Rattle.std.proofs.Common.{◌≡◌, ℕ, ◌+◌, ◌<◌, ◌≤◌, ◌⊎◌, Result, Ok, Err, List, [], ◌∷◌, ◌++◌, length, take, drop, get_or, refl, sym, ap, ap₂, ◌∙◌, subst, inl, inr, arith, length-append}
+use Rattle.std.proofs.Common.{◌≡◌, ℕ, ◌+◌, ◌<◌, ◌≤◌, ◌⊎◌, Result, Ok, Err, List, [], ◌∷◌, ◌++◌, length, take, drop, get_or, sym, ap, ap₂, ◌∙◌, subst, inl, inr, arith, length-append}
 use Rattle.std.specs.Prelude.{All, slice_range, MatchResult}
 use Rattle.std.proofs.lemmas.List.{take-append-drop, drop_more}
-use Rattle.std.proofs.lemmas.List.Elements.{All-nil, All-cons, All-head, All-tail}
+use Rattle.std.proofs.lemmas.List.Elements.{All-nil, All-cons, All-head}
 use Rattle.tg_pbtable.specs.declared.table.Field.{Field}
-use Rattle.tg_pbtable.specs.declared.table.Value.{Value}
 use Rattle.tg_pbtable.specs.declared.table.Value.TheVariants.{Place}
 use Rattle.tg_pbtable.specs.declared.table.Order.TheVariants.{Ascending, Runs}
 use Rattle.tg_pbtable.specs.declared.fault.PbFault.{PbFault}
 use Rattle.tg_pbtable.specs.declared.fault.PbFault.TheVariants as faults
 use Rattle.tg_pbtable.specs.Message.{Message}
-use Rattle.tg_pbtable.specs.Faults.{FirstAt, HasCause}
+use Rattle.tg_pbtable.specs.Faults.{HasCause}
 use Rattle.tg_pbtable.specs.Values.{bytes_at}
 use Rattle.tg_pbtable.proofs.Causes.{one_cause, no_cause}
 use Rattle.tg_pbtable.proofs.Spellings.{one_reading}

@@ -1,8 +1,7 @@
 -- A text is of one link and of one node, and a link has one text.
-use Rattle.std.proofs.Common.{◌≡◌, ℕ, zero, suc, ◌<◌, Option, List, [], ◌∷◌, get_or, refl, sym, ap, ap₂, ◌∙◌, subst, arith}
+use Rattle.std.proofs.Common.{◌≡◌, ℕ, zero, suc, ◌<◌, Option, List, [], ◌∷◌, get_or, refl, sym, ap₂, ◌∙◌, subst, arith}
 use Rattle.tg_pbtable.specs.declared.table.Rule.{Rule}
 use Rattle.tg_pbtable.specs.declared.table.Field.{Field}
-use Rattle.tg_pbtable.specs.declared.table.Order.TheVariants.{Ascending, Runs}
 use Rattle.tg_pbtable.specs.Emitted.{AreSameFields}
 use Rattle.tg_pbtable.specs.Values.{bytes_at, HasSameValues}
 use Rattle.tg_pbtable.proofs.Spellings.{one_reading}

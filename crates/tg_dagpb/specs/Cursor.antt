@@ -1,5 +1,5 @@
 -- Cursors over the links of a block: a cursor stands behind some of the fields of a node, and so between two links.
-use Rattle.std.specs.Prelude.{◌≡◌, ℕ, ◌≤◌, List, [], ◌∷◌, ◌++◌, length, take, Option, Some, None}
+use Rattle.std.specs.Prelude.{ℕ, ◌≤◌, List, ◌++◌, length, take, Option, Some, None}
 use Rattle.std.specs.Borrow.{Bor}
 use Rattle.tg_pbtable.specs.declared.table.Field.{Field}
 use Rattle.tg_pbtable.specs.declared.table.Order.TheVariants.{Runs}

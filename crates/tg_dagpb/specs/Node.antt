@@ -1,6 +1,6 @@
 -- DAG-PB nodes as messages under their tables (IPLD specification, DAG-PB, Serial Format: messages PBNode and PBLink; that
 -- the fields of one number stand together is this project's own profile).
-use Rattle.std.specs.Prelude.{◌≡◌, ℕ, ◌⊎◌, List, [], ◌∷◌, ◌++◌, All, ⊤}
+use Rattle.std.specs.Prelude.{◌≡◌, ℕ, List, [], ◌∷◌, ◌++◌, All, ⊤}
 use Rattle.tg_pbtable.specs.declared.table.Field.{Field}
 use Rattle.tg_pbtable.specs.declared.table.Order.TheVariants.{Ascending, Runs}
 use Rattle.tg_pbtable.specs.Message.{Message}

@@ -1,4 +1,4 @@
-use Rattle.std.proofs.Common.{◌≡◌, ◌≤◌, [], ◌∷◌, ◌++◌, sym, ◌∙◌, arith}
+use Rattle.std.proofs.Common.{[], ◌∷◌, ◌++◌, sym, ◌∙◌, arith}
 use Rattle.tg_pbtable.specs.Cursor.{StandsAt}
 use Rattle.tg_dagpb.specs.declared.TheConstants.{NODE}
 use Rattle.tg_dagpb.specs.Cursor.{link_of}

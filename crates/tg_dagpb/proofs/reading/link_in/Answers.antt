@@ -1,9 +1,7 @@
-use Rattle.std.proofs.Common.{◌≡◌, ◌<◌, List, [], ◌∷◌, ◌++◌, refl, arith}
+use Rattle.std.proofs.Common.{◌<◌, [], ◌∷◌, ◌++◌, refl, arith}
 use Rattle.std.proofs.lemmas.Result.{err_from_is_err_and}
 use Rattle.tg_pbtable.specs.declared.table.Order.TheVariants.{Ascending}
 use Rattle.tg_pbtable.specs.Message.{Message}
-use Rattle.tg_pbtable.specs.Emitted.{LiesIn}
-use Rattle.tg_pbtable.specs.Cursor.{HasRead}
 use Rattle.tg_dagpb.specs.declared.TheConstants.{LINK}
 use Rattle.tg_dagpb.specs.Cursor.{link_of}
 use Rattle.tg_dagpb.specs.Reading.{no_link}

@@ -1,4 +1,4 @@
-use Rattle.std.proofs.Common.{◌≡◌, ◌∙◌, arith}
+use Rattle.std.proofs.Common.{◌∙◌, arith}
 use Rattle.tg_dagpb.proofs.Parts.{link_table}
 use Rattle.tg_dagpb.proofs.Encoding.{IsLink, link_drafted, link_may, link_done}
 use Rattle.tg_dagpb.proofs.writing.link_text.Goals as goal
