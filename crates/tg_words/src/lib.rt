@@ -107,14 +107,28 @@ fn dispatch(alloc: Global, command: &str, words: &[String]) -> Result<Command, W
     ensures { Answers (command.now ∷ map string_bytes words.now) result }
 {
     if command == "check" {
-        Ok(Command::Check(one_cid(alloc, words)?))
+        check(alloc, words)
     } else if command == "node" {
-        Ok(Command::Node(one_cid(alloc, words)?))
+        node(alloc, words)
     } else if command == "cid" {
         cid(alloc, words)
     } else {
         Err(WordsFault::Usage)
     }
+}
+
+/// `check CID`.
+fn check(alloc: Global, words: &[String]) -> Result<Command, WordsFault>
+    ensures { Answers (codes "check" ∷ map string_bytes words.now) result }
+{
+    Ok(Command::Check(one_cid(alloc, words)?))
+}
+
+/// `node CID`.
+fn node(alloc: Global, words: &[String]) -> Result<Command, WordsFault>
+    ensures { Answers (codes "node" ∷ map string_bytes words.now) result }
+{
+    Ok(Command::Node(one_cid(alloc, words)?))
 }
 
 /// The CID where the words are one CID and no options.
