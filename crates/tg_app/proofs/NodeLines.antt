@@ -1,6 +1,7 @@
 -- The lines of a node's links and payload: what they tell of the node, and that there is one text.
 use Rattle.std.proofs.Common.{◌≡◌, ℕ, ◌<◌, ◌⊎◌, inl, inr, List, [], ◌∷◌, ◌++◌, length, get_or, Option, Some, None, Ok, Err, refl, sym, ap, ◌∙◌, subst, append_assoc, append-nil, All}
 use Rattle.std.specs.Prelude.{Result, Contains, MatchResult, IfOk, IfErr, codes}
+use Rattle.std.specs.List.{flat_map}
 use Rattle.std.proofs.lemmas.List.Elements.{All-nil, All-cons, All-contains, Contains-get_or, Contains-push}
 use Rattle.tg_cid.specs.Cid.{CidParts}
 use Rattle.tg_cid.specs.Spelling.{CidBytes, CidText}
@@ -21,7 +22,7 @@ use Rattle.tg_app.specs.declared.node.NodeFault.{NodeFault}
 use Rattle.tg_app.specs.declared.node.NodeFault.TheVariants.{BadNode, BadLink, BadUnix}
 use Rattle.tg_app.specs.declared.node.TextFault.{TextFault}
 use Rattle.tg_app.specs.declared.node.TextFault.TheVariants.{Block, OutOfMemory}
-use Rattle.tg_app.specs.NodeTexts.{link_line, count_line, unix_lines, LinkLine, LinkLines, UnixLines, PayloadLines, LinesOfNode, NodeLines, IsTextUnder, IsNodeTextOf, IsCid, HasBadHash, HasBadPayload, OfNode, HasDagPbCause, HasNodeTextCause, HasLinkCause, HasPayloadCause, HasLinesCause, IsCaused, Exact, fault_of_pb, fault_of_unix}
+use Rattle.tg_app.specs.NodeTexts.{link_line, count_line, size_line, unix_line, unix_lines, LinkLine, LinkLines, UnixLines, PayloadLines, LinesOfNode, NodeLines, IsTextUnder, IsNodeTextOf, IsCid, HasBadHash, HasBadPayload, OfNode, HasDagPbCause, HasNodeTextCause, HasLinkCause, HasPayloadCause, HasLinesCause, IsCaused, Exact, fault_of_pb, fault_of_unix}
 
 -- ---- links
 
@@ -182,10 +183,10 @@ exact_lines block node (Err (Block BadLink)) is one bad =
     let same = sym (is.only lines.node lines.node_is) in
     no_bad_hash node.links (subst (λ (n : Node). All (λ (k : Link). IsCid k.hash) n.links) same (all_cids lines.node.links lines.lines_are.links_text lines.lines_are.links)) bad)
     (λ fault cause. link_cause block node fault is bad cause)
-exact_lines block node (Err (Block BadUnix)) is one (all, bad, none) =
-    exact_fault (NodeLines block) (HasDagPbCause block) BadUnix (record { node = node; node_is = is.text_is; cause = (all, bad) })
+exact_lines block node (Err (Block BadUnix)) is one (all, refused) =
+    exact_fault (NodeLines block) (HasDagPbCause block) BadUnix (record { node = node; node_is = is.text_is; cause = (all, refused.0) })
     (λ text lines.
-    none lines.lines_are.payload_text (subst (λ (n : Node). PayloadLines n.payload lines.lines_are.payload_text) (sym (is.only lines.node lines.node_is)) lines.lines_are.payload))
+    refused.1 lines.lines_are.payload_text (subst (λ (n : Node). PayloadLines n.payload lines.lines_are.payload_text) (sym (is.only lines.node lines.node_is)) lines.lines_are.payload))
     (λ fault cause. unix_cause block node fault is all cause)
 exact_lines block node (Err OutOfMemory) is one bad = exact_memory (NodeLines block) (HasDagPbCause block)
 
@@ -268,3 +269,32 @@ pub one_text_of : ((a b : CidParts) (u v x y : List ℕ) → CidBytes a u → Ci
     → ((a b : Node) (text : List ℕ) → NodeText a text → NodeText b text → a ≡ b)
     → (cid : CidParts) (block u v : List ℕ) → IsNodeTextOf cid block u → IsNodeTextOf cid block v → u ≡ v
 one_text_of no_front one_text one_unix one_node cid block u v p q = one_under no_front one_text one_unix one_node cid.codec block u v p q
+
+-- text that was added piece after piece
+pub earlier : (before old piece rest : List ℕ) → before ≡ old ++ piece → before ++ rest ≡ old ++ (piece ++ rest)
+earlier before old piece rest e = ap (λ w. w ++ rest) e ∙ append_assoc old piece rest
+
+pub unix_done : (payload : Option (List ℕ)) (bytes : List ℕ) (unix : Unix) (old one two three : List ℕ) → payload ≡ Some bytes → UnixText unix bytes
+    → ((fault : UnixFault) → HasUnixCause bytes fault → ⊥) → one ≡ old ++ count_line (codes "payload ") (length bytes) → two ≡ one ++ unix_line unix
+    → three ≡ two ++ flat_map size_line unix.sizes
+    → (lines : List ℕ) × PayloadLines payload lines × (three ≡ old ++ lines) × (HasBadPayload payload → ⊥)
+unix_done payload bytes unix old one two three is text good first second third =
+    let lines = count_line (codes "payload ") (length bytes) ++ unix_lines unix in
+    let here : UnixLines bytes lines = record { unix = unix; unix_is = text; lines_are = refl } in
+    (
+      lines,
+      subst (λ (p : Option (List ℕ)). PayloadLines p lines) (sym is) here,
+      third ∙ earlier two one (unix_line unix) (flat_map size_line unix.sizes) second ∙ earlier one old (count_line (codes "payload ") (length bytes)) (unix_lines unix) first,
+      subst (λ (p : Option (List ℕ)). HasBadPayload p → ⊥) (sym is) (good_payload bytes good),
+    )
+
+pub lines_done : (node : Node) (zero_text one two three links payload : List ℕ) → zero_text ≡ [] → one ≡ zero_text ++ count_line (codes "links ") (length node.links)
+    → LinkLines node.links links → two ≡ one ++ links → PayloadLines node.payload payload → three ≡ two ++ payload → LinesOfNode node three
+lines_done node zero_text one two three links payload empty first link_lines second payload_lines third = record {
+  links_text = links;
+  payload_text = payload;
+  links = link_lines;
+  payload = payload_lines;
+  whole = third ∙ earlier two one links payload second ∙ earlier one zero_text (count_line (codes "links ") (length node.links)) (links ++ payload) first
+      ∙ ap (λ w. w ++ (count_line (codes "links ") (length node.links) ++ (links ++ payload))) empty;
+}

@@ -233,7 +233,8 @@ fn push_unix(text: &mut Bytes, unix: &Unix) -> Result<(), AllocError>
     push_number(text, b" sizes ", Some(unix.sizes.as_slice().len() as u64))?;
     push_number(text, b" hash ", unix.hash)?;
     push_number(text, b" fanout ", unix.fanout)?;
-    text.push_all(b"\n")
+    text.push_all(b"\n")?;
+    Ok(())
 }
 
 /// The length of inline bytes.

@@ -88,7 +88,7 @@ impl Refusal {
         let (word, cid, behind): (&[u8], &[u8], &[u8]) = match self {
             Refusal::Usage => (b"usage", b"", b""),
             Refusal::BadDigest { cid } => (b"BadDigest ", cid.as_slice(), b""),
-            Refusal::BadBlock { cid, fault } => (b"BadBlock ", cid.as_slice(), cause(*fault)),
+            Refusal::BadBlock { cid, fault } => (b"BadBlock ", cid.as_slice(), cause(fault)),
             Refusal::BlockLimit => (b"Limit Block 2097152", b"", b""),
             Refusal::InputFault => (b"InputFault", b"", b""),
             Refusal::SinkFault => (b"SinkFault", b"", b""),
@@ -99,8 +99,8 @@ impl Refusal {
 }
 
 /// What stands behind the CID on a line that says what is at fault of its block: a space and the word.
-fn cause(fault: NodeFault) -> &'static [u8]
-    ensures { result.now ≡ cause_of fault }
+fn cause(fault: &NodeFault) -> &[u8]
+    ensures { result.now ≡ cause_of fault.now }
 {
     match fault {
         NodeFault::BadNode => b" BadNode",
