@@ -1,7 +1,6 @@
 -- The lines of a node's links and payload: what they tell of the node, and that there is one text.
 use Rattle.std.proofs.Common.{◌≡◌, ℕ, ◌<◌, ◌⊎◌, inl, inr, List, [], ◌∷◌, ◌++◌, length, get_or, Option, Some, None, Ok, Err, refl, sym, ap, ◌∙◌, subst, append_assoc, append-nil, All}
 use Rattle.std.specs.Prelude.{Result, Contains, MatchResult, IfOk, IfErr, codes}
-use Rattle.std.specs.List.{flat_map}
 use Rattle.std.proofs.lemmas.List.Elements.{All-nil, All-cons, All-contains, Contains-get_or, Contains-push}
 use Rattle.tg_cid.specs.Cid.{CidParts}
 use Rattle.tg_cid.specs.Spelling.{CidBytes, CidText}
@@ -22,7 +21,7 @@ use Rattle.tg_app.specs.declared.node.NodeFault.{NodeFault}
 use Rattle.tg_app.specs.declared.node.NodeFault.TheVariants.{BadNode, BadLink, BadUnix}
 use Rattle.tg_app.specs.declared.node.TextFault.{TextFault}
 use Rattle.tg_app.specs.declared.node.TextFault.TheVariants.{Block, OutOfMemory}
-use Rattle.tg_app.specs.NodeTexts.{link_line, count_line, size_line, unix_line, unix_lines, LinkLine, LinkLines, UnixLines, PayloadLines, LinesOfNode, NodeLines, IsTextUnder, IsNodeTextOf, IsCid, HasBadHash, HasBadPayload, OfNode, HasDagPbCause, HasNodeTextCause, HasLinkCause, HasPayloadCause, HasLinesCause, IsCaused, Exact, fault_of_pb, fault_of_unix}
+use Rattle.tg_app.specs.NodeTexts.{link_line, count_line, unix_lines, LinkLine, LinkLines, UnixLines, PayloadLines, LinesOfNode, NodeLines, IsTextUnder, IsNodeTextOf, IsCid, HasBadHash, HasBadPayload, OfNode, HasDagPbCause, HasNodeTextCause, HasLinkCause, HasPayloadCause, HasLinesCause, IsCaused, Exact, fault_of_pb, fault_of_unix}
 
 -- ---- links
 
@@ -73,13 +72,20 @@ bad_unix bytes e none cause = (record { bytes = bytes; payload_is = refl; fault 
 caused : (bytes : List ℕ) (e : UnixFault) → (e ≡ unixfs.OutOfMemory → ⊥) → ((e ≡ unixfs.OutOfMemory) ⊎ HasUnixCause bytes e) → HasUnixCause bytes e
 caused bytes e other cause = elim cause [ inl f ↦ absurd (other f) | inr h ↦ h ]
 
-pub unix_err : (bytes : List ℕ) (e : UnixFault) → ((unix : Unix) → UnixText unix bytes → e ≡ unixfs.OutOfMemory)
+unix_err : (bytes : List ℕ) (e : UnixFault) → ((unix : Unix) → UnixText unix bytes → e ≡ unixfs.OutOfMemory)
     → ((e ≡ unixfs.OutOfMemory) ⊎ HasUnixCause bytes e) → IsCaused (HasPayloadCause (Some bytes)) (fault_of_unix e)
 unix_err bytes (unixfs.Pb fault) only cause = bad_unix bytes (unixfs.Pb fault) (λ unix text. let e = only unix text in absurd (cc)) (caused bytes (unixfs.Pb fault) (λ e. absurd (cc)) cause)
 unix_err bytes (unixfs.BadKind number) only cause = bad_unix bytes (unixfs.BadKind number) (λ unix text. let e = only unix text in absurd (cc)) (caused bytes (unixfs.BadKind number) (λ e. absurd (cc)) cause)
 unix_err bytes (unixfs.BadHash number) only cause = bad_unix bytes (unixfs.BadHash number) (λ unix text. let e = only unix text in absurd (cc)) (caused bytes (unixfs.BadHash number) (λ e. absurd (cc)) cause)
 unix_err bytes (unixfs.BadFanout number) only cause = bad_unix bytes (unixfs.BadFanout number) (λ unix text. let e = only unix text in absurd (cc)) (caused bytes (unixfs.BadFanout number) (λ e. absurd (cc)) cause)
 unix_err bytes unixfs.OutOfMemory only cause = tt
+
+pub payload_err : (payload : Option (List ℕ)) (bytes held : List ℕ) (e : UnixFault) → payload ≡ Some held → bytes ≡ held
+    → ((unix : Unix) → UnixText unix bytes → e ≡ unixfs.OutOfMemory)
+    → ((e ≡ unixfs.OutOfMemory) ⊎ HasUnixCause bytes e) → IsCaused (HasPayloadCause payload) (fault_of_unix e)
+payload_err payload bytes held e is same only cause =
+    subst (λ (p : Option (List ℕ)). IsCaused (HasPayloadCause p) (fault_of_unix e)) (sym (is ∙ ap (λ (b : List ℕ). let p : Option (List ℕ) = Some b in p) (sym same)))
+    (unix_err bytes e only cause)
 
 -- ---- a node's lines
 
@@ -191,9 +197,12 @@ exact_lines block node (Err (Block BadUnix)) is one (all, refused) =
 exact_lines block node (Err OutOfMemory) is one bad = exact_memory (NodeLines block) (HasDagPbCause block)
 
 -- a block under a codec
-pub exact_raw : (cid : CidParts) (block text : List ℕ) → cid.codec ≡ Raw → text ≡ count_line (codes "raw ") (length block)
-    → Exact (IsNodeTextOf cid block) (HasNodeTextCause cid block) (Ok text)
-exact_raw cid block text raw is = exact_text (IsNodeTextOf cid block) (HasNodeTextCause cid block) text
+pub exact_raw : (cid : CidParts) (block : List ℕ) (answer : Result (List ℕ) TextFault) → cid.codec ≡ Raw
+    → MatchResult answer (λ text. text ≡ count_line (codes "raw ") (length block)) (λ e. e ≡ OutOfMemory)
+    → Exact (IsNodeTextOf cid block) (HasNodeTextCause cid block) answer
+exact_raw cid block (Err e) raw is =
+    subst (λ (f : TextFault). Exact (IsNodeTextOf cid block) (HasNodeTextCause cid block) (Err f)) (sym is) (exact_memory (IsNodeTextOf cid block) (HasNodeTextCause cid block))
+exact_raw cid block (Ok text) raw is = exact_text (IsNodeTextOf cid block) (HasNodeTextCause cid block) text
     (subst (λ (c : Codec). IsTextUnder c block text) (sym raw) is)
     (λ other o. is ∙ sym (subst (λ (c : Codec). IsTextUnder c block other) raw o))
     (λ fault cause. let bad : Raw ≡ DagPb = sym raw ∙ cause.0 in absurd (cc))
@@ -273,28 +282,3 @@ one_text_of no_front one_text one_unix one_node cid block u v p q = one_under no
 -- text that was added piece after piece
 pub earlier : (before old piece rest : List ℕ) → before ≡ old ++ piece → before ++ rest ≡ old ++ (piece ++ rest)
 earlier before old piece rest e = ap (λ w. w ++ rest) e ∙ append_assoc old piece rest
-
-pub unix_done : (payload : Option (List ℕ)) (bytes : List ℕ) (unix : Unix) (old one two three : List ℕ) → payload ≡ Some bytes → UnixText unix bytes
-    → ((fault : UnixFault) → HasUnixCause bytes fault → ⊥) → one ≡ old ++ count_line (codes "payload ") (length bytes) → two ≡ one ++ unix_line unix
-    → three ≡ two ++ flat_map size_line unix.sizes
-    → (lines : List ℕ) × PayloadLines payload lines × (three ≡ old ++ lines) × (HasBadPayload payload → ⊥)
-unix_done payload bytes unix old one two three is text good first second third =
-    let lines = count_line (codes "payload ") (length bytes) ++ unix_lines unix in
-    let here : UnixLines bytes lines = record { unix = unix; unix_is = text; lines_are = refl } in
-    (
-      lines,
-      subst (λ (p : Option (List ℕ)). PayloadLines p lines) (sym is) here,
-      third ∙ earlier two one (unix_line unix) (flat_map size_line unix.sizes) second ∙ earlier one old (count_line (codes "payload ") (length bytes)) (unix_lines unix) first,
-      subst (λ (p : Option (List ℕ)). HasBadPayload p → ⊥) (sym is) (good_payload bytes good),
-    )
-
-pub lines_done : (node : Node) (zero_text one two three links payload : List ℕ) → zero_text ≡ [] → one ≡ zero_text ++ count_line (codes "links ") (length node.links)
-    → LinkLines node.links links → two ≡ one ++ links → PayloadLines node.payload payload → three ≡ two ++ payload → LinesOfNode node three
-lines_done node zero_text one two three links payload empty first link_lines second payload_lines third = record {
-  links_text = links;
-  payload_text = payload;
-  links = link_lines;
-  payload = payload_lines;
-  whole = third ∙ earlier two one links payload second ∙ earlier one zero_text (count_line (codes "links ") (length node.links)) (links ++ payload) first
-      ∙ ap (λ w. w ++ (count_line (codes "links ") (length node.links) ++ (links ++ payload))) empty;
-}

@@ -1,5 +1,5 @@
 //! The text that `node` writes of a block.
-ghost use Rattle.std.specs.Prelude.{◌≡◌, ℕ, List, [], ◌∷◌, ◌++◌, length, codes, IfOk, OnOk, MatchResult};
+ghost use Rattle.std.specs.Prelude.{◌≡◌, ℕ, List, [], ◌∷◌, ◌++◌, length, codes, OnOk, MatchResult};
 ghost use Rattle.std.specs.List.{flat_map};
 ghost use Rattle.tg_cid.specs.Cid.{CidParts};
 ghost use Rattle.tg_app.specs.NodeTexts.{Exact, IsNodeTextOf, HasNodeTextCause, NodeLines, HasDagPbCause, LinesOfNode, HasLinesCause, IsCaused, LinkLine, LinkLines, HasLinkCause, PayloadLines, HasBadPayload, HasPayloadCause, count_line, size_line, unix_line, link_line, labelled, name_text, inline_length};
@@ -100,7 +100,7 @@ pub fn node_text(alloc: Global, cid: &Cid, block: &[u8]) -> Result<Bytes, TextFa
     ensures { Exact (IsNodeTextOf cid.now block.now) (HasNodeTextCause cid.now block.now) result }
 {
     match cid.codec() {
-        Codec::Raw => Ok(raw_text(alloc, block)?),
+        Codec::Raw => raw_text(alloc, block),
         Codec::DagPb => dag_pb_text(alloc, block),
     }
 }
@@ -115,8 +115,9 @@ pub fn one_node_text()
 }
 
 /// The line of a raw block.
-fn raw_text(alloc: Global, block: &[u8]) -> Result<Bytes, AllocError>
-    ensures { IfOk result (λ text. text ≡ count_line (codes "raw ") (length block.now)) }
+fn raw_text(alloc: Global, block: &[u8]) -> Result<Bytes, TextFault>
+    ensures { MatchResult result (λ text. text ≡ count_line (codes "raw ") (length block.now))
+        (λ e. e ≡ TextFault.OutOfMemory) }
 {
     let mut text = Bytes::new(alloc);
     push_count(&mut text, b"raw ", block.len() as u64)?;
