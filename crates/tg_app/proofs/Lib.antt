@@ -1,3 +1,4 @@
 mod Fronts
 mod Arms
+mod NodeLines
 mod Statuses

@@ -7,10 +7,14 @@ use Rattle.tg_cid.specs.Names.{Names}
 use Rattle.tg_cid.specs.Spelling.{CidBytes, CidText}
 use Rattle.tg_words.specs.CommandLine.{CommandLine}
 use Rattle.tg_words.specs.declared.Command.{Command}
-use Rattle.tg_words.specs.declared.Command.TheVariants.{Check, CidToHex, CidToText}
+use Rattle.tg_words.specs.declared.Command.TheVariants.{Check, Node, CidToHex, CidToText}
 use Rattle.tg_app.specs.Streams.{Input, Output, InputRose, Took, TookAll, Untaken, Put, Unput, PutFront}
+use Rattle.tg_app.specs.NodeTexts.{IsNodeTextOf, HasNodeTextCause}
+use Rattle.tg_app.specs.declared.node.NodeFault.{NodeFault}
+use Rattle.tg_app.specs.declared.commands.BlockFault.{BlockFault}
+use Rattle.tg_app.specs.declared.commands.BlockFault.TheVariants as reading
 use Rattle.tg_app.specs.declared.refusal.Refusal.{Refusal}
-use Rattle.tg_app.specs.declared.refusal.Refusal.TheVariants.{Usage, BadDigest, BlockLimit, InputFault, SinkFault, OutOfMemory}
+use Rattle.tg_app.specs.declared.refusal.Refusal.TheVariants.{Usage, BadDigest, BadBlock, BlockLimit, InputFault, SinkFault, OutOfMemory}
 
 -- the words spell this command and no other
 pub record TheCommand (words : List (List ℕ)) (command : Command) : Type 0 where
@@ -47,6 +51,42 @@ pub record CheckedFront (cid : CidParts) (input : Input) (out : Output) : Type 0
   pub named : Names cid block
   pub front : PutFront block out
 
+-- the whole input is a block that the CID names, and this is the block
+pub record ReadBlock (cid : CidParts) (block : List ℕ) (input : Input) : Type 0 where
+  pub taken : TookBlock block input
+  pub named : Names cid block
+
+-- `node`: the whole input is a block that the CID names, and out grew by the text of its fields; no cause of a fault holds
+pub record Noded (cid : CidParts) (input : Input) (out : Output) : Type 0 where
+  pub block : List ℕ
+  pub read : ReadBlock cid block input
+  pub text : List ℕ
+  pub text_is : IsNodeTextOf cid block text
+  pub good : (fault : NodeFault) → HasNodeTextCause cid block fault → ⊥
+  pub put : Put text out
+
+-- out failed after a front of the text
+pub record NodedFront (cid : CidParts) (input : Input) (out : Output) : Type 0 where
+  pub block : List ℕ
+  pub read : ReadBlock cid block input
+  pub text : List ℕ
+  pub text_is : IsNodeTextOf cid block text
+  pub front : PutFront text out
+
+-- the whole input is a block that the CID names and that has no text, for this cause; nothing was put
+pub record NodedBad (cid : CidParts) (fault : NodeFault) (input : Input) (out : Output) : Type 0 where
+  pub block : List ℕ
+  pub read : ReadBlock cid block input
+  pub cause : HasNodeTextCause cid block fault
+  pub none : (text : List ℕ) → IsNodeTextOf cid block text → ⊥
+  pub unput : Unput out
+
+-- the whole input is a block that the CID names; nothing was put
+pub record NodedNothing (cid : CidParts) (input : Input) (out : Output) : Type 0 where
+  pub block : List ℕ
+  pub read : ReadBlock cid block input
+  pub unput : Unput out
+
 -- the input goes on past the limit; nothing was put
 pub record PassedLimit (input : Input) (out : Output) : Type 0 where
   pub bytes : List ℕ
@@ -79,6 +119,7 @@ pub record TextLine (cid : CidParts) (line : List ℕ) : Type 0 where
 
 abbrev pub IsLineOf : Command → List ℕ → Type 0
 IsLineOf (Check cid) line = ⊥
+IsLineOf (Node cid) line = ⊥
 IsLineOf (CidToHex cid) line = HexLine cid line
 IsLineOf (CidToText cid) line = TextLine cid line
 
@@ -96,44 +137,89 @@ pub record PutsFront (command : Command) (out : Output) : Type 0 where
 -- the command is done
 abbrev pub Done : Command → Input → Output → Type 0
 Done (Check cid) input out = Checked cid input out
+Done (Node cid) input out = Noded cid input out
 Done (CidToHex cid) input out = Untaken input × PutsLine (CidToHex cid) out
 Done (CidToText cid) input out = Untaken input × PutsLine (CidToText cid) out
 
 -- the command failed at out
 abbrev pub FailedAtOut : Command → Input → Output → Type 0
 FailedAtOut (Check cid) input out = CheckedFront cid input out
+FailedAtOut (Node cid) input out = NodedFront cid input out
 FailedAtOut (CidToHex cid) input out = Untaken input × PutsFront (CidToHex cid) out
 FailedAtOut (CidToText cid) input out = Untaken input × PutsFront (CidToText cid) out
 
--- the words asked for `check` of this CID
+-- the words asked for `check` or for `node` of this CID
 abbrev pub Asks : List (List ℕ) → CidParts → Type 0
-Asks words cid = TheCommand words (Check cid)
+Asks words cid = TheCommand words (Check cid) ⊎ TheCommand words (Node cid)
 
--- what stands after each refusal of `check`, and of a command that prints a line
+-- why the input isn't a block that the CID names
+pub record InputFailedIn (input : Input) : Type 0 where
+  pub bytes : List ℕ
+  pub taken : Took bytes input
+  pub rose : InputRose input
+
+pub record InputPassed (input : Input) : Type 0 where
+  pub bytes : List ℕ
+  pub taken : Took bytes input
+  pub more : length bytes ≡ 2097153
+
+pub record ReadOther (cid : CidParts) (input : Input) : Type 0 where
+  pub block : List ℕ
+  pub taken : TookBlock block input
+  pub other : Names cid block → ⊥
+
+abbrev pub IsNoBlock : CidParts → BlockFault → Input → Type 0
+IsNoBlock cid reading.Input input = InputFailedIn input
+IsNoBlock cid reading.Limit input = InputPassed input
+IsNoBlock cid reading.BadDigest input = ReadOther cid input
+
+-- the refusal of such an input, with the text of the CID
+abbrev pub refusal_for : BlockFault → List ℕ → Refusal
+refusal_for reading.Input text = InputFault
+refusal_for reading.Limit text = BlockLimit
+refusal_for reading.BadDigest text = BadDigest text
+
+-- what stands after each refusal of `check`, of `node`, and of a command that prints a line
 abbrev pub CheckRefused : CidParts → Refusal → Input → Output → Type 0
 CheckRefused cid Usage input out = ⊥
 CheckRefused cid (BadDigest text) input out = CidText (record cid { version = 1 }) text × CheckedOther cid input out
+CheckRefused cid (BadBlock text fault) input out = ⊥
 CheckRefused cid BlockLimit input out = PassedLimit input out
 CheckRefused cid InputFault input out = InputFailed input out
 CheckRefused cid SinkFault input out = CheckedFront cid input out
 CheckRefused cid OutOfMemory input out = Untouched input out
 
+abbrev pub NodeRefused : CidParts → Refusal → Input → Output → Type 0
+NodeRefused cid Usage input out = ⊥
+NodeRefused cid (BadDigest text) input out = CidText (record cid { version = 1 }) text × CheckedOther cid input out
+NodeRefused cid (BadBlock text fault) input out = CidText (record cid { version = 1 }) text × NodedBad cid fault input out
+NodeRefused cid BlockLimit input out = PassedLimit input out
+NodeRefused cid InputFault input out = InputFailed input out
+NodeRefused cid SinkFault input out = NodedFront cid input out
+NodeRefused cid OutOfMemory input out = Untouched input out ⊎ NodedNothing cid input out
+
 abbrev pub PrintRefused : Command → Refusal → Output → Type 0
 PrintRefused command Usage out = ⊥
 PrintRefused command (BadDigest text) out = ⊥
+PrintRefused command (BadBlock text fault) out = ⊥
 PrintRefused command BlockLimit out = ⊥
 PrintRefused command InputFault out = ⊥
 PrintRefused command SinkFault out = PutsFront command out
 PrintRefused command OutOfMemory out = Unput out
 
+-- memory was wanted: before anything was taken or put, or by `node` for the text of a block that was read
+abbrev pub WantsMemory : List (List ℕ) → Input → Output → Type 0
+WantsMemory words input out = Untouched input out ⊎ ((cid : CidParts) × TheCommand words (Node cid) × NodedNothing cid input out)
+
 -- what stands after each refusal of words
 abbrev pub Refuses : List (List ℕ) → Refusal → Input → Output → Type 0
 Refuses words Usage input out = IsNoCommand words × Untouched input out
 Refuses words (BadDigest text) input out = (cid : CidParts) × Asks words cid × CidText (record cid { version = 1 }) text × CheckedOther cid input out
+Refuses words (BadBlock text fault) input out = (cid : CidParts) × TheCommand words (Node cid) × CidText (record cid { version = 1 }) text × NodedBad cid fault input out
 Refuses words BlockLimit input out = (cid : CidParts) × Asks words cid × PassedLimit input out
 Refuses words InputFault input out = (cid : CidParts) × Asks words cid × InputFailed input out
 Refuses words SinkFault input out = (command : Command) × TheCommand words command × FailedAtOut command input out
-Refuses words OutOfMemory input out = Untouched input out
+Refuses words OutOfMemory input out = WantsMemory words input out
 
 -- how the words' command ends: done, or refused
 abbrev pub Ends : List (List ℕ) → Option Refusal → Input → Output → Type 0
@@ -157,3 +243,22 @@ abbrev pub CheckStatus : CidParts → List ℕ → ℕ → Type 0
 CheckStatus cid bytes status =
     ((status ≡ 0) × (length bytes ≤ 2097152) × Names cid bytes)
     ⊎ (((status ≡ 3) × (length bytes ≤ 2097152) × (Names cid bytes → ⊥)) ⊎ ((status ≡ 7) × (2097152 < length bytes)))
+
+-- `node` at status 3: the CID doesn't name the block, or the block has no text; nothing was put
+abbrev pub NodedOther : CidParts → Input → Output → Type 0
+NodedOther cid input out = CheckedOther cid input out ⊎ ((fault : NodeFault) × NodedBad cid fault input out)
+
+-- why a block that isn't the CID's, or that has no text, is refused
+abbrev pub HasNoText : CidParts → List ℕ → Type 0
+HasNoText cid bytes = (Names cid bytes → ⊥)
+    ⊎ (Names cid bytes × ((text : List ℕ) → IsNodeTextOf cid bytes text → ⊥) × ((fault : NodeFault) × HasNodeTextCause cid bytes fault))
+
+-- there is a text and no cause of a fault
+abbrev pub HasText : CidParts → List ℕ → Type 0
+HasText cid bytes = ((text : List ℕ) × IsNodeTextOf cid bytes text) × ((fault : NodeFault) → HasNodeTextCause cid bytes fault → ⊥)
+
+-- the status of `node` over an input of these bytes, where no fault was counted and memory was found
+abbrev pub NodeStatus : CidParts → List ℕ → ℕ → Type 0
+NodeStatus cid bytes status =
+    ((status ≡ 0) × (length bytes ≤ 2097152) × Names cid bytes × HasText cid bytes)
+    ⊎ (((status ≡ 3) × (length bytes ≤ 2097152) × HasNoText cid bytes) ⊎ ((status ≡ 7) × (2097152 < length bytes)))

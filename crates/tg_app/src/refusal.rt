@@ -1,7 +1,9 @@
 //! Why a command ends before it is done, with the status and the line on err that say so.
 ghost use Rattle.std.specs.Prelude.{◌≡◌, OnOk, OnErr};
+ghost use Rattle.tg_app.specs.Lines.{cause_of};
 ghost use Rattle.tg_app.specs.Streams.{output_of, Put, PutFront};
 
+use crate::node::NodeFault;
 use crate::streams::put_pieces;
 use std::alloc::AllocError;
 use tg_edges::{Bytes, Failed, Sink};
@@ -17,6 +19,9 @@ pub enum Refusal {
     /// The CID with this text doesn't name the block on input.
     #[error("BadDigest")]
     BadDigest { cid: Bytes },
+    /// The block on input, which the CID with this text names, has no text that `node` writes.
+    #[error("BadBlock")]
+    BadBlock { cid: Bytes, fault: NodeFault },
     /// The input has more bytes than a block may have.
     #[error("Limit Block 2097152")]
     BlockLimit,
@@ -65,7 +70,7 @@ impl Refusal {
     {
         match self {
             Refusal::Usage => 2,
-            Refusal::BadDigest { .. } => 3,
+            Refusal::BadDigest { .. } | Refusal::BadBlock { .. } => 3,
             Refusal::InputFault | Refusal::SinkFault => 6,
             Refusal::BlockLimit => 7,
             Refusal::OutOfMemory => 8,
@@ -80,14 +85,26 @@ impl Refusal {
         ensures front { OnErr result (PutFront (line_of self.now)
             (output_of E.wrote E.held E.faults err.old err.new)) }
     {
-        let (word, detail): (&[u8], &[u8]) = match self {
-            Refusal::Usage => (b"usage", b""),
-            Refusal::BadDigest { cid } => (b"BadDigest ", cid.as_slice()),
-            Refusal::BlockLimit => (b"Limit Block 2097152", b""),
-            Refusal::InputFault => (b"InputFault", b""),
-            Refusal::SinkFault => (b"SinkFault", b""),
-            Refusal::OutOfMemory => (b"OutOfMemory", b""),
+        let (word, cid, behind): (&[u8], &[u8], &[u8]) = match self {
+            Refusal::Usage => (b"usage", b"", b""),
+            Refusal::BadDigest { cid } => (b"BadDigest ", cid.as_slice(), b""),
+            Refusal::BadBlock { cid, fault } => (b"BadBlock ", cid.as_slice(), cause(fault)),
+            Refusal::BlockLimit => (b"Limit Block 2097152", b"", b""),
+            Refusal::InputFault => (b"InputFault", b"", b""),
+            Refusal::SinkFault => (b"SinkFault", b"", b""),
+            Refusal::OutOfMemory => (b"OutOfMemory", b"", b""),
         };
-        put_pieces(err, &[b"tgate: ", word, detail, b"\n"])
+        put_pieces(err, &[b"tgate: ", word, cid, behind, b"\n"])
+    }
+}
+
+/// What stands behind the CID on a line that says what is at fault of its block: a space and the word.
+fn cause(fault: &NodeFault) -> &[u8]
+    ensures { result.now ≡ cause_of fault.now }
+{
+    match fault {
+        NodeFault::BadNode => b" BadNode",
+        NodeFault::BadLink => b" BadLink",
+        NodeFault::BadUnix => b" BadUnix",
     }
 }

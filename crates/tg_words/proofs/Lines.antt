@@ -5,10 +5,10 @@ use Rattle.hex.specs.Hex.{decode_of}
 use Rattle.tg_cid.specs.Cid.{CidParts}
 use Rattle.tg_cid.specs.Spelling.{CidText, CidBytes}
 use Rattle.tg_words.specs.Words.{WordsSpelling}
-use Rattle.tg_words.specs.CommandLine.{CommandLine}
+use Rattle.tg_words.specs.CommandLine.{CommandLine, OneCid}
 use Rattle.tg_words.specs.Operands.{Answers, Reading}
 use Rattle.tg_words.specs.declared.Command.{Command}
-use Rattle.tg_words.specs.declared.Command.TheVariants.{Check, CidToHex, CidToText}
+use Rattle.tg_words.specs.declared.Command.TheVariants.{Check, Node, CidToHex, CidToText}
 use Rattle.tg_words.specs.declared.WordsFault.{WordsFault}
 use Rattle.tg_words.specs.declared.WordsFault.TheVariants.{Usage, OutOfMemory}
 use Rattle.tg_words.proofs.Readings.{begins, at_end, at_plain, at_assigned, at_named, nothing_only, end_only, moves_plain, moves_assigned, moves_named, one_name, no_name, reading_of}
@@ -19,40 +19,42 @@ hex_names = codes "hex" ∷ []
 abbrev pub hex_options : List (List ℕ) → List (List ℕ × List ℕ)
 hex_options values = map (λ value. (codes "hex", value)) values
 
--- `check`
-abbrev pub IsChecked : List (List ℕ) → Command → Type 0
-IsChecked rest command = (cid : CidParts) × (text : List ℕ) × (command ≡ Check cid) × WordsSpelling [] rest (text ∷ []) [] × CidText cid text
+-- `check` and `node`
+abbrev pub IsOneCid : (CidParts → Command) → List (List ℕ) → Command → Type 0
+IsOneCid make rest command = (cid : CidParts) × (command ≡ make cid) × OneCid rest cid
 
-pub check_line : (rest : List (List ℕ)) (command : Command) → CommandLine (codes "check" ∷ rest) command → IsChecked rest command
-check_line rest (Check cid) line =
-    let all : codes "check" ∷ rest ≡ codes "check" ∷ line.rest = line.command in
-    let same : line.rest ≡ rest = cc in
-    (cid, line.text, refl, subst (λ ws. WordsSpelling [] ws (line.text ∷ []) []) same line.operands, line.text_is)
+the_rest : (name : List ℕ) (rest others : List (List ℕ)) (cid : CidParts) → name ∷ rest ≡ name ∷ others → OneCid others cid → OneCid rest cid
+the_rest name rest others cid all operands =
+    let same : others ≡ rest = cc in
+    subst (λ ws. OneCid ws cid) same operands
+
+pub check_line : (rest : List (List ℕ)) (command : Command) → CommandLine (codes "check" ∷ rest) command → IsOneCid Check rest command
+check_line rest (Check cid) line = (cid, refl, the_rest (codes "check") rest line.rest cid line.command line.operands)
+check_line rest (Node cid) line = let all : codes "check" ∷ rest ≡ codes "node" ∷ line.rest = line.command in absurd (cc)
 check_line rest (CidToHex cid) line = let all : codes "check" ∷ rest ≡ codes "cid" ∷ line.rest = line.command in absurd (cc)
 check_line rest (CidToText cid) line = let all : codes "check" ∷ rest ≡ codes "cid" ∷ line.rest = line.command in absurd (cc)
 
-pub check_err : (rest texts : List (List ℕ)) (e : WordsFault)
-    → ((positional : List (List ℕ)) (options : List (List ℕ × List ℕ)) → WordsSpelling [] rest positional options → length positional ≤ 1 → length options ≤ 1 → texts ≡ positional)
-    → ((text : List ℕ) → texts ≡ text ∷ [] → (cid : CidParts) → CidText cid text → e ≡ OutOfMemory)
-    → Answers (codes "check" ∷ rest) (Err e)
-check_err rest texts e only wants = record {
+pub node_line : (rest : List (List ℕ)) (command : Command) → CommandLine (codes "node" ∷ rest) command → IsOneCid Node rest command
+node_line rest (Check cid) line = let all : codes "node" ∷ rest ≡ codes "check" ∷ line.rest = line.command in absurd (cc)
+node_line rest (Node cid) line = (cid, refl, the_rest (codes "node") rest line.rest cid line.command line.operands)
+node_line rest (CidToHex cid) line = let all : codes "node" ∷ rest ≡ codes "cid" ∷ line.rest = line.command in absurd (cc)
+node_line rest (CidToText cid) line = let all : codes "node" ∷ rest ≡ codes "cid" ∷ line.rest = line.command in absurd (cc)
+
+abbrev pub ReadsOneCid : List ℕ → (CidParts → Command) → List (List ℕ) → Type 0
+ReadsOneCid name make rest = (command : Command) → CommandLine (name ∷ rest) command → IsOneCid make rest command
+
+pub one_cid_err : (name : List ℕ) (make : CidParts → Command) (rest : List (List ℕ)) (e : WordsFault) → ReadsOneCid name make rest
+    → ((cid : CidParts) → OneCid rest cid → e ≡ OutOfMemory) → Answers (name ∷ rest) (Err e)
+one_cid_err name make rest e reads only = record {
   found = tt;
-  only = λ command line.
-      let l = check_line rest command line in
-      wants l.1 (only (l.1 ∷ []) [] l.3 (omega arith) (omega arith)) l.0 l.4;
+  only = λ command line. let l = reads command line in only l.0 l.2;
 }
 
-pub check_ok : (rest texts : List (List ℕ)) (text : List ℕ) (cid : CidParts) → texts ≡ text ∷ [] → WordsSpelling [] rest texts []
-    → ((positional : List (List ℕ)) (options : List (List ℕ × List ℕ)) → WordsSpelling [] rest positional options → length positional ≤ 1 → length options ≤ 1 → texts ≡ positional)
-    → CidText cid text → ((other : CidParts) → CidText other text → cid ≡ other)
-    → Answers (codes "check" ∷ rest) (Ok (Check cid))
-check_ok rest texts text cid texts_are spelled only text_is one = record {
-  found = record { rest = rest; command = refl; text = text; operands = subst (λ p. WordsSpelling [] rest p []) texts_are spelled; text_is = text_is };
-  only = λ command line.
-      let l = check_line rest command line in
-      let both : text ∷ [] ≡ l.1 ∷ [] = sym texts_are ∙ only (l.1 ∷ []) [] l.3 (omega arith) (omega arith) in
-      let same : l.1 ≡ text = cc in
-      ap Check (one l.0 (subst (λ t. CidText l.0 t) same l.4)) ∙ sym l.2;
+pub one_cid_ok : (name : List ℕ) (make : CidParts → Command) (rest : List (List ℕ)) (cid : CidParts) → ReadsOneCid name make rest
+    → CommandLine (name ∷ rest) (make cid) → ((other : CidParts) → OneCid rest other → cid ≡ other) → Answers (name ∷ rest) (Ok (make cid))
+one_cid_ok name make rest cid reads line only = record {
+  found = line;
+  only = λ command other. let l = reads command other in ap make (only l.0 l.2) ∙ sym l.1;
 }
 
 -- `cid`
@@ -65,6 +67,7 @@ IsToText rest command = (cid : CidParts) × (digits : List ℕ) × (bytes : List
 
 pub cid_line : (rest : List (List ℕ)) (command : Command) → CommandLine (codes "cid" ∷ rest) command → IsToHex rest command ⊎ IsToText rest command
 cid_line rest (Check cid) line = let all : codes "cid" ∷ rest ≡ codes "check" ∷ line.rest = line.command in absurd (cc)
+cid_line rest (Node cid) line = let all : codes "cid" ∷ rest ≡ codes "node" ∷ line.rest = line.command in absurd (cc)
 cid_line rest (CidToHex cid) line =
     let all : codes "cid" ∷ rest ≡ codes "cid" ∷ line.rest = line.command in
     let same : line.rest ≡ rest = cc in
@@ -196,15 +199,24 @@ one_of_hex words all more every others r s =
     (omega arith)
     (reading_of hex_names words all every r) (reading_of hex_names words more others s)
 
+-- words are one CID at most
+pub same_cid : ((a b : CidParts) (text : List ℕ) → CidText a text → CidText b text → a ≡ b)
+    → (words : List (List ℕ)) (a b : CidParts) → OneCid words a → OneCid words b → a ≡ b
+same_cid one_text words a b p q =
+    let both : p.text ∷ [] ≡ q.text ∷ [] = (one_of_none words (p.text ∷ []) (q.text ∷ []) [] [] p.operands q.operands).0 in
+    let same : q.text ≡ p.text = cc in
+    one_text a b p.text p.text_is (subst (λ t. CidText b t) same q.text_is)
+
 -- words spell at most one command
 pub one_line : ((a b : CidParts) (text : List ℕ) → CidText a text → CidText b text → a ≡ b)
     → ((a b : CidParts) (u v x y : List ℕ) → CidBytes a u → CidBytes b v → u ++ x ≡ v ++ y → (u ≡ v) × (a ≡ b))
     → (words : List (List ℕ)) (a b : Command) → CommandLine words a → CommandLine words b → a ≡ b
 one_line one_cid no_front words (Check cid) b line other =
     let l = check_line line.rest b (subst (λ ws. CommandLine ws b) line.command other) in
-    let both : line.text ∷ [] ≡ l.1 ∷ [] = (one_of_none line.rest (line.text ∷ []) (l.1 ∷ []) [] [] line.operands l.3).0 in
-    let same : l.1 ≡ line.text = cc in
-    ap Check (one_cid cid l.0 line.text line.text_is (subst (λ t. CidText l.0 t) same l.4)) ∙ sym l.2
+    ap Check (same_cid one_cid line.rest cid l.0 line.operands l.2) ∙ sym l.1
+one_line one_cid no_front words (Node cid) b line other =
+    let l = node_line line.rest b (subst (λ ws. CommandLine ws b) line.command other) in
+    ap Node (same_cid one_cid line.rest cid l.0 line.operands l.2) ∙ sym l.1
 one_line one_cid no_front words (CidToHex cid) b line other =
     elim (cid_line line.rest b (subst (λ ws. CommandLine ws b) line.command other)) [
       | inl l ↦

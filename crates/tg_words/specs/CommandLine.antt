@@ -4,16 +4,20 @@ use Rattle.hex.specs.Hex.{decode_of}
 use Rattle.tg_cid.specs.Cid.{CidParts}
 use Rattle.tg_cid.specs.Spelling.{CidText, CidBytes}
 use Rattle.tg_words.specs.declared.Command.{Command}
-use Rattle.tg_words.specs.declared.Command.TheVariants.{Check, CidToHex, CidToText}
+use Rattle.tg_words.specs.declared.Command.TheVariants.{Check, Node, CidToHex, CidToText}
 use Rattle.tg_words.specs.Words.{WordsSpelling}
 
--- `check CID`
-pub record CheckLine (words : List (List ℕ)) (cid : CidParts) : Type 0 where
-  pub rest : List (List ℕ)
-  pub command : words ≡ codes "check" ∷ rest
+-- the words are one CID and no options
+pub record OneCid (words : List (List ℕ)) (cid : CidParts) : Type 0 where
   pub text : List ℕ
-  pub operands : WordsSpelling [] rest (text ∷ []) []
+  pub operands : WordsSpelling [] words (text ∷ []) []
   pub text_is : CidText cid text
+
+-- `check CID` and `node CID`: the command of this name
+pub record OneCidLine (name : List ℕ) (words : List (List ℕ)) (cid : CidParts) : Type 0 where
+  pub rest : List (List ℕ)
+  pub command : words ≡ name ∷ rest
+  pub operands : OneCid rest cid
 
 -- `cid CID`
 pub record CidLine (words : List (List ℕ)) (cid : CidParts) : Type 0 where
@@ -35,6 +39,7 @@ pub record CidHexLine (words : List (List ℕ)) (cid : CidParts) : Type 0 where
 
 -- the words spell the command
 abbrev pub CommandLine : List (List ℕ) → Command → Type 0
-CommandLine words (Check cid) = CheckLine words cid
+CommandLine words (Check cid) = OneCidLine (codes "check") words cid
+CommandLine words (Node cid) = OneCidLine (codes "node") words cid
 CommandLine words (CidToHex cid) = CidLine words cid
 CommandLine words (CidToText cid) = CidHexLine words cid

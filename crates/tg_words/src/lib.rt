@@ -5,7 +5,7 @@ ghost use Rattle.std.specs.Prelude.{◌≡◌, ◌≢◌, ℕ, ◌<◌, ◌≤�
 ghost use Rattle.hex.specs.Hex.{decode_of};
 ghost use Rattle.tg_cid.specs.Cid.{CidParts};
 ghost use Rattle.tg_cid.specs.Spelling.{CidText, CidBytes};
-ghost use Rattle.tg_words.specs.CommandLine.{CommandLine};
+ghost use Rattle.tg_words.specs.CommandLine.{CommandLine, OneCid};
 ghost use Rattle.tg_words.specs.Operands.{Answers, Moves, Reading, texts_of, options_from};
 ghost use Rattle.tg_words.specs.Words.{IsPlain, WordsSpelling};
 ghost use Rattle.tg_words.specs.declared.Command.{Command};
@@ -21,6 +21,8 @@ use thiserror::Error;
 pub enum Command {
     /// `check CID`: a block on input is written to out if the CID names it.
     Check(Cid),
+    /// `node CID`: the fields of a block on input are written to out if the CID names it.
+    Node(Cid),
     /// `cid CID`: the CID's bytes in lower-case hexadecimal.
     CidToHex(Cid),
     /// `cid --hex HEX`: the text of the CID with these bytes.
@@ -106,6 +108,8 @@ fn dispatch(alloc: Global, command: &str, words: &[String]) -> Result<Command, W
 {
     if command == "check" {
         check(alloc, words)
+    } else if command == "node" {
+        node(alloc, words)
     } else if command == "cid" {
         cid(alloc, words)
     } else {
@@ -117,13 +121,29 @@ fn dispatch(alloc: Global, command: &str, words: &[String]) -> Result<Command, W
 fn check(alloc: Global, words: &[String]) -> Result<Command, WordsFault>
     ensures { Answers (codes "check" ∷ map string_bytes words.now) result }
 {
+    Ok(Command::Check(one_cid(alloc, words)?))
+}
+
+/// `node CID`.
+fn node(alloc: Global, words: &[String]) -> Result<Command, WordsFault>
+    ensures { Answers (codes "node" ∷ map string_bytes words.now) result }
+{
+    Ok(Command::Node(one_cid(alloc, words)?))
+}
+
+/// The CID where the words are one CID and no options.
+fn one_cid(alloc: Global, words: &[String]) -> Result<Cid, WordsFault>
+    ensures found { IfOk result (λ cid. OneCid (map string_bytes words.now) cid) }
+    ensures only { (cid : CidParts) → OneCid (map string_bytes words.now) cid
+        → MatchResult result (λ found. found ≡ cid) (λ e. e ≡ WordsFault.OutOfMemory) }
+{
     let Some(found) = operands_of(words, None) else {
         return Err(WordsFault::Usage);
     };
     let Some(text) = found.positional else {
         return Err(WordsFault::Usage);
     };
-    Ok(Command::Check(cid_of_text(alloc, text)?))
+    cid_of_text(alloc, text)
 }
 
 /// `cid CID` and `cid --hex HEX`.

@@ -38,6 +38,7 @@ fn words_of(alloc: Global, line: &[&str]) -> Result<Vec<String>, AllocError> {
 #[derive(Clone, Copy)]
 enum Wanted {
     Check,
+    Node,
     CidToHex,
     CidToText,
     Usage,
@@ -46,6 +47,7 @@ enum Wanted {
 fn answer(wanted: Wanted, cid: Cid) -> Result<Command, WordsFault> {
     match wanted {
         Wanted::Check => Ok(Command::Check(cid)),
+        Wanted::Node => Ok(Command::Node(cid)),
         Wanted::CidToHex => Ok(Command::CidToHex(cid)),
         Wanted::CidToText => Ok(Command::CidToText(cid)),
         Wanted::Usage => Err(WordsFault::Usage),
@@ -54,10 +56,17 @@ fn answer(wanted: Wanted, cid: Cid) -> Result<Command, WordsFault> {
 
 #[test]
 fn lines(rt: HostRuntime) -> Result<(), Fail> {
-    let lines: [(&[&str], Wanted); 37] = [
+    let lines: [(&[&str], Wanted); 44] = [
         (&["check", TEXT], Wanted::Check),
         (&["check", "--", TEXT], Wanted::Check),
         (&["check", TEXT, "--"], Wanted::Check),
+        (&["node", TEXT], Wanted::Node),
+        (&["node", "--", TEXT], Wanted::Node),
+        (&["node"], Wanted::Usage),
+        (&["node", TEXT, TEXT], Wanted::Usage),
+        (&["node", "--hex", HEX], Wanted::Usage),
+        (&["node", HEX_OPTION], Wanted::Usage),
+        (&["nodes", TEXT], Wanted::Usage),
         (&["cid", TEXT], Wanted::CidToHex),
         (&["cid", "--hex", HEX], Wanted::CidToText),
         (&["cid", "--hex", UPPER_HEX], Wanted::CidToText),

@@ -1,7 +1,7 @@
 use Rattle.std.proofs.Common.{◌≡◌, ℕ, ◌⊎◌, inr, Some, sym, ◌∙◌, subst}
-use Rattle.tg_app.specs.Endings.{CheckStatus}
-use Rattle.tg_app.proofs.Statuses.{the_done, agrees, answered_done, says, none_refused, other_of, answered_refused}
-use Rattle.tg_words.specs.declared.Command.TheVariants.{Check, CidToHex, CidToText}
+use Rattle.tg_app.specs.Endings.{CheckStatus, NodeStatus}
+use Rattle.tg_app.proofs.Statuses.{the_done, agrees, answered_done, says, none_refused, other_of, answered_refused, node_answered_done, node_other_of, node_answered_refused}
+use Rattle.tg_words.specs.declared.Command.TheVariants.{Check, Node, CidToHex, CidToText}
 use Rattle.tg_app.proofs.top.run.Goals as goal
 
 pub returns-in-Ok-clause-checked : goal.returns-in-Ok-clause-checked
@@ -31,3 +31,16 @@ returns-in-Err-clause-other g c = λ cid line three. other_of _ cid c.in-Err.ref
 pub returns-in-Err-clause-answered : goal.returns-in-Err-clause-answered
 returns-in-Err-clause-answered g c = λ cid bytes line told no_in no_out.
     subst (λ (status : ℕ). (status ≡ 8) ⊎ CheckStatus cid bytes status) (sym c.status.ensures) (answered_refused _ cid bytes c.in-Err.refusal _ _ line told no_in no_out c.in-Err.ensures)
+
+pub returns-in-Ok-clause-noded : goal.returns-in-Ok-clause-noded
+returns-in-Ok-clause-noded g c = λ cid line _. the_done _ (Node cid) _ _ line c.in-Ok.ensures
+
+pub returns-in-Ok-clause-node_answered : goal.returns-in-Ok-clause-node_answered
+returns-in-Ok-clause-node_answered g c = λ cid bytes line told _ _. inr (node_answered_done cid bytes _ _ told (the_done _ (Node cid) _ _ line c.in-Ok.ensures))
+
+pub returns-in-Err-clause-node_other : goal.returns-in-Err-clause-node_other
+returns-in-Err-clause-node_other g c = λ cid line three. node_other_of _ cid c.in-Err.refusal _ _ line (sym c.status.ensures ∙ three) c.in-Err.ensures
+
+pub returns-in-Err-clause-node_answered : goal.returns-in-Err-clause-node_answered
+returns-in-Err-clause-node_answered g c = λ cid bytes line told no_in no_out.
+    subst (λ (status : ℕ). (status ≡ 8) ⊎ NodeStatus cid bytes status) (sym c.status.ensures) (node_answered_refused _ cid bytes c.in-Err.refusal _ _ line told no_in no_out c.in-Err.ensures)
