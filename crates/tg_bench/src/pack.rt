@@ -1,8 +1,7 @@
 //! A file of the system read through a pack by offsets, into one buffer of 65,536 bytes.
-use std::io;
 use std::rt::{Clock, Files};
 use std::time::Instant;
-use std::fs;
+use std::{fs, io};
 use tg_edges::{Failed, HostPack, Pack};
 
 const PIECE: usize = 65_536;
