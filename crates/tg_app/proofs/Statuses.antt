@@ -97,15 +97,15 @@ OfNode P (CidToText cid) = ⊥
 
 asked_check : (words : List (List ℕ)) (cid asked : CidParts) (P : CidParts → Type 0) → CommandLine words (Check cid) → Asks words asked → P asked → P cid
 asked_check words cid asked P line asks p = elim asks [
-      inl the ↦ subst (OfBlock P) (the.only (Check cid) line) p
-    | inr the ↦ subst (OfBlock P) (the.only (Check cid) line) p
-  ]
+  | inl the ↦ subst (OfBlock P) (the.only (Check cid) line) p
+  | inr the ↦ subst (OfBlock P) (the.only (Check cid) line) p
+]
 
 asked_node : (words : List (List ℕ)) (cid asked : CidParts) (P : CidParts → Type 0) → CommandLine words (Node cid) → Asks words asked → P asked → P cid
 asked_node words cid asked P line asks p = elim asks [
-      inl the ↦ subst (OfBlock P) (the.only (Node cid) line) p
-    | inr the ↦ subst (OfBlock P) (the.only (Node cid) line) p
-  ]
+  | inl the ↦ subst (OfBlock P) (the.only (Node cid) line) p
+  | inr the ↦ subst (OfBlock P) (the.only (Node cid) line) p
+]
 
 node_is : (words : List (List ℕ)) (command : Command) (asked : CidParts) (P : CidParts → Type 0) → CommandLine words command → TheCommand words (Node asked) → P asked → OfNode P command
 node_is words command asked P line the p = subst (OfNode P) (the.only command line) p

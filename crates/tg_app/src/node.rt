@@ -16,8 +16,13 @@ use thiserror::Error;
 
 /// The ASCII bytes of a name that are escaped: all but letters, digits, `-`, `.`, `_` and `~`, which are the unreserved
 /// characters of RFC 3986, section 2.3. Bytes outside of ASCII are escaped besides.
-pub const ESCAPED: AsciiSet =
-    ascii_set!(NON_ALPHANUMERIC.remove(b'-').remove(b'.').remove(b'_').remove(b'~'));
+pub const ESCAPED: AsciiSet = ascii_set!(
+    NON_ALPHANUMERIC
+        .remove(b'-')
+        .remove(b'.')
+        .remove(b'_')
+        .remove(b'~')
+);
 
 /// Why `node` writes nothing of a block under a DAG-PB CID.
 #[derive(Clone, Copy, Debug, PartialEq, Eq, Error)]
@@ -203,11 +208,7 @@ fn push_name(text: &mut Bytes, alloc: Global, name: &Option<Bytes>) -> Result<()
 }
 
 /// Adds the lines of a node's data.
-fn push_payload(
-    text: &mut Bytes,
-    alloc: Global,
-    payload: &Option<Bytes>,
-) -> Result<(), TextFault>
+fn push_payload(text: &mut Bytes, alloc: Global, payload: &Option<Bytes>) -> Result<(), TextFault>
     ensures { MatchResult result
         (λ _. (lines : List ℕ) × PayloadLines payload.now lines × (text.new ≡ text.old ++ lines) × (HasBadPayload payload.now → ⊥))
         (λ e. IsCaused (HasPayloadCause payload.now) e) }

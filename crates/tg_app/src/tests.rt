@@ -227,7 +227,8 @@ fn faults_of_the_streams_are_told(rt: HostRuntime) -> Result<(), Fail> {
 /// The dag-pb CID of the file `hello world` in chunks of 4 bytes, and its block.
 const F: &str = "bafybeighmzuokpuzyho2ninhgybpych6atkhbn2o57c3hlyer2hntezxly";
 
-const F_BLOCK: &[u8] = b"\x12\x2a\x0a\x24\x01\x55\x12\x20\x0e\xbd\xc3\x31\x7b\x75\x83\x9f\x64\x33\x87\xd7\x83\x53\x5a\xdc\x36\x0c\xa0\x1f\
+const F_BLOCK: &[u8] =
+    b"\x12\x2a\x0a\x24\x01\x55\x12\x20\x0e\xbd\xc3\x31\x7b\x75\x83\x9f\x64\x33\x87\xd7\x83\x53\x5a\xdc\x36\x0c\xa0\x1f\
     \x33\xc7\x5f\x7c\x1e\x73\x73\xad\xcd\x67\x5c\x0b\x12\x00\x18\x04\
     \x12\x2a\x0a\x24\x01\x55\x12\x20\x8a\xf8\xe6\x62\xa3\xb2\x51\xef\x02\xd2\xed\x85\x74\x55\x35\x08\x6a\xf7\x7a\xa1\
     \xac\x63\xa4\xf5\xf8\x00\xf5\x01\xc8\xe5\xd0\x93\x12\x00\x18\x04\
@@ -242,11 +243,13 @@ const F_TEXT: &str = "links 3\n\
     payload 10\nunix 2 filesize 11 inline - sizes 3 hash - fanout -\nsize 4\nsize 4\nsize 3\n";
 
 /// The 36 bytes of the CID of `hell`.
-const L1: &[u8] = b"\x01\x55\x12\x20\x0e\xbd\xc3\x31\x7b\x75\x83\x9f\x64\x33\x87\xd7\x83\x53\x5a\xdc\x36\x0c\xa0\x1f\
+const L1: &[u8] =
+    b"\x01\x55\x12\x20\x0e\xbd\xc3\x31\x7b\x75\x83\x9f\x64\x33\x87\xd7\x83\x53\x5a\xdc\x36\x0c\xa0\x1f\
     \x33\xc7\x5f\x7c\x1e\x73\x73\xad\xcd\x67\x5c\x0b";
 
 /// All bytes from 0 to 255 escaped, by Python's `urllib.parse.quote` with `safe="-._~"`.
-const ALL_ESCAPED: &str = "%00%01%02%03%04%05%06%07%08%09%0A%0B%0C%0D%0E%0F%10%11%12%13%14%15%16%17%18%19%1A%1B%1C%1D\
+const ALL_ESCAPED: &str =
+    "%00%01%02%03%04%05%06%07%08%09%0A%0B%0C%0D%0E%0F%10%11%12%13%14%15%16%17%18%19%1A%1B%1C%1D\
     %1E%1F%20%21%22%23%24%25%26%27%28%29%2A%2B%2C-.%2F0123456789%3A%3B%3C%3D%3E%3F%40ABCDEFGHI\
     JKLMNOPQRSTUVWXYZ%5B%5C%5D%5E_%60abcdefghijklmnopqrstuvwxyz%7B%7C%7D~%7F%80%81%82%83%84%85\
     %86%87%88%89%8A%8B%8C%8D%8E%8F%90%91%92%93%94%95%96%97%98%99%9A%9B%9C%9D%9E%9F%A0%A1%A2%A3\
@@ -291,13 +294,20 @@ fn node_writes_the_fields(rt: HostRuntime) -> Result<(), Fail> {
     let l1 = "bafkreiaoxxbtc63vqopwim4h26bvgww4gygkahzty5pxyhttoow42z24bm";
     let rows: [(&[&[u8]], &str); 7] = [
         (&[b""], "links 0\npayload -\n"),
-        (&[b"\x12\x26\x0a\x24", L1], "links 1\nlink L1 - -\npayload -\n"),
+        (
+            &[b"\x12\x26\x0a\x24", L1],
+            "links 1\nlink L1 - -\npayload -\n",
+        ),
         (
             &[b"\x12\x30\x0a\x24", L1, b"\x12\x08a b/\xc3\xa9%~"],
             "links 1\nlink L1 - =a%20b%2F%C3%A9%25~\npayload -\n",
         ),
         (
-            &[b"\x0a\x02\x08\x01\x12\x2b\x0a\x24", L1, b"\x12\x01a\x18\x00"],
+            &[
+                b"\x0a\x02\x08\x01\x12\x2b\x0a\x24",
+                L1,
+                b"\x12\x01a\x18\x00",
+            ],
             "links 1\nlink L1 0 =a\npayload 2\nunix 1 filesize - inline - sizes 0 hash - fanout -\n",
         ),
         (

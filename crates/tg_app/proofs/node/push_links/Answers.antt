@@ -13,8 +13,7 @@ loop-link-preserved c =
     let links = c.args.links.now in
     let i = c.loop-link.link-index in
     let item = c.link-item.result in
-    let more = take_more links i item (omega arith) ∙ ap (λ (x : Link). take i links ++ x ∷ []) (sym c.link-item.is) in
-    (
+    let more = take_more links i item (omega arith) ∙ ap (λ (x : Link). take i links ++ x ∷ []) (sym c.link-item.is) in (
       so_far.0 ++ here.0,
       subst (λ (ls : List Link). LinkLines ls (so_far.0 ++ here.0)) (sym more) (lines_more (take i links) item so_far.0 here.0 so_far.1 here.1),
       here.2 ∙ ap (λ t. t ++ here.0) so_far.2 ∙ append_assoc c.args.text.now so_far.0 here.0,
