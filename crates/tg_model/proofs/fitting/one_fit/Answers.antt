@@ -1,0 +1,11 @@
+use Rattle.tg_model.proofs.SameOpenings.{fit_or_in_progress, one_fit, one_in_progress}
+use Rattle.tg_model.proofs.fitting.one_fit.Goals as goal
+
+pub returns-clause-fits : goal.returns-clause-fits
+returns-clause-fits c = one_fit c.readings.ensures.one_kind
+
+pub returns-clause-in_progress : goal.returns-clause-in_progress
+returns-clause-in_progress c = one_in_progress c.readings.ensures.one_kind
+
+pub returns-clause-either : goal.returns-clause-either
+returns-clause-either c = fit_or_in_progress c.readings.ensures.one_kind

@@ -1,0 +1,253 @@
+-- The traversal of a DAG for a query: the places that are sent, in preorder and in the order of the links, with the text
+-- that they give and the entries that are met (Trustless Gateway specification: dag-scope, entity-bytes, order dfs).
+use Rattle.tg_model.specs.declared.queries.Scope.TheVariants as scopes
+use Rattle.std.specs.Prelude.{Bool, List, None, Option, Some, [], drop, if◌then◌else◌, length, map, nat_lt, take, ℕ, ◌&&◌, ◌++◌, ◌+◌, ◌-◌, ◌∷◌}
+use Rattle.tg_cid.specs.Cid.{CidParts}
+use Rattle.tg_model.specs.ByteRanges.{high_of, low_of}
+use Rattle.tg_model.specs.Dag.{Dag, Kids, Section, bare, kid, no_kid, node, total_of, unopened}
+use Rattle.tg_model.specs.PathWalk.{PathEnd, TraversalEnd, bad_block, child_below, gone, path_walk, stopped, terminal, whole}
+use Rattle.tg_model.specs.Queries.{QueryParts, SpanParts}
+use Rattle.tg_model.specs.Sound.{Position, child, part, position_fault, top}
+use Rattle.tg_model.specs.Texts.{Named, dir_line, file_line, joined, link_line}
+use Rattle.tg_model.specs.declared.fault.BlockFault.{BlockFault}
+use Rattle.tg_model.specs.declared.kinds.Kind.{Kind}
+use Rattle.tg_model.specs.declared.kinds.Kind.TheVariants.{Basic, File, Raw, Shard, Symlink}
+use Rattle.tg_model.specs.declared.kinds.Part.{Part}
+use Rattle.tg_model.specs.declared.kinds.Slot.{Slot}
+use Rattle.tg_model.specs.declared.queries.Scope.{Scope}
+
+-- a place of a traversal: its section, and how many blocks there are from the root to it, both counted
+pub record Place : Type 0 where
+  pub section : Section
+  pub depth : ℕ
+
+-- an entry of a directory that is listed or bundled, and the directory's path; a listed directory has the empty one
+pub record Met : Type 0 where
+  pub directory : List ℕ
+  pub name : List ℕ
+  pub cid : CidParts
+
+-- the name and the CID of an entry that is met
+abbrev pub named_met : Met → Named
+named_met m = record { name = m.name; cid = m.cid }
+
+pub record Traversal : Type 0 where
+  pub places : List Place
+  pub text : List ℕ
+  pub met : List Met
+  pub end : TraversalEnd
+
+abbrev pub ended : TraversalEnd → Traversal
+ended end = record { places = []; text = []; met = []; end = end }
+
+abbrev pub saying : List ℕ → Traversal
+saying text = record { places = []; text = text; met = []; end = whole }
+
+abbrev pub meeting : List Met → Traversal
+meeting met = record { places = []; text = []; met = met; end = whole }
+
+abbrev pub placing : Place → List ℕ → Traversal
+placing p text = record { places = p ∷ []; text = text; met = []; end = whole }
+
+-- one traversal, and behind it another where the first came through
+abbrev pub after_end : TraversalEnd → Traversal → Traversal → Traversal
+after_end whole a b = record { places = a.places ++ b.places; text = a.text ++ b.text; met = a.met ++ b.met; end = b.end }
+after_end other a b = a
+
+abbrev pub and_then : Traversal → Traversal → Traversal
+and_then a b = after_end a.end a b
+
+-- what is asked of a node: all below a directory, as records of a bundle under this path; a file's content or a symbolic
+-- link's target; the content from a byte up to another, counted from the node's first; or a directory's entries
+pub data Reach : Type 0 where
+  bundled : List ℕ → Reach
+  entire : Reach
+  ranged : ℕ → ℕ → Reach
+  listed : Reach
+
+-- the bytes from low up to high
+abbrev pub between : ℕ → ℕ → List ℕ → List ℕ
+between low high xs = take (high - low) (drop low xs)
+
+-- the text that a node gives before its kids
+abbrev pub record_line : Position → Section → Kind → List ℕ → List ℕ
+record_line position section Raw path = file_line (total_of section Raw) path
+record_line position section (File inline filesize parts) path = file_line (total_of section (File inline filesize parts)) path
+record_line position section (Basic entries) path = dir_line path
+record_line top section (Shard slots) path = dir_line path
+record_line (part size) section (Shard slots) path = dir_line path
+record_line (child above) section (Shard slots) path = []
+record_line position section (Symlink target) path = link_line (length target) path
+
+abbrev pub own_text : Section → Kind → List ℕ
+own_text section Raw = section.block
+own_text section (File inline filesize parts) = inline
+own_text section (Basic entries) = []
+own_text section (Shard slots) = []
+own_text section (Symlink target) = target
+
+abbrev pub text_before : Reach → Position → Section → Kind → List ℕ
+text_before (bundled path) position section kind = record_line position section kind path ++ own_text section kind
+text_before entire position section kind = own_text section kind
+text_before (ranged low high) position section kind = between low high (own_text section kind)
+text_before listed position section kind = []
+
+-- and behind them: a line feed behind a bundled content or target
+abbrev pub line_end : Kind → List ℕ
+line_end Raw = 10 ∷ []
+line_end (File inline filesize parts) = 10 ∷ []
+line_end (Basic entries) = []
+line_end (Shard slots) = []
+line_end (Symlink target) = 10 ∷ []
+
+abbrev pub text_behind : Reach → Kind → List ℕ
+text_behind (bundled path) kind = line_end kind
+text_behind entire kind = []
+text_behind (ranged low high) kind = []
+text_behind listed kind = []
+
+-- what is done at a link: the entries that are met there, and what is asked of the kid and where it stands, if it is opened
+pub record Visit : Type 0 where
+  pub met : List Met
+  pub into : Option (Reach × Position)
+
+abbrev pub passed_over : Visit
+passed_over = record { met = []; into = None }
+
+-- a part that begins at `from` has a length, and the range meets its bytes
+abbrev pub is_met : ℕ → ℕ → ℕ → ℕ → Bool
+is_met low high from size = nat_lt 0 size && (nat_lt low high && (nat_lt from high && nat_lt low (from + size)))
+
+-- the parts that a range meets are opened
+abbrev pub part_visits : ℕ → ℕ → ℕ → List Part → List Visit
+part_visits low high from [] = []
+part_visits low high from (p ∷ parts) =
+    (if is_met low high from p.size
+    then record { met = []; into = Some (ranged (low - from) (high - from), part p.size) }
+    else passed_over) ∷ part_visits low high (from + p.size) parts
+
+abbrev pub file_visits : Reach → List ℕ → List Part → List Visit
+file_visits (bundled path) inline parts = map (λ p. record { met = []; into = Some (entire, part p.size) }) parts
+file_visits entire inline parts = map (λ p. record { met = []; into = Some (entire, part p.size) }) parts
+file_visits (ranged low high) inline parts = part_visits low high (length inline) parts
+file_visits listed inline parts = map (λ p. passed_over) parts
+
+-- an entry of a directory
+abbrev pub entry_visit : Reach → List ℕ → CidParts → Visit
+entry_visit (bundled path) name cid = record { met = record { directory = path; name = name; cid = cid } ∷ []; into = Some (bundled (joined path name), top) }
+entry_visit entire name cid = passed_over
+entry_visit (ranged low high) name cid = passed_over
+entry_visit listed name cid = record { met = record { directory = []; name = name; cid = cid } ∷ []; into = None }
+
+-- a child of a shard
+abbrev pub child_visit : Reach → Position → ℕ → Visit
+child_visit (bundled path) position slot = record { met = []; into = Some (bundled path, child_below position slot) }
+child_visit entire position slot = passed_over
+child_visit (ranged low high) position slot = passed_over
+child_visit listed position slot = record { met = []; into = Some (listed, child_below position slot) }
+
+abbrev pub visit_by_name : Reach → Position → ℕ → CidParts → Option (List ℕ) → Visit
+visit_by_name reach position number cid (Some name) = entry_visit reach name cid
+visit_by_name reach position number cid None = child_visit reach position number
+
+abbrev pub slot_visit : Reach → Position → Slot → Visit
+slot_visit reach position slot = visit_by_name reach position slot.slot slot.cid slot.name
+
+abbrev pub visits : Reach → Position → Kind → List Visit
+visits reach position Raw = []
+visits reach position (File inline filesize parts) = file_visits reach inline parts
+visits reach position (Basic entries) = map (λ e. entry_visit reach e.name e.cid) entries
+visits reach position (Shard slots) = map (slot_visit reach position) slots
+visits reach position (Symlink target) = []
+
+-- a node and what is asked for below it; `depth` counts the blocks from the root to it
+-- a place is given where the node may stand there
+abbrev pub unless_bad : CidParts → Option BlockFault → Traversal → Traversal
+unless_bad cid None t = t
+unless_bad cid (Some fault) t = ended (bad_block cid fault)
+
+-- a link is passed over, or its kid is gone into
+abbrev pub visited : (Reach → Position → Traversal) → Option (Reach × Position) → Traversal
+visited inside None = saying []
+visited inside (Some visit) = inside visit.0 visit.1
+
+abbrev mutual
+  pub under : Reach → Position → ℕ → Dag → Traversal
+  under reach position depth (unopened cid) = ended (gone cid)
+  under reach position depth (bare section None) = ended (gone section.cid)
+  under reach position depth (bare section (Some fault)) = ended (bad_block section.cid fault)
+  under reach position depth (node section kind kids) =
+      unless_bad section.cid (position_fault position kind)
+      (and_then (placing (record { section = section; depth = depth }) (text_before reach position section kind))
+      (and_then (under_kids (visits reach position kind) (depth + 1) kids) (saying (text_behind reach kind))))
+
+  pub under_kids : List Visit → ℕ → Kids → Traversal
+  under_kids todo depth no_kid = saying []
+  under_kids [] depth (kid d kids) = saying []
+  under_kids (visit ∷ todo) depth (kid d kids) =
+      and_then (meeting visit.met)
+      (and_then (visited (λ reach position. under reach position depth d) visit.into) (under_kids todo depth kids))
+
+-- what is asked of a terminal by scope, range and kind: a range is ignored where it isn't a file
+abbrev pub file_reach : Option SpanParts → ℕ → Reach
+file_reach None total = entire
+file_reach (Some span) total = ranged (low_of span.from total) (high_of span.to total)
+
+abbrev pub entity_reach : Option SpanParts → Section → Kind → Reach
+entity_reach span section Raw = file_reach span (total_of section Raw)
+entity_reach span section (File inline filesize parts) = file_reach span (total_of section (File inline filesize parts))
+entity_reach span section (Basic entries) = listed
+entity_reach span section (Shard slots) = listed
+entity_reach span section (Symlink target) = entire
+
+abbrev pub all_reach : Kind → Reach
+all_reach Raw = entire
+all_reach (File inline filesize parts) = entire
+all_reach (Basic entries) = bundled (47 ∷ [])
+all_reach (Shard slots) = bundled (47 ∷ [])
+all_reach (Symlink target) = entire
+
+-- the terminal alone, whatever it is read as
+abbrev pub block_alone : ℕ → Dag → Traversal
+block_alone depth (unopened cid) = ended (gone cid)
+block_alone depth (bare section fault) = placing (record { section = section; depth = depth }) section.block
+block_alone depth (node section kind kids) = placing (record { section = section; depth = depth }) section.block
+
+-- a terminal with a kind, or one without
+abbrev pub kind_reach : (Section → Kind → Reach) → Dag → Reach
+kind_reach reach (unopened cid) = entire
+kind_reach reach (bare section fault) = entire
+kind_reach reach (node section kind kids) = reach section kind
+
+abbrev pub at_terminal : Scope → Option SpanParts → ℕ → Dag → Traversal
+at_terminal scopes.Block span depth d = block_alone depth d
+at_terminal scopes.Entity span depth d = under (kind_reach (entity_reach span) d) top depth d
+at_terminal scopes.All span depth d = under (kind_reach (λ section kind. all_reach kind) d) top depth d
+
+-- the places of a path walk, each one block deeper
+abbrev pub walk_places : ℕ → List Section → List Place
+walk_places depth [] = []
+walk_places depth (section ∷ sections) = record { section = section; depth = depth } ∷ walk_places (depth + 1) sections
+
+abbrev pub from_end : PathEnd → Scope → Option SpanParts → ℕ → Traversal
+from_end (terminal d) scope span depth = at_terminal scope span depth d
+from_end (stopped end) scope span depth = ended end
+
+-- the path walk, and then what is asked for at its terminal
+abbrev pub traversal : QueryParts → Dag → Traversal
+traversal q d =
+    let walk = path_walk q.path d in
+    let below = from_end walk.end q.scope q.span (length walk.sections + 1) in
+    record { places = walk_places 1 walk.sections ++ below.places; text = below.text; met = below.met; end = below.end }
+
+-- the places of which the sections are sent: each of them
+abbrev pub sent_places : QueryParts → List Place → List Place
+sent_places q places = places
+
+-- the sections that are sent, in order
+abbrev pub block_list : QueryParts → Dag → List Section
+block_list q d = map (λ p. p.section) (sent_places q (traversal q d).places)
+
+-- the opened sections, repeats with them
+abbrev pub opened_list : QueryParts → Dag → List Section
+opened_list q d = map (λ p. p.section) (traversal q d).places

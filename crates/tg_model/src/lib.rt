@@ -1,0 +1,27 @@
+//! The block model: what a block is read as, what a DAG of blocks says, what a query asks of it, and the steps that go over one
+//! block.
+#![tactic(auto)]
+
+mod fault;
+mod fitting;
+mod kinds;
+mod laws;
+mod limits;
+mod queries;
+mod reading;
+mod shards;
+mod steps;
+mod stores;
+mod windows;
+
+pub use fault::BlockFault;
+pub use fitting::{against_every_peer, one_fit, own_sections};
+pub use kinds::{Entry, Kind, Made, NewEntry, Part, Slot, Step};
+pub use laws::{paths, readings, sound_dags, traversals};
+pub use limits::{LimitKind, Limits};
+pub use queries::{Form, Path, Query, Scope, Span, SpanFrom, well_formed};
+pub use reading::reads;
+pub use shards::check_shard;
+pub use steps::step;
+pub use stores::{Blocks, BlocksFault, Keep, KeepFault};
+pub use windows::{resolve_span, window};
