@@ -1,0 +1,2 @@
+mod HelloChecks
+mod FoundBlock

@@ -1,0 +1,4 @@
+use Rattle.tg_oracle.proofs.tests.+end_by_steps.Given as goal
+
+abbrev pub decreases-end_by_steps : goal.decreases-end_by_steps
+decreases-end_by_steps l = l.depth

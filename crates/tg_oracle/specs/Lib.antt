@@ -1,0 +1,4 @@
+pub mod HelloWorld
+pub mod SmallDags
+pub mod OneBlock
+pub mod OneBlockLaws

@@ -1,0 +1,98 @@
+-- Small DAGs: parts of no length and equal ones, a symbolic link, shards. Their definitions look at kinds and kids alone, so the
+-- blocks of nodes are left empty, and a CID's digest is one number.
+use Rattle.std.specs.Prelude.{ℕ, List, [], ◌∷◌, Option, Some, None, true, codes}
+use Rattle.tg_cid.specs.declared.cid.Codec.TheVariants as codecs
+use Rattle.tg_model.specs.Dag.{Dag, Section, kid, no_kid, node, unopened}
+use Rattle.tg_oracle.specs.HelloWorld.{cid_with}
+use Rattle.tg_model.specs.Queries.{QueryParts, SpanParts}
+use Rattle.tg_model.specs.declared.kinds.Kind.TheVariants.{Basic, File, Raw, Shard, Symlink}
+use Rattle.tg_model.specs.declared.kinds.Slot.{Slot}
+use Rattle.tg_model.specs.declared.queries.Form.TheVariants.{Car}
+use Rattle.tg_model.specs.declared.queries.Scope.{Scope}
+use Rattle.tg_model.specs.declared.queries.SpanFrom.TheVariants.{Start, Last}
+
+-- the CID with this number; a raw block under it, and the block of a node
+abbrev pub raw_with : ℕ → List ℕ → Section
+raw_with number block = record { cid = cid_with codecs.Raw (number ∷ []); block = block }
+
+abbrev pub node_with : ℕ → Section
+node_with number = record { cid = cid_with codecs.DagPb (number ∷ []); block = [] }
+
+abbrev pub raw_leaf : Section → Dag
+raw_leaf section = node section Raw no_kid
+
+-- a query under any root, with repeats
+abbrev pub asking : List (List ℕ) → Scope → Option SpanParts → QueryParts
+asking path scope span = record { root = (node_with 0).cid; path = path; form = Car; scope = scope; span = span; dups = true }
+
+-- the bytes 2 to 5, and the last no bytes
+abbrev pub two_to_five : SpanParts
+two_to_five = record { from = Start 2; to = Some 5 }
+
+abbrev pub no_bytes : SpanParts
+no_bytes = record { from = Last 0; to = None }
+
+-- ---- a file of `hell`, nothing and `hell` again
+
+abbrev pub hell : Section
+hell = raw_with 1 (codes "hell")
+
+abbrev pub nothing : Section
+nothing = raw_with 2 []
+
+abbrev pub twins : Section
+twins = node_with 3
+
+abbrev pub twin_file : Dag
+twin_file =
+    node twins (File [] None (record { cid = hell.cid; size = 4 } ∷ record { cid = nothing.cid; size = 0 } ∷ record { cid = hell.cid; size = 4 } ∷ []))
+    (kid (raw_leaf hell) (kid (raw_leaf nothing) (kid (raw_leaf hell) no_kid)))
+
+-- ---- a symbolic link to `far`, in a directory as `l`
+
+abbrev pub link : Section
+link = node_with 4
+
+abbrev pub link_dag : Dag
+link_dag = node link (Symlink (codes "far")) no_kid
+
+abbrev pub folder : Section
+folder = node_with 5
+
+abbrev pub folder_dag : Dag
+folder_dag = node folder (Basic (record { name = codes "l"; cid = link.cid } ∷ record { name = codes "f"; cid = twins.cid } ∷ [])) (kid link_dag (kid twin_file no_kid))
+
+-- ---- a shard with the one entry `hello`, whose slot is CB
+
+abbrev pub one_shard : Section
+one_shard = node_with 6
+
+abbrev pub one_shard_slots : List Slot
+one_shard_slots = record { slot = 0xCB; name = Some (codes "hello"); cid = hell.cid } ∷ []
+
+abbrev pub one_shard_dag : Dag
+one_shard_dag = node one_shard (Shard one_shard_slots) (kid (raw_leaf hell) no_kid)
+
+-- ---- a shard with `m` in its slot 91 and a child in BC, which has `q` in 3E and `g` in 5D
+
+abbrev pub parent : Section
+parent = node_with 7
+
+abbrev pub inner : Section
+inner = node_with 8
+
+abbrev pub inner_slots : List Slot
+inner_slots = record { slot = 0x3E; name = Some (codes "q"); cid = hell.cid } ∷ record { slot = 0x5D; name = Some (codes "g"); cid = nothing.cid } ∷ []
+
+abbrev pub inner_dag : Dag
+inner_dag =
+    node inner (Shard inner_slots)
+    (kid (raw_leaf hell) (kid (raw_leaf nothing) no_kid))
+
+abbrev pub over_inner : Dag → Dag
+over_inner d =
+    node parent (Shard (record { slot = 0x91; name = Some (codes "m"); cid = twins.cid } ∷ record { slot = 0xBC; name = None; cid = inner.cid } ∷ []))
+    (kid (unopened twins.cid) (kid d no_kid))
+
+abbrev pub parent_dag : Dag
+parent_dag = over_inner inner_dag

@@ -1,0 +1,254 @@
+//! Blocks that tests make, and what they expect of a query over them.
+use super::*;
+use std::alloc::Global;
+use std::process::Abort;
+use std::test::Fail;
+use tg_cid::{Cid, Codec};
+use tg_dagpb::{Link, Node};
+use tg_edges::{Bytes, List};
+use tg_model::{Query, Scope, SpanFrom, Step, reads, step};
+
+/// A link of a node: its name, where it leads, and its Tsize.
+pub type Linked<'a> = (&'a str, Cid, u64);
+
+/// Blocks that are stored.
+#[derive(Drop)]
+pub struct Shelf {
+    alloc: Global,
+    blocks: List<StoredBlock>,
+}
+
+impl Shelf {
+    /// No blocks.
+    pub fn new(alloc: Global) -> Shelf {
+        Shelf {
+            alloc,
+            blocks: List::new(alloc),
+        }
+    }
+
+    /// Stores a block.
+    pub fn put(&mut self, codec: Codec, block: &[u8]) -> Result<Cid, Fail> {
+        let cid = Cid::of_block(codec, block);
+        self.put_under(cid, block)?;
+        Ok(cid)
+    }
+
+    /// Stores a block under a CID that needn't name it.
+    pub fn put_under(&mut self, cid: Cid, block: &[u8]) -> Result<(), Fail> {
+        let block = Bytes::of(self.alloc, block)?;
+        self.blocks.push(StoredBlock { cid, block })?;
+        Ok(())
+    }
+
+    /// Stores a raw block.
+    pub fn raw(&mut self, block: &[u8]) -> Result<Cid, Fail> {
+        self.put(Codec::Raw, block)
+    }
+
+    /// Stores a node with this data.
+    pub fn node(&mut self, links: &[Linked<'_>], payload: &[u8]) -> Result<Cid, Fail> {
+        let block = node_block(self.alloc, links, payload)?;
+        self.put(Codec::DagPb, block.as_slice())
+    }
+
+    /// The stored blocks.
+    pub fn stored(&self) -> &[StoredBlock] {
+        self.blocks.as_slice()
+    }
+}
+
+/// The block of a node with this data.
+pub fn node_block(alloc: Global, links: &[Linked<'_>], payload: &[u8]) -> Result<Bytes, Fail> {
+    let mut list = List::new(alloc);
+    for (name, cid, tsize) in links {
+        list.push(Link {
+            hash: cid.to_bytes(alloc)?,
+            name: Some(Bytes::of(alloc, name.as_bytes())?),
+            tsize: Some(*tsize),
+        })?;
+    }
+    let payload = Some(Bytes::of(alloc, payload)?);
+    let node = Node {
+        links: list,
+        payload,
+    };
+    Ok(tg_dagpb::encode(alloc, &node)?)
+}
+
+/// The CID of a raw block.
+pub fn raw_cid(block: &[u8]) -> Cid {
+    Cid::of_block(Codec::Raw, block)
+}
+
+/// Stores the root of the file `hello world` in chunks of 4 bytes, of which the leaves are `hell`, `o wo` and `rld`.
+pub fn hello_root(shelf: &mut Shelf) -> Result<Cid, Fail> {
+    let links = [
+        ("", raw_cid(b"hell"), 4),
+        ("", raw_cid(b"o wo"), 4),
+        ("", raw_cid(b"rld"), 3),
+    ];
+    shelf.node(&links, b"\x08\x02\x18\x0b\x20\x04\x20\x04\x20\x03")
+}
+
+/// Stores that root and its leaves in order.
+pub fn hello_file(shelf: &mut Shelf) -> Result<Cid, Fail> {
+    let root = hello_root(shelf)?;
+    for leaf in [b"hell".as_slice(), b"o wo", b"rld"] {
+        shelf.raw(leaf)?;
+    }
+    Ok(root)
+}
+
+/// The text of a CID.
+pub fn text_of(alloc: Global, cid: Cid) -> Result<String, Fail> {
+    let text = cid.to_text(alloc)?;
+    Ok(String::from_utf8_lossy(alloc, text.as_slice())?)
+}
+
+/// Expects that a query sends the stored blocks with these indexes, ends so and gives this text. It gives back the size of the
+/// CAR.
+pub fn expect(
+    rt: &impl Abort,
+    shelf: &Shelf,
+    query: &Query,
+    indexes: &[usize],
+    end: &End,
+    text: &[u8],
+) -> Result<u64, Fail> {
+    let found = evaluate(shelf.alloc, shelf.stored(), query)?;
+    let sent = found.sent.as_slice();
+    assert_eq!(rt; &found.end, end, "{query:?}");
+    assert_eq!(rt; found.text.as_slice(), text, "{query:?}");
+    assert_eq!(rt; sent.len(), indexes.len(), "{query:?}");
+    for (section, index) in sent.iter().zip(indexes) {
+        assert_eq!(rt; section.index, *index, "{query:?}");
+        if let Some(stored) = shelf.stored().get(*index) {
+            assert_eq!(rt; section.cid, stored.cid, "{query:?}");
+            let size = stored.block.as_slice().len() as u64;
+            assert_eq!(rt; section.size, size, "{query:?}");
+        }
+    }
+    Ok(car_size(sent))
+}
+
+/// Expects the same of the query for what is below a path.
+pub fn expect_below(
+    rt: &impl Abort,
+    shelf: &Shelf,
+    root: Cid,
+    asked: (&[&str], Scope),
+    indexes: &[usize],
+    end: &End,
+    text: &[u8],
+) -> Result<u64, Fail> {
+    let query = scoped_query(shelf.alloc, root, asked.0, asked.1)?;
+    expect(rt, shelf, &query, indexes, end, text)
+}
+
+/// An end that tells no CID.
+#[derive(Clone, Copy)]
+pub enum PathEnd {
+    /// All that is asked for is sent.
+    Whole,
+    /// There is no entry for the segment with this number.
+    NotThere(u64),
+    /// There is no directory for the segment with this number.
+    NotFolder(u64),
+}
+
+/// The end as the evaluator tells it.
+fn end_of(end: PathEnd) -> End {
+    match end {
+        PathEnd::Whole => End::Whole,
+        PathEnd::NotThere(at) => End::NotThere { at },
+        PathEnd::NotFolder(at) => End::NotFolder { at },
+    }
+}
+
+/// How the walk of `step` along the segments of a path from number `at` on ends, from a block at this level of shards.
+fn end_by_steps(
+    shelf: &Shelf,
+    depth: u32,
+    cid: Cid,
+    level: u8,
+    at: u64,
+    path: &[&str],
+) -> Result<End, Fail> {
+    let [name, rest @ ..] = path else {
+        return Ok(End::Whole);
+    };
+    let Some(block) = block_under(shelf, cid) else {
+        return Ok(End::Gone { cid });
+    };
+    if depth == 0 || level > 7 {
+        return Err(Fail::from(EvaluationFault::TooDeep));
+    }
+    let kind = reads(shelf.alloc, &cid, block)?;
+    match step(&kind, level, name.as_bytes()) {
+        Step::Found(entry) => {
+            end_by_steps(shelf, depth - 1, entry, 0, at.saturating_add(1), rest)
+        }
+        Step::Down(child) => end_by_steps(shelf, depth - 1, child, level + 1, at, path),
+        Step::Absent => Ok(End::NotThere { at }),
+        Step::NotFolder => Ok(End::NotFolder { at }),
+    }
+}
+
+/// The block that is stored under a CID.
+fn block_under(shelf: &Shelf, cid: Cid) -> Option<&[u8]> {
+    for stored in shelf.stored() {
+        if stored.cid == cid {
+            return Some(stored.block.as_slice());
+        }
+    }
+    None
+}
+
+/// A path and a scope, the indexes of the blocks that are sent, the end, and the text.
+pub type Row<'a> = (&'a [&'a str], Scope, &'a [usize], PathEnd, &'a [u8]);
+
+/// Expects each row of queries for what is below paths, and of `step` that its walk ends so too.
+pub fn expect_rows(
+    rt: &impl Abort,
+    shelf: &Shelf,
+    root: Cid,
+    rows: &[Row<'_>],
+) -> Result<(), Fail> {
+    for (path, scope, indexes, end, text) in rows {
+        let end = end_of(*end);
+        expect_below(rt, shelf, root, (path, *scope), indexes, &end, text)?;
+        let walked = end_by_steps(shelf, 1_100, root, 0, 0, path)?;
+        assert_eq!(rt; walked, end, "{path:?}");
+    }
+    Ok(())
+}
+
+/// A range of a file, the indexes of the blocks that are sent, the size of the CAR, and the text.
+pub type RangeRow<'a> = (SpanFrom, Option<u64>, &'a [usize], u64, &'a [u8]);
+
+/// Expects each row of queries for ranges of the file at a path, all of which come through.
+pub fn expect_ranges(
+    rt: &impl Abort,
+    shelf: &Shelf,
+    root: Cid,
+    path: &[&str],
+    rows: &[RangeRow<'_>],
+) -> Result<(), Fail> {
+    for (from, to, indexes, size, text) in rows {
+        let query = ranged_query(shelf.alloc, root, path, *from, *to)?;
+        let found = expect(rt, shelf, &query, indexes, &End::Whole, text)?;
+        assert_eq!(rt; found, *size, "{query:?}");
+    }
+    Ok(())
+}
+
+/// The data of a shard with the slot CB, that of one with the slots 91 and BC, and that of one with 3E and 5D. Slot `i` is the
+/// bit `i` of the number that the bytes behind `\x12` and the length are.
+pub const HELLO_SHARD: &[u8] =
+    b"\x08\x05\x12\x1a\x08\0\0\0\0\0\0\0\0\0\0\0\0\0\0\0\0\0\0\0\0\0\0\0\0\0\x28\x22\x30\x80\x02";
+
+pub const PARENT_SHARD: &[u8] =
+    b"\x08\x05\x12\x18\x10\0\0\0\0\x02\0\0\0\0\0\0\0\0\0\0\0\0\0\0\0\0\0\0\x28\x22\x30\x80\x02";
+
+pub const CHILD_SHARD: &[u8] = b"\x08\x05\x12\x0c\x20\0\0\0\x40\0\0\0\0\0\0\0\x28\x22\x30\x80\x02";
