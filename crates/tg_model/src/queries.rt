@@ -176,12 +176,12 @@ impl Query {
     }
 
     /// The path from the root to the terminal.
-    pub fn path(&self) -> &[Bytes]
+    pub fn path(&self) -> &Path
         ensures path { result.now ≡ self.now.path }
         ensures few { length result.now ≤ 128 }
         ensures good { All IsGoodName result.now }
     {
-        self.path.as_slice()
+        &self.path
     }
 
     /// The form in which it is sent.

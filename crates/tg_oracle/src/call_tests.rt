@@ -198,8 +198,8 @@ fn queries_and_their_ranges(rt: HostRuntime) -> Result<(), Fail> {
     let query = ranged_query(alloc, root, &["a", "b"], SpanFrom::Start(5), Some(6))?;
     well_formed(&query);
     assert_eq!(rt; query.root(), root);
-    assert_eq!(rt; query.path().len(), 2);
-    for (segment, name) in query.path().iter().zip(["a", "b"]) {
+    assert_eq!(rt; query.path().as_slice().len(), 2);
+    for (segment, name) in query.path().as_slice().iter().zip(["a", "b"]) {
         assert_eq!(rt; segment.as_slice(), name.as_bytes());
     }
     assert_eq!(rt; query.form(), Form::Car);
@@ -212,7 +212,7 @@ fn queries_and_their_ranges(rt: HostRuntime) -> Result<(), Fail> {
     assert!(rt; !query.dups());
     let query = Query::raw(alloc, root);
     assert_eq!(rt; query.root(), root);
-    assert!(rt; query.path().is_empty());
+    assert!(rt; query.path().as_slice().is_empty());
     assert_eq!(rt; query.form(), Form::Raw);
     assert_eq!(rt; query.scope(), Scope::Block);
     assert_eq!(rt; query.span(), None);

@@ -147,7 +147,7 @@ struct Run<'a> {
 impl<'a> Run<'a> {
     /// Evaluates the query.
     fn answer(&mut self, query: &Query) -> Result<(), Stop> {
-        let cid = self.terminal(DEPTH, query.root(), &[], 0, query.path())?;
+        let cid = self.terminal(DEPTH, query.root(), &[], 0, query.path().as_slice())?;
         match query.scope() {
             Scope::Block => {
                 let (index, block) = self.found(cid)?;
