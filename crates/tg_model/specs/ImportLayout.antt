@@ -83,8 +83,8 @@ HasBytes [] = ⊤
 HasBytes (leaf ∷ []) = ⊤
 HasBytes (leaf ∷ other ∷ leaves) = All (λ bytes. 0 < length bytes) (leaf ∷ other ∷ leaves)
 
--- a file of at most one chunk is a leaf; any other has leaves that are equally deep, at least two links at its root, and full
--- levels
+-- a file of at most one chunk is a leaf; any other has leaves that are equally deep, at least two links at its root, one at
+-- each node, and full levels
 abbrev pub IsLeaf : Dag → Type 0
 IsLeaf d = (section : Section) × (d ≡ node section Raw no_kid)
 
@@ -96,6 +96,7 @@ pub record IsLaidFile (options : LayoutOptions) (d : Dag) : Type 0 where
   pub even : HasLeavesAt depth d
   pub branches : 0 < depth → All (λ width. 2 ≤ width) (level_widths d 0)
   pub levels : (level : ℕ) → AreFull options.width (level_widths d level)
+  pub linked : (level : ℕ) → All (λ width. 0 < width) (level_widths d level)
 
 -- ---- messages
 

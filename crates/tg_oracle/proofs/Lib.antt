@@ -1,2 +1,4 @@
 mod HelloChecks
 mod FoundBlock
+mod HelloTexts
+mod HelloLayout

@@ -1,12 +1,16 @@
 -- The worked example: the file `hello world` in parts of 4 bytes, as the entry `h` of a directory. D is the directory, F the
 -- file's root, and L1, L2 and L3 are its leaves. Blocks and CIDs are those that any UnixFS writer gives for this layout.
-use Rattle.std.specs.Prelude.{ℕ, List, [], ◌∷◌, Option, Some, None, true, codes, bytes_eq, if◌then◌else◌}
+use Rattle.std.specs.Prelude.{ℕ, List, [], ◌∷◌, Option, Some, None, true, codes, bytes_eq, if◌then◌else◌, ◌≡◌}
 use Rattle.tg_cid.specs.Cid.{CidParts}
 use Rattle.tg_cid.specs.Names.{Names}
 use Rattle.tg_cid.specs.declared.cid.Codec.{Codec}
 use Rattle.tg_cid.specs.declared.cid.Codec.TheVariants as codecs
 use Rattle.tg_cid.specs.declared.cid.HashKind.TheVariants.{Sha256}
+use Rattle.tg_edges.specs.Tree.{bytes_of, entries_of, sort_of}
+use Rattle.tg_edges.specs.declared.folders.Sort.TheVariants as sorts
+use Rattle.tg_edges.specs.declared.tree.Tree.{Tree}
 use Rattle.tg_model.specs.Dag.{Dag, Section, kid, no_kid, node, unopened}
+use Rattle.tg_model.specs.ImportLayout.{LayoutOptions}
 use Rattle.tg_model.specs.Queries.{QueryParts, SpanParts}
 use Rattle.tg_model.specs.Stores.{Store}
 use Rattle.tg_model.specs.declared.kinds.Kind.{Kind}
@@ -156,3 +160,13 @@ past_the_end = record { from = Start 100; to = Some 200 }
 
 abbrev pub last_three : SpanParts
 last_three = record { from = Last 3; to = None }
+
+-- a folder with just the entry `h`, a file with the bytes `hello world`
+pub record IsHelloFolder (tree file : Tree) : Type 0 where
+  pub folder : sort_of tree ≡ sorts.Folder
+  pub entries : entries_of tree ≡ (codes "h", file) ∷ []
+  pub bytes : bytes_of (Some file) ≡ Some (codes "hello world")
+
+-- chunks of 4 bytes, at most 1,024 links a node, and directories in one block up to a weight of 262,144
+abbrev pub options_of_four : LayoutOptions
+options_of_four = record { chunk = 4; width = 1024; shard = 262144 }

@@ -1,17 +1,20 @@
 //! The worked example of the definitions: a file of three leaves in a directory.
 ghost use Rattle.std.specs.Prelude.{◌≡◌, ℕ, [], ◌∷◌, ◌++◌, None, Some, Ok, All, codes, length, map};
 ghost use Rattle.tg_cid.specs.Names.{Names};
+ghost use Rattle.tg_edges.specs.declared.tree.Tree.{Tree};
 ghost use Rattle.tg_model.specs.Answer.{answer};
 ghost use Rattle.tg_model.specs.Computed.{read};
 ghost use Rattle.tg_model.specs.Content.{content};
 ghost use Rattle.tg_model.specs.Counts.{counts};
 ghost use Rattle.tg_model.specs.Dag.{Section, blocks};
 ghost use Rattle.tg_model.specs.Fits.{Fits, IsInProgress, output_so_far};
-ghost use Rattle.tg_oracle.specs.HelloWorld.{IsNamed, all_sections, at_h, d, d_block, d_cid, d_kind, directory_of, f, f_block, f_cid, f_kind, file_of, first_dag, five_to_six, holding, l1, l1_cid, l2, l2_cid, l3, l3_cid, last_three, leaf, leafless_dag, middle_dag, past_the_end, query_for, whole_dag};
+ghost use Rattle.tg_model.specs.ImportLayout.{IsImportLayout};
+ghost use Rattle.tg_oracle.specs.HelloWorld.{IsHelloFolder, IsNamed, all_sections, at_h, d, d_block, d_cid, d_kind, directory_of, f, f_block, f_cid, f_kind, file_of, first_dag, five_to_six, holding, l1, l1_cid, l2, l2_cid, l3, l3_cid, last_three, leaf, leafless_dag, middle_dag, options_of_four, past_the_end, query_for, whole_dag};
 ghost use Rattle.tg_model.specs.Lookup.{found, lookup_path, not_folder, not_there};
 ghost use Rattle.tg_model.specs.PathWalk.{gone, path_walk, terminal, whole};
+ghost use Rattle.tg_model.specs.ShowsTree.{Shows};
 ghost use Rattle.tg_model.specs.Sound.{IsSound};
-ghost use Rattle.tg_model.specs.StoreView.{opened_to};
+ghost use Rattle.tg_model.specs.StoreView.{store_view};
 ghost use Rattle.tg_model.specs.Traversal.{block_list, traversal};
 ghost use Rattle.tg_model.specs.declared.queries.Scope.TheVariants as scopes;
 
@@ -63,8 +66,19 @@ pub fn example_partial()
         ≡ record { block = 144; depth = 3; entries = 0; names = 0; received = 0; output = 11; seen_blocks = 0; seen_bytes = 0; reused = 0 } }
     ensures listed { counts (query_for [] scopes.Entity None) whole_dag
         ≡ record { block = 50; depth = 1; entries = 1; names = 1; received = 0; output = 62; seen_blocks = 0; seen_bytes = 0; reused = 0 } }
-    ensures view { opened_to 3 holding d_cid ≡ middle_dag }
+    ensures view { store_view holding d_cid ≡ middle_dag }
 {
     example_blocks();
     readings();
+}
+
+/// The whole DAG shows a folder with the one file `h`, and is the layout that an import with chunks of 4 bytes gives it.
+pub fn example_import()
+    ensures shows { (tree file : Tree) → IsHelloFolder tree file → Shows whole_dag tree }
+    ensures layout { (tree file : Tree) → IsHelloFolder tree file → IsImportLayout whole_dag tree options_of_four }
+{
+    tg_pbtable::computes();
+    tg_dagpb::computes();
+    tg_unixfs::computes();
+    tg_cid::computes();
 }

@@ -11,7 +11,7 @@ mod small_dags;
 mod texts;
 
 pub use evaluation::{End, Evaluation, EvaluationFault, Sent, StoredBlock, evaluate};
-pub use hello_world::{example_blocks, example_partial, example_whole};
+pub use hello_world::{example_blocks, example_import, example_partial, example_whole};
 pub use queries::{QueryFault, ranged_query, scoped_query, span_of};
 pub use ranges::{bounds, is_met};
 pub use sizes::car_size;
