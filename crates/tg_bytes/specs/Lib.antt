@@ -1,0 +1,3 @@
+pub mod Order
+pub mod Overwriting
+pub mod Told
