@@ -1,0 +1,4 @@
+mod Begun
+mod Moves
+mod Places
+mod Sought

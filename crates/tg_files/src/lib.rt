@@ -1,0 +1,24 @@
+//! Folders that are read and packs that are read and written, in memory and of the system.
+#![tactic(auto)]
+
+mod folders;
+mod host_folder;
+mod host_pack;
+mod mem_folder;
+mod mem_pack;
+mod packs;
+mod reading;
+
+pub use folders::{Folder, FolderFault};
+pub use host_folder::HostFolder;
+pub use host_pack::HostPack;
+pub use mem_folder::MemFolder;
+pub use mem_pack::MemPack;
+pub use packs::Pack;
+
+#[cfg(test)]
+mod folder_tests;
+#[cfg(test)]
+mod pack_tests;
+#[cfg(test)]
+mod rough_files;

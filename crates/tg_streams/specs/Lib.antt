@@ -1,0 +1,4 @@
+pub mod Streams
+pub mod Joining
+pub mod Memory
+pub mod Known
