@@ -1,7 +1,7 @@
-pub mod Bits
-pub mod Items
-pub mod Laws
-pub mod Steps
-pub mod Reading
-pub mod Writing
-pub mod ComputedText
+mod Bits
+mod Items
+mod Texts
+mod Steps
+mod Reading
+mod Writing
+mod ComputedText

@@ -12,7 +12,7 @@ use Rattle.tg_base32.specs.declared.Held.{Held}
 use Rattle.tg_base32.specs.Base32.{IsLetter, IsNoLength, IsFirstOutside, value_of, bits, bits_of_bytes, bits_of_text, Base32Text}
 use Rattle.tg_base32.specs.Held.{IsHeld, Reads, TakesLetter, bits_of}
 use Rattle.tg_base32.proofs.Bits.{length-bits, bits_join, bits_zero, some_bit, no_bit}
-use Rattle.tg_base32.proofs.Laws.{bits_of_letter, value_below, length_of_text, length_of_bytes, lengths, drop_front}
+use Rattle.tg_base32.proofs.Texts.{bits_of_letter, value_below, length_of_text, length_of_bytes, lengths, drop_front}
 use Rattle.tg_base32.proofs.Steps.{holds_more, high_below, moved}
 
 -- too few bits for a byte

@@ -11,7 +11,7 @@ use Rattle.tg_base32.specs.declared.Held.{Held}
 use Rattle.tg_base32.specs.Base32.{IsLetter, value_of, bits, bits_of_bytes, bits_of_text, Base32Text}
 use Rattle.tg_base32.specs.Held.{IsHeld, TakesByte, MovesLetter, bits_of}
 use Rattle.tg_base32.proofs.Bits.{bits_join, bits_zero}
-use Rattle.tg_base32.proofs.Laws.{bits_of_letter}
+use Rattle.tg_base32.proofs.Texts.{bits_of_letter}
 use Rattle.tg_base32.proofs.Steps.{holds_more, move}
 
 -- too few bits for a letter

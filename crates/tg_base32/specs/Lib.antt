@@ -1,3 +1,4 @@
 pub mod Base32
 pub mod Held
 pub mod Computed
+pub mod Laws

@@ -7,9 +7,9 @@ ghost use Rattle.tg_base32.specs.Held.{IsHeld, bits_of, Reads, TakesLetter, Take
 ghost use Rattle.tg_base32.specs.declared.Base32Fault.{Base32Fault};
 ghost use Rattle.tg_base32.specs.declared.Base32Fault.TheVariants.{OutOfMemory};
 
-mod computed;
+mod laws;
 
-pub use computed::computes;
+pub use laws::text_laws;
 use std::alloc::{AllocError, Global};
 use thiserror::Error;
 
@@ -17,16 +17,16 @@ use thiserror::Error;
 #[derive(Clone, Copy, Debug, PartialEq, Eq, Error)]
 pub enum Base32Fault {
     /// The letter at `at`, counted from 0, is the first outside `a` to `z` and `2` to `7`.
-    #[error("letter {at} isn't of the base32 alphabet")]
+    #[error("BadChar {at}")]
     BadChar { at: u64 },
     /// The number of letters is 1, 3 or 6 modulo 8.
-    #[error("no bytes have a base32 text of this length")]
+    #[error("BadLength")]
     BadLength,
     /// A bit after the last whole byte is set.
-    #[error("the base32 text ends in bits that aren't zero")]
+    #[error("BadTail")]
     BadTail,
     /// No memory was found for the bytes.
-    #[error("out of memory")]
+    #[error("OutOfMemory")]
     OutOfMemory,
 }
 
@@ -44,7 +44,7 @@ impl From<AllocError> for Base32Fault {
 /// the alphabet, `BadLength`, `BadTail`, and `OutOfMemory` for want of memory alone.
 pub fn decode(alloc: Global, text: &[u8]) -> Result<Vec<u8>, Base32Fault>
     // What is read is spelled so, and what is spelled so is read, unless memory is wanted.
-    ensures ok { IfOk result (λ bytes. Base32Text text.now bytes.items) }
+    ensures found { IfOk result (λ bytes. Base32Text text.now bytes.items) }
     ensures only { (bytes : List ℕ) → Base32Text text.now bytes
         → MatchResult result (λ found. found.items ≡ bytes) (λ e. e ≡ Base32Fault.OutOfMemory) }
 
@@ -85,12 +85,6 @@ pub fn encode(alloc: Global, bytes: &[u8]) -> Result<Vec<u8>, AllocError>
     }
     Ok(text)
 }
-
-/// A text spells one list of bytes, and bytes have one text: `decode` and `encode` are inverse.
-pub fn one_text()
-    ensures one_reading { (text a b : List ℕ) → Base32Text text a → Base32Text text b → a ≡ b }
-    ensures one_spelling { (s t bytes : List ℕ) → Base32Text s bytes → Base32Text t bytes → s ≡ t }
-{}
 
 /// Bits that don't make a whole byte or letter yet: the lowest `count` of `value`.
 #[derive(Clone, Copy)]

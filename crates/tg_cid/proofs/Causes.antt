@@ -2,9 +2,9 @@
 use Rattle.std.proofs.Common.{◌≡◌, ◌≢◌, ℕ, ◌+◌, ◌<◌, List, [], ◌∷◌, ◌++◌, length, take, drop, Ok, Err, refl, ap, ap₂, sym, ◌∙◌, subst, inl, inr, arith}
 use Rattle.std.proofs.lemmas.List.{append_assoc, length-append, take_at}
 use Rattle.tg_cid.specs.Cid.{CidParts}
-use Rattle.tg_cid.specs.Faults.{IsCodec, MayBegin, Follows, EndsInDigest}
+use Rattle.tg_cid.specs.Faults.{IsCodec, IsHash, MayBegin, Follows, EndsInDigest}
 use Rattle.tg_cid.specs.Reading.{Answer, NoNumberAt, DigestThen, ReadsAsOne}
-use Rattle.tg_cid.specs.Spelling.{CidV1Bytes, IsDigestSize, codec_code, hash_code}
+use Rattle.tg_cid.specs.Spelling.{CidV1Bytes, IsDigestSize, IsTaken, codec_code, hash_code}
 use Rattle.tg_cid.specs.declared.cid.Codec.{Codec}
 use Rattle.tg_cid.specs.declared.cid.Codec.TheVariants.{Raw, DagPb}
 use Rattle.tg_cid.specs.declared.cid.HashKind.{HashKind}
@@ -31,7 +31,7 @@ bad_codec bytes number at rest f wrong =
     inr (1, a.next, a.here, inr (refl, inr (number, b.next, b.here, inl (wrong, refl))))
 
 pub bad_hash : (bytes : List ℕ) (codec number at : ℕ) (rest : List ℕ) → IsCodec codec → Follows (1 ∷ codec ∷ number ∷ []) bytes at rest
-    → (number ≢ 0x12) → ReadsAsOne bytes (Err (faults.BadHash number))
+    → (IsHash number → ⊥) → ReadsAsOne bytes (Err (faults.BadHash number))
 bad_hash bytes codec number at rest is f wrong =
     let a = first (stand f) in
     let b = first a.others in
@@ -39,86 +39,47 @@ bad_hash bytes codec number at rest is f wrong =
     let k = codec_with codec is in
     inr (1, a.next, a.here, inr (refl, inr (codec, b.next, b.here, inr (k.0, k.1, inr (number, d.next, d.here, inl (wrong, refl))))))
 
-pub bad_size : (bytes : List ℕ) (codec number at : ℕ) (rest : List ℕ) → IsCodec codec
-    → Follows (1 ∷ codec ∷ 0x12 ∷ number ∷ []) bytes at rest → (number ≢ 32) → ReadsAsOne bytes (Err (faults.BadLength number))
-bad_size bytes codec number at rest is f wrong =
+pub bad_size : (bytes : List ℕ) (codec : ℕ) (hash : HashKind) (number at : ℕ) (rest : List ℕ) → IsCodec codec → IsTaken hash
+    → Follows (1 ∷ codec ∷ hash_code hash ∷ number ∷ []) bytes at rest → (IsDigestSize hash number → ⊥)
+    → ReadsAsOne bytes (Err (faults.BadLength number))
+bad_size bytes codec hash number at rest is taken f wrong =
     let a = first (stand f) in
     let b = first a.others in
     let d = first b.others in
     let e = first d.others in
     let k = codec_with codec is in
-    inr (
-      1,
-      a.next,
-      a.here,
-      inr (
-        refl,
-        inr (
-          codec,
-          b.next,
-          b.here,
-          inr (
-            k.0,
-            k.1,
-            inr (
-              0x12,
-              d.next,
-              d.here,
-              inr (
-                refl,
-                inr (number, e.next, e.here, inl (wrong, refl)),
-              ),
-            ),
-          ),
-        ),
-      ),
-    )
+    let sized = inr (number, e.next, e.here, inl (wrong, refl)) in
+    let hashed = inr (hash_code hash, d.next, d.here, inr (hash, taken, refl, sized)) in
+    inr (1, a.next, a.here, inr (refl, inr (codec, b.next, b.here, inr (k.0, k.1, hashed))))
+
+pub size_taken : (hash : HashKind) (size : ℕ) → IsDigestSize hash size → IsTaken hash
+size_taken Sha256 size h = tt
+size_taken Identity size h = h
 
 -- all four numbers are good, so the digest tells
-at_digest : (bytes : List ℕ) (codec : Codec) (at : ℕ) (rest : List ℕ) (r : Answer)
-    → Stand (1 ∷ codec_code codec ∷ 0x12 ∷ 32 ∷ []) bytes 0 at rest → DigestThen 1 codec bytes at r → ReadsAsOne bytes r
-at_digest bytes codec at rest r s h =
+at_digest : (bytes : List ℕ) (codec : Codec) (hash : HashKind) (size at : ℕ) (rest : List ℕ) (r : Answer) → IsDigestSize hash size
+    → Stand (1 ∷ codec_code codec ∷ hash_code hash ∷ size ∷ []) bytes 0 at rest → DigestThen 1 codec hash size bytes at r
+    → ReadsAsOne bytes r
+at_digest bytes codec hash size at rest r is s h =
     let a = first s in
     let b = first a.others in
     let d = first b.others in
     let e = first d.others in
-    let here : DigestThen 1 codec bytes e.next r = subst (λ (n : ℕ). DigestThen 1 codec bytes n r) (none_stand e.others) h in
-    inr (
-      1,
-      a.next,
-      a.here,
-      inr (
-        refl,
-        inr (
-          codec_code codec,
-          b.next,
-          b.here,
-          inr (
-            codec,
-            refl,
-            inr (
-              0x12,
-              d.next,
-              d.here,
-              inr (
-                refl,
-                inr (32, e.next, e.here, inr (refl, here)),
-              ),
-            ),
-          ),
-        ),
-      ),
-    )
+    let here : DigestThen 1 codec hash size bytes e.next r =
+    subst (λ (n : ℕ). DigestThen 1 codec hash size bytes n r) (none_stand e.others) h in
+    let sized = inr (size, e.next, e.here, inr (is, here)) in
+    let hashed = inr (hash_code hash, d.next, d.here, inr (hash, size_taken hash size is, refl, sized)) in
+    inr (1, a.next, a.here, inr (refl, inr (codec_code codec, b.next, b.here, inr (codec, refl, hashed))))
 
 pub short_digest : (bytes : List ℕ) → EndsInDigest bytes → ReadsAsOne bytes (Err (faults.Short (length bytes)))
 short_digest bytes h =
     let k = codec_with h.codec h.codec_is in
-    let f : Follows (1 ∷ codec_code k.0 ∷ 0x12 ∷ 32 ∷ []) bytes h.at h.rest =
-    subst (λ (n : ℕ). Follows (1 ∷ n ∷ 0x12 ∷ 32 ∷ []) bytes h.at h.rest) k.1 h.follows in
-    let few : length h.rest < 32 = h.fewer in
+    let f : Follows (1 ∷ codec_code k.0 ∷ hash_code h.hash ∷ h.size ∷ []) bytes h.at h.rest =
+    subst (λ (n : ℕ). Follows (1 ∷ n ∷ hash_code h.hash ∷ h.size ∷ []) bytes h.at h.rest) k.1 h.follows in
+    let few : length h.rest < h.size = h.fewer in
     let place : h.at ≡ length f.front = f.at_is in
     let long : length bytes ≡ length f.front + length h.rest = ap length f.whole ∙ length-append f.front h.rest in
-    at_digest bytes k.0 h.at h.rest _ (stand f) (inl (omega arith, refl))
+    at_digest bytes k.0 h.hash h.size h.at h.rest _ h.size_is (stand f) (inl (omega arith, refl))
 
 -- no number is spelled behind good ones
 pub no_number : (bytes numbers : List ℕ) (at : ℕ) (rest : List ℕ) (fault : CidFault) → MayBegin numbers → Stand numbers bytes 0 at rest
@@ -173,7 +134,9 @@ no_number bytes (v ∷ c ∷ h ∷ []) at rest fault begins s wrong =
               d.next,
               d.here,
               inr (
-                begins.2,
+                begins.2.0,
+                begins.2.1,
+                begins.2.2,
                 inl (fault, refl, subst (λ (n : ℕ). NoNumberAt bytes n fault) (none_stand d.others) wrong),
               ),
             ),
@@ -191,27 +154,18 @@ same_cid a b v c h d =
     ∙ (ap (λ (x : HashKind). record { version = b.version; codec = b.codec; hash = x; digest = a.digest }) h
     ∙ ap (λ (x : List ℕ). record { version = b.version; codec = b.codec; hash = b.hash; digest = x }) d))
 
-pub hash_size : (hash : HashKind) (size : ℕ) → IsDigestSize hash size → (hash ≡ Sha256) × (size ≡ 32)
-hash_size Sha256 size h = (refl, h)
-hash_size Identity size h = absurd h
-
 pub found_one : (cid : CidParts) (bytes front rest : List ℕ) → CidV1Bytes cid front → bytes ≡ front ++ rest
     → ReadsAsOne bytes (Ok (cid, length front))
 found_one cid bytes front rest h e =
-    let known = hash_size cid.hash (length cid.digest) h.size in
-    let size : length cid.digest ≡ 32 = known.1 in
+    let size = length cid.digest in
     let whole : bytes ≡ h.head ++ (cid.digest ++ rest) = e ∙ (ap (λ l. l ++ rest) h.whole ∙ append_assoc h.head cid.digest rest) in
-    let f : Follows (1 ∷ codec_code cid.codec ∷ hash_code cid.hash ∷ length cid.digest ∷ []) bytes (length h.head) (cid.digest ++ rest) =
+    let f : Follows (1 ∷ codec_code cid.codec ∷ hash_code cid.hash ∷ size ∷ []) bytes (length h.head) (cid.digest ++ rest) =
     record { front = h.head; whole = whole; at_is = refl; spelled = h.numbers } in
-    let g : Follows (1 ∷ codec_code cid.codec ∷ 0x12 ∷ 32 ∷ []) bytes (length h.head) (cid.digest ++ rest) =
-    subst (λ (n : ℕ). Follows (1 ∷ codec_code cid.codec ∷ 0x12 ∷ n ∷ []) bytes (length h.head) (cid.digest ++ rest)) size
-    (subst (λ (n : ℕ). Follows (1 ∷ codec_code cid.codec ∷ n ∷ length cid.digest ∷ []) bytes (length h.head) (cid.digest ++ rest))
-    (ap hash_code known.0) f) in
-    let here : drop (length h.head) bytes ≡ cid.digest ++ rest = sym (rest_is g) in
-    let digest : cid.digest ≡ take 32 (drop (length h.head) bytes) = sym (ap (λ l. take 32 l) here ∙ take_at cid.digest rest 32 size) in
-    let cids : cid ≡ record { version = 1; codec = cid.codec; hash = Sha256; digest = take 32 (drop (length h.head) bytes) } =
-    same_cid cid _ h.version refl known.0 digest in
-    let end : length front ≡ length h.head + 32 = ap length h.whole ∙ (length-append h.head cid.digest ∙ ap (λ n. length h.head + n) size) in
+    let here : drop (length h.head) bytes ≡ cid.digest ++ rest = sym (rest_is f) in
+    let digest : cid.digest ≡ take size (drop (length h.head) bytes) = sym (ap (λ l. take size l) here ∙ take_at cid.digest rest size refl) in
+    let cids : cid ≡ record { version = 1; codec = cid.codec; hash = cid.hash; digest = take size (drop (length h.head) bytes) } =
+    same_cid cid _ h.version refl refl digest in
+    let end : length front ≡ length h.head + size = ap length h.whole ∙ length-append h.head cid.digest in
     let long : length bytes ≡ length front + length rest = ap length e ∙ length-append front rest in
-    at_digest bytes cid.codec (length h.head) (cid.digest ++ rest) _ (stand g)
+    at_digest bytes cid.codec cid.hash size (length h.head) (cid.digest ++ rest) _ h.size (stand f)
     (inr (omega arith, ap₂ (λ (x : CidParts) (n : ℕ). Ok (x, n)) cids end))

@@ -5,7 +5,7 @@ mod Causes
 mod Prefix
 mod Whole
 mod Texts
-mod Laws
+mod Unique
 mod Written
-pub mod ComputedCid
+mod ComputedCid
 mod ComputedValues

@@ -1,56 +1,40 @@
 -- Numbers that are spelled one after another: there is one at a place, and a list of them is read from the front.
-use Rattle.std.proofs.Common.{◌≡◌, ℕ, ◌+◌, ◌<◌, ◌≤◌, List, [], ◌∷◌, ◌++◌, length, drop, refl, ap, sym, ◌∙◌, inl, inr, arith}
+use Rattle.std.proofs.Common.{◌≡◌, ℕ, ◌+◌, ◌≤◌, ◌⊎◌, List, [], ◌∷◌, ◌++◌, length, drop, refl, ap, sym, ◌∙◌, inl, inr, arith}
 use Rattle.std.proofs.lemmas.List.{append_assoc, append-nil, drop-drop, drop_at, length-append}
 use Rattle.tg_varint.specs.Varint.{VarintSpelling, EndsInside, PassesNine, EndsInZero}
-use Rattle.tg_varint.proofs.Reading.{Stops, stops_once, stops_by_spelling, stops_by_zero, not_inside, not_past}
-use Rattle.tg_varint.proofs.Uniqueness.{no_front_of_another}
+use Rattle.tg_varint.specs.Laws.{SpellingLaws, Begins}
+use Rattle.tg_varint.specs.Laws.VarintFront.{spelled, inside, too_long, not_shortest}
 use Rattle.tg_cid.specs.Faults.{Follows}
 use Rattle.tg_cid.specs.Reading.{NumberAt, NoNumberAt}
 use Rattle.tg_cid.specs.Spelling.{Varints}
 use Rattle.tg_cid.specs.declared.fault.CidFault.{CidFault}
 
-pub one_number : {bytes : List ℕ} {at m n x y : ℕ} → NumberAt bytes at m x → NumberAt bytes at n y → (m ≡ n) × (x ≡ y)
-one_number {bytes} {at} {m} {n} a b =
-    let one = no_front_of_another m n a.spelling b.spelling a.rest b.rest a.spelled b.spelled (sym a.whole ∙ b.whole) in
+pub one_number : SpellingLaws → {bytes : List ℕ} {at m n x y : ℕ} → NumberAt bytes at m x → NumberAt bytes at n y → (m ≡ n) × (x ≡ y)
+one_number laws {bytes} {at} {m} {n} a b =
+    let one = laws.no_front m n a.spelling b.spelling a.rest b.rest a.spelled b.spelled (sym a.whole ∙ b.whole) in
     (one.1, a.next_is ∙ (ap (λ s. at + length s) one.0 ∙ sym b.next_is))
 
-not_short : {rest : List ℕ} → EndsInside rest → (PassesNine rest → ⊥) × (EndsInZero rest → ⊥)
-not_short {rest} i = (
-  λ p.
-      let less : length rest < 9 = i.fewer in
-      let enough : 9 ≤ length rest = p.enough in
-      omega arith,
-  λ z. not_inside (stops_by_zero z) i,
-)
-
-not_spelled : {rest : List ℕ} {number : ℕ} {spelling : List ℕ} (more : List ℕ) → VarintSpelling number spelling → rest ≡ spelling ++ more
-    → (EndsInside rest → ⊥) × (PassesNine rest → ⊥) × (EndsInZero rest → ⊥)
-not_spelled {rest} more v e =
-    let stops : Stops rest v.front v.last = stops_by_spelling more v e in (
-      not_inside stops,
-      not_past stops,
-      λ z.
-          let one = stops_once stops (stops_by_zero z) in
-          let fronts : length v.front ≡ length z.front = ap length one.0 in
-          let zero : v.last ≡ 0 = one.1 in
-          let some : 0 < length z.front = z.not_alone in
-          let above : 0 < v.last = v.shortest (omega arith) in
-          omega arith,
-    )
-
-pub not_both : (bytes : List ℕ) (at number next : ℕ) (fault : CidFault) → NumberAt bytes at number next → NoNumberAt bytes at fault → ⊥
-not_both bytes at number next fault a h =
-    let no = not_spelled a.rest a.spelled a.whole in
+pub not_both : SpellingLaws → (bytes : List ℕ) (at number next : ℕ) (fault : CidFault) → NumberAt bytes at number next → NoNumberAt bytes at fault → ⊥
+not_both laws bytes at number next fault a h =
+    let here : Begins (drop at bytes) (spelled number a.spelling) = (a.rest, a.whole, a.spelled) in
     elim h [
-      | inl p ↦ no.0 p.1
-      | inr p ↦ elim p.1 [ inl q ↦ no.1 q | inr q ↦ no.2 q ]
+      | inl p ↦ let same : spelled number a.spelling ≡ inside = laws.one_front (drop at bytes) (spelled number a.spelling) inside here p.1 in cc
+      | inr p ↦ elim p.1 [
+        | inl q ↦ let same : spelled number a.spelling ≡ too_long = laws.one_front (drop at bytes) (spelled number a.spelling) too_long here q in cc
+        | inr q ↦ let same : spelled number a.spelling ≡ not_shortest = laws.one_front (drop at bytes) (spelled number a.spelling) not_shortest here q in cc
+      ]
     ]
 
-pub one_fault : (bytes : List ℕ) (at : ℕ) (a b : CidFault) → NoNumberAt bytes at a → NoNumberAt bytes at b → a ≡ b
-one_fault bytes at a b (inl p) (inl q) = p.0 ∙ sym q.0
-one_fault bytes at a b (inl p) (inr q) = elim q.1 [ inl h ↦ absurd ((not_short p.1).0 h) | inr h ↦ absurd ((not_short p.1).1 h) ]
-one_fault bytes at a b (inr p) (inl q) = elim p.1 [ inl h ↦ absurd ((not_short q.1).0 h) | inr h ↦ absurd ((not_short q.1).1 h) ]
-one_fault bytes at a b (inr p) (inr q) = p.0 ∙ sym q.0
+-- bytes that end inside a spelling don't break it
+not_broken : SpellingLaws → (rest : List ℕ) → EndsInside rest → PassesNine rest ⊎ EndsInZero rest → ⊥
+not_broken laws rest i (inl p) = let same : inside ≡ too_long = laws.one_front rest inside too_long i p in cc
+not_broken laws rest i (inr p) = let same : inside ≡ not_shortest = laws.one_front rest inside not_shortest i p in cc
+
+pub one_fault : SpellingLaws → (bytes : List ℕ) (at : ℕ) (a b : CidFault) → NoNumberAt bytes at a → NoNumberAt bytes at b → a ≡ b
+one_fault laws bytes at a b (inl p) (inl q) = p.0 ∙ sym q.0
+one_fault laws bytes at a b (inl p) (inr q) = absurd (not_broken laws (drop at bytes) p.1 q.1)
+one_fault laws bytes at a b (inr p) (inl q) = absurd (not_broken laws (drop at bytes) q.1 p.1)
+one_fault laws bytes at a b (inr p) (inr q) = p.0 ∙ sym q.0
 
 -- behind a number the rest begins
 pub drop_number : {bytes : List ℕ} {at number next : ℕ} (a : NumberAt bytes at number next) → drop next bytes ≡ a.rest

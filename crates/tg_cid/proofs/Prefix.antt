@@ -1,11 +1,11 @@
 -- What `from_prefix` answers: a CIDv0, a CIDv1, or the one cause of a refusal.
-use Rattle.std.proofs.Common.{◌≡◌, ℕ, zero, suc, get_or, ◌+◌, ◌<◌, ◌≤◌, ◌⊎◌, ◌↔◌, List, [], ◌∷◌, ◌++◌, length, take, drop, All, Ok, Err, IfOk, refl, ap, ap₂, sym, ◌∙◌, subst, inl, inr, arith}
+use Rattle.std.proofs.Common.{◌≡◌, ℕ, get_or, ◌+◌, ◌<◌, ◌≤◌, ◌⊎◌, List, [], ◌∷◌, ◌++◌, length, take, drop, All, Ok, Err, IfOk, IfErr, refl, ap, ap₂, sym, ◌∙◌, subst, inl, inr, arith}
 use Rattle.std.proofs.lemmas.List.{length-append, length-drop, length-take-le, take_at, append_assoc}
-use Rattle.std.proofs.lemmas.List.Elements.{All-take, All-drop, All-nil}
+use Rattle.std.proofs.lemmas.List.Elements.{All-take, All-drop}
 use Rattle.std.proofs.lemmas.Result.{MatchResult-weaker}
 use Rattle.tg_varint.specs.Varint.{VarintSpelling, PassesNine, EndsInZero}
-use Rattle.tg_varint.proofs.Reading.{Stops, stops_once, stops_by_zero, not_past}
-use Rattle.tg_varint.proofs.Uniqueness.{one_spelling_each}
+use Rattle.tg_varint.specs.Laws.{SpellingLaws, Begins}
+use Rattle.tg_varint.specs.Laws.VarintFront.{spelled, too_long, not_shortest}
 use Rattle.tg_cid.specs.Cid.{CidParts}
 use Rattle.tg_cid.specs.Faults.{MayBegin, Follows, IsVersionZero, HasPrefixCause, HasBadVarint}
 use Rattle.tg_cid.specs.Reading.{Answer, DigestThen, ReadsAsOne}
@@ -23,94 +23,75 @@ use Rattle.tg_cid.proofs.Causes.{bad_version, bad_codec, bad_hash, bad_size, sho
 pub data Reads (bytes : List ℕ) (r : Answer) : Type 0 where
   one : (IsVersionZero bytes → ⊥) → ReadsAsOne bytes r → Reads bytes r
   lone : bytes ≡ 0x12 ∷ [] → r ≡ Err (faults.Short 1) → Reads bytes r
-  zero_version : (rest : List ℕ) → bytes ≡ 0x12 ∷ 0x20 ∷ rest → DigestThen 0 DagPb bytes 2 r → Reads bytes r
-
-one_byte : All (λ b. b < 256) (1 ∷ [])
-one_byte zero d l = omega arith
-one_byte (suc k) d l = absurd (omega arith)
+  zero_version : (rest : List ℕ) → bytes ≡ 0x12 ∷ 0x20 ∷ rest → DigestThen 0 DagPb Sha256 32 bytes 2 r → Reads bytes r
 
 -- the spelling of 1
-one_is : (spelling : List ℕ) → VarintSpelling 1 spelling → spelling ≡ 1 ∷ []
-one_is spelling v = one_spelling_each 1 spelling (1 ∷ []) v (record {
-  front = [];
-  last = 1;
-  whole = refl;
-  are_bytes = one_byte;
-  goes_on = All-nil (λ (b : ℕ). 128 ≤ b);
-  ends = omega arith;
-  shortest = λ h. omega arith;
-  at_most_nine = omega arith;
-  spells = refl;
-})
+pub one_is : SpellingLaws → (spelling : List ℕ) → VarintSpelling 1 spelling → spelling ≡ 1 ∷ []
+one_is laws spelling v = laws.one_spelling 1 spelling (1 ∷ []) v (laws.one_byte 1 (omega arith))
 
 differ : (m n : ℕ) → m ≡ 1 → n ≡ 0x12 → m ≡ n → ⊥
 differ m n p q e = omega arith
 
 -- bytes that begin with the varint of 1 begin with the byte 1
-pub starts_one : (bytes : List ℕ) (number : ℕ) (numbers : List ℕ) (at : ℕ) (rest : List ℕ) → number ≡ 1 → Follows (number ∷ numbers) bytes at rest
+pub starts_one : SpellingLaws → (bytes : List ℕ) (number : ℕ) (numbers : List ℕ) (at : ℕ) (rest : List ℕ) → number ≡ 1 → Follows (number ∷ numbers) bytes at rest
     → get_or bytes 0 0 ≡ 1
-starts_one bytes number numbers at rest e f =
+starts_one laws bytes number numbers at rest e f =
     let v = f.spelled in
-    let spelling : v.0 ≡ 1 ∷ [] = one_is v.0 (subst (λ (n : ℕ). VarintSpelling n v.0) e v.3) in
+    let spelling : v.0 ≡ 1 ∷ [] = one_is laws v.0 (subst (λ (n : ℕ). VarintSpelling n v.0) e v.3) in
     let whole : bytes ≡ v.0 ++ (v.1 ++ rest) = f.whole ∙ (ap (λ l. l ++ rest) v.2 ∙ append_assoc v.0 v.1 rest) in
     ap (λ (l : List ℕ). get_or l 0 0) (whole ∙ ap (λ l. l ++ (v.1 ++ rest)) spelling)
 
 -- such bytes are no CIDv0
-begins_one : (bytes : List ℕ) (number : ℕ) (numbers : List ℕ) (at : ℕ) (rest : List ℕ) → number ≡ 1 → Follows (number ∷ numbers) bytes at rest
+begins_one : SpellingLaws → (bytes : List ℕ) (number : ℕ) (numbers : List ℕ) (at : ℕ) (rest : List ℕ) → number ≡ 1 → Follows (number ∷ numbers) bytes at rest
     → IsVersionZero bytes → ⊥
-begins_one bytes number numbers at rest e f z = differ 1 0x12 refl refl (sym (starts_one bytes number numbers at rest e f) ∙ elim z.begins [
+begins_one laws bytes number numbers at rest e f z = differ 1 0x12 refl refl (sym (starts_one laws bytes number numbers at rest e f) ∙ elim z.begins [
   | inl h ↦ ap (λ (l : List ℕ). get_or l 0 0) h
   | inr h ↦ ap (λ (l : List ℕ). get_or l 0 0) h
 ])
 
 -- those of a CIDv1 don't begin with 0x12
-pub one_begins : (cid : CidParts) (bytes rest : List ℕ) → CidV1Bytes cid bytes → bytes ≡ 0x12 ∷ rest → ⊥
-one_begins cid bytes rest h e =
+pub one_begins : SpellingLaws → (cid : CidParts) (bytes rest : List ℕ) → CidV1Bytes cid bytes → bytes ≡ 0x12 ∷ rest → ⊥
+one_begins laws cid bytes rest h e =
     let f : Follows (1 ∷ codec_code cid.codec ∷ hash_code cid.hash ∷ length cid.digest ∷ []) bytes (length h.head) cid.digest =
     record { front = h.head; whole = h.whole; at_is = refl; spelled = h.numbers } in
-    differ 1 0x12 refl refl (sym (starts_one bytes 1 _ (length h.head) cid.digest refl f) ∙ ap (λ (l : List ℕ). get_or l 0 0) e)
+    differ 1 0x12 refl refl (sym (starts_one laws bytes 1 _ (length h.head) cid.digest refl f) ∙ ap (λ (l : List ℕ). get_or l 0 0) e)
 
-first_stops : (bytes : List ℕ) → IsVersionZero bytes → Stops bytes [] 0x12
-first_stops bytes z = record {
-  rest = elim z.begins [ inl h ↦ [] | inr h ↦ 0x20 ∷ z.rest ];
-  whole = elim z.begins as (λ b. bytes ≡ 0x12 ∷ elim b [ inl h ↦ [] | inr h ↦ 0x20 ∷ z.rest ]) [ inl h ↦ h | inr h ↦ h ];
-  goes_on = All-nil (λ (b : ℕ). 128 ≤ b);
-  ends = omega arith;
-  at_most_nine = omega arith;
-}
+-- bytes that are read as a CIDv0 begin with the spelling of 18
+first_spelled : SpellingLaws → (bytes : List ℕ) → IsVersionZero bytes → Begins bytes (spelled 0x12 (0x12 ∷ []))
+first_spelled laws bytes z = elim z.begins [
+  | inl h ↦ ([], h, laws.one_byte 0x12 (omega arith))
+  | inr h ↦ (0x20 ∷ z.rest, h, laws.one_byte 0x12 (omega arith))
+]
 
-bad_with : (bytes numbers : List ℕ) (at : ℕ) (rest : List ℕ) → MayBegin numbers → Follows numbers bytes at rest
+bad_with : SpellingLaws → (bytes numbers : List ℕ) (at : ℕ) (rest : List ℕ) → MayBegin numbers → Follows numbers bytes at rest
     → PassesNine rest ⊎ EndsInZero rest → IsVersionZero bytes → ⊥
-bad_with bytes [] at rest begins f bad z =
+bad_with laws bytes [] at rest begins f bad z =
     let same : bytes ≡ rest = f.whole ∙ ap (λ l. l ++ rest) f.spelled in
-    let stops : Stops rest [] 0x12 = subst (λ (l : List ℕ). Stops l [] 0x12) same (first_stops bytes z) in
+    let here : Begins rest (spelled 0x12 (0x12 ∷ [])) = subst (λ (l : List ℕ). Begins l (spelled 0x12 (0x12 ∷ []))) same (first_spelled laws bytes z) in
     elim bad [
-      | inl p ↦ not_past stops p
-      | inr p ↦
-          let none : 0 ≡ length p.front = ap length (stops_once stops (stops_by_zero p)).0 in
-          let some : 0 < length p.front = p.not_alone in
-          omega arith
+      | inl p ↦ let one : spelled 0x12 (0x12 ∷ []) ≡ too_long = laws.one_front rest (spelled 0x12 (0x12 ∷ [])) too_long here p in cc
+      | inr p ↦ let one : spelled 0x12 (0x12 ∷ []) ≡ not_shortest = laws.one_front rest (spelled 0x12 (0x12 ∷ [])) not_shortest here p in cc
     ]
-bad_with bytes (v ∷ []) at rest begins f bad z = begins_one bytes v _ at rest begins f z
-bad_with bytes (v ∷ c ∷ []) at rest begins f bad z = begins_one bytes v _ at rest begins.0 f z
-bad_with bytes (v ∷ c ∷ h ∷ []) at rest begins f bad z = begins_one bytes v _ at rest begins.0 f z
-bad_with bytes (v ∷ c ∷ h ∷ n ∷ more) at rest begins f bad z = absurd begins
+bad_with laws bytes (v ∷ []) at rest begins f bad z = begins_one laws bytes v _ at rest begins f z
+bad_with laws bytes (v ∷ c ∷ []) at rest begins f bad z = begins_one laws bytes v _ at rest begins.0 f z
+bad_with laws bytes (v ∷ c ∷ h ∷ []) at rest begins f bad z = begins_one laws bytes v _ at rest begins.0 f z
+bad_with laws bytes (v ∷ c ∷ h ∷ n ∷ more) at rest begins f bad z = absurd begins
 
-bad_is_one : (bytes : List ℕ) (at : ℕ) → HasBadVarint bytes at → IsVersionZero bytes → ⊥
-bad_is_one bytes at h = bad_with bytes h.numbers at h.rest h.begins h.follows h.bad
+bad_is_one : SpellingLaws → (bytes : List ℕ) (at : ℕ) → HasBadVarint bytes at → IsVersionZero bytes → ⊥
+bad_is_one laws bytes at h = bad_with laws bytes h.numbers at h.rest h.begins h.follows h.bad
 
-pub reads_once : (bytes : List ℕ) (r s : Answer) → Reads bytes r → Reads bytes s → r ≡ s
-reads_once bytes r s (one p a) (one q b) = one_answer bytes r s a b
-reads_once bytes r s (one p a) (lone e b) = absurd (p (record { rest = []; begins = inl e }))
-reads_once bytes r s (one p a) (zero_version rest e b) = absurd (p (record { rest = rest; begins = inr e }))
-reads_once bytes r s (lone e a) (one q b) = absurd (q (record { rest = []; begins = inl e }))
-reads_once bytes r s (lone e a) (lone h b) = a ∙ sym b
-reads_once bytes r s (lone e a) (zero_version rest h b) = absurd (omega (arith, ap length (sym e ∙ h)))
-reads_once bytes r s (zero_version rest e a) (one q b) = absurd (q (record { rest = rest; begins = inr e }))
-reads_once bytes r s (zero_version rest e a) (lone h b) = absurd (omega (arith, ap length (sym h ∙ e)))
-reads_once bytes r s (zero_version rest e a) (zero_version more h b) = one_digest 0 DagPb bytes 2 r s a b
+pub reads_once : SpellingLaws → (bytes : List ℕ) (r s : Answer) → Reads bytes r → Reads bytes s → r ≡ s
+reads_once laws bytes r s (one p a) (one q b) = one_answer laws bytes r s a b
+reads_once laws bytes r s (one p a) (lone e b) = absurd (p (record { rest = []; begins = inl e }))
+reads_once laws bytes r s (one p a) (zero_version rest e b) = absurd (p (record { rest = rest; begins = inr e }))
+reads_once laws bytes r s (lone e a) (one q b) = absurd (q (record { rest = []; begins = inl e }))
+reads_once laws bytes r s (lone e a) (lone h b) = a ∙ sym b
+reads_once laws bytes r s (lone e a) (zero_version rest h b) = absurd (omega (arith, ap length (sym e ∙ h)))
+reads_once laws bytes r s (zero_version rest e a) (one q b) = absurd (q (record { rest = rest; begins = inr e }))
+reads_once laws bytes r s (zero_version rest e a) (lone h b) = absurd (omega (arith, ap length (sym h ∙ e)))
+reads_once laws bytes r s (zero_version rest e a) (zero_version more h b) = one_digest 0 DagPb Sha256 32 bytes 2 r s a b
 
-told_zero : (bytes rest : List ℕ) (r : Answer) → All (λ b. b < 256) bytes → bytes ≡ 0x12 ∷ 0x20 ∷ rest → DigestThen 0 DagPb bytes 2 r → Told bytes r
+told_zero : (bytes rest : List ℕ) (r : Answer) → All (λ b. b < 256) bytes → bytes ≡ 0x12 ∷ 0x20 ∷ rest → DigestThen 0 DagPb Sha256 32 bytes 2 r → Told bytes r
 told_zero bytes rest r are_bytes e (inl a) =
     let few : length bytes < 2 + 32 = a.0 in
     let long : length bytes ≡ length (0x12 ∷ 0x20 ∷ rest) = ap length e in
@@ -135,14 +116,14 @@ told bytes r are_bytes (lone e a) =
     subst (Told bytes) (sym a) (sym (ap length e), inl (record { rest = []; begins = inl e }))
 told bytes r are_bytes (zero_version rest e a) = told_zero bytes rest r are_bytes e a
 
-caused : (bytes : List ℕ) (fault : CidFault) → HasPrefixCause bytes fault → Reads bytes (Err fault)
-caused bytes faults.BadText h = absurd h
-caused bytes (faults.BadVersion n) h = one h.0.other (bad_version bytes n h.0.at h.0.rest h.0.follows h.1)
-caused bytes (faults.BadCodec n) h = one h.0.other (bad_codec bytes n h.0.at h.0.rest h.0.follows h.1)
-caused bytes (faults.BadHash n) h = one h.2.other (bad_hash bytes h.0 n h.2.at h.2.rest h.1 h.2.follows h.3)
-caused bytes (faults.BadLength n) h = one h.2.other (bad_size bytes h.0 n h.2.at h.2.rest h.1 h.2.follows h.3)
-caused bytes (faults.Trailing n) h = absurd h
-caused bytes (faults.Short n) h = subst (λ (k : ℕ). Reads bytes (Err (faults.Short k))) (sym h.0) (elim h.1 [
+caused : SpellingLaws → (bytes : List ℕ) (fault : CidFault) → HasPrefixCause bytes fault → Reads bytes (Err fault)
+caused laws bytes faults.BadText h = absurd h
+caused laws bytes (faults.BadVersion n) h = one h.0.other (bad_version bytes n h.0.at h.0.rest h.0.follows h.1)
+caused laws bytes (faults.BadCodec n) h = one h.0.other (bad_codec bytes n h.0.at h.0.rest h.0.follows h.1)
+caused laws bytes (faults.BadHash n) h = one h.2.other (bad_hash bytes h.0 n h.2.at h.2.rest h.1 h.2.follows h.3)
+caused laws bytes (faults.BadLength n) h = one h.4.other (bad_size bytes h.0 h.1 n h.4.at h.4.rest h.2 h.3 h.4.follows h.5)
+caused laws bytes (faults.Trailing n) h = absurd h
+caused laws bytes (faults.Short n) h = subst (λ (k : ℕ). Reads bytes (Err (faults.Short k))) (sym h.0) (elim h.1 [
   | inl z ↦ elim z.begins [
     | inl e ↦ lone e (ap (λ k. Err (faults.Short k)) (ap length e))
     | inr e ↦
@@ -153,16 +134,16 @@ caused bytes (faults.Short n) h = subst (λ (k : ℕ). Reads bytes (Err (faults.
   | inr k ↦ elim k [
     | inl v ↦ one v.other (no_number bytes v.numbers v.at v.rest _ v.begins (stand v.follows)
         (inl (refl, rw (← rest_is v.follows) v.ends)))
-    | inr d ↦ one (begins_one bytes 1 _ d.at d.rest refl d.follows) (short_digest bytes d)
+    | inr d ↦ one (begins_one laws bytes 1 _ d.at d.rest refl d.follows) (short_digest bytes d)
   ]
 ])
-caused bytes (faults.BadVarint at) h =
-    one (bad_is_one bytes at h) (no_number bytes h.numbers at h.rest _ h.begins (stand h.follows)
+caused laws bytes (faults.BadVarint at) h =
+    one (bad_is_one laws bytes at h) (no_number bytes h.numbers at h.rest _ h.begins (stand h.follows)
     (inr (refl, rw (← rest_is h.follows) h.bad)))
-caused bytes faults.OutOfMemory h = absurd h
+caused laws bytes faults.OutOfMemory h = absurd h
 
-pub found : (bytes : List ℕ) (cid : CidParts) (front rest : List ℕ) → CidBytes cid front → bytes ≡ front ++ rest → Reads bytes (Ok (cid, length front))
-found bytes cid front rest (inl h) e =
+pub found : SpellingLaws → (bytes : List ℕ) (cid : CidParts) (front rest : List ℕ) → CidBytes cid front → bytes ≡ front ++ rest → Reads bytes (Ok (cid, length front))
+found laws bytes cid front rest (inl h) e =
     let whole : bytes ≡ 0x12 ∷ 0x20 ∷ (cid.digest ++ rest) = e ∙ ap (λ l. l ++ rest) h.whole in
     let size : length cid.digest ≡ 32 = h.size in
     let end : length front ≡ 2 + 32 = let l : length front ≡ length (0x12 ∷ 0x20 ∷ cid.digest) = ap length h.whole in omega arith in
@@ -171,27 +152,26 @@ found bytes cid front rest (inl h) e =
     let cids : cid ≡ record { version = 0; codec = DagPb; hash = Sha256; digest = take 32 (drop 2 bytes) } =
     same_cid cid _ h.version h.codec h.hash digest in
     zero_version (cid.digest ++ rest) whole (inr (omega arith, ap₂ (λ (x : CidParts) (n : ℕ). Ok (x, n)) cids end))
-found bytes cid front rest (inr h) e =
+found laws bytes cid front rest (inr h) e =
     let whole : bytes ≡ h.head ++ (cid.digest ++ rest) = e ∙ (ap (λ l. l ++ rest) h.whole ∙ append_assoc h.head cid.digest rest) in
     let f : Follows (1 ∷ codec_code cid.codec ∷ hash_code cid.hash ∷ length cid.digest ∷ []) bytes (length h.head) (cid.digest ++ rest) = record { front = h.head; whole = whole; at_is = refl; spelled = h.numbers } in
-    one (begins_one bytes 1 _ (length h.head) (cid.digest ++ rest) refl f) (found_one cid bytes front rest h e)
+    one (begins_one laws bytes 1 _ (length h.head) (cid.digest ++ rest) refl f) (found_one cid bytes front rest h e)
 
 -- the clauses of `from_prefix`
 pub record Answers (bytes : List ℕ) (r : Answer) : Type 0 where
   pub found : IfOk r (λ found. (found.1 ≤ length bytes) × CidBytes found.0 (take found.1 bytes))
   pub only : (cid : CidParts) (front rest : List ℕ) → CidBytes cid front → bytes ≡ front ++ rest → r ≡ Ok (cid, length front)
-  pub refused : (fault : CidFault) → (r ≡ Err fault) ↔ HasPrefixCause bytes fault
+  pub cause : IfErr r (HasPrefixCause bytes)
+  pub given : (fault : CidFault) → HasPrefixCause bytes fault → r ≡ Err fault
 
-pub answers : (bytes : List ℕ) (r : Answer) → All (λ b. b < 256) bytes → Reads bytes r → Answers bytes r
-answers bytes r are_bytes reads =
+pub answers : SpellingLaws → (bytes : List ℕ) (r : Answer) → All (λ b. b < 256) bytes → Reads bytes r → Answers bytes r
+answers laws bytes r are_bytes reads =
     let says = told bytes r are_bytes reads in
     record {
       found = MatchResult-weaker r says (λ x h. h) (λ y h. tt);
-      only = λ cid front rest h e. reads_once bytes r _ reads (found bytes cid front rest h e);
-      refused = λ fault. (
-        λ e. subst (Told bytes) e says,
-        λ h. reads_once bytes r _ reads (caused bytes fault h),
-      );
+      only = λ cid front rest h e. reads_once laws bytes r _ reads (found laws bytes cid front rest h e);
+      cause = MatchResult-weaker r says (λ x h. tt) (λ y h. h);
+      given = λ fault h. reads_once laws bytes r _ reads (caused laws bytes fault h);
     }
 
 -- what the tests of the first bytes say

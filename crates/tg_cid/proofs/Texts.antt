@@ -5,7 +5,8 @@ use Rattle.std.proofs.lemmas.List.{take_rest}
 use Rattle.tg_base32.specs.Base32.{Base32Text}
 use Rattle.tg_base32.specs.declared.Base32Fault.{Base32Fault}
 use Rattle.tg_base32.specs.declared.Base32Fault.TheVariants as base32
-use Rattle.tg_base32.proofs.Laws.{one_reading}
+use Rattle.tg_base32.specs.Laws.{TextLaws}
+use Rattle.tg_varint.specs.Laws.{SpellingLaws}
 use Rattle.tg_cid.specs.Cid.{CidParts}
 use Rattle.tg_cid.specs.Faults.{HasBytesCause, HasTextCause, cid_fault_of}
 use Rattle.tg_cid.specs.Spelling.{CidBytes, CidV1Bytes, CidText, MultibaseText}
@@ -61,21 +62,21 @@ no_base text letters base32.OutOfMemory e wants = wanting text
 in_base : (text letters bytes : List ℕ) → text ≡ 98 ∷ letters → Base32Text letters bytes → MultibaseText text bytes
 in_base text letters bytes e b = record { letters = letters; begins = e; rest = b }
 
-same_bytes : (text letters a b : List ℕ) → text ≡ 98 ∷ letters → Base32Text letters a → MultibaseText text b → b ≡ a
-same_bytes text letters a b e p m = one_reading letters b a (same_letters text letters b e m) p
+same_bytes : TextLaws → (text letters a b : List ℕ) → text ≡ 98 ∷ letters → Base32Text letters a → MultibaseText text b → b ≡ a
+same_bytes texts text letters a b e p m = texts.one_reading letters b a (same_letters text letters b e m) p
 
 -- bytes that begin with 0x12
-pub as_zero : (text letters bytes rest : List ℕ) → text ≡ 98 ∷ letters → Base32Text letters bytes → bytes ≡ 0x12 ∷ rest
+pub as_zero : SpellingLaws → TextLaws → (text letters bytes rest : List ℕ) → text ≡ 98 ∷ letters → Base32Text letters bytes → bytes ≡ 0x12 ∷ rest
     → TextAnswers text (Err (faults.BadVersion 18))
-as_zero text letters bytes rest e b first = record {
+as_zero laws texts text letters bytes rest e b first = record {
   found = tt;
-  only = λ cid h. absurd (one_begins cid h.bytes rest h.in_bytes (same_bytes text letters bytes h.bytes e b h.in_base ∙ first));
+  only = λ cid h. absurd (one_begins laws cid h.bytes rest h.in_bytes (same_bytes texts text letters bytes h.bytes e b h.in_base ∙ first));
   cause = inr (inr (inl (refl, record { rest = rest; in_base = subst (MultibaseText text) first (in_base text letters bytes e b) })));
   given = λ fault h. elim h [
     | inl p ↦ absurd (p.1.none bytes (in_base text letters bytes e b))
     | inr k ↦ elim k [
       | inl p ↦ inl (ap Err (sym p.0))
-      | inr q ↦ absurd (q.other rest (same_bytes text letters bytes q.bytes e b q.in_base ∙ first))
+      | inr q ↦ absurd (q.other rest (same_bytes texts text letters bytes q.bytes e b q.in_base ∙ first))
     ]
   ];
 }
@@ -85,34 +86,34 @@ text_of : (text letters bytes : List ℕ) (cid : CidParts) → text ≡ 98 ∷ l
 text_of text letters bytes cid e b other (inl h) = absurd (other (0x20 ∷ cid.digest) h.whole)
 text_of text letters bytes cid e b other (inr h) = record { bytes = bytes; in_base = in_base text letters bytes e b; in_bytes = h }
 
-given_bytes : (text letters bytes : List ℕ) (r : Result CidParts CidFault) → text ≡ 98 ∷ letters → Base32Text letters bytes
+given_bytes : TextLaws → (text letters bytes : List ℕ) (r : Result CidParts CidFault) → text ≡ 98 ∷ letters → Base32Text letters bytes
     → ((rest : List ℕ) → bytes ≡ 0x12 ∷ rest → ⊥) → WholeAnswers bytes r → (fault : CidFault) → HasTextCause text fault → r ≡ Err fault
-given_bytes text letters bytes r e b other w fault (inl p) = absurd (p.1.none bytes (in_base text letters bytes e b))
-given_bytes text letters bytes r e b other w fault (inr (inl p)) =
-    absurd (other p.1.rest (sym (same_bytes text letters bytes (0x12 ∷ p.1.rest) e b p.1.in_base)))
-given_bytes text letters bytes r e b other w fault (inr (inr q)) =
-    (w.refused fault).1 (subst (λ (l : List ℕ). HasBytesCause l fault) (same_bytes text letters bytes q.bytes e b q.in_base) q.cause)
+given_bytes texts text letters bytes r e b other w fault (inl p) = absurd (p.1.none bytes (in_base text letters bytes e b))
+given_bytes texts text letters bytes r e b other w fault (inr (inl p)) =
+    absurd (other p.1.rest (sym (same_bytes texts text letters bytes (0x12 ∷ p.1.rest) e b p.1.in_base)))
+given_bytes texts text letters bytes r e b other w fault (inr (inr q)) =
+    w.given fault (subst (λ (l : List ℕ). HasBytesCause l fault) (same_bytes texts text letters bytes q.bytes e b q.in_base) q.cause)
 
 -- other bytes answer by themselves
-pub by_bytes : (text letters bytes : List ℕ) (r : Result CidParts CidFault) → text ≡ 98 ∷ letters → Base32Text letters bytes
+pub by_bytes : TextLaws → (text letters bytes : List ℕ) (r : Result CidParts CidFault) → text ≡ 98 ∷ letters → Base32Text letters bytes
     → ((rest : List ℕ) → bytes ≡ 0x12 ∷ rest → ⊥) → WholeAnswers bytes r → TextAnswers text r
-by_bytes text letters bytes (Ok cid) e b other w = record {
+by_bytes texts text letters bytes (Ok cid) e b other w = record {
   found = text_of text letters bytes cid e b other w.found;
   only = λ known h.
       let same : ◌≡◌ {A = Result CidParts CidFault} (Ok cid) (Ok known) =
-      w.only known (inr (subst (λ (l : List ℕ). CidV1Bytes known l) (same_bytes text letters bytes h.bytes e b h.in_base) h.in_bytes)) in
+      w.only known (inr (subst (λ (l : List ℕ). CidV1Bytes known l) (same_bytes texts text letters bytes h.bytes e b h.in_base) h.in_bytes)) in
       cc;
   cause = tt;
-  given = λ fault h. inl (given_bytes text letters bytes (Ok cid) e b other w fault h);
+  given = λ fault h. inl (given_bytes texts text letters bytes (Ok cid) e b other w fault h);
 }
-by_bytes text letters bytes (Err known) e b other w = record {
+by_bytes texts text letters bytes (Err known) e b other w = record {
   found = tt;
   only = λ cid h.
       let same : ◌≡◌ {A = Result CidParts CidFault} (Err known) (Ok cid) =
-      w.only cid (inr (subst (λ (l : List ℕ). CidV1Bytes cid l) (same_bytes text letters bytes h.bytes e b h.in_base) h.in_bytes)) in
+      w.only cid (inr (subst (λ (l : List ℕ). CidV1Bytes cid l) (same_bytes texts text letters bytes h.bytes e b h.in_base) h.in_bytes)) in
       absurd cc;
-  cause = inr (inr (inr (record { bytes = bytes; in_base = in_base text letters bytes e b; other = other; cause = (w.refused known).0 refl })));
-  given = λ fault h. inl (given_bytes text letters bytes (Err known) e b other w fault h);
+  cause = inr (inr (inr (record { bytes = bytes; in_base = in_base text letters bytes e b; other = other; cause = w.cause })));
+  given = λ fault h. inl (given_bytes texts text letters bytes (Err known) e b other w fault h);
 }
 
 -- a list by its first

@@ -1,5 +1,5 @@
 -- What `from_bytes` answers, by what `from_prefix` did.
-use Rattle.std.proofs.Common.{◌≡◌, ℕ, ◌+◌, ◌<◌, ◌≤◌, ◌⊎◌, ◌↔◌, List, [], length, take, drop, Result, Ok, Err, IfOk, refl, ap, sym, ◌∙◌, subst, inl, inr, arith}
+use Rattle.std.proofs.Common.{◌≡◌, ℕ, ◌+◌, ◌<◌, ◌≤◌, ◌⊎◌, List, [], length, take, drop, Result, Ok, Err, IfOk, IfErr, refl, ap, sym, ◌∙◌, subst, inl, inr, arith}
 use Rattle.std.proofs.lemmas.List.{append-nil, length-append, length-drop, length-take-le, take-append-drop, take_all}
 use Rattle.tg_cid.specs.Cid.{CidParts}
 use Rattle.tg_cid.specs.Faults.{HasPrefixCause, HasBytesCause, IsTrailed}
@@ -12,7 +12,8 @@ use Rattle.tg_cid.proofs.Prefix.{Answers}
 pub record WholeAnswers (bytes : List ℕ) (r : Result CidParts CidFault) : Type 0 where
   pub found : IfOk r (λ cid. CidBytes cid bytes)
   pub only : (cid : CidParts) → CidBytes cid bytes → r ≡ Ok cid
-  pub refused : (fault : CidFault) → (r ≡ Err fault) ↔ HasBytesCause bytes fault
+  pub cause : IfErr r (HasBytesCause bytes)
+  pub given : (fault : CidFault) → HasBytesCause bytes fault → r ≡ Err fault
 
 as_whole : (bytes : List ℕ) (fault : CidFault) → HasPrefixCause bytes fault → HasBytesCause bytes fault
 as_whole bytes faults.BadText h = h
@@ -56,13 +57,11 @@ pub whole_err : (bytes : List ℕ) (fault : CidFault) → Answers bytes (Err fau
 whole_err bytes fault p = record {
   found = tt;
   only = λ cid h. absurd (not_ok _ fault _ (p.only cid bytes [] h (sym (append-nil bytes))));
-  refused = λ f. (
-    λ e. as_whole bytes f ((p.refused f).0 (ap Err (same_fault _ fault f e))),
-    λ h. elim (causes bytes f h) [
-      | inl t ↦ absurd (not_ok _ fault _ (p.only t.2.cid t.2.front t.2.rest t.2.spelled t.2.whole))
-      | inr k ↦ ap Err (same_fault _ fault f ((p.refused f).1 k))
-    ],
-  );
+  cause = as_whole bytes fault p.cause;
+  given = λ f h. elim (causes bytes f h) [
+    | inl t ↦ absurd (not_ok _ fault _ (p.only t.2.cid t.2.front t.2.rest t.2.spelled t.2.whole))
+    | inr k ↦ ap Err (same_fault _ fault f (p.given f k))
+  ];
 }
 
 pub whole_trailed : (bytes : List ℕ) (cid : CidParts) (size : ℕ) → Answers bytes (Ok (cid, size)) → size < length bytes
@@ -82,30 +81,26 @@ whole_trailed bytes cid size p less =
       only = λ other h.
           let end : size ≡ length bytes = (same_found cid other size (length bytes) (p.only other bytes [] h (sym (append-nil bytes)))).1 in
           absurd (omega arith);
-      refused = λ f. (
-        λ e. subst (HasBytesCause bytes) (same_fault CidParts (faults.Trailing size) f e) trailed,
-        λ h. elim (causes bytes f h) [
-          | inl t ↦
-              let end : size ≡ length t.2.front = (same_found cid t.2.cid size (length t.2.front) (p.only t.2.cid t.2.front t.2.rest t.2.spelled t.2.whole)).1 in
-              ap (λ (n : ℕ). Err (faults.Trailing n)) (end ∙ sym t.2.at_is) ∙ ap Err (sym t.1)
-          | inr k ↦ absurd (not_err _ f _ ((p.refused f).1 k))
-        ],
-      );
+      cause = trailed;
+      given = λ f h. elim (causes bytes f h) [
+        | inl t ↦
+            let end : size ≡ length t.2.front = (same_found cid t.2.cid size (length t.2.front) (p.only t.2.cid t.2.front t.2.rest t.2.spelled t.2.whole)).1 in
+            ap (λ (n : ℕ). Err (faults.Trailing n)) (end ∙ sym t.2.at_is) ∙ ap Err (sym t.1)
+        | inr k ↦ absurd (not_err _ f _ (p.given f k))
+      ];
     }
 
 pub whole_ok : (bytes : List ℕ) (cid : CidParts) (size : ℕ) → Answers bytes (Ok (cid, size)) → length bytes ≤ size → WholeAnswers bytes (Ok cid)
 whole_ok bytes cid size p all = record {
   found = subst (CidBytes cid) (take_all size bytes all) p.found.1;
   only = λ other h. ap Ok (same_found cid other size (length bytes) (p.only other bytes [] h (sym (append-nil bytes)))).0;
-  refused = λ f. (
-    λ e. absurd (not_err _ f cid e),
-    λ h. elim (causes bytes f h) [
-      | inl t ↦
-          let end : size ≡ length t.2.front = (same_found cid t.2.cid size (length t.2.front) (p.only t.2.cid t.2.front t.2.rest t.2.spelled t.2.whole)).1 in
-          let long : length bytes ≡ length t.2.front + length t.2.rest = ap length t.2.whole ∙ length-append t.2.front t.2.rest in
-          let more : 0 < length t.2.rest = t.2.more in
-          absurd (omega arith)
-      | inr k ↦ absurd (not_err _ f _ ((p.refused f).1 k))
-    ],
-  );
+  cause = tt;
+  given = λ f h. elim (causes bytes f h) [
+    | inl t ↦
+        let end : size ≡ length t.2.front = (same_found cid t.2.cid size (length t.2.front) (p.only t.2.cid t.2.front t.2.rest t.2.spelled t.2.whole)).1 in
+        let long : length bytes ≡ length t.2.front + length t.2.rest = ap length t.2.whole ∙ length-append t.2.front t.2.rest in
+        let more : 0 < length t.2.rest = t.2.more in
+        absurd (omega arith)
+    | inr k ↦ absurd (not_err _ f _ (p.given f k))
+  ];
 }

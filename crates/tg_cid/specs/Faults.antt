@@ -4,16 +4,17 @@ use Rattle.tg_base32.specs.declared.Base32Fault.{Base32Fault}
 use Rattle.tg_base32.specs.declared.Base32Fault.TheVariants as base32
 use Rattle.tg_varint.specs.Varint.{EndsInside, PassesNine, EndsInZero}
 use Rattle.tg_cid.specs.Cid.{CidParts}
-use Rattle.tg_cid.specs.Spelling.{CidBytes, MultibaseText, Varints}
+use Rattle.tg_cid.specs.Spelling.{CidBytes, IsDigestSize, IsTaken, MultibaseText, Varints, hash_code}
+use Rattle.tg_cid.specs.declared.cid.HashKind.{HashKind}
 use Rattle.tg_cid.specs.declared.fault.CidFault.{CidFault}
 use Rattle.tg_cid.specs.declared.fault.CidFault.TheVariants as faults
 
--- a codec's number; the number of the one hash that is read
+-- a codec's number; the number of a hash that is taken
 abbrev pub IsCodec : ℕ → Type 0
 IsCodec number = (number ≡ 0x55) ⊎ (number ≡ 0x70)
 
 abbrev pub IsHash : ℕ → Type 0
-IsHash number = number ≡ 0x12
+IsHash number = (hash : HashKind) × IsTaken hash × (number ≡ hash_code hash)
 
 -- numbers with which a CIDv1 may begin, so far as they go
 abbrev pub MayBegin : List ℕ → Type 0
@@ -58,11 +59,14 @@ pub record EndsInVarint (bytes : List ℕ) : Type 0 where
 
 pub record EndsInDigest (bytes : List ℕ) : Type 0 where
   pub codec : ℕ
+  pub hash : HashKind
+  pub size : ℕ
   pub at : ℕ
   pub rest : List ℕ
   pub codec_is : IsCodec codec
-  pub follows : Follows (1 ∷ codec ∷ 0x12 ∷ 32 ∷ []) bytes at rest
-  pub fewer : length rest < 32
+  pub size_is : IsDigestSize hash size
+  pub follows : Follows (1 ∷ codec ∷ hash_code hash ∷ size ∷ []) bytes at rest
+  pub fewer : length rest < size
 
 -- a number of a CIDv1 is spelled with more than nine bytes, or not in the shortest way
 pub record HasBadVarint (bytes : List ℕ) (at : ℕ) : Type 0 where
@@ -77,8 +81,9 @@ abbrev pub HasPrefixCause : List ℕ → CidFault → Type 0
 HasPrefixCause bytes faults.BadText = ⊥
 HasPrefixCause bytes (faults.BadVersion number) = NextNumber [] bytes number × (number ≢ 1)
 HasPrefixCause bytes (faults.BadCodec number) = NextNumber (1 ∷ []) bytes number × (IsCodec number → ⊥)
-HasPrefixCause bytes (faults.BadHash number) = (codec : ℕ) × IsCodec codec × NextNumber (1 ∷ codec ∷ []) bytes number × (number ≢ 0x12)
-HasPrefixCause bytes (faults.BadLength number) = (codec : ℕ) × IsCodec codec × NextNumber (1 ∷ codec ∷ 0x12 ∷ []) bytes number × (number ≢ 32)
+HasPrefixCause bytes (faults.BadHash number) = (codec : ℕ) × IsCodec codec × NextNumber (1 ∷ codec ∷ []) bytes number × (IsHash number → ⊥)
+HasPrefixCause bytes (faults.BadLength number) = (codec : ℕ) × (hash : HashKind) × IsCodec codec × IsTaken hash
+    × NextNumber (1 ∷ codec ∷ hash_code hash ∷ []) bytes number × (IsDigestSize hash number → ⊥)
 HasPrefixCause bytes (faults.Trailing at) = ⊥
 HasPrefixCause bytes (faults.Short at) = (at ≡ length bytes) × (EndsInV0 bytes ⊎ (EndsInVarint bytes ⊎ EndsInDigest bytes))
 HasPrefixCause bytes (faults.BadVarint at) = HasBadVarint bytes at

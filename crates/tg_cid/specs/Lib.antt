@@ -1,3 +1,4 @@
+pub mod Limits
 pub mod Cid
 pub mod Names
 pub mod Spelling

@@ -2,10 +2,10 @@
 use Rattle.std.specs.Prelude.{◌≡◌, ◌≢◌, ℕ, ◌+◌, ◌<◌, ◌≤◌, ◌⊎◌, List, ◌++◌, length, take, drop, Result, Ok, Err}
 use Rattle.tg_varint.specs.Varint.{VarintSpelling, EndsInside, PassesNine, EndsInZero}
 use Rattle.tg_cid.specs.Cid.{CidParts}
-use Rattle.tg_cid.specs.Faults.{IsCodec}
-use Rattle.tg_cid.specs.Spelling.{codec_code}
+use Rattle.tg_cid.specs.Faults.{IsCodec, IsHash}
+use Rattle.tg_cid.specs.Spelling.{IsDigestSize, IsTaken, codec_code, hash_code}
 use Rattle.tg_cid.specs.declared.cid.Codec.{Codec}
-use Rattle.tg_cid.specs.declared.cid.HashKind.TheVariants.{Sha256}
+use Rattle.tg_cid.specs.declared.cid.HashKind.{HashKind}
 use Rattle.tg_cid.specs.declared.fault.CidFault.{CidFault}
 use Rattle.tg_cid.specs.declared.fault.CidFault.TheVariants as faults
 
@@ -33,21 +33,21 @@ NumberThen bytes at Tells answer = ((fault : CidFault) × (answer ≡ Err fault)
     ⊎ ((number : ℕ) × (next : ℕ) × NumberAt bytes at number next × Tells number next)
 
 -- the answer where the digest begins at `at`
-abbrev pub DigestThen : ℕ → Codec → List ℕ → ℕ → Answer → Type 0
-DigestThen version codec bytes at answer = ((length bytes < at + 32) × (answer ≡ Err (faults.Short (length bytes))))
-    ⊎ ((at + 32 ≤ length bytes) × (answer
-    ≡ Ok (record { version = version; codec = codec; hash = Sha256; digest = take 32 (drop at bytes) }, at + 32)))
+abbrev pub DigestThen : ℕ → Codec → HashKind → ℕ → List ℕ → ℕ → Answer → Type 0
+DigestThen version codec hash size bytes at answer = ((length bytes < at + size) × (answer ≡ Err (faults.Short (length bytes))))
+    ⊎ ((at + size ≤ length bytes) × (answer
+    ≡ Ok (record { version = version; codec = codec; hash = hash; digest = take size (drop at bytes) }, at + size)))
 
 -- the answer where the digest's length, the hash, the codec and the version are to be read at `at`
-abbrev pub SizeThen : Codec → List ℕ → ℕ → Answer → Type 0
-SizeThen codec bytes at answer = NumberThen bytes at (λ number next.
-    ((number ≢ 32) × (answer ≡ Err (faults.BadLength number)))
-    ⊎ ((number ≡ 32) × DigestThen 1 codec bytes next answer)) answer
+abbrev pub SizeThen : Codec → HashKind → List ℕ → ℕ → Answer → Type 0
+SizeThen codec hash bytes at answer = NumberThen bytes at (λ number next.
+    ((IsDigestSize hash number → ⊥) × (answer ≡ Err (faults.BadLength number)))
+    ⊎ (IsDigestSize hash number × DigestThen 1 codec hash number bytes next answer)) answer
 
 abbrev pub HashThen : Codec → List ℕ → ℕ → Answer → Type 0
 HashThen codec bytes at answer = NumberThen bytes at (λ number next.
-    ((number ≢ 0x12) × (answer ≡ Err (faults.BadHash number)))
-    ⊎ ((number ≡ 0x12) × SizeThen codec bytes next answer)) answer
+    ((IsHash number → ⊥) × (answer ≡ Err (faults.BadHash number)))
+    ⊎ ((hash : HashKind) × IsTaken hash × (number ≡ hash_code hash) × SizeThen codec hash bytes next answer)) answer
 
 abbrev pub CodecThen : List ℕ → ℕ → Answer → Type 0
 CodecThen bytes at answer = NumberThen bytes at (λ number next.

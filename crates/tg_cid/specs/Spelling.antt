@@ -1,5 +1,5 @@
 -- How CIDs are spelled in bytes and in text (CID specification; multihash; multicodec; multibase; RFC 4648 section 6).
-use Rattle.std.specs.Prelude.{◌≡◌, ℕ, ◌<◌, ◌⊎◌, List, [], ◌∷◌, ◌++◌, length, All}
+use Rattle.std.specs.Prelude.{◌≡◌, ℕ, ◌<◌, ◌⊎◌, List, [], ◌∷◌, ◌++◌, length, All, ⊤}
 use Rattle.tg_varint.specs.Varint.{VarintSpelling}
 use Rattle.tg_base32.specs.Base32.{Base32Text}
 use Rattle.tg_cid.specs.Cid.{CidParts}
@@ -17,7 +17,12 @@ abbrev pub hash_code : HashKind → ℕ
 hash_code Sha256 = 0x12
 hash_code Identity = 0x00
 
--- how many bytes a digest has; CIDs of kind identity are neither read nor made
+-- the hashes whose CIDs are read and made; those of kind identity are neither
+abbrev pub IsTaken : HashKind → Type 0
+IsTaken Sha256 = ⊤
+IsTaken Identity = ⊥
+
+-- how many bytes a digest of such a hash has
 abbrev pub IsDigestSize : HashKind → ℕ → Type 0
 IsDigestSize Sha256 size = size ≡ 32
 IsDigestSize Identity size = ⊥

@@ -1,28 +1,30 @@
 //! The CID: read and written as bytes and as text, its parts, and whether it names a block.
-ghost use Rattle.std.specs.Prelude.{◌≡◌, ℕ, ◌-◌, ◌<◌, ◌≤◌, ◌↔◌, ◌⊎◌, List, ◌∷◌, ◌++◌, length, take, drop, replicate, All, IsTrue, IfOk, IfErr, MatchResult};
+ghost use Rattle.std.proofs.Common.{rules};
+ghost use Rattle.std.specs.Cmp.Lexicographic.{pointwise};
+ghost use Rattle.std.specs.Cmp.Rules.{comparing, hashing};
+ghost use Rattle.std.specs.Hash as fed;
+ghost use Rattle.std.specs.Prelude.{◌≡◌, ℕ, ◌+◌, ◌-◌, ◌<◌, ◌≤◌, ◌↔◌, ◌⊎◌, List, ◌∷◌, ◌++◌, ◌==◌, ◌&&◌, nat_eq, length, take, drop, replicate, All, IsTrue, IfOk, IfErr, MatchResult};
 ghost use Rattle.sha2.specs.Sha256.{sha256};
 ghost use Rattle.tg_cid.specs.Cid.{CidParts};
-ghost use Rattle.tg_cid.specs.Faults.{HasPrefixCause, HasBytesCause, HasTextCause, IsCodec};
+ghost use Rattle.tg_cid.specs.Faults.{HasPrefixCause, HasBytesCause, HasTextCause, IsCodec, IsHash};
+ghost use Rattle.tg_cid.specs.Limits.{max_cid_len, max_digest_len};
 ghost use Rattle.tg_cid.specs.Names.{Names};
 ghost use Rattle.tg_cid.specs.Reading.{DigestThen, ReadsAsOne};
-ghost use Rattle.tg_cid.specs.Spelling.{CidBytes, CidV1Bytes, CidText, codec_code};
+ghost use Rattle.tg_cid.specs.Spelling.{CidBytes, CidV1Bytes, CidText, IsDigestSize, IsTaken, codec_code, hash_code};
 ghost use Rattle.tg_cid.specs.declared.fault.CidFault.{CidFault};
 
 use crate::fault::CidFault;
+use crate::limits::{MAX_CID_LEN, MAX_DIGEST_LEN};
 use crate::numbers::number_at;
-use crate::room::{LONGEST, ROOM, fill_both, in_longest, in_room};
+use crate::room::{in_longest, in_room};
 use sha2::{Digest, Sha256};
 use std::alloc::{AllocError, Global};
+use std::hash::{Hash, Hasher};
 use std::marker::Model;
-use tg_edges::Bytes;
+use tg_bytes::Bytes;
 
-// The code of sha2-256 and the length of its digest.
-const SHA2_256: u64 = 0x12;
-
-const DIGEST: usize = 32;
-
-// How many bytes a CIDv1 of sha2-256 has.
-const SPELLED: usize = 36;
+// How many bytes a digest of sha2-256 has.
+const SHA256_LEN: usize = 32;
 
 /// How the blocks that a CID names are read.
 #[derive(Clone, Copy, Debug, PartialEq, Eq, Hash)]
@@ -46,19 +48,20 @@ pub enum HashKind {
 /// are. A CIDv0 is a dag-pb one. Until CIDs of kind identity are read, each has kind sha2-256 and 32 digest bytes.
 ///
 /// CID specification; multihash.
-#[derive(Clone, Copy, Debug, PartialEq, Eq, Hash)]
+#[derive(Clone, Copy, Debug)]
 pub struct Cid {
     version: u8,
     codec: Codec,
     hash: HashKind,
     size: u8,
-    digest: [u8; ROOM],
+    digest: [u8; MAX_DIGEST_LEN],
 }
 
 impl Model for Cid {
     ghost use Rattle.std.specs.Prelude.{◌≡◌, ℕ, ◌-◌, ◌≤◌, ◌++◌, length, take, drop, replicate};
     ghost use Rattle.tg_cid.specs.Cid.{CidParts};
     ghost use Rattle.tg_cid.specs.Digest.{size_again, room_again};
+    ghost use Rattle.tg_cid.specs.Spelling.{IsDigestSize};
     ghost use Rattle.tg_cid.specs.declared.cid.HashKind.TheVariants.{Sha256};
     ghost use Rattle.tg_cid.specs.declared.cid.Codec.TheVariants.{DagPb};
 
@@ -67,7 +70,7 @@ impl Model for Cid {
     ghost view = { λ c. record { version = c.version; codec = c.codec; hash = c.hash; digest = take c.size c.digest } };
 
     ghost invariant = { λ c. (c.version ≤ 1) × (c.size ≤ 128) × (length c.digest ≡ 128) × (drop c.size c.digest ≡ replicate (128 - c.size) 0)
-        × (c.hash ≡ Sha256) × (c.size ≡ 32) × (c.version ≡ 0 → c.codec ≡ DagPb) };
+        × IsDigestSize c.hash c.size × (c.version ≡ 0 → (c.codec ≡ DagPb) × (c.hash ≡ Sha256)) };
 
     ghost inverse = { λ p. record {
       version = p.version;
@@ -86,6 +89,38 @@ impl Model for Cid {
     } };
 }
 
+impl PartialEq for Cid {
+    ghost eq = { λ a b. a.version == b.version && (⟦<Codec as PartialEq>⟧.eq a.codec b.codec
+        && (⟦<HashKind as PartialEq>⟧.eq a.hash b.hash && pointwise nat_eq a.digest b.digest)) };
+
+    ghost laws = { Prim.search (comparing, rules) };
+
+    fn eq(&self, other: &Cid) -> bool {
+        self.version == other.version
+            && self.codec == other.codec
+            && self.hash == other.hash
+            && self.digest() == other.digest()
+    }
+}
+
+impl Eq for Cid {
+    ghost laws = { Prim.search (comparing, rules) };
+}
+
+impl Hash for Cid {
+    ghost hash_input = { λ a. fed.u8 a.version ++ (⟦<Codec as Hash>⟧.hash_input a.codec
+        ++ (⟦<HashKind as Hash>⟧.hash_input a.hash ++ fed.slice fed.u8 a.digest)) };
+
+    ghost respects_eq = { Prim.search (hashing, rules) };
+
+    fn hash<H: Hasher>(&self, state: &mut H) {
+        self.version.hash(state);
+        self.codec.hash(state);
+        self.hash.hash(state);
+        self.digest().hash(state);
+    }
+}
+
 impl Cid {
     /// The CID at the front of the bytes and its length. Bytes may follow it. It takes no memory.
     ///
@@ -97,11 +132,20 @@ impl Cid {
         ensures only { (cid : CidParts) (front rest : List ℕ) → CidBytes cid front → bytes.now ≡ front ++ rest
             → result ≡ Ok (cid, length front) }
         // Each refusal comes exactly where its cause holds.
-        ensures refused { (fault : CidFault) → (result ≡ Err fault) ↔ HasPrefixCause bytes.now fault }
+        ensures cause { IfErr result (λ fault. HasPrefixCause bytes.now fault) }
+        ensures given { (fault : CidFault) → HasPrefixCause bytes.now fault → result ≡ Err fault }
     {
+        tg_varint::spelling_laws();
         match bytes {
             [0x12] => Err(CidFault::Short { at: 1 }),
-            [0x12, 0x20, ..] => with_digest(0, Codec::DagPb, bytes, 2),
+            [0x12, 0x20, ..] => with_digest(
+                0,
+                Codec::DagPb,
+                HashKind::Sha256,
+                SHA256_LEN,
+                bytes,
+                2,
+            ),
             _ => version_one(bytes),
         }
     }
@@ -112,7 +156,8 @@ impl Cid {
     pub fn from_bytes(bytes: &[u8]) -> Result<Cid, CidFault>
         ensures found { IfOk result (λ cid. CidBytes cid bytes.now) }
         ensures only { (cid : CidParts) → CidBytes cid bytes.now → result ≡ Ok cid }
-        ensures refused { (fault : CidFault) → (result ≡ Err fault) ↔ HasBytesCause bytes.now fault }
+        ensures cause { IfErr result (λ fault. HasBytesCause bytes.now fault) }
+        ensures given { (fault : CidFault) → HasBytesCause bytes.now fault → result ≡ Err fault }
     {
         let (cid, length) = Cid::from_prefix(bytes)?;
         if length < bytes.len() {
@@ -135,6 +180,8 @@ impl Cid {
         ensures given { (fault : CidFault) → HasTextCause text.now fault
             → (result ≡ Err fault) ⊎ (result ≡ Err CidFault.OutOfMemory) }
     {
+        tg_varint::spelling_laws();
+        tg_base32::text_laws();
         let [b'b', letters @ ..] = text else {
             return Err(CidFault::BadText);
         };
@@ -159,17 +206,16 @@ impl Cid {
     /// The CID's bytes, in the front of an array whose other bytes are zero, and how many they are. It takes no memory.
     ///
     /// CID specification; multihash.
-    pub fn spelling(&self) -> ([u8; LONGEST], usize)
-        ensures size { result.1 ≤ 133 }
+    pub fn spelling(&self) -> ([u8; MAX_CID_LEN], usize)
+        ensures size { result.1 ≤ max_cid_len }
         ensures spelled { CidBytes self.now (take result.1 result.0) }
         ensures rest { drop result.1 result.0 ≡ replicate (133 - result.1) 0 }
     {
-        let bytes = self.version_one_bytes();
         if self.version == 0 {
-            // A CIDv0 is the multihash alone, which stands in a CIDv1 behind the version and the codec.
-            return in_longest(&bytes[2..]);
+            // A CIDv0 is the multihash of sha2-256 alone.
+            return in_longest(&[0x12, 0x20], &[], self.digest());
         }
-        in_longest(&bytes)
+        self.version_one_spelling()
     }
 
     /// The text of the CID's version 1 form: the letter `b` and the lower-case base 32 of its bytes. The error is want of
@@ -179,7 +225,8 @@ impl Cid {
     pub fn to_text(&self, alloc: Global) -> Result<Bytes, AllocError>
         ensures { IfOk result (λ text. CidText (record self.now { version = 1 }) text) }
     {
-        let mut text = tg_base32::encode(alloc, &self.version_one_bytes())?;
+        let (bytes, size) = self.version_one_spelling();
+        let mut text = tg_base32::encode(alloc, &bytes[..size])?;
         text.insert(0, b'b')?;
         Ok(Bytes::from(text))
     }
@@ -192,7 +239,7 @@ impl Cid {
         ensures names { Names result block.now }
     {
         let digest = Sha256::digest(block);
-        with_sha256(1, codec, digest.as_slice())
+        cid_with(1, codec, HashKind::Sha256, digest.as_slice())
     }
 
     /// Whether the CID names the block: its digest is the one that its hash gives for the block. It takes no memory.
@@ -202,9 +249,7 @@ impl Cid {
         ensures { IsTrue result ↔ Names self.now block.now }
     {
         match self.hash {
-            HashKind::Sha256 => {
-                Sha256::digest(block).as_slice() == &self.digest[..self.size as usize]
-            }
+            HashKind::Sha256 => Sha256::digest(block).as_slice() == self.digest(),
             HashKind::Identity => false,
         }
     }
@@ -230,9 +275,11 @@ impl Cid {
         self.hash
     }
 
-    /// The digest, at most 128 bytes.
+    /// The digest: 32 bytes for sha2-256, and at most 128 for any hash.
     pub fn digest(&self) -> &[u8]
-        ensures { result.now ≡ self.now.digest }
+        ensures digest { result.now ≡ self.now.digest }
+        ensures size { IsDigestSize self.now.hash (length result.now) }
+        ensures most { length result.now ≤ max_digest_len }
     {
         &self.digest[..self.size as usize]
     }
@@ -250,61 +297,78 @@ impl Cid {
         }
     }
 
-    /// The bytes of the CIDv1 with the same codec, hash and digest.
-    fn version_one_bytes(&self) -> [u8; SPELLED]
-        ensures whole { result ≡ 1 ∷ codec_code self.now.codec ∷ 0x12 ∷ 0x20 ∷ self.now.digest }
-        ensures spelled { CidV1Bytes (record self.now { version = 1 }) result }
+    /// The bytes of the CIDv1 with the same codec, hash and digest, as `spelling` gives them.
+    fn version_one_spelling(&self) -> ([u8; MAX_CID_LEN], usize)
+        ensures size { result.1 ≤ max_cid_len }
+        ensures spelled { CidV1Bytes (record self.now { version = 1 }) (take result.1 result.0) }
+        ensures rest { drop result.1 result.0 ≡ replicate (133 - result.1) 0 }
     {
-        spelled(self.codec, self.digest())
+        tg_varint::spelling_laws();
+        let digest = self.digest();
+        let (length, size) = tg_varint::write(digest.len() as u64);
+        let codes = [1, code_of_codec(self.codec), code_of_hash(self.hash)];
+        in_longest(&codes, &length[..size], digest)
     }
 }
 
-/// The CID with a digest of sha2-256.
-fn with_sha256(version: u8, codec: Codec, digest: &[u8]) -> Cid
+/// The codec's number, which is its varint too.
+fn code_of_codec(codec: Codec) -> u8
+    ensures { result ≡ codec_code codec }
+{
+    match codec {
+        Codec::Raw => 0x55,
+        Codec::DagPb => 0x70,
+    }
+}
+
+/// The hash's number, which is its varint too.
+fn code_of_hash(hash: HashKind) -> u8
+    ensures { result ≡ hash_code hash }
+{
+    match hash {
+        HashKind::Sha256 => 0x12,
+        HashKind::Identity => 0x00,
+    }
+}
+
+/// The CID of these parts.
+fn cid_with(version: u8, codec: Codec, hash: HashKind, digest: &[u8]) -> Cid
     requires version { version ≤ 1 }
-    requires codec { version ≡ 0 → codec ≡ Codec.DagPb }
-    requires size { length digest.now ≡ 32 }
-    ensures { result ≡ record { version = version; codec = codec; hash = HashKind.Sha256; digest = digest.now } }
+    requires zero { version ≡ 0 → (codec ≡ Codec.DagPb) × (hash ≡ HashKind.Sha256) }
+    requires size { IsDigestSize hash (length digest.now) }
+    ensures { result ≡ record { version = version; codec = codec; hash = hash; digest = digest.now } }
 {
     Cid {
         version,
         codec,
-        hash: HashKind::Sha256,
-        size: 32,
+        hash,
+        size: digest.len() as u8,
         digest: in_room(digest),
     }
 }
 
-/// The bytes of a CIDv1 with a digest of sha2-256.
-fn spelled(codec: Codec, digest: &[u8]) -> [u8; SPELLED]
-    requires { length digest.now ≡ 32 }
-    ensures whole { result ≡ 1 ∷ codec_code codec ∷ 0x12 ∷ 0x20 ∷ digest.now }
-    ensures are_bytes { All (λ b. b < 256) digest.now }
-{
-    let code = match codec {
-        Codec::Raw => 0x55,
-        Codec::DagPb => 0x70,
-    };
-    let head = [1, code, 0x12, 0x20];
-    let mut bytes = [0; SPELLED];
-    fill_both(&mut bytes, &head, digest);
-    bytes
-}
-
-/// The CID whose digest begins at `at`, where its bytes end, and that end.
-fn with_digest(version: u8, codec: Codec, bytes: &[u8], at: usize) -> Result<(Cid, usize), CidFault>
+/// The CID whose digest begins at `at`, and where that ends.
+fn with_digest(
+    version: u8,
+    codec: Codec,
+    hash: HashKind,
+    size: usize,
+    bytes: &[u8],
+    at: usize,
+) -> Result<(Cid, usize), CidFault>
     requires version { version ≤ 1 }
-    requires codec { version ≡ 0 → codec ≡ Codec.DagPb }
+    requires zero { version ≡ 0 → (codec ≡ Codec.DagPb) × (hash ≡ HashKind.Sha256) }
+    requires size_is { IsDigestSize hash size }
     requires place { at ≤ length bytes.now }
-    ensures { DigestThen version codec bytes.now at result }
+    ensures { DigestThen version codec hash size bytes.now at result }
 {
     let rest = &bytes[at..];
-    if rest.len() < DIGEST {
+    if rest.len() < size {
         return Err(CidFault::Short {
             at: bytes.len() as u64,
         });
     }
-    Ok((with_sha256(version, codec, &rest[..DIGEST]), at + DIGEST))
+    Ok((cid_with(version, codec, hash, &rest[..size]), at + size))
 }
 
 /// The CIDv1 at the front of the bytes and its length.
@@ -317,15 +381,11 @@ fn version_one(bytes: &[u8]) -> Result<(Cid, usize), CidFault>
     }
     let (code, at) = number_at(bytes, at)?;
     let codec = codec_of(code)?;
-    let (hash, at) = number_at(bytes, at)?;
-    if hash != SHA2_256 {
-        return Err(CidFault::BadHash { number: hash });
-    }
-    let (size, at) = number_at(bytes, at)?;
-    if size != DIGEST as u64 {
-        return Err(CidFault::BadLength { number: size });
-    }
-    with_digest(1, codec, bytes, at)
+    let (code, at) = number_at(bytes, at)?;
+    let hash = hash_of(code)?;
+    let (length, at) = number_at(bytes, at)?;
+    let size = size_of(hash, length)?;
+    with_digest(1, codec, hash, size, bytes, at)
 }
 
 /// The codec with this number.
@@ -340,14 +400,24 @@ fn codec_of(number: u64) -> Result<Codec, CidFault>
     }
 }
 
-/// No CID's bytes begin another's, and a CIDv1 has one text.
-pub fn one_spelling()
-    ensures no_front { (a b : CidParts) (u v x y : List ℕ) → CidBytes a u → CidBytes b v → u ++ x ≡ v ++ y → (u ≡ v) × (a ≡ b) }
-    ensures one_text { (a : CidParts) (s t : List ℕ) → CidText a s → CidText a t → s ≡ t }
-    ensures one_cid { (a b : CidParts) (t : List ℕ) → CidText a t → CidText b t → a ≡ b }
-{}
+/// The hash with this number, of those that are taken.
+fn hash_of(number: u64) -> Result<HashKind, CidFault>
+    ensures { MatchResult result (λ hash. IsTaken hash × (number ≡ hash_code hash))
+        (λ fault. (fault ≡ CidFault.BadHash number) × ¬ IsHash number) }
+{
+    match number {
+        0x12 => Ok(HashKind::Sha256),
+        _ => Err(CidFault::BadHash { number }),
+    }
+}
 
-/// Two CIDs are equal exactly where their four parts are.
-pub fn equality()
-    ensures { (a b : CidParts) → IsTrue (⟦<Cid as PartialEq>⟧.eq a b) ↔ (a ≡ b) }
-{}
+/// The number, where a digest of the hash may have so many bytes.
+fn size_of(hash: HashKind, number: u64) -> Result<usize, CidFault>
+    ensures { MatchResult result (λ size. (size ≡ number) × IsDigestSize hash size)
+        (λ fault. (fault ≡ CidFault.BadLength number) × ¬ IsDigestSize hash number) }
+{
+    match hash {
+        HashKind::Sha256 if number == SHA256_LEN as u64 => Ok(SHA256_LEN),
+        HashKind::Sha256 | HashKind::Identity => Err(CidFault::BadLength { number }),
+    }
+}

@@ -13,4 +13,7 @@ pub fn computes()
         → CidV1Bytes (record cid { version = 1 }) (v1_bytes cid) }
     ensures text { (cid : CidParts) (bytes : List ℕ) → CidBytes cid bytes
         → CidText (record cid { version = 1 }) (cid_text cid) }
-{}
+{
+    tg_varint::spelling_laws();
+    tg_base32::text_laws();
+}

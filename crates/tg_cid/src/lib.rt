@@ -4,12 +4,16 @@
 mod cid;
 mod computed;
 mod fault;
+mod laws;
+mod limits;
 mod numbers;
 mod room;
 
-pub use cid::{Cid, Codec, HashKind, equality, one_spelling};
+pub use cid::{Cid, Codec, HashKind};
 pub use computed::computes;
 pub use fault::CidFault;
+pub use laws::{digest_laws, equality, hashing, one_spelling};
+pub use limits::{MAX_BLOCK_LEN, MAX_CID_LEN, MAX_DIGEST_LEN};
 
 #[cfg(test)]
 mod tests;

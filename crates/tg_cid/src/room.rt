@@ -1,32 +1,31 @@
-//! The room that a CID keeps its digest in.
-ghost use Rattle.std.specs.Prelude.{◌≡◌, ◌+◌, ◌-◌, ◌≤◌, ◌++◌, length, take, drop, replicate};
+//! The room that a CID keeps its digest in, and that its bytes are written in.
+ghost use Rattle.std.specs.Prelude.{◌≡◌, ◌+◌, ◌-◌, ◌<◌, ◌≤◌, ◌++◌, length, take, drop, replicate, All};
+ghost use Rattle.tg_cid.specs.Limits.{max_cid_len, max_digest_len};
 
-/// How many digest bytes a CID has room for.
-pub const ROOM: usize = 128;
-
-/// How many bytes the longest CID has: a CIDv1 whose digest fills that room.
-pub const LONGEST: usize = 133;
+use crate::limits::{MAX_CID_LEN, MAX_DIGEST_LEN};
 
 /// The digest in the front of a room whose other bytes are zero.
-pub fn in_room(digest: &[u8]) -> [u8; ROOM]
-    requires { length digest.now ≤ 128 }
+pub fn in_room(digest: &[u8]) -> [u8; MAX_DIGEST_LEN]
+    requires { length digest.now ≤ max_digest_len }
     ensures { result ≡ digest.now ++ replicate (128 - length digest.now) 0 }
 {
-    let mut room = [0; ROOM];
+    let mut room = [0; MAX_DIGEST_LEN];
     fill_front(&mut room, digest);
     room
 }
 
-/// The bytes of a CID in the front of an array whose other bytes are zero, and how many they are.
-pub fn in_longest(bytes: &[u8]) -> ([u8; LONGEST], usize)
-    requires { length bytes.now ≤ 133 }
-    ensures size { result.1 ≡ length bytes.now }
-    ensures front { take result.1 result.0 ≡ bytes.now }
+/// The codes, the digest's length and the digest of a CID in the front of an array whose other bytes are zero, and how many
+/// bytes they are.
+pub fn in_longest(codes: &[u8], size: &[u8], digest: &[u8]) -> ([u8; MAX_CID_LEN], usize)
+    requires { length codes.now + length size.now + length digest.now ≤ max_cid_len }
+    ensures fits { result.1 ≤ max_cid_len }
+    ensures front { take result.1 result.0 ≡ codes.now ++ (size.now ++ digest.now) }
     ensures rest { drop result.1 result.0 ≡ replicate (133 - result.1) 0 }
+    ensures are_bytes { All (λ b. b < 256) digest.now }
 {
-    let mut room = [0; LONGEST];
-    fill_front(&mut room, bytes);
-    (room, bytes.len())
+    let mut room = [0; MAX_CID_LEN];
+    fill_parts(&mut room, codes, size, digest);
+    (room, codes.len() + size.len() + digest.len())
 }
 
 /// Copies the bytes into the front of the room.
@@ -37,12 +36,15 @@ fn fill_front(room: &mut [u8], bytes: &[u8])
     room[..bytes.len()].copy_from_slice(bytes);
 }
 
-/// Fills the room with the one bytes and then the others.
-pub fn fill_both(room: &mut [u8], front: &[u8], rest: &[u8])
-    requires { length front.now + length rest.now ≡ length room.old }
-    ensures { room.new ≡ front.now ++ rest.now }
+/// Copies the three into the front of the room, one behind another.
+fn fill_parts(room: &mut [u8], codes: &[u8], size: &[u8], digest: &[u8])
+    requires { length codes.now + length size.now + length digest.now ≤ length room.old }
+    ensures { room.new
+        ≡ codes.now ++ (size.now ++ (digest.now ++ drop (length digest.now) (drop (length size.now) (drop (length codes.now) room.old)))) }
 {
-    let (head, tail) = room.split_at_mut(front.len());
-    head.copy_from_slice(front);
-    tail.copy_from_slice(rest);
+    let (front, rest) = room.split_at_mut(codes.len());
+    front.copy_from_slice(codes);
+    let (front, rest) = rest.split_at_mut(size.len());
+    front.copy_from_slice(size);
+    fill_front(rest, digest);
 }

@@ -1,7 +1,8 @@
 use crate::{hash64, slot};
 
-// The hashes of the texts of 0 to 48 bytes whose byte i is (7 * i + length) % 256. They come from a model in Python after
-// the public text of MurmurHash3.cpp (smhasher), which also gives smhasher's verification value of this hash, 0x6384ba69.
+// The hashes of the texts of 0 to 48 bytes whose byte i is (7 * i + length) % 256: the first word of MurmurHash3_x64_128 of
+// smhasher's MurmurHash3.cpp with seed 0, whose verification value is 0x6384ba69. Any port of it gives them again, as
+// `mmh3.hash64(text, signed=False)[0]` in Python.
 const OF_LENGTH: [u64; 49] = [
     0x0000_0000_0000_0000,
     0x7ace_5c90_8374_fe16,
@@ -55,7 +56,7 @@ const OF_LENGTH: [u64; 49] = [
 ];
 
 #[test]
-fn hashes_of_each_length(rt: HostRuntime) {
+fn known_hashes(rt: HostRuntime) {
     let mut text = [0u8; 48];
     for length in 0..49 {
         for i in 0..length {
@@ -67,12 +68,9 @@ fn hashes_of_each_length(rt: HostRuntime) {
             "of length {length}"
         );
     }
-}
 
-// The slots of "hello", two names with one hash, and the published hash of a sentence (the first word of
-// e34bbc7bbc071b6c7a433ca9c49a9347).
-#[test]
-fn known_names(rt: HostRuntime) {
+    // The slots of "hello", two names with one hash, and the published hash of a sentence (the first word of
+    // e34bbc7bbc071b6c7a433ca9c49a9347).
     let hello = hash64(b"hello");
     assert_eq!(rt; hello, 0xcbd8_a7b3_41bd_9b02);
     let slots: [u8; 8] = [0xcb, 0xd8, 0xa7, 0xb3, 0x41, 0xbd, 0x9b, 0x02];

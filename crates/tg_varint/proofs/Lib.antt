@@ -1,4 +1,6 @@
 mod Groups
-pub mod Reading
+mod Reading
 mod Writing
-pub mod Uniqueness
+mod Uniqueness
+mod Fronts
+mod Computed

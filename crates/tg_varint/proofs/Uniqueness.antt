@@ -1,10 +1,11 @@
 -- A number has one spelling.
-use Rattle.std.proofs.Common.{◌≡◌, ℕ, ◌+◌, ◌^◌, ◌<◌, ◌≤◌, List, [], ◌∷◌, ◌++◌, length, All, ap, ap₂, sym, ◌∙◌, subst, arith}
-use Rattle.std.proofs.Math.Nat.{pow-le-pow_right}
+use Rattle.std.proofs.Common.{◌≡◌, ℕ, ◌+◌, ◌*◌, ◌^◌, ◌<◌, ◌≤◌, List, [], ◌∷◌, ◌++◌, length, All, ap, ap₂, sym, ◌∙◌, subst, inl, inr, arith}
+use Rattle.std.proofs.Math.Nat.{pow-le-pow_right, mul-le-mul_left}
+use Rattle.std.proofs.lemmas.Bool.{cases_lt}
 use Rattle.std.proofs.lemmas.List.{append_assoc, length_push}
 use Rattle.std.proofs.lemmas.List.Elements.{All-head, All-tail}
 use Rattle.tg_varint.specs.Varint.{number_of, AllGoOn, VarintSpelling}
-use Rattle.tg_varint.proofs.Groups.{number_of-below, positive, same_parts}
+use Rattle.tg_varint.proofs.Groups.{number_of-append, number_of-below, positive, same_parts}
 
 -- by the division by 128: the first byte is the remainder, and what is left has one spelling
 pub one_list : (a b : List ℕ) (x y : ℕ) → AllGoOn a → AllGoOn b
@@ -56,3 +57,19 @@ below_limit m a v =
     let below : number_of a < 128 ^ length a = number_of-below a in
     let spells : m ≡ number_of a = v.spells in
     omega arith
+
+-- a spelling of more than k bytes spells 128 ^ k at least
+pub at_most : (n k : ℕ) (a : List ℕ) → 0 < k → n < 128 ^ k → VarintSpelling n a → length a ≤ k
+at_most n k a some below v = elim (cases_lt (length v.front) k) [
+  | inl less ↦ omega (arith, ap length v.whole, length_push v.front v.last)
+  | inr more ↦
+      let parts : number_of (v.front ++ v.last ∷ []) ≡ number_of v.front + 128 ^ length v.front * number_of (v.last ∷ []) =
+      number_of-append v.front (v.last ∷ []) in
+      let spells : n ≡ number_of (v.front ++ v.last ∷ []) = v.spells ∙ ap number_of v.whole in
+      let last : 0 < v.last = v.shortest (omega arith) in
+      let low : v.last < 128 = v.ends in
+      let power : 128 ^ k ≤ 128 ^ length v.front = pow-le-pow_right (omega arith) more in
+      let group : 1 ≤ number_of (v.last ∷ []) = omega arith in
+      let product : 128 ^ length v.front * 1 ≤ 128 ^ length v.front * number_of (v.last ∷ []) = mul-le-mul_left (128 ^ length v.front) group in
+      absurd (omega arith)
+]

@@ -1,1 +1,3 @@
 pub mod Varint
+pub mod Computed
+pub mod Laws

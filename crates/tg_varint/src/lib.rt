@@ -4,9 +4,11 @@
 ghost use Rattle.std.specs.Prelude.{◌≡◌, ℕ, ◌-◌, ◌^◌, ◌<◌, ◌≤◌, ◌↔◌, List, ◌++◌, length, take, drop, replicate, IfOk, IsErrOf};
 ghost use Rattle.tg_varint.specs.Varint.{VarintSpelling, EndsInside, PassesNine, EndsInZero};
 
+mod laws;
 #[cfg(test)]
 mod tests;
 
+pub use laws::spelling_laws;
 use thiserror::Error;
 
 // The place of the last byte of the longest spelling.
@@ -16,13 +18,13 @@ const LAST: usize = 8;
 #[derive(Clone, Copy, Debug, PartialEq, Eq, Error)]
 pub enum VarintFault {
     /// The bytes end inside a spelling.
-    #[error("the varint is cut short")]
+    #[error("Short")]
     Short,
     /// Nine bytes stand with the high bit set in each.
-    #[error("the varint has more than nine bytes")]
+    #[error("TooLong")]
     TooLong,
     /// A spelling of at least two bytes ends in a zero byte.
-    #[error("the varint isn't the shortest spelling of its number")]
+    #[error("NotShortest")]
     NotShortest,
 }
 
@@ -77,11 +79,3 @@ pub fn write(number: u64) -> ([u8; 9], usize)
     spelling[at] = rest as u8;
     (spelling, at + 1)
 }
-
-/// A number has one spelling, and no spelling begins another: what was written is read again, whatever follows it.
-pub fn one_spelling()
-    ensures same_number { (m : ℕ) (a b : List ℕ) → VarintSpelling m a → VarintSpelling m b → a ≡ b }
-    ensures no_front { (m n : ℕ) (a b x y : List ℕ) → VarintSpelling m a → VarintSpelling n b → a ++ x ≡ b ++ y
-        → (a ≡ b) × (m ≡ n) }
-    ensures below { (m : ℕ) (a : List ℕ) → VarintSpelling m a → m < 2 ^ 63 }
-{}

@@ -1,5 +1,5 @@
 use Rattle.std.proofs.Common.{refl}
-use Rattle.tg_base32.proofs.Laws.{one_reading}
+use Rattle.tg_base32.proofs.Texts.{one_reading}
 use Rattle.tg_base32.proofs.Reading.{readable, falsehood, spelled, spelled_length, spelled_tail, none_outside}
 use Rattle.tg_base32.proofs.decode.Goals as goal
 
@@ -18,8 +18,8 @@ returns-then-has_tail-clause-bad_char c = λ at. (λ e. absurd cc, λ h. absurd 
 pub returns-in_err-bytes_of-clause-memory : goal.returns-in_err-bytes_of-clause-memory
 returns-in_err-bytes_of-clause-memory c = λ _. readable c.args.text.now c.in_default.ensures (λ n. falsehood (c.if-is_no_length.ensures.1 n)) (λ a. falsehood (c.if-has_tail.ensures.1 a))
 
-pub returns-clause-ok : goal.returns-clause-ok
-returns-clause-ok c = spelled c.args.text.now c.in_ok-bytes_of.field-0.items c.in_default.ensures (λ n. falsehood (c.if-is_no_length.ensures.1 n)) (λ a. falsehood (c.if-has_tail.ensures.1 a)) c.in_ok-bytes_of.ensures
+pub returns-clause-found : goal.returns-clause-found
+returns-clause-found c = spelled c.args.text.now c.in_ok-bytes_of.field-0.items c.in_default.ensures (λ n. falsehood (c.if-is_no_length.ensures.1 n)) (λ a. falsehood (c.if-has_tail.ensures.1 a)) c.in_ok-bytes_of.ensures
 
 pub returns-clause-only : goal.returns-clause-only
 returns-clause-only c = λ bytes h. one_reading c.args.text.now c.in_ok-bytes_of.field-0.items bytes

@@ -1,5 +1,5 @@
 use Rattle.std.proofs.Common.{ℕ, ◌*◌, ◌%◌, ◌^◌, length, ap, sym}
-use Rattle.tg_base32.proofs.Laws.{last_bits, not_zero}
+use Rattle.tg_base32.proofs.Texts.{last_bits, not_zero}
 use Rattle.tg_base32.proofs.has_tail.Goals as goal
 
 pub returns-in-Some : goal.returns-in-Some

@@ -1,6 +1,6 @@
 use Rattle.std.proofs.Common.{◌≡◌, ◌+◌, ◌-◌, ◌*◌, ◌/◌, ◌^◌, ◌<◌, arith}
 use Rattle.tg_base32.specs.Base32.{value_of}
-use Rattle.tg_base32.proofs.Laws.{value_below}
+use Rattle.tg_base32.proofs.Texts.{value_below}
 use Rattle.tg_base32.proofs.Reading.{stays, goes}
 use Rattle.tg_base32.proofs.Steps.{mask, high_below}
 use Rattle.tg_base32.proofs.take_letter.Goals as goal

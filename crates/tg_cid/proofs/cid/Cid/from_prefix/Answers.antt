@@ -12,8 +12,8 @@ returns-in-18 c =
     let bytes = c.args.bytes.now in
     let are_bytes : All (λ b. b < 256) bytes = All-from_get_or (λ b. b < 256) bytes 0 (λ i l. omega (arith, c.type_inv.bytes i)) in
     let first : get_or bytes 0 0 ≡ 0x12 = omega arith in
-    let a = answers bytes _ are_bytes (lone (lone_is bytes (omega arith) first) refl) in
-    record { found = a.found; only = a.only; refused = a.refused }
+    let a = answers c.spelling_laws.ensures bytes _ are_bytes (lone (lone_is bytes (omega arith) first) refl) in
+    record { found = a.found; only = a.only; cause = a.cause; given = a.given }
 
 pub returns-in-18-2 : goal.returns-in-18-2
 returns-in-18-2 c =
@@ -21,8 +21,8 @@ returns-in-18-2 c =
     let are_bytes : All (λ b. b < 256) bytes = All-from_get_or (λ b. b < 256) bytes 0 (λ i l. omega (arith, c.type_inv.bytes i)) in
     let first : get_or bytes 0 0 ≡ 0x12 = omega arith in
     let second : get_or bytes 1 0 ≡ 0x20 = omega arith in
-    let a = answers bytes _ are_bytes (zero_version _ (zero_is bytes (omega arith) first second) c.with_digest.ensures) in
-    record { found = a.found; only = a.only; refused = a.refused }
+    let a = answers c.spelling_laws.ensures bytes _ are_bytes (zero_version _ (zero_is bytes (omega arith) first second) c.with_digest.ensures) in
+    record { found = a.found; only = a.only; cause = a.cause; given = a.given }
 
 pub returns-in_default : goal.returns-in_default
 returns-in_default c =
@@ -34,5 +34,5 @@ returns-in_default c =
       | in_default-via-else-bytes-lt1+else-bytes-lt2+in-18+in_default-1 w ↦ not_zero bytes (λ l e. omega (arith, ltb-true, ltb-false)) (λ l e h. omega (arith, ltb-true, ltb-false))
       | in_default-via-else-bytes-lt1+else-bytes-lt2+in_default-1 w ↦ not_zero bytes (λ l e. omega (arith, ltb-true, ltb-false)) (λ l e h. omega (arith, ltb-true, ltb-false))
     ] in
-    let a = answers bytes c.version_one.result are_bytes (one other c.version_one.ensures) in
-    record { found = a.found; only = a.only; refused = a.refused }
+    let a = answers c.spelling_laws.ensures bytes c.version_one.result are_bytes (one other c.version_one.ensures) in
+    record { found = a.found; only = a.only; cause = a.cause; given = a.given }

@@ -24,8 +24,8 @@ returns-in-18 c =
     let bytes = c.as_slice-bytes.result.now in
     let first : get_or text 0 0 ≡ 98 = omega arith in
     let here : get_or bytes 0 0 ≡ 0x12 = omega arith in
-    let spelled = subst (Base32Text letters) (sym c.as_slice-bytes.ensures.value) c.in_ok-bytes.ensures.ok in
-    let a = as_zero text letters bytes (drop 1 bytes) (begins_rest text 98 c.in-98.len_at_least first) spelled
+    let spelled = subst (Base32Text letters) (sym c.as_slice-bytes.ensures.value) c.in_ok-bytes.ensures.found in
+    let a = as_zero c.spelling_laws.ensures c.text_laws.ensures text letters bytes (drop 1 bytes) (begins_rest text 98 c.in-98.len_at_least first) spelled
     (begins_with bytes 0x12 c.in-18.len_at_least here) in
     record { found = a.found; only = a.only; cause = a.cause; given = a.given }
 
@@ -35,12 +35,12 @@ returns c =
     let letters = take (length text - 1) (drop 1 text) in
     let bytes = c.as_slice-bytes.result.now in
     let first : get_or text 0 0 ≡ 98 = omega arith in
-    let spelled = subst (Base32Text letters) (sym c.as_slice-bytes.ensures.value) c.in_ok-bytes.ensures.ok in
+    let spelled = subst (Base32Text letters) (sym c.as_slice-bytes.ensures.value) c.in_ok-bytes.ensures.found in
     let other : (rest : List ℕ) → bytes ≡ 0x12 ∷ rest → ⊥ = elim c.in_default-bytes.branch [
       | in_default-bytes-via-then-bytes-lt1 w ↦ begins_other bytes 0x12 (λ l h. omega (arith, ltb-true, ltb-false))
       | in_default-bytes-via-else-bytes-lt1+in_default-1 w ↦ begins_other bytes 0x12 (λ l h. omega (arith, ltb-true, ltb-false))
     ] in
     let e = c.from_bytes.ensures in
-    let a = by_bytes text letters bytes c.from_bytes.result (begins_rest text 98 c.in-98.len_at_least first) spelled other
-    (record { found = e.found; only = e.only; refused = e.refused }) in
+    let a = by_bytes c.text_laws.ensures text letters bytes c.from_bytes.result (begins_rest text 98 c.in-98.len_at_least first) spelled other
+    (record { found = e.found; only = e.only; cause = e.cause; given = e.given }) in
     record { found = a.found; only = a.only; cause = a.cause; given = a.given }

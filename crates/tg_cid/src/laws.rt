@@ -1,0 +1,45 @@
+//! The laws of CIDs, for proofs.
+ghost use Rattle.std.specs.Prelude.{◌≡◌, ℕ, ◌≤◌, ◌↔◌, List, ◌++◌, length, IsTrue};
+ghost use Rattle.tg_cid.specs.Cid.{CidParts};
+ghost use Rattle.tg_cid.specs.Limits.{max_digest_len};
+ghost use Rattle.tg_cid.specs.Names.{Names};
+ghost use Rattle.tg_cid.specs.Spelling.{CidBytes, CidText, IsDigestSize};
+
+use crate::cid::Cid;
+use std::hash::Hash;
+
+/// No CID's bytes begin another's, a CID is spelled by one list of bytes, and a CIDv1 has one text, which is that of no
+/// other.
+///
+/// CID specification; multihash; multibase.
+pub fn one_spelling()
+    ensures no_front { (a b : CidParts) (u v x y : List ℕ) → CidBytes a u → CidBytes b v → u ++ x ≡ v ++ y → (u ≡ v) × (a ≡ b) }
+    ensures one_bytes { (a : CidParts) (u v : List ℕ) → CidBytes a u → CidBytes a v → u ≡ v }
+    ensures one_text { (a : CidParts) (s t : List ℕ) → CidText a s → CidText a t → s ≡ t }
+    ensures one_cid { (a b : CidParts) (t : List ℕ) → CidText a t → CidText b t → a ≡ b }
+{
+    tg_varint::spelling_laws();
+    tg_base32::text_laws();
+}
+
+/// A CID that is spelled has a digest of the size that its hash gives, 32 bytes for sha2-256 and at most 128 for any; and
+/// that a CID names a block has one proof.
+///
+/// CID specification; multihash; FIPS 180-4.
+pub fn digest_laws()
+    ensures size { (cid : CidParts) (bytes : List ℕ) → CidBytes cid bytes → IsDigestSize cid.hash (length cid.digest) }
+    ensures most { (cid : CidParts) (bytes : List ℕ) → CidBytes cid bytes → length cid.digest ≤ max_digest_len }
+    ensures one_name { (cid : CidParts) (block : List ℕ) (p q : Names cid block) → p ≡ q }
+{}
+
+/// Two CIDs are equal exactly where their four parts are. A map whose keys are CIDs looks them up so.
+pub fn equality()
+    ensures { (a b : CidParts) → IsTrue (⟦<Cid as PartialEq>⟧.eq a b) ↔ (a ≡ b) }
+{}
+
+/// Equal CIDs feed a hasher the same bytes.
+pub fn hashing()
+    ensures { (a b : CidParts) → IsTrue (⟦<Cid as PartialEq>⟧.eq a b) → ⟦<Cid as Hash>⟧.hash_input a ≡ ⟦<Cid as Hash>⟧.hash_input b }
+{
+    equality();
+}
