@@ -1,5 +1,5 @@
 -- Worked values, so that a wrong definition does not check.
-use Rattle.std.proofs.Common.{◌≡◌, ℕ, List, [], ◌∷◌, Some, None, Ok, Err, refl}
+use Rattle.std.proofs.Common.{◌≡◌, [], ◌∷◌, Some, None, Ok, Err, refl}
 use Rattle.tg_pbtable.specs.declared.fault.PbFault.TheVariants as faults
 use Rattle.tg_pbtable.specs.Computed.{fields_of}
 use Rattle.tg_dagpb.specs.Computed.{link_in, node_of}

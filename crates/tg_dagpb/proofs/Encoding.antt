@@ -1,8 +1,9 @@
 -- The fields that a writer makes of a link and of a node are theirs, and the text that is written is too.
-use Rattle.std.proofs.Common.{◌≡◌, ◌≢◌, ℕ, zero, suc, ◌+◌, ◌<◌, ◌≤◌, Option, Some, None, List, [], ◌∷◌, ◌++◌, length, get_or, refl, sym, ap, ap₂, ◌∙◌, append_assoc, subst, arith, length-append}
+use Rattle.std.proofs.Common.{◌≡◌, ◌≢◌, ℕ, zero, suc, ◌+◌, ◌-◌, ◌<◌, ◌≤◌, Option, Some, None, List, [], ◌∷◌, ◌++◌, length, take, get_or, refl, sym, ap, ap₂, ◌∙◌, append_assoc, subst, arith, length-append}
 use Rattle.std.specs.Prelude.{All, slice_range}
 use Rattle.std.specs.List.Sorted.{IsNonDecreasing}
-use Rattle.std.proofs.lemmas.List.{append-nil}
+use Rattle.std.proofs.lemmas.List.{append-nil, take_at, drop_at, get_or_default}
+use Rattle.std.proofs.lemmas.List.Sorted.{IsNonDecreasingBy-push}
 use Rattle.std.proofs.lemmas.List.Elements.{All-nil, All-cons, All-head, All-tail, All-append}
 use Rattle.tg_pbtable.specs.declared.table.Rule.{Rule}
 use Rattle.tg_pbtable.specs.declared.table.Wire.TheVariants.{Varint, Bytes}
@@ -13,9 +14,7 @@ use Rattle.tg_pbtable.specs.declared.table.Order.TheVariants.{Ascending, Runs}
 use Rattle.tg_pbtable.specs.Message.{Message, HasRule, AreRuled, IsCount, IsInOrder, count_of, numbers_of, wire_of}
 use Rattle.tg_pbtable.specs.Emitted.{LiesIn, AreSameFields}
 use Rattle.tg_pbtable.specs.Values.{number_in, bytes_in, numbers_at, bytes_at, listed}
-use Rattle.tg_pbtable.proofs.Spellings.{range_at}
-use Rattle.tg_pbtable.proofs.Numbers.{rises}
-use Rattle.tg_pbtable.proofs.Values.{numbers_append, bytes_append, bytes_here, numbers_here, no_numbers_in, no_bytes_in, all_bytes, all_numbers}
+use Rattle.tg_pbtable.specs.Laws.{TableLaws}
 use Rattle.tg_dagpb.specs.declared.TheConstants.{NODE, LINK}
 use Rattle.tg_dagpb.specs.declared.Link.{Link}
 use Rattle.tg_dagpb.specs.declared.Node.{Node}
@@ -27,6 +26,11 @@ use Rattle.tg_dagpb.proofs.Orders.{Halves, longer, halves_together, first_links}
 use Rattle.tg_dagpb.proofs.Gathering.{texts_append}
 
 -- ---- fields of bytes one behind another
+
+between : (a b c : List ℕ) (start end : ℕ) → start ≡ length a → end ≡ start + length b → slice_range (a ++ (b ++ c)) start end ≡ b
+between a b c start end s e =
+    let size : length b ≡ end - start = omega arith in
+    ap (take (end - start)) (drop_at a (b ++ c) start (sym s)) ∙ take_at b c (end - start) size
 
 spans_number : (n at : ℕ) (texts : List (List ℕ)) → All (λ (f : Field). f.number ≡ n) (spans n at texts)
 spans_number n at [] = All-nil (λ (f : Field). f.number ≡ n)
@@ -46,19 +50,19 @@ spans_inside source n at (t ∷ ts) l =
     let size : length (t ++ joined ts) ≡ length t + length (joined ts) = length-append t (joined ts) in
     All-cons (λ (f : Field). LiesIn source f.value) (record { number = n; value = Place at (at + length t) }) (spans n (at + length t) ts) (omega arith, omega arith) (spans_inside source n (at + length t) ts (omega arith))
 
-spans_none : (k n at : ℕ) (texts : List (List ℕ)) → numbers_at k (spans n at texts) ≡ []
-spans_none k n at texts = no_numbers_in k (spans n at texts) (λ i d l e. spans_places n at texts i d l)
+spans_none : (laws : TableLaws) → (k n at : ℕ) (texts : List (List ℕ)) → numbers_at k (spans n at texts) ≡ []
+spans_none laws k n at texts = laws.values.no_numbers k (spans n at texts) (λ i d l e. spans_places n at texts i d l)
 
-spans_other : (source : List ℕ) (m n at : ℕ) (texts : List (List ℕ)) → m ≢ n → bytes_at source m (spans n at texts) ≡ []
-spans_other source m n at texts ne = no_bytes_in source m (spans n at texts) (λ i d l e. absurd (ne (sym e ∙ spans_number n at texts i d l)))
+spans_other : (laws : TableLaws) → (source : List ℕ) (m n at : ℕ) (texts : List (List ℕ)) → m ≢ n → bytes_at source m (spans n at texts) ≡ []
+spans_other laws source m n at texts ne = laws.values.no_bytes source m (spans n at texts) (λ i d l e. absurd (ne (sym e ∙ spans_number n at texts i d l)))
 
-spans_bytes : (source front : List ℕ) (n at : ℕ) (texts : List (List ℕ)) (back : List ℕ) → source ≡ front ++ (joined texts ++ back) → at ≡ length front → bytes_at source n (spans n at texts) ≡ texts
-spans_bytes source front n at [] back w e = refl
-spans_bytes source front n at (t ∷ ts) back w e =
+spans_bytes : (laws : TableLaws) → (source front : List ℕ) (n at : ℕ) (texts : List (List ℕ)) (back : List ℕ) → source ≡ front ++ (joined texts ++ back) → at ≡ length front → bytes_at source n (spans n at texts) ≡ texts
+spans_bytes laws source front n at [] back w e = refl
+spans_bytes laws source front n at (t ∷ ts) back w e =
     let whole : source ≡ front ++ (t ++ (joined ts ++ back)) = w ∙ ap (λ (x : List ℕ). front ++ x) (append_assoc t (joined ts) back) in
-    let here : slice_range source at (at + length t) ≡ t = ap (λ (x : List ℕ). slice_range x at (at + length t)) whole ∙ range_at front t (joined ts ++ back) at (at + length t) e refl in
-    let rest = spans_bytes source (front ++ t) n (at + length t) ts back (whole ∙ sym (append_assoc front t (joined ts ++ back))) (omega (arith, length-append front t)) in
-    bytes_here source n (record { number = n; value = Place at (at + length t) }) (spans n (at + length t) ts) refl
+    let here : slice_range source at (at + length t) ≡ t = ap (λ (x : List ℕ). slice_range x at (at + length t)) whole ∙ between front t (joined ts ++ back) at (at + length t) e refl in
+    let rest = spans_bytes laws source (front ++ t) n (at + length t) ts back (whole ∙ sym (append_assoc front t (joined ts ++ back))) (omega (arith, length-append front t)) in
+    laws.values.bytes_here source n (record { number = n; value = Place at (at + length t) }) (spans n (at + length t) ts) refl
     ∙ ap₂ (λ (x : List ℕ) (xs : List (List ℕ)). x ∷ xs) here rest
 
 spans_push : (n at : ℕ) (ts : List (List ℕ)) (t : List ℕ) → spans n at (ts ++ t ∷ []) ≡ spans n at ts ++ spans n (at + length (joined ts)) (t ∷ [])
@@ -85,12 +89,12 @@ sizes_empty : (source : List ℕ) (n : ℕ) (values : List ℕ) → All (λ (f :
 sizes_empty source n [] = All-nil (λ (f : Field). bytes_in source f.value ≡ [])
 sizes_empty source n (v ∷ vs) = All-cons (λ (f : Field). bytes_in source f.value ≡ []) (record { number = n; value = Number v }) (sizes n vs) refl (sizes_empty source n vs)
 
-sizes_none : (source : List ℕ) (k n : ℕ) (values : List ℕ) → bytes_at source k (sizes n values) ≡ []
-sizes_none source k n values = no_bytes_in source k (sizes n values) (λ i d l e. sizes_empty source n values i d l)
+sizes_none : (laws : TableLaws) → (source : List ℕ) (k n : ℕ) (values : List ℕ) → bytes_at source k (sizes n values) ≡ []
+sizes_none laws source k n values = laws.values.no_bytes source k (sizes n values) (λ i d l e. sizes_empty source n values i d l)
 
-sizes_values : (n : ℕ) (values : List ℕ) → numbers_at n (sizes n values) ≡ values
-sizes_values n [] = refl
-sizes_values n (v ∷ vs) = numbers_here n (record { number = n; value = Number v }) (sizes n vs) refl ∙ ap (λ (xs : List ℕ). v ∷ xs) (sizes_values n vs)
+sizes_values : (laws : TableLaws) → (n : ℕ) (values : List ℕ) → numbers_at n (sizes n values) ≡ values
+sizes_values laws n [] = refl
+sizes_values laws n (v ∷ vs) = laws.values.numbers_here n (record { number = n; value = Number v }) (sizes n vs) refl ∙ ap (λ (xs : List ℕ). v ∷ xs) (sizes_values laws n vs)
 
 -- ---- the fields of a link
 
@@ -100,35 +104,35 @@ link_source link = joined (link.hash ∷ []) ++ joined (listed link.name)
 abbrev pub link_fields : Link → List Field
 link_fields link = (spans 1 0 (link.hash ∷ []) ++ spans 2 (length (joined (link.hash ∷ []))) (listed link.name)) ++ sizes 3 (listed link.tsize)
 
-three_bytes : (s : List ℕ) (n : ℕ) (xs ys zs : List Field) → bytes_at s n ((xs ++ ys) ++ zs) ≡ (bytes_at s n xs ++ bytes_at s n ys) ++ bytes_at s n zs
-three_bytes s n xs ys zs = bytes_append s n (xs ++ ys) zs ∙ ap (λ (t : List (List ℕ)). t ++ bytes_at s n zs) (bytes_append s n xs ys)
+three_bytes : (laws : TableLaws) → (s : List ℕ) (n : ℕ) (xs ys zs : List Field) → bytes_at s n ((xs ++ ys) ++ zs) ≡ (bytes_at s n xs ++ bytes_at s n ys) ++ bytes_at s n zs
+three_bytes laws s n xs ys zs = laws.values.bytes_append s n (xs ++ ys) zs ∙ ap (λ (t : List (List ℕ)). t ++ bytes_at s n zs) (laws.values.bytes_append s n xs ys)
 
-three_numbers : (n : ℕ) (xs ys zs : List Field) → numbers_at n ((xs ++ ys) ++ zs) ≡ (numbers_at n xs ++ numbers_at n ys) ++ numbers_at n zs
-three_numbers n xs ys zs = numbers_append n (xs ++ ys) zs ∙ ap (λ (t : List ℕ). t ++ numbers_at n zs) (numbers_append n xs ys)
+three_numbers : (laws : TableLaws) → (n : ℕ) (xs ys zs : List Field) → numbers_at n ((xs ++ ys) ++ zs) ≡ (numbers_at n xs ++ numbers_at n ys) ++ numbers_at n zs
+three_numbers laws n xs ys zs = laws.values.numbers_append n (xs ++ ys) zs ∙ ap (λ (t : List ℕ). t ++ numbers_at n zs) (laws.values.numbers_append n xs ys)
 
 joined_three : {A : Type 0} (x y z a b c : List A) → x ≡ a → y ≡ b → z ≡ c → (x ++ y) ++ z ≡ (a ++ b) ++ c
 joined_three x y z a b c p q r = rw (p, q, r) refl
 
-link_parts : (link : Link) → HasLinkParts (link_source link) (link_fields link) link
-link_parts link =
+link_parts : (laws : TableLaws) → (link : Link) → HasLinkParts (link_source link) (link_fields link) link
+link_parts laws link =
     let s = link_source link in
     let hash = joined (link.hash ∷ []) in
     let xs = spans 1 0 (link.hash ∷ []) in
     let ys = spans 2 (length hash) (listed link.name) in
     let zs = sizes 3 (listed link.tsize) in
     record {
-      hash = three_bytes s 1 xs ys zs
+      hash = three_bytes laws s 1 xs ys zs
           ∙ joined_three (bytes_at s 1 xs) (bytes_at s 1 ys) (bytes_at s 1 zs) (link.hash ∷ []) [] []
-          (spans_bytes s [] 1 0 (link.hash ∷ []) (joined (listed link.name)) refl refl) (spans_other s 1 2 (length hash) (listed link.name) (omega arith)) (sizes_none s 1 3 (listed link.tsize));
-      name = three_bytes s 2 xs ys zs
+          (spans_bytes laws s [] 1 0 (link.hash ∷ []) (joined (listed link.name)) refl refl) (spans_other laws s 1 2 (length hash) (listed link.name) (omega arith)) (sizes_none laws s 1 3 (listed link.tsize));
+      name = three_bytes laws s 2 xs ys zs
           ∙ joined_three (bytes_at s 2 xs) (bytes_at s 2 ys) (bytes_at s 2 zs) [] (listed link.name) []
-          (spans_other s 2 1 0 (link.hash ∷ []) (omega arith))
-          (spans_bytes s hash 2 (length hash) (listed link.name) [] (ap (λ (t : List ℕ). hash ++ t) (sym (append-nil (joined (listed link.name))))) refl)
-          (sizes_none s 2 3 (listed link.tsize))
+          (spans_other laws s 2 1 0 (link.hash ∷ []) (omega arith))
+          (spans_bytes laws s hash 2 (length hash) (listed link.name) [] (ap (λ (t : List ℕ). hash ++ t) (sym (append-nil (joined (listed link.name))))) refl)
+          (sizes_none laws s 2 3 (listed link.tsize))
           ∙ append-nil (listed link.name);
-      tsize = three_numbers 3 xs ys zs
+      tsize = three_numbers laws 3 xs ys zs
           ∙ joined_three (numbers_at 3 xs) (numbers_at 3 ys) (numbers_at 3 zs) [] [] (listed link.tsize)
-          (spans_none 3 1 0 (link.hash ∷ [])) (spans_none 3 2 (length hash) (listed link.name)) (sizes_values 3 (listed link.tsize));
+          (spans_none laws 3 1 0 (link.hash ∷ [])) (spans_none laws 3 2 (length hash) (listed link.name)) (sizes_values laws 3 (listed link.tsize));
     }
 
 pub link_ruled : (link : Link) → AreRuled LINK.now (link_fields link)
@@ -157,15 +161,18 @@ few : {A : Type 0} (o : Option A) → length (listed o) ≤ 1
 few None = omega arith
 few (Some x) = omega arith
 
-link_counts : (link : Link) (k : ℕ) (d : Rule) → k < 3 → IsCount (get_or LINK.now k d).times (count_of (link_fields link) (get_or LINK.now k d).number)
-link_counts link zero d l = sym (all_bytes LINK.now (link_source link) 1 (link_fields link) link_table (link_rule 0 (omega arith)) (link_ruled link)) ∙ ap length (link_parts link).hash
-link_counts link (suc zero) d l =
-    let e : length (listed link.name) ≡ count_of (link_fields link) 2 = sym (ap length (link_parts link).name) ∙ all_bytes LINK.now (link_source link) 2 (link_fields link) link_table (link_rule 1 (omega arith)) (link_ruled link) in
+link_counts : (laws : TableLaws) → (link : Link) (k : ℕ) (d : Rule) → k < 3 → IsCount (get_or LINK.now k d).times (count_of (link_fields link) (get_or LINK.now k d).number)
+link_counts laws link zero d l = sym (laws.values.all_bytes LINK.now (link_source link) 1 (link_fields link) (link_table laws) (link_rule 0 (omega arith)) (link_ruled link)) ∙ ap length (link_parts laws link).hash
+link_counts laws link (suc zero) d l =
+    let e : length (listed link.name) ≡ count_of (link_fields link) 2 = sym (ap length (link_parts laws link).name) ∙ laws.values.all_bytes LINK.now (link_source link) 2 (link_fields link) (link_table laws) (link_rule 1 (omega arith)) (link_ruled link) in
     omega (arith, few link.name)
-link_counts link (suc (suc zero)) d l =
-    let e : length (listed link.tsize) ≡ count_of (link_fields link) 3 = sym (ap length (link_parts link).tsize) ∙ all_numbers LINK.now 3 (link_fields link) link_table (link_rule 2 (omega arith)) (link_ruled link) in
+link_counts laws link (suc (suc zero)) d l =
+    let e : length (listed link.tsize) ≡ count_of (link_fields link) 3 = sym (ap length (link_parts laws link).tsize) ∙ laws.values.all_numbers LINK.now 3 (link_fields link) (link_table laws) (link_rule 2 (omega arith)) (link_ruled link) in
     omega (arith, few link.tsize)
-link_counts link (suc (suc (suc k))) d l = absurd (omega arith)
+link_counts laws link (suc (suc (suc k))) d l = absurd (omega arith)
+
+rises : (ns : List ℕ) (n : ℕ) → IsNonDecreasing ns → (0 < length ns → get_or ns (length ns - 1) 0 ≤ n) → IsNonDecreasing (ns ++ n ∷ [])
+rises ns n h last = IsNonDecreasingBy-push (λ (x : ℕ). x) ns n h (λ d p. let e : get_or ns (length ns - 1) d ≡ get_or ns (length ns - 1) 0 = get_or_default ns (length ns - 1) d 0 (omega arith) in let l = last p in omega arith)
 
 one_rises : IsNonDecreasing (1 ∷ [])
 one_rises = rises [] 1 (λ i j d ij jl. absurd (omega arith)) (λ l. omega arith)
@@ -184,13 +191,13 @@ abbrev pub Again : List Rule → List ℕ → List Field → List ℕ → Type 0
 Again rules source fields text = (order : Order) → All (λ (rule : Rule). IsCount rule.times (count_of fields rule.number)) rules → IsInOrder order (numbers_of fields)
     → (placed : List Field) × Message rules order text placed × AreSameFields source fields text placed
 
-pub link_written : (link : Link) (text : List ℕ) → Again LINK.now (link_source link) (link_fields link) text → LinkText link text
-link_written link text again =
-    let h = again Ascending (link_counts link) (link_rises link.hash link.name link.tsize) in
+pub link_written : (laws : TableLaws) → (link : Link) (text : List ℕ) → Again LINK.now (link_source link) (link_fields link) text → LinkText link text
+link_written laws link text again =
+    let h = again Ascending (link_counts laws link) (link_rises link.hash link.name link.tsize) in
     record {
       fields = h.0;
       message = h.1;
-      parts = link_again (link_source link) text (link_fields link) h.0 link h.2 (link_parts link);
+      parts = link_again laws (link_source link) text (link_fields link) h.0 link h.2 (link_parts laws link);
     }
 
 -- what a draft holds after the hash, the name and the size are put into it
@@ -218,9 +225,9 @@ link_may link fields source d = (
       (subst (λ (s : List ℕ). All (λ (f : Field). LiesIn s f.value) (link_fields link)) (sym d.source_is) (link_inside link)),
 )
 
-pub link_done : (link : Link) (fields : List Field) (source text : List ℕ) → IsLink link fields source → Again LINK.now source fields text → LinkText link text
-link_done link fields source text d again =
-    link_written link text (subst (λ (fs : List Field). Again LINK.now (link_source link) fs text) d.fields_are (subst (λ (s : List ℕ). Again LINK.now s fields text) d.source_is again))
+pub link_done : (laws : TableLaws) → (link : Link) (fields : List Field) (source text : List ℕ) → IsLink link fields source → Again LINK.now source fields text → LinkText link text
+link_done laws link fields source text d again =
+    link_written laws link text (subst (λ (fs : List Field). Again LINK.now (link_source link) fs text) d.fields_are (subst (λ (s : List ℕ). Again LINK.now s fields text) d.source_is again))
 
 -- ---- the fields of a node
 
@@ -249,22 +256,22 @@ node_source texts payload = joined texts ++ joined (listed payload)
 abbrev pub node_fields : List (List ℕ) → Option (List ℕ) → List Field
 node_fields texts payload = spans 2 0 texts ++ spans 1 (length (joined texts)) (listed payload)
 
-node_parts : (node : Node) (texts : List (List ℕ)) → LinkTexts node.links texts → HasNodeParts (node_source texts node.payload) (node_fields texts node.payload) node
-node_parts node texts h =
+node_parts : (laws : TableLaws) → (node : Node) (texts : List (List ℕ)) → LinkTexts node.links texts → HasNodeParts (node_source texts node.payload) (node_fields texts node.payload) node
+node_parts laws node texts h =
     let s = node_source texts node.payload in
     let front = joined texts in
     let back = joined (listed node.payload) in
     let xs = spans 2 0 texts in
     let ys = spans 1 (length front) (listed node.payload) in
     let links : bytes_at s 2 (xs ++ ys) ≡ texts =
-    bytes_append s 2 xs ys
-    ∙ ap₂ (λ (a b : List (List ℕ)). a ++ b) (spans_bytes s [] 2 0 texts back refl refl) (spans_other s 2 1 (length front) (listed node.payload) (omega arith))
+    laws.values.bytes_append s 2 xs ys
+    ∙ ap₂ (λ (a b : List (List ℕ)). a ++ b) (spans_bytes laws s [] 2 0 texts back refl refl) (spans_other laws s 2 1 (length front) (listed node.payload) (omega arith))
     ∙ append-nil texts in
     record {
       links = subst (λ (t : List (List ℕ)). LinkTexts node.links t) (sym links) h;
-      payload = bytes_append s 1 xs ys
-          ∙ ap₂ (λ (a b : List (List ℕ)). a ++ b) (spans_other s 1 2 0 texts (omega arith))
-          (spans_bytes s front 1 (length front) (listed node.payload) [] (ap (λ (t : List ℕ). front ++ t) (sym (append-nil back))) refl);
+      payload = laws.values.bytes_append s 1 xs ys
+          ∙ ap₂ (λ (a b : List (List ℕ)). a ++ b) (spans_other laws s 1 2 0 texts (omega arith))
+          (spans_bytes laws s front 1 (length front) (listed node.payload) [] (ap (λ (t : List ℕ). front ++ t) (sym (append-nil back))) refl);
     }
 
 node_ruled : (texts : List (List ℕ)) (payload : Option (List ℕ)) → AreRuled NODE.now (node_fields texts payload)
@@ -280,13 +287,13 @@ node_inside texts payload =
     All-append (λ (f : Field). LiesIn s f.value) (spans 2 0 texts) (spans 1 (length front) (listed payload))
     (spans_inside s 2 0 texts (omega arith)) (spans_inside s 1 (length front) (listed payload) (omega arith))
 
-node_counts : (node : Node) (texts : List (List ℕ)) → LinkTexts node.links texts → (k : ℕ) (d : Rule) → k < 2 → IsCount (get_or NODE.now k d).times (count_of (node_fields texts node.payload) (get_or NODE.now k d).number)
-node_counts node texts h zero d l =
+node_counts : (laws : TableLaws) → (node : Node) (texts : List (List ℕ)) → LinkTexts node.links texts → (k : ℕ) (d : Rule) → k < 2 → IsCount (get_or NODE.now k d).times (count_of (node_fields texts node.payload) (get_or NODE.now k d).number)
+node_counts laws node texts h zero d l =
     let e : length (listed node.payload) ≡ count_of (node_fields texts node.payload) 1 =
-    sym (ap length (node_parts node texts h).payload) ∙ all_bytes NODE.now (node_source texts node.payload) 1 (node_fields texts node.payload) node_table (node_rule 0 (omega arith)) (node_ruled texts node.payload) in
+    sym (ap length (node_parts laws node texts h).payload) ∙ laws.values.all_bytes NODE.now (node_source texts node.payload) 1 (node_fields texts node.payload) (node_table laws) (node_rule 0 (omega arith)) (node_ruled texts node.payload) in
     omega (arith, few node.payload)
-node_counts node texts h (suc zero) d l = tt
-node_counts node texts h (suc (suc k)) d l = absurd (omega arith)
+node_counts laws node texts h (suc zero) d l = tt
+node_counts laws node texts h (suc (suc k)) d l = absurd (omega arith)
 
 abbrev node_halves : (texts : List (List ℕ)) (payload : Option (List ℕ)) → Halves 2 1 (node_fields texts payload)
 node_halves texts payload = record {
@@ -312,14 +319,14 @@ same_halves m n s t (f ∷ front) rest (g ∷ gs) same a b =
     let P = λ (x : Field). x.number ≡ m in
     longer m n g gs (sym same.0 ∙ All-head P f front a) (same_halves m n s t front rest gs same.2 (All-tail P f front a) b)
 
-node_written : (node : Node) (texts : List (List ℕ)) (text : List ℕ) → LinkTexts node.links texts → Again NODE.now (node_source texts node.payload) (node_fields texts node.payload) text → CanonicalText node text
-node_written node texts text h again =
+node_written : (laws : TableLaws) → (node : Node) (texts : List (List ℕ)) (text : List ℕ) → LinkTexts node.links texts → Again NODE.now (node_source texts node.payload) (node_fields texts node.payload) text → CanonicalText node text
+node_written laws node texts text h again =
     let s = node_source texts node.payload in
     let fs = node_fields texts node.payload in
     let halves = node_halves texts node.payload in
-    let got = again Runs (node_counts node texts h) (halves_together 2 1 fs (omega arith) halves) in
+    let got = again Runs (node_counts laws node texts h) (halves_together 2 1 fs (omega arith) halves) in
     record {
-      is_text = record { fields = got.0; message = got.1; parts = node_again s text fs got.0 node got.2 (node_parts node texts h) };
+      is_text = record { fields = got.0; message = got.1; parts = node_again laws s text fs got.0 node got.2 (node_parts laws node texts h) };
       order = first_links got.0 (same_halves 2 1 s text halves.front halves.rest got.0 got.2 halves.are_first halves.are_last);
     }
 
@@ -346,7 +353,7 @@ node_may node fields source d = (
       (subst (λ (s : List ℕ). All (λ (f : Field). LiesIn s f.value) (node_fields d.texts node.payload)) (sym d.source_is) (node_inside d.texts node.payload)),
 )
 
-pub node_done : (node : Node) (fields : List Field) (source text : List ℕ) → IsNode node fields source → Again NODE.now source fields text → CanonicalText node text
-node_done node fields source text d again =
-    node_written node d.texts text d.are_texts
+pub node_done : (laws : TableLaws) → (node : Node) (fields : List Field) (source text : List ℕ) → IsNode node fields source → Again NODE.now source fields text → CanonicalText node text
+node_done laws node fields source text d again =
+    node_written laws node d.texts text d.are_texts
     (subst (λ (fs : List Field). Again NODE.now (node_source d.texts node.payload) fs text) d.fields_are (subst (λ (s : List ℕ). Again NODE.now s fields text) d.source_is again))

@@ -1,10 +1,11 @@
-pub mod Parts
-pub mod Same
-pub mod Orders
-pub mod Gathering
-pub mod Causes
-pub mod Encoding
-pub mod Cursors
-pub mod Checking
-pub mod ComputedNode
+mod Parts
+mod Same
+mod Orders
+mod Gathering
+mod Causes
+mod Encoding
+mod Ranges
+mod Cursors
+mod Checking
+mod ComputedNode
 mod ComputedValues

@@ -1,17 +1,17 @@
 -- The two orders of a node's fields: all links before the data, and the data before all links.
 use Rattle.std.proofs.Common.{◌≡◌, ◌≢◌, ℕ, zero, suc, ◌+◌, ◌-◌, ◌<◌, ◌≤◌, ◌⊎◌, Bool, cond, List, [], ◌∷◌, ◌++◌, length, replicate, get_or, refl, sym, ap, ap₂, ◌∙◌, subst, inl, inr, arith}
-use Rattle.std.specs.Prelude.{All}
+use Rattle.std.specs.Prelude.{All, ◌==◌}
 use Rattle.std.proofs.lemmas.Bool.{cases_lt, eq-eqb}
 use Rattle.std.proofs.lemmas.List.{append-nil, map-append, length-append, length-replicate, get_or_append_left, get_or-append_right, get_or-replicate}
 use Rattle.std.proofs.lemmas.List.Elements.{All-nil, All-cons, All-head, All-tail}
+use Rattle.std.proofs.lemmas.List.Sums.{sum_by-cons}
 use Rattle.tg_pbtable.specs.declared.table.Field.{Field}
 use Rattle.tg_pbtable.specs.declared.table.Wire.TheVariants.{Bytes}
 use Rattle.tg_pbtable.specs.declared.table.Order.TheVariants.{Runs}
 use Rattle.tg_pbtable.specs.declared.table.Rule.{Rule}
 use Rattle.tg_pbtable.specs.Message.{HasRule, AreRuled, StandTogether, count_of, numbers_of, wire_of}
 use Rattle.tg_pbtable.specs.Values.{bytes_at}
-use Rattle.tg_pbtable.proofs.Numbers.{count_cons}
-use Rattle.tg_pbtable.proofs.Values.{bytes_append, no_bytes_in, all_bytes, any_order}
+use Rattle.tg_pbtable.specs.Laws.{TableLaws}
 use Rattle.tg_dagpb.specs.declared.TheConstants.{NODE}
 use Rattle.tg_dagpb.specs.declared.Node.{Node}
 use Rattle.tg_dagpb.specs.Node.{HasLinksFirst, HasDataFirst, NodeText, CanonicalText, DataFirstText}
@@ -125,26 +125,26 @@ all_counted n [] h = refl
 all_counted n (f ∷ fs) h =
     let P = λ (x : Field). x.number ≡ n in
     let rest : count_of fs n ≡ length fs = all_counted n fs (All-tail P f fs h) in
-    count_cons f fs n ∙ ap (λ (b : Bool). cond b 1 0 + count_of fs n) (eq-eqb f.number n (All-head P f fs h)) ∙ omega arith
+    sum_by-cons (λ (x : Field). cond (x.number == n) 1 0) f fs ∙ ap (λ (b : Bool). cond b 1 0 + count_of fs n) (eq-eqb f.number n (All-head P f fs h)) ∙ omega arith
 
-none_of : (text : List ℕ) (m n : ℕ) (fs : List Field) → m ≢ n → All (λ (f : Field). f.number ≡ n) fs → bytes_at text m fs ≡ []
-none_of text m n fs ne h = no_bytes_in text m fs (λ k d l e. absurd (ne (sym e ∙ h k d l)))
+none_of : (laws : TableLaws) → (text : List ℕ) (m n : ℕ) (fs : List Field) → m ≢ n → All (λ (f : Field). f.number ≡ n) fs → bytes_at text m fs ≡ []
+none_of laws text m n fs ne h = laws.values.no_bytes text m fs (λ k d l e. absurd (ne (sym e ∙ h k d l)))
 
-pub halves_bytes : (text : List ℕ) (m n : ℕ) (fs : List Field) (h : Halves m n fs) → m ≢ n → (bytes_at text m fs ≡ bytes_at text m h.front) × (bytes_at text n fs ≡ bytes_at text n h.rest)
-halves_bytes text m n fs h ne = (
-  ap (bytes_at text m) h.whole ∙ bytes_append text m h.front h.rest ∙ ap (λ (t : List (List ℕ)). bytes_at text m h.front ++ t) (none_of text m n h.rest ne h.are_last) ∙ append-nil (bytes_at text m h.front),
-  ap (bytes_at text n) h.whole ∙ bytes_append text n h.front h.rest ∙ ap (λ (t : List (List ℕ)). t ++ bytes_at text n h.rest) (none_of text n m h.front (λ e. ne (sym e)) h.are_first),
+pub halves_bytes : (laws : TableLaws) → (text : List ℕ) (m n : ℕ) (fs : List Field) (h : Halves m n fs) → m ≢ n → (bytes_at text m fs ≡ bytes_at text m h.front) × (bytes_at text n fs ≡ bytes_at text n h.rest)
+halves_bytes laws text m n fs h ne = (
+  ap (bytes_at text m) h.whole ∙ laws.values.bytes_append text m h.front h.rest ∙ ap (λ (t : List (List ℕ)). bytes_at text m h.front ++ t) (none_of laws text m n h.rest ne h.are_last) ∙ append-nil (bytes_at text m h.front),
+  ap (bytes_at text n) h.whole ∙ laws.values.bytes_append text n h.front h.rest ∙ ap (λ (t : List (List ℕ)). t ++ bytes_at text n h.rest) (none_of laws text n m h.front (λ e. ne (sym e)) h.are_first),
 )
 
 -- the numbers of a node's fields in one of the orders
-pub halves_values : (text : List ℕ) (m n : ℕ) (fs : List Field) (h : Halves m n fs) → m ≢ n → HasRule NODE.now m Bytes → HasRule NODE.now n Bytes → AreRuled NODE.now fs
+pub halves_values : (laws : TableLaws) → (text : List ℕ) (m n : ℕ) (fs : List Field) (h : Halves m n fs) → m ≢ n → HasRule NODE.now m Bytes → HasRule NODE.now n Bytes → AreRuled NODE.now fs
     → numbers_of fs ≡ replicate (length (bytes_at text m fs)) m ++ replicate (length (bytes_at text n fs)) n
-halves_values text m n fs h ne rm rn ruled =
+halves_values laws text m n fs h ne rm rn ruled =
     let P = λ (x : Field). HasRule NODE.now x.number (wire_of x.value) in
     let both = All-split P h.front h.rest (subst (λ (x : List Field). All P x) h.whole ruled) in
-    let bytes = halves_bytes text m n fs h ne in
-    let first : length (bytes_at text m fs) ≡ length h.front = ap length bytes.0 ∙ all_bytes NODE.now text m h.front node_table rm both.0 ∙ all_counted m h.front h.are_first in
-    let last : length (bytes_at text n fs) ≡ length h.rest = ap length bytes.1 ∙ all_bytes NODE.now text n h.rest node_table rn both.1 ∙ all_counted n h.rest h.are_last in
+    let bytes = halves_bytes laws text m n fs h ne in
+    let first : length (bytes_at text m fs) ≡ length h.front = ap length bytes.0 ∙ laws.values.all_bytes NODE.now text m h.front (node_table laws) rm both.0 ∙ all_counted m h.front h.are_first in
+    let last : length (bytes_at text n fs) ≡ length h.rest = ap length bytes.1 ∙ laws.values.all_bytes NODE.now text n h.rest (node_table laws) rn both.1 ∙ all_counted n h.rest h.are_last in
     halves_numbers m n fs h ∙ ap₂ (λ (a b : ℕ). replicate a m ++ replicate b n) (sym first) (sym last)
 
 -- ---- a node's fields
@@ -182,24 +182,24 @@ ruled_one = node_rule 0 (omega arith)
 ruled_two : HasRule NODE.now 2 Bytes
 ruled_two = node_rule 1 (omega arith)
 
-pub one_canonical : (node : Node) (s t : List ℕ) → CanonicalText node s → CanonicalText node t → s ≡ t
-one_canonical node s t p q =
+pub one_canonical : (laws : TableLaws) → (node : Node) (s t : List ℕ) → CanonicalText node s → CanonicalText node t → s ≡ t
+one_canonical laws node s t p q =
     let a = p.is_text in
     let b = q.is_text in
-    let values = texts_alike node s t a b in
+    let values = texts_alike laws node s t a b in
     let numbers : numbers_of a.fields ≡ numbers_of b.fields =
-    halves_values s 2 1 a.fields (links_first a.fields p.order) (omega arith) ruled_two ruled_one a.message.ruled
+    halves_values laws s 2 1 a.fields (links_first a.fields p.order) (omega arith) ruled_two ruled_one a.message.ruled
     ∙ ap₂ (λ (x y : List (List ℕ)). replicate (length x) 2 ++ replicate (length y) 1) (values.bytes 2) (values.bytes 1)
-    ∙ sym (halves_values t 2 1 b.fields (links_first b.fields q.order) (omega arith) ruled_two ruled_one b.message.ruled) in
-    any_order NODE.now Runs s t a.fields b.fields node_table a.message b.message numbers values
+    ∙ sym (halves_values laws t 2 1 b.fields (links_first b.fields q.order) (omega arith) ruled_two ruled_one b.message.ruled) in
+    laws.messages.any_order NODE.now Runs s t a.fields b.fields (node_table laws) a.message b.message numbers values
 
-pub one_data_first : (node : Node) (s t : List ℕ) → DataFirstText node s → DataFirstText node t → s ≡ t
-one_data_first node s t p q =
+pub one_data_first : (laws : TableLaws) → (node : Node) (s t : List ℕ) → DataFirstText node s → DataFirstText node t → s ≡ t
+one_data_first laws node s t p q =
     let a = p.is_text in
     let b = q.is_text in
-    let values = texts_alike node s t a b in
+    let values = texts_alike laws node s t a b in
     let numbers : numbers_of a.fields ≡ numbers_of b.fields =
-    halves_values s 1 2 a.fields (data_first a.fields p.order) (omega arith) ruled_one ruled_two a.message.ruled
+    halves_values laws s 1 2 a.fields (data_first a.fields p.order) (omega arith) ruled_one ruled_two a.message.ruled
     ∙ ap₂ (λ (x y : List (List ℕ)). replicate (length x) 1 ++ replicate (length y) 2) (values.bytes 1) (values.bytes 2)
-    ∙ sym (halves_values t 1 2 b.fields (data_first b.fields q.order) (omega arith) ruled_one ruled_two b.message.ruled) in
-    any_order NODE.now Runs s t a.fields b.fields node_table a.message b.message numbers values
+    ∙ sym (halves_values laws t 1 2 b.fields (data_first b.fields q.order) (omega arith) ruled_one ruled_two b.message.ruled) in
+    laws.messages.any_order NODE.now Runs s t a.fields b.fields (node_table laws) a.message b.message numbers values

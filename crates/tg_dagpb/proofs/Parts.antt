@@ -7,14 +7,14 @@ use Rattle.tg_pbtable.specs.declared.table.Wire.TheVariants.{Varint}
 use Rattle.tg_pbtable.specs.declared.table.Times.TheVariants.{One}
 use Rattle.tg_pbtable.specs.Message.{HasRule, IsTable}
 use Rattle.tg_pbtable.specs.Values.{listed}
-use Rattle.tg_pbtable.proofs.Tables.{table_of}
+use Rattle.tg_pbtable.specs.Laws.{TableLaws}
 use Rattle.tg_dagpb.specs.declared.TheConstants.{NODE, LINK}
 
-pub node_table : IsTable NODE.now
-node_table = table_of NODE.now refl
+pub node_table : (laws : TableLaws) → IsTable NODE.now
+node_table laws = laws.messages.table NODE.now refl
 
-pub link_table : IsTable LINK.now
-link_table = table_of LINK.now refl
+pub link_table : (laws : TableLaws) → IsTable LINK.now
+link_table laws = laws.messages.table LINK.now refl
 
 abbrev pub any_rule : Rule
 any_rule = record { number = 1; wire = Varint; times = One }

@@ -2,7 +2,8 @@
 use Rattle.std.specs.Prelude.{◌≡◌, ℕ, List, [], ◌∷◌, ◌++◌, Option, Some, None, slice_range, All}
 use Rattle.tg_pbtable.specs.declared.table.Field.{Field}
 use Rattle.tg_pbtable.specs.declared.table.Order.TheVariants.{Ascending, Runs}
-use Rattle.tg_pbtable.specs.declared.table.Value.TheVariants.{Place}
+use Rattle.tg_pbtable.specs.declared.table.Value.TheVariants as values
+use Rattle.tg_pbtable.specs.declared.table.Place.{Place}
 use Rattle.tg_pbtable.specs.declared.fault.PbFault.{PbFault}
 use Rattle.tg_pbtable.specs.declared.fault.PbFault.TheVariants as faults
 use Rattle.tg_pbtable.specs.Values.{numbers_at, bytes_at}
@@ -12,9 +13,11 @@ use Rattle.tg_pbtable.specs.Cursor.{HasRead}
 use Rattle.tg_dagpb.specs.declared.TheConstants.{NODE, LINK}
 use Rattle.tg_dagpb.specs.declared.Link.{Link}
 use Rattle.tg_dagpb.specs.declared.Node.{Node}
-use Rattle.tg_dagpb.specs.Node.{LinkTexts}
+use Rattle.tg_dagpb.specs.Node.{LinkText, LinkTexts}
 use Rattle.tg_dagpb.specs.Faults.{moved_by, IsLinkText}
-use Rattle.tg_dagpb.specs.Cursor.{IsBetween}
+use Rattle.tg_pbtable.specs.Place.{AreInside, placed_bytes}
+use Rattle.tg_dagpb.specs.declared.LinkPlaces.{LinkPlaces}
+use Rattle.tg_dagpb.specs.Cursor.{IsBetween, placed_link, LieInside}
 
 -- the last of the values, or the one from before where there is none
 abbrev pub later : {A : Type 0} → Option A → List A → Option A
@@ -29,7 +32,7 @@ pub record GathersLink (text : List ℕ) (fields : List Field) (old new : Link) 
 
 -- a field that is a link at a place
 abbrev pub placed : ℕ → ℕ → Field
-placed start end = record { number = 2; value = Place start end }
+placed start end = record { number = 2; value = values.Place start end }
 
 -- the link before any field
 abbrev pub no_link : Link
@@ -52,6 +55,11 @@ pub record IsBadPlace (text : List ℕ) (start end : ℕ) (fault : PbFault) : Ty
   pub cause_is : HasCause LINK.now Ascending (slice_range text start end) cause
   pub fault_is : fault ≡ moved_by start cause
 
+-- the bytes from `start` up to and without `end` are a link's, of which the parts lie at the places
+pub record IsLinkBetween (text : List ℕ) (start end : ℕ) (places : LinkPlaces) : Type 0 where
+  pub is_text : LinkText (placed_link text places) (slice_range text start end)
+  pub inside : LieInside text places
+
 -- the field is a link that is none, for this fault
 pub record IsBadField (text : List ℕ) (field : Field) (fault : PbFault) : Type 0 where
   pub start : ℕ
@@ -70,11 +78,12 @@ place_of (faults.Doubled at) = at
 place_of (faults.Missing number) = 0
 place_of faults.OutOfMemory = 0
 
--- the link after the fields that a cursor has read
-pub record LinkSoFar (text : List ℕ) (cursor : FieldCursor 3) (link : Link) : Type 0 where
+-- the link after the fields that a cursor over these bytes has read, of which the parts lie at the places
+pub record LinkSoFar (text : List ℕ) (start end : ℕ) (cursor : FieldCursor 3) (places : LinkPlaces) : Type 0 where
   pub fields : List Field
-  pub read : HasRead LINK.now Ascending text fields cursor
-  pub gathers : GathersLink text fields no_link link
+  pub read : HasRead LINK.now Ascending (slice_range text start end) fields cursor
+  pub gathers : GathersLink (slice_range text start end) fields no_link (placed_link text places)
+  pub inside : LieInside text places
 
 -- of the fields that are links one is none, and those before it are
 pub record HasFirstBad (text : List ℕ) (fields : List Field) (fault : PbFault) : Type 0 where
@@ -91,11 +100,13 @@ abbrev pub IsVerdict : List ℕ → List Field → Option PbFault → Type 0
 IsVerdict text fields None = All IsLinkText (bytes_at text 2 fields)
 IsVerdict text fields (Some fault) = HasFirstBad text fields fault
 
--- the verdict on the fields that a cursor has read
-pub record CheckedSoFar (text : List ℕ) (cursor : FieldCursor 2) (bad : Option PbFault) : Type 0 where
+-- the verdict on the fields that a cursor has read, and the place of the data
+pub record CheckedSoFar (text : List ℕ) (cursor : FieldCursor 2) (bad : Option PbFault) (payload : Option Place) : Type 0 where
   pub fields : List Field
   pub read : HasRead NODE.now Runs text fields cursor
   pub verdict : IsVerdict text fields bad
+  pub payload_is : placed_bytes text payload ≡ later None (bytes_at text 1 fields)
+  pub inside : AreInside text payload
 
 -- every cursor of links at the one place is one at the other
 abbrev pub IsSameCursor : List ℕ → ℕ → ℕ → Type 0

@@ -11,9 +11,9 @@ ghost use Rattle.tg_dagpb.specs.Cursor.{IsBetween};
 ghost use Rattle.tg_dagpb.specs.declared.Node.{Node};
 
 pub use computed::computes;
-pub use reading::{check, decode, link_at};
-use tg_edges::{Bytes, List};
-use tg_pbtable::{Rule, Times, Wire, one_message};
+pub use reading::{check, decode, link_at, link_places_at, payload_at};
+use tg_bytes::{Bytes, List};
+use tg_pbtable::{Place, Rule, Times, Wire, table_laws};
 pub use writing::encode;
 
 /// The table of a node, of which the fields of one number stand together: 1 Data, 2 Links.
@@ -80,6 +80,14 @@ pub struct LinkSpan<'a> {
     pub tsize: Option<u64>,
 }
 
+/// The places of a link's parts in its block, and the size that it tells.
+#[derive(Clone, Copy, Debug, PartialEq, Eq)]
+pub struct LinkPlaces {
+    pub hash: Place,
+    pub name: Option<Place>,
+    pub tsize: Option<u64>,
+}
+
 /// A text is of one node, and a node has one canonical text and at most one other: that with the data before all links.
 pub fn one_text()
     ensures one_node { (a b : Node) (text : Items ℕ) → NodeText a text → NodeText b text → a ≡ b }
@@ -91,7 +99,7 @@ pub fn one_text()
     // A cursor over the links begins at the front.
     ensures start { (node : Node) (text : Items ℕ) → NodeText node text → IsBetween text 0 [] node.links }
 {
-    one_message();
+    table_laws();
 }
 
 #[cfg(test)]

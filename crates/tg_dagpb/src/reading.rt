@@ -6,18 +6,19 @@ ghost use Rattle.tg_pbtable.specs.Faults.{HasCause};
 ghost use Rattle.tg_pbtable.specs.Values.{bytes_at};
 ghost use Rattle.tg_pbtable.specs.declared.table.Order.TheVariants.{Ascending, Runs};
 ghost use Rattle.tg_pbtable.specs.declared.fault.PbFault.{PbFault};
-ghost use Rattle.tg_dagpb.specs.Node.{NodeText, HasNodeParts, LinkText};
+ghost use Rattle.tg_pbtable.specs.Place.{AreInside, placed_bytes};
+ghost use Rattle.tg_dagpb.specs.Node.{NodeText, HasNodeParts};
 ghost use Rattle.tg_dagpb.specs.Faults.{IsLinkText, HasNodeCause, HasBadLink, moved_by};
-ghost use Rattle.tg_dagpb.specs.Cursor.{IsBetween, IsCursor, link_of};
-ghost use Rattle.tg_dagpb.specs.Reading.{GathersLink, GathersNode, IsBadField, IsBadPlace, place_of, placed};
+ghost use Rattle.tg_dagpb.specs.Cursor.{IsBetween, IsCursor, HasPayloadAt, LieInside, link_of, placed_link};
+ghost use Rattle.tg_dagpb.specs.Reading.{GathersLink, GathersNode, IsBadField, IsBadPlace, IsLinkBetween, later, place_of, placed};
 ghost use Rattle.tg_dagpb.specs.declared.TheConstants.{NODE, LINK};
 ghost use Rattle.tg_dagpb.specs.declared.Node.{Node};
 ghost use Rattle.tg_dagpb.specs.declared.Link.{Link};
 
-use crate::{LINK, Link, LinkSpan, NODE, Node};
+use crate::{LINK, Link, LinkPlaces, LinkSpan, NODE, Node};
 use std::alloc::{AllocError, Global};
-use tg_edges::{Bytes, List};
-use tg_pbtable::{Field, FieldCursor, Order, PbFault, Value, field_at, scan};
+use tg_bytes::{Bytes, List};
+use tg_pbtable::{Field, FieldCursor, Order, PbFault, Place, Value, field_at, scan, table_laws};
 
 /// The node that a block spells.
 ///
@@ -34,6 +35,7 @@ pub fn decode(alloc: Global, bytes: &[u8]) -> Result<Node, PbFault>
     ensures given { (fault : PbFault) → HasNodeCause bytes.now fault
         → (result ≡ Err fault) ⊎ (result ≡ Err PbFault.OutOfMemory) }
 {
+    table_laws();
     let fields = scan(alloc, NODE, Order::Runs, bytes)?;
     node_of(alloc, bytes, fields.as_slice())
 }
@@ -42,23 +44,59 @@ pub fn decode(alloc: Global, bytes: &[u8]) -> Result<Node, PbFault>
 ///
 /// IPLD specification, DAG-PB, Serial Format. Errors: those of `decode` in its order, but for want of memory.
 pub fn check(bytes: &[u8]) -> Result<(), PbFault>
-    ensures ok { OnOk result ((node : Node) × NodeText node bytes.now) }
+    ensures found { OnOk result ((node : Node) × NodeText node bytes.now) }
+    // A cursor over the links begins at the front.
+    ensures cursor { OnOk result (IsCursor bytes.now 0) }
     ensures only { (node : Node) → NodeText node bytes.now → result ≡ Ok tt }
 
     // It refuses exactly where a cause holds, and with the fault of that cause.
     ensures cause { IfErr result (λ e. HasNodeCause bytes.now e) }
     ensures given { (fault : PbFault) → HasNodeCause bytes.now fault → result ≡ Err fault }
 {
+    payload_at(bytes)?;
+    Ok(())
+}
+
+/// The place of the data of the node that a block spells, or none where it has no data; it takes no memory.
+///
+/// IPLD specification, DAG-PB, Serial Format. Errors: those of `decode` in its order, but for want of memory.
+pub fn payload_at(bytes: &[u8]) -> Result<Option<Place>, PbFault>
+    ensures found { IfOk result (λ place. HasPayloadAt bytes.now place) }
+    ensures inside { IfOk result (λ place. AreInside bytes.now place) }
+    // A cursor over the links begins at the front.
+    ensures cursor { OnOk result (IsCursor bytes.now 0) }
+    ensures only { (node : Node) → NodeText node bytes.now
+        → MatchResult result (λ place. placed_bytes bytes.now place ≡ node.payload) (λ _. ⊥) }
+
+    // It refuses exactly where a cause holds, and with the fault of that cause.
+    ensures cause { IfErr result (λ e. HasNodeCause bytes.now e) }
+    ensures given { (fault : PbFault) → HasNodeCause bytes.now fault → result ≡ Err fault }
+{
+    table_laws();
     let mut bad = None;
+    let mut payload = None;
     let mut cursor = FieldCursor::new();
     while let Some(field) = cursor.next(NODE, Order::Runs, bytes)? {
+        payload = with_payload(payload, &field);
         if bad.is_none() {
             bad = link_fault(bytes, &field);
         }
     }
     match bad {
         Some(fault) => Err(fault),
-        None => Ok(()),
+        None => Ok(payload),
+    }
+}
+
+/// The place of the data after one field more.
+fn with_payload(payload: Option<Place>, field: &Field) -> Option<Place>
+    ensures bytes { (text : Items ℕ) → placed_bytes text result
+        ≡ later (placed_bytes text payload) (bytes_at text 1 (field.now ∷ [])) }
+    ensures inside { (text : Items ℕ) → LiesIn text field.now.value → AreInside text payload → AreInside text result }
+{
+    match field.value {
+        Value::Place { start, end } if field.number == 1 => Some(Place { start, end }),
+        _ => payload,
     }
 }
 
@@ -84,18 +122,47 @@ pub fn link_at(bytes: &[u8], at: usize) -> Option<(LinkSpan<'_>, usize)>
     ensures cursor { IfSome result (λ found. IsCursor bytes.now found.1) }
     ensures forward { IfSome result (λ found. (at < found.1) × (found.1 ≤ length bytes.now)) }
 {
+    let (places, next) = link_places_at(bytes, at)?;
+    Some((span_of(bytes, places), next))
+}
+
+/// The places of the parts of the first link at a cursor or behind it, as `link_at` finds it, and the cursor behind that
+/// link; none where no link is left.
+pub fn link_places_at(bytes: &[u8], at: usize) -> Option<(LinkPlaces, usize)>
+    requires { IsCursor bytes.now at }
+    ensures next { (behind ahead : Items Link) → IsBetween bytes.now at behind ahead
+        → MatchOption result (ahead ≡ []) (λ found. (more : Items Link) × (ahead ≡ placed_link bytes.now found.0 ∷ more)
+        × IsBetween bytes.now found.1 (behind ++ placed_link bytes.now found.0 ∷ []) more) }
+    ensures inside { IfSome result (λ found. LieInside bytes.now found.0) }
+    ensures cursor { IfSome result (λ found. IsCursor bytes.now found.1) }
+    ensures forward { IfSome result (λ found. (at < found.1) × (found.1 ≤ length bytes.now)) }
+{
+    table_laws();
     let mut from = at;
-    while from < bytes.len() {
-        let Ok((field, next)) = field_at(NODE, bytes, from) else {
-            return None;
-        };
+    while let Ok((field, next)) = field_at(NODE, bytes, from) {
         if let Some((start, end)) = link_place(&field) {
-            let span = link_between(bytes, start, end).ok()?;
-            return Some((span, next));
+            let places = link_between(bytes, start, end).ok()?;
+            return Some((places, next));
         }
         from = next;
     }
     None
+}
+
+/// The link whose parts lie at the places.
+fn span_of(bytes: &[u8], places: LinkPlaces) -> LinkSpan<'_>
+    requires { LieInside bytes.now places }
+    ensures { link_of result ≡ placed_link bytes.now places }
+{
+    let name = match places.name {
+        Some(name) => Some(&bytes[name.start..name.end]),
+        None => None,
+    };
+    LinkSpan {
+        hash: &bytes[places.hash.start..places.hash.end],
+        name,
+        tsize: places.tsize,
+    }
 }
 
 /// The node of the fields of a message.
@@ -105,6 +172,7 @@ fn node_of(alloc: Global, bytes: &[u8], fields: &[Field]) -> Result<Node, PbFaul
     ensures { MatchResult result (λ node. HasNodeParts bytes.now fields.now node)
         (λ e. (e ≡ PbFault.OutOfMemory) ⊎ HasBadLink bytes.now e) }
 {
+    table_laws();
     let mut node = Node {
         links: List::new(alloc),
         payload: None,
@@ -125,8 +193,8 @@ fn take_part(node: &mut Node, alloc: Global, bytes: &[u8], field: &Field) -> Res
         match field.number {
             1 => put_payload(node, alloc, &bytes[start..end]).map_err(|_| PbFault::OutOfMemory)?,
             2 => {
-                let span = link_between(bytes, start, end)?;
-                put_link(node, alloc, span).map_err(|_| PbFault::OutOfMemory)?;
+                let places = link_between(bytes, start, end)?;
+                put_link(node, alloc, span_of(bytes, places)).map_err(|_| PbFault::OutOfMemory)?;
             }
             _ => {}
         }
@@ -176,52 +244,74 @@ fn link_place(field: &Field) -> Option<(usize, usize)>
 }
 
 /// The link that the bytes from `start` up to and without `end` spell; the place of a fault is one of the block.
-fn link_between(bytes: &[u8], start: usize, end: usize) -> Result<LinkSpan<'_>, PbFault>
+fn link_between(bytes: &[u8], start: usize, end: usize) -> Result<LinkPlaces, PbFault>
     requires rises { start ≤ end }
     requires inside { end ≤ length bytes.now }
-    ensures { MatchResult result (λ span. LinkText (link_of span) (slice_range bytes.now start end))
+    ensures { MatchResult result (λ places. IsLinkBetween bytes.now start end places)
         (λ e. IsBadPlace bytes.now start end e) }
 {
-    match link_in(&bytes[start..end]) {
-        Ok(span) => Ok(span),
+    match link_in(bytes, start, end) {
+        Ok(places) => Ok(places),
         Err(fault) => Err(moved_by(start, fault)),
     }
 }
 
-/// The link that the bytes spell.
-fn link_in(bytes: &[u8]) -> Result<LinkSpan<'_>, PbFault>
-    ensures { MatchResult result (λ span. LinkText (link_of span) bytes.now)
-        (λ e. HasCause LINK.now Ascending bytes.now e) }
+/// The link that these bytes spell; the place of a fault is one of these bytes.
+fn link_in(bytes: &[u8], start: usize, end: usize) -> Result<LinkPlaces, PbFault>
+    requires rises { start ≤ end }
+    requires inside { end ≤ length bytes.now }
+    ensures { MatchResult result (λ places. IsLinkBetween bytes.now start end places)
+        (λ e. HasCause LINK.now Ascending (slice_range bytes.now start end) e) }
 {
-    let mut span = LinkSpan {
-        hash: &[],
+    table_laws();
+    let mut places = LinkPlaces {
+        hash: Place { start, end: start },
         name: None,
         tsize: None,
     };
     let mut cursor = FieldCursor::new();
-    while let Some(field) = cursor.next(LINK, Order::Ascending, bytes)? {
-        span = with_part(span, bytes, &field);
+    while let Some(field) = cursor.next(LINK, Order::Ascending, &bytes[start..end])? {
+        places = with_part(places, bytes, start, end, &field);
     }
-    Ok(span)
+    Ok(places)
 }
 
-/// The link with the value of a field.
-fn with_part<'a>(span: LinkSpan<'a>, bytes: &'a [u8], field: &Field) -> LinkSpan<'a>
-    requires { LiesIn bytes.now field.now.value }
-    ensures { GathersLink bytes.now (field.now ∷ []) (link_of span.entry) (link_of result) }
+/// The link with the value of a field of these bytes.
+fn with_part(
+    places: LinkPlaces,
+    bytes: &[u8],
+    start: usize,
+    end: usize,
+    field: &Field,
+) -> LinkPlaces
+    requires rises { start ≤ end }
+    requires inside { end ≤ length bytes.now }
+    requires lies { LiesIn (slice_range bytes.now start end) field.now.value }
+    ensures gathers { GathersLink (slice_range bytes.now start end) (field.now ∷ []) (placed_link bytes.now places)
+        (placed_link bytes.now result) }
+    ensures inside { LieInside bytes.now places → LieInside bytes.now result }
 {
-    let mut new = span;
+    let mut new = places;
     match field.value {
         Value::Number(value) => {
             if field.number == 3 {
                 new.tsize = Some(value);
             }
         }
-        Value::Place { start, end } => match field.number {
-            1 => new.hash = &bytes[start..end],
-            2 => new.name = Some(&bytes[start..end]),
-            _ => {}
-        },
+        Value::Place {
+            start: from,
+            end: to,
+        } => {
+            let place = Place {
+                start: start + from,
+                end: start + to,
+            };
+            match field.number {
+                1 => new.hash = place,
+                2 => new.name = Some(place),
+                _ => {}
+            }
+        }
     }
     new
 }

@@ -6,8 +6,8 @@ ghost use Rattle.tg_dagpb.specs.Writing.{spans, joined, sizes};
 
 use crate::{LINK, Link, NODE, Node};
 use std::alloc::{AllocError, Global};
-use tg_edges::Bytes;
-use tg_pbtable::{Field, Fields, Value, emit};
+use tg_bytes::Bytes;
+use tg_pbtable::{Field, Fields, Value, emit, table_laws};
 
 /// The canonical text of a node: all links, and then the data. An empty name is written, and an absent one isn't. The error
 /// is want of memory.
@@ -16,6 +16,7 @@ use tg_pbtable::{Field, Fields, Value, emit};
 pub fn encode(alloc: Global, node: &Node) -> Result<Bytes, AllocError>
     ensures { IfOk result (λ text. CanonicalText node.now text) }
 {
+    table_laws();
     let mut draft = Draft::new(alloc);
     for link in node.links.as_slice() {
         let text = link_text(alloc, link)?;
@@ -31,6 +32,7 @@ pub fn encode(alloc: Global, node: &Node) -> Result<Bytes, AllocError>
 fn link_text(alloc: Global, link: &Link) -> Result<Bytes, AllocError>
     ensures { IfOk result (λ text. LinkText link.now text) }
 {
+    table_laws();
     let mut draft = Draft::new(alloc);
     draft.put_bytes(1, link.hash.as_slice())?;
     draft.put_optional(2, &link.name)?;

@@ -11,7 +11,8 @@ use Rattle.tg_pbtable.specs.declared.table.Order.{Order}
 use Rattle.tg_pbtable.specs.declared.table.Field.{Field}
 use Rattle.tg_pbtable.specs.declared.fault.PbFault.{PbFault}
 use Rattle.tg_pbtable.specs.declared.fault.PbFault.TheVariants as faults
-use Rattle.tg_pbtable.specs.Message.{Message, IsTable, Spelled, AreRuled, HasRule, count_of, numbers_of, IsInOrder, IsAtMost, IsCount, wire_of, wire_code}
+use Rattle.tg_pbtable.specs.Message.{Message, IsTable, Spelled, AreRuled, HasRule, count_of, numbers_of, IsInOrder, IsAtMost, IsCount, wire_of}
+use Rattle.tg_pbtable.specs.Wires.{wire_code}
 use Rattle.tg_pbtable.specs.Faults.{Begins, FirstAt, IsShort, HasBadVarint, IsUnknown, HasWrongWire, IsOutOfOrder, IsDoubled, IsMissing, HasField, BreaksOrder, HasCause}
 use Rattle.tg_pbtable.specs.Cursor.{EndsIn}
 use Rattle.tg_pbtable.proofs.Whole.{read_short_bad, read_short_field, read_bad_field, read_one_field, spelled_has}

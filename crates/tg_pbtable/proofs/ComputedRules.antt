@@ -6,8 +6,6 @@ use Rattle.std.proofs.lemmas.Bool.{cases_lt, cond_both, both_ways, ltb-true, ltb
 use Rattle.std.proofs.lemmas.List.Elements.{All-nil, All-cons, All-weaker}
 use Rattle.std.proofs.lemmas.Option.{get_or_from_slice_get}
 use Rattle.tg_pbtable.specs.declared.table.Rule.{Rule}
-use Rattle.tg_pbtable.specs.declared.table.Wire.{Wire}
-use Rattle.tg_pbtable.specs.declared.table.Wire.TheVariants.{Varint, Bytes}
 use Rattle.tg_pbtable.specs.declared.table.Times.{Times}
 use Rattle.tg_pbtable.specs.declared.table.Times.TheVariants.{One, Optional, Many}
 use Rattle.tg_pbtable.specs.declared.table.Order.{Order}
@@ -19,12 +17,14 @@ use Rattle.tg_pbtable.specs.declared.raw.ReadFault.{ReadFault}
 use Rattle.tg_pbtable.specs.declared.raw.ReadFault.TheVariants.{Short, Bad}
 use Rattle.tg_pbtable.specs.declared.fault.PbFault.{PbFault}
 use Rattle.tg_pbtable.specs.declared.fault.PbFault.TheVariants as faults
-use Rattle.tg_pbtable.specs.Message.{wire_code, wire_of, count_of, numbers_of, IsInOrder}
+use Rattle.tg_pbtable.specs.Wires.{wire_code}
+use Rattle.tg_pbtable.specs.Message.{wire_of, count_of, numbers_of, IsInOrder}
 use Rattle.tg_pbtable.specs.Faults.{HasField, BreaksOrder}
 use Rattle.tg_pbtable.specs.Cursor.{IsRefused, EndsIn, has_number}
 use Rattle.tg_pbtable.specs.Reading.{IsValueOf, IsSpelledAt, IsRuleAt, IsRuled}
 use Rattle.tg_pbtable.specs.Computed.{rule_of, Ruled, with_value, with_rule, ruled, ends_in, breaks_order, is_many, asks, lower, lowest_missing}
 use Rattle.tg_pbtable.proofs.Numbers.{count_contains, contains_count, last_of, rises, new_run, same_run}
+use Rattle.tg_pbtable.proofs.Whole.{same_code}
 use Rattle.tg_pbtable.proofs.ComputedVarints.{FieldTold}
 
 -- ---- the rule of a number
@@ -61,23 +61,13 @@ pub record IsRuledAs (rules : List Rule) (at : ℕ) (rest : List ℕ) (r : Ruled
 abbrev pub RuledTold : List Rule → ℕ → List ℕ → Result Ruled PbFault → Type 0
 RuledTold rules at rest r = MatchResult r (λ x. IsRuledAs rules at rest x) (λ e. IsRefused rules at rest e)
 
-code_known : (w : Wire) (n : ℕ) → n ≢ 0 → n ≢ 2 → wire_code w ≡ n → ⊥
-code_known Varint n a b e = a (sym e)
-code_known Bytes n a b e = b (sym e)
-
-same_code : (v w : Wire) → wire_code v ≡ wire_code w → v ≡ w
-same_code Varint Varint e = refl
-same_code Varint Bytes e = let clash : ◌≡◌ {A = ℕ} 0 2 = e in absurd (omega arith)
-same_code Bytes Varint e = let clash : ◌≡◌ {A = ℕ} 2 0 = e in absurd (omega arith)
-same_code Bytes Bytes e = refl
-
 found_among : (rules : List Rule) (number : ℕ) (rule : Rule) (f : RuleFound rules number rule) → Contains rules rule
 found_among rules number rule f = (f.index, f.rule_at.inside, get_or_from_slice_get rules f.index rule rule f.rule_at.here)
 
 with_value_told : (rules : List Rule) (at : ℕ) (rest : List ℕ) (number wire : ℕ) (o : Option (Value × ℕ)) (rule : Rule) → HasField number wire rest → IsValueOf at rest number wire o → RuleFound rules number rule
     → RuledTold rules at rest (with_value at rule o)
 with_value_told rules at rest number wire None rule field v found =
-    (refl, record { number = number; wire = wire; field = field; rule = rule; among = found_among rules number rule found; number_is = found.number_is; other = code_known rule.wire wire v.0 v.1 })
+    (refl, record { number = number; wire = wire; field = field; rule = rule; among = found_among rules number rule found; number_is = found.number_is; other = λ e. v rule.wire (sym e) })
 with_value_told rules at rest number wire (Some v) rule field has found =
     cond_both (wire_code rule.wire == wire_code (wire_of v.0)) (Ok (record { rule = rule; field = record { number = rule.number; value = v.0 }; next = v.1 })) (Err (faults.WrongWire at)) (RuledTold rules at rest)
     (λ t.

@@ -1,18 +1,21 @@
 -- What is computed at the front of bytes is what stands there: varints, values and fields.
-use Rattle.std.proofs.Common.{◌≡◌, ℕ, zero, suc, ◌+◌, ◌-◌, ◌*◌, ◌/◌, ◌%◌, ◌^◌, ◌<◌, ◌≤◌, Option, Some, None, Result, Ok, Err, List, [], ◌∷◌, ◌++◌, length, take, drop, get_or, refl, sym, ap, ◌∙◌, subst, inl, inr, arith}
+use Rattle.std.proofs.Common.{◌≡◌, ◌≢◌, ℕ, zero, suc, ◌+◌, ◌-◌, ◌*◌, ◌/◌, ◌%◌, ◌^◌, ◌<◌, ◌≤◌, Option, Some, None, Result, Ok, Err, List, [], ◌∷◌, ◌++◌, length, take, drop, get_or, refl, sym, ap, ◌∙◌, subst, inl, inr, arith}
 use Rattle.std.specs.Prelude.{All, MatchResult, nat_lt, ◌==◌, ◌&&◌, slice_get, if◌then◌else◌}
 use Rattle.std.proofs.lemmas.Bool.{cases_lt, cond_both, ltb-true, ltb-false, eqb-true, eqb-false, and_parts, and_cases}
 use Rattle.std.proofs.lemmas.List.{length-drop, length-take-le, take_more, take-append-drop, drop-drop}
 use Rattle.std.proofs.lemmas.List.Elements.{All-nil, All-cons, All-drop}
 use Rattle.std.proofs.lemmas.Option.{slice_get_within, slice_get-get_or, get_or_from_slice_get}
+use Rattle.tg_pbtable.specs.declared.table.Wire.{Wire}
+use Rattle.tg_pbtable.specs.declared.table.Wire.TheVariants.{Varint, Bytes}
 use Rattle.tg_pbtable.specs.declared.table.Value.{Value}
 use Rattle.tg_pbtable.specs.declared.table.Value.TheVariants.{Number, Place}
 use Rattle.tg_pbtable.specs.declared.raw.RawField.{RawField}
 use Rattle.tg_pbtable.specs.declared.raw.ReadFault.{ReadFault}
 use Rattle.tg_pbtable.specs.declared.raw.ReadFault.TheVariants.{Short, Bad}
 use Rattle.tg_pbtable.specs.Varint.{number_of, AllGoOn, Groups}
-use Rattle.tg_pbtable.specs.Reading.{IsVarintAt, IsVarintFault, IsValueAt, IsValueFault, IsFieldAt, IsFieldFault}
-use Rattle.tg_pbtable.specs.Computed.{and_then, going_on, below_range, ended, varint_in, place_in, value_in, field_in}
+use Rattle.tg_pbtable.specs.Wires.{wire_code, IsNoWire}
+use Rattle.tg_pbtable.specs.Reading.{IsVarintAt, IsVarintFault, IsValueAt, IsValueFault, IsWireOf, IsFieldAt, IsFieldFault}
+use Rattle.tg_pbtable.specs.Computed.{and_then, going_on, below_range, ended, varint_in, place_in, wire_with, value_with, value_in, field_in}
 use Rattle.tg_pbtable.proofs.Varints.{number_push, group_at, zero_at, ends_at}
 use Rattle.tg_pbtable.proofs.Whole.{number_there, place_there, short_place, field_there, fault_there}
 
@@ -114,15 +117,15 @@ varint_told bytes are =
 abbrev ValueTold : ℕ → List ℕ → ℕ → Result (Option (Value × ℕ)) ReadFault → Type 0
 ValueTold at after wire r = MatchResult r (λ v. IsValueAt at after wire v) (λ e. IsValueFault e wire after)
 
-number_fault : (wire : ℕ) (after : List ℕ) (e : ReadFault) → wire ≡ 0 → IsVarintFault e after → IsValueFault e wire after
-number_fault wire after Short is h = inl (is, h)
-number_fault wire after Bad is h = (inl is, h)
+number_fault : (wire : ℕ) (after : List ℕ) (e : ReadFault) → wire ≡ wire_code Varint → IsVarintFault e after → IsValueFault e wire after
+number_fault wire after Short is h = (Varint, is, h)
+number_fault wire after Bad is h = (Varint, is, h)
 
-size_fault : (wire : ℕ) (after : List ℕ) (e : ReadFault) → wire ≡ 2 → IsVarintFault e after → IsValueFault e wire after
-size_fault wire after Short is h = inr (is, inl h)
-size_fault wire after Bad is h = (inr is, h)
+size_fault : (wire : ℕ) (after : List ℕ) (e : ReadFault) → wire ≡ wire_code Bytes → IsVarintFault e after → IsValueFault e wire after
+size_fault wire after Short is h = (Bytes, is, inl h)
+size_fault wire after Bad is h = (Bytes, is, h)
 
-place_told : (at : ℕ) (text : List ℕ) (wire amount size : ℕ) → at ≤ length text → wire ≡ 2 → All (λ (b : ℕ). b < 256) text → IsVarintAt (drop at text) amount size
+place_told : (at : ℕ) (text : List ℕ) (wire amount size : ℕ) → at ≤ length text → wire ≡ wire_code Bytes → All (λ (b : ℕ). b < 256) text → IsVarintAt (drop at text) amount size
     → ValueTold at (drop at text) wire (place_in at (drop at text) amount size)
 place_told at text wire amount size l is are v =
     let left : length (drop at text) ≡ length text - at = length-drop at text in
@@ -130,23 +133,35 @@ place_told at text wire amount size l is are v =
     (λ t. let fewer : length (drop at text) - size < amount = ltb-true (length (drop at text) - size) amount t in short_place at text wire amount size l is v (omega arith))
     (λ f. let enough : amount ≤ length (drop at text) - size = ltb-false (length (drop at text) - size) amount f in place_there at text wire amount size l is v (omega arith) are)
 
-pub value_told : (at : ℕ) (text : List ℕ) (wire : ℕ) → at ≤ length text → All (λ (b : ℕ). b < 256) text → ValueTold at (drop at text) wire (value_in at (drop at text) wire)
-value_told at text wire l are =
+none_of_both : (code : ℕ) → code ≢ wire_code Varint → code ≢ wire_code Bytes → IsNoWire code
+none_of_both code a b Varint e = a e
+none_of_both code a b Bytes e = b e
+
+wire_told : (code : ℕ) → IsWireOf code (wire_with code)
+wire_told code =
+    cond_both (code == wire_code Varint) (Some Varint) (if code == wire_code Bytes then Some Bytes else None) (IsWireOf code)
+    (λ t. eqb-true code (wire_code Varint) t)
+    (λ f. cond_both (code == wire_code Bytes) (Some Bytes) None (IsWireOf code)
+    (λ t. eqb-true code (wire_code Bytes) t)
+    (λ g. none_of_both code (eqb-false code (wire_code Varint) f) (eqb-false code (wire_code Bytes) g)))
+
+told_with : (at : ℕ) (text : List ℕ) (code : ℕ) (wire : Option Wire) → at ≤ length text → All (λ (b : ℕ). b < 256) text → IsWireOf code wire → ValueTold at (drop at text) code (value_with at (drop at text) wire)
+told_with at text code None l are is = is
+told_with at text code (Some Varint) l are is =
     let after = drop at text in
-    let told = varint_told after (All-drop (λ (b : ℕ). b < 256) at text are) in
     let number : ℕ × ℕ → Result (Option (Value × ℕ)) ReadFault = λ v. Ok (Some (Number v.0, at + v.1)) in
+    gone_on (ValueTold at after code) (λ (v : ℕ × ℕ). IsVarintAt after v.0 v.1) (λ (e : ReadFault). IsVarintFault e after) (varint_in after) number
+    (varint_told after (All-drop (λ (b : ℕ). b < 256) at text are))
+    (λ v h. number_there at after code v.0 v.1 is h) (λ e h. number_fault code after e is h)
+told_with at text code (Some Bytes) l are is =
+    let after = drop at text in
     let place : ℕ × ℕ → Result (Option (Value × ℕ)) ReadFault = λ v. place_in at after v.0 v.1 in
-    cond_both (wire == 0) (and_then (varint_in after) number) (if wire == 2 then and_then (varint_in after) place else Ok None) (ValueTold at after wire)
-    (λ t.
-    let is : wire ≡ 0 = eqb-true wire 0 t in
-    gone_on (ValueTold at after wire) (λ (v : ℕ × ℕ). IsVarintAt after v.0 v.1) (λ (e : ReadFault). IsVarintFault e after) (varint_in after) number told
-    (λ v h. number_there at after wire v.0 v.1 is h) (λ e h. number_fault wire after e is h))
-    (λ f. cond_both (wire == 2) (and_then (varint_in after) place) (Ok None) (ValueTold at after wire)
-    (λ t.
-    let is : wire ≡ 2 = eqb-true wire 2 t in
-    gone_on (ValueTold at after wire) (λ (v : ℕ × ℕ). IsVarintAt after v.0 v.1) (λ (e : ReadFault). IsVarintFault e after) (varint_in after) place told
-    (λ v h. place_told at text wire v.0 v.1 l is are h) (λ e h. size_fault wire after e is h))
-    (λ g. (eqb-false wire 0 f, eqb-false wire 2 g)))
+    gone_on (ValueTold at after code) (λ (v : ℕ × ℕ). IsVarintAt after v.0 v.1) (λ (e : ReadFault). IsVarintFault e after) (varint_in after) place
+    (varint_told after (All-drop (λ (b : ℕ). b < 256) at text are))
+    (λ v h. place_told at text code v.0 v.1 l is are h) (λ e h. size_fault code after e is h)
+
+pub value_told : (at : ℕ) (text : List ℕ) (code : ℕ) → at ≤ length text → All (λ (b : ℕ). b < 256) text → ValueTold at (drop at text) code (value_in at (drop at text) code)
+value_told at text code l are = told_with at text code (wire_with code) l are (wire_told code)
 
 abbrev pub FieldTold : ℕ → List ℕ → Result RawField ReadFault → Type 0
 FieldTold at rest r = MatchResult r (λ raw. IsFieldAt at rest raw) (λ e. IsFieldFault e rest)

@@ -1,15 +1,16 @@
-pub mod Varints
-pub mod Putting
-pub mod Spellings
-pub mod Whole
-pub mod Numbers
-pub mod Causes
-pub mod Scanning
-pub mod Places
-pub mod Emitting
-pub mod Tables
-pub mod Values
+mod Varints
+mod Putting
+mod Spellings
+mod Whole
+mod Numbers
+mod Causes
+mod Scanning
+mod Places
+mod Between
+mod Emitting
+mod Tables
+mod Values
 mod ComputedValues
-pub mod ComputedVarints
-pub mod ComputedRules
-pub mod ComputedFields
+mod ComputedVarints
+mod ComputedRules
+mod ComputedFields

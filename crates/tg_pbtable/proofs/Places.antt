@@ -9,7 +9,8 @@ use Rattle.tg_pbtable.specs.declared.table.Field.{Field}
 use Rattle.tg_pbtable.specs.declared.cursor.FieldCursor.{FieldCursor}
 use Rattle.tg_pbtable.specs.declared.fault.PbFault.{PbFault}
 use Rattle.tg_pbtable.specs.declared.fault.PbFault.TheVariants as faults
-use Rattle.tg_pbtable.specs.Message.{IsTable, Spelled, FieldSpelling, wire_of, wire_code}
+use Rattle.tg_pbtable.specs.Message.{IsTable, Spelled, FieldSpelling, wire_of}
+use Rattle.tg_pbtable.specs.Wires.{wire_code}
 use Rattle.tg_pbtable.specs.Faults.{HasField}
 use Rattle.tg_pbtable.specs.Emitted.{LiesIn}
 use Rattle.tg_pbtable.specs.Cursor.{HasRead, StandsAt, IsRefused}

@@ -3,13 +3,14 @@ use Rattle.std.proofs.Common.{◌≡◌, ℕ, zero, suc, ◌<◌, ◌≤◌, Boo
 use Rattle.std.specs.Prelude.{All, nat_lt, ◌&&◌}
 use Rattle.std.proofs.lemmas.Bool.Decides.{Decides-ltb}
 use Rattle.std.proofs.lemmas.List.{length-append}
-use Rattle.std.proofs.lemmas.List.Elements.{All-nil, All-cons, All-weaker}
+use Rattle.std.proofs.lemmas.List.Elements.{All-nil, All-cons}
 use Rattle.tg_pbtable.specs.declared.table.Rule.{Rule}
 use Rattle.tg_pbtable.specs.declared.table.Field.{Field}
 use Rattle.tg_pbtable.specs.declared.table.Value.{Value}
 use Rattle.tg_pbtable.specs.declared.table.Value.TheVariants.{Number, Place}
 use Rattle.tg_pbtable.specs.Message.{IsTable, Spelled, ValueSpelling}
 use Rattle.tg_pbtable.specs.Emitted.{LiesIn}
+use Rattle.tg_pbtable.specs.Laws.{rises_from}
 use Rattle.tg_pbtable.proofs.Spellings.{moved}
 
 -- ---- places
@@ -32,19 +33,7 @@ inside (f ∷ fs) before mid p =
 pub places_inside : (text : List ℕ) (fs : List Field) → Spelled 0 fs text → All (λ (f : Field). LiesIn text f.value) fs
 places_inside text fs p = inside fs [] text p
 
-longer : (text source : List ℕ) (v : Value) → length text ≤ length source → LiesIn text v → LiesIn source v
-longer text source (Number n) l h = tt
-longer text source (Place start end) l h = (h.0, omega (arith, h.1))
-
--- places in a text lie in a longer source too
-pub places_longer : (text source : List ℕ) (fs : List Field) → length text ≤ length source → All (λ (f : Field). LiesIn text f.value) fs → All (λ (f : Field). LiesIn source f.value) fs
-places_longer text source fs l h = All-weaker (λ (f : Field). LiesIn text f.value) (λ (f : Field). LiesIn source f.value) (λ f. longer text source f.value l) fs h
-
 -- ---- a table whose numbers rise
-
-abbrev pub rises_from : ℕ → List Rule → Bool
-rises_from low [] = true
-rises_from low (r ∷ rs) = nat_lt low r.number && (nat_lt r.number 536870912 && rises_from r.number rs)
 
 both : (a b : Bool) → (a && b) ≡ true → (a ≡ true) × (b ≡ true)
 both true true e = (refl, refl)

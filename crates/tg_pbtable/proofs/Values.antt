@@ -14,7 +14,7 @@ use Rattle.tg_pbtable.specs.declared.table.Value.{Value}
 use Rattle.tg_pbtable.specs.declared.table.Value.TheVariants.{Number, Place}
 use Rattle.tg_pbtable.specs.Message.{Message, IsTable, HasRule, AreRuled, count_of, numbers_of, wire_of}
 use Rattle.tg_pbtable.specs.Emitted.{IsSameValue, AreSameFields}
-use Rattle.tg_pbtable.specs.Values.{number_in, bytes_in, numbers_at, bytes_at, HasSameValues}
+use Rattle.tg_pbtable.specs.Values.{number_in, bytes_in, numbers_at, bytes_at, HasSameValues, IsSameFor}
 use Rattle.tg_pbtable.proofs.Spellings.{one_text}
 use Rattle.tg_pbtable.proofs.Causes.{one_rule}
 use Rattle.tg_pbtable.proofs.Numbers.{count_cons, contains_count, count_contains}
@@ -258,11 +258,6 @@ pub ascending : (rules : List Rule) (s t : List ℕ) (fs gs : List Field) → Is
 ascending rules s t fs gs table a b same = any_order rules Ascending s t fs gs table a b (same_numbers s t fs gs a.ordered b.ordered same) same
 
 -- ---- values that a table names one by one
-
--- two texts have the same values of a number, numbers or bytes as its wire type says
-abbrev pub IsSameFor : List ℕ → List Field → List ℕ → List Field → ℕ → Wire → Type 0
-IsSameFor s fs t gs n Varint = numbers_at n fs ≡ numbers_at n gs
-IsSameFor s fs t gs n Bytes = bytes_at s n fs ≡ bytes_at t n gs
 
 abbrev IsSameAt : List ℕ → List Field → List ℕ → List Field → ℕ → Type 0
 IsSameAt s fs t gs n = (numbers_at n fs ≡ numbers_at n gs) × (bytes_at s n fs ≡ bytes_at t n gs)

@@ -1,22 +1,25 @@
 -- Fields read from bytes, and why none is read: of these one holds at a place.
-use Rattle.std.proofs.Common.{◌≡◌, ℕ, ◌+◌, ◌-◌, ◌*◌, ◌/◌, ◌%◌, ◌<◌, ◌≤◌, ◌⊎◌, Option, Some, None, List, ◌++◌, length, take, drop, refl, sym, ap, ◌∙◌, append_assoc, subst, inl, inr, arith}
+use Rattle.std.proofs.Common.{◌≡◌, ℕ, ◌+◌, ◌-◌, ◌*◌, ◌/◌, ◌%◌, ◌<◌, ◌≤◌, Option, Some, None, List, ◌++◌, length, take, drop, refl, sym, ap, ◌∙◌, append_assoc, subst, inl, inr, arith}
 use Rattle.std.specs.Prelude.{All}
 use Rattle.std.proofs.lemmas.List.{length-append, length-drop, length-take-le, take-append-drop, drop-drop, take_rest}
 use Rattle.std.proofs.lemmas.List.Elements.{All-take, All-drop}
+use Rattle.tg_pbtable.specs.declared.table.Wire.{Wire}
+use Rattle.tg_pbtable.specs.declared.table.Wire.TheVariants.{Varint, Bytes}
 use Rattle.tg_pbtable.specs.declared.table.Value.{Value}
 use Rattle.tg_pbtable.specs.declared.table.Value.TheVariants.{Number, Place}
 use Rattle.tg_pbtable.specs.declared.raw.ReadFault.{ReadFault}
 use Rattle.tg_pbtable.specs.declared.raw.ReadFault.TheVariants.{Short, Bad}
 use Rattle.tg_pbtable.specs.Varint.{VarintSpelling, EndsInside, IsBadVarint}
-use Rattle.tg_pbtable.specs.Message.{KeySpelling, ValueSpelling, wire_of, wire_code}
-use Rattle.tg_pbtable.specs.Faults.{HasKey, EndsInValue, IsShort, HasBadVarint, HasValue, HasField}
+use Rattle.tg_pbtable.specs.Wires.{wire_type, wire_code, EndsInValue, HasBadValue, HasValue}
+use Rattle.tg_pbtable.specs.Message.{KeySpelling, ValueSpelling, wire_of}
+use Rattle.tg_pbtable.specs.Faults.{HasKey, IsShort, HasBadVarint, HasField}
 use Rattle.tg_pbtable.specs.Reading.{IsVarintAt, IsNumberAt, IsPlaceAt, IsSomeValueAt, IsValueAt, IsValueFault, IsSpelledAt, IsValueOf, IsFieldAt, IsFieldFault}
 use Rattle.tg_pbtable.proofs.Varints.{short_number, short_bad, bad_number, one_number, not_empty}
 use Rattle.tg_pbtable.proofs.Spellings.{one_key}
 
 -- ---- what is read
 
-pub number_there : (at : ℕ) (after : List ℕ) (wire value size : ℕ) → wire ≡ 0 → IsVarintAt after value size → IsNumberAt at after wire value (at + size)
+pub number_there : (at : ℕ) (after : List ℕ) (wire value size : ℕ) → wire ≡ wire_code Varint → IsVarintAt after value size → IsNumberAt at after wire value (at + size)
 number_there at after wire value size w v = record {
   wire_is = w;
   amount = take size after;
@@ -26,7 +29,7 @@ number_there at after wire value size w v = record {
   next_is = ap (λ (n : ℕ). at + n) (sym (length-take-le size after v.inside));
 }
 
-pub place_there : (at : ℕ) (bytes : List ℕ) (wire amount size : ℕ) → at ≤ length bytes → wire ≡ 2 → IsVarintAt (drop at bytes) amount size → amount ≤ length bytes - (at + size) → All (λ (b : ℕ). b < 256) bytes
+pub place_there : (at : ℕ) (bytes : List ℕ) (wire amount size : ℕ) → at ≤ length bytes → wire ≡ wire_code Bytes → IsVarintAt (drop at bytes) amount size → amount ≤ length bytes - (at + size) → All (λ (b : ℕ). b < 256) bytes
     → IsPlaceAt at (drop at bytes) wire (at + size) (at + size + amount) (at + size + amount)
 place_there at bytes wire amount size l w v enough are =
     let after = drop at bytes in
@@ -47,12 +50,12 @@ place_there at bytes wire amount size l w v enough are =
       next_is = refl;
     }
 
-pub short_place : (at : ℕ) (bytes : List ℕ) (wire amount size : ℕ) → at ≤ length bytes → wire ≡ 2 → IsVarintAt (drop at bytes) amount size → length bytes - (at + size) < amount → EndsInValue wire (drop at bytes)
+pub short_place : (at : ℕ) (bytes : List ℕ) (wire amount size : ℕ) → at ≤ length bytes → wire ≡ wire_code Bytes → IsVarintAt (drop at bytes) amount size → length bytes - (at + size) < amount → EndsInValue wire (drop at bytes)
 short_place at bytes wire amount size l w v fewer =
     let after = drop at bytes in
     let left : length after ≡ length bytes - at = length-drop at bytes in
     let behind : length (drop size after) ≡ length after - size = length-drop size after in
-    inr (w, inr (record { amount = amount; size = take size after; content = drop size after; whole = sym (take-append-drop size after); size_is = v.spells; fewer = omega arith }))
+    (Bytes, w, inr (record { amount = amount; size = take size after; content = drop size after; whole = sym (take-append-drop size after); size_is = v.spells; fewer = omega arith }))
 
 -- what the slice from `at` on says
 pub unsliced : (at : ℕ) (bytes : List ℕ) (number size : ℕ) → IsVarintAt (take (length bytes - at) (drop at bytes)) number size → IsVarintAt (drop at bytes) number size
@@ -64,12 +67,12 @@ key_there rest key size v =
     record { key = take size rest; whole = sym (take-append-drop size rest); wire_is = omega arith; key_is = subst (λ (n : ℕ). VarintSpelling n (take size rest)) parts v.spells }
 
 some_has : (at : ℕ) (after : List ℕ) (wire : ℕ) (v : Value) (next : ℕ) → IsSomeValueAt at after wire v next → HasValue wire after
-some_has at after wire (Number n) next h = inl (h.wire_is, record { amount = n; front = h.amount; rest = h.rest; whole = h.whole; amount_is = h.amount_is })
+some_has at after wire (Number n) next h = inl (Varint, h.wire_is, record { amount = n; front = h.amount; rest = h.rest; whole = h.whole; amount_is = h.amount_is })
 some_has at after wire (Place start end) next h =
-    inr (inl (h.wire_is, record { amount = length h.content; size = h.size; content = h.content ++ h.rest; whole = h.whole; size_is = h.size_is; enough = omega (arith, length-append h.content h.rest) }))
+    inl (Bytes, h.wire_is, record { amount = length h.content; size = h.size; content = h.content ++ h.rest; whole = h.whole; size_is = h.size_is; enough = omega (arith, length-append h.content h.rest) })
 
 value_has : (at : ℕ) (after : List ℕ) (wire : ℕ) (v : Option (Value × ℕ)) → IsValueAt at after wire v → HasValue wire after
-value_has at after wire None h = inr (inr h)
+value_has at after wire None h = inr h
 value_has at after wire (Some v) h = some_has at after wire v.0 v.1 h
 
 spelled_there : (at number : ℕ) (rest : List ℕ) (size wire : ℕ) (v : Value) (next : ℕ) (k : HasKey number wire rest (drop size rest)) → length k.key ≡ size → IsSomeValueAt (at + size) (drop size rest) wire v next
@@ -130,48 +133,48 @@ field_there at bytes key size v k h =
 
 fault_in : (rest : List ℕ) (key size : ℕ) (e : ReadFault) → IsVarintAt rest key size → IsValueFault e (key % 8) (drop size rest) → IsFieldFault e rest
 fault_in rest key size Short k h = inr (key / 8, key % 8, drop size rest, key_there rest key size k, h)
-fault_in rest key size Bad k h = inr (key / 8, key % 8, drop size rest, key_there rest key size k, h.0, h.1)
+fault_in rest key size Bad k h = inr (key / 8, key % 8, drop size rest, key_there rest key size k, h)
 
 pub fault_there : (at : ℕ) (bytes : List ℕ) (key size : ℕ) (e : ReadFault) → IsVarintAt (drop at bytes) key size → IsValueFault e (key % 8) (drop (at + size) bytes) → IsFieldFault e (drop at bytes)
 fault_there at bytes key size e k h = fault_in (drop at bytes) key size e k (subst (λ (t : List ℕ). IsValueFault e (key % 8) t) (sym (drop-drop size at bytes)) h)
 
 -- ---- one of the three holds of a value
 
-abbrev BadValue : ℕ → List ℕ → Type 0
-BadValue wire after = ((wire ≡ 0) ⊎ (wire ≡ 2)) × IsBadVarint after
+-- a number is of one wire type
+pub same_code : (v w : Wire) → wire_code v ≡ wire_code w → v ≡ w
+same_code Varint Varint e = refl
+same_code Varint Bytes e = let clash : ◌≡◌ {A = ℕ} 0 2 = e in absurd (omega arith)
+same_code Bytes Varint e = let clash : ◌≡◌ {A = ℕ} 2 0 = e in absurd (omega arith)
+same_code Bytes Bytes e = refl
 
-value_short_bad : (wire : ℕ) (after : List ℕ) → EndsInValue wire after → BadValue wire after → ⊥
-value_short_bad wire after (inl s) b = short_bad after s.1 b.1
-value_short_bad wire after (inr s) b = elim s.1 [
-  | inl h ↦ short_bad after h b.1
-  | inr h ↦ bad_number h.amount h.size h.content after b.1 h.size_is h.whole
-]
+cut_bad : (w : Wire) (after : List ℕ) → (wire_type w).cut after → (wire_type w).bad after → ⊥
+cut_bad Varint after s b = short_bad after s b
+cut_bad Bytes after (inl h) b = short_bad after h b
+cut_bad Bytes after (inr h) b = bad_number h.amount h.size h.content after b h.size_is h.whole
 
-value_short_has : (wire : ℕ) (after : List ℕ) → EndsInValue wire after → HasValue wire after → ⊥
-value_short_has wire after (inl s) (inl h) = short_number h.1.amount h.1.front h.1.rest after s.1 h.1.amount_is h.1.whole
-value_short_has wire after (inl s) (inr h) = elim h [
-  | inl m ↦ let zero_is : wire ≡ 0 = s.0 in let two_is : wire ≡ 2 = m.0 in omega arith
-  | inr m ↦ m.0 s.0
-]
-value_short_has wire after (inr s) (inl h) = let two_is : wire ≡ 2 = s.0 in let zero_is : wire ≡ 0 = h.0 in omega arith
-value_short_has wire after (inr s) (inr h) = elim h [
-  | inl m ↦ elim s.1 [
-    | inl e ↦ short_number m.1.amount m.1.size m.1.content after e m.1.size_is m.1.whole
-    | inr e ↦
-        let same = one_number e.amount m.1.amount e.size m.1.size e.content m.1.content e.size_is m.1.size_is (sym e.whole ∙ m.1.whole) in
-        let amounts : e.amount ≡ m.1.amount = same.0 in
-        let contents : length e.content ≡ length m.1.content = ap length same.2 in
-        omega (arith, e.fewer, m.1.enough)
-  ]
-  | inr m ↦ m.1 s.0
-]
+cut_whole : (w : Wire) (after : List ℕ) → (wire_type w).cut after → (wire_type w).whole after → ⊥
+cut_whole Varint after s h = short_number h.amount h.front h.rest after s h.amount_is h.whole
+cut_whole Bytes after (inl e) h = short_number h.amount h.size h.content after e h.size_is h.whole
+cut_whole Bytes after (inr e) h =
+    let same = one_number e.amount h.amount e.size h.size e.content h.content e.size_is h.size_is (sym e.whole ∙ h.whole) in
+    let amounts : e.amount ≡ h.amount = same.0 in
+    let contents : length e.content ≡ length h.content = ap length same.2 in
+    omega (arith, e.fewer, h.enough)
 
-value_bad_has : (wire : ℕ) (after : List ℕ) → BadValue wire after → HasValue wire after → ⊥
-value_bad_has wire after b (inl h) = bad_number h.1.amount h.1.front h.1.rest after b.1 h.1.amount_is h.1.whole
-value_bad_has wire after b (inr h) = elim h [
-  | inl m ↦ bad_number m.1.amount m.1.size m.1.content after b.1 m.1.size_is m.1.whole
-  | inr m ↦ elim b.0 [ inl e ↦ m.0 e | inr e ↦ m.1 e ]
-]
+bad_whole : (w : Wire) (after : List ℕ) → (wire_type w).bad after → (wire_type w).whole after → ⊥
+bad_whole Varint after b h = bad_number h.amount h.front h.rest after b h.amount_is h.whole
+bad_whole Bytes after b h = bad_number h.amount h.size h.content after b h.size_is h.whole
+
+value_short_bad : (code : ℕ) (after : List ℕ) → EndsInValue code after → HasBadValue code after → ⊥
+value_short_bad code after s b = cut_bad s.0 after s.2 (subst (λ (w : Wire). (wire_type w).bad after) (same_code b.0 s.0 (sym b.1 ∙ s.1)) b.2)
+
+value_short_has : (code : ℕ) (after : List ℕ) → EndsInValue code after → HasValue code after → ⊥
+value_short_has code after s (inl h) = cut_whole s.0 after s.2 (subst (λ (w : Wire). (wire_type w).whole after) (same_code h.0 s.0 (sym h.1 ∙ s.1)) h.2)
+value_short_has code after s (inr none) = none s.0 s.1
+
+value_bad_has : (code : ℕ) (after : List ℕ) → HasBadValue code after → HasValue code after → ⊥
+value_bad_has code after b (inl h) = bad_whole b.0 after b.2 (subst (λ (w : Wire). (wire_type w).whole after) (same_code h.0 b.0 (sym h.1 ∙ b.1)) h.2)
+value_bad_has code after b (inr none) = none b.0 b.1
 
 -- ---- and of a field
 
@@ -196,7 +199,7 @@ pub read_short_bad : (rest : List ℕ) → IsShort rest → HasBadVarint rest �
 read_short_bad rest (inl s) (inl b) = short_bad rest s b
 read_short_bad rest (inl s) (inr b) = short_key b.0 b.1 rest b.2 s b.3
 read_short_bad rest (inr s) (inl b) = bad_key s.0 s.1 rest s.2 b s.3
-read_short_bad rest (inr s) (inr b) = value_short_bad b.1 b.2 (carried EndsInValue s.0 b.0 s.1 b.1 rest s.2 b.2 s.3 b.3 s.4) (b.4, b.5)
+read_short_bad rest (inr s) (inr b) = value_short_bad b.1 b.2 (carried EndsInValue s.0 b.0 s.1 b.1 rest s.2 b.2 s.3 b.3 s.4) b.4
 
 pub read_short_field : (rest : List ℕ) (n w : ℕ) → IsShort rest → HasField n w rest → ⊥
 read_short_field rest n w (inl s) f = short_key n w rest f.after s f.has_key
@@ -204,7 +207,7 @@ read_short_field rest n w (inr s) f = value_short_has w f.after (carried EndsInV
 
 pub read_bad_field : (rest : List ℕ) (n w : ℕ) → HasBadVarint rest → HasField n w rest → ⊥
 read_bad_field rest n w (inl b) f = bad_key n w rest f.after b f.has_key
-read_bad_field rest n w (inr b) f = value_bad_has w f.after (carried BadValue b.0 n b.1 w rest b.2 f.after b.3 f.has_key (b.4, b.5)) f.has_value
+read_bad_field rest n w (inr b) f = value_bad_has w f.after (carried HasBadValue b.0 n b.1 w rest b.2 f.after b.3 f.has_key b.4) f.has_value
 
 pub read_one_field : (rest : List ℕ) (m n v w : ℕ) → HasField m v rest → HasField n w rest → (m ≡ n) × (v ≡ w)
 read_one_field rest m n v w f g = let same = keys m n v w rest f.after g.after f.has_key g.has_key in (same.0, same.1)
@@ -214,7 +217,7 @@ pub spelled_has : (at number : ℕ) (v : Value) (front behind rest : List ℕ) �
 spelled_has at number (Number n) front behind rest p e = record {
   after = p.amount ++ behind;
   has_key = record { key = p.key; whole = e ∙ ap (λ (t : List ℕ). t ++ behind) p.whole ∙ append_assoc p.key p.amount behind; wire_is = omega arith; key_is = p.key_is };
-  has_value = inl (refl, record { amount = n; front = p.amount; rest = behind; whole = refl; amount_is = p.amount_is });
+  has_value = inl (Varint, refl, record { amount = n; front = p.amount; rest = behind; whole = refl; amount_is = p.amount_is });
 }
 spelled_has at number (Place start end) front behind rest p e = record {
   after = p.size ++ (p.content ++ behind);
@@ -224,5 +227,5 @@ spelled_has at number (Place start end) front behind rest p e = record {
     wire_is = omega arith;
     key_is = p.key_is;
   };
-  has_value = inr (inl (refl, record { amount = length p.content; size = p.size; content = p.content ++ behind; whole = refl; size_is = p.size_is; enough = omega (arith, length-append p.content behind) }));
+  has_value = inl (Bytes, refl, record { amount = length p.content; size = p.size; content = p.content ++ behind; whole = refl; size_is = p.size_is; enough = omega (arith, length-append p.content behind) });
 }

@@ -3,6 +3,8 @@ use Rattle.std.specs.Prelude.{ℕ, zero, suc, ◌+◌, ◌-◌, ◌/◌, ◌%◌
 use Rattle.std.specs.List.{list_any}
 use Rattle.tg_pbtable.specs.declared.table.Rule.{Rule}
 use Rattle.tg_pbtable.specs.declared.table.Times.{Times}
+use Rattle.tg_pbtable.specs.declared.table.Wire.{Wire}
+use Rattle.tg_pbtable.specs.declared.table.Wire.TheVariants.{Varint, Bytes}
 use Rattle.tg_pbtable.specs.declared.table.Times.TheVariants.{One, Optional, Many}
 use Rattle.tg_pbtable.specs.declared.table.Order.{Order}
 use Rattle.tg_pbtable.specs.declared.table.Order.TheVariants.{Ascending, Runs}
@@ -15,7 +17,8 @@ use Rattle.tg_pbtable.specs.declared.raw.ReadFault.TheVariants.{Short, Bad}
 use Rattle.tg_pbtable.specs.declared.fault.PbFault.{PbFault}
 use Rattle.tg_pbtable.specs.declared.fault.PbFault.TheVariants as faults
 use Rattle.tg_pbtable.specs.Varint.{number_of}
-use Rattle.tg_pbtable.specs.Message.{wire_code, wire_of, numbers_of}
+use Rattle.tg_pbtable.specs.Wires.{wire_code}
+use Rattle.tg_pbtable.specs.Message.{wire_of, numbers_of}
 use Rattle.tg_pbtable.specs.Cursor.{has_number}
 
 -- goes on with what was read, and keeps a fault
@@ -54,13 +57,22 @@ place_in at after amount size =
     if nat_lt (length after - size) amount then Err Short else
     Ok (Some (Place (at + size) (at + size + amount), at + size + amount))
 
+-- the wire type of a number, if it is one that a table may use
+abbrev pub wire_with : ℕ → Option Wire
+wire_with code =
+    if code == wire_code Varint then Some Varint else
+    if code == wire_code Bytes then Some Bytes else
+    None
+
 -- the value of a wire type at the front of the bytes from `at` on, and where the next key stands; no value of a wire type
 -- that is no table's
+abbrev pub value_with : ℕ → List ℕ → Option Wire → Result (Option (Value × ℕ)) ReadFault
+value_with at after None = Ok None
+value_with at after (Some Varint) = and_then (varint_in after) (λ v. Ok (Some (Number v.0, at + v.1)))
+value_with at after (Some Bytes) = and_then (varint_in after) (λ v. place_in at after v.0 v.1)
+
 abbrev pub value_in : ℕ → List ℕ → ℕ → Result (Option (Value × ℕ)) ReadFault
-value_in at after wire =
-    if wire == 0 then and_then (varint_in after) (λ v. Ok (Some (Number v.0, at + v.1))) else
-    if wire == 2 then and_then (varint_in after) (λ v. place_in at after v.0 v.1) else
-    Ok None
+value_in at after code = value_with at after (wire_with code)
 
 -- the key and the value at the front of the bytes from `at` on
 abbrev pub field_in : ℕ → List ℕ → Result RawField ReadFault

@@ -1,12 +1,12 @@
 -- A place between two fields of a text, and the field at a place.
-use Rattle.std.specs.Prelude.{◌≡◌, ℕ, ◌+◌, ◌≤◌, Option, Some, None, Bool, List, [], ◌∷◌, ◌++◌, length, drop, map, nat_lt}
+use Rattle.std.specs.Prelude.{◌≡◌, ℕ, ◌+◌, ◌≤◌, Option, Some, None, Bool, List, [], ◌∷◌, ◌++◌, length, take, drop, map, nat_lt}
 use Rattle.tg_pbtable.specs.declared.table.Rule.{Rule}
 use Rattle.tg_pbtable.specs.declared.table.Order.{Order}
 use Rattle.tg_pbtable.specs.declared.table.Field.{Field}
 use Rattle.tg_pbtable.specs.declared.cursor.FieldCursor.{FieldCursor}
 use Rattle.tg_pbtable.specs.declared.fault.PbFault.{PbFault}
 use Rattle.tg_pbtable.specs.declared.fault.PbFault.TheVariants as faults
-use Rattle.tg_pbtable.specs.Message.{FieldSpelling, HasRule, wire_of, count_of, numbers_of}
+use Rattle.tg_pbtable.specs.Message.{Message, Spelled, FieldSpelling, HasRule, wire_of, count_of, numbers_of}
 use Rattle.tg_pbtable.specs.Faults.{Begins, IsShort, HasBadVarint, IsUnknown, HasWrongWire}
 
 -- the last of the numbers
@@ -28,6 +28,18 @@ pub record HasRead {N : ℕ} (rules : List Rule) (order : Order) (text : List �
   pub begins : Begins rules order text fields cursor.at (drop cursor.at text)
   pub seen_is : cursor.seen ≡ map (λ rule. has_number fields rule.number) rules
   pub last_is : IsLast (numbers_of fields) cursor.last
+
+-- a place between two fields of a message: the fields before it spell the text up to there, and the others are to come
+pub record StandsBetween (rules : List Rule) (order : Order) (text : List ℕ) (at : ℕ) (behind ahead : List Field) : Type 0 where
+  pub message : Message rules order text (behind ++ ahead)
+  pub inside : at ≤ length text
+  pub spelled : Spelled 0 behind (take at text)
+
+-- the field is the next one at a place between two fields, and `next` is the place behind it
+pub record IsNextField (rules : List Rule) (order : Order) (text : List ℕ) (behind ahead : List Field) (field : Field) (next : ℕ) : Type 0 where
+  pub more : List Field
+  pub ahead_is : ahead ≡ field ∷ more
+  pub between : StandsBetween rules order text next (behind ++ field ∷ []) more
 
 -- a field under a rule of the table stands at `at` of the text, and `next` is the place behind it
 pub record StandsAt (rules : List Rule) (text : List ℕ) (at : ℕ) (field : Field) (next : ℕ) : Type 0 where

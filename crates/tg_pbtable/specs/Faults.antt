@@ -8,8 +8,9 @@ use Rattle.tg_pbtable.specs.declared.table.Order.TheVariants.{Ascending, Runs}
 use Rattle.tg_pbtable.specs.declared.table.Field.{Field}
 use Rattle.tg_pbtable.specs.declared.fault.PbFault.{PbFault}
 use Rattle.tg_pbtable.specs.declared.fault.PbFault.TheVariants as faults
-use Rattle.tg_pbtable.specs.Varint.{VarintSpelling, EndsInside, IsBadVarint}
-use Rattle.tg_pbtable.specs.Message.{Spelled, AreRuled, IsAtMost, count_of, IsInOrder, numbers_of, KeySpelling, wire_code}
+use Rattle.tg_pbtable.specs.Varint.{EndsInside, IsBadVarint}
+use Rattle.tg_pbtable.specs.Wires.{wire_code, EndsInValue, HasBadValue, HasValue}
+use Rattle.tg_pbtable.specs.Message.{Spelled, AreRuled, IsAtMost, count_of, IsInOrder, numbers_of, KeySpelling}
 
 -- the text begins with these fields, which the table allows so far, and the rest stands behind them at `at`
 pub record Begins (rules : List Rule) (order : Order) (text : List ℕ) (fields : List Field) (at : ℕ) (rest : List ℕ) : Type 0 where
@@ -36,46 +37,13 @@ pub record HasKey (number wire : ℕ) (bytes after : List ℕ) : Type 0 where
   pub wire_is : wire < 8
   pub key_is : KeySpelling number wire key
 
--- a length stands at the front, and fewer bytes follow it
-pub record EndsInBytes (after : List ℕ) : Type 0 where
-  pub amount : ℕ
-  pub size : List ℕ
-  pub content : List ℕ
-  pub whole : after ≡ size ++ content
-  pub size_is : VarintSpelling amount size
-  pub fewer : length content < amount
-
--- the value of a wire type ends before it is whole
-abbrev pub EndsInValue : ℕ → List ℕ → Type 0
-EndsInValue wire after = ((wire ≡ 0) × EndsInside after) ⊎ ((wire ≡ 2) × (EndsInside after ⊎ EndsInBytes after))
-
 -- 1: the text ends inside the key or the value
 abbrev pub IsShort : List ℕ → Type 0
 IsShort rest = EndsInside rest ⊎ ((number : ℕ) × (wire : ℕ) × (after : List ℕ) × HasKey number wire rest after × EndsInValue wire after)
 
 -- 2: the key, the number or the length is no varint
 abbrev pub HasBadVarint : List ℕ → Type 0
-HasBadVarint rest = IsBadVarint rest ⊎ ((number : ℕ) × (wire : ℕ) × (after : List ℕ) × HasKey number wire rest after
-    × ((wire ≡ 0) ⊎ (wire ≡ 2)) × IsBadVarint after)
-
--- the value of a wire type stands whole behind the key; one of a wire type that is no table's isn't read
-pub record HasNumber (after : List ℕ) : Type 0 where
-  pub amount : ℕ
-  pub front : List ℕ
-  pub rest : List ℕ
-  pub whole : after ≡ front ++ rest
-  pub amount_is : VarintSpelling amount front
-
-pub record HasBytes (after : List ℕ) : Type 0 where
-  pub amount : ℕ
-  pub size : List ℕ
-  pub content : List ℕ
-  pub whole : after ≡ size ++ content
-  pub size_is : VarintSpelling amount size
-  pub enough : amount ≤ length content
-
-abbrev pub HasValue : ℕ → List ℕ → Type 0
-HasValue wire after = ((wire ≡ 0) × HasNumber after) ⊎ (((wire ≡ 2) × HasBytes after) ⊎ ((wire ≢ 0) × (wire ≢ 2)))
+HasBadVarint rest = IsBadVarint rest ⊎ ((number : ℕ) × (wire : ℕ) × (after : List ℕ) × HasKey number wire rest after × HasBadValue wire after)
 
 -- a whole field of this number and wire type stands at the front
 pub record HasField (number wire : ℕ) (rest : List ℕ) : Type 0 where

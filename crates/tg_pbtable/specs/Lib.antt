@@ -1,3 +1,4 @@
+pub mod Wires
 pub mod Varint
 pub mod Message
 pub mod Faults
@@ -7,3 +8,5 @@ pub mod Reading
 pub mod Writing
 pub mod Values
 pub mod Computed
+pub mod Laws
+pub mod Place

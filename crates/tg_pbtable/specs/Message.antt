@@ -14,11 +14,7 @@ use Rattle.tg_pbtable.specs.declared.table.Field.{Field}
 use Rattle.tg_pbtable.specs.declared.table.Value.{Value}
 use Rattle.tg_pbtable.specs.declared.table.Value.TheVariants.{Number, Place}
 use Rattle.tg_pbtable.specs.Varint.{VarintSpelling}
-
--- the wire types' numbers
-abbrev pub wire_code : Wire → ℕ
-wire_code Varint = 0
-wire_code Bytes = 2
+use Rattle.tg_pbtable.specs.Wires.{wire_code}
 
 -- the wire type of a value
 abbrev pub wire_of : Value → Wire
@@ -29,22 +25,22 @@ wire_of (Place start end) = Bytes
 abbrev pub KeySpelling : ℕ → ℕ → List ℕ → Type 0
 KeySpelling number wire bytes = VarintSpelling (number * 8 + wire) bytes
 
--- a key of wire type 0 and the spelling of a number
+-- a key and the spelling of a number
 pub record NumberSpelling (number value : ℕ) (bytes : List ℕ) : Type 0 where
   pub key : List ℕ
   pub amount : List ℕ
   pub whole : bytes ≡ key ++ amount
-  pub key_is : KeySpelling number 0 key
+  pub key_is : KeySpelling number (wire_code Varint) key
   pub amount_is : VarintSpelling value amount
 
--- a key of wire type 2, the spelling of a length, and that many bytes, which lie from `start` to `end` of a text in which
+-- a key, the spelling of a length, and that many bytes, which lie from `start` to `end` of a text in which
 -- the key stands at `at`
 pub record PlaceSpelling (at number start end : ℕ) (bytes : List ℕ) : Type 0 where
   pub key : List ℕ
   pub size : List ℕ
   pub content : List ℕ
   pub whole : bytes ≡ key ++ (size ++ content)
-  pub key_is : KeySpelling number 2 key
+  pub key_is : KeySpelling number (wire_code Bytes) key
   pub size_is : VarintSpelling (length content) size
   pub are_bytes : All (λ b. b < 256) content
   pub start_is : start ≡ at + length key + length size

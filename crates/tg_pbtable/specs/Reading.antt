@@ -1,7 +1,9 @@
 -- What the scanner's private functions say.
-use Rattle.std.specs.Prelude.{◌≡◌, ◌≢◌, ℕ, ◌+◌, ◌<◌, ◌≤◌, ◌⊎◌, Option, Some, None, Bool, true, false, List, ◌++◌, length, take, All, slice_get, slice_index_or}
+use Rattle.std.specs.Prelude.{◌≡◌, ℕ, ◌+◌, ◌<◌, ◌≤◌, Option, Some, None, Bool, true, false, List, ◌++◌, length, take, All, slice_get, slice_index_or}
 use Rattle.tg_pbtable.specs.declared.table.Rule.{Rule}
 use Rattle.tg_pbtable.specs.declared.table.Times.TheVariants.{One}
+use Rattle.tg_pbtable.specs.declared.table.Wire.{Wire}
+use Rattle.tg_pbtable.specs.declared.table.Wire.TheVariants.{Varint, Bytes}
 use Rattle.tg_pbtable.specs.declared.table.Field.{Field}
 use Rattle.tg_pbtable.specs.declared.table.Value.{Value}
 use Rattle.tg_pbtable.specs.declared.table.Value.TheVariants.{Number, Place}
@@ -9,8 +11,9 @@ use Rattle.tg_pbtable.specs.declared.raw.RawField.{RawField}
 use Rattle.tg_pbtable.specs.declared.raw.ReadFault.{ReadFault}
 use Rattle.tg_pbtable.specs.declared.raw.ReadFault.TheVariants.{Short, Bad}
 use Rattle.tg_pbtable.specs.Varint.{VarintSpelling, EndsInside, IsBadVarint}
-use Rattle.tg_pbtable.specs.Message.{ValueSpelling, wire_of, wire_code}
-use Rattle.tg_pbtable.specs.Faults.{HasField, EndsInValue, IsShort, HasBadVarint}
+use Rattle.tg_pbtable.specs.Wires.{wire_code, IsNoWire, EndsInValue, HasBadValue}
+use Rattle.tg_pbtable.specs.Message.{ValueSpelling, wire_of}
+use Rattle.tg_pbtable.specs.Faults.{HasField, IsShort, HasBadVarint}
 
 -- the first bytes, as many as `size`, spell the number
 pub record IsVarintAt (bytes : List ℕ) (number size : ℕ) : Type 0 where
@@ -23,7 +26,7 @@ IsVarintFault Bad bytes = IsBadVarint bytes
 
 -- a number, which stands at the front of the bytes from `at` on
 pub record IsNumberAt (at : ℕ) (after : List ℕ) (wire value next : ℕ) : Type 0 where
-  pub wire_is : wire ≡ 0
+  pub wire_is : wire ≡ wire_code Varint
   pub amount : List ℕ
   pub rest : List ℕ
   pub whole : after ≡ amount ++ rest
@@ -32,7 +35,7 @@ pub record IsNumberAt (at : ℕ) (after : List ℕ) (wire value next : ℕ) : Ty
 
 -- a length and that many bytes
 pub record IsPlaceAt (at : ℕ) (after : List ℕ) (wire start end next : ℕ) : Type 0 where
-  pub wire_is : wire ≡ 2
+  pub wire_is : wire ≡ wire_code Bytes
   pub size : List ℕ
   pub content : List ℕ
   pub rest : List ℕ
@@ -48,12 +51,12 @@ IsSomeValueAt at after wire (Number n) next = IsNumberAt at after wire n next
 IsSomeValueAt at after wire (Place start end) next = IsPlaceAt at after wire start end next
 
 abbrev pub IsValueAt : ℕ → List ℕ → ℕ → Option (Value × ℕ) → Type 0
-IsValueAt at after wire None = (wire ≢ 0) × (wire ≢ 2)
+IsValueAt at after wire None = IsNoWire wire
 IsValueAt at after wire (Some v) = IsSomeValueAt at after wire v.0 v.1
 
 abbrev pub IsValueFault : ReadFault → ℕ → List ℕ → Type 0
 IsValueFault Short wire after = EndsInValue wire after
-IsValueFault Bad wire after = ((wire ≡ 0) ⊎ (wire ≡ 2)) × IsBadVarint after
+IsValueFault Bad wire after = HasBadValue wire after
 
 -- a field of this number and value stands at the front of the bytes from `at` on
 pub record IsSpelledAt (at : ℕ) (rest : List ℕ) (number : ℕ) (value : Value) (next : ℕ) : Type 0 where
@@ -65,7 +68,7 @@ pub record IsSpelledAt (at : ℕ) (rest : List ℕ) (number : ℕ) (value : Valu
   pub more : 0 < length front
 
 abbrev pub IsValueOf : ℕ → List ℕ → ℕ → ℕ → Option (Value × ℕ) → Type 0
-IsValueOf at rest number wire None = (wire ≢ 0) × (wire ≢ 2)
+IsValueOf at rest number wire None = IsNoWire wire
 IsValueOf at rest number wire (Some v) = (wire ≡ wire_code (wire_of v.0)) × IsSpelledAt at rest number v.0 v.1
 
 pub record IsFieldAt (at : ℕ) (rest : List ℕ) (raw : RawField) : Type 0 where
@@ -76,6 +79,11 @@ pub record IsFieldAt (at : ℕ) (rest : List ℕ) (raw : RawField) : Type 0 wher
 abbrev pub IsFieldFault : ReadFault → List ℕ → Type 0
 IsFieldFault Short rest = IsShort rest
 IsFieldFault Bad rest = HasBadVarint rest
+
+-- the wire type of a number, or none where it is no table's
+abbrev pub IsWireOf : ℕ → Option Wire → Type 0
+IsWireOf code None = IsNoWire code
+IsWireOf code (Some wire) = code ≡ wire_code wire
 
 -- the rule at an index
 pub record IsRuleAt (rules : List Rule) (i : ℕ) (rule : Rule) : Type 0 where

@@ -1,6 +1,8 @@
 -- What the fields of one number say, in their order.
 use Rattle.std.specs.Prelude.{◌≡◌, ℕ, List, [], ◌∷◌, ◌++◌, ◌==◌, slice_range, Option, Some, None, if◌then◌else◌}
 use Rattle.tg_pbtable.specs.declared.table.Field.{Field}
+use Rattle.tg_pbtable.specs.declared.table.Wire.{Wire}
+use Rattle.tg_pbtable.specs.declared.table.Wire.TheVariants.{Varint, Bytes}
 use Rattle.tg_pbtable.specs.declared.table.Value.{Value}
 use Rattle.tg_pbtable.specs.declared.table.Value.TheVariants.{Number, Place}
 
@@ -30,3 +32,8 @@ listed (Some x) = x ∷ []
 pub record HasSameValues (source : List ℕ) (fields : List Field) (text : List ℕ) (others : List Field) : Type 0 where
   pub numbers : (number : ℕ) → numbers_at number fields ≡ numbers_at number others
   pub bytes : (number : ℕ) → bytes_at source number fields ≡ bytes_at text number others
+
+-- two texts have the same values of a number, numbers or bytes as its wire type says
+abbrev pub IsSameFor : List ℕ → List Field → List ℕ → List Field → ℕ → Wire → Type 0
+IsSameFor source fields text others number Varint = numbers_at number fields ≡ numbers_at number others
+IsSameFor source fields text others number Bytes = bytes_at source number fields ≡ bytes_at text number others

@@ -9,29 +9,29 @@ use thiserror::Error;
 #[derive(Clone, Copy, Debug, PartialEq, Eq, Error)]
 pub enum PbFault {
     /// The text ends inside the field at `at`.
-    #[error("the field at {at} is cut short")]
+    #[error("Short {at}")]
     Short { at: u64 },
     /// The key, the number or the length of the field has more than 10 bytes, isn't the shortest spelling, or spells
     /// 2 ^ 64 or more.
-    #[error("the field at {at} has a bad varint")]
+    #[error("BadVarint {at}")]
     BadVarint { at: u64 },
     /// No rule has the field's number.
-    #[error("the field at {at} has the unknown number {number}")]
+    #[error("Unknown {at} {number}")]
     Unknown { at: u64, number: u64 },
     /// The rule of the field's number has another wire type.
-    #[error("the field at {at} has a wrong wire type")]
+    #[error("WrongWire {at}")]
     WrongWire { at: u64 },
     /// The field stands behind one that has to follow it.
-    #[error("the field at {at} is out of order")]
+    #[error("OutOfOrder {at}")]
     OutOfOrder { at: u64 },
     /// The field directly before it has the same number, which may stand once alone.
-    #[error("the field at {at} is doubled")]
+    #[error("Doubled {at}")]
     Doubled { at: u64 },
     /// The lowest number of which a field is asked for and none is there.
-    #[error("there is no field of number {number}")]
+    #[error("Missing {number}")]
     Missing { number: u64 },
     /// No memory was found for the fields.
-    #[error("out of memory")]
+    #[error("OutOfMemory")]
     OutOfMemory,
 }
 

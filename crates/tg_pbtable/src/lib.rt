@@ -4,6 +4,7 @@
 mod computed;
 mod cursor;
 mod fault;
+mod laws;
 mod raw;
 mod reading;
 mod ruled;
@@ -13,10 +14,8 @@ mod writing;
 pub use computed::computes;
 pub use cursor::FieldCursor;
 pub use fault::PbFault;
+pub use laws::table_laws;
 pub use reading::scan;
 pub use ruled::field_at;
-pub use table::{Field, Fields, Order, Rule, Times, Value, Wire};
-pub use writing::{emit, one_message, same_values};
-
-#[cfg(test)]
-mod tests;
+pub use table::{Field, Fields, Order, Place, Rule, Times, Value, Wire};
+pub use writing::emit;

@@ -2,7 +2,7 @@
 ghost use Rattle.std.specs.Prelude.{◌≡◌, ◌<◌, ◌≤◌, length, drop, MatchResult};
 ghost use Rattle.tg_pbtable.specs.Reading.{IsVarintAt, IsVarintFault, IsValueAt, IsValueFault, IsFieldAt, IsFieldFault};
 
-use crate::table::Value;
+use crate::table::{Value, Wire};
 
 /// Why nothing is read: the bytes end too soon, or a varint is bad.
 #[derive(Clone, Copy)]
@@ -34,26 +34,25 @@ pub(crate) fn raw_field_at(bytes: &[u8], at: usize) -> Result<RawField, ReadFaul
 }
 
 /// The value of a wire type at `at`, with the offset behind it.
-fn value_at(bytes: &[u8], at: usize, wire: u64) -> Result<Option<(Value, usize)>, ReadFault>
+fn value_at(bytes: &[u8], at: usize, code: u64) -> Result<Option<(Value, usize)>, ReadFault>
     requires { at ≤ length bytes.now }
-    ensures { MatchResult result (λ value. IsValueAt at (drop at bytes.now) wire value)
-        (λ e. IsValueFault e wire (drop at bytes.now)) }
+    ensures { MatchResult result (λ value. IsValueAt at (drop at bytes.now) code value)
+        (λ e. IsValueFault e code (drop at bytes.now)) }
 {
+    let Some(wire) = Wire::with_code(code) else {
+        return Ok(None);
+    };
+    let (number, size) = varint_at(&bytes[at..])?;
     match wire {
-        0 => {
-            let (number, size) = varint_at(&bytes[at..])?;
-            Ok(Some((Value::Number(number), at + size)))
-        }
-        2 => {
-            let (amount, size) = varint_at(&bytes[at..])?;
+        Wire::Varint => Ok(Some((Value::Number(number), at + size))),
+        Wire::Bytes => {
             let start = at + size;
-            if amount > (bytes.len() - start) as u64 {
+            if number > (bytes.len() - start) as u64 {
                 return Err(ReadFault::Short);
             }
-            let end = start + amount as usize;
+            let end = start + number as usize;
             Ok(Some((Value::Place { start, end }, end)))
         }
-        _ => Ok(None),
     }
 }
 

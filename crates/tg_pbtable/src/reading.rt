@@ -23,7 +23,7 @@ pub fn scan<const N: usize>(
     bytes: &[u8],
 ) -> Result<Fields, PbFault>
     requires { IsTable rules.now }
-    ensures ok { IfOk result (λ fields. Message rules.now order bytes.now fields) }
+    ensures found { IfOk result (λ fields. Message rules.now order bytes.now fields) }
     // Each place lies in the text.
     ensures places { IfOk result (λ fields. All (λ field. LiesIn bytes.now field.value) fields) }
     ensures only { (fields : List Field) → Message rules.now order bytes.now fields

@@ -1,10 +1,11 @@
 //! One field of a text, with the table's rule for it.
-ghost use Rattle.std.specs.Prelude.{◌≡◌, ◌≢◌, ◌≤◌, ℕ, length, drop, All, IfOk, IfErr, MatchOption, MatchResult};
+ghost use Rattle.std.specs.Prelude.{◌≡◌, ◌≢◌, ◌≤◌, ℕ, List, [], length, drop, All, IfOk, IfErr, MatchOption, MatchResult};
 ghost use Rattle.tg_pbtable.specs.Message.{IsTable, wire_of};
 ghost use Rattle.tg_pbtable.specs.Emitted.{LiesIn};
-ghost use Rattle.tg_pbtable.specs.Cursor.{StandsAt, IsRefused};
+ghost use Rattle.tg_pbtable.specs.Cursor.{StandsAt, StandsBetween, IsNextField, IsRefused};
 ghost use Rattle.tg_pbtable.specs.Reading.{IsRuled, HasNumberAt};
 ghost use Rattle.tg_pbtable.specs.declared.table.Field.{Field};
+ghost use Rattle.tg_pbtable.specs.declared.table.Order.{Order};
 ghost use Rattle.tg_pbtable.specs.declared.fault.PbFault.{PbFault};
 
 use crate::fault::PbFault;
@@ -26,6 +27,9 @@ pub fn field_at<const N: usize>(
         × LiesIn bytes.now r.0.value × (r.1 ≤ length bytes.now)) }
     ensures only { (field : Field) (next : ℕ) → StandsAt rules.now bytes.now at field next
         → result ≡ Ok (field, next) }
+    // At a place between two fields of a message the next one is found, or none is left.
+    ensures between { (order : Order) (behind ahead : List Field) → StandsBetween rules.now order bytes.now at behind ahead
+        → MatchResult result (λ r. IsNextField rules.now order bytes.now behind ahead r.0 r.1) (λ _. ahead ≡ []) }
 
     // Each refusal comes only where its cause holds, and where a cause holds it comes.
     ensures cause { IfErr result (λ e. IsRefused rules.now at (drop at bytes.now) e) }

@@ -1,5 +1,7 @@
 //! Tables of fields, and the fields of a text.
 ghost use Rattle.std.specs.Prelude.{◌≡◌};
+ghost use Rattle.tg_pbtable.specs.Wires.{wire_code};
+ghost use Rattle.tg_pbtable.specs.Reading.{IsWireOf};
 
 use std::marker::Model;
 
@@ -10,6 +12,31 @@ pub enum Wire {
     Varint,
     /// Wire type 2: a length and that many bytes.
     Bytes,
+}
+
+impl Wire {
+    /// The wire type's number.
+    pub(crate) fn code(self) -> u64
+        ensures { result ≡ wire_code self }
+    {
+        match self {
+            Wire::Varint => 0,
+            Wire::Bytes => 2,
+        }
+    }
+
+    /// The wire type of a number, or none where it is none that a table may use.
+    pub(crate) fn with_code(code: u64) -> Option<Wire>
+        ensures { IsWireOf code result }
+    {
+        if code == Wire::Varint.code() {
+            Some(Wire::Varint)
+        } else if code == Wire::Bytes.code() {
+            Some(Wire::Bytes)
+        } else {
+            None
+        }
+    }
 }
 
 /// How often a number may stand.
@@ -45,6 +72,13 @@ pub enum Order {
 pub enum Value {
     Number(u64),
     Place { start: usize, end: usize },
+}
+
+/// Where bytes lie in a text: from `start` up to and without `end`.
+#[derive(Clone, Copy, Debug, PartialEq, Eq)]
+pub struct Place {
+    pub start: usize,
+    pub end: usize,
 }
 
 /// One field of a text.

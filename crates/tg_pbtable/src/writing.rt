@@ -1,15 +1,12 @@
 //! The text of fields.
-ghost use Rattle.std.specs.Prelude.{◌≡◌, ℕ, List, All, IfOk, OnOk};
+ghost use Rattle.std.specs.Prelude.{◌≤◌, List, All, IfOk, OnOk};
 ghost use Rattle.tg_pbtable.specs.Message.{Message, IsTable, Spelled, AreRuled, IsCount, count_of, IsInOrder, numbers_of};
 ghost use Rattle.tg_pbtable.specs.Emitted.{LiesIn, AreSameFields};
 ghost use Rattle.tg_pbtable.specs.Writing.{Puts, PutsVarint};
 ghost use Rattle.tg_pbtable.specs.declared.table.Field.{Field};
-ghost use Rattle.tg_pbtable.specs.declared.table.Rule.{Rule};
 ghost use Rattle.tg_pbtable.specs.declared.table.Order.{Order};
-ghost use Rattle.tg_pbtable.specs.declared.table.Order.TheVariants.{Ascending};
-ghost use Rattle.tg_pbtable.specs.Values.{HasSameValues};
 
-use crate::table::{Field, Fields, Rule, Value};
+use crate::table::{Field, Fields, Rule, Value, Wire};
 use std::alloc::{AllocError, Global};
 
 /// The text of fields in their order, each place taken from the source. The error is want of memory.
@@ -33,28 +30,40 @@ pub fn emit<const N: usize>(
         → IfOk result (λ text. (placed : List Field) × Message rules.now order text.items placed
         × AreSameFields source.now fields.now text.items placed) }
 {
-    let mut text = Vec::new(alloc);
+    let mut text = Vec::with_capacity(alloc, size_of_fields(fields.as_slice()))?;
     for field in fields.as_slice() {
         put_field(&mut text, field, source)?;
     }
     Ok(text)
 }
 
-/// A text has one list of fields, and fields have one text: the bytes of two texts with the same fields are the same.
-pub fn one_message()
-    ensures one_reading { (at : ℕ) (text : List ℕ) (a b : List Field) → Spelled at a text → Spelled at b text → a ≡ b }
-    ensures one_text { (s t : List ℕ) (a b : List Field) → Spelled 0 a s → Spelled 0 b t → AreSameFields s a t b → s ≡ t }
-{}
+/// How many bytes the spellings of the fields take, which is how much is reserved for them.
+fn size_of_fields(fields: &[Field]) -> usize {
+    let mut size = 0usize;
+    for field in fields {
+        size = size.saturating_add(size_of_field(field));
+    }
+    size
+}
 
-/// Two messages with the same values of each number are one text: in ascending order, and in any order where the numbers
-/// of their fields are the same, one by one.
-pub fn same_values()
-    ensures ascending { (rules : List Rule) (s t : List ℕ) (a b : List Field) → IsTable rules
-        → Message rules Ascending s a → Message rules Ascending t b → HasSameValues s a t b → s ≡ t }
-    ensures any_order { (rules : List Rule) (order : Order) (s t : List ℕ) (a b : List Field) → IsTable rules
-        → Message rules order s a → Message rules order t b → numbers_of a ≡ numbers_of b
-        → HasSameValues s a t b → s ≡ t }
-{}
+/// How many bytes the spelling of a field takes.
+fn size_of_field(field: &Field) -> usize {
+    let key = size_of_varint(u64::from(field.number) * 8);
+    match field.value {
+        Value::Number(number) => key + size_of_varint(number),
+        Value::Place { start, end } => {
+            let content = end.saturating_sub(start);
+            content.saturating_add(key + size_of_varint(content as u64))
+        }
+    }
+}
+
+/// How many bytes the spelling of a number takes: one for each seven bits, and one at least.
+fn size_of_varint(number: u64) -> usize
+    ensures { result ≤ 10 }
+{
+    (70 - (number | 1).leading_zeros() as usize) / 7
+}
 
 /// Puts the spelling of a field behind the text.
 fn put_field(text: &mut Vec<u8>, field: &Field, source: &[u8]) -> Result<(), AllocError>
@@ -64,12 +73,12 @@ fn put_field(text: &mut Vec<u8>, field: &Field, source: &[u8]) -> Result<(), All
     let key = u64::from(field.number) * 8;
     match field.value {
         Value::Number(number) => {
-            put_varint(text, key)?;
+            put_varint(text, key + Wire::Varint.code())?;
             put_varint(text, number)
         }
         Value::Place { start, end } => {
             let content = &source[start..end];
-            put_varint(text, key + 2)?;
+            put_varint(text, key + Wire::Bytes.code())?;
             put_varint(text, content.len() as u64)?;
             text.extend_from_slice(content)
         }

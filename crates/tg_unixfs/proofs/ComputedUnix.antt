@@ -10,8 +10,7 @@ use Rattle.tg_pbtable.specs.Message.{Message, count_of}
 use Rattle.tg_pbtable.specs.Faults.{HasCause}
 use Rattle.tg_pbtable.specs.Values.{numbers_at, bytes_at, listed}
 use Rattle.tg_pbtable.specs.Computed.{fields_of}
-use Rattle.tg_pbtable.proofs.Values.{values_count, all_numbers}
-use Rattle.tg_pbtable.proofs.ComputedFields.{fields_law, fault_law}
+use Rattle.tg_pbtable.specs.Laws.{TableLaws}
 use Rattle.tg_unixfs.specs.declared.TheConstants.{DATA}
 use Rattle.tg_unixfs.specs.declared.Unix.{Unix}
 use Rattle.tg_unixfs.specs.declared.UnixFault.{UnixFault}
@@ -34,20 +33,20 @@ exactly_one [] l = absurd (omega arith)
 exactly_one (x ∷ []) l = refl
 exactly_one (x ∷ y ∷ xs) l = absurd (omega arith)
 
-pub parts_told : (text : List ℕ) (fs : List Field) → Message DATA.now Ascending text fs → HasParts text fs (parts_of text fs)
-parts_told text fs m =
+pub parts_told : (laws : TableLaws) → (text : List ℕ) (fs : List Field) → Message DATA.now Ascending text fs → HasParts text fs (parts_of text fs)
+parts_told laws text fs m =
     let one : count_of fs 1 ≡ 1 = m.counts 0 any_rule (omega arith) in
     let two : count_of fs 2 ≤ 1 = m.counts 1 any_rule (omega arith) in
     let three : count_of fs 3 ≤ 1 = m.counts 2 any_rule (omega arith) in
     let five : count_of fs 5 ≤ 1 = m.counts 4 any_rule (omega arith) in
     let six : count_of fs 6 ≤ 1 = m.counts 5 any_rule (omega arith) in
     record {
-      kind = exactly_one (numbers_at 1 fs) (all_numbers DATA.now 1 fs data_table (rule_at 0 (omega arith)) m.ruled ∙ one);
-      inline = at_most_one (bytes_at text 2 fs) (omega (arith, values_count text 2 fs));
-      filesize = at_most_one (numbers_at 3 fs) (omega (arith, values_count text 3 fs));
+      kind = exactly_one (numbers_at 1 fs) (laws.values.all_numbers DATA.now 1 fs (data_table laws) (rule_at 0 (omega arith)) m.ruled ∙ one);
+      inline = at_most_one (bytes_at text 2 fs) (omega (arith, laws.values.count text 2 fs));
+      filesize = at_most_one (numbers_at 3 fs) (omega (arith, laws.values.count text 3 fs));
       sizes = refl;
-      hash = at_most_one (numbers_at 5 fs) (omega (arith, values_count text 5 fs));
-      fanout = at_most_one (numbers_at 6 fs) (omega (arith, values_count text 6 fs));
+      hash = at_most_one (numbers_at 5 fs) (omega (arith, laws.values.count text 5 fs));
+      fanout = at_most_one (numbers_at 6 fs) (omega (arith, laws.values.count text 6 fs));
     }
 
 -- ---- the checks
@@ -136,42 +135,42 @@ bad_fanout u number five murmur e other =
 
 -- ---- the text
 
-with_told : (text : List ℕ) (r : Result (List Field) PbFault) → All (λ (b : ℕ). b < 256) text → fields_of DATA.now Ascending text ≡ r → UnixTold text (with_fields text r)
-with_told text (Ok fields) are e =
-    let m = (fields_law DATA.now Ascending text fields data_table are).0 e in
-    checked_told text (parts_of text fields) (record { fields = fields; message = m; parts = parts_told text fields m })
-with_told text (Err fault) are e = (fault_law DATA.now Ascending text fault data_table are).0 e
+with_told : (laws : TableLaws) → (text : List ℕ) (r : Result (List Field) PbFault) → All (λ (b : ℕ). b < 256) text → fields_of DATA.now Ascending text ≡ r → UnixTold text (with_fields text r)
+with_told laws text (Ok fields) are e =
+    let m = (laws.messages.computed DATA.now Ascending text fields (data_table laws) are).0 e in
+    checked_told text (parts_of text fields) (record { fields = fields; message = m; parts = parts_told laws text fields m })
+with_told laws text (Err fault) are e = (laws.messages.computed_fault DATA.now Ascending text fault (data_table laws) are).0 e
 
-unix_told : (text : List ℕ) → All (λ (b : ℕ). b < 256) text → UnixTold text (unix_of text)
+unix_told : (laws : TableLaws) → (text : List ℕ) → All (λ (b : ℕ). b < 256) text → UnixTold text (unix_of text)
 unfolding unix_of
-unix_told text are = with_told text (fields_of DATA.now Ascending text) are refl
+unix_told laws text are = with_told laws text (fields_of DATA.now Ascending text) are refl
 
 -- data of a text is computed up to the checks
-data_is : (text : List ℕ) (u : Unix) → All (λ (b : ℕ). b < 256) text → HasData text u → unix_of text ≡ checked u
+data_is : (laws : TableLaws) → (text : List ℕ) (u : Unix) → All (λ (b : ℕ). b < 256) text → HasData text u → unix_of text ≡ checked u
 unfolding unix_of
-data_is text u are d =
-    ap (with_fields text) ((fields_law DATA.now Ascending text d.fields data_table are).1 d.message)
-    ∙ ap checked (one_data text d.fields d.fields (parts_of text d.fields) u d.message d.message (parts_told text d.fields d.message) d.parts)
+data_is laws text u are d =
+    ap (with_fields text) ((laws.messages.computed DATA.now Ascending text d.fields (data_table laws) are).1 d.message)
+    ∙ ap checked (one_data laws text d.fields d.fields (parts_of text d.fields) u d.message d.message (parts_told laws text d.fields d.message) d.parts)
 
-fault_is : (text : List ℕ) (fault : PbFault) → All (λ (b : ℕ). b < 256) text → HasCause DATA.now Ascending text fault → unix_of text ≡ Err (faults.Pb fault)
+fault_is : (laws : TableLaws) → (text : List ℕ) (fault : PbFault) → All (λ (b : ℕ). b < 256) text → HasCause DATA.now Ascending text fault → unix_of text ≡ Err (faults.Pb fault)
 unfolding unix_of
-fault_is text fault are h = ap (with_fields text) ((fault_law DATA.now Ascending text fault data_table are).1 h)
+fault_is laws text fault are h = ap (with_fields text) ((laws.messages.computed_fault DATA.now Ascending text fault (data_table laws) are).1 h)
 
-cause_is : (text : List ℕ) (fault : UnixFault) → All (λ (b : ℕ). b < 256) text → HasUnixCause text fault → unix_of text ≡ Err fault
-cause_is text (faults.Pb fault) are h = fault_is text fault are h
-cause_is text (faults.BadKind number) are h = data_is text h.unix are h.has ∙ bad_kind h.unix number h.kind h.unknown
-cause_is text (faults.BadHash number) are h = data_is text h.unix are h.has ∙ bad_hash h.unix number h.kind h.number_is h.other
-cause_is text (faults.BadFanout number) are h = data_is text h.unix are h.has ∙ bad_fanout h.unix number h.kind h.hash h.number_is h.other
-cause_is text faults.OutOfMemory are h = absurd h
+cause_is : (laws : TableLaws) → (text : List ℕ) (fault : UnixFault) → All (λ (b : ℕ). b < 256) text → HasUnixCause text fault → unix_of text ≡ Err fault
+cause_is laws text (faults.Pb fault) are h = fault_is laws text fault are h
+cause_is laws text (faults.BadKind number) are h = data_is laws text h.unix are h.has ∙ bad_kind h.unix number h.kind h.unknown
+cause_is laws text (faults.BadHash number) are h = data_is laws text h.unix are h.has ∙ bad_hash h.unix number h.kind h.number_is h.other
+cause_is laws text (faults.BadFanout number) are h = data_is laws text h.unix are h.has ∙ bad_fanout h.unix number h.kind h.hash h.number_is h.other
+cause_is laws text faults.OutOfMemory are h = absurd h
 
-pub data_law : (text : List ℕ) (unix : Unix) → All (λ (b : ℕ). b < 256) text → (unix_of text ≡ Ok unix) ↔ UnixText unix text
-data_law text unix are = (
-  λ e. subst (λ (r : Result Unix UnixFault). UnixTold text r) e (unix_told text are),
-  λ h. data_is text unix are (record { fields = h.fields; message = h.message; parts = h.parts }) ∙ checked_ok unix h.is_unix,
+pub data_law : (laws : TableLaws) → (text : List ℕ) (unix : Unix) → All (λ (b : ℕ). b < 256) text → (unix_of text ≡ Ok unix) ↔ UnixText unix text
+data_law laws text unix are = (
+  λ e. subst (λ (r : Result Unix UnixFault). UnixTold text r) e (unix_told laws text are),
+  λ h. data_is laws text unix are (record { fields = h.fields; message = h.message; parts = h.parts }) ∙ checked_ok unix h.is_unix,
 )
 
-pub unix_fault_law : (text : List ℕ) (fault : UnixFault) → All (λ (b : ℕ). b < 256) text → (unix_of text ≡ Err fault) ↔ HasUnixCause text fault
-unix_fault_law text fault are = (
-  λ e. subst (λ (r : Result Unix UnixFault). UnixTold text r) e (unix_told text are),
-  λ h. cause_is text fault are h,
+pub unix_fault_law : (laws : TableLaws) → (text : List ℕ) (fault : UnixFault) → All (λ (b : ℕ). b < 256) text → (unix_of text ≡ Err fault) ↔ HasUnixCause text fault
+unix_fault_law laws text fault are = (
+  λ e. subst (λ (r : Result Unix UnixFault). UnixTold text r) e (unix_told laws text are),
+  λ h. cause_is laws text fault are h,
 )

@@ -7,6 +7,7 @@ use Rattle.tg_pbtable.specs.declared.table.Order.{Order}
 use Rattle.tg_pbtable.specs.declared.table.Order.TheVariants.{Ascending}
 use Rattle.tg_pbtable.specs.Message.{Message, AreRuled, IsCount, IsInOrder, count_of, numbers_of}
 use Rattle.tg_pbtable.specs.Emitted.{LiesIn, AreSameFields}
+use Rattle.tg_pbtable.specs.Laws.{TableLaws}
 use Rattle.tg_unixfs.specs.declared.TheConstants.{DATA}
 use Rattle.tg_unixfs.specs.declared.Unix.{Unix}
 use Rattle.tg_unixfs.specs.Unix.{IsUnix, UnixText}
@@ -14,11 +15,11 @@ use Rattle.tg_unixfs.specs.Writing.{source_of, all_fields}
 use Rattle.tg_unixfs.proofs.Same.{parts_again}
 use Rattle.tg_unixfs.proofs.Listing.{listed_parts, listed_counts, listed_rise, listed_ruled, listed_inside}
 
-pub encoded : (u : Unix) (source text : List ℕ) (fs : List Field) → IsUnix u → source ≡ source_of u.inline → fs ≡ all_fields u
+pub encoded : (laws : TableLaws) → (u : Unix) (source text : List ℕ) (fs : List Field) → IsUnix u → source ≡ source_of u.inline → fs ≡ all_fields u
     → ((order : Order) → All (λ (rule : Rule). IsCount rule.times (count_of fs rule.number)) DATA.now → IsInOrder order (numbers_of fs)
     → (placed : List Field) × Message DATA.now order text placed × AreSameFields source fs text placed)
     → UnixText u text
-encoded u source text fs is s f again =
+encoded laws u source text fs is s f again =
     let counts = subst (λ (xs : List Field). All (λ (rule : Rule). IsCount rule.times (count_of xs rule.number)) DATA.now) (sym f) (listed_counts u) in
     let rise = subst (λ (xs : List Field). IsInOrder Ascending (numbers_of xs)) (sym f) (listed_rise u) in
     let h = again Ascending counts rise in
@@ -26,7 +27,7 @@ encoded u source text fs is s f again =
     record {
       fields = h.0;
       message = h.1;
-      parts = parts_again (source_of u.inline) text (all_fields u) h.0 u same (listed_parts u);
+      parts = parts_again laws (source_of u.inline) text (all_fields u) h.0 u same (listed_parts u);
       is_unix = is;
     }
 

@@ -1,7 +1,8 @@
-pub mod Parts
-pub mod Gathering
-pub mod Same
-pub mod Listing
-pub mod Encoding
-pub mod ComputedUnix
+mod Parts
+mod Gathering
+mod Same
+mod Placing
+mod Listing
+mod Encoding
+mod ComputedUnix
 mod ComputedValues

@@ -4,6 +4,7 @@ use Rattle.std.specs.Prelude.{All, slice_range, ◌==◌, if◌then◌else◌}
 use Rattle.std.specs.List.Sorted.{IsNonDecreasing}
 use Rattle.std.proofs.lemmas.List.{append-nil, take_more, take_all}
 use Rattle.std.proofs.lemmas.List.Elements.{All-nil, All-cons, All-append}
+use Rattle.std.proofs.lemmas.List.Sums.{sum_by-cons}
 use Rattle.tg_pbtable.specs.declared.table.Rule.{Rule}
 use Rattle.tg_pbtable.specs.declared.table.Wire.TheVariants.{Varint, Bytes}
 use Rattle.tg_pbtable.specs.declared.table.Field.{Field}
@@ -11,13 +12,11 @@ use Rattle.tg_pbtable.specs.declared.table.Value.{Value}
 use Rattle.tg_pbtable.specs.declared.table.Value.TheVariants.{Number, Place}
 use Rattle.tg_pbtable.specs.Message.{HasRule, AreRuled, IsCount, count_of, numbers_of, wire_of}
 use Rattle.tg_pbtable.specs.Emitted.{LiesIn}
-use Rattle.tg_pbtable.proofs.Numbers.{count_cons}
 use Rattle.tg_unixfs.specs.declared.TheConstants.{DATA}
 use Rattle.tg_unixfs.specs.declared.Unix.{Unix}
-use Rattle.tg_pbtable.specs.Values.{number_in, bytes_in, listed}
+use Rattle.tg_pbtable.specs.Values.{number_in, bytes_in, numbers_at, bytes_at, listed}
 use Rattle.tg_unixfs.specs.Unix.{HasParts}
 use Rattle.tg_unixfs.specs.Writing.{numbered, as_numbers, as_places, source_of, optional, placed, all_fields}
-use Rattle.tg_pbtable.proofs.Values.{parts_at, numbers_are, bytes_are}
 use Rattle.tg_unixfs.proofs.Parts.{rule_at}
 
 -- ---- the sizes, one after another
@@ -58,28 +57,34 @@ piece_step : {A : Type 0} (b : Bool) (v vs p q : List A) → q ≡ (if b then vs
 piece_step true v vs p q e = ap (λ t. v ++ t) e ∙ sym (append_assoc v vs p)
 piece_step false v vs p q e = e
 
-piece_at : {A : Type 0} (part : Value → List A) (k : ℕ) (vs : List Value) (rest : List Field) (n : ℕ) → parts_at part n (numbered k vs ++ rest) ≡ piece part k vs n ++ parts_at part n rest
-piece_at part k [] rest n = piece_none (k == n) (parts_at part n rest)
-piece_at part k (v ∷ vs) rest n = piece_step (k == n) (part v) (all_of part vs) (parts_at part n rest) (parts_at part n (numbered k vs ++ rest)) (piece_at part k vs rest n)
+-- the values of fields one by one: what `numbers_at` and `bytes_at` are of one field more
+abbrev Step : {A : Type 0} → (Value → List A) → (ℕ → List Field → List A) → Type 0
+Step part at = (n : ℕ) (f : Field) (fs : List Field) → at n (f ∷ fs) ≡ (if f.number == n then part f.value ++ at n fs else at n fs)
 
-last_piece : {A : Type 0} (part : Value → List A) (k : ℕ) (vs : List Value) (n : ℕ) → parts_at part n (numbered k vs) ≡ piece part k vs n ++ []
-last_piece part k vs n = ap (parts_at part n) (sym (append-nil (numbered k vs))) ∙ piece_at part k vs [] n
+piece_at : {A : Type 0} (part : Value → List A) (at : ℕ → List Field → List A) → Step part at → (k : ℕ) (vs : List Value) (rest : List Field) (n : ℕ) → at n (numbered k vs ++ rest) ≡ piece part k vs n ++ at n rest
+piece_at part at step k [] rest n = piece_none (k == n) (at n rest)
+piece_at part at step k (v ∷ vs) rest n =
+    step n (record { number = k; value = v }) (numbered k vs ++ rest)
+    ∙ piece_step (k == n) (part v) (all_of part vs) (at n rest) (at n (numbered k vs ++ rest)) (piece_at part at step k vs rest n)
 
-six_pieces : {A : Type 0} (part : Value → List A) (a b c d e f : List Value) (n : ℕ)
-    → parts_at part n (numbered 1 a ++ (numbered 2 b ++ (numbered 3 c ++ (numbered 4 d ++ (numbered 5 e ++ numbered 6 f)))))
+last_piece : {A : Type 0} (part : Value → List A) (at : ℕ → List Field → List A) → Step part at → ((n : ℕ) → at n [] ≡ []) → (k : ℕ) (vs : List Value) (n : ℕ) → at n (numbered k vs) ≡ piece part k vs n ++ []
+last_piece part at step none k vs n = ap (at n) (sym (append-nil (numbered k vs))) ∙ piece_at part at step k vs [] n ∙ ap (λ t. piece part k vs n ++ t) (none n)
+
+six_pieces : {A : Type 0} (part : Value → List A) (at : ℕ → List Field → List A) → Step part at → ((n : ℕ) → at n [] ≡ []) → (a b c d e f : List Value) (n : ℕ)
+    → at n (numbered 1 a ++ (numbered 2 b ++ (numbered 3 c ++ (numbered 4 d ++ (numbered 5 e ++ numbered 6 f)))))
     ≡ piece part 1 a n ++ (piece part 2 b n ++ (piece part 3 c n ++ (piece part 4 d n ++ (piece part 5 e n ++ (piece part 6 f n ++ [])))))
-six_pieces part a b c d e f n =
+six_pieces part at step none a b c d e f n =
     let r5 = numbered 6 f in
     let r4 = numbered 5 e ++ r5 in
     let r3 = numbered 4 d ++ r4 in
     let r2 = numbered 3 c ++ r3 in
     let r1 = numbered 2 b ++ r2 in
-    piece_at part 1 a r1 n ∙ ap (λ t. piece part 1 a n ++ t) (
-    piece_at part 2 b r2 n ∙ ap (λ t. piece part 2 b n ++ t) (
-    piece_at part 3 c r3 n ∙ ap (λ t. piece part 3 c n ++ t) (
-    piece_at part 4 d r4 n ∙ ap (λ t. piece part 4 d n ++ t) (
-    piece_at part 5 e r5 n ∙ ap (λ t. piece part 5 e n ++ t) (
-    last_piece part 6 f n)))))
+    piece_at part at step 1 a r1 n ∙ ap (λ t. piece part 1 a n ++ t) (
+    piece_at part at step 2 b r2 n ∙ ap (λ t. piece part 2 b n ++ t) (
+    piece_at part at step 3 c r3 n ∙ ap (λ t. piece part 3 c n ++ t) (
+    piece_at part at step 4 d r4 n ∙ ap (λ t. piece part 4 d n ++ t) (
+    piece_at part at step 5 e r5 n ∙ ap (λ t. piece part 5 e n ++ t) (
+    last_piece part at step none 6 f n)))))
 
 numbers_back : (ns : List ℕ) → all_of number_in (as_numbers ns) ≡ ns
 numbers_back [] = refl
@@ -96,20 +101,20 @@ inline_back : (inline : Option (List ℕ)) → all_of (bytes_in (source_of inlin
 inline_back None = refl
 inline_back (Some bytes) = ap (λ (t : List ℕ). t ∷ []) (whole bytes)
 
-six_parts : {A : Type 0} (part : Value → List A) (u : Unix) (n : ℕ) → parts_at part n (all_fields u)
+six_parts : {A : Type 0} (part : Value → List A) (at : ℕ → List Field → List A) → Step part at → ((n : ℕ) → at n [] ≡ []) → (u : Unix) (n : ℕ) → at n (all_fields u)
     ≡ piece part 1 (Number u.kind ∷ []) n ++ (piece part 2 (as_places u.inline) n ++ (piece part 3 (as_numbers (listed u.filesize)) n ++ (piece part 4 (as_numbers u.sizes) n ++ (piece part 5 (as_numbers (listed u.hash)) n ++ (piece part 6 (as_numbers (listed u.fanout)) n ++ [])))))
-six_parts part u n = six_pieces part (Number u.kind ∷ []) (as_places u.inline) (as_numbers (listed u.filesize)) (as_numbers u.sizes) (as_numbers (listed u.hash)) (as_numbers (listed u.fanout)) n
+six_parts part at step none u n = six_pieces part at step none (Number u.kind ∷ []) (as_places u.inline) (as_numbers (listed u.filesize)) (as_numbers u.sizes) (as_numbers (listed u.hash)) (as_numbers (listed u.fanout)) n
 
 pub listed_parts : (u : Unix) → HasParts (source_of u.inline) (all_fields u) u
 listed_parts u =
     let source = source_of u.inline in
     record {
-      kind = numbers_are 1 (all_fields u) ∙ six_parts number_in u 1;
-      inline = bytes_are source 2 (all_fields u) ∙ six_parts (bytes_in source) u 2 ∙ append-nil (all_of (bytes_in source) (as_places u.inline)) ∙ inline_back u.inline;
-      filesize = numbers_are 3 (all_fields u) ∙ six_parts number_in u 3 ∙ append-nil (all_of number_in (as_numbers (listed u.filesize))) ∙ numbers_back (listed u.filesize);
-      sizes = numbers_are 4 (all_fields u) ∙ six_parts number_in u 4 ∙ append-nil (all_of number_in (as_numbers u.sizes)) ∙ numbers_back u.sizes;
-      hash = numbers_are 5 (all_fields u) ∙ six_parts number_in u 5 ∙ append-nil (all_of number_in (as_numbers (listed u.hash))) ∙ numbers_back (listed u.hash);
-      fanout = numbers_are 6 (all_fields u) ∙ six_parts number_in u 6 ∙ append-nil (all_of number_in (as_numbers (listed u.fanout))) ∙ numbers_back (listed u.fanout);
+      kind = six_parts number_in numbers_at (λ n f fs. refl) (λ n. refl) u 1;
+      inline = six_parts (bytes_in source) (bytes_at source) (λ n f fs. refl) (λ n. refl) u 2 ∙ append-nil (all_of (bytes_in source) (as_places u.inline)) ∙ inline_back u.inline;
+      filesize = six_parts number_in numbers_at (λ n f fs. refl) (λ n. refl) u 3 ∙ append-nil (all_of number_in (as_numbers (listed u.filesize))) ∙ numbers_back (listed u.filesize);
+      sizes = six_parts number_in numbers_at (λ n f fs. refl) (λ n. refl) u 4 ∙ append-nil (all_of number_in (as_numbers u.sizes)) ∙ numbers_back u.sizes;
+      hash = six_parts number_in numbers_at (λ n f fs. refl) (λ n. refl) u 5 ∙ append-nil (all_of number_in (as_numbers (listed u.hash))) ∙ numbers_back (listed u.hash);
+      fanout = six_parts number_in numbers_at (λ n f fs. refl) (λ n. refl) u 6 ∙ append-nil (all_of number_in (as_numbers (listed u.fanout))) ∙ numbers_back (listed u.fanout);
     }
 
 -- ---- counts
@@ -128,7 +133,7 @@ count_step false l c r e = let h : r ≡ 0 + c = e in omega arith
 count_at : (k : ℕ) (vs : List Value) (rest : List Field) (n : ℕ) → count_of (numbered k vs ++ rest) n ≡ some_of k vs n + count_of rest n
 count_at k [] rest n = count_none (k == n) (count_of rest n)
 count_at k (v ∷ vs) rest n =
-    count_cons (record { number = k; value = v }) (numbered k vs ++ rest) n
+    sum_by-cons (λ (x : Field). cond (x.number == n) 1 0) (record { number = k; value = v }) (numbered k vs ++ rest)
     ∙ count_step (k == n) (length vs) (count_of rest n) (count_of (numbered k vs ++ rest) n) (count_at k vs rest n)
 
 count_last : (k : ℕ) (vs : List Value) (n : ℕ) → count_of (numbered k vs) n ≡ some_of k vs n + 0

@@ -5,11 +5,11 @@ use Rattle.tg_pbtable.specs.declared.table.Rule.{Rule}
 use Rattle.tg_pbtable.specs.declared.table.Wire.TheVariants.{Varint}
 use Rattle.tg_pbtable.specs.declared.table.Times.TheVariants.{One}
 use Rattle.tg_pbtable.specs.Message.{HasRule, IsTable}
-use Rattle.tg_pbtable.proofs.Tables.{table_of}
+use Rattle.tg_pbtable.specs.Laws.{TableLaws}
 use Rattle.tg_unixfs.specs.declared.TheConstants.{DATA}
 
-pub data_table : IsTable DATA.now
-data_table = table_of DATA.now refl
+pub data_table : (laws : TableLaws) → IsTable DATA.now
+data_table laws = laws.messages.table DATA.now refl
 
 abbrev pub any_rule : Rule
 any_rule = record { number = 1; wire = Varint; times = One }

@@ -5,9 +5,8 @@ use Rattle.tg_pbtable.specs.declared.table.Field.{Field}
 use Rattle.tg_pbtable.specs.declared.table.Order.TheVariants.{Ascending}
 use Rattle.tg_pbtable.specs.Message.{Message}
 use Rattle.tg_pbtable.specs.Emitted.{AreSameFields}
-use Rattle.tg_pbtable.specs.Values.{listed, HasSameValues}
-use Rattle.tg_pbtable.proofs.Spellings.{one_reading}
-use Rattle.tg_pbtable.proofs.Values.{values_of_same, values_by_rules, IsSameFor}
+use Rattle.tg_pbtable.specs.Values.{listed, HasSameValues, IsSameFor}
+use Rattle.tg_pbtable.specs.Laws.{TableLaws}
 use Rattle.tg_unixfs.specs.declared.TheConstants.{DATA}
 use Rattle.tg_unixfs.specs.declared.Unix.{Unix}
 use Rattle.tg_unixfs.specs.Unix.{HasParts, UnixText}
@@ -15,9 +14,9 @@ use Rattle.tg_unixfs.proofs.Parts.{data_table}
 
 -- ---- the same fields have the same parts
 
-pub parts_again : (s t : List ℕ) (fs gs : List Field) (u : Unix) → AreSameFields s fs t gs → HasParts s fs u → HasParts t gs u
-parts_again s t fs gs u same p =
-    let values = values_of_same s t fs gs same in
+pub parts_again : (laws : TableLaws) → (s t : List ℕ) (fs gs : List Field) (u : Unix) → AreSameFields s fs t gs → HasParts s fs u → HasParts t gs u
+parts_again laws s t fs gs u same p =
+    let values = laws.values.same s t fs gs same in
     record {
       kind = sym (values.numbers 1) ∙ p.kind;
       inline = sym (values.bytes 2) ∙ p.inline;
@@ -38,8 +37,8 @@ each_same s t fs gs u p q (suc (suc (suc (suc zero)))) d l = p.hash ∙ sym q.ha
 each_same s t fs gs u p q (suc (suc (suc (suc (suc zero))))) d l = p.fanout ∙ sym q.fanout
 each_same s t fs gs u p q (suc (suc (suc (suc (suc (suc k)))))) d l = absurd (omega arith)
 
-pub texts_alike : (s t : List ℕ) (u : Unix) (a : UnixText u s) (b : UnixText u t) → HasSameValues s a.fields t b.fields
-texts_alike s t u a b = values_by_rules DATA.now s t a.fields b.fields data_table a.message.ruled b.message.ruled (each_same s t a.fields b.fields u a.parts b.parts)
+pub texts_alike : (laws : TableLaws) → (s t : List ℕ) (u : Unix) (a : UnixText u s) (b : UnixText u t) → HasSameValues s a.fields t b.fields
+texts_alike laws s t u a b = laws.values.by_rules DATA.now s t a.fields b.fields (data_table laws) a.message.ruled b.message.ruled (each_same s t a.fields b.fields u a.parts b.parts)
 
 -- ---- one text has one data
 
@@ -68,6 +67,6 @@ parts_same text fs a b p q = six_same a.kind b.kind a.inline b.inline a.filesize
     (listed_same a.hash b.hash (sym p.hash ∙ q.hash))
     (listed_same a.fanout b.fanout (sym p.fanout ∙ q.fanout))
 
-pub one_data : (text : List ℕ) (fs gs : List Field) (a b : Unix) → Message DATA.now Ascending text fs → Message DATA.now Ascending text gs → HasParts text fs a → HasParts text gs b → a ≡ b
-one_data text fs gs a b m n p q =
-    parts_same text gs a b (subst (λ (xs : List Field). HasParts text xs a) (one_reading 0 text fs gs m.spelled n.spelled) p) q
+pub one_data : (laws : TableLaws) → (text : List ℕ) (fs gs : List Field) (a b : Unix) → Message DATA.now Ascending text fs → Message DATA.now Ascending text gs → HasParts text fs a → HasParts text gs b → a ≡ b
+one_data laws text fs gs a b m n p q =
+    parts_same text gs a b (subst (λ (xs : List Field). HasParts text xs a) (laws.messages.one_reading 0 text fs gs m.spelled n.spelled) p) q

@@ -37,3 +37,7 @@ pub record UnixText (unix : Unix) (text : List ℕ) : Type 0 where
   pub message : Message DATA.now Ascending text fields
   pub parts : HasParts text fields unix
   pub is_unix : IsUnix unix
+
+-- the canonical text of data, the one that a writer writes: today the only one
+abbrev pub CanonicalText : Unix → List ℕ → Type 0
+CanonicalText unix text = UnixText unix text

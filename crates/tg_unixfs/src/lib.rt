@@ -5,7 +5,7 @@ ghost use Rattle.std.specs.Prelude.{◌≡◌, ℕ, ◌⊎◌, ◌++◌, ◌∷�
 ghost use Rattle.tg_pbtable.specs.Message.{Message};
 ghost use Rattle.tg_pbtable.specs.Emitted.{LiesIn};
 ghost use Rattle.tg_pbtable.specs.declared.table.Order.TheVariants.{Ascending};
-ghost use Rattle.tg_unixfs.specs.Unix.{UnixText, HasParts, IsUnix};
+ghost use Rattle.tg_unixfs.specs.Unix.{UnixText, CanonicalText, HasParts, IsUnix};
 ghost use Rattle.tg_unixfs.specs.Faults.{HasUnixCause};
 ghost use Rattle.tg_unixfs.specs.Reading.{Gathers, IsUnfit, carried};
 ghost use Rattle.tg_unixfs.specs.Writing.{all_fields, optional, placed, source_of};
@@ -15,13 +15,13 @@ ghost use Rattle.tg_unixfs.specs.declared.Unix.{Unix};
 ghost use Rattle.tg_unixfs.specs.declared.UnixFault.{UnixFault};
 
 mod computed;
+mod places;
 
 pub use computed::computes;
+pub use places::{UnixPlaces, places_of, size_at};
 use std::alloc::{AllocError, Global};
-use tg_edges::{Bytes, List};
-use tg_pbtable::{
-    Field, Fields, Order, PbFault, Rule, Times, Value, Wire, emit, same_values, scan,
-};
+use tg_bytes::{Bytes, List};
+use tg_pbtable::{Field, Fields, Order, PbFault, Rule, Times, Value, Wire, emit, scan, table_laws};
 use thiserror::Error;
 
 /// The table of UnixFS data, whose fields stand in ascending order: 1 Type, 2 Data, 3 filesize, 4 blocksizes, 5 hashType,
@@ -84,19 +84,19 @@ pub struct Unix {
 #[derive(Clone, Copy, Debug, PartialEq, Eq, Error)]
 pub enum UnixFault {
     /// The text is no message under the table; the fault is never want of memory.
-    #[error("{0}")]
+    #[error("Pb {0}")]
     Pb(PbFault),
     /// The type is 3, Metadata, or none that is known.
-    #[error("the type {number} is not read")]
+    #[error("BadKind {number}")]
     BadKind { number: u64 },
     /// The hash of a shard isn't 0x22, murmur3-x64-64; an absent one counts as 0.
-    #[error("the hash {number} is not read")]
+    #[error("BadHash {number}")]
     BadHash { number: u64 },
     /// The fanout of a shard isn't 256; an absent one counts as 0.
-    #[error("the fanout {number} is not read")]
+    #[error("BadFanout {number}")]
     BadFanout { number: u64 },
     /// No memory was found for the data.
-    #[error("out of memory")]
+    #[error("OutOfMemory")]
     OutOfMemory,
 }
 
@@ -146,6 +146,7 @@ fn gathered(alloc: Global, bytes: &[u8], fields: &[Field]) -> Result<Unix, Alloc
     requires inside { All (λ field. LiesIn bytes.now field.value) fields.now }
     ensures { IfOk result (λ unix. HasParts bytes.now fields.now unix) }
 {
+    table_laws();
     let mut unix = Unix {
         kind: 0,
         inline: None,
@@ -210,13 +211,14 @@ fn check_shard(unix: &Unix) -> Result<(), UnixFault>
     Ok(())
 }
 
-/// The text of data that `decode` can give. The error is want of memory.
+/// The canonical text of data that `decode` can give. The error is want of memory.
 ///
 /// UnixFS specification, Data Format.
 pub fn encode(alloc: Global, unix: &Unix) -> Result<Bytes, AllocError>
     requires { IsUnix unix.now }
-    ensures { IfOk result (λ text. UnixText unix.now text) }
+    ensures { IfOk result (λ text. CanonicalText unix.now text) }
 {
+    table_laws();
     let fields = fields_of(alloc, unix)?;
     let text = emit(alloc, DATA, &fields, source_of(unix))?;
     Ok(Bytes::from(text))
@@ -278,13 +280,21 @@ fn put_inline(fields: &mut Vec<Field>, inline: &Option<Bytes>) -> Result<(), All
     Ok(())
 }
 
-/// Data has one text, and a text is of one data.
+/// Data has one canonical text.
 pub fn one_text()
-    ensures one_text { (unix : Unix) (s t : Items ℕ) → UnixText unix s → UnixText unix t → s ≡ t }
-    ensures one_unix { (a b : Unix) (text : Items ℕ) → UnixText a text → UnixText b text → a ≡ b }
+    ensures { (unix : Unix) (s t : Items ℕ) → CanonicalText unix s → CanonicalText unix t → s ≡ t }
 {
-    same_values();
+    table_laws();
 }
 
+/// A text is of one data.
+pub fn one_data()
+    ensures { (a b : Unix) (text : Items ℕ) → UnixText a text → UnixText b text → a ≡ b }
+{
+    table_laws();
+}
+
+#[cfg(test)]
+mod table_tests;
 #[cfg(test)]
 mod tests;

@@ -1,110 +1,19 @@
-use Rattle.std.proofs.Common.{◌<◌, [], ◌∷◌, ◌++◌, Err, refl, ap, inl, inr, arith}
+use Rattle.std.proofs.Common.{◌≡◌, Err, ap}
 use Rattle.std.proofs.lemmas.Result.{err_from_is_err_and}
-use Rattle.std.proofs.lemmas.List.Elements.{All-nil}
 use Rattle.tg_pbtable.specs.declared.fault.PbFault.{PbFault}
-use Rattle.tg_pbtable.specs.declared.table.Order.TheVariants.{Runs}
-use Rattle.tg_pbtable.specs.Message.{Message}
-use Rattle.std.specs.Prelude.{All}
-use Rattle.tg_pbtable.specs.Values.{bytes_at}
-use Rattle.tg_dagpb.specs.declared.TheConstants.{NODE}
-use Rattle.tg_dagpb.specs.Reading.{HasFirstBad}
-use Rattle.tg_dagpb.specs.Faults.{IsLinkText}
-use Rattle.tg_dagpb.proofs.Causes.{node_has_none, one_node_cause}
-use Rattle.tg_dagpb.proofs.Checking.{verdict_more, verdict_kept, node_there, bad_link_there}
 use Rattle.tg_dagpb.proofs.reading.check.Goals as goal
 
-pub loop-field-init : goal.loop-field-init
-loop-field-init c = record {
-  fields = [];
-  read = c.new-cursor.ensures.read NODE.now Runs c.args.bytes.now refl;
-  verdict = All-nil IsLinkText;
-}
+pub returns-in_err-payload_at-clause-only : goal.returns-in_err-payload_at-clause-only
+returns-in_err-payload_at-clause-only c = λ node text. absurd (c.in_err-payload_at.ensures.only node text)
 
-pub returns-in_err-field-clause-only : goal.returns-in_err-field-clause-only
-returns-in_err-field-clause-only c = λ node text.
-    let h = c.in_err-field.ensures.next c.loop-field.invariant.fields c.loop-field.invariant.read in
-    absurd (node_has_none c.args.bytes.now node c.in_err-field.field-0.0 text (inl h))
-
-pub returns-in_err-field-clause-cause : goal.returns-in_err-field-clause-cause
-returns-in_err-field-clause-cause c =
+pub returns-in_err-payload_at-clause-given : goal.returns-in_err-payload_at-clause-given
+returns-in_err-payload_at-clause-given c = λ fault cause.
     let p = err_from_is_err_and c.from_residual.result c.from_residual.ensures.1 in
-    rw (p.1, p.2) (inl (c.in_err-field.ensures.next c.loop-field.invariant.fields c.loop-field.invariant.read))
+    let given = c.in_err-payload_at.ensures.given fault cause in
+    let same : c.in_err-payload_at.field-0.0 ≡ fault = cc given in
+    rw (p.1, p.2) (ap (λ (x : PbFault). Err x) same)
 
-pub returns-in_err-field-clause-given : goal.returns-in_err-field-clause-given
-returns-in_err-field-clause-given c = λ fault cause.
-    let p = err_from_is_err_and c.from_residual.result c.from_residual.ensures.1 in
-    let h = c.in_err-field.ensures.next c.loop-field.invariant.fields c.loop-field.invariant.read in
-    rw (p.1, p.2) (ap (λ (x : PbFault). Err x) (one_node_cause c.args.bytes.now c.in_err-field.field-0.0 fault (inl h) cause))
-
-pub link_fault-bad-requires : goal.link_fault-bad-requires
-link_fault-bad-requires c =
-    let h = rw c.in-Some.is at (c.in_ok-field.ensures.next c.loop-field.invariant.fields c.loop-field.invariant.read) in
-    h.1
-
-pub loop-field-smaller-then-is_none : goal.loop-field-smaller-then-is_none
-loop-field-smaller-then-is_none c =
-    let h = rw c.in-Some.is at (c.in_ok-field.ensures.next c.loop-field.invariant.fields c.loop-field.invariant.read) in
-    let up : c.loop-field.cursor.at < c.next.new.self.at = h.2 in
-    omega (arith, c.in_ok-field.ensures.inside)
-
-pub loop-field-preserved-then-is_none : goal.loop-field-preserved-then-is_none
-loop-field-preserved-then-is_none c =
-    let fs = c.loop-field.invariant.fields in
-    let h = rw c.in-Some.is at (c.in_ok-field.ensures.next fs c.loop-field.invariant.read) in
-    record {
-      fields = fs ++ c.in-Some.field ∷ [];
-      read = h.0;
-      verdict = verdict_more c.args.bytes.now fs c.in-Some.field c.loop-field.bad c.link_fault-bad.result c.if-is_none.ensures c.loop-field.invariant.verdict c.link_fault-bad.ensures;
-    }
-
-pub loop-field-smaller : goal.loop-field-smaller
-loop-field-smaller c =
-    let h = rw c.in-Some.is at (c.in_ok-field.ensures.next c.loop-field.invariant.fields c.loop-field.invariant.read) in
-    let up : c.loop-field.cursor.at < c.next.new.self.at = h.2 in
-    omega (arith, c.in_ok-field.ensures.inside)
-
-pub loop-field-preserved : goal.loop-field-preserved
-loop-field-preserved c =
-    let fs = c.loop-field.invariant.fields in
-    let h = rw c.in-Some.is at (c.in_ok-field.ensures.next fs c.loop-field.invariant.read) in
-    record {
-      fields = fs ++ c.in-Some.field ∷ [];
-      read = h.0;
-      verdict = verdict_kept c.args.bytes.now fs c.in-Some.field c.loop-field.bad c.if-is_none.ensures c.loop-field.invariant.verdict;
-    }
-
-pub returns-in-Some-bad-clause-only : goal.returns-in-Some-bad-clause-only
-returns-in-Some-bad-clause-only c = λ node text.
-    let fs = c.loop-field.invariant.fields in
-    let message : Message NODE.now Runs c.args.bytes.now fs = rw c.in_default.is at (c.in_ok-field.ensures.next fs c.loop-field.invariant.read) in
-    let verdict : HasFirstBad c.args.bytes.now fs c.in-Some-bad.fault = rw c.in-Some-bad.is at c.loop-field.invariant.verdict in
-    absurd (node_has_none c.args.bytes.now node c.in-Some-bad.fault text (inr (bad_link_there c.args.bytes.now fs c.in-Some-bad.fault message verdict)))
-
-pub returns-in-Some-bad-clause-cause : goal.returns-in-Some-bad-clause-cause
-returns-in-Some-bad-clause-cause c =
-    let fs = c.loop-field.invariant.fields in
-    let message : Message NODE.now Runs c.args.bytes.now fs = rw c.in_default.is at (c.in_ok-field.ensures.next fs c.loop-field.invariant.read) in
-    let verdict : HasFirstBad c.args.bytes.now fs c.in-Some-bad.fault = rw c.in-Some-bad.is at c.loop-field.invariant.verdict in
-    inr (bad_link_there c.args.bytes.now fs c.in-Some-bad.fault message verdict)
-
-pub returns-in-Some-bad-clause-given : goal.returns-in-Some-bad-clause-given
-returns-in-Some-bad-clause-given c = λ fault cause.
-    let fs = c.loop-field.invariant.fields in
-    let message : Message NODE.now Runs c.args.bytes.now fs = rw c.in_default.is at (c.in_ok-field.ensures.next fs c.loop-field.invariant.read) in
-    let verdict : HasFirstBad c.args.bytes.now fs c.in-Some-bad.fault = rw c.in-Some-bad.is at c.loop-field.invariant.verdict in
-    ap (λ (x : PbFault). Err x) (one_node_cause c.args.bytes.now c.in-Some-bad.fault fault (inr (bad_link_there c.args.bytes.now fs c.in-Some-bad.fault message verdict)) cause)
-
-pub returns-in-None-clause-ok : goal.returns-in-None-clause-ok
-returns-in-None-clause-ok c =
-    let fs = c.loop-field.invariant.fields in
-    let message : Message NODE.now Runs c.args.bytes.now fs = rw c.in_default.is at (c.in_ok-field.ensures.next fs c.loop-field.invariant.read) in
-    let verdict : All IsLinkText (bytes_at c.args.bytes.now 2 fs) = rw c.in-None.is at c.loop-field.invariant.verdict in
-    node_there c.args.bytes.now fs message verdict
-
-pub returns-in-None-clause-given : goal.returns-in-None-clause-given
-returns-in-None-clause-given c = λ fault cause.
-    let fs = c.loop-field.invariant.fields in
-    let message : Message NODE.now Runs c.args.bytes.now fs = rw c.in_default.is at (c.in_ok-field.ensures.next fs c.loop-field.invariant.read) in
-    let verdict : All IsLinkText (bytes_at c.args.bytes.now 2 fs) = rw c.in-None.is at c.loop-field.invariant.verdict in
-    let node = node_there c.args.bytes.now fs message verdict in
-    absurd (node_has_none c.args.bytes.now node.0 fault node.1 cause)
+pub returns-clause-given : goal.returns-clause-given
+returns-clause-given c = λ fault cause.
+    let given = c.in_ok-payload_at.ensures.given fault cause in
+    absurd (cc given)

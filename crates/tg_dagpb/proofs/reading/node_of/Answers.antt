@@ -18,9 +18,9 @@ returns-in_err-take_part c =
 pub loop-field-preserved : goal.loop-field-preserved
 loop-field-preserved c =
     subst (λ (fs : List Field). GathersNode c.args.bytes.now fs no_node c.take_part.new.node) (sym (take_more c.args.fields.now c.loop-field.field-index _ (omega arith)))
-    (node_more c.args.bytes.now (take c.loop-field.field-index c.args.fields.now) (get_or c.args.fields.now c.loop-field.field-index _) no_node c.loop-field.node c.take_part.new.node c.loop-field.invariant c.in_ok-take_part.ensures)
+    (node_more c.table_laws.ensures c.args.bytes.now (take c.loop-field.field-index c.args.fields.now) (get_or c.args.fields.now c.loop-field.field-index _) no_node c.loop-field.node c.take_part.new.node c.loop-field.invariant c.in_ok-take_part.ensures)
 
 pub returns : goal.returns
 returns c =
-    gathered_node c.args.bytes.now c.args.fields.now c.loop-field.node c.requires.message
+    gathered_node c.table_laws.ensures c.args.bytes.now c.args.fields.now c.loop-field.node c.requires.message
     (subst (λ (fs : List Field). GathersNode c.args.bytes.now fs no_node c.loop-field.node) (take_all c.loop-field.field-index c.args.fields.now c.loop-field-test.false) c.loop-field.invariant)

@@ -21,11 +21,11 @@ emit-requires c =
     let links = subst (λ (ls : List Link). IsDrafted ls c.loop-link.draft.fields.items c.loop-link.draft.source) all c.loop-link.invariant in
     let d : IsNode c.args.node.now c.new.result c.as_slice-2.result.now = node_drafted c.args.node.now _ _ _ _ links (c.new.ensures ∙ c.in_ok-put_optional.ensures.fields) (c.as_slice-2.ensures ∙ c.in_ok-put_optional.ensures.source) in
     let may = node_may c.args.node.now c.new.result c.as_slice-2.result.now d in
-    (omega arith, (node_table, (may.0, may.1)))
+    (omega arith, (node_table c.table_laws.ensures, (may.0, may.1)))
 
 pub returns : goal.returns
 returns c =
     let all = take_all c.loop-link.link-index c.as_slice-link-items.result.now c.loop-link-test.false ∙ c.as_slice-link-items.ensures in
     let links = subst (λ (ls : List Link). IsDrafted ls c.loop-link.draft.fields.items c.loop-link.draft.source) all c.loop-link.invariant in
     let d : IsNode c.args.node.now c.new.result c.as_slice-2.result.now = node_drafted c.args.node.now _ _ _ _ links (c.new.ensures ∙ c.in_ok-put_optional.ensures.fields) (c.as_slice-2.ensures ∙ c.in_ok-put_optional.ensures.source) in
-    rw c.from.ensures (node_done c.args.node.now c.new.result c.as_slice-2.result.now _ d c.in_ok-text-2.ensures.again)
+    rw c.from.ensures (node_done c.table_laws.ensures c.args.node.now c.new.result c.as_slice-2.result.now _ d c.in_ok-text-2.ensures.again)

@@ -1,0 +1,39 @@
+use Rattle.tg_pbtable.specs.Laws.{MessageLaws, ValueLaws}
+use Rattle.tg_pbtable.proofs.Spellings.{one_reading, one_text}
+use Rattle.tg_pbtable.proofs.Causes.{one_cause, no_cause}
+use Rattle.tg_pbtable.proofs.Tables.{table_of}
+use Rattle.tg_pbtable.proofs.ComputedFields.{fields_law, fault_law}
+use Rattle.tg_pbtable.proofs.Values.{numbers_append, bytes_append, numbers_here, bytes_here, bytes_other, no_numbers_in, no_bytes_in, values_count, all_numbers, all_bytes, values_of_same, values_by_rules, ascending, any_order}
+use Rattle.tg_pbtable.proofs.laws.table_laws.Goals as goal
+
+message_laws : MessageLaws
+message_laws = record {
+  table = table_of;
+  one_reading = one_reading;
+  one_cause = one_cause;
+  no_cause = no_cause;
+  computed = fields_law;
+  computed_fault = fault_law;
+  one_text = one_text;
+  ascending = ascending;
+  any_order = any_order;
+}
+
+value_laws : ValueLaws
+value_laws = record {
+  numbers_append = numbers_append;
+  bytes_append = bytes_append;
+  numbers_here = numbers_here;
+  bytes_here = bytes_here;
+  bytes_other = bytes_other;
+  no_numbers = no_numbers_in;
+  no_bytes = no_bytes_in;
+  count = values_count;
+  all_numbers = all_numbers;
+  all_bytes = all_bytes;
+  same = values_of_same;
+  by_rules = values_by_rules;
+}
+
+pub returns : goal.returns
+returns c = record { messages = message_laws; values = value_laws }
