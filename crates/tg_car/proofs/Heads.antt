@@ -3,7 +3,7 @@ use Rattle.std.proofs.Common.{◌≡◌, ℕ, ◌+◌, ◌<◌, ◌≤◌, List,
 use Rattle.std.proofs.lemmas.Bool.{cases_lt}
 use Rattle.std.proofs.lemmas.List.{append_assoc, append-nil, append_cancel_left, length-append, take-append-drop, take-append-le, length_push}
 use Rattle.std.proofs.Math.Seq.{take-append-add}
-use Rattle.tg_varint.proofs.Uniqueness.{no_front_of_another}
+use Rattle.tg_varint.specs.Laws.{SpellingLaws}
 use Rattle.tg_cid.specs.Cid.{CidParts}
 use Rattle.tg_cid.specs.Spelling.{CidBytes}
 use Rattle.tg_car.specs.Heads.{HeadText, IsInHead, IsNoHead}
@@ -33,15 +33,15 @@ pub record SameHeads (a b : List ℕ) (c d : CidParts) (m n : ℕ) : Type 0 wher
   pub cids : c ≡ d
   pub numbers : m ≡ n
 
-pub one_head : (c d : CidParts) (m n : ℕ) (a b x y : List ℕ) → HeadText c m a → HeadText d n b → a ++ x ≡ b ++ y → SameHeads a b c d m n
-one_head c d m n a b x y h k e =
+pub one_head : SpellingLaws → (c d : CidParts) (m n : ℕ) (a b x y : List ℕ) → HeadText c m a → HeadText d n b → a ++ x ≡ b ++ y → SameHeads a b c d m n
+one_head laws c d m n a b x y h k e =
     let left : a ++ x ≡ h.size ++ (h.name ++ x) = ap (λ (l : List ℕ). l ++ x) h.whole ∙ append_assoc h.size h.name x in
     let right : b ++ y ≡ k.size ++ (k.name ++ y) = ap (λ (l : List ℕ). l ++ y) k.whole ∙ append_assoc k.size k.name y in
     let both : h.size ++ (h.name ++ x) ≡ k.size ++ (k.name ++ y) = sym left ∙ (e ∙ right) in
-    let sizes = no_front_of_another (length h.name + m) (length k.name + n) h.size k.size (h.name ++ x) (k.name ++ y) h.size_is k.size_is both in
+    let sizes = laws.no_front (length h.name + m) (length k.name + n) h.size k.size (h.name ++ x) (k.name ++ y) h.size_is k.size_is both in
     let rests : h.name ++ x ≡ k.name ++ y =
     append_cancel_left k.size (h.name ++ x) (k.name ++ y) (ap (λ (l : List ℕ). l ++ (h.name ++ x)) (sym sizes.0) ∙ both) in
-    let names = one_name c d h.name k.name x y h.name_is k.name_is rests in
+    let names = one_name laws c d h.name k.name x y h.name_is k.name_is rests in
     let lengths : length h.name ≡ length k.name = ap length names.0 in
     let sums : length h.name + m ≡ length k.name + n = sizes.1 in
     record {
@@ -51,15 +51,15 @@ one_head c d m n a b x y h k e =
     }
 
 -- what is whole and goes on can't be
-pub not_both : (c d : CidParts) (m n : ℕ) (a x more : List ℕ) → HeadText c m a → HeadText d n (a ++ (x ++ more)) → 0 < length more → ⊥
-not_both c d m n a x more h k some =
-    let same = one_head c d m n a (a ++ (x ++ more)) (x ++ more) [] h k (sym (append-nil (a ++ (x ++ more)))) in
+pub not_both : SpellingLaws → (c d : CidParts) (m n : ℕ) (a x more : List ℕ) → HeadText c m a → HeadText d n (a ++ (x ++ more)) → 0 < length more → ⊥
+not_both laws c d m n a x more h k some =
+    let same = one_head laws c d m n a (a ++ (x ++ more)) (x ++ more) [] h k (sym (append-nil (a ++ (x ++ more)))) in
     let sizes : length a ≡ length (a ++ (x ++ more)) = ap length same.bytes in
     omega (arith, length-append a (x ++ more), length-append x more)
 
-name_size : (c : CidParts) (name : List ℕ) → CidBytes c name → (2 ≤ length name) × (length name ≤ 36)
-name_size c name h =
-    let k = cid_head c name h in
+name_size : SpellingLaws → (c : CidParts) (name : List ℕ) → CidBytes c name → (0 < length name) × (length name ≤ 133)
+name_size laws c name h =
+    let k = cid_head laws c name h in
     let whole : length name ≡ length k.0 + length c.digest = ap length k.2 ∙ length-append k.0 c.digest in
     let digest : length c.digest ≡ 32 = k.3 in
     elim k.1 [
@@ -67,33 +67,33 @@ name_size c name h =
       | inr e ↦ let long : length k.0 ≡ 4 = ap length e.1 in (omega arith, omega arith)
     ]
 
-pub head_size : (c : CidParts) (m : ℕ) (a : List ℕ) → HeadText c m a → (0 < length a) × (length a ≤ 45)
-head_size c m a h =
-    let name = name_size c h.name h.name_is in
-    let low : 2 ≤ length h.name = name.0 in
-    let high : length h.name ≤ 36 = name.1 in
+pub head_size : SpellingLaws → (c : CidParts) (m : ℕ) (a : List ℕ) → HeadText c m a → (0 < length a) × (length a ≤ 142)
+head_size laws c m a h =
+    let name = name_size laws c h.name h.name_is in
+    let low : 0 < length h.name = name.0 in
+    let high : length h.name ≤ 133 = name.1 in
     let front : length h.size_is.front < 9 = h.size_is.at_most_nine in
     let size : length h.size ≡ length h.size_is.front + 1 = ap length h.size_is.whole ∙ length_push h.size_is.front h.size_is.last in
     let whole : length a ≡ length h.size + length h.name = ap length h.whole ∙ length-append h.size h.name in
     (omega arith, omega arith)
 
-pub in_head_size : (a : List ℕ) → IsInHead a → length a < 45
-in_head_size a h =
-    let whole = head_size h.cid h.number (a ++ h.more) h.text in
-    let most : length (a ++ h.more) ≤ 45 = whole.1 in
+pub in_head_size : SpellingLaws → (a : List ℕ) → IsInHead a → length a < 142
+in_head_size laws a h =
+    let whole = head_size laws h.cid h.number (a ++ h.more) h.text in
+    let most : length (a ++ h.more) ≤ 142 = whole.1 in
     let some : 0 < length h.more = h.not_whole in
     omega (arith, length-append a h.more)
 
 -- where a head goes on and no head does with one more byte, no whole head stands before it either
-pub no_head_behind : (a : List ℕ) (b : ℕ) (c : CidParts) (m : ℕ) (u x y : List ℕ) → IsInHead a → IsNoHead (a ++ b ∷ []) → HeadText c m u
+pub no_head_behind : SpellingLaws → (a : List ℕ) (b : ℕ) (c : CidParts) (m : ℕ) (u x y : List ℕ) → IsInHead a → IsNoHead (a ++ b ∷ []) → HeadText c m u
     → u ++ x ≡ a ++ b ∷ y → ⊥
-no_head_behind a b c m u x y inside none text e = elim (cases_lt (length a) (length u)) [
+no_head_behind laws a b c m u x y inside none text e = elim (cases_lt (length a) (length u)) [
   | inl more ↦
       let whole : u ++ x ≡ (a ++ b ∷ []) ++ y = e ∙ sym (append_assoc a (b ∷ []) y) in
       let l = longer u (a ++ b ∷ []) x y whole (omega (arith, length_push a b)) in
       none.none c m l.middle (subst (HeadText c m) l.first text)
   | inr less ↦
       let l = longer a u (b ∷ y) x (sym e) less in
-      not_both c inside.cid m inside.number u l.middle inside.more text
+      not_both laws c inside.cid m inside.number u l.middle inside.more text
       (subst (HeadText inside.cid inside.number) (ap (λ (t : List ℕ). t ++ inside.more) l.first ∙ append_assoc u l.middle inside.more) inside.text) inside.not_whole
 ]

@@ -13,5 +13,6 @@ mod Parts
 mod Takings
 mod Sections
 mod Divisions
+mod Refusals
 mod Feeding
 mod Written

@@ -1,15 +1,16 @@
 -- In each state something may follow; and one byte more.
-use Rattle.std.proofs.Common.{◌≡◌, ℕ, suc, zero, ◌+◌, ◌-◌, ◌*◌, ◌%◌, ◌<◌, ◌≤◌, ◌⊎◌, Option, Some, None, Bool, true, false, List, [], ◌∷◌, ◌++◌, length, drop, replicate, All, ap, sym, ◌∙◌, refl, subst, MatchOption, MatchBool, inl, inr, arith}
+use Rattle.std.proofs.Common.{◌≡◌, ℕ, suc, zero, ◌+◌, ◌-◌, ◌*◌, ◌%◌, ◌<◌, ◌≤◌, ◌⊎◌, Option, Some, None, Bool, true, false, List, [], ◌∷◌, ◌++◌, length, drop, replicate, ap, sym, ◌∙◌, refl, subst, MatchOption, MatchBool, inl, inr, arith}
 use Rattle.std.specs.List.{flat_map}
 use Rattle.std.proofs.lemmas.Bool.{cases_lt, cases_eq}
 use Rattle.std.proofs.lemmas.List.{append_assoc, append-nil, length-append, length-replicate, length-drop}
-use Rattle.std.proofs.lemmas.List.Elements.{All-nil, All-cons, All-replicate}
+use Rattle.std.proofs.lemmas.List.Elements.{All-nil, All-cons}
 use Rattle.tg_car.specs.CarText.{IsRoot, HeaderText, string_head, root_text}
 use Rattle.tg_car.specs.Fronts.{IsInHeader}
 use Rattle.tg_car.specs.HeaderState.{CanBe, IsMapSize, IsLive, RootsThen, Follows, FollowsHeader, GoesOn, map_front, map_back}
 use Rattle.tg_car.specs.declared.header_state.Roots.{Roots}
 use Rattle.tg_car.specs.declared.header_state.HeaderState.{HeaderState}
 use Rattle.tg_car.specs.declared.header_state.HeaderState.TheVariants as states
+use Rattle.tg_car.proofs.Names.{zeros_are_bytes}
 use Rattle.tg_car.proofs.Sizes.{root_size}
 use Rattle.tg_car.proofs.RootTexts.{first_root, with_root, zero_then, long_from}
 use Rattle.tg_car.proofs.ArraySteps as arrays
@@ -93,9 +94,6 @@ first_size low count bytes lows least most hole = elim (cases_eq count 0) [
     ]
   ]
 ]
-
-zeros_are_bytes : (n : ℕ) → All (λ b. b < 256) (replicate n 0)
-zeros_are_bytes n = All-replicate (λ b. b < 256) n 0 (omega arith)
 
 -- a root of so many bytes
 zeros : ℕ → List ℕ

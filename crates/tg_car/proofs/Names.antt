@@ -1,61 +1,47 @@
 -- The three heads behind which a CID's digest stands.
-use Rattle.std.proofs.Common.{◌≡◌, ℕ, zero, suc, ◌+◌, ◌-◌, ◌<◌, ◌≤◌, ◌⊎◌, List, [], ◌∷◌, ◌++◌, length, take, drop, replicate, All, min, refl, ap, ap₂, sym, ◌∙◌, subst, inl, inr, arith}
+use Rattle.std.proofs.Common.{◌≡◌, ℕ, ◌+◌, ◌-◌, ◌<◌, ◌≤◌, ◌⊎◌, List, [], ◌∷◌, ◌++◌, length, take, drop, replicate, All, min, refl, ap, ap₂, sym, ◌∙◌, subst, inl, inr, arith}
 use Rattle.std.proofs.lemmas.List.{append_assoc, length-append, length-drop, length-replicate, take-append-drop, take-append-le, take_at, take_all}
-use Rattle.std.proofs.lemmas.List.Elements.{All-append, All-drop, All-nil, All-replicate}
+use Rattle.std.proofs.lemmas.List.Elements.{All-append, All-drop, All-replicate}
 use Rattle.std.proofs.lemmas.Bool.{cases_lt}
-use Rattle.tg_varint.specs.Varint.{VarintSpelling}
-use Rattle.tg_varint.proofs.Uniqueness.{one_spelling_each}
+use Rattle.tg_varint.specs.Laws.{SpellingLaws}
 use Rattle.tg_cid.specs.Cid.{CidParts}
 use Rattle.tg_cid.specs.Spelling.{CidBytes, IsDigestSize, Varints, codec_code, hash_code}
 use Rattle.tg_cid.specs.declared.cid.Codec.{Codec}
 use Rattle.tg_cid.specs.declared.cid.Codec.TheVariants.{Raw, DagPb}
 use Rattle.tg_cid.specs.declared.cid.HashKind.{HashKind}
 use Rattle.tg_cid.specs.declared.cid.HashKind.TheVariants.{Sha256, Identity}
-use Rattle.tg_car.specs.Heads.{IsNameHead, Agrees, zero_head, one_head_of}
-
-one_byte : (n : ℕ) → n < 128 → All (λ b. b < 256) (n ∷ [])
-one_byte n l zero d h = omega arith
-one_byte n l (suc k) d h = absurd (omega arith)
-
-pub alone : (n : ℕ) → n < 128 → VarintSpelling n (n ∷ [])
-alone n l = record {
-  front = [];
-  last = n;
-  whole = refl;
-  are_bytes = one_byte n l;
-  goes_on = All-nil (λ (b : ℕ). 128 ≤ b);
-  ends = l;
-  shortest = λ h. absurd (omega arith);
-  at_most_nine = omega arith;
-  spells = omega arith;
-}
+use Rattle.tg_car.specs.Heads.{IsFewest, IsNoName}
+use Rattle.tg_car.specs.NameHeads.{IsNameHead, Agrees, IsFewestHead, IsNoNameHead, zero_head, one_head_of}
 
 code_below : (codec : Codec) → codec_code codec < 128
 code_below Raw = omega arith
 code_below DagPb = omega arith
 
-four_numbers : (codec : Codec) → Varints (1 ∷ codec_code codec ∷ 0x12 ∷ 0x20 ∷ []) (one_head_of codec)
-four_numbers codec =
+four_numbers : SpellingLaws → (codec : Codec) → Varints (1 ∷ codec_code codec ∷ 0x12 ∷ 0x20 ∷ []) (one_head_of codec)
+four_numbers laws codec =
     let code = codec_code codec in (
       1 ∷ [],
       code ∷ 0x12 ∷ 0x20 ∷ [],
       refl,
-      alone 1 (omega arith),
+      laws.one_byte 1 (omega arith),
       (
         code ∷ [],
         0x12 ∷ 0x20 ∷ [],
         refl,
-        alone code (code_below codec),
-        (0x12 ∷ [], 0x20 ∷ [], refl, alone 0x12 (omega arith), (0x20 ∷ [], [], refl, alone 0x20 (omega arith), refl)),
+        laws.one_byte code (code_below codec),
+        (0x12 ∷ [], 0x20 ∷ [], refl, laws.one_byte 0x12 (omega arith), (0x20 ∷ [], [], refl, laws.one_byte 0x20 (omega arith), refl)),
       ),
     )
 
-varints_once : (numbers a b : List ℕ) → Varints numbers a → Varints numbers b → a ≡ b
-varints_once [] a b h k = h ∙ sym k
-varints_once (n ∷ numbers) a b h k =
-    let front : h.0 ≡ k.0 = one_spelling_each n h.0 k.0 h.3 k.3 in
-    let rest : h.1 ≡ k.1 = varints_once numbers h.1 k.1 h.4 k.4 in
-    h.2 ∙ (ap₂ (λ (p q : List ℕ). p ++ q) front rest ∙ sym k.2)
+-- the spellings of the four numbers before a digest are the head
+one_head : SpellingLaws → (codec : Codec) (head : List ℕ) → Varints (1 ∷ codec_code codec ∷ 0x12 ∷ 0x20 ∷ []) head → head ≡ one_head_of codec
+one_head laws codec head (a, more, whole, version, (b, behind, rest, code, (c, last, two, kind, (d, end, one, size, none)))) =
+    let version_is : a ≡ 1 ∷ [] = laws.one_spelling 1 a (1 ∷ []) version (laws.one_byte 1 (omega arith)) in
+    let code_is : b ≡ codec_code codec ∷ [] = laws.one_spelling (codec_code codec) b (codec_code codec ∷ []) code (laws.one_byte (codec_code codec) (code_below codec)) in
+    let kind_is : c ≡ 0x12 ∷ [] = laws.one_spelling 0x12 c (0x12 ∷ []) kind (laws.one_byte 0x12 (omega arith)) in
+    let size_is : d ≡ 0x20 ∷ [] = laws.one_spelling 0x20 d (0x20 ∷ []) size (laws.one_byte 0x20 (omega arith)) in
+    whole ∙ ap₂ (λ (p q : List ℕ). p ++ q) version_is (rest ∙ ap₂ (λ (p q : List ℕ). p ++ q) code_is
+    (two ∙ ap₂ (λ (p q : List ℕ). p ++ q) kind_is (one ∙ ap₂ (λ (p q : List ℕ). p ++ q) size_is none)))
 
 sha_size : (kind : HashKind) (size : ℕ) → IsDigestSize kind size → (kind ≡ Sha256) × (size ≡ 32)
 sha_size Sha256 size h = (refl, h)
@@ -69,20 +55,20 @@ pub record Spelled (cid : CidParts) (name : List ℕ) : Type 0 where
   pub parts : ((cid.version ≡ 0) × (cid.codec ≡ DagPb) × (name ≡ zero_head ++ cid.digest))
       ⊎ ((cid.version ≡ 1) × (name ≡ one_head_of cid.codec ++ cid.digest))
 
-pub spelled : (cid : CidParts) (name : List ℕ) → CidBytes cid name → Spelled cid name
-spelled cid name (inl h) = record {
+pub spelled : SpellingLaws → (cid : CidParts) (name : List ℕ) → CidBytes cid name → Spelled cid name
+spelled laws cid name (inl h) = record {
   size = h.size;
   hash = h.hash;
   are_bytes = h.are_bytes;
   parts = inl (h.version, h.codec, h.whole);
 }
-spelled cid name (inr h) =
+spelled laws cid name (inr h) =
     let kinds = sha_size cid.hash (length cid.digest) h.size in
     let sized : Varints (1 ∷ codec_code cid.codec ∷ hash_code cid.hash ∷ 0x20 ∷ []) h.head =
     subst (λ (n : ℕ). Varints (1 ∷ codec_code cid.codec ∷ hash_code cid.hash ∷ n ∷ []) h.head) kinds.1 h.numbers in
     let numbers : Varints (1 ∷ codec_code cid.codec ∷ 0x12 ∷ 0x20 ∷ []) h.head =
     subst (λ (k : HashKind). Varints (1 ∷ codec_code cid.codec ∷ hash_code k ∷ 0x20 ∷ []) h.head) kinds.0 sized in
-    let head : h.head ≡ one_head_of cid.codec = varints_once (1 ∷ codec_code cid.codec ∷ 0x12 ∷ 0x20 ∷ []) h.head (one_head_of cid.codec) numbers (four_numbers cid.codec) in
+    let head : h.head ≡ one_head_of cid.codec = one_head laws cid.codec h.head numbers in
     record {
       size = kinds.1;
       hash = kinds.0;
@@ -91,9 +77,9 @@ spelled cid name (inr h) =
     }
 
 -- the CID of a head and a digest
-pub head_cid : (head digest : List ℕ) → IsNameHead head → length digest ≡ 32 → All (λ b. b < 256) digest
+pub head_cid : SpellingLaws → (head digest : List ℕ) → IsNameHead head → length digest ≡ 32 → All (λ b. b < 256) digest
     → (cid : CidParts) × CidBytes cid (head ++ digest)
-head_cid head digest (inl e) size are_bytes = (
+head_cid laws head digest (inl e) size are_bytes = (
   record { version = 0; codec = DagPb; hash = Sha256; digest = digest },
   inl (record {
     version = refl;
@@ -104,22 +90,22 @@ head_cid head digest (inl e) size are_bytes = (
     whole = ap (λ (l : List ℕ). l ++ digest) e;
   }),
 )
-head_cid head digest (inr k) size are_bytes = (
+head_cid laws head digest (inr k) size are_bytes = (
   record { version = 1; codec = k.0; hash = Sha256; digest = digest },
   inr (record {
     version = refl;
     size = size;
     are_bytes = are_bytes;
     head = one_head_of k.0;
-    numbers = subst (λ (n : ℕ). Varints (1 ∷ codec_code k.0 ∷ 0x12 ∷ n ∷ []) (one_head_of k.0)) (sym size) (four_numbers k.0);
+    numbers = subst (λ (n : ℕ). Varints (1 ∷ codec_code k.0 ∷ 0x12 ∷ n ∷ []) (one_head_of k.0)) (sym size) (four_numbers laws k.0);
     whole = ap (λ (l : List ℕ). l ++ digest) k.1;
   }),
 )
 
 -- the head and the rest of a CID's bytes
-pub cid_head : (cid : CidParts) (name : List ℕ) → CidBytes cid name → (head : List ℕ) × IsNameHead head × (name ≡ head ++ cid.digest) × (length cid.digest ≡ 32)
-cid_head cid name h =
-    let s = spelled cid name h in
+pub cid_head : SpellingLaws → (cid : CidParts) (name : List ℕ) → CidBytes cid name → (head : List ℕ) × IsNameHead head × (name ≡ head ++ cid.digest) × (length cid.digest ≡ 32)
+cid_head laws cid name h =
+    let s = spelled laws cid name h in
     elim s.parts [
       | inl p ↦ (zero_head, inl refl, p.2, s.size)
       | inr p ↦ (one_head_of cid.codec, inr (cid.codec, refl), p.1, s.size)
@@ -145,10 +131,10 @@ first_differs : (l m : List ℕ) → ◌≡◌ {A = List ℕ} (0x12 ∷ l) (1 �
 first_differs l m e = let heads : ◌≡◌ {A = ℕ} 0x12 1 = cc in omega arith
 
 -- no CID's bytes begin another's
-pub one_name : (a b : CidParts) (u v x y : List ℕ) → CidBytes a u → CidBytes b v → u ++ x ≡ v ++ y → (u ≡ v) × (a ≡ b)
-one_name a b u v x y h k e =
-    let s = spelled a u h in
-    let t = spelled b v k in
+pub one_name : SpellingLaws → (a b : CidParts) (u v x y : List ℕ) → CidBytes a u → CidBytes b v → u ++ x ≡ v ++ y → (u ≡ v) × (a ≡ b)
+one_name laws a b u v x y h k e =
+    let s = spelled laws a u h in
+    let t = spelled laws b v k in
     elim s.parts [
       | inl p ↦ elim t.parts [
         | inl q ↦
@@ -196,19 +182,18 @@ name_goes_past head name agrees less =
     let whole : head ≡ take (length head) name = sym (take_all (length head) head (omega arith)) ∙ sym same in
     ap (λ (l : List ℕ). l ++ drop (length head) name) whole ∙ take-append-drop (length head) name
 
--- bytes that are fewer than those of a CID and agree with its head
+-- bytes that are no more than those of a CID and agree with its head
 pub record Completes (head name : List ℕ) : Type 0 where
   pub digest : List ℕ
   pub more : List ℕ
-  pub some : 0 < length more
   pub size : length digest ≡ 32
   pub are_bytes : All (λ b. b < 256) digest
   pub whole : name ++ more ≡ head ++ digest
 
-zeros_are_bytes : (n : ℕ) → All (λ b. b < 256) (replicate {A = ℕ} n 0)
+pub zeros_are_bytes : (n : ℕ) → All (λ b. b < 256) (replicate {A = ℕ} n 0)
 zeros_are_bytes n = All-replicate (λ (b : ℕ). b < 256) n 0 (omega arith)
 
-pub name_goes_on : (head name : List ℕ) → Agrees name head → All (λ b. b < 256) name → length name < length head + 32
+pub name_goes_on : (head name : List ℕ) → Agrees name head → All (λ b. b < 256) name → length name ≤ length head + 32
     → Completes head name
 name_goes_on head name agrees bytes fewer = elim (cases_lt (length head) (length name)) [
   | inl past_it ↦
@@ -220,7 +205,6 @@ name_goes_on head name agrees bytes fewer = elim (cases_lt (length head) (length
       record {
         digest = past ++ replicate left 0;
         more = replicate left 0;
-        some = omega arith;
         size = omega arith;
         are_bytes = All-append (λ (b : ℕ). b < 256) past (replicate left 0) (All-drop (λ (b : ℕ). b < 256) (length head) name bytes) (zeros_are_bytes left);
         whole = ap (λ (l : List ℕ). l ++ replicate left 0) (sym (name_goes_past head name agrees (omega arith))) ∙ append_assoc head past (replicate left 0);
@@ -228,7 +212,6 @@ name_goes_on head name agrees bytes fewer = elim (cases_lt (length head) (length
   | inr less ↦ record {
     digest = replicate 32 0;
     more = drop (length name) head ++ replicate 32 0;
-    some = omega (arith, length-append (drop (length name) head) (replicate {A = ℕ} 32 0), length-replicate {A = ℕ} 32 0);
     size = length-replicate {A = ℕ} 32 0;
     are_bytes = zeros_are_bytes 32;
     whole = sym (append_assoc name (drop (length name) head) (replicate 32 0)) ∙ ap (λ (l : List ℕ). l ++ replicate 32 0) (head_goes_on head name agrees less);
@@ -249,3 +232,54 @@ heads_differ a b x y (inl h) (inr k) e =
 heads_differ a b x y (inr h) (inl k) e =
     absurd (first_differs _ _ (ap (λ (l : List ℕ). l ++ y) (sym k) ∙ (sym e ∙ ap (λ (l : List ℕ). l ++ x) h.1)))
 heads_differ a b x y (inr h) (inr k) e = ap length h.1 ∙ sym (ap length k.1)
+
+least_name : SpellingLaws → (c : CidParts) (name more : List ℕ) (count : ℕ) → IsFewestHead name count → CidBytes c (name ++ more) → count ≤ length (name ++ more)
+least_name laws c name more count f h =
+    let k = cid_head laws c (name ++ more) h in
+    let low : length f.head ≤ length k.0 = f.fewest k.0 k.1 (name_agrees k.0 name more c.digest k.2) in
+    let long : length (name ++ more) ≡ length k.0 + length c.digest = ap length k.2 ∙ length-append k.0 c.digest in
+    let digest : length c.digest ≡ 32 = k.3 in
+    let count_is : count ≡ length f.head + 32 = f.count_is in
+    omega arith
+
+-- a head that the bytes pass says how long the CID is
+exact_name : SpellingLaws → (c : CidParts) (name more : List ℕ) (count : ℕ) → IsFewestHead name count → count ≤ length name → CidBytes c (name ++ more)
+    → length (name ++ more) ≡ count
+exact_name laws c name more count f past h =
+    let k = cid_head laws c (name ++ more) h in
+    let count_is : count ≡ length f.head + 32 = f.count_is in
+    let front : f.head ++ drop (length f.head) name ≡ name = name_goes_past f.head name f.agrees (omega arith) in
+    let whole : f.head ++ (drop (length f.head) name ++ more) ≡ k.0 ++ c.digest =
+    sym (append_assoc f.head (drop (length f.head) name) more) ∙ (ap (λ (l : List ℕ). l ++ more) front ∙ k.2) in
+    let same : length f.head ≡ length k.0 = heads_differ f.head k.0 (drop (length f.head) name ++ more) c.digest f.kind k.1 whole in
+    let long : length (name ++ more) ≡ length k.0 + length c.digest = ap length k.2 ∙ length-append k.0 c.digest in
+    let digest : length c.digest ≡ 32 = k.3 in
+    omega arith
+
+-- what no head agrees with begins no CID, nor do bytes that pass a CID
+pub no_head : SpellingLaws → (name : List ℕ) → IsNoNameHead name → IsNoName name
+no_head laws name none = record {
+  none = λ c more h. let k = cid_head laws c (name ++ more) h in none.none k.0 k.1 (name_agrees k.0 name more c.digest k.2);
+}
+
+pub past_name : SpellingLaws → (name : List ℕ) (count : ℕ) → IsFewestHead name count → count < length name → IsNoName name
+past_name laws name count f past = record {
+  none = λ c more h.
+      let long : length (name ++ more) ≡ count = exact_name laws c name more count f (omega arith) h in
+      omega (arith, length-append name more);
+}
+
+pub fewest_name : SpellingLaws → (name : List ℕ) (count : ℕ) → IsFewestHead name count → length name ≤ count → All (λ b. b < 256) name → IsFewest name count
+fewest_name laws name count f less bytes =
+    let count_is : count ≡ length f.head + 32 = f.count_is in
+    let done = name_goes_on f.head name f.agrees bytes (omega arith) in
+    let cid = head_cid laws f.head done.digest f.kind done.size done.are_bytes in
+    let long : length (name ++ done.more) ≡ length f.head + length done.digest = ap length done.whole ∙ length-append f.head done.digest in
+    let digest : length done.digest ≡ 32 = done.size in
+    record {
+      cid = cid.0;
+      more = done.more;
+      begins = subst (CidBytes cid.0) (sym done.whole) cid.1;
+      count_is = omega arith;
+      fewest = λ other rest h. least_name laws other name rest count f h;
+    }

@@ -1,24 +1,19 @@
--- No header and no section begins another.
+-- No header begins another, and a list of roots has one.
 use Rattle.std.proofs.Common.{◌≡◌, ℕ, ◌+◌, List, [], ◌∷◌, ◌++◌, length, ap, ap₂, sym, ◌∙◌, refl, inl, inr, arith}
 use Rattle.std.specs.List.{flat_map}
 use Rattle.std.proofs.lemmas.List.{append_assoc}
+use Rattle.tg_varint.specs.Laws.{SpellingLaws}
 use Rattle.tg_varint.specs.Varint.{VarintSpelling}
-use Rattle.tg_cid.specs.Cid.{CidParts}
-use Rattle.tg_cid.specs.Spelling.{CidBytes}
-use Rattle.tg_car.specs.CarText.{string_head, array_head, root_text, header_map, HeaderText, SectionText}
+use Rattle.tg_car.specs.CarText.{string_head, array_head, root_text, header_map, HeaderText}
 use Rattle.tg_car.specs.HeaderState.{map_back}
-use Rattle.tg_car.specs.declared.section.Section.{Section}
 use Rattle.tg_car.proofs.Sizes.{string_head_is, array_head_is}
 
--- no varint begins another, and no CID does
+-- no varint begins another
 abbrev pub VarintsOnce : Type 0
 VarintsOnce = (m n : ℕ) (a b x y : List ℕ) → VarintSpelling m a → VarintSpelling n b → a ++ x ≡ b ++ y → (a ≡ b) × (m ≡ n)
 
-abbrev pub CidsOnce : Type 0
-CidsOnce = (a b : CidParts) (u v x y : List ℕ) → CidBytes a u → CidBytes b v → u ++ x ≡ v ++ y → (u ≡ v) × (a ≡ b)
-
 -- fronts of one length are one
-same_fronts : (p q x y : List ℕ) → length p ≡ length q → p ++ x ≡ q ++ y → (p ≡ q) × (x ≡ y)
+pub same_fronts : (p q x y : List ℕ) → length p ≡ length q → p ++ x ≡ q ++ y → (p ≡ q) × (x ≡ y)
 same_fronts [] [] x y l e = (refl, e)
 same_fronts [] (b ∷ q) x y l e = absurd (omega arith)
 same_fronts (a ∷ p) [] x y l e = absurd (omega arith)
@@ -102,20 +97,7 @@ one_header once a b u v x y h k e =
       same_arrays a b cc,
     )
 
-pub one_section : VarintsOnce → CidsOnce → (a b : Section) (u v x y : List ℕ) → SectionText a u → SectionText b v → u ++ x ≡ v ++ y → (u ≡ v) × (a ≡ b)
-one_section once cids a b u v x y h k e =
-    let left : u ++ x ≡ h.size ++ (h.name ++ (a.block ++ x)) =
-    ap (λ l. l ++ x) h.whole ∙ (append_assoc h.size (h.name ++ a.block) x ∙ ap (λ l. h.size ++ l) (append_assoc h.name a.block x)) in
-    let right : v ++ y ≡ k.size ++ (k.name ++ (b.block ++ y)) =
-    ap (λ l. l ++ y) k.whole ∙ (append_assoc k.size (k.name ++ b.block) y ∙ ap (λ l. k.size ++ l) (append_assoc k.name b.block y)) in
-    let parts : h.size ++ (h.name ++ (a.block ++ x)) ≡ k.size ++ (k.name ++ (b.block ++ y)) = sym left ∙ (e ∙ right) in
-    let sizes = once (length h.name + length a.block) (length k.name + length b.block) h.size k.size (h.name ++ (a.block ++ x)) (k.name ++ (b.block ++ y)) h.size_is k.size_is parts in
-    let behind = same_fronts h.size k.size (h.name ++ (a.block ++ x)) (k.name ++ (b.block ++ y)) (ap length sizes.0) parts in
-    let names = cids a.cid b.cid h.name k.name (a.block ++ x) (b.block ++ y) h.name_is k.name_is behind.1 in
-    let long : length h.name ≡ length k.name = ap length names.0 in
-    let all : length h.name + length a.block ≡ length k.name + length b.block = sizes.1 in
-    let rest = same_fronts h.name k.name (a.block ++ x) (b.block ++ y) long behind.1 in
-    let block = same_fronts a.block b.block x y (omega arith) rest.1 in (
-      h.whole ∙ (ap₂ (λ p q. p ++ q) sizes.0 (ap₂ (λ p q. p ++ q) names.0 block.0) ∙ sym k.whole),
-      ap₂ (λ (cid : CidParts) (bytes : List ℕ). let s : Section = record { cid = cid; block = bytes } in s) names.1 block.0,
-    )
+-- a list of roots has one header
+pub header_text : SpellingLaws → (roots : List (List ℕ)) (u v : List ℕ) → HeaderText roots u → HeaderText roots v → u ≡ v
+header_text laws roots u v h k =
+    h.whole ∙ (ap (λ (l : List ℕ). l ++ header_map roots) (laws.one_spelling (length (header_map roots)) h.size k.size h.size_is k.size_is) ∙ sym k.whole)

@@ -1,5 +1,5 @@
 -- How the bytes of a section come: its length and CID, and then its block.
-use Rattle.std.specs.Prelude.{◌≡◌, ℕ, ◌+◌, ◌<◌, ◌≤◌, ⊤, Option, Some, None, List, [], ◌∷◌, ◌++◌, length, take, All}
+use Rattle.std.specs.Prelude.{◌≡◌, ℕ, ◌+◌, ◌<◌, ◌≤◌, Option, Some, None, List, [], ◌∷◌, ◌++◌, length, take, vec_capacity, All}
 use Rattle.tg_car.specs.declared.section.Section.{Section}
 use Rattle.tg_car.specs.declared.head.Declared.{Declared}
 use Rattle.tg_car.specs.declared.head.Front.{Front}
@@ -37,7 +37,7 @@ Fills old new piece taken fronts.Broken = BreaksHead old piece
 abbrev pub IsPartOf : Option Declared → Part → Type 0
 IsPartOf None part = IsInHead part.head × (part.block.items ≡ [])
 IsPartOf (Some declared) part = HeadText declared.cid declared.number part.head × (length part.block.items < declared.number)
-    × All (λ b. b < 256) part.block.items
+    × All (λ b. b < 256) part.block.items × (declared.number ≤ vec_capacity part.block)
 
 abbrev pub IsPart : Part → Type 0
 IsPart part = IsPartOf part.declared part
@@ -51,6 +51,7 @@ abbrev pub TakesHead : ℕ → Part → Part → List ℕ → ℕ → Option Dec
 TakesHead limit old new piece taken None = Fills old.head new.head piece taken fronts.Open × IsPart new × (new.block.items ≡ [])
 TakesHead limit old new piece taken (Some declared) =
     Fills old.head new.head piece taken (fronts.Whole declared) × (declared.number ≤ limit) × (new.block.items ≡ [])
+    × (declared.number ≤ vec_capacity new.block)
 
 -- the piece was taken into the block, or so many of its bytes, which made it whole
 abbrev pub TakesBlock : Declared → Part → Part → List ℕ → ℕ → Option Section → Type 0
@@ -68,15 +69,16 @@ Takes limit old new piece taken (Some section) =
     (taken ≤ length piece) × (0 < length piece → 0 < taken) × (new ≡ [])
     × SectionText section (old ++ take taken piece) × (IsWithin limit old → length section.block ≤ limit)
 
--- the last byte of a length and CID that declare a block above the limit is in the piece
-pub record DeclaresMore (limit : ℕ) (head piece : List ℕ) : Type 0 where
-  pub declared : Declared
-  pub taken : ℕ
-  pub text : HeadText declared.cid declared.number (head ++ take taken piece)
-  pub above : limit < declared.number
+-- the last byte of a length and CID is in the piece
+pub record Completes (head piece : List ℕ) (declared : Declared) : Type 0 where
+  pub front : List ℕ
+  pub last : ℕ
+  pub more : List ℕ
+  pub whole : piece ≡ front ++ last ∷ more
+  pub text : HeadText declared.cid declared.number ((head ++ front) ++ last ∷ [])
 
 -- why a section doesn't go on
 abbrev pub StopsPart : ℕ → List ℕ → List ℕ → PartFault → Type 0
 StopsPart limit old piece faults.Bad = BreaksHead old piece
-StopsPart limit old piece faults.AboveLimit = DeclaresMore limit old piece
-StopsPart limit old piece faults.OutOfMemory = ⊤
+StopsPart limit old piece faults.AboveLimit = (declared : Declared) × Completes old piece declared × (limit < declared.number)
+StopsPart limit old piece faults.OutOfMemory = (declared : Declared) × Completes old piece declared × (declared.number ≤ limit) × (0 < declared.number)

@@ -1,23 +1,8 @@
 -- The length and the CID at the front of a section.
-use Rattle.std.specs.Prelude.{◌≡◌, ℕ, ◌+◌, ◌<◌, ◌≤◌, ◌⊎◌, List, [], ◌∷◌, ◌++◌, length, take, min}
+use Rattle.std.specs.Prelude.{◌≡◌, ℕ, ◌+◌, ◌<◌, ◌≤◌, List, ◌++◌, length}
 use Rattle.tg_varint.specs.Varint.{VarintSpelling}
 use Rattle.tg_cid.specs.Cid.{CidParts}
-use Rattle.tg_cid.specs.Spelling.{CidBytes, codec_code}
-use Rattle.tg_cid.specs.declared.cid.Codec.{Codec}
-
--- what stands before the digest of a CIDv0 and of a CIDv1
-abbrev pub zero_head : List ℕ
-zero_head = 0x12 ∷ 0x20 ∷ []
-
-abbrev pub one_head_of : Codec → List ℕ
-one_head_of codec = 1 ∷ codec_code codec ∷ 0x12 ∷ 0x20 ∷ []
-
-abbrev pub IsNameHead : List ℕ → Type 0
-IsNameHead head = (head ≡ zero_head) ⊎ ((codec : Codec) × (head ≡ one_head_of codec))
-
--- the one begins with the other, or the other way round
-abbrev pub Agrees : List ℕ → List ℕ → Type 0
-Agrees bytes head = take (min (length bytes) (length head)) bytes ≡ take (min (length bytes) (length head)) head
+use Rattle.tg_cid.specs.Spelling.{CidBytes}
 
 -- the length and the CID of a section whose block has this many bytes
 pub record HeadText (cid : CidParts) (number : ℕ) (bytes : List ℕ) : Type 0 where
@@ -41,12 +26,12 @@ pub record IsNoHead (bytes : List ℕ) : Type 0 where
 
 -- the fewest bytes of a CID that begins so
 pub record IsFewest (name : List ℕ) (count : ℕ) : Type 0 where
-  pub head : List ℕ
-  pub kind : IsNameHead head
-  pub agrees : Agrees name head
-  pub count_is : count ≡ length head + 32
-  pub fewest : (other : List ℕ) → IsNameHead other → Agrees name other → length head ≤ length other
+  pub cid : CidParts
+  pub more : List ℕ
+  pub begins : CidBytes cid (name ++ more)
+  pub count_is : count ≡ length (name ++ more)
+  pub fewest : (other : CidParts) (rest : List ℕ) → CidBytes other (name ++ rest) → count ≤ length (name ++ rest)
 
 -- no CID begins so
 pub record IsNoName (name : List ℕ) : Type 0 where
-  pub none : (head : List ℕ) → IsNameHead head → Agrees name head → ⊥
+  pub none : (cid : CidParts) (more : List ℕ) → CidBytes cid (name ++ more) → ⊥

@@ -2,9 +2,11 @@ pub mod CarText
 pub mod Fronts
 pub mod Faults
 pub mod Heads
+pub mod NameHeads
 pub mod Filling
 pub mod History
 pub mod HeaderState
 pub mod State
 pub mod Steps
 pub mod Writing
+pub mod Laws

@@ -1,10 +1,11 @@
 -- What a contract sees of a reader of a CAR, and the histories that it stands for.
-use Rattle.std.specs.Prelude.{◌≡◌, ℕ, ◌-◌, Bool, true, false, Option, None, List, [], length}
+use Rattle.std.specs.Prelude.{◌≡◌, ℕ, ◌-◌, Bool, true, false, Option, Some, None, List, [], length}
+use Rattle.tg_car.specs.declared.event.Event.{Event}
 use Rattle.tg_car.specs.declared.header_state.HeaderState.{HeaderState}
 use Rattle.tg_car.specs.declared.fault.CarFault.{CarFault}
 use Rattle.tg_car.specs.HeaderState.{FollowsHeader}
 use Rattle.tg_car.specs.Faults.{shown}
-use Rattle.tg_car.specs.History.{History, IsBeforeSections, IsAmongSections, IsExact}
+use Rattle.tg_car.specs.History.{History, Stop, at_piece, at_end, IsBeforeSections, IsAmongSections, IsExact}
 
 pub record ReaderState : Type 0 where
   pub limit : ℕ  -- the most bytes that a block may have
@@ -12,27 +13,35 @@ pub record ReaderState : Type 0 where
   pub place : ℕ  -- where the section at hand begins, as it is shown; in the header, how many bytes came
   pub in_header : Bool  -- whether the header isn't whole yet
   pub header : HeaderState  -- what of the header is to come
+  pub text : List ℕ  -- the bytes of the header that came, until it is given
   pub came : List ℕ  -- the bytes of the section at hand that came
 
--- the header's bytes came, or a front of them
-pub record HoldsHeader (state : ReaderState) (h : History) : Type 0 where
-  pub before : IsBeforeSections h
-  pub follows : FollowsHeader state.header h.fed
+-- the fault of a refusal
+abbrev pub fault_of : Option Stop → Option CarFault
+fault_of None = None
+fault_of (Some (at_piece piece fault)) = Some fault
+fault_of (Some (at_end fault)) = Some fault
+
+-- bytes of the header came, or none yet
+pub record HoldsHeader (state : ReaderState) (fed : List ℕ) (given : List Event) : Type 0 where
+  pub before : IsBeforeSections fed given
+  pub follows : FollowsHeader state.header fed
+  pub text_is : state.text ≡ fed
   pub none_came : state.came ≡ []
-  pub place_is : state.place ≡ shown (length h.fed)
+  pub place_is : state.place ≡ shown (length fed)
 
 -- the section at hand is the one that the bytes have reached
-pub record HoldsSection (state : ReaderState) (h : History) : Type 0 where
-  pub among : IsAmongSections state.limit h state.came
-  pub place_is : state.place ≡ shown (length h.fed - length state.came)
+pub record HoldsSection (state : ReaderState) (fed : List ℕ) (given : List Event) : Type 0 where
+  pub among : IsAmongSections state.limit fed given state.came
+  pub place_is : state.place ≡ shown (length fed - length state.came)
 
 -- what a reader that refused nothing holds
-abbrev pub Holds : Bool → ReaderState → History → Type 0
-Holds true state h = HoldsHeader state h
-Holds false state h = HoldsSection state h
+abbrev pub Holds : Bool → ReaderState → List ℕ → List Event → Type 0
+Holds true state fed given = HoldsHeader state fed given
+Holds false state fed given = HoldsSection state fed given
 
 -- The reader has this value after this history. What it gave and refused is then what the bytes that it was fed are: `exact`.
 pub record StandsFor (state : ReaderState) (h : History) : Type 0 where
   pub exact : IsExact state.limit h
-  pub refused : state.refused ≡ h.refused
-  pub holds : h.refused ≡ None → Holds state.in_header state h
+  pub refused : state.refused ≡ fault_of h.stop
+  pub holds : h.stop ≡ None → Holds state.in_header state h.fed h.given

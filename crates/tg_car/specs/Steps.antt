@@ -1,15 +1,13 @@
 -- One call of a reader that has refused nothing.
-use Rattle.std.specs.Prelude.{◌≡◌, ℕ, ◌<◌, ◌≤◌, ◌⊎◌, Bool, true, false, Option, Some, None, List, ◌∷◌, ◌++◌, length, take}
+use Rattle.std.specs.Prelude.{◌≡◌, ℕ, ◌<◌, ◌≤◌, Bool, true, false, Option, Some, None, List, ◌∷◌, ◌++◌, length, take}
 use Rattle.tg_car.specs.declared.event.Event.{Event}
 use Rattle.tg_car.specs.declared.event.Event.TheVariants.{Need}
 use Rattle.tg_car.specs.declared.fault.CarFault.{CarFault}
-use Rattle.tg_car.specs.declared.fault.CarFault.TheVariants.{OutOfMemory}
 use Rattle.tg_car.specs.declared.reader.Followed.{Followed}
 use Rattle.tg_car.specs.CarText.{HeaderText}
-use Rattle.tg_car.specs.Faults.{HasCarCause}
 use Rattle.tg_car.specs.Fronts.{IsInHeader}
 use Rattle.tg_car.specs.HeaderState.{FollowsHeader}
-use Rattle.tg_car.specs.History.{History, with_event}
+use Rattle.tg_car.specs.History.{StopsAt, given_by}
 use Rattle.tg_car.specs.State.{ReaderState, Holds}
 
 -- a byte of the piece is one with which no header goes on
@@ -43,10 +41,10 @@ pub record Steps (old new : ReaderState) (piece : List ℕ) (taken : ℕ) (event
   pub need : event ≡ Need → taken ≡ length piece
   pub limit : new.limit ≡ old.limit
   pub refused : new.refused ≡ old.refused
-  pub holds : (h : History) → Holds old.in_header old h → Holds new.in_header new (with_event h piece taken event)
+  pub holds : (fed : List ℕ) (given : List Event) → Holds old.in_header old fed given
+      → Holds new.in_header new (fed ++ take taken piece) (given ++ given_by event)
 
 -- the piece is refused with this fault
 pub record Stops (old new : ReaderState) (piece : List ℕ) (fault : CarFault) : Type 0 where
   pub limit : new.limit ≡ old.limit
-  pub refused : new.refused ≡ old.refused
-  pub cause : (h : History) → Holds old.in_header old h → (fault ≡ OutOfMemory) ⊎ HasCarCause old.limit (h.fed ++ piece) fault
+  pub stops : (fed : List ℕ) (given : List Event) → Holds old.in_header old fed given → StopsAt old.limit fed given piece fault

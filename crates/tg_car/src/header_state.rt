@@ -1,10 +1,9 @@
 //! The header of a CAR, looked at byte by byte: it is refused at the first byte after which no header goes on.
 ghost use Rattle.std.specs.Prelude.{◌≡◌, ℕ, ◌+◌, ◌-◌, ◌≤◌, ◌<◌, ◌↔◌, List, [], ◌∷◌, ◌++◌, IsTrue, MatchBool, MatchOption};
-ghost use Rattle.tg_car.specs.CarText.{HeaderText, SectionText};
+ghost use Rattle.tg_car.specs.CarText.{HeaderText};
 ghost use Rattle.tg_car.specs.Fronts.{IsInHeader};
 ghost use Rattle.tg_car.specs.HeaderState.{FollowsHeader, GoesOn, CanBe, IsMapSize};
 ghost use Rattle.tg_car.specs.declared.header_state.Roots.{Roots};
-ghost use Rattle.tg_car.specs.declared.section.Section.{Section};
 
 // The bytes of the map before the array of roots, and those behind it.
 const FRONT: [u8; 7] = [0xa2, 0x65, b'r', b'o', b'o', b't', b's'];
@@ -271,19 +270,4 @@ fn back(at: u8, byte: u8) -> Option<HeaderState>
         return None;
     }
     Some(HeaderState::Back { at: at + 1 })
-}
-
-/// No header begins another, and a header is of one list of roots.
-pub fn one_header()
-    ensures { (a b : List (List ℕ)) (u v x y : List ℕ) → HeaderText a u → HeaderText b v → u ++ x ≡ v ++ y → (u ≡ v) × (a ≡ b) }
-{
-    tg_varint::one_spelling();
-}
-
-/// No section begins another, and the bytes of a section are of one section.
-pub fn one_section()
-    ensures { (a b : Section) (u v x y : List ℕ) → SectionText a u → SectionText b v → u ++ x ≡ v ++ y → (u ≡ v) × (a ≡ b) }
-{
-    tg_varint::one_spelling();
-    tg_cid::one_spelling();
 }

@@ -5,6 +5,8 @@ mod event;
 mod fault;
 mod head;
 mod header_state;
+mod laws;
+mod name;
 mod part;
 mod reader;
 mod room;
@@ -13,8 +15,8 @@ mod writing;
 
 pub use event::Event;
 pub use fault::CarFault;
-pub use header_state::{one_header, one_section};
-pub use reader::{CarReader, none_missed, one_division};
+pub use laws::car_laws;
+pub use reader::CarReader;
 pub use section::Section;
 pub use writing::{header, section_head};
 

@@ -1,16 +1,15 @@
 //! The section at hand: what of it came.
-ghost use Rattle.std.specs.Prelude.{◌≡◌, ◌↔◌, ◌<◌, ◌≤◌, [], length, Option, Some, None, IsTrue, All, MatchResult};
+ghost use Rattle.std.specs.Prelude.{◌≡◌, ◌↔◌, ◌<◌, ◌≤◌, [], length, Option, Some, None, IsTrue, All, vec_capacity, OnOk, OnErr, MatchResult};
 ghost use Rattle.tg_car.specs.Faults.{shown};
 ghost use Rattle.tg_car.specs.Filling.{IsPart, StopsPart, Takes, TakesBlock, TakesHead, came_of};
 ghost use Rattle.tg_car.specs.Heads.{HeadText};
-ghost use Rattle.tg_car.specs.declared.part.PartFault.TheVariants.{OutOfMemory};
 
 use crate::head::{Declared, Front, fill};
 use crate::room::Room;
 use crate::section::Section;
 use std::alloc::{AllocError, Global};
 use std::mem::replace;
-use tg_edges::Bytes;
+use tg_bytes::Bytes;
 
 /// Why a section doesn't go on.
 #[derive(Clone, Copy, Debug)]
@@ -21,14 +20,6 @@ pub(crate) enum PartFault {
     AboveLimit,
     /// No memory was found for its block.
     OutOfMemory,
-}
-
-impl From<AllocError> for PartFault {
-    ghost from_gives = { λ _ e. e ≡ OutOfMemory };
-
-    fn from(_: AllocError) -> Self {
-        PartFault::OutOfMemory
-    }
 }
 
 /// What came of a section: its length and CID, what they declare once they are whole, and its block.
@@ -45,6 +36,7 @@ impl Part {
         ensures part { IsPart result }
         ensures nothing { came_of result ≡ [] }
     {
+        tg_varint::spelling_laws();
         Part {
             head: Room::new(),
             declared: None,
@@ -68,7 +60,8 @@ impl Part {
         head.saturating_add(self.block.len() as u64)
     }
 
-    /// Takes bytes of the piece up to the section's end, and says how many and the section that is whole with them.
+    /// Takes bytes of the piece up to the section's end, and says how many and the section that is whole with them. Room for
+    /// its block is taken once its length and CID are whole, and moved out with the section.
     pub(crate) fn take(
         &mut self,
         alloc: Global,
@@ -80,14 +73,15 @@ impl Part {
         ensures took { MatchResult result (λ found. Takes limit (came_of self.old) (came_of self.new) piece.now found.0 found.1)
             (λ fault. StopsPart limit (came_of self.old) piece.now fault) }
     {
+        tg_varint::spelling_laws();
         if let Some(declared) = self.declared {
-            return self.take_block(alloc, declared, piece);
+            return Ok(self.take_block(alloc, declared, piece));
         }
         let (taken, declared) = self.take_head(limit, piece)?;
         let Some(declared) = declared else {
             return Ok((taken, None));
         };
-        let (more, section) = self.take_block(alloc, declared, &piece[taken..])?;
+        let (more, section) = self.take_block(alloc, declared, &piece[taken..]);
         Ok((taken + more, section))
     }
 
@@ -102,6 +96,7 @@ impl Part {
         ensures { MatchResult result (λ found. TakesHead limit self.old self.new piece.now found.0 found.1)
             (λ fault. IsPart self.new × StopsPart limit self.old.head piece.now fault) }
     {
+        tg_varint::spelling_laws();
         let (taken, front) = fill(&mut self.head, piece);
         let declared = match front {
             Front::Open => return Ok((taken, None)),
@@ -115,42 +110,57 @@ impl Part {
             self.head.clear();
             return Err(PartFault::AboveLimit);
         }
-        if self.block.reserve_exact(declared.number as usize).is_err() {
-            self.head.clear();
-            return Err(PartFault::OutOfMemory);
+        match take_room(&mut self.block, declared.number) {
+            Ok(()) => Ok((taken, Some(declared))),
+            Err(_) => {
+                self.head.clear();
+                Err(PartFault::OutOfMemory)
+            }
         }
-        Ok((taken, Some(declared)))
     }
 
-    /// Takes bytes of the piece into the block up to its end, and says how many and the section that is whole with them.
+    /// Takes bytes of the piece into the block up to its end, and says how many and the section that is whole with them. The
+    /// block has its room, so no memory is wanted.
     fn take_block(
         &mut self,
         alloc: Global,
         declared: Declared,
         piece: &[u8],
-    ) -> Result<(usize, Option<Section>), PartFault>
+    ) -> (usize, Option<Section>)
         requires head { HeadText declared.cid declared.number self.old.head }
         requires block { length self.old.block.items ≤ declared.number }
         requires bytes { All (λ b. b < 256) self.old.block.items }
+        requires room { declared.number ≤ vec_capacity self.old.block }
         ensures part { IsPart self.new }
-        ensures took { MatchResult result (λ found. TakesBlock declared self.old self.new piece.now found.0 found.1)
-            (λ fault. fault ≡ PartFault.OutOfMemory) }
+        ensures took { TakesBlock declared self.old self.new piece.now result.0 result.1 }
     {
+        tg_varint::spelling_laws();
         let left = declared.number - self.block.len() as u64;
         let taken = left.min(piece.len() as u64) as usize;
-        let added = self.block.extend_from_slice(&piece[..taken]);
-        if added.is_ok() && (taken as u64) < left {
+        if self.block.extend_from_slice(&piece[..taken]).is_err() {
+            unreachable!()
+        }
+        if (taken as u64) < left {
             self.declared = Some(declared);
-            return Ok((taken, None));
+            return (taken, None);
         }
         let block = replace(&mut self.block, Vec::new(alloc));
         self.head.clear();
         self.declared = None;
-        added?;
         let section = Section {
             cid: declared.cid,
             block: Bytes::from(block),
         };
-        Ok((taken, Some(section)))
+        (taken, Some(section))
     }
+}
+
+/// Takes room for so many bytes in an empty list.
+fn take_room(block: &mut Vec<u8>, number: u64) -> Result<(), AllocError>
+    requires { block.old.items ≡ [] }
+    ensures items { block.new.items ≡ [] }
+    ensures room { OnOk result (number ≤ vec_capacity block.new) }
+    ensures some { OnErr result (0 < number) }
+{
+    block.reserve_exact(number as usize)
 }

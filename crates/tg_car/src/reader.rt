@@ -1,26 +1,26 @@
 //! A CAR read in pieces of any lengths.
-ghost use Rattle.std.specs.Prelude.{◌≡◌, ℕ, ◌<◌, ◌≤◌, true, false, List, length, Option, Some, None, IfOk, IfSome, OnOk, MatchResult};
-ghost use Rattle.tg_car.specs.CarText.{CarText};
+ghost use Rattle.std.specs.Prelude.{◌≡◌, ℕ, ◌<◌, ◌≤◌, true, false, List, ◌++◌, length, Option, Some, None, IfOk, IfSome, OnOk, OnErr, MatchResult};
 ghost use Rattle.tg_car.specs.Fronts.{IsInHeader};
-ghost use Rattle.tg_car.specs.Faults.{HasCarCause};
 ghost use Rattle.tg_car.specs.HeaderState.{FollowsHeader};
-ghost use Rattle.tg_car.specs.History.{History, IsExact, nothing, with_end, with_feed};
+ghost use Rattle.tg_car.specs.History.{History, IsGivenOf, nothing, with_end, with_feed};
 ghost use Rattle.tg_car.specs.State.{StandsFor};
 ghost use Rattle.tg_car.specs.Steps.{IsTaken, Steps, Stops, TakesHeader};
-ghost use Rattle.tg_car.specs.declared.fault.CarFault.{CarFault};
 
 use crate::event::Event;
 use crate::fault::CarFault;
 use crate::header_state::HeaderState;
 use crate::part::{Part, PartFault};
-use std::alloc::Global;
+use std::alloc::{AllocError, Global};
 use std::marker::Model;
+use std::mem::replace;
+use tg_bytes::Bytes;
 
 /// A reader of a CAR that is fed its bytes in pieces of any lengths. It gives the header and each section in the call that
 /// brings its last byte, and refuses bytes that are no CAR at the first one with which no CAR goes on. After a refusal each
 /// call gives that refusal.
 ///
-/// CARv1 specification. It holds the bytes of one section at most, and a block in the room that its length asks for.
+/// CARv1 specification. It holds the bytes of the header or of one section at most, and a block in the room that its length
+/// asks for, which is taken once its length and CID are whole and moved out with the section.
 #[derive(Debug, Drop)]
 pub struct CarReader {
     alloc: Global,
@@ -29,6 +29,7 @@ pub struct CarReader {
     place: u64,
     in_header: bool,
     header: HeaderState,
+    text: Vec<u8>,
     part: Part,
 }
 
@@ -44,6 +45,7 @@ impl Model for CarReader {
       place = r.place;
       in_header = r.in_header;
       header = r.header;
+      text = r.text.items;
       came = came_of r.part;
     } };
 
@@ -64,6 +66,7 @@ impl CarReader {
         ensures stands { StandsFor result nothing }
         ensures limit { result.limit ≡ limit }
     {
+        tg_varint::spelling_laws();
         CarReader {
             alloc,
             limit,
@@ -71,6 +74,7 @@ impl CarReader {
             place: 0,
             in_header: true,
             header: HeaderState::new(),
+            text: Vec::new(alloc),
             part: Part::new(alloc),
         }
     }
@@ -79,7 +83,8 @@ impl CarReader {
     ///
     /// CARv1 specification, Header and Data. Errors: `BadHeader` and `BadSection` at the first byte with which no CAR goes
     /// on, `BlockLimit` at the last byte of the CID of a section whose block is above the limit, and `OutOfMemory` where no
-    /// room for a block is found. Then the whole piece counts as fed, and each further call gives the same error.
+    /// room is found for bytes of the header, or for a block at the last byte of its CID. What the bytes before that byte
+    /// complete was given before. Nothing of the piece is taken then, and each further call gives the same error.
     pub fn feed(&mut self, piece: &[u8]) -> Result<(usize, Event), CarFault>
         ensures within { IfOk result (λ found. found.0 ≤ length piece.now) }
         ensures moves { IfOk result (λ found. 0 < length piece.now → 0 < found.0) }
@@ -110,9 +115,8 @@ impl CarReader {
     ///
     /// CARv1 specification. Errors: `Torn` where the bytes end inside the header or a section, and a refusal of before.
     pub fn end(&mut self) -> Result<(), CarFault>
-        // What was fed is then a CAR of the sections that were given.
-        ensures whole { (h : History) → StandsFor self.old h
-            → OnOk result ((roots : List (List ℕ)) × CarText roots h.sections h.fed) }
+        // What was fed is then a CAR, and its header and sections were given.
+        ensures whole { (h : History) → StandsFor self.old h → OnOk result (IsGivenOf h.fed h.given) }
         ensures stands { (h : History) → StandsFor self.old h → StandsFor self.new (with_end h result) }
         // After a refusal each call gives that refusal and changes nothing.
         ensures again { (fault : CarFault) → self.old.refused ≡ Some fault
@@ -154,14 +158,17 @@ impl CarReader {
         ensures { MatchResult result (λ found. Steps self.old self.new piece.now found.0 found.1)
             (λ fault. Stops self.old self.new piece.now fault) }
     {
+        tg_varint::spelling_laws();
         let Some(found) = follow(self.header, piece) else {
             return Err(CarFault::BadHeader { at: 0 });
         };
+        keep(&mut self.text, &piece[..found.taken])?;
         self.header = found.state;
         self.place = self.place.saturating_add(found.taken as u64);
         if found.whole {
             self.in_header = false;
-            return Ok((found.taken, Event::Header));
+            let text = replace(&mut self.text, Vec::new(self.alloc));
+            return Ok((found.taken, Event::Header(Bytes::from(text))));
         }
         Ok((found.taken, Event::Need))
     }
@@ -172,15 +179,21 @@ impl CarReader {
         ensures { MatchResult result (λ found. Steps self.old self.new piece.now found.0 found.1)
             (λ fault. Stops self.old self.new piece.now fault) }
     {
+        tg_varint::spelling_laws();
         let came = self.part.len();
         match self.part.take(self.alloc, self.limit, piece) {
             Ok((taken, None)) => Ok((taken, Event::Need)),
             Ok((taken, Some(section))) => {
-                self.place = self.place.saturating_add(came).saturating_add(taken as u64);
-                Ok((taken, Event::Section(section)))
+                let at = self.place;
+                let size = came.saturating_add(taken as u64);
+                self.place = at.saturating_add(size);
+                Ok((taken, Event::Section { at, size, section }))
             }
             Err(PartFault::Bad) => Err(CarFault::BadSection { at: self.place }),
-            Err(PartFault::AboveLimit) => Err(CarFault::BlockLimit { number: self.limit }),
+            Err(PartFault::AboveLimit) => Err(CarFault::BlockLimit {
+                at: self.place,
+                number: self.limit,
+            }),
             Err(PartFault::OutOfMemory) => Err(CarFault::OutOfMemory),
         }
     }
@@ -208,14 +221,13 @@ fn follow(mut state: HeaderState, piece: &[u8]) -> Option<Followed>
     })
 }
 
-/// A reader that refused nothing missed no refusal: no cause of one holds of the bytes that it was fed.
-pub fn none_missed()
-    ensures { (limit : ℕ) (h : History) (fault : CarFault) → IsExact limit h → h.refused ≡ None
-        → HasCarCause limit h.fed fault → ⊥ }
-{}
-
-/// Bytes have one division: readers that refused nothing of the same bytes gave the same.
-pub fn one_division()
-    ensures { (limit : ℕ) (g h : History) → IsExact limit g → IsExact limit h
-        → g.refused ≡ None → h.refused ≡ None → g.fed ≡ h.fed → g ≡ h }
-{}
+/// Adds the bytes at the end. Where there are none, no memory is wanted.
+fn keep(text: &mut Vec<u8>, bytes: &[u8]) -> Result<(), AllocError>
+    ensures items { OnOk result (text.new.items ≡ text.old.items ++ bytes.now) }
+    ensures some { OnErr result (0 < length bytes.now) }
+{
+    if bytes.is_empty() {
+        return Ok(());
+    }
+    text.extend_from_slice(bytes)
+}

@@ -1,21 +1,16 @@
-use Rattle.std.proofs.Common.{◌<◌, All, arith}
-use Rattle.std.proofs.lemmas.List.Elements.{All-from_get_or}
 use Rattle.tg_car.proofs.Openings.{no_name, too_few, open_name, whole_name, broken_name}
 use Rattle.tg_car.proofs.head.behind_size.Goals as goal
 
 pub returns-in_default : goal.returns-in_default
-returns-in_default c = λ spelling v. no_name c.args.size spelling c.args.name.now v c.in_default.ensures
+returns-in_default c = λ spelling v. no_name c.spelling_laws.ensures c.args.size spelling c.args.name.now v c.in_default.ensures
 
 pub returns-then-size-count : goal.returns-then-size-count
 returns-then-size-count c = λ spelling v.
-    too_few c.args.size spelling c.args.name.now c.in-Some.count v c.in-Some.ensures c.if-size-count.true
+    too_few c.spelling_laws.ensures c.args.size spelling c.args.name.now c.in-Some.count v c.in-Some.ensures c.if-size-count.true
 
 pub returns-then-name-count : goal.returns-then-name-count
-returns-then-name-count c =
-    let bytes : All (λ b. b < 256) c.args.name.now =
-    All-from_get_or (λ b. b < 256) c.args.name.now 0 (λ i l. omega (arith, c.type_inv.name i)) in
-    λ spelling v.
-    open_name c.args.size spelling c.args.name.now c.in-Some.count v c.in-Some.ensures c.if-size-count.false c.if-name-count.true bytes
+returns-then-name-count c = λ spelling v.
+    open_name c.args.size spelling c.args.name.now c.in-Some.count v c.in-Some.ensures c.if-size-count.false c.if-name-count.true
 
 pub returns-in-Ok : goal.returns-in-Ok
 returns-in-Ok c = λ spelling v.
@@ -24,5 +19,5 @@ returns-in-Ok c = λ spelling v.
 
 pub returns-in-Err : goal.returns-in-Err
 returns-in-Err c = λ spelling v.
-    broken_name c.args.size spelling c.args.name.now c.in-Some.count v c.in-Some.ensures c.if-name-count.false
+    broken_name c.args.size spelling c.args.name.now c.in-Some.count c.in-Some.ensures c.if-name-count.false
     (λ cid h. let e = c.in-Err.ensures.only cid h in absurd cc)

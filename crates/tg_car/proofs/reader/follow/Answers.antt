@@ -3,7 +3,7 @@ use Rattle.tg_car.specs.Fronts.{IsInHeader}
 use Rattle.tg_car.specs.HeaderState.{FollowsHeader}
 use Rattle.tg_car.specs.Steps.{TakesHeader}
 use Rattle.tg_car.specs.declared.reader.Followed.{Followed}
-use Rattle.tg_car.proofs.Takings.{one_more, one_behind}
+use Rattle.tg_car.proofs.Parts.{one_more, one_behind}
 use Rattle.tg_car.proofs.reader.follow.Goals as goal
 
 pub returns-in_err-state-clause-bytes : goal.returns-in_err-state-clause-bytes
