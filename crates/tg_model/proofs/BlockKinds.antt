@@ -118,10 +118,10 @@ node_ok laws block kind are h =
     (kind_ok h.links h.cids h.unix kind (cids_count h.links h.cids h.node.cids_are) h.reads)))
 
 -- the same under each codec
-under_computed : ComputedReading → (codec : Codec) (block : List ℕ) (kind : Kind) → AreBytes block → (read_under codec block ≡ Ok kind) ↔ ReadsUnder codec block kind
-under_computed laws codecs.Raw block kind are = (λ e. sym (one_value Raw kind e), λ is. ok_same Raw kind (sym is))
-under_computed laws codecs.DagPb block kind are = (λ e. node_told laws block kind are e, λ h. node_ok laws block kind are h)
+traverse_computed : ComputedReading → (codec : Codec) (block : List ℕ) (kind : Kind) → AreBytes block → (read_under codec block ≡ Ok kind) ↔ ReadsUnder codec block kind
+traverse_computed laws codecs.Raw block kind are = (λ e. sym (one_value Raw kind e), λ is. ok_same Raw kind (sym is))
+traverse_computed laws codecs.DagPb block kind are = (λ e. node_told laws block kind are e, λ h. node_ok laws block kind are h)
 
 -- of a block of bytes the kind is computed
 pub computed : ComputedReading → (cid : CidParts) (block : List ℕ) (kind : Kind) → All (λ (b : ℕ). b < 256) block → (read cid block ≡ Ok kind) ↔ Reads cid block kind
-computed laws cid block kind are = under_computed laws cid.codec block kind are
+computed laws cid block kind are = traverse_computed laws cid.codec block kind are

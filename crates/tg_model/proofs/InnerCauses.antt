@@ -112,9 +112,9 @@ kind_no_want type links cids unix = search (no_want_either, no_want_unless, no_w
 read_no_want : CausedFaults → (block : List ℕ) (node : Node) → AreBytes block → NodeText node block → NoWant (read_node node)
 read_no_want laws block node are text = search (no_want_after, cids_no_want, payload_no_want laws node.links node.payload block are text, kind_no_want)
 
-under_no_want : CausedFaults → (codec : Codec) (block : List ℕ) → AreBytes block → NoWant (read_under codec block)
-under_no_want laws codecs.Raw block are = tt
-under_no_want laws codecs.DagPb block are =
+traverse_no_want : CausedFaults → (codec : Codec) (block : List ℕ) → AreBytes block → NoWant (read_under codec block)
+traverse_no_want laws codecs.Raw block are = tt
+traverse_no_want laws codecs.DagPb block are =
     no_want_after (node_or_fault (node_of block)) read_node
     (node_no_want block (node_of block) (λ fault. (laws.node block fault are).0))
     (λ node e. read_no_want laws block node are ((laws.found block node are).0 (node_found (node_of block) node e)))
@@ -125,4 +125,4 @@ fault_no_want (Err other) fault h e = let same : other ≡ fault = cc in subst I
 
 -- no first fault of a block of bytes is want of memory
 pub no_want_of_memory : CausedFaults → (cid : CidParts) (block : List ℕ) (fault : BlockFault) → All (λ (b : ℕ). b < 256) block → read cid block ≡ Err fault → IsNoWantOfMemory fault
-no_want_of_memory laws cid block fault are e = fault_no_want (read cid block) fault (under_no_want laws cid.codec block are) e
+no_want_of_memory laws cid block fault are e = fault_no_want (read cid block) fault (traverse_no_want laws cid.codec block are) e

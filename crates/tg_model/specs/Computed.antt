@@ -1,5 +1,6 @@
 -- The kind of a block under its CID, or its first fault, computed. The faults are tried in the order of `BlockFault`.
 use Rattle.tg_cid.specs.declared.cid.Codec.TheVariants as codecs
+use Rattle.tg_ascii.specs.Ascii.{slash}
 use Rattle.tg_model.specs.declared.fault.BlockFault.TheVariants as faults
 use Rattle.std.specs.List.{list_all, list_any}
 use Rattle.std.specs.Prelude.{min, ◌-◌, Bool, Err, List, None, Ok, Option, Result, Some, [], bytes_eq, drop, false, if◌then◌else◌, length, map, nat_lt, not, sum, take, true, ℕ, ◌&&◌, ◌+◌, ◌==◌, ◌^◌, ◌∷◌, ◌≡◌, ◌⊎◌}
@@ -43,7 +44,7 @@ unless_at (Some at) fault result = Err (fault at)
 
 -- a name is good
 abbrev pub is_good_name : List ℕ → Bool
-is_good_name name = not (bytes_eq name []) && (list_all (λ b. not (b == 47) && not (b == 0)) name && (not (bytes_eq name (46 ∷ [])) && not (bytes_eq name (46 ∷ 46 ∷ []))))
+is_good_name name = not (bytes_eq name []) && (list_all (λ b. not (b == slash) && not (b == 0)) name && (not (bytes_eq name (46 ∷ [])) && not (bytes_eq name (46 ∷ 46 ∷ []))))
 
 -- the index of the first name that stands before, counted from `at`
 abbrev pub doubled_from : ℕ → List (List ℕ) → List (List ℕ) → Option ℕ

@@ -1,6 +1,6 @@
 -- What a DAG says: the content of a file, the entries of a directory (UnixFS specification: File, Directory, HAMTDirectory).
 use Rattle.std.specs.Prelude.{List, None, Option, Some, [], replicate, ℕ, ◌++◌, ◌∷◌}
-use Rattle.tg_model.specs.Dag.{Dag, Kids, Section, bare, kid, no_kid, node, unopened}
+use Rattle.tg_model.specs.Dag.{Dag, Children, Section, bare, with_child, no_child, node, unopened}
 use Rattle.tg_model.specs.Sound.{Position, child, part, positions, top}
 use Rattle.tg_model.specs.declared.kinds.Entry.{Entry}
 use Rattle.tg_model.specs.declared.kinds.Kind.{Kind}
@@ -21,7 +21,7 @@ own_content section (Basic entries) = []
 own_content section (Shard slots) = []
 own_content section (Symlink target) = []
 
--- whether a kind's kids are parts of its content
+-- whether a kind's children are parts of its content
 abbrev pub part_positions : Position → Kind → List Position
 part_positions position Raw = []
 part_positions position (File inline filesize parts) = positions position (File inline filesize parts)
@@ -34,12 +34,12 @@ abbrev mutual
   pub content_at : Position → Dag → List ℕ
   content_at position (unopened cid) = zeros_for position
   content_at position (bare section fault) = []
-  content_at position (node section kind kids) = own_content section kind ++ content_of_kids (part_positions position kind) kids
+  content_at position (node section kind children) = own_content section kind ++ content_of_children (part_positions position kind) children
 
-  pub content_of_kids : List Position → Kids → List ℕ
-  content_of_kids positions no_kid = []
-  content_of_kids [] (kid d kids) = []
-  content_of_kids (position ∷ positions) (kid d kids) = content_at position d ++ content_of_kids positions kids
+  pub content_of_children : List Position → Children → List ℕ
+  content_of_children positions no_child = []
+  content_of_children [] (with_child d children) = []
+  content_of_children (position ∷ positions) (with_child d children) = content_at position d ++ content_of_children positions children
 
 abbrev pub content : Dag → List ℕ
 content d = content_at top d
@@ -49,10 +49,10 @@ pub record DirEntry : Type 0 where
   pub name : List ℕ
   pub dag : Dag
 
-abbrev pub named_kids : List Entry → Kids → List DirEntry
-named_kids entries no_kid = []
-named_kids [] (kid d kids) = []
-named_kids (entry ∷ entries) (kid d kids) = record { name = entry.name; dag = d } ∷ named_kids entries kids
+abbrev pub named_children : List Entry → Children → List DirEntry
+named_children entries no_child = []
+named_children [] (with_child d children) = []
+named_children (entry ∷ entries) (with_child d children) = record { name = entry.name; dag = d } ∷ named_children entries children
 
 -- a slot is an entry where it has a name, and else it has those of its child shard
 abbrev pub slot_entries : Option (List ℕ) → Dag → List DirEntry → List DirEntry
@@ -64,13 +64,13 @@ abbrev mutual
   pub entries : Dag → List DirEntry
   entries (unopened cid) = []
   entries (bare section fault) = []
-  entries (node section Raw kids) = []
-  entries (node section (File inline filesize parts) kids) = []
-  entries (node section (Basic es) kids) = named_kids es kids
-  entries (node section (Shard slots) kids) = entries_of_slots slots kids
-  entries (node section (Symlink target) kids) = []
+  entries (node section Raw children) = []
+  entries (node section (File inline filesize parts) children) = []
+  entries (node section (Basic es) children) = named_children es children
+  entries (node section (Shard slots) children) = entries_of_slots slots children
+  entries (node section (Symlink target) children) = []
 
-  pub entries_of_slots : List Slot → Kids → List DirEntry
-  entries_of_slots slots no_kid = []
-  entries_of_slots [] (kid d kids) = []
-  entries_of_slots (slot ∷ slots) (kid d kids) = slot_entries slot.name d (entries d) ++ entries_of_slots slots kids
+  pub entries_of_slots : List Slot → Children → List DirEntry
+  entries_of_slots slots no_child = []
+  entries_of_slots [] (with_child d children) = []
+  entries_of_slots (slot ∷ slots) (with_child d children) = slot_entries slot.name d (entries d) ++ entries_of_slots slots children

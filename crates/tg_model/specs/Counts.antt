@@ -5,7 +5,7 @@ use Rattle.tg_model.specs.Dag.{Dag}
 use Rattle.tg_model.specs.LimitNumbers.{LimitNumbers}
 use Rattle.tg_model.specs.Queries.{QueryParts}
 use Rattle.tg_model.specs.Texts.{listing_line}
-use Rattle.tg_model.specs.Traversal.{Met, Traversal, sent_places, traversal}
+use Rattle.tg_model.specs.Traversal.{ListedEntry, Traversal, asked_places, sent_places, traversal}
 
 -- the greatest number, and 0 of none
 abbrev pub greatest : List ℕ → ℕ
@@ -13,17 +13,17 @@ greatest [] = 0
 greatest (n ∷ ns) = max n (greatest ns)
 
 -- the entries met of one directory
-abbrev pub met_of : List ℕ → List Met → List Met
+abbrev pub met_of : List ℕ → List ListedEntry → List ListedEntry
 met_of directory met = filter (λ m. bytes_eq directory m.directory) met
 
-abbrev pub entries_of_one : List Met → Met → ℕ
+abbrev pub entries_of_one : List ListedEntry → ListedEntry → ℕ
 entries_of_one met m = length (met_of m.directory met)
 
-abbrev pub names_of_one : List Met → Met → ℕ
+abbrev pub names_of_one : List ListedEntry → ListedEntry → ℕ
 names_of_one met m = sum (map (λ other. length other.name) (met_of m.directory met))
 
 -- the lines of a listing that is met; a bundle's lines stand in the text
-abbrev pub met_line : Met → List ℕ
+abbrev pub met_line : ListedEntry → List ℕ
 met_line m = if bytes_eq m.directory [] then listing_line (record { name = m.name; cid = m.cid }) else []
 
 -- the bytes of the answer that are met, in preorder
@@ -49,7 +49,7 @@ counts_of q t =
       output = output_count t;
       seen_blocks = if_once q.dups (length sent);
       seen_bytes = if_once q.dups (sum sizes);
-      reused = if_once q.dups (length t.places - length sent);
+      reused = if_once q.dups (length (asked_places q t.places) - length sent);
     }
 
 -- the counts of a query over a DAG

@@ -5,7 +5,7 @@ use Rattle.sha2.specs.Sha256.{sha256}
 use Rattle.tg_cid.specs.Cid.{CidParts}
 use Rattle.tg_model.specs.Answer.{is_listed, node_text}
 use Rattle.tg_model.specs.Dag.{Dag, Section, bare, blocks, node, root_cid, unopened}
-use Rattle.tg_model.specs.PathWalk.{PathEnd, TraversalEnd, gone, path_walk, stopped, terminal, whole}
+use Rattle.tg_model.specs.PathWalk.{PathEnd, Spot, TraversalEnd, gone, not_reached, path_walk, stopped, terminal, whole}
 use Rattle.tg_model.specs.Queries.{QueryParts}
 use Rattle.tg_model.specs.Sound.{IsChecked}
 use Rattle.tg_model.specs.Traversal.{block_list, opened_list, traversal}
@@ -15,6 +15,7 @@ use Rattle.tg_model.specs.declared.queries.Scope.{Scope}
 abbrev pub HasOneBlockEach : List Section → Type 0
 HasOneBlockEach sections = (a b : Section) → Contains sections a → Contains sections b → a.cid ≡ b.cid → a.block ≡ b.block
 
+-- where each block is sent once
 abbrev pub IfOnce : Bool → Type 0 → Type 0
 IfOnce true P = ⊤
 IfOnce false P = P
@@ -23,11 +24,12 @@ IfOnce false P = P
 abbrev pub IsToldAlone : Dag → Type 0
 IsToldAlone (unopened cid) = ⊤
 IsToldAlone (bare section fault) = ⊤
-IsToldAlone (node section kind kids) = ⊥
+IsToldAlone (node section kind children) = ⊥
 
+-- where scope block asks for the terminal, it is told alone
 abbrev pub IsAloneAt : Scope → PathEnd → Type 0
 IsAloneAt scopes.Block (terminal d) = IsToldAlone d
-IsAloneAt scopes.Block (stopped end) = ⊤
+IsAloneAt scopes.Block (not_reached stop) = ⊤
 IsAloneAt scopes.Entity end = ⊤
 IsAloneAt scopes.All end = ⊤
 
@@ -42,8 +44,9 @@ pub record IsOpenedFor (d : Dag) (q : QueryParts) : Type 0 where
 -- the text of the terminal, once the traversal came through
 abbrev pub terminal_text : QueryParts → PathEnd → List ℕ
 terminal_text q (terminal d) = node_text q.scope q.span d
-terminal_text q (stopped end) = []
+terminal_text q (not_reached stop) = []
 
+-- what the terminal of a partial DAG says
 abbrev pub whole_text : QueryParts → Dag → List ℕ
 whole_text q d = terminal_text q (path_walk q.path d).end
 
@@ -54,12 +57,12 @@ pub record Fits (d : Dag) (q : QueryParts) (sections : List Section) (out : List
   pub end : (traversal q d).end ≡ whole
   pub text : out ≡ whole_text q d
 
--- the sections are those up to a place, at which this CID is wanted
-pub record IsInProgress (d : Dag) (q : QueryParts) (sections : List Section) (wanted : CidParts) : Type 0 where
+-- the sections are those up to a spot, for which a block is wanted
+pub record IsInProgress (d : Dag) (q : QueryParts) (sections : List Section) (wanted : Spot) : Type 0 where
   pub right : IsOpenedFor d q
   pub list : block_list q d ≡ sections
-  pub end : (traversal q d).end ≡ gone wanted
-  pub not_seen : IfOnce q.dups ((section : Section) → Contains sections section → section.cid ≢ wanted)
+  pub end : (traversal q d).end ≡ stopped (gone wanted)
+  pub not_seen : IfOnce q.dups ((section : Section) → Contains sections section → section.cid ≢ wanted.cid)
 
 -- whether a block alone is asked for
 abbrev pub is_block : Scope → Bool
@@ -70,14 +73,15 @@ is_block scopes.All = false
 -- whether the text is written at the end alone: a block's, and a directory's listing
 abbrev pub is_late_terminal : Scope → PathEnd → Bool
 is_late_terminal scope (terminal d) = is_block scope || is_listed scope d
-is_late_terminal scope (stopped end) = false
+is_late_terminal scope (not_reached stop) = false
 
+-- what is written: the whole text where it is late and the traversal came through, and else the text so far
 abbrev pub so_far : Bool → TraversalEnd → List ℕ → List ℕ → List ℕ
 so_far true whole all text = all
-so_far true other all text = []
+so_far true (stopped stop) all text = []
 so_far false end all text = text
 
--- what is written for a partial DAG: the text in preorder up to the first place that isn't opened
+-- what is written for a partial DAG: the text in preorder up to the first block that isn't opened
 abbrev pub output_so_far : QueryParts → Dag → List ℕ
 output_so_far q d = so_far (is_late_terminal q.scope (path_walk q.path d).end) (traversal q d).end (whole_text q d) (traversal q d).text
 

@@ -5,9 +5,9 @@ use Rattle.tg_cid.specs.Spelling.{CidBytes}
 use Rattle.tg_cid.specs.declared.cid.HashKind.TheVariants.{Sha256}
 use Rattle.tg_dagpb.specs.Node.{CanonicalText}
 use Rattle.tg_dagpb.specs.declared.Link.{Link}
-use Rattle.tg_edges.specs.declared.tree.Tree.{Tree}
+use Rattle.tg_tree.specs.declared.tree.Tree.{Tree}
 use Rattle.tg_model.specs.Content.{DirEntry, content, entries}
-use Rattle.tg_model.specs.Dag.{Dag, Kids, Section, bare, blocks, kid, no_kid, node, root_cid, total_of, unopened}
+use Rattle.tg_model.specs.Dag.{Dag, Children, Section, bare, blocks, with_child, no_child, node, root_cid, total_of, unopened}
 use Rattle.tg_model.specs.Reading.{slot_digits, used_slots}
 use Rattle.tg_model.specs.ShowsTree.{Shows}
 use Rattle.tg_model.specs.Sound.{Position, child, part, positions, top}
@@ -15,7 +15,7 @@ use Rattle.tg_model.specs.Texts.{is_before}
 use Rattle.tg_model.specs.declared.kinds.Entry.{Entry}
 use Rattle.tg_model.specs.declared.kinds.Kind.TheVariants.{Basic, File, Raw, Shard, Symlink}
 use Rattle.tg_model.specs.declared.kinds.Slot.{Slot}
-use Rattle.tg_unixfs.specs.Unix.{UnixText}
+use Rattle.tg_unixfs.specs.Unix.{CanonicalText as CanonicalData}
 use Rattle.tg_unixfs.specs.declared.Unix.{Unix}
 
 -- how many bytes a chunk has, how many links a node of a file, and the weight above which a directory is sharded
@@ -31,46 +31,46 @@ abbrev mutual
   pub leaves : Dag → List (List ℕ)
   leaves (unopened cid) = []
   leaves (bare section fault) = []
-  leaves (node section Raw kids) = section.block ∷ []
-  leaves (node section (File inline filesize parts) kids) = leaves_of_kids kids
-  leaves (node section (Basic es) kids) = []
-  leaves (node section (Shard slots) kids) = []
-  leaves (node section (Symlink target) kids) = []
+  leaves (node section Raw children) = section.block ∷ []
+  leaves (node section (File inline filesize parts) children) = leaves_of_children children
+  leaves (node section (Basic es) children) = []
+  leaves (node section (Shard slots) children) = []
+  leaves (node section (Symlink target) children) = []
 
-  pub leaves_of_kids : Kids → List (List ℕ)
-  leaves_of_kids no_kid = []
-  leaves_of_kids (kid d kids) = leaves d ++ leaves_of_kids kids
+  pub leaves_of_children : Children → List (List ℕ)
+  leaves_of_children no_child = []
+  leaves_of_children (with_child d children) = leaves d ++ leaves_of_children children
 
 abbrev mutual
   pub level_widths : Dag → ℕ → List ℕ
   level_widths (unopened cid) level = []
   level_widths (bare section fault) level = []
-  level_widths (node section Raw kids) level = []
-  level_widths (node section (File inline filesize parts) kids) zero = length parts ∷ []
-  level_widths (node section (File inline filesize parts) kids) (suc level) = level_widths_of_kids kids level
-  level_widths (node section (Basic es) kids) level = []
-  level_widths (node section (Shard slots) kids) level = []
-  level_widths (node section (Symlink target) kids) level = []
+  level_widths (node section Raw children) level = []
+  level_widths (node section (File inline filesize parts) children) zero = length parts ∷ []
+  level_widths (node section (File inline filesize parts) children) (suc level) = level_widths_of_children children level
+  level_widths (node section (Basic es) children) level = []
+  level_widths (node section (Shard slots) children) level = []
+  level_widths (node section (Symlink target) children) level = []
 
-  pub level_widths_of_kids : Kids → ℕ → List ℕ
-  level_widths_of_kids no_kid level = []
-  level_widths_of_kids (kid d kids) level = level_widths d level ++ level_widths_of_kids kids level
+  pub level_widths_of_children : Children → ℕ → List ℕ
+  level_widths_of_children no_child level = []
+  level_widths_of_children (with_child d children) level = level_widths d level ++ level_widths_of_children children level
 
 -- every leaf is so many links below the node
 abbrev mutual
   pub HasLeavesAt : ℕ → Dag → Type 0
   HasLeavesAt depth (unopened cid) = ⊥
   HasLeavesAt depth (bare section fault) = ⊥
-  HasLeavesAt depth (node section Raw kids) = depth ≡ 0
-  HasLeavesAt zero (node section (File inline filesize parts) kids) = ⊥
-  HasLeavesAt (suc depth) (node section (File inline filesize parts) kids) = HaveLeavesAt depth kids
-  HasLeavesAt depth (node section (Basic es) kids) = ⊥
-  HasLeavesAt depth (node section (Shard slots) kids) = ⊥
-  HasLeavesAt depth (node section (Symlink target) kids) = ⊥
+  HasLeavesAt depth (node section Raw children) = depth ≡ 0
+  HasLeavesAt zero (node section (File inline filesize parts) children) = ⊥
+  HasLeavesAt (suc depth) (node section (File inline filesize parts) children) = HaveLeavesAt depth children
+  HasLeavesAt depth (node section (Basic es) children) = ⊥
+  HasLeavesAt depth (node section (Shard slots) children) = ⊥
+  HasLeavesAt depth (node section (Symlink target) children) = ⊥
 
-  pub HaveLeavesAt : ℕ → Kids → Type 0
-  HaveLeavesAt depth no_kid = ⊤
-  HaveLeavesAt depth (kid d kids) = HasLeavesAt depth d × HaveLeavesAt depth kids
+  pub HaveLeavesAt : ℕ → Children → Type 0
+  HaveLeavesAt depth no_child = ⊤
+  HaveLeavesAt depth (with_child d children) = HasLeavesAt depth d × HaveLeavesAt depth children
 
 -- all but the last are this number, and the last is at most it
 pub record AreFull (number : ℕ) (numbers : List ℕ) : Type 0 where
@@ -86,7 +86,7 @@ HasBytes (leaf ∷ other ∷ leaves) = All (λ bytes. 0 < length bytes) (leaf �
 -- a file of at most one chunk is a leaf; any other has leaves that are equally deep, at least two links at its root, one at
 -- each node, and full levels
 abbrev pub IsLeaf : Dag → Type 0
-IsLeaf d = (section : Section) × (d ≡ node section Raw no_kid)
+IsLeaf d = (section : Section) × (d ≡ node section Raw no_child)
 
 pub record IsLaidFile (options : LayoutOptions) (d : Dag) : Type 0 where
   pub chunks : AreFull options.chunk (map length (leaves d))
@@ -105,17 +105,17 @@ abbrev mutual
   pub tsize_of : Dag → ℕ
   tsize_of (unopened cid) = 0
   tsize_of (bare section fault) = length section.block
-  tsize_of (node section kind kids) = length section.block + tsizes_of kids
+  tsize_of (node section kind children) = length section.block + tsizes_of children
 
-  pub tsizes_of : Kids → ℕ
-  tsizes_of no_kid = 0
-  tsizes_of (kid d kids) = tsize_of d + tsizes_of kids
+  pub tsizes_of : Children → ℕ
+  tsizes_of no_child = 0
+  tsizes_of (with_child d children) = tsize_of d + tsizes_of children
 
--- the links of a node lead to its kids, under these names, with their Tsizes
-abbrev pub AreLinks : List (List ℕ) → Kids → List Link → Type 0
-AreLinks [] no_kid [] = ⊤
-AreLinks (name ∷ names) (kid d kids) (link ∷ links) =
-    CidBytes (root_cid d) link.hash × (link.name ≡ Some name) × (link.tsize ≡ Some (tsize_of d)) × AreLinks names kids links
+-- the links of a node lead to its children, under these names, with their Tsizes
+abbrev pub AreLinks : List (List ℕ) → Children → List Link → Type 0
+AreLinks [] no_child [] = ⊤
+AreLinks (name ∷ names) (with_child d children) (link ∷ links) =
+    CidBytes (root_cid d) link.hash × (link.name ≡ Some name) × (link.tsize ≡ Some (tsize_of d)) × AreLinks names children links
 AreLinks _ _ _ = ⊥
 
 -- the data of a file's node, of a directory in one block, and of a shard
@@ -129,12 +129,12 @@ abbrev pub shard_unix : List ℕ → Unix
 shard_unix bits = record { kind = 5; inline = Some bits; filesize = None; sizes = []; hash = Some 0x22; fanout = Some 256 }
 
 -- the block is the canonical text of a node with these links and this data
-pub record IsWritten (block : List ℕ) (names : List (List ℕ)) (kids : Kids) (unix : Unix) : Type 0 where
+pub record IsWritten (block : List ℕ) (names : List (List ℕ)) (children : Children) (unix : Unix) : Type 0 where
   pub links : List Link
   pub payload : List ℕ
   pub text : CanonicalText (record { links = links; payload = Some payload }) block
-  pub unix_is : UnixText unix payload
-  pub links_are : AreLinks names kids links
+  pub unix_is : CanonicalData unix payload
+  pub links_are : AreLinks names children links
 
 -- the name of a slot's link: its digits, and the name of its entry where it is one
 abbrev pub link_name : Slot → List ℕ
@@ -159,10 +159,10 @@ AreSorted es = (i : ℕ) (a b : Entry) → slice_get es i ≡ Some a → slice_g
 abbrev pub weight_of : List DirEntry → ℕ
 weight_of listed = sum (map (λ entry. length entry.name + length (v1_bytes (root_cid entry.dag))) listed)
 
-pub record IsShardWritten (block : List ℕ) (slots : List Slot) (kids : Kids) : Type 0 where
+pub record IsShardWritten (block : List ℕ) (slots : List Slot) (children : Children) : Type 0 where
   pub bits : List ℕ
   pub bits_are : AreBitsOf slots bits
-  pub written : IsWritten block (map link_name slots) kids (shard_unix bits)
+  pub written : IsWritten block (map link_name slots) children (shard_unix bits)
 
 -- a part is laid out with the file that it is a part of
 abbrev pub IsLaidFileAt : LayoutOptions → Position → Dag → Type 0
@@ -181,27 +181,27 @@ abbrev mutual
   pub IsLaidAt : LayoutOptions → Position → Dag → Type 0
   IsLaidAt options position (unopened cid) = ⊥
   IsLaidAt options position (bare section fault) = ⊥
-  IsLaidAt options top (node section Raw kids) = IsLaidFile options (node section Raw kids)
-  IsLaidAt options (part size) (node section Raw kids) = ⊤
-  IsLaidAt options (child above) (node section Raw kids) = ⊥
-  IsLaidAt options position (node section (File inline filesize parts) kids) =
-      IsLaidFileAt options position (node section (File inline filesize parts) kids)
-      × IsWritten section.block (map (λ p. []) parts) kids (file_unix (total_of section (File inline filesize parts)) (map (λ p. p.size) parts))
-      × AreLaidAt options (positions position (File inline filesize parts)) kids
-  IsLaidAt options position (node section (Basic es) kids) =
-      (weight_of (entries (node section (Basic es) kids)) ≤ options.shard) × AreSorted es
-      × IsWritten section.block (map (λ e. e.name) es) kids basic_unix
-      × AreLaidAt options (positions position (Basic es)) kids
-  IsLaidAt options position (node section (Shard slots) kids) =
-      IsShardAt options position (entries (node section (Shard slots) kids))
-      × IsShardWritten section.block slots kids
-      × AreLaidAt options (positions position (Shard slots)) kids
-  IsLaidAt options position (node section (Symlink target) kids) = ⊥
+  IsLaidAt options top (node section Raw children) = IsLaidFile options (node section Raw children)
+  IsLaidAt options (part size) (node section Raw children) = ⊤
+  IsLaidAt options (child above) (node section Raw children) = ⊥
+  IsLaidAt options position (node section (File inline filesize parts) children) =
+      IsLaidFileAt options position (node section (File inline filesize parts) children)
+      × IsWritten section.block (map (λ p. []) parts) children (file_unix (total_of section (File inline filesize parts)) (map (λ p. p.size) parts))
+      × AreLaidAt options (positions position (File inline filesize parts)) children
+  IsLaidAt options position (node section (Basic es) children) =
+      (weight_of (entries (node section (Basic es) children)) ≤ options.shard) × AreSorted es
+      × IsWritten section.block (map (λ e. e.name) es) children basic_unix
+      × AreLaidAt options (positions position (Basic es)) children
+  IsLaidAt options position (node section (Shard slots) children) =
+      IsShardAt options position (entries (node section (Shard slots) children))
+      × IsShardWritten section.block slots children
+      × AreLaidAt options (positions position (Shard slots)) children
+  IsLaidAt options position (node section (Symlink target) children) = ⊥
 
-  pub AreLaidAt : LayoutOptions → List Position → Kids → Type 0
-  AreLaidAt options positions no_kid = ⊤
-  AreLaidAt options [] (kid d kids) = ⊥
-  AreLaidAt options (position ∷ positions) (kid d kids) = IsLaidAt options position d × AreLaidAt options positions kids
+  pub AreLaidAt : LayoutOptions → List Position → Children → Type 0
+  AreLaidAt options positions no_child = ⊤
+  AreLaidAt options [] (with_child d children) = ⊥
+  AreLaidAt options (position ∷ positions) (with_child d children) = IsLaidAt options position d × AreLaidAt options positions children
 
 -- each CID is a CIDv1 of sha2-256
 abbrev pub HasPlainCid : Section → Type 0

@@ -1,5 +1,6 @@
 -- The numbers of limits.
 use Rattle.tg_model.specs.declared.limits.LimitKind.TheVariants as kinds
+use Rattle.tg_cid.specs.Limits.{max_block_len}
 use Rattle.std.specs.Prelude.{ℕ, ◌≤◌}
 use Rattle.tg_model.specs.declared.limits.LimitKind.{LimitKind}
 
@@ -39,7 +40,7 @@ with_number kinds.Reused number n = record n { reused = number }
 -- the standard numbers
 abbrev pub standard : LimitNumbers
 standard = record {
-  block = 2097152;
+  block = max_block_len;
   depth = 512;
   entries = 1048576;
   names = 268435456;

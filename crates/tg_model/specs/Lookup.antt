@@ -22,7 +22,7 @@ is_directory_kind (Symlink target) = false
 abbrev pub is_directory : Dag → Bool
 is_directory (unopened cid) = false
 is_directory (bare section fault) = false
-is_directory (node section kind kids) = is_directory_kind kind
+is_directory (node section kind children) = is_directory_kind kind
 
 -- the first entry of that name
 abbrev pub entry_named : List ℕ → List DirEntry → Option Dag

@@ -1,12 +1,12 @@
 -- A DAG shows a tree of files (UnixFS specification: File, Directory, HAMTDirectory, Symlink). Whether a folder is sharded
 -- doesn't appear.
-use Rattle.tg_edges.specs.declared.folders.Sort.TheVariants as sorts
-use Rattle.tg_edges.specs.declared.tree.Tree.TheOpen as trees
+use Rattle.tg_tree.specs.declared.items.Sort.TheVariants as sorts
+use Rattle.tg_tree.specs.declared.tree.Tree.TheOpen as trees
 use Rattle.std.specs.Prelude.{Contains, List, None, Option, Some, [], map, ℕ, ⊤, ◌↔◌, ◌∷◌, ◌≡◌}
-use Rattle.tg_edges.specs.Tree.{bytes_of, child, names_of, sort_of}
-use Rattle.tg_edges.specs.declared.tree.Tree.{Tree, Tree-F, out-Tree}
+use Rattle.tg_tree.specs.Tree.{bytes_of, child, names_of, sort_of}
+use Rattle.tg_tree.specs.declared.tree.Tree.{Tree, Tree-F, out-Tree}
 use Rattle.tg_model.specs.Content.{DirEntry, content, entries}
-use Rattle.tg_model.specs.Dag.{Dag, Kids, bare, kid, no_kid, node, unopened}
+use Rattle.tg_model.specs.Dag.{Dag, Children, bare, with_child, no_child, node, unopened}
 use Rattle.tg_model.specs.declared.kinds.Entry.{Entry}
 use Rattle.tg_model.specs.declared.kinds.Kind.TheVariants.{Basic, File, Raw, Shard, Symlink}
 use Rattle.tg_model.specs.declared.kinds.Slot.{Slot}
@@ -36,28 +36,28 @@ abbrev mutual
   pub Shows : Dag → Tree → Type 0
   Shows (unopened cid) tree = ⊥
   Shows (bare section fault) tree = ⊥
-  Shows (node section Raw kids) tree = bytes_of (Some tree) ≡ Some section.block
-  Shows (node section (File inline filesize parts) kids) tree = bytes_of (Some tree) ≡ Some (content (node section (File inline filesize parts) kids))
-  Shows (node section (Basic es) kids) tree = HasNamesOf (entries (node section (Basic es) kids)) tree × EntriesShow es kids tree
-  Shows (node section (Shard slots) kids) tree = HasNamesOf (entries (node section (Shard slots) kids)) tree × SlotsShow slots kids tree
-  Shows (node section (Symlink target) kids) tree = target_of tree ≡ Some target
+  Shows (node section Raw children) tree = bytes_of (Some tree) ≡ Some section.block
+  Shows (node section (File inline filesize parts) children) tree = bytes_of (Some tree) ≡ Some (content (node section (File inline filesize parts) children))
+  Shows (node section (Basic es) children) tree = HasNamesOf (entries (node section (Basic es) children)) tree × EntriesShow es children tree
+  Shows (node section (Shard slots) children) tree = HasNamesOf (entries (node section (Shard slots) children)) tree × SlotsShow slots children tree
+  Shows (node section (Symlink target) children) tree = target_of tree ≡ Some target
 
-  pub EntriesShow : List Entry → Kids → Tree → Type 0
-  EntriesShow es no_kid tree = ⊤
-  EntriesShow [] (kid d kids) tree = ⊤
-  EntriesShow (entry ∷ es) (kid d kids) tree = ((below : Tree) × (child tree entry.name ≡ Some below) × Shows d below) × EntriesShow es kids tree
+  pub EntriesShow : List Entry → Children → Tree → Type 0
+  EntriesShow es no_child tree = ⊤
+  EntriesShow [] (with_child d children) tree = ⊤
+  EntriesShow (entry ∷ es) (with_child d children) tree = ((below : Tree) × (child tree entry.name ≡ Some below) × Shows d below) × EntriesShow es children tree
 
-  pub SlotsShow : List Slot → Kids → Tree → Type 0
-  SlotsShow slots no_kid tree = ⊤
-  SlotsShow [] (kid d kids) tree = ⊤
-  SlotsShow (slot ∷ slots) (kid d kids) tree =
-      SlotShows (λ name. (below : Tree) × (child tree name ≡ Some below) × Shows d below) (ShowsInside d tree) slot.name × SlotsShow slots kids tree
+  pub SlotsShow : List Slot → Children → Tree → Type 0
+  SlotsShow slots no_child tree = ⊤
+  SlotsShow [] (with_child d children) tree = ⊤
+  SlotsShow (slot ∷ slots) (with_child d children) tree =
+      SlotShows (λ name. (below : Tree) × (child tree name ≡ Some below) × Shows d below) (ShowsInside d tree) slot.name × SlotsShow slots children tree
 
   pub ShowsInside : Dag → Tree → Type 0
   ShowsInside (unopened cid) tree = ⊥
   ShowsInside (bare section fault) tree = ⊥
-  ShowsInside (node section Raw kids) tree = ⊥
-  ShowsInside (node section (File inline filesize parts) kids) tree = ⊥
-  ShowsInside (node section (Basic es) kids) tree = ⊥
-  ShowsInside (node section (Shard slots) kids) tree = SlotsShow slots kids tree
-  ShowsInside (node section (Symlink target) kids) tree = ⊥
+  ShowsInside (node section Raw children) tree = ⊥
+  ShowsInside (node section (File inline filesize parts) children) tree = ⊥
+  ShowsInside (node section (Basic es) children) tree = ⊥
+  ShowsInside (node section (Shard slots) children) tree = SlotsShow slots children tree
+  ShowsInside (node section (Symlink target) children) tree = ⊥

@@ -1,9 +1,9 @@
 -- Where a node stands in a DAG, what it has to be there, and when a DAG is sound (UnixFS specification: File, Directory,
 -- HAMTDirectory).
 use Rattle.tg_model.specs.declared.fault.BlockFault.TheVariants as faults
-use Rattle.std.specs.Prelude.{Bool, IfSome, List, None, Option, Some, [], false, if◌then◌else◌, length, map, nat_lt, not, true, ℕ, ⊤, ◌&&◌, ◌++◌, ◌+◌, ◌==◌, ◌∷◌, ◌≡◌}
+use Rattle.std.specs.Prelude.{Bool, IfSome, List, None, Option, Some, [], false, if◌then◌else◌, length, map, nat_lt, not, true, unwrap_or, ℕ, ⊤, ◌&&◌, ◌++◌, ◌+◌, ◌==◌, ◌∷◌, ◌≡◌}
 use Rattle.tg_cid.specs.Names.{Names}
-use Rattle.tg_model.specs.Dag.{Dag, IsWhole, Kids, Section, bare, kid, links_of, no_kid, node, root_cids, total_of, unopened}
+use Rattle.tg_model.specs.Dag.{Dag, IsWhole, Children, Section, bare, with_child, links_of, no_child, node, root_cids, total_of, unopened}
 use Rattle.tg_model.specs.Reading.{Reads}
 use Rattle.tg_model.specs.declared.fault.BlockFault.{BlockFault}
 use Rattle.tg_model.specs.declared.kinds.Kind.{Kind}
@@ -24,7 +24,7 @@ passed top = []
 passed (part size) = []
 passed (child slots) = slots
 
--- where a slot leads to
+-- where a slot leads to: an entry, or a child
 abbrev pub position_by_name : List ℕ → Option (List ℕ) → Position
 position_by_name slots (Some name) = top
 position_by_name slots None = child slots
@@ -32,7 +32,7 @@ position_by_name slots None = child slots
 abbrev pub slot_position : List ℕ → Slot → Position
 slot_position above slot = position_by_name (above ++ slot.slot ∷ []) slot.name
 
--- where the kids of a node stand
+-- where the children of a node stand
 abbrev pub positions : Position → Kind → List Position
 positions position Raw = []
 positions position (File inline filesize parts) = map (λ p. part p.size) parts
@@ -53,6 +53,7 @@ is_name_elsewhere slots None = false
 abbrev pub is_misplaced : List ℕ → Slot → Bool
 is_misplaced above slot = is_name_elsewhere (above ++ slot.slot ∷ []) slot.name
 
+-- the first slot with an entry that stands elsewhere, its index counted from `at`
 abbrev pub misplaced_from : ℕ → List ℕ → List Slot → Option BlockFault
 misplaced_from at above [] = None
 misplaced_from at above (slot ∷ slots) = if is_misplaced above slot then Some (faults.Misplaced at) else misplaced_from (at + 1) above slots
@@ -61,7 +62,8 @@ misplaced_from at above (slot ∷ slots) = if is_misplaced above slot then Some 
 abbrev pub shard_fault : List ℕ → List Slot → Option BlockFault
 shard_fault above slots = if nat_lt 7 (length above) then Some faults.BelowEight else misplaced_from 0 above slots
 
--- why a node of this kind can't stand there: a part is raw or a file, a child of a shard is a shard, and a shard is one there
+-- why a node of this kind can't stand there, the first of the faults: a shard is one there, a child of a shard is a shard, and
+-- a part is raw or a file
 abbrev pub position_fault : Position → Kind → Option BlockFault
 position_fault top Raw = None
 position_fault top (File inline filesize parts) = None
@@ -71,7 +73,7 @@ position_fault top (Symlink target) = None
 position_fault (part size) Raw = None
 position_fault (part size) (File inline filesize parts) = None
 position_fault (part size) (Basic entries) = Some faults.NotPart
-position_fault (part size) (Shard slots) = Some faults.NotPart
+position_fault (part size) (Shard slots) = Some (unwrap_or (shard_fault [] slots) faults.NotPart)
 position_fault (part size) (Symlink target) = Some faults.NotPart
 position_fault (child above) Raw = Some faults.NotShard
 position_fault (child above) (File inline filesize parts) = Some faults.NotShard
@@ -101,10 +103,10 @@ TellsSize (Shard slots) total = ⊤
 TellsSize (Symlink target) total = ⊤
 
 -- a node is what its CID, its block, its links and its position say
-pub record IsNodeAt (position : Position) (section : Section) (kind : Kind) (kids : Kids) : Type 0 where
+pub record IsNodeAt (position : Position) (section : Section) (kind : Kind) (children : Children) : Type 0 where
   pub named : Names section.cid section.block
   pub reads : Reads section.cid section.block kind
-  pub links : root_cids kids ≡ links_of kind
+  pub links : root_cids children ≡ links_of kind
   pub stands : position_fault position kind ≡ None
   pub of_size : IsOfSize position (total_of section kind)
   pub tells_size : TellsSize kind (total_of section kind)
@@ -119,12 +121,12 @@ abbrev mutual
   pub IsCheckedAt : Position → Dag → Type 0
   IsCheckedAt position (unopened cid) = ⊤
   IsCheckedAt position (bare section fault) = IsBareBlock section fault
-  IsCheckedAt position (node section kind kids) = IsNodeAt position section kind kids × AreCheckedAt (positions position kind) kids
+  IsCheckedAt position (node section kind children) = IsNodeAt position section kind children × AreCheckedAt (positions position kind) children
 
-  pub AreCheckedAt : List Position → Kids → Type 0
-  AreCheckedAt positions no_kid = ⊤
-  AreCheckedAt [] (kid d kids) = ⊥
-  AreCheckedAt (position ∷ positions) (kid d kids) = IsCheckedAt position d × AreCheckedAt positions kids
+  pub AreCheckedAt : List Position → Children → Type 0
+  AreCheckedAt positions no_child = ⊤
+  AreCheckedAt [] (with_child d children) = ⊥
+  AreCheckedAt (position ∷ positions) (with_child d children) = IsCheckedAt position d × AreCheckedAt positions children
 
 -- what is opened of a partial DAG is right
 abbrev pub IsChecked : Dag → Type 0

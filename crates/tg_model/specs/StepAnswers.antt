@@ -4,7 +4,7 @@ use Rattle.tg_cid.specs.Cid.{CidParts}
 use Rattle.tg_model.specs.declared.kinds.Entry.{Entry}
 use Rattle.tg_model.specs.declared.kinds.Slot.{Slot}
 use Rattle.tg_model.specs.Dag.{links_of}
-use Rattle.tg_model.specs.PathWalk.{StepTo, absent, no_folder, to_child, to_entry}
+use Rattle.tg_model.specs.PathWalk.{StepTo, absent, not_folder_here, to_child, to_entry}
 use Rattle.tg_model.specs.Sound.{shard_fault}
 use Rattle.tg_model.specs.declared.fault.BlockFault.{BlockFault}
 use Rattle.tg_model.specs.declared.kinds.Kind.{Kind}
@@ -17,7 +17,7 @@ abbrev pub IsStepOver : List CidParts → StepTo → Step → Type 0
 IsStepOver cids (to_entry k) (Found cid) = slice_get cids k ≡ Some cid
 IsStepOver cids (to_child k) (Down cid) = slice_get cids k ≡ Some cid
 IsStepOver cids absent Absent = ⊤
-IsStepOver cids no_folder NotFolder = ⊤
+IsStepOver cids not_folder_here NotFolder = ⊤
 IsStepOver cids step answer = ⊥
 
 abbrev pub IsStep : Kind → StepTo → Step → Type 0

@@ -3,26 +3,35 @@
 use Rattle.std.specs.Prelude.{Err, List, None, Ok, Option, Result, Some, [], suc, zero, ℕ, ◌∷◌}
 use Rattle.tg_cid.specs.Cid.{CidParts}
 use Rattle.tg_model.specs.Computed.{read}
-use Rattle.tg_model.specs.Dag.{Dag, Kids, Section, bare, kid, links_of, no_kid, node, unopened}
+use Rattle.tg_model.specs.Dag.{Dag, Children, Section, bare, with_child, links_of, no_child, node, unopened}
 use Rattle.tg_model.specs.Stores.{Store}
 use Rattle.tg_model.specs.declared.fault.BlockFault.{BlockFault}
 use Rattle.tg_model.specs.declared.kinds.Kind.{Kind}
 
-abbrev pub kids_by : (CidParts → Dag) → List CidParts → Kids
-kids_by opened [] = no_kid
-kids_by opened (cid ∷ cids) = kid (opened cid) (kids_by opened cids)
+-- children of these CIDs
+abbrev pub children_by : (CidParts → Dag) → List CidParts → Children
+children_by opened [] = no_child
+children_by opened (cid ∷ cids) = with_child (opened cid) (children_by opened cids)
 
+-- a block by what it is read as
 abbrev pub read_as : (CidParts → Dag) → Section → Result Kind BlockFault → Dag
-read_as opened section (Ok kind) = node section kind (kids_by opened (links_of kind))
+read_as opened section (Ok kind) = node section kind (children_by opened (links_of kind))
 read_as opened section (Err fault) = bare section (Some fault)
 
+-- a CID with the block that is found for it
 abbrev pub with_block : (CidParts → Dag) → CidParts → Option (List ℕ) → Dag
 with_block opened cid None = unopened cid
 with_block opened cid (Some block) = read_as opened (record { cid = cid; block = block }) (read cid block)
 
+-- the block that a CID leads to: the stored one
+abbrev pub block_at : Store → CidParts → Option (List ℕ)
+block_at store cid = store cid
+
+-- what is shown of a CID, to a depth of `n` blocks
 abbrev pub opened_to : ℕ → Store → CidParts → Dag
 opened_to zero store cid = unopened cid
-opened_to (suc n) store cid = with_block (opened_to n store) cid (store cid)
+opened_to (suc n) store cid = with_block (opened_to n store) cid (block_at store cid)
 
+-- what is shown of a root
 abbrev pub store_view : Store → CidParts → Dag
 store_view store root = opened_to 1100 store root

@@ -1,5 +1,6 @@
 -- Texts of answers: escaped names, listings and the lines of bundles (this project's own).
 use Rattle.std.specs.Fmt.{digit_glyph}
+use Rattle.tg_ascii.specs.Ascii.{line_feed, slash, space}
 use Rattle.std.specs.List.{flat_map}
 use Rattle.std.specs.Prelude.{Bool, List, [], bytes_eq, codes, decimal, false, if◌then◌else◌, nat_le, nat_lt, true, ℕ, ◌%◌, ◌&&◌, ◌++◌, ◌/◌, ◌==◌, ◌||◌, ◌∷◌}
 use Rattle.tg_cid.specs.Cid.{CidParts}
@@ -39,21 +40,21 @@ sorted (x ∷ xs) = inserted x (sorted xs)
 
 -- a line of a listing: the CID's text, a space, the escaped name
 abbrev pub listing_line : Named → List ℕ
-listing_line entry = cid_text entry.cid ++ 32 ∷ (escaped entry.name ++ 10 ∷ [])
+listing_line entry = cid_text entry.cid ++ space ∷ (escaped entry.name ++ line_feed ∷ [])
 
 abbrev pub listing : List Named → List ℕ
 listing entries = flat_map listing_line (sorted entries)
 
 -- the path of an entry: its directory's, joined with the escaped name by one `/`
 abbrev pub joined : List ℕ → List ℕ → List ℕ
-joined path name = (if bytes_eq path (47 ∷ []) then path else path ++ 47 ∷ []) ++ escaped name
+joined path name = (if bytes_eq path (slash ∷ []) then path else path ++ slash ∷ []) ++ escaped name
 
 -- the first lines of records
 abbrev pub dir_line : List ℕ → List ℕ
-dir_line path = codes "dir " ++ (path ++ 10 ∷ [])
+dir_line path = codes "dir " ++ (path ++ line_feed ∷ [])
 
 abbrev pub file_line : ℕ → List ℕ → List ℕ
-file_line size path = codes "file " ++ (decimal size ++ 32 ∷ (path ++ 10 ∷ []))
+file_line size path = codes "file " ++ (decimal size ++ space ∷ (path ++ line_feed ∷ []))
 
 abbrev pub link_line : ℕ → List ℕ → List ℕ
-link_line size path = codes "link " ++ (decimal size ++ 32 ∷ (path ++ 10 ∷ []))
+link_line size path = codes "link " ++ (decimal size ++ space ∷ (path ++ line_feed ∷ []))

@@ -1,6 +1,6 @@
 //! What a block is read as.
+use tg_bytes::{Bytes, List};
 use tg_cid::Cid;
-use tg_edges::{Bytes, List};
 
 /// A part of a file: the CID of its block, and how many bytes of content are declared for it.
 ///

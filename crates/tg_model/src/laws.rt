@@ -1,21 +1,11 @@
-//! Laws over the definitions, each the contract of a function that does nothing.
-ghost use Rattle.std.specs.Prelude.{◌≡◌, ◌↔◌, ◌<◌, ◌++◌, ℕ, true, false, List, length, map, All, Ok, Err};
+//! Laws of reading, each the contract of a function that does nothing.
+ghost use Rattle.std.specs.Prelude.{◌≡◌, ◌↔◌, ◌<◌, ℕ, List, All, Ok, Err};
 ghost use Rattle.tg_cid.specs.Cid.{CidParts};
-ghost use Rattle.tg_model.specs.Answer.{is_listed, named_of, node_text};
 ghost use Rattle.tg_model.specs.Computed.{read};
-ghost use Rattle.tg_model.specs.Content.{content, entries};
-ghost use Rattle.tg_model.specs.Dag.{Dag, IsWhole, Kids, Section, blocks, node, total_of};
-ghost use Rattle.tg_model.specs.Ends.{EndsAlike};
 ghost use Rattle.tg_model.specs.InnerFaults.{IsNoWantOfMemory};
-ghost use Rattle.tg_model.specs.Lookup.{lookup_path};
-ghost use Rattle.tg_model.specs.PathWalk.{path_walk, terminal, whole};
-ghost use Rattle.tg_model.specs.Queries.{QueryParts};
 ghost use Rattle.tg_model.specs.Reading.{Reads};
-ghost use Rattle.tg_model.specs.Sound.{IsFileKind, IsSound};
-ghost use Rattle.tg_model.specs.Traversal.{named_met, opened_list, traversal};
 ghost use Rattle.tg_model.specs.declared.fault.BlockFault.{BlockFault};
 ghost use Rattle.tg_model.specs.declared.kinds.Kind.{Kind};
-ghost use Rattle.tg_model.specs.declared.queries.Scope.TheVariants as scopes;
 
 /// A block has at most one kind under a CID, and of a block of bytes `read` computes it.
 ///
@@ -30,42 +20,8 @@ pub fn readings()
 {
     tg_dagpb::one_text();
     tg_dagpb::computes();
-    tg_unixfs::one_text();
+    tg_unixfs::one_data();
     tg_unixfs::computes();
     tg_cid::one_spelling();
     tg_cid::computes();
 }
-
-/// In a sound DAG the walk along a path by slots ends as the look-up by names does: at the same node, or with the same end at
-/// the same segment.
-///
-/// Path Gateway specification, Path Resolution; UnixFS specification, HAMTDirectory.
-pub fn paths()
-    ensures { (d : Dag) (path : List (List ℕ)) → IsSound d → EndsAlike (path_walk path d).end (lookup_path path d) }
-{}
-
-/// A sound DAG is whole, and a sound file's content has as many bytes as the file declares.
-///
-/// UnixFS specification, File.
-pub fn sound_dags()
-    ensures whole { (d : Dag) → IsSound d → IsWhole d }
-    ensures size { (section : Section) (kind : Kind) (kids : Kids) → IsSound (node section kind kids) → IsFileKind kind
-        → length (content (node section kind kids)) ≡ total_of section kind }
-{}
-
-/// Where the path of a query leads to a terminal in a sound DAG, the traversal comes through.
-///
-/// Its text is what the terminal says, but for a listing, of which it meets just the entries; and under scope all it sends just
-/// the terminal's blocks in preorder behind those of the path.
-///
-/// Trustless Gateway specification, dag-scope and entity-bytes.
-pub fn traversals()
-    ensures through { (q : QueryParts) (d t : Dag) → IsSound d → (path_walk q.path d).end ≡ terminal t
-        → (traversal q d).end ≡ whole }
-    ensures text { (q : QueryParts) (d t : Dag) → IsSound d → (path_walk q.path d).end ≡ terminal t
-        → is_listed q.scope t ≡ false → (traversal q d).text ≡ node_text q.scope q.span t }
-    ensures listing { (q : QueryParts) (d t : Dag) → IsSound d → (path_walk q.path d).end ≡ terminal t
-        → is_listed q.scope t ≡ true → map named_met (traversal q d).met ≡ map named_of (entries t) }
-    ensures everything { (q : QueryParts) (d t : Dag) → IsSound d → (path_walk q.path d).end ≡ terminal t
-        → q.scope ≡ scopes.All → opened_list q d ≡ (path_walk q.path d).sections ++ blocks t }
-{}

@@ -3,7 +3,6 @@
 #![tactic(auto)]
 
 mod fault;
-mod fitting;
 mod kinds;
 mod laws;
 mod limits;
@@ -15,9 +14,8 @@ mod stores;
 mod windows;
 
 pub use fault::BlockFault;
-pub use fitting::{against_every_peer, one_fit, own_sections};
 pub use kinds::{Entry, Kind, Made, NewEntry, Part, Slot, Step};
-pub use laws::{paths, readings, sound_dags, traversals};
+pub use laws::readings;
 pub use limits::{LimitKind, Limits};
 pub use queries::{Form, Path, Query, Scope, Span, SpanFrom, well_formed};
 pub use reading::reads;

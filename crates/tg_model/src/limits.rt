@@ -3,6 +3,7 @@ ghost use Rattle.std.specs.Prelude.{◌≡◌, ◌≤◌};
 ghost use Rattle.tg_model.specs.LimitNumbers.{number_of, with_number, standard};
 
 use std::marker::Model;
+use tg_cid::MAX_BLOCK_LEN;
 
 /// What a limit counts.
 #[derive(Clone, Copy, Debug, PartialEq, Eq)]
@@ -90,7 +91,7 @@ impl Limits {
         ensures { result ≡ standard }
     {
         Limits {
-            block: 2_097_152,
+            block: MAX_BLOCK_LEN as u64,
             depth: 512,
             entries: 1_048_576,
             names: 268_435_456,

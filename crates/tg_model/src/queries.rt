@@ -6,8 +6,8 @@ ghost use Rattle.tg_model.specs.Queries.{IsFrom, IsSpan, IsUpTo, QueryParts, Spa
 
 use std::alloc::Global;
 use std::marker::Model;
+use tg_bytes::{Bytes, List};
 use tg_cid::Cid;
-use tg_edges::{Bytes, List};
 
 /// The segments of a path in order, each the name of an entry.
 pub type Path = List<Bytes>;

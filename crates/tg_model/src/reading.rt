@@ -15,9 +15,9 @@ use crate::kinds::{Entry, Kind, Part, Slot};
 use crate::laws::readings;
 use std::alloc::{AllocError, Global};
 use std::collections::BTreeSet;
+use tg_bytes::{Bytes, List};
 use tg_cid::{Cid, Codec};
 use tg_dagpb::{Link, Node};
-use tg_edges::{Bytes, List};
 use tg_unixfs::Unix;
 
 /// What the block is read as under the CID.

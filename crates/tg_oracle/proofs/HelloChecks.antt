@@ -6,7 +6,7 @@ use Rattle.std.specs.List.{list_all}
 use Rattle.tg_cid.specs.Cid.{CidParts}
 use Rattle.tg_cid.specs.Names.{Names}
 use Rattle.tg_model.specs.Computed.{read}
-use Rattle.tg_model.specs.Dag.{Dag, kid, no_kid, root_cids, unopened}
+use Rattle.tg_model.specs.Dag.{Dag, with_child, no_child, root_cids, unopened}
 use Rattle.tg_oracle.specs.HelloWorld.{IsNamed, all_sections, whole_dag, middle_dag, leafless_dag, d, d_block, d_cid, d_kind, directory_of, f, f_block, f_cid, f_kind, file_of, l1, l1_cid, l2, l2_cid, l3, l3_cid, leaf}
 use Rattle.tg_model.specs.Reading.{Reads}
 use Rattle.tg_model.specs.Sound.{IsChecked, IsCheckedAt, IsSound, part}
@@ -57,9 +57,9 @@ l3_checked named = (record { named = named; reads = refl; links = refl; stands =
 
 -- the directory over the file over three parts that are checked
 checked_over : ReadLaw → read f_cid f_block ≡ Ok f_kind → read d_cid d_block ≡ Ok d_kind → AreNamed → (a b c : Dag)
-    → root_cids (kid a (kid b (kid c no_kid))) ≡ l1_cid ∷ l2_cid ∷ l3_cid ∷ [] → IsCheckedAt (part 4) a → IsCheckedAt (part 4) b → IsCheckedAt (part 3) c
+    → root_cids (with_child a (with_child b (with_child c no_child))) ≡ l1_cid ∷ l2_cid ∷ l3_cid ∷ [] → IsCheckedAt (part 4) a → IsCheckedAt (part 4) b → IsCheckedAt (part 3) c
     → IsChecked (directory_of (file_of a b c))
-checked_over law f_read d_read names a b c kids a_checked b_checked c_checked = (
+checked_over law f_read d_read names a b c children a_checked b_checked c_checked = (
   record {
     named = names.d_named;
     reads = (law d_cid d_block d_kind (bytes_tested d_block refl)).0 d_read;
@@ -73,7 +73,7 @@ checked_over law f_read d_read names a b c kids a_checked b_checked c_checked = 
       record {
         named = names.f_named;
         reads = (law f_cid f_block f_kind (bytes_tested f_block refl)).0 f_read;
-        links = kids;
+        links = children;
         stands = refl;
         of_size = tt;
         tells_size = refl;

@@ -4,8 +4,8 @@ use Rattle.std.proofs.lemmas.List.Elements.{All-cons, All-nil}
 use Rattle.std.proofs.lemmas.Option.{slice_get_within}
 use Rattle.std.specs.Map.{keys_of, lookup}
 use Rattle.std.specs.Prelude.{All, Contains, bytes_eq, codes, slice_get}
-use Rattle.tg_edges.specs.Tree.{child, names_of}
-use Rattle.tg_edges.specs.declared.tree.Tree.{Tree}
+use Rattle.tg_tree.specs.Tree.{child, names_of}
+use Rattle.tg_tree.specs.declared.tree.Tree.{Tree}
 use Rattle.tg_model.specs.Content.{entries}
 use Rattle.tg_model.specs.Dag.{Dag}
 use Rattle.tg_model.specs.ImportLayout.{AreFull, AreSorted, HasPlainCid, IsImportLayout, IsLaidAt, IsLaidFile, level_widths}

@@ -1,9 +1,9 @@
 -- The worked example's blocks are the canonical texts of their nodes, as a layout has them written.
-use Rattle.std.proofs.Common.{◌≡◌, ◌<◌, ◌↔◌, ℕ, true, List, [], ◌∷◌, ◌++◌, Some, Ok, refl}
+use Rattle.std.proofs.Common.{◌≡◌, ◌<◌, ◌≤◌, ◌↔◌, ℕ, zero, suc, true, List, [], ◌∷◌, ◌++◌, Some, Ok, refl, arith}
 use Rattle.std.proofs.lemmas.Bool.{and_parts, eqb-true}
-use Rattle.std.proofs.lemmas.List.Elements.{All-cons, All-nil}
+use Rattle.std.proofs.lemmas.List.Elements.{All-cons, All-from_recursion, All-nil}
 use Rattle.std.specs.List.{list_all}
-use Rattle.std.specs.Prelude.{All, codes, ◌==◌}
+use Rattle.std.specs.Prelude.{All, codes, slice_index, ◌==◌}
 use Rattle.tg_cid.specs.Cid.{CidParts}
 use Rattle.tg_cid.specs.Computed.{cid_of, v1_bytes}
 use Rattle.tg_cid.specs.Spelling.{CidBytes}
@@ -12,11 +12,10 @@ use Rattle.tg_dagpb.specs.Node.{CanonicalText, NodeText}
 use Rattle.tg_dagpb.specs.declared.Link.{Link}
 use Rattle.tg_dagpb.specs.declared.Node.{Node}
 use Rattle.tg_dagpb.specs.declared.TheConstants.{NODE}
-use Rattle.tg_model.specs.Dag.{kid, no_kid}
+use Rattle.tg_model.specs.Dag.{with_child, no_child}
 use Rattle.tg_model.specs.ImportLayout.{IsWritten, basic_unix, file_unix}
 use Rattle.tg_oracle.proofs.HelloChecks.{bytes_tested}
 use Rattle.tg_oracle.specs.HelloWorld.{d_block, f_block, f_cid, file_of, l1, l1_cid, l2, l2_cid, l3, l3_cid, leaf}
-use Rattle.tg_pbtable.proofs.Tables.{table_of}
 use Rattle.tg_pbtable.specs.Computed.{fields_of}
 use Rattle.tg_pbtable.specs.Message.{IsTable, Message}
 use Rattle.tg_pbtable.specs.declared.table.Field.{Field}
@@ -48,6 +47,21 @@ numbered number (field ∷ fields) e =
 abbrev at_place : ℕ → ℕ → ℕ → Field
 at_place number start end = record { number = number; value = Place start end }
 
+-- the numbers of the two rules of a node differ
+numbers_differ : (i j : ℕ) → i < j → j < 2 → slice_index (1 ∷ 2 ∷ []) i ≡ slice_index (1 ∷ 2 ∷ []) j → ⊥
+numbers_differ zero zero less few e = absurd (omega (arith, less))
+numbers_differ zero (suc zero) less few e = cc
+numbers_differ zero (suc (suc j)) less few e = absurd (omega (arith, few))
+numbers_differ (suc i) j less few e = absurd (omega (arith, less, few))
+
+-- so they are a table
+node_table : IsTable NODE.now
+node_table = record {
+  low = All-from_recursion (λ (rule : Rule). 1 ≤ rule.number) NODE.now (omega arith, (omega arith, tt));
+  high = All-from_recursion (λ (rule : Rule). rule.number < 536870912) NODE.now (omega arith, (omega arith, tt));
+  differ = numbers_differ;
+}
+
 module _ (laws : Laws) where
   -- the text of a node is its canonical one where its fields are computed as those of links and then those of data
   canonical : (node : Node) (text : List ℕ) (links rest : List Field) → All (λ b. b < 256) text → NodeText node text
@@ -55,7 +69,7 @@ module _ (laws : Laws) where
       → All (λ (field : Field). field.number ≡ 1) rest → CanonicalText node text
   canonical node text links rest bytes is_text computed are_links are_data =
       let found : fields_of NODE.now Runs text ≡ Ok is_text.fields =
-      (laws.fields NODE.now Runs text is_text.fields (table_of NODE.now refl) bytes).1 is_text.message in
+      (laws.fields NODE.now Runs text is_text.fields node_table bytes).1 is_text.message in
       let same : is_text.fields ≡ links ++ rest = cc in
       record { is_text = is_text; order = record { links = links; rest = rest; whole = same; are_links = are_links; are_data = are_data } }
 
@@ -103,7 +117,7 @@ module _ (laws : Laws) where
   d_unix = (laws.data_is d_payload basic_unix (bytes_tested d_payload refl)).0 refl
 
   -- the directory's block is written for its entry
-  pub d_written : IsWritten d_block (codes "h" ∷ []) (kid (file_of (leaf l1) (leaf l2) (leaf l3)) no_kid) basic_unix
+  pub d_written : IsWritten d_block (codes "h" ∷ []) (with_child (file_of (leaf l1) (leaf l2) (leaf l3)) no_child) basic_unix
   d_written = record { links = d_links; payload = d_payload; text = d_canonical; unix_is = d_unix; links_are = (f_spelled, refl, refl, tt) }
 
   -- the payload of the file, and its links to the leaves
@@ -134,7 +148,7 @@ module _ (laws : Laws) where
   f_unix = (laws.data_is f_payload (file_unix 11 (4 ∷ 4 ∷ 3 ∷ [])) (bytes_tested f_payload refl)).0 refl
 
   -- the file's block is written for its leaves
-  pub f_written : IsWritten f_block ([] ∷ [] ∷ [] ∷ []) (kid (leaf l1) (kid (leaf l2) (kid (leaf l3) no_kid))) (file_unix 11 (4 ∷ 4 ∷ 3 ∷ []))
+  pub f_written : IsWritten f_block ([] ∷ [] ∷ [] ∷ []) (with_child (leaf l1) (with_child (leaf l2) (with_child (leaf l3) no_child))) (file_unix 11 (4 ∷ 4 ∷ 3 ∷ []))
   f_written = record {
     links = f_links;
     payload = f_payload;

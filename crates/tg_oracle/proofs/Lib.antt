@@ -1,4 +1,5 @@
 mod HelloChecks
-mod FoundBlock
+mod KeptBlocks
 mod HelloTexts
 mod HelloLayout
+mod BlockLogs

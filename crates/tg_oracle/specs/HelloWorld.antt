@@ -6,12 +6,14 @@ use Rattle.tg_cid.specs.Names.{Names}
 use Rattle.tg_cid.specs.declared.cid.Codec.{Codec}
 use Rattle.tg_cid.specs.declared.cid.Codec.TheVariants as codecs
 use Rattle.tg_cid.specs.declared.cid.HashKind.TheVariants.{Sha256}
-use Rattle.tg_edges.specs.Tree.{bytes_of, entries_of, sort_of}
-use Rattle.tg_edges.specs.declared.folders.Sort.TheVariants as sorts
-use Rattle.tg_edges.specs.declared.tree.Tree.{Tree}
-use Rattle.tg_model.specs.Dag.{Dag, Section, kid, no_kid, node, unopened}
+use Rattle.tg_tree.specs.Tree.{bytes_of, entries_of, sort_of}
+use Rattle.tg_tree.specs.declared.items.Sort.TheVariants as sorts
+use Rattle.tg_tree.specs.declared.tree.Tree.{Tree}
+use Rattle.tg_model.specs.Dag.{Dag, Section, with_child, no_child, node, unopened}
 use Rattle.tg_model.specs.ImportLayout.{LayoutOptions}
+use Rattle.tg_model.specs.PathWalk.{Spot}
 use Rattle.tg_model.specs.Queries.{QueryParts, SpanParts}
+use Rattle.tg_model.specs.Sound.{part}
 use Rattle.tg_model.specs.Stores.{Store}
 use Rattle.tg_model.specs.declared.kinds.Kind.{Kind}
 use Rattle.tg_model.specs.declared.kinds.Kind.TheVariants.{Basic, File, Raw}
@@ -107,13 +109,13 @@ d_kind = Basic (record { name = codes "h"; cid = f_cid } ∷ [])
 
 -- a leaf that is opened; the file over three places; the directory over the file
 abbrev pub leaf : Section → Dag
-leaf section = node section Raw no_kid
+leaf section = node section Raw no_child
 
 abbrev pub file_of : Dag → Dag → Dag → Dag
-file_of a b c = node f f_kind (kid a (kid b (kid c no_kid)))
+file_of a b c = node f f_kind (with_child a (with_child b (with_child c no_child)))
 
 abbrev pub directory_of : Dag → Dag
-directory_of file = node d d_kind (kid file no_kid)
+directory_of file = node d d_kind (with_child file no_child)
 
 -- the whole DAG; with L2 alone of the leaves; with L1 alone; and with none
 abbrev pub whole_dag : Dag
@@ -127,6 +129,10 @@ first_dag = directory_of (file_of (leaf l1) (unopened l2_cid) (unopened l3_cid))
 
 abbrev pub leafless_dag : Dag
 leafless_dag = directory_of (file_of (unopened l1_cid) (unopened l2_cid) (unopened l3_cid))
+
+-- where L2 stands: three blocks from D, as a part of 4 bytes
+abbrev pub l2_spot : Spot
+l2_spot = record { cid = l2_cid; depth = 3; position = part 4 }
 
 -- each CID names its block
 abbrev pub IsNamed : Section → Type 0

@@ -1,4 +1,5 @@
+pub mod BlockLog
+pub mod BlockLogLaws
 pub mod HelloWorld
+pub mod LoggedBlocks
 pub mod SmallDags
-pub mod OneBlock
-pub mod OneBlockLaws

@@ -1,8 +1,8 @@
--- Small DAGs: parts of no length and equal ones, a symbolic link, shards. Their definitions look at kinds and kids alone, so the
+-- Small DAGs: parts of no length and equal ones, a symbolic link, shards. Their definitions look at kinds and children alone, so the
 -- blocks of nodes are left empty, and a CID's digest is one number.
 use Rattle.std.specs.Prelude.{ℕ, List, [], ◌∷◌, Option, Some, None, true, codes}
 use Rattle.tg_cid.specs.declared.cid.Codec.TheVariants as codecs
-use Rattle.tg_model.specs.Dag.{Dag, Section, kid, no_kid, node, unopened}
+use Rattle.tg_model.specs.Dag.{Dag, Section, with_child, no_child, node, unopened}
 use Rattle.tg_oracle.specs.HelloWorld.{cid_with}
 use Rattle.tg_model.specs.Queries.{QueryParts, SpanParts}
 use Rattle.tg_model.specs.declared.kinds.Kind.TheVariants.{Basic, File, Raw, Shard, Symlink}
@@ -19,7 +19,7 @@ abbrev pub node_with : ℕ → Section
 node_with number = record { cid = cid_with codecs.DagPb (number ∷ []); block = [] }
 
 abbrev pub raw_leaf : Section → Dag
-raw_leaf section = node section Raw no_kid
+raw_leaf section = node section Raw no_child
 
 -- a query under any root, with repeats
 abbrev pub asking : List (List ℕ) → Scope → Option SpanParts → QueryParts
@@ -46,7 +46,7 @@ twins = node_with 3
 abbrev pub twin_file : Dag
 twin_file =
     node twins (File [] None (record { cid = hell.cid; size = 4 } ∷ record { cid = nothing.cid; size = 0 } ∷ record { cid = hell.cid; size = 4 } ∷ []))
-    (kid (raw_leaf hell) (kid (raw_leaf nothing) (kid (raw_leaf hell) no_kid)))
+    (with_child (raw_leaf hell) (with_child (raw_leaf nothing) (with_child (raw_leaf hell) no_child)))
 
 -- ---- a symbolic link to `far`, in a directory as `l`
 
@@ -54,13 +54,13 @@ abbrev pub link : Section
 link = node_with 4
 
 abbrev pub link_dag : Dag
-link_dag = node link (Symlink (codes "far")) no_kid
+link_dag = node link (Symlink (codes "far")) no_child
 
 abbrev pub folder : Section
 folder = node_with 5
 
 abbrev pub folder_dag : Dag
-folder_dag = node folder (Basic (record { name = codes "l"; cid = link.cid } ∷ record { name = codes "f"; cid = twins.cid } ∷ [])) (kid link_dag (kid twin_file no_kid))
+folder_dag = node folder (Basic (record { name = codes "l"; cid = link.cid } ∷ record { name = codes "f"; cid = twins.cid } ∷ [])) (with_child link_dag (with_child twin_file no_child))
 
 -- ---- a shard with the one entry `hello`, whose slot is CB
 
@@ -71,7 +71,7 @@ abbrev pub one_shard_slots : List Slot
 one_shard_slots = record { slot = 0xCB; name = Some (codes "hello"); cid = hell.cid } ∷ []
 
 abbrev pub one_shard_dag : Dag
-one_shard_dag = node one_shard (Shard one_shard_slots) (kid (raw_leaf hell) no_kid)
+one_shard_dag = node one_shard (Shard one_shard_slots) (with_child (raw_leaf hell) no_child)
 
 -- ---- a shard with `m` in its slot 91 and a child in BC, which has `q` in 3E and `g` in 5D
 
@@ -87,12 +87,12 @@ inner_slots = record { slot = 0x3E; name = Some (codes "q"); cid = hell.cid } �
 abbrev pub inner_dag : Dag
 inner_dag =
     node inner (Shard inner_slots)
-    (kid (raw_leaf hell) (kid (raw_leaf nothing) no_kid))
+    (with_child (raw_leaf hell) (with_child (raw_leaf nothing) no_child))
 
 abbrev pub over_inner : Dag → Dag
 over_inner d =
     node parent (Shard (record { slot = 0x91; name = Some (codes "m"); cid = twins.cid } ∷ record { slot = 0xBC; name = None; cid = inner.cid } ∷ []))
-    (kid (unopened twins.cid) (kid d no_kid))
+    (with_child (unopened twins.cid) (with_child d no_child))
 
 abbrev pub parent_dag : Dag
 parent_dag = over_inner inner_dag

@@ -78,6 +78,7 @@ fn a_bundle_that_breaks_off(rt: HostRuntime) -> Result<(), Fail> {
     shelf.raw(b"hell")?;
     let end = End::Gone {
         cid: raw_cid(b"o wo"),
+        depth: 3,
     };
     let text = b"dir /\nfile 11 /h\nhell";
     let asked: (&[&str], Scope) = (&[], Scope::All);
@@ -263,7 +264,10 @@ fn a_shard_without_its_child(rt: HostRuntime) -> Result<(), Fail> {
     let mut shelf = Shelf::new(rt.alloc());
     let child = child_shard(&mut Shelf::new(rt.alloc()))?;
     let root = parent_shard(&mut shelf, child)?;
-    let end = End::Gone { cid: child };
+    let end = End::Gone {
+        cid: child,
+        depth: 2,
+    };
     // A listing gives no line, and a bundle what comes before.
     let asked: (&[&str], Scope) = (&[], Scope::Entity);
     expect_below(&rt, &shelf, root, asked, &[3], &end, b"")?;

@@ -4,8 +4,8 @@ ghost use Rattle.std.specs.Prelude.{◌<◌, IfOk};
 use crate::ranges::{bounds, is_met};
 use crate::texts::{escaped, joined};
 use std::alloc::{AllocError, AllocFailed, Global};
+use tg_bytes::{Bytes, List};
 use tg_cid::Cid;
-use tg_edges::{Bytes, List};
 use tg_model::{BlockFault, Kind, Query, Scope, Span, check_shard, reads};
 use tg_murmur::hash64;
 use thiserror::Error;
@@ -34,13 +34,24 @@ pub enum End {
     /// All that is asked for is sent.
     Whole,
     /// The directory has no entry with the name of the segment `at`.
-    NotThere { at: u64 },
+    NotThere {
+        at: u64,
+    },
     /// What should have an entry with the name of the segment `at` is no directory.
-    NotFolder { at: u64 },
-    /// No block is stored under the CID.
-    Gone { cid: Cid },
-    /// The block under the CID has no kind, or can't stand where it stands.
-    BadBlock { cid: Cid, fault: BlockFault },
+    NotFolder {
+        at: u64,
+    },
+    /// No block is stored under the CID, at so many blocks from the root, both counted.
+    Gone {
+        cid: Cid,
+        depth: u32,
+    },
+    /// The block under the CID has no kind, or can't stand where it stands, at so many blocks from the root, both counted.
+    BadBlock {
+        cid: Cid,
+        depth: u32,
+        fault: BlockFault,
+    },
 }
 
 /// What is sent for a query, how that ends, and the text of the answer up to there.
@@ -112,7 +123,7 @@ impl<T: Drop> From<AllocFailed<T>> for Stop {
 
 /// Where a block stands.
 #[derive(Clone, Copy)]
-enum Place<'s> {
+enum Position<'s> {
     /// The root, or an entry of a directory.
     Top,
     /// A part of a file.
@@ -147,20 +158,21 @@ struct Run<'a> {
 impl<'a> Run<'a> {
     /// Evaluates the query.
     fn answer(&mut self, query: &Query) -> Result<(), Stop> {
-        let cid = self.terminal(DEPTH, query.root(), &[], 0, query.path().as_slice())?;
+        let path = query.path().as_slice();
+        let (cid, depth) = self.terminal(DEPTH, query.root(), &[], 0, path)?;
         match query.scope() {
             Scope::Block => {
-                let (index, block) = self.found(cid)?;
+                let (index, block) = self.found(cid, depth)?;
                 self.send(cid, index, block)?;
                 Ok(self.say(block)?)
             }
-            Scope::Entity => self.entity(cid, query.span()),
-            Scope::All => self.all(cid),
+            Scope::Entity => self.entity(depth, cid, query.span()),
+            Scope::All => self.all(depth, cid),
         }
     }
 
-    /// The CID to which the segments of a path from number `at` on lead from a block behind these slots. The blocks before it
-    /// are sent.
+    /// The CID to which the segments of a path from number `at` on lead from a block behind these slots, and how many blocks
+    /// may still be opened from it on. The blocks before it are sent.
     fn terminal(
         &mut self,
         depth: u32,
@@ -168,12 +180,12 @@ impl<'a> Run<'a> {
         above: &[u8],
         at: u64,
         path: &[Bytes],
-    ) -> Result<Cid, Stop> {
+    ) -> Result<(Cid, u32), Stop> {
         let left = deeper(depth)?;
         let [name, rest @ ..] = path else {
-            return Ok(cid);
+            return Ok((cid, depth));
         };
-        let opened = self.open(cid, place_behind(above))?;
+        let opened = self.open(depth, cid, position_behind(above))?;
         match link_for(&opened.kind, above.len(), name.as_slice(), at)? {
             Way::Entry(entry) => self.terminal(left, entry, &[], at.saturating_add(1), rest),
             Way::Child(child, slot) => {
@@ -185,29 +197,29 @@ impl<'a> Run<'a> {
 
     /// The content of a terminal that is a file, or the range of it; the target of a symbolic link; or the listing of a
     /// directory.
-    fn entity(&mut self, cid: Cid, span: Option<Span>) -> Result<(), Stop> {
-        let opened = self.open(cid, Place::Top)?;
+    fn entity(&mut self, depth: u32, cid: Cid, span: Option<Span>) -> Result<(), Stop> {
+        let opened = self.open(depth, cid, Position::Top)?;
         match &opened.kind {
             Kind::Raw | Kind::File { .. } => {
                 let range = span.map(|span| bounds(&span, total(&opened)));
-                self.content(DEPTH, &opened, 0, range)
+                self.content(depth, &opened, 0, range)
             }
             Kind::Symlink { target } => Ok(self.say(target.as_slice())?),
             Kind::Basic { .. } | Kind::Shard { .. } => {
                 let mut entries = Vec::new(self.alloc);
-                self.list(DEPTH, &opened, &[], &mut entries)?;
+                self.list(depth, &opened, &[], &mut entries)?;
                 Ok(self.say_listing(entries.as_slice())?)
             }
         }
     }
 
     /// The content of a terminal that is a file, the target of a symbolic link, or the bundle of a directory.
-    fn all(&mut self, cid: Cid) -> Result<(), Stop> {
-        let opened = self.open(cid, Place::Top)?;
+    fn all(&mut self, depth: u32, cid: Cid) -> Result<(), Stop> {
+        let opened = self.open(depth, cid, Position::Top)?;
         match &opened.kind {
-            Kind::Raw | Kind::File { .. } => self.content(DEPTH, &opened, 0, None),
+            Kind::Raw | Kind::File { .. } => self.content(depth, &opened, 0, None),
             Kind::Symlink { target } => Ok(self.say(target.as_slice())?),
-            Kind::Basic { .. } | Kind::Shard { .. } => self.bundle(DEPTH, &opened, &[], "/"),
+            Kind::Basic { .. } | Kind::Shard { .. } => self.bundle(depth, &opened, &[], "/"),
         }
     }
 
@@ -232,7 +244,7 @@ impl<'a> Run<'a> {
                 None => true,
             };
             if is_asked {
-                let below = self.open(part.cid, Place::Part)?;
+                let below = self.open(left, part.cid, Position::Part)?;
                 self.content(left, &below, from, range)?;
             }
             from = from.saturating_add(part.size);
@@ -263,7 +275,8 @@ impl<'a> Run<'a> {
                         }
                         None => {
                             let passed = with_slot(self.alloc, above, slot.slot)?;
-                            let below = self.open(slot.cid, Place::Child(passed.as_slice()))?;
+                            let position = Position::Child(passed.as_slice());
+                            let below = self.open(left, slot.cid, position)?;
                             self.list(left, &below, passed.as_slice(), entries)?;
                         }
                     }
@@ -288,7 +301,7 @@ impl<'a> Run<'a> {
         match &opened.kind {
             Kind::Raw | Kind::File { .. } => {
                 self.say_line(format!(in self.alloc; "file {size} {path}")?.as_str())?;
-                self.content(left, opened, 0, None)?;
+                self.content(depth, opened, 0, None)?;
                 Ok(self.say_line("")?)
             }
             Kind::Symlink { target } => {
@@ -300,7 +313,7 @@ impl<'a> Run<'a> {
                 self.say_line(format!(in self.alloc; "dir {path}")?.as_str())?;
                 for entry in entries.as_slice() {
                     let name = joined(self.alloc, path, entry.name.as_slice())?;
-                    let below = self.open(entry.cid, Place::Top)?;
+                    let below = self.open(left, entry.cid, Position::Top)?;
                     self.bundle(left, &below, &[], name.as_str())?;
                 }
                 Ok(())
@@ -313,12 +326,13 @@ impl<'a> Run<'a> {
                     match &slot.name {
                         Some(name) => {
                             let name = joined(self.alloc, path, name.as_slice())?;
-                            let below = self.open(slot.cid, Place::Top)?;
+                            let below = self.open(left, slot.cid, Position::Top)?;
                             self.bundle(left, &below, &[], name.as_str())?;
                         }
                         None => {
                             let passed = with_slot(self.alloc, above, slot.slot)?;
-                            let below = self.open(slot.cid, Place::Child(passed.as_slice()))?;
+                            let position = Position::Child(passed.as_slice());
+                            let below = self.open(left, slot.cid, position)?;
                             self.bundle(left, &below, passed.as_slice(), path)?;
                         }
                     }
@@ -329,27 +343,30 @@ impl<'a> Run<'a> {
     }
 
     /// The index of the stored block that the CID leads to, and the block. A CIDv0 leads to what its version 1 form does.
-    fn found(&self, cid: Cid) -> Result<(usize, &'a [u8]), Stop> {
+    fn found(&self, cid: Cid, depth: u32) -> Result<(usize, &'a [u8]), Stop> {
         for (index, stored) in self.stored.iter().enumerate() {
             if stored.cid.to_v1() == cid.to_v1() {
                 return Ok((index, stored.block.as_slice()));
             }
         }
-        Err(Stop::End(End::Gone { cid }))
+        Err(Stop::End(End::Gone {
+            cid,
+            depth: from_root(depth),
+        }))
     }
 
-    /// Reads the block that the CID leads to and sends it, if it may stand at the place.
-    fn open(&mut self, cid: Cid, place: Place<'_>) -> Result<Opened<'a>, Stop> {
-        let (index, block) = self.found(cid)?;
+    /// Reads the block that the CID leads to and sends it, if it may stand there.
+    fn open(&mut self, depth: u32, cid: Cid, position: Position<'_>) -> Result<Opened<'a>, Stop> {
+        let (index, block) = self.found(cid, depth)?;
         let kind = match reads(self.alloc, &cid, block) {
             Ok(kind) => kind,
             Err(BlockFault::OutOfMemory) => {
                 return Err(Stop::Fault(EvaluationFault::OutOfMemory));
             }
-            Err(fault) => return Err(Stop::End(End::BadBlock { cid, fault })),
+            Err(fault) => return Err(bad_block(cid, depth, fault)),
         };
-        if let Err(fault) = stands(&kind, place) {
-            return Err(Stop::End(End::BadBlock { cid, fault }));
+        if let Err(fault) = stands(&kind, position) {
+            return Err(bad_block(cid, depth, fault));
         }
         self.send(cid, index, block)?;
         Ok(Opened { kind, block })
@@ -402,6 +419,20 @@ impl<'a> Run<'a> {
     }
 }
 
+/// The stop at a block with this fault, from which on so many blocks might be opened.
+fn bad_block(cid: Cid, depth: u32, fault: BlockFault) -> Stop {
+    Stop::End(End::BadBlock {
+        cid,
+        depth: from_root(depth),
+        fault,
+    })
+}
+
+/// How many blocks there are from the root to one, both counted, from which on so many may be opened.
+fn from_root(depth: u32) -> u32 {
+    DEPTH.saturating_sub(depth) + 1
+}
+
 /// One block less deep to go.
 fn deeper(depth: u32) -> Result<u32, Stop>
     ensures { IfOk result (λ left. left < depth) }
@@ -450,24 +481,27 @@ fn link_for(kind: &Kind, level: usize, name: &[u8], at: u64) -> Result<Way, Stop
     }
 }
 
-/// The place behind the slots that were passed since the entry.
-fn place_behind(above: &[u8]) -> Place<'_> {
+/// The position behind the slots that were passed since the entry.
+fn position_behind(above: &[u8]) -> Position<'_> {
     if above.is_empty() {
-        Place::Top
+        Position::Top
     } else {
-        Place::Child(above)
+        Position::Child(above)
     }
 }
 
-/// Whether a block of this kind may stand at the place.
-fn stands(kind: &Kind, place: Place<'_>) -> Result<(), BlockFault> {
-    match place {
-        Place::Top => check_shard(kind, &[]),
-        Place::Part => match kind {
+/// Whether a block of this kind may stand at the position; the first fault, where several hold.
+fn stands(kind: &Kind, position: Position<'_>) -> Result<(), BlockFault> {
+    match position {
+        Position::Top => check_shard(kind, &[]),
+        Position::Part => match kind {
             Kind::Raw | Kind::File { .. } => Ok(()),
-            _ => Err(BlockFault::NotPart),
+            _ => {
+                check_shard(kind, &[])?;
+                Err(BlockFault::NotPart)
+            }
         },
-        Place::Child(above) => match kind {
+        Position::Child(above) => match kind {
             Kind::Shard { .. } => check_shard(kind, above),
             _ => Err(BlockFault::NotShard),
         },

@@ -7,9 +7,9 @@ use crate::tests::{
 use std::alloc::Global;
 use std::process::Abort;
 use std::test::Fail;
+use tg_bytes::{Bytes, List};
 use tg_cid::{Cid, Codec};
 use tg_dagpb::{Link, Node};
-use tg_edges::{Bytes, List};
 use tg_model::{BlockFault, Kind, Scope, check_shard, reads};
 use tg_pbtable::PbFault;
 use tg_unixfs::UnixFault;
@@ -165,11 +165,6 @@ const FILES: &[FaultRow<'static>] = &[
     ),
 ];
 
-#[test]
-fn files_without_a_kind(rt: HostRuntime) -> Result<(), Fail> {
-    expect_faults(&rt, rt.alloc(), FILES)
-}
-
 // The second of two hashes is none of a CID.
 #[test]
 fn a_second_hash(rt: HostRuntime) -> Result<(), Fail> {
@@ -220,11 +215,6 @@ const FOLDERS: &[FaultRow<'static>] = &[
     ),
 ];
 
-#[test]
-fn directories_without_a_kind(rt: HostRuntime) -> Result<(), Fail> {
-    expect_faults(&rt, rt.alloc(), FOLDERS)
-}
-
 const BAD_SLOT: Option<BlockFault> = Some(BlockFault::BadSlot { at: 0 });
 
 // 33 bytes of bits, and 32.
@@ -273,8 +263,11 @@ const SHARDS: &[FaultRow<'static>] = &[
 ];
 
 #[test]
-fn shards_without_a_kind(rt: HostRuntime) -> Result<(), Fail> {
-    expect_faults(&rt, rt.alloc(), SHARDS)
+fn nodes_without_a_kind(rt: HostRuntime) -> Result<(), Fail> {
+    for rows in [FILES, FOLDERS, SHARDS] {
+        expect_faults(&rt, rt.alloc(), rows)?;
+    }
+    Ok(())
 }
 
 /// The names of a shard's links, its data, the slots that were passed, and why it can't stand there, if it can't.
@@ -339,17 +332,24 @@ fn shards_that_are_misplaced(rt: HostRuntime) -> Result<(), Fail> {
     Ok(())
 }
 
-/// Expects that a part with this data ends the traversal of a file, whose first part comes before.
-fn expect_no_part(rt: &impl Abort, alloc: Global, payload: &[u8]) -> Result<(), Fail> {
+/// Expects that a part with these links and this data ends the traversal of a file with the fault, whose first part comes before.
+fn expect_no_part(
+    rt: &impl Abort,
+    alloc: Global,
+    links: &[(&str, Cid, u64)],
+    payload: &[u8],
+    fault: BlockFault,
+) -> Result<(), Fail> {
     let mut shelf = Shelf::new(alloc);
-    let part = shelf.node(&[], payload)?;
+    let part = shelf.node(links, payload)?;
     let hell = shelf.raw(b"hell")?;
     let links = [("", hell, 4), ("", part, 4)];
     let root = shelf.node(&links, b"\x08\x02\x20\x04\x20\x04")?;
     let folder = shelf.node(&[("f", root, 8)], FOLDER)?;
     let end = End::BadBlock {
         cid: part,
-        fault: BlockFault::NotPart,
+        depth: 2,
+        fault,
     };
     expect_below(
         rt,
@@ -361,6 +361,11 @@ fn expect_no_part(rt: &impl Abort, alloc: Global, payload: &[u8]) -> Result<(), 
         b"hell",
     )?;
     let text = b"dir /\nfile 8 /f\nhell";
+    let end = End::BadBlock {
+        cid: part,
+        depth: 3,
+        fault,
+    };
     expect_below(
         rt,
         &shelf,
@@ -375,9 +380,18 @@ fn expect_no_part(rt: &impl Abort, alloc: Global, payload: &[u8]) -> Result<(), 
 
 #[test]
 fn parts_that_are_no_files(rt: HostRuntime) -> Result<(), Fail> {
-    expect_no_part(&rt, rt.alloc(), FOLDER)?;
-    expect_no_part(&rt, rt.alloc(), b"\x08\x04")?;
-    expect_no_part(&rt, rt.alloc(), NO_SLOT)
+    let links = [("00m", raw_cid(b"1"), 1)];
+    // A shard that is misplaced besides is told so, since that is the first of its faults.
+    let rows: [(&[(&str, Cid, u64)], &[u8], BlockFault); 4] = [
+        (&[], FOLDER, BlockFault::NotPart),
+        (&[], b"\x08\x04", BlockFault::NotPart),
+        (&[], NO_SLOT, BlockFault::NotPart),
+        (&links, SLOT_0, BlockFault::Misplaced { at: 0 }),
+    ];
+    for (links, payload, fault) in rows {
+        expect_no_part(&rt, rt.alloc(), links, payload, fault)?;
+    }
+    Ok(())
 }
 
 /// Expects that a child with this data ends the traversal of a shard, in which an entry comes before.
@@ -388,6 +402,7 @@ fn expect_no_shard(rt: &impl Abort, alloc: Global, payload: &[u8]) -> Result<(),
     let root = shelf.node(&[("91m", leaf, 1), ("BC", child, 4)], PARENT_SHARD)?;
     let end = End::BadBlock {
         cid: child,
+        depth: 2,
         fault: BlockFault::NotShard,
     };
     expect_below(rt, &shelf, root, (&[], Scope::Entity), &[2], &end, b"")?;
@@ -399,9 +414,10 @@ fn expect_no_shard(rt: &impl Abort, alloc: Global, payload: &[u8]) -> Result<(),
 
 #[test]
 fn children_that_are_no_shards(rt: HostRuntime) -> Result<(), Fail> {
-    expect_no_shard(&rt, rt.alloc(), FOLDER)?;
-    expect_no_shard(&rt, rt.alloc(), b"\x08\x04")?;
-    expect_no_shard(&rt, rt.alloc(), b"\x08\x02")
+    for payload in [FOLDER, b"\x08\x04".as_slice(), b"\x08\x02".as_slice()] {
+        expect_no_shard(&rt, rt.alloc(), payload)?;
+    }
+    Ok(())
 }
 
 // A block without a kind that is asked for alone is sent.
@@ -414,6 +430,7 @@ fn a_block_without_a_kind(rt: HostRuntime) -> Result<(), Fail> {
     let root = shelf.node(&[("o", odd, 1)], FOLDER)?;
     let end = End::BadBlock {
         cid: odd,
+        depth: 2,
         fault: BlockFault::BadNode(PbFault::Unknown { at: 0, number: 3 }),
     };
     expect_rows(&rt, &shelf, root, ODD)?;
@@ -439,6 +456,7 @@ fn a_misplaced_entry(rt: HostRuntime) -> Result<(), Fail> {
     let root = shelf.node(&[("s", shard, 1)], FOLDER)?;
     let end = End::BadBlock {
         cid: shard,
+        depth: 2,
         fault: BlockFault::Misplaced { at: 0 },
     };
     expect_below(
@@ -484,6 +502,7 @@ fn shards_below_level_seven(rt: HostRuntime) -> Result<(), Fail> {
     let root = shelf.node(&[("00", shard, 1)], SLOT_0)?;
     let end = End::BadBlock {
         cid: bottom,
+        depth: 9,
         fault: BlockFault::BelowEight,
     };
     let sent = &[8, 7, 6, 5, 4, 3, 2, 1];

@@ -72,9 +72,11 @@ fn leaves_that_are_not_stored(rt: HostRuntime) -> Result<(), Fail> {
     let all: (&[&str], Scope) = (&[], Scope::Entity);
     let hell = End::Gone {
         cid: raw_cid(b"hell"),
+        depth: 2,
     };
     let o_wo = End::Gone {
         cid: raw_cid(b"o wo"),
+        depth: 2,
     };
     let part = ranged_query(rt.alloc(), root, &[], SpanFrom::Start(5), Some(6))?;
     expect_below(&rt, &shelf, root, all, &[0], &hell, b"")?;
@@ -94,10 +96,15 @@ fn one_leaf_alone_is_stored(rt: HostRuntime) -> Result<(), Fail> {
     expect_ranges(&rt, &shelf, root, &[], &rows)?;
     let hell = End::Gone {
         cid: raw_cid(b"hell"),
+        depth: 2,
     };
     expect_below(&rt, &shelf, root, all, &[1], &hell, b"")?;
     let nothing = Shelf::new(rt.alloc());
-    expect_below(&rt, &nothing, root, all, &[], &End::Gone { cid: root }, b"")?;
+    let end = End::Gone {
+        cid: root,
+        depth: 1,
+    };
+    expect_below(&rt, &nothing, root, all, &[], &end, b"")?;
     Ok(())
 }
 

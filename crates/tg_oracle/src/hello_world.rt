@@ -1,7 +1,7 @@
 //! The worked example of the definitions: a file of three leaves in a directory.
 ghost use Rattle.std.specs.Prelude.{◌≡◌, ℕ, [], ◌∷◌, ◌++◌, None, Some, Ok, All, codes, length, map};
 ghost use Rattle.tg_cid.specs.Names.{Names};
-ghost use Rattle.tg_edges.specs.declared.tree.Tree.{Tree};
+ghost use Rattle.tg_tree.specs.declared.tree.Tree.{Tree};
 ghost use Rattle.tg_model.specs.Answer.{answer};
 ghost use Rattle.tg_model.specs.Computed.{read};
 ghost use Rattle.tg_model.specs.Content.{content};
@@ -9,9 +9,9 @@ ghost use Rattle.tg_model.specs.Counts.{counts};
 ghost use Rattle.tg_model.specs.Dag.{Section, blocks};
 ghost use Rattle.tg_model.specs.Fits.{Fits, IsInProgress, output_so_far};
 ghost use Rattle.tg_model.specs.ImportLayout.{IsImportLayout};
-ghost use Rattle.tg_oracle.specs.HelloWorld.{IsHelloFolder, IsNamed, all_sections, at_h, d, d_block, d_cid, d_kind, directory_of, f, f_block, f_cid, f_kind, file_of, first_dag, five_to_six, holding, l1, l1_cid, l2, l2_cid, l3, l3_cid, last_three, leaf, leafless_dag, middle_dag, options_of_four, past_the_end, query_for, whole_dag};
+ghost use Rattle.tg_oracle.specs.HelloWorld.{IsHelloFolder, IsNamed, all_sections, at_h, d, d_block, d_cid, d_kind, directory_of, f, f_block, f_cid, f_kind, file_of, first_dag, five_to_six, holding, l1, l1_cid, l2, l2_cid, l2_spot, l3, l3_cid, last_three, leaf, leafless_dag, middle_dag, options_of_four, past_the_end, query_for, whole_dag};
 ghost use Rattle.tg_model.specs.Lookup.{found, lookup_path, not_folder, not_there};
-ghost use Rattle.tg_model.specs.PathWalk.{gone, path_walk, terminal, whole};
+ghost use Rattle.tg_model.specs.PathWalk.{gone, path_walk, stopped, terminal, whole};
 ghost use Rattle.tg_model.specs.ShowsTree.{Shows};
 ghost use Rattle.tg_model.specs.Sound.{IsSound};
 ghost use Rattle.tg_model.specs.StoreView.{store_view};
@@ -33,7 +33,7 @@ pub fn example_whole()
     ensures path { lookup_path at_h whole_dag ≡ found (file_of (leaf l1) (leaf l2) (leaf l3)) }
     ensures walk { (path_walk at_h whole_dag).end ≡ terminal (file_of (leaf l1) (leaf l2) (leaf l3)) }
     ensures absent { lookup_path (codes "x" ∷ []) whole_dag ≡ not_there 0 }
-    ensures no_directory { lookup_path (codes "h" ∷ codes "x" ∷ []) whole_dag ≡ not_folder 1 }
+    ensures not_folder { lookup_path (codes "h" ∷ codes "x" ∷ []) whole_dag ≡ not_folder 1 }
     ensures entity { block_list (query_for at_h scopes.Entity None) whole_dag ≡ d ∷ f ∷ l1 ∷ l2 ∷ l3 ∷ [] }
     ensures block { block_list (query_for at_h scopes.Block None) whole_dag ≡ d ∷ f ∷ [] }
     ensures listing { block_list (query_for [] scopes.Entity None) whole_dag ≡ d ∷ [] }
@@ -59,8 +59,8 @@ pub fn example_partial()
     ensures fits { All IsNamed all_sections
         → Fits middle_dag (query_for at_h scopes.Entity (Some five_to_six)) (d ∷ f ∷ l2 ∷ []) (codes " w") }
     ensures in_progress { All IsNamed all_sections
-        → IsInProgress leafless_dag (query_for at_h scopes.Entity (Some five_to_six)) (d ∷ f ∷ []) l2_cid }
-    ensures wanted { (traversal (query_for at_h scopes.Entity None) first_dag).end ≡ gone l2_cid }
+        → IsInProgress leafless_dag (query_for at_h scopes.Entity (Some five_to_six)) (d ∷ f ∷ []) l2_spot }
+    ensures wanted { (traversal (query_for at_h scopes.Entity None) first_dag).end ≡ stopped (gone l2_spot) }
     ensures so_far { output_so_far (query_for at_h scopes.Entity None) first_dag ≡ codes "hell" }
     ensures counts { counts (query_for at_h scopes.Entity None) whole_dag
         ≡ record { block = 144; depth = 3; entries = 0; names = 0; received = 0; output = 11; seen_blocks = 0; seen_bytes = 0; reused = 0 } }

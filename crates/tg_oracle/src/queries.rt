@@ -3,8 +3,8 @@ ghost use Rattle.std.specs.Prelude.{◌^◌, ◌<◌, ◌≤◌, length, All, If
 ghost use Rattle.tg_model.specs.EntryNames.{IsGoodName};
 
 use std::alloc::{AllocError, Global};
+use tg_bytes::{Bytes, List};
 use tg_cid::Cid;
-use tg_edges::{Bytes, List};
 use tg_model::{Path, Query, Scope, Span, SpanFrom};
 use thiserror::Error;
 

@@ -3,14 +3,15 @@ ghost use Rattle.std.specs.Prelude.{◌≡◌, ℕ, [], ◌∷◌, ◌++◌, Non
 ghost use Rattle.tg_model.specs.Answer.{answer, named_of};
 ghost use Rattle.tg_model.specs.Content.{content, entries};
 ghost use Rattle.tg_model.specs.Lookup.{found, lookup_path, not_folder, not_there};
-ghost use Rattle.tg_model.specs.PathWalk.{gone, path_walk, stopped, terminal};
+ghost use Rattle.tg_model.specs.PathWalk.{not_reached, path_walk, terminal};
 ghost use Rattle.tg_model.specs.PathWalk as walk;
 ghost use Rattle.tg_oracle.specs.SmallDags.{asking, folder, folder_dag, hell, inner, inner_dag, link, link_dag, no_bytes, nothing, one_shard, one_shard_dag, one_shard_slots, inner_slots, over_inner, parent, parent_dag, raw_leaf, twin_file, twins, two_to_five};
-ghost use Rattle.tg_model.specs.Sound.{position_fault, shard_fault, child, top};
+ghost use Rattle.tg_model.specs.Sound.{position_fault, shard_fault, child, part};
 ghost use Rattle.tg_model.specs.Texts.{listing_line, Named};
 ghost use Rattle.tg_model.specs.Traversal.{block_list, traversal};
 ghost use Rattle.tg_model.specs.Dag.{Dag, unopened};
 ghost use Rattle.tg_model.specs.declared.fault.BlockFault.TheVariants as faults;
+ghost use Rattle.tg_model.specs.declared.kinds.Kind.TheVariants.{Shard};
 ghost use Rattle.tg_model.specs.declared.queries.Scope.TheVariants as scopes;
 
 /// A part of no length inside a range isn't opened, and without a range it is; equal parts are sent at each place; an empty range
@@ -41,15 +42,18 @@ pub fn small_shards()
     ensures one_stands { shard_fault [] one_shard_slots ≡ None }
     ensures one_elsewhere { shard_fault [] inner_slots ≡ Some (faults.Misplaced 0) }
     ensures inner_stands { shard_fault (0xBC ∷ []) inner_slots ≡ None }
+    // A part that is a misplaced shard is told as misplaced, and any other shard as no part.
+    ensures part_elsewhere { position_fault (part 4) (Shard inner_slots) ≡ Some (faults.Misplaced 0) }
+    ensures part_stands { position_fault (part 4) (Shard one_shard_slots) ≡ Some faults.NotPart }
     ensures too_deep { shard_fault (replicate 8 0) one_shard_slots ≡ Some faults.BelowEight }
     ensures hello { path_walk (codes "hello" ∷ []) one_shard_dag ≡ record { sections = one_shard ∷ []; end = terminal (raw_leaf hell) } }
-    ensures absent { path_walk (codes "hellp" ∷ []) one_shard_dag ≡ record { sections = one_shard ∷ []; end = stopped (walk.not_there 0) } }
+    ensures absent { path_walk (codes "hellp" ∷ []) one_shard_dag ≡ record { sections = one_shard ∷ []; end = not_reached (walk.not_there 0) } }
     ensures behind { path_walk (codes "hello" ∷ codes "x" ∷ []) one_shard_dag
-        ≡ record { sections = one_shard ∷ hell ∷ []; end = stopped (walk.not_folder 1) } }
+        ≡ record { sections = one_shard ∷ hell ∷ []; end = not_reached (walk.not_folder 1) } }
     ensures inside { path_walk (codes "q" ∷ []) parent_dag ≡ record { sections = parent ∷ inner ∷ []; end = terminal (raw_leaf hell) } }
-    ensures same_slot { path_walk (codes "cm" ∷ []) parent_dag ≡ record { sections = parent ∷ inner ∷ []; end = stopped (walk.not_there 0) } }
-    ensures unused { path_walk (codes "zz" ∷ []) parent_dag ≡ record { sections = parent ∷ []; end = stopped (walk.not_there 0) } }
-    ensures gone { path_walk (codes "q" ∷ []) (over_inner (unopened inner.cid)) ≡ record { sections = parent ∷ []; end = stopped (walk.gone inner.cid) } }
+    ensures same_slot { path_walk (codes "cm" ∷ []) parent_dag ≡ record { sections = parent ∷ inner ∷ []; end = not_reached (walk.not_there 0) } }
+    ensures unused { path_walk (codes "zz" ∷ []) parent_dag ≡ record { sections = parent ∷ []; end = not_reached (walk.not_there 0) } }
+    ensures gone { path_walk (codes "q" ∷ []) (over_inner (unopened inner.cid)) ≡ record { sections = parent ∷ []; end = not_reached (walk.gone (record { cid = inner.cid; depth = 2; position = child (0xBC ∷ []) })) } }
     ensures entity { block_list (asking [] scopes.Entity None) parent_dag ≡ parent ∷ inner ∷ [] }
     ensures entries { map (λ entry. entry.name) (entries parent_dag) ≡ codes "m" ∷ codes "q" ∷ codes "g" ∷ [] }
 {}

@@ -1,100 +1,33 @@
-//! A store of at most one block, and what generic code knows of any store that keeps blocks.
-ghost use Rattle.std.specs.Prelude.{◌≡◌, ℕ, ◌≤◌, length, Option, Some, None, IfOk, IfSome, OnOk, OnErr, unwrap_or, refl};
+//! What generic code knows of any store that keeps blocks, and what a concrete store still knows behind it.
+ghost use Rattle.std.specs.Prelude.{◌≡◌, ◌≤◌, ◌++◌, ◌∷◌, [], length, map, Option, Some, None, IfOk, IfSome, OnOk, OnErr, unwrap_or, refl, List, ◌⊎◌};
+ghost use Rattle.tg_cid.specs.Cid.{CidParts};
 ghost use Rattle.tg_cid.specs.Names.{Names};
-ghost use Rattle.tg_edges.specs.Streams.{Rose};
-ghost use Rattle.tg_model.specs.Stores.{IsKeptAs, IsNamedBlock};
-ghost use Rattle.tg_oracle.specs.OneBlock.{told_of, only_block};
-ghost use Rattle.tg_oracle.specs.OneBlockLaws.{Names-prop, only_block_is_store, told_is_store};
+ghost use Rattle.tg_faults.specs.Faults.{Rose};
+ghost use Rattle.tg_model.specs.Stores.{IsNamedBlock, Kept, LookedUp, as_v1, kept_in, looked_in};
+ghost use Rattle.tg_oracle.specs.BlockLogLaws.{searched_logs};
+ghost use Rattle.tg_oracle.specs.LoggedBlocks.{section_of};
 
-use std::alloc::Global;
+use crate::block_log::BlockLog;
 use std::test::Fail;
-use tg_cid::{Cid, Codec, equality};
-use tg_edges::Bytes;
+use tg_bytes::Bytes;
+use tg_cid::{Cid, Codec};
 use tg_model::{Blocks, BlocksFault, Keep, KeepFault};
 
-/// A block under the version 1 form of a CID that names it.
-#[derive(Drop)]
-struct Held {
-    cid: Cid,
-    block: Bytes,
-    ghost first: { cid.version ≡ 1 },
-    ghost named: { Names cid block } by { Names-prop cid block },
-    ghost small: { length block ≤ 2097152 },
-}
-
-/// A store in memory that keeps at most one block. It tells which.
-#[derive(Drop)]
-struct OneBlock {
-    alloc: Global,
-    held: Option<Held>,
-}
-
-impl OneBlock {
-    fn new(alloc: Global) -> OneBlock
-        ensures { result.held ≡ None }
-    {
-        OneBlock { alloc, held: None }
-    }
-}
-
-impl Blocks for OneBlock {
-    ghost stored = { λ s. Some (told_of (λ h. only_block h.cid h.block) s.held) };
-
-    ghost faults = { λ _. 0 };
-
-    ghost told = { λ s. told_is_store (λ h. only_block h.cid h.block) (λ h. only_block_is_store h.cid h.block h.named h.small) s.held };
-
-    /// A copy of the held block. It fails for want of memory alone.
-    fn get(&mut self, cid: &Cid) -> Result<Option<Bytes>, BlocksFault> {
-        let Some(held) = &self.held else {
-            return Ok(None);
-        };
-        equality();
-        if held.cid != cid.to_v1() {
-            return Ok(None);
-        }
-        match Bytes::of(self.alloc, held.block.as_slice()) {
-            Ok(block) => Ok(Some(block)),
-            Err(_) => Err(BlocksFault::OutOfMemory),
-        }
-    }
-}
-
-impl Keep for OneBlock {
-    ghost stored = { ⟦<OneBlock as Blocks>⟧.stored };
-
-    ghost faults = { ⟦<OneBlock as Blocks>⟧.faults };
-
-    /// Where another block is held there is no memory for this one.
-    fn keep(&mut self, cid: Cid, block: &[u8]) -> Result<(), KeepFault> {
-        let cid = cid.to_v1();
-        if let Some(held) = &self.held {
-            equality();
-            return if held.cid == cid {
-                Ok(())
-            } else {
-                Err(KeepFault::OutOfMemory)
-            };
-        }
-        let Ok(block) = Bytes::of(self.alloc, block) else {
-            return Err(KeepFault::OutOfMemory);
-        };
-        self.held = Some(Held { cid, block });
-        Ok(())
-    }
-}
-
-/// A store in which blocks are kept and looked up.
+/// A store in which blocks are kept and looked up. A look-up keeps nothing.
 trait KeptBlocks: Blocks + Keep {
-    ghost one_store: { (s : Self) → Self.Keep.stored s ≡ Self.Blocks.stored s };
+    ghost one_store: { (s : Self) → Self.Keep.keeper.stored s ≡ Self.Blocks.blocks.stored s };
 
-    ghost one_count: { (s : Self) → Self.Keep.faults s ≡ Self.Blocks.faults s };
+    ghost one_count: { (s : Self) → Self.Keep.keeper.faults s ≡ Self.Blocks.blocks.faults s };
+
+    ghost looks: { (a b : Self) (cids : List CidParts) → Self.Blocks.blocks.looked a b cids → Self.Keep.keeper.kept a b [] };
 }
 
-impl KeptBlocks for OneBlock {
+impl KeptBlocks for BlockLog {
     ghost one_store = { λ s. refl };
 
     ghost one_count = { λ s. refl };
+
+    ghost looks = { λ a b _. searched_logs a.number b.number (map section_of a.blocks) (map section_of b.blocks) };
 }
 
 /// Keeps the block and looks it up. A store that tells what it holds gives what stood under the CID before, and this block
@@ -106,13 +39,16 @@ fn keep_then_get<S: KeptBlocks>(
 ) -> Result<Option<Bytes>, BlocksFault>
     requires named { Names cid block.now }
     requires small { length block.now ≤ 2097152 }
-    ensures found { IfOk result (λ found. IfSome (S.Blocks.stored store.old) (λ held. found ≡ Some (unwrap_or (held cid) block.now))) }
-    ensures first { IfOk result (λ found. IfSome (S.Blocks.stored store.old) (λ held. held cid ≡ None → found ≡ Some block.now)) }
+    ensures found { IfOk result (λ found. IfSome (S.Blocks.blocks.stored store.old) (λ held. found ≡ Some (unwrap_or (held cid) block.now))) }
+    ensures first { IfOk result (λ found. IfSome (S.Blocks.blocks.stored store.old) (λ held. held cid ≡ None → found ≡ Some block.now)) }
     ensures any { IfOk result (λ found. IsNamedBlock cid found) }
-    ensures kept { OnOk result (IsKeptAs (S.Blocks.stored store.old) (S.Blocks.stored store.new) cid block.now) }
-    ensures quiet { OnOk result (S.Blocks.faults store.new ≡ S.Blocks.faults store.old) }
-    ensures failed { result ≡ Err BlocksFault.Failed → Rose (S.Blocks.faults store.old) (S.Blocks.faults store.new) }
-    ensures counted { OnErr result (S.Blocks.faults store.old ≤ S.Blocks.faults store.new) }
+    ensures kept { OnOk result (Kept (record { cid = cid; block = block.now } ∷ []) (kept_in S.Keep.keeper store.old store.new)) }
+    ensures quiet { OnOk result (S.Blocks.blocks.faults store.new ≡ S.Blocks.blocks.faults store.old) }
+    ensures failed { result ≡ Err BlocksFault.Failed → Rose (S.Blocks.blocks.faults store.old) (S.Blocks.blocks.faults store.new) }
+    ensures counted { OnErr result (S.Blocks.blocks.faults store.old ≤ S.Blocks.blocks.faults store.new) }
+    // A failed call kept the section or nothing.
+    ensures err_kept { OnErr result (S.Keep.keeper.kept store.old store.new []
+        ⊎ S.Keep.keeper.kept store.old store.new (record { cid = cid; block = block.now } ∷ [])) }
 {
     match store.keep(cid, block) {
         Ok(()) => store.get(&cid),
@@ -121,61 +57,59 @@ fn keep_then_get<S: KeptBlocks>(
     }
 }
 
+/// Looks up two CIDs, and says whether both have a block.
+fn has_both<B: Blocks>(blocks: &mut B, a: &Cid, b: &Cid) -> Result<bool, BlocksFault>
+    ensures { OnOk result (LookedUp (a.now ∷ b.now ∷ []) (looked_in B.blocks blocks.old blocks.new)) }
+{
+    let first = blocks.get(a)?.is_some();
+    let second = blocks.get(b)?.is_some();
+    Ok(first && second)
+}
+
+/// What a log knows behind generic code: its number is the one that it was made with, and behind what it held stands the one
+/// section that was kept; and a look-up leaves it as it was.
+fn log_one(log: &mut BlockLog, cid: Cid, block: &[u8]) -> Result<bool, BlocksFault>
+    requires named { Names cid block.now }
+    requires small { length block.now ≤ 2097152 }
+    ensures number { OnOk result (log.new.number ≡ log.old.number) }
+    ensures logged { OnOk result (map section_of log.new.blocks
+        ≡ map section_of log.old.blocks ++ record { cid = as_v1 cid; block = block.now } ∷ []) }
+{
+    keep_then_get(log, cid, block)?;
+    has_both(log, &cid, &cid)
+}
+
 const BLOCK: &[u8] = b"\x0a\x02\x08\x01";
 
 // The CIDv0 of the block, by Python's hashlib.
 const TWIN: &[u8] = b"\x12\x20\x59\x94\x84\x39\x06\x5f\x29\x61\x9e\xf4\x12\x80\xcb\xb9\
         \x32\xbe\x52\xc5\x6d\x99\xc5\x96\x6b\x65\xe0\x11\x12\x39\xf0\x98\xbb\xef";
 
+const HELLO: &[u8] = b"hello world";
+
+// What is kept under one CID is found under its twin, and nothing else is; what is kept again is found as it was.
 #[test]
-fn a_block_is_kept_and_found(rt: HostRuntime) -> Result<(), Fail> {
+fn blocks_are_kept_and_found(rt: HostRuntime) -> Result<(), Fail> {
     let cid = Cid::of_block(Codec::DagPb, BLOCK);
     let twin = Cid::from_bytes(TWIN)?;
     assert_ne!(rt; cid, twin);
     assert!(rt; twin.holds(BLOCK));
-    // Kept under the one and then under the other, it is found under both.
     for (first, second) in [(cid, twin), (twin, cid)] {
-        let mut store = OneBlock::new(rt.alloc());
-        assert_eq!(rt;
-            keep_then_get(&mut store, first, BLOCK)?
-                .ok_or("kept")?
-                .as_slice(),
-            BLOCK
-        );
-        assert_eq!(rt; store.get(&second)?.ok_or("found")?.as_slice(), BLOCK);
-        assert_eq!(rt;
-            keep_then_get(&mut store, second, BLOCK)?
-                .ok_or("kept again")?
-                .as_slice(),
-            BLOCK
-        );
+        let mut store = BlockLog::new(rt.alloc(), 7);
+        assert!(rt; store.get(&first)?.is_none());
+        assert!(rt; first.holds(BLOCK));
+        let found = keep_then_get(&mut store, first, BLOCK)?.ok_or("kept")?;
+        assert_eq!(rt; found.as_slice(), BLOCK);
+        assert!(rt; second.holds(BLOCK));
+        let found = keep_then_get(&mut store, second, BLOCK)?.ok_or("kept again")?;
+        assert_eq!(rt; found.as_slice(), BLOCK);
+        // The same digest under another codec, another digest, and a further block.
+        assert!(rt; store.get(&Cid::of_block(Codec::Raw, BLOCK))?.is_none());
+        let other = Cid::of_block(Codec::Raw, HELLO);
+        assert!(rt; !has_both(&mut store, &first, &other)?);
+        assert!(rt; log_one(&mut store, other, HELLO)?);
+        assert!(rt; has_both(&mut store, &second, &other)?);
+        assert_eq!(rt; store.get(&other)?.ok_or("held")?.as_slice(), HELLO);
     }
-    Ok(())
-}
-
-#[test]
-fn a_block_that_is_not_held_is_not_found(rt: HostRuntime) -> Result<(), Fail> {
-    let mut store = OneBlock::new(rt.alloc());
-    let cid = Cid::of_block(Codec::DagPb, BLOCK);
-    assert!(rt; store.get(&cid)?.is_none());
-    assert_eq!(rt; store.keep(cid, BLOCK), Ok(()));
-    // The same digest under another codec, and another digest.
-    assert!(rt; store.get(&Cid::of_block(Codec::Raw, BLOCK))?.is_none());
-    assert!(rt; store.get(&Cid::of_block(Codec::DagPb, b""))?.is_none());
-    Ok(())
-}
-
-#[test]
-fn another_block_is_not_kept(rt: HostRuntime) -> Result<(), Fail> {
-    let mut store = OneBlock::new(rt.alloc());
-    let cid = Cid::of_block(Codec::DagPb, BLOCK);
-    let other = Cid::of_block(Codec::Raw, b"hello world");
-    assert_eq!(rt; store.keep(cid, BLOCK), Ok(()));
-    assert_eq!(rt;
-        store.keep(other, b"hello world"),
-        Err(KeepFault::OutOfMemory)
-    );
-    assert!(rt; store.get(&other)?.is_none());
-    assert_eq!(rt; store.get(&cid)?.ok_or("held")?.as_slice(), BLOCK);
     Ok(())
 }

@@ -3,9 +3,9 @@ use super::*;
 use std::alloc::Global;
 use std::process::Abort;
 use std::test::Fail;
+use tg_bytes::{Bytes, List};
 use tg_cid::{Cid, Codec};
 use tg_dagpb::{Link, Node};
-use tg_edges::{Bytes, List};
 use tg_model::{Query, Scope, SpanFrom, Step, reads, step};
 
 /// A link of a node: its name, where it leads, and its Tsize.
@@ -179,7 +179,8 @@ fn end_by_steps(
         return Ok(End::Whole);
     };
     let Some(block) = block_under(shelf, cid) else {
-        return Ok(End::Gone { cid });
+        let depth = 1_101u32.saturating_sub(depth);
+        return Ok(End::Gone { cid, depth });
     };
     if depth == 0 || level > 7 {
         return Err(Fail::from(EvaluationFault::TooDeep));

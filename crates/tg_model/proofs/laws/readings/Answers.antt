@@ -5,7 +5,7 @@ use Rattle.tg_model.proofs.laws.readings.Goals as goal
 pub returns-clause-one_kind : goal.returns-clause-one_kind
 returns-clause-one_kind c = one_kind (record {
   one_node = c.one_text.ensures.one_node;
-  one_unix = c.one_text-2.ensures.one_unix;
+  one_unix = c.one_data.ensures;
   one_cid = c.one_spelling.ensures.no_front;
 })
 

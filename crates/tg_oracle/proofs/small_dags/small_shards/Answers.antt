@@ -45,3 +45,11 @@ returns-clause-gone c = refl
 pub returns-clause-entity : goal.returns-clause-entity
 unfolding final_mix finished name_hash next_h1 next_h2 scrambled1 scrambled2 with_rest
 returns-clause-entity c = refl
+
+pub returns-clause-part_elsewhere : goal.returns-clause-part_elsewhere
+unfolding final_mix finished name_hash next_h1 next_h2 scrambled1 scrambled2 with_rest
+returns-clause-part_elsewhere c = refl
+
+pub returns-clause-part_stands : goal.returns-clause-part_stands
+unfolding final_mix finished name_hash next_h1 next_h2 scrambled1 scrambled2 with_rest
+returns-clause-part_stands c = refl

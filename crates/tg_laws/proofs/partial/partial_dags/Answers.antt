@@ -1,0 +1,11 @@
+use Rattle.tg_laws.proofs.PartialLaws.{followed, opened_is_checked, opened_or_pair}
+use Rattle.tg_laws.proofs.partial.partial_dags.Goals as goal
+
+pub returns-clause-opened : goal.returns-clause-opened
+returns-clause-opened c = opened_or_pair c.readings.ensures.one_kind
+
+pub returns-clause-checked : goal.returns-clause-checked
+returns-clause-checked c = opened_is_checked
+
+pub returns-clause-followed : goal.returns-clause-followed
+returns-clause-followed c = followed

@@ -1,0 +1,7 @@
+pub mod Depths
+pub mod Fronts
+pub mod Openings
+pub mod PartialDags
+pub mod Places
+pub mod Steps
+pub mod Stores
