@@ -1,3 +1,11 @@
 mod Readings
-mod Scanning
+mod Names
+mod Once
+mod Rules
+mod Rows
+mod Shapes
+mod Turns
+mod Walks
+mod Parses
+mod Matches
 mod Lines

@@ -1,44 +1,43 @@
 -- The answers to the lines of each command, and that words spell at most one.
-use Rattle.std.proofs.Common.{◌≡◌, ℕ, suc, zero, ◌<◌, ◌≤◌, ◌⊎◌, inl, inr, List, [], ◌∷◌, ◌++◌, length, map, codes, Ok, Err, refl, sym, ap, ◌∙◌, subst, arith}
-use Rattle.std.specs.Prelude.{Contains, Result, IfOk}
+use Rattle.std.proofs.Common.{◌≡◌, ℕ, ◌⊎◌, inl, inr, List, [], ◌∷◌, ◌++◌, length, codes, Ok, Err, Option, Some, None, Bor, true, false, refl, sym, ap, ◌∙◌, subst, arith}
+use Rattle.std.specs.Prelude.{Contains, Result, IfOk, MatchResult, find, option_and_then, ◌==◌}
+use Rattle.std.proofs.lemmas.Bool.Decides.{nat_tests}
+use Rattle.std.specs.Str.{bytes_eq}
 use Rattle.hex.specs.Hex.{decode_of}
 use Rattle.tg_cid.specs.Cid.{CidParts}
 use Rattle.tg_cid.specs.Spelling.{CidText, CidBytes}
-use Rattle.tg_words.specs.Words.{WordsSpelling}
-use Rattle.tg_words.specs.CommandLine.{CommandLine, OneCid}
-use Rattle.tg_words.specs.Operands.{Answers, Reading}
+use Rattle.tg_words.specs.Words.{Names, Given, Item, positional, valued, flag, ItemsSpelling, options_of, StandOnce, WordsSpelling}
+use Rattle.tg_words.specs.CommandLine.{CommandLine, Line, OneCidLine, no_names, cid_names}
+use Rattle.tg_words.specs.Operands.{Answers, OneCid, texts_of}
 use Rattle.tg_words.specs.declared.Command.{Command}
 use Rattle.tg_words.specs.declared.Command.TheVariants.{Check, Node, CidToHex, CidToText}
 use Rattle.tg_words.specs.declared.WordsFault.{WordsFault}
 use Rattle.tg_words.specs.declared.WordsFault.TheVariants.{Usage, OutOfMemory}
-use Rattle.tg_words.proofs.Readings.{begins, at_end, at_plain, at_assigned, at_named, nothing_only, end_only, moves_plain, moves_assigned, moves_named, one_name, no_name, reading_of}
+use Rattle.tg_words.proofs.Readings.{one_spelling_of_words}
+use Rattle.tg_words.proofs.Names.{are_by, none_of, at_first, later_too, first_or_later}
 
-abbrev pub hex_names : List (List ℕ)
-hex_names = codes "hex" ∷ []
-
-abbrev pub hex_options : List (List ℕ) → List (List ℕ × List ℕ)
-hex_options values = map (λ value. (codes "hex", value)) values
+-- the operands of a line
+the_line : (name : List ℕ) (names : Names) (rest texts_in : List (List ℕ)) (options : List Given) → Line name names (name ∷ rest) texts_in options → WordsSpelling names rest texts_in options
+the_line name names rest texts_in options line =
+    let all : name ∷ rest ≡ name ∷ line.rest = line.begins in
+    let same : line.rest ≡ rest = cc in
+    subst (λ ws. WordsSpelling names ws texts_in options) same line.operands
 
 -- `check` and `node`
 abbrev pub IsOneCid : (CidParts → Command) → List (List ℕ) → Command → Type 0
 IsOneCid make rest command = (cid : CidParts) × (command ≡ make cid) × OneCid rest cid
 
-the_rest : (name : List ℕ) (rest others : List (List ℕ)) (cid : CidParts) → name ∷ rest ≡ name ∷ others → OneCid others cid → OneCid rest cid
-the_rest name rest others cid all operands =
-    let same : others ≡ rest = cc in
-    subst (λ ws. OneCid ws cid) same operands
-
 pub check_line : (rest : List (List ℕ)) (command : Command) → CommandLine (codes "check" ∷ rest) command → IsOneCid Check rest command
-check_line rest (Check cid) line = (cid, refl, the_rest (codes "check") rest line.rest cid line.command line.operands)
-check_line rest (Node cid) line = let all : codes "check" ∷ rest ≡ codes "node" ∷ line.rest = line.command in absurd (cc)
-check_line rest (CidToHex cid) line = let all : codes "check" ∷ rest ≡ codes "cid" ∷ line.rest = line.command in absurd (cc)
-check_line rest (CidToText cid) line = let all : codes "check" ∷ rest ≡ codes "cid" ∷ line.rest = line.command in absurd (cc)
+check_line rest (Check cid) line = (cid, refl, record { text = line.text; operands = the_line (codes "check") no_names rest (line.text ∷ []) [] line.line; text_is = line.text_is })
+check_line rest (Node cid) line = let all : codes "check" ∷ rest ≡ codes "node" ∷ line.line.rest = line.line.begins in absurd (cc)
+check_line rest (CidToHex cid) line = let all : codes "check" ∷ rest ≡ codes "cid" ∷ line.line.rest = line.line.begins in absurd (cc)
+check_line rest (CidToText cid) line = let all : codes "check" ∷ rest ≡ codes "cid" ∷ line.line.rest = line.line.begins in absurd (cc)
 
 pub node_line : (rest : List (List ℕ)) (command : Command) → CommandLine (codes "node" ∷ rest) command → IsOneCid Node rest command
-node_line rest (Check cid) line = let all : codes "node" ∷ rest ≡ codes "check" ∷ line.rest = line.command in absurd (cc)
-node_line rest (Node cid) line = (cid, refl, the_rest (codes "node") rest line.rest cid line.command line.operands)
-node_line rest (CidToHex cid) line = let all : codes "node" ∷ rest ≡ codes "cid" ∷ line.rest = line.command in absurd (cc)
-node_line rest (CidToText cid) line = let all : codes "node" ∷ rest ≡ codes "cid" ∷ line.rest = line.command in absurd (cc)
+node_line rest (Check cid) line = let all : codes "node" ∷ rest ≡ codes "check" ∷ line.line.rest = line.line.begins in absurd (cc)
+node_line rest (Node cid) line = (cid, refl, record { text = line.text; operands = the_line (codes "node") no_names rest (line.text ∷ []) [] line.line; text_is = line.text_is })
+node_line rest (CidToHex cid) line = let all : codes "node" ∷ rest ≡ codes "cid" ∷ line.line.rest = line.line.begins in absurd (cc)
+node_line rest (CidToText cid) line = let all : codes "node" ∷ rest ≡ codes "cid" ∷ line.line.rest = line.line.begins in absurd (cc)
 
 abbrev pub ReadsOneCid : List ℕ → (CidParts → Command) → List (List ℕ) → Type 0
 ReadsOneCid name make rest = (command : Command) → CommandLine (name ∷ rest) command → IsOneCid make rest command
@@ -57,181 +56,223 @@ one_cid_ok name make rest cid reads line only = record {
   only = λ command other. let l = reads command other in ap make (only l.0 l.2) ∙ sym l.1;
 }
 
+-- each option of a command has one of the command's names, and a value where that name is one with a value
+abbrev pub IsKnown : Names → List ℕ → Option (List ℕ) → Type 0
+IsKnown names name (Some value) = Contains names.valued name
+IsKnown names name None = Contains names.flags name
+
+abbrev pub AreKnown : Names → List Given → Type 0
+AreKnown names options = (o : Given) → Contains options o → IsKnown names o.0 o.1
+
+known_by : (names : Names) (items : List Item) (front : List (List ℕ)) → ItemsSpelling names items front → AreKnown names (options_of items)
+known_by names [] front spelled = λ o among. absurd (none_of o among)
+known_by names (positional word ∷ items) front spelled = known_by names items spelled.1 spelled.4
+known_by names (valued name value ∷ items) front spelled =
+    let later_ones = known_by names items spelled.1 spelled.4 in
+    λ o among. elim (first_or_later (name, Some value) o (options_of items) among) [
+      | inl is ↦ subst (λ (g : Given). IsKnown names g.0 g.1) is spelled.3.0
+      | inr later ↦ later_ones o later
+    ]
+known_by names (flag name ∷ items) front spelled =
+    let later_ones = known_by names items spelled.1 spelled.4 in
+    λ o among. elim (first_or_later (name, None) o (options_of items) among) [
+      | inl is ↦ subst (λ (g : Given). IsKnown names g.0 g.1) is spelled.3.0
+      | inr later ↦ later_ones o later
+    ]
+
+known : (names : Names) (words texts_in : List (List ℕ)) (options : List Given) → WordsSpelling names words texts_in options → AreKnown names options
+known names words texts_in options s = subst (AreKnown names) (sym s.options_are) (known_by names s.items s.front s.spelled)
+
+-- a command without options has none
+no_options_by : (options : List Given) → AreKnown no_names options → options ≡ []
+no_options_by [] known = refl
+no_options_by ((name, Some value) ∷ options) known = absurd (none_of name (known (name, Some value) (at_first (name, Some value) (name, Some value) options refl)))
+no_options_by ((name, None) ∷ options) known = absurd (none_of name (known (name, None) (at_first (name, None) (name, None) options refl)))
+
+pub no_options : (words texts_in : List (List ℕ)) (options : List Given) → WordsSpelling no_names words texts_in options → WordsSpelling no_names words texts_in []
+no_options words texts_in options s = subst (λ o. WordsSpelling no_names words texts_in o) (no_options_by options (known no_names words texts_in options s)) s
+
 -- `cid`
+abbrev pub hex_option : List ℕ → Given
+hex_option digits = (codes "hex", Some digits)
+
+-- the options are those that the value of `--hex` tells
+abbrev pub HexIs : Option (List ℕ) → List Given → Type 0
+HexIs None options = options ≡ []
+HexIs (Some digits) options = options ≡ hex_option digits ∷ []
+
+abbrev pub hex_value : List Given → Option (List ℕ)
+hex_value options = option_and_then (λ (o : Given). o.1) (find (λ (o : Given). bytes_eq o.0 (codes "hex")) options)
+
+is_hex : (name : List ℕ) → Contains cid_names.valued name → codes "hex" ≡ name
+is_hex name among = elim (first_or_later (codes "hex") name [] among) [ inl is ↦ is | inr later ↦ absurd (none_of name later) ]
+
+hex_alone : (options : List Given) → StandOnce options → AreKnown cid_names options → HexIs (hex_value options) options
+hex_alone [] once known = refl
+hex_alone ((name, None) ∷ options) once known = absurd (none_of name (known (name, None) (at_first (name, None) (name, None) options refl)))
+hex_alone ((name, Some value) ∷ []) once known =
+    let is = is_hex name (known (name, Some value) (at_first (name, Some value) (name, Some value) [] refl)) in
+    subst (λ (n : List ℕ). HexIs (hex_value ((n, Some value) ∷ [])) ((n, Some value) ∷ [])) is refl
+hex_alone ((name, Some value) ∷ (other, None) ∷ options) once known =
+    absurd (none_of other (known (other, None) (later_too (name, Some value) (other, None) ((other, None) ∷ options) (at_first (other, None) (other, None) options refl))))
+hex_alone ((name, Some value) ∷ (other, Some second) ∷ options) once known =
+    let is = is_hex name (known (name, Some value) (at_first (name, Some value) (name, Some value) ((other, Some second) ∷ options) refl)) in
+    let also = is_hex other (known (other, Some second) (later_too (name, Some value) (other, Some second) ((other, Some second) ∷ options) (at_first (other, Some second) (other, Some second) options refl))) in
+    absurd (once 0 1 (name, Some value) (other, Some second) (omega arith) refl refl (sym is ∙ also))
+
+pub hex_is : (words texts_in : List (List ℕ)) (options : List Given) (value : Option (List ℕ)) → WordsSpelling cid_names words texts_in options
+    → value ≡ hex_value options → HexIs value options
+hex_is words texts_in options value s is =
+    subst (λ v. HexIs v options) (sym is) (hex_alone options s.once (known cid_names words texts_in options s))
+
 abbrev pub IsToHex : List (List ℕ) → Command → Type 0
-IsToHex rest command = (cid : CidParts) × (text : List ℕ) × (command ≡ CidToHex cid) × WordsSpelling hex_names rest (text ∷ []) [] × CidText cid text
+IsToHex rest command = (cid : CidParts) × (text : List ℕ) × (command ≡ CidToHex cid) × WordsSpelling cid_names rest (text ∷ []) [] × CidText cid text
 
 abbrev pub IsToText : List (List ℕ) → Command → Type 0
 IsToText rest command = (cid : CidParts) × (digits : List ℕ) × (bytes : List ℕ) × (command ≡ CidToText cid)
-    × WordsSpelling hex_names rest [] ((codes "hex", digits) ∷ []) × (decode_of digits ≡ Ok bytes) × CidBytes cid bytes
+    × WordsSpelling cid_names rest [] (hex_option digits ∷ []) × (decode_of digits ≡ Ok bytes) × CidBytes cid bytes
 
 pub cid_line : (rest : List (List ℕ)) (command : Command) → CommandLine (codes "cid" ∷ rest) command → IsToHex rest command ⊎ IsToText rest command
-cid_line rest (Check cid) line = let all : codes "cid" ∷ rest ≡ codes "check" ∷ line.rest = line.command in absurd (cc)
-cid_line rest (Node cid) line = let all : codes "cid" ∷ rest ≡ codes "node" ∷ line.rest = line.command in absurd (cc)
-cid_line rest (CidToHex cid) line =
-    let all : codes "cid" ∷ rest ≡ codes "cid" ∷ line.rest = line.command in
-    let same : line.rest ≡ rest = cc in
-    inl (cid, line.text, refl, subst (λ ws. WordsSpelling hex_names ws (line.text ∷ []) []) same line.operands, line.text_is)
+cid_line rest (Check cid) line = let all : codes "cid" ∷ rest ≡ codes "check" ∷ line.line.rest = line.line.begins in absurd (cc)
+cid_line rest (Node cid) line = let all : codes "cid" ∷ rest ≡ codes "node" ∷ line.line.rest = line.line.begins in absurd (cc)
+cid_line rest (CidToHex cid) line = inl (cid, line.text, refl, the_line (codes "cid") cid_names rest (line.text ∷ []) [] line.line, line.text_is)
 cid_line rest (CidToText cid) line =
-    let all : codes "cid" ∷ rest ≡ codes "cid" ∷ line.rest = line.command in
-    let same : line.rest ≡ rest = cc in
-    inr (cid, line.digits, line.bytes, refl, subst (λ ws. WordsSpelling hex_names ws [] ((codes "hex", line.digits) ∷ [])) same line.operands, line.digits_are, line.bytes_are)
+    inr (cid, line.digits, line.bytes, refl, the_line (codes "cid") cid_names rest [] (hex_option line.digits ∷ []) line.line, line.digits_are, line.bytes_are)
 
-no_value : (values : List (List ℕ)) → hex_options values ≡ [] → values ≡ []
-no_value [] e = refl
-no_value (value ∷ values) e = absurd (cc)
+-- the words are these operands, and no others
+pub record AreOperands (rest texts : List (List ℕ)) (options : List Given) : Type 0 where
+  pub spelled : WordsSpelling cid_names rest texts options
+  pub only : (texts_in : List (List ℕ)) (others : List Given) → WordsSpelling cid_names rest texts_in others → (texts ≡ texts_in) × (options ≡ others)
 
-one_value : (values : List (List ℕ)) (digits : List ℕ) → hex_options values ≡ (codes "hex", digits) ∷ [] → values ≡ digits ∷ []
-one_value [] digits e = absurd (cc)
-one_value (value ∷ []) digits e =
-    let pair = λ (v : List ℕ). let p : List ℕ × List ℕ = (codes "hex", v) in p in
-    let same : pair value ≡ pair digits = cc in
-    ap (λ (p : List ℕ × List ℕ). p.1 ∷ []) same
-one_value (value ∷ second ∷ values) digits e = absurd (cc)
+same_digits : (digits other : List ℕ) → hex_option digits ∷ [] ≡ hex_option other ∷ [] → digits ≡ other
+same_digits digits other e =
+    let values : hex_value (hex_option digits ∷ []) ≡ hex_value (hex_option other ∷ []) = ap hex_value e in
+    let somes : Some digits ≡ Some other = values in
+    cc
 
-abbrev pub OnlyThese : List (List ℕ) → List (List ℕ) → List (List ℕ) → Type 0
-OnlyThese rest texts values = (positional : List (List ℕ)) (options : List (List ℕ × List ℕ)) → WordsSpelling hex_names rest positional options
-    → length positional ≤ 1 → length options ≤ 1 → (texts ≡ positional) × (hex_options values ≡ options)
+no_digits : (digits : List ℕ) → [] ≡ hex_option digits ∷ [] → ⊥
+no_digits digits e = cc
 
-pub cid_err : (rest texts values : List (List ℕ)) (e : WordsFault) → OnlyThese rest texts values
-    → ((text : List ℕ) → texts ≡ text ∷ [] → values ≡ [] → (cid : CidParts) → CidText cid text → e ≡ OutOfMemory)
-    → ((digits : List ℕ) → texts ≡ [] → values ≡ digits ∷ [] → (cid : CidParts) (bytes : List ℕ) → decode_of digits ≡ Ok bytes → CidBytes cid bytes → e ≡ OutOfMemory)
+-- no memory for the operands
+pub cid_memory : (rest : List (List ℕ)) (e : WordsFault) → ((texts_in : List (List ℕ)) (options : List Given) → WordsSpelling cid_names rest texts_in options → e ≡ OutOfMemory)
     → Answers (codes "cid" ∷ rest) (Err e)
-cid_err rest texts values e only wants_text wants_hex = record {
+cid_memory rest e only = record {
+  found = tt;
+  only = λ command line. elim (cid_line rest command line) [ inl l ↦ only (l.1 ∷ []) [] l.3 | inr l ↦ only [] (hex_option l.1 ∷ []) l.4 ];
+}
+
+pub cid_err : (rest texts : List (List ℕ)) (options : List Given) (e : WordsFault) → AreOperands rest texts options
+    → ((text : List ℕ) → texts ≡ text ∷ [] → options ≡ [] → (cid : CidParts) → CidText cid text → e ≡ OutOfMemory)
+    → ((digits : List ℕ) → texts ≡ [] → options ≡ hex_option digits ∷ [] → (cid : CidParts) (bytes : List ℕ) → decode_of digits ≡ Ok bytes → CidBytes cid bytes → e ≡ OutOfMemory)
+    → Answers (codes "cid" ∷ rest) (Err e)
+cid_err rest texts options e are wants_text wants_hex = record {
   found = tt;
   only = λ command line. elim (cid_line rest command line) [
     | inl l ↦
-        let same = only (l.1 ∷ []) [] l.3 (omega arith) (omega arith) in
-        wants_text l.1 same.0 (no_value values same.1) l.0 l.4
+        let same = are.only (l.1 ∷ []) [] l.3 in
+        wants_text l.1 same.0 same.1 l.0 l.4
     | inr l ↦
-        let same = only [] ((codes "hex", l.1) ∷ []) l.4 (omega arith) (omega arith) in
-        wants_hex l.1 same.0 (one_value values l.1 same.1) l.0 l.2 l.5 l.6
+        let same = are.only [] (hex_option l.1 ∷ []) l.4 in
+        wants_hex l.1 same.0 same.1 l.0 l.2 l.5 l.6
   ];
 }
 
-pub cid_text_ok : (rest texts values : List (List ℕ)) (text : List ℕ) (cid : CidParts) → texts ≡ text ∷ [] → values ≡ []
-    → WordsSpelling hex_names rest texts (hex_options values) → OnlyThese rest texts values
+-- without `--hex`: the positional words aren't one, or the one is no text of a CID
+pub cid_no_text : (rest texts : List (List ℕ)) (options : List Given) (e : WordsFault) → AreOperands rest texts options → options ≡ []
+    → ((text : List ℕ) → texts ≡ text ∷ [] → (cid : CidParts) → CidText cid text → e ≡ OutOfMemory) → Answers (codes "cid" ∷ rest) (Err e)
+cid_no_text rest texts options e are none wants =
+    cid_err rest texts options e are (λ text is also cid spelled. wants text is cid spelled)
+    (λ digits is also cid bytes decoded spelled. absurd (no_digits digits (sym none ∙ also)))
+
+-- with `--hex`: there are positional words, or the digits aren't those of a CID
+pub cid_no_hex : (rest texts : List (List ℕ)) (options : List Given) (digits : List ℕ) (e : WordsFault) → AreOperands rest texts options → options ≡ hex_option digits ∷ []
+    → (texts ≡ [] → (cid : CidParts) (bytes : List ℕ) → decode_of digits ≡ Ok bytes → CidBytes cid bytes → e ≡ OutOfMemory) → Answers (codes "cid" ∷ rest) (Err e)
+cid_no_hex rest texts options digits e are one wants =
+    cid_err rest texts options e are (λ text is also cid spelled. absurd (no_digits digits (sym also ∙ one)))
+    (λ other is also cid bytes decoded spelled.
+    let same : other ≡ digits = same_digits other digits (sym also ∙ one) in
+    wants is cid bytes (subst (λ (d : List ℕ). decode_of d ≡ Ok bytes) same decoded) spelled)
+
+pub cid_text_ok : (rest texts : List (List ℕ)) (options : List Given) (text : List ℕ) (cid : CidParts) → AreOperands rest texts options → texts ≡ text ∷ [] → options ≡ []
     → CidText cid text → ((other : CidParts) → CidText other text → cid ≡ other)
     → Answers (codes "cid" ∷ rest) (Ok (CidToHex cid))
-cid_text_ok rest texts values text cid texts_are values_are spelled only text_is one = record {
+cid_text_ok rest texts options text cid are texts_are none text_is one = record {
   found = record {
-    rest = rest;
-    command = refl;
     text = text;
-    operands = subst (λ p. WordsSpelling hex_names rest p []) texts_are (subst (λ vs. WordsSpelling hex_names rest texts (hex_options vs)) values_are spelled);
+    line = record {
+      rest = rest;
+      begins = refl;
+      operands = subst (λ p. WordsSpelling cid_names rest p []) texts_are (subst (λ o. WordsSpelling cid_names rest texts o) none are.spelled);
+    };
     text_is = text_is;
   };
   only = λ command line. elim (cid_line rest command line) [
     | inl l ↦
-        let both : text ∷ [] ≡ l.1 ∷ [] = sym texts_are ∙ (only (l.1 ∷ []) [] l.3 (omega arith) (omega arith)).0 in
+        let both : text ∷ [] ≡ l.1 ∷ [] = sym texts_are ∙ (are.only (l.1 ∷ []) [] l.3).0 in
         let same : l.1 ≡ text = cc in
         ap CidToHex (one l.0 (subst (λ t. CidText l.0 t) same l.4)) ∙ sym l.2
-    | inr l ↦
-        let bad : text ∷ [] ≡ [] = sym texts_are ∙ (only [] ((codes "hex", l.1) ∷ []) l.4 (omega arith) (omega arith)).0 in
-        absurd (cc)
+    | inr l ↦ absurd (no_digits l.1 (sym none ∙ (are.only [] (hex_option l.1 ∷ []) l.4).1))
   ];
 }
 
-pub cid_hex_ok : (rest texts values : List (List ℕ)) (digits bytes : List ℕ) (cid : CidParts) → texts ≡ [] → values ≡ digits ∷ []
-    → WordsSpelling hex_names rest texts (hex_options values) → OnlyThese rest texts values
-    → decode_of digits ≡ Ok bytes → CidBytes cid bytes → ((other : CidParts) (spelling : List ℕ) → decode_of digits ≡ Ok spelling → CidBytes other spelling → cid ≡ other)
+pub cid_hex_ok : (rest texts : List (List ℕ)) (options : List Given) (digits bytes : List ℕ) (cid : CidParts) → AreOperands rest texts options → texts ≡ []
+    → options ≡ hex_option digits ∷ [] → decode_of digits ≡ Ok bytes → CidBytes cid bytes
+    → ((other : CidParts) (spelling : List ℕ) → decode_of digits ≡ Ok spelling → CidBytes other spelling → cid ≡ other)
     → Answers (codes "cid" ∷ rest) (Ok (CidToText cid))
-cid_hex_ok rest texts values digits bytes cid texts_are values_are spelled only digits_are bytes_are one = record {
+cid_hex_ok rest texts options digits bytes cid are texts_are options_are digits_are bytes_are one = record {
   found = record {
-    rest = rest;
-    command = refl;
     digits = digits;
-    operands = subst (λ p. WordsSpelling hex_names rest p ((codes "hex", digits) ∷ [])) texts_are (subst (λ vs. WordsSpelling hex_names rest texts (hex_options vs)) values_are spelled);
+    line = record {
+      rest = rest;
+      begins = refl;
+      operands = subst (λ p. WordsSpelling cid_names rest p (hex_option digits ∷ [])) texts_are (subst (λ o. WordsSpelling cid_names rest texts o) options_are are.spelled);
+    };
     bytes = bytes;
     digits_are = digits_are;
     bytes_are = bytes_are;
   };
   only = λ command line. elim (cid_line rest command line) [
-    | inl l ↦
-        let bad : l.1 ∷ [] ≡ [] = sym (only (l.1 ∷ []) [] l.3 (omega arith) (omega arith)).0 ∙ texts_are in
-        absurd (cc)
+    | inl l ↦ absurd (no_digits digits (sym (are.only (l.1 ∷ []) [] l.3).1 ∙ options_are))
     | inr l ↦
-        let both : digits ∷ [] ≡ l.1 ∷ [] = sym values_are ∙ one_value values l.1 (only [] ((codes "hex", l.1) ∷ []) l.4 (omega arith) (omega arith)).1 in
-        let same : l.1 ≡ digits = cc in
+        let same : l.1 ≡ digits = same_digits l.1 digits (sym (are.only [] (hex_option l.1 ∷ []) l.4).1 ∙ options_are) in
         ap CidToText (one l.0 l.2 (subst (λ (d : List ℕ). decode_of d ≡ Ok l.2) same l.5) l.6) ∙ sym l.3
   ];
 }
-
--- words have one reading, where at most one name is known
-one_by : (fuel : ℕ) (names words all more : List (List ℕ)) (every others : List (List ℕ × List ℕ))
-    → ((name : List ℕ) → Contains names name → names ≡ name ∷ []) → ((name : List ℕ) → Contains names name → 0 < length name)
-    → length words < fuel → Reading names words all every → Reading names words more others → (all ≡ more) × (every ≡ others)
-one_by zero names words all more every others known some enough r s = absurd (omega (arith, enough))
-one_by (suc fuel) names [] all more every others known some enough r s =
-    let p = nothing_only names all every r in
-    let q = nothing_only names more others s in
-    (p.0 ∙ sym q.0, p.1 ∙ sym q.1)
-one_by (suc fuel) names (word ∷ words) all more every others known some enough r s =
-    elim (begins names word words all every r) [
-      | at_end at all_is every_is ↦
-          let q = end_only names word words more others some at s in (all_is ∙ sym q.0, every_is ∙ sym q.1)
-      | at_plain later plain all_is reading ↦
-          let q = (moves_plain names word words plain).only more others s in
-          let t = one_by fuel names words later q.later every q.others known some (omega (arith, enough)) reading q.reading in
-          (all_is ∙ ap (λ ws. word ∷ ws) t.0 ∙ sym q.positional_is, t.1 ∙ sym q.options_are)
-      | at_assigned name value rest_options among at every_is reading ↦
-          let n = known name among in
-          let q = (moves_assigned name value word words at).only more others (subst (λ ns. Reading ns (word ∷ words) more others) n s) in
-          let t = one_by fuel names words all q.later rest_options q.others known some (omega (arith, enough)) reading (subst (λ ns. Reading ns words q.later q.others) (sym n) q.reading) in
-          (t.0 ∙ sym q.positional_is, every_is ∙ ap (λ os. (name, value) ∷ os) t.1 ∙ sym q.options_are)
-      | at_named name value rest rest_options among at words_are plain every_is reading ↦
-          let n = known name among in
-          let q = (moves_named name value word words rest (some name among) at words_are plain).only more others (subst (λ ns. Reading ns (word ∷ words) more others) n s) in
-          let t = one_by fuel names rest all q.later rest_options q.others known some (omega (arith, enough, ap length words_are)) reading (subst (λ ns. Reading ns rest q.later q.others) (sym n) q.reading) in
-          (t.0 ∙ sym q.positional_is, every_is ∙ ap (λ os. (name, value) ∷ os) t.1 ∙ sym q.options_are)
-    ]
-
-pub one_of_none : (words all more : List (List ℕ)) (every others : List (List ℕ × List ℕ)) → WordsSpelling [] words all every → WordsSpelling [] words more others → (all ≡ more) × (every ≡ others)
-one_of_none words all more every others r s =
-    one_by (suc (length words)) [] words all more every others (λ name among. absurd (no_name name among)) (λ name among. absurd (no_name name among)) (omega arith)
-    (reading_of [] words all every r) (reading_of [] words more others s)
-
-pub one_of_hex : (words all more : List (List ℕ)) (every others : List (List ℕ × List ℕ)) → WordsSpelling hex_names words all every → WordsSpelling hex_names words more others → (all ≡ more) × (every ≡ others)
-one_of_hex words all more every others r s =
-    one_by (suc (length words)) hex_names words all more every others
-    (λ name among. ap (λ n. n ∷ []) (sym (one_name (codes "hex") name among)))
-    (λ name among. subst (λ (n : List ℕ). 0 < length n) (sym (one_name (codes "hex") name among)) (omega arith))
-    (omega arith)
-    (reading_of hex_names words all every r) (reading_of hex_names words more others s)
 
 -- words are one CID at most
 pub same_cid : ((a b : CidParts) (text : List ℕ) → CidText a text → CidText b text → a ≡ b)
     → (words : List (List ℕ)) (a b : CidParts) → OneCid words a → OneCid words b → a ≡ b
 same_cid one_text words a b p q =
-    let both : p.text ∷ [] ≡ q.text ∷ [] = (one_of_none words (p.text ∷ []) (q.text ∷ []) [] [] p.operands q.operands).0 in
+    let both : p.text ∷ [] ≡ q.text ∷ [] = (one_spelling_of_words no_names words (p.text ∷ []) (q.text ∷ []) [] [] (are_by no_names refl) p.operands q.operands).0 in
     let same : q.text ≡ p.text = cc in
     one_text a b p.text p.text_is (subst (λ t. CidText b t) same q.text_is)
+
+one_of_cid : (words all more : List (List ℕ)) (every others : List Given) → WordsSpelling cid_names words all every → WordsSpelling cid_names words more others → (all ≡ more) × (every ≡ others)
+one_of_cid words all more every others r s = one_spelling_of_words cid_names words all more every others (are_by cid_names refl) r s
 
 -- words spell at most one command
 pub one_line : ((a b : CidParts) (text : List ℕ) → CidText a text → CidText b text → a ≡ b)
     → ((a b : CidParts) (u v x y : List ℕ) → CidBytes a u → CidBytes b v → u ++ x ≡ v ++ y → (u ≡ v) × (a ≡ b))
     → (words : List (List ℕ)) (a b : Command) → CommandLine words a → CommandLine words b → a ≡ b
 one_line one_cid no_front words (Check cid) b line other =
-    let l = check_line line.rest b (subst (λ ws. CommandLine ws b) line.command other) in
-    ap Check (same_cid one_cid line.rest cid l.0 line.operands l.2) ∙ sym l.1
+    let l = check_line line.line.rest b (subst (λ ws. CommandLine ws b) line.line.begins other) in
+    ap Check (same_cid one_cid line.line.rest cid l.0 (record { text = line.text; operands = line.line.operands; text_is = line.text_is }) l.2) ∙ sym l.1
 one_line one_cid no_front words (Node cid) b line other =
-    let l = node_line line.rest b (subst (λ ws. CommandLine ws b) line.command other) in
-    ap Node (same_cid one_cid line.rest cid l.0 line.operands l.2) ∙ sym l.1
+    let l = node_line line.line.rest b (subst (λ ws. CommandLine ws b) line.line.begins other) in
+    ap Node (same_cid one_cid line.line.rest cid l.0 (record { text = line.text; operands = line.line.operands; text_is = line.text_is }) l.2) ∙ sym l.1
 one_line one_cid no_front words (CidToHex cid) b line other =
-    elim (cid_line line.rest b (subst (λ ws. CommandLine ws b) line.command other)) [
+    elim (cid_line line.line.rest b (subst (λ ws. CommandLine ws b) line.line.begins other)) [
       | inl l ↦
-          let both : line.text ∷ [] ≡ l.1 ∷ [] = (one_of_hex line.rest (line.text ∷ []) (l.1 ∷ []) [] [] line.operands l.3).0 in
+          let both : line.text ∷ [] ≡ l.1 ∷ [] = (one_of_cid line.line.rest (line.text ∷ []) (l.1 ∷ []) [] [] line.line.operands l.3).0 in
           let same : l.1 ≡ line.text = cc in
           ap CidToHex (one_cid cid l.0 line.text line.text_is (subst (λ t. CidText l.0 t) same l.4)) ∙ sym l.2
-      | inr l ↦ absurd (let bad : line.text ∷ [] ≡ [] = (one_of_hex line.rest (line.text ∷ []) [] [] ((codes "hex", l.1) ∷ []) line.operands l.4).0 in cc)
+      | inr l ↦ absurd (no_digits l.1 (one_of_cid line.line.rest (line.text ∷ []) [] [] (hex_option l.1 ∷ []) line.line.operands l.4).1)
     ]
 one_line one_cid no_front words (CidToText cid) b line other =
-    elim (cid_line line.rest b (subst (λ ws. CommandLine ws b) line.command other)) [
-      | inl l ↦ absurd (let bad : [] ≡ l.1 ∷ [] = (one_of_hex line.rest [] (l.1 ∷ []) ((codes "hex", line.digits) ∷ []) [] line.operands l.3).0 in cc)
+    elim (cid_line line.line.rest b (subst (λ ws. CommandLine ws b) line.line.begins other)) [
+      | inl l ↦ absurd (no_digits line.digits (sym (one_of_cid line.line.rest [] (l.1 ∷ []) (hex_option line.digits ∷ []) [] line.line.operands l.3).1))
       | inr l ↦
-          let both : hex_options (line.digits ∷ []) ≡ (codes "hex", l.1) ∷ [] = (one_of_hex line.rest [] [] ((codes "hex", line.digits) ∷ []) ((codes "hex", l.1) ∷ []) line.operands l.4).1 in
-          let heads : line.digits ∷ [] ≡ l.1 ∷ [] = one_value (line.digits ∷ []) l.1 both in
-          let same : l.1 ≡ line.digits = cc in
+          let same : l.1 ≡ line.digits = sym (same_digits line.digits l.1 (one_of_cid line.line.rest [] [] (hex_option line.digits ∷ []) (hex_option l.1 ∷ []) line.line.operands l.4).1) in
           let found : Ok line.bytes ≡ Ok l.2 = sym line.digits_are ∙ subst (λ (d : List ℕ). decode_of d ≡ Ok l.2) same l.5 in
           let bytes : line.bytes ≡ l.2 = cc in
           ap CidToText (no_front cid l.0 line.bytes l.2 [] [] line.bytes_are l.6 (ap (λ bs. bs ++ []) bytes)).1 ∙ sym l.3
@@ -243,3 +284,42 @@ pub refused : (words : List (List ℕ)) (answer : Result Command WordsFault) →
 refused words (Ok command) found none = absurd (none command found)
 refused words (Err Usage) found none = inl refl
 refused words (Err OutOfMemory) found none = inr refl
+
+-- the line of one CID
+pub one_cid_line : (name : List ℕ) (rest : List (List ℕ)) (cid : CidParts) → OneCid rest cid → OneCidLine name (name ∷ rest) cid
+one_cid_line name rest cid p = record { text = p.text; line = record { rest = rest; begins = refl; operands = p.operands }; text_is = p.text_is }
+
+-- the answer to the operands of one CID
+abbrev OnlyThese : Names → List (List ℕ) → List (List ℕ) → List Given → Type 0
+OnlyThese names rest texts options =
+    (texts_in : List (List ℕ)) (others : List Given) → WordsSpelling names rest texts_in others → (texts ≡ texts_in) × (options ≡ others)
+
+pub one_cid_none : (rest texts : List (List ℕ)) (options : List Given) → OnlyThese no_names rest texts options → ((text : List ℕ) → texts ≡ text ∷ [] → ⊥)
+    → (cid : CidParts) → OneCid rest cid → ⊥
+one_cid_none rest texts options only none cid line = none line.text (only (line.text ∷ []) [] line.operands).0
+
+pub one_cid_found : (rest texts : List (List ℕ)) (options : List Given) (text : List ℕ) (answer : Result CidParts WordsFault) → WordsSpelling no_names rest texts options
+    → texts ≡ text ∷ [] → IfOk answer (λ cid. CidText cid text) → IfOk answer (λ cid. OneCid rest cid)
+one_cid_found rest texts options text (Err e) spelled is found = tt
+one_cid_found rest texts options text (Ok cid) spelled is found = record {
+  text = text;
+  operands = no_options rest (text ∷ []) options (subst (λ p. WordsSpelling no_names rest p options) is spelled);
+  text_is = found;
+}
+
+pub one_cid_only : (rest texts : List (List ℕ)) (options : List Given) (text : List ℕ) (answer : Result CidParts WordsFault) → OnlyThese no_names rest texts options
+    → texts ≡ text ∷ [] → ((cid : CidParts) → CidText cid text → MatchResult answer (λ found. found ≡ cid) (λ e. e ≡ OutOfMemory))
+    → (cid : CidParts) → OneCid rest cid → MatchResult answer (λ found. found ≡ cid) (λ e. e ≡ OutOfMemory)
+one_cid_only rest texts options text answer only is wants cid line =
+    let both : text ∷ [] ≡ line.text ∷ [] = sym is ∙ (only (line.text ∷ []) [] line.operands).0 in
+    let same : line.text ≡ text = cc in
+    wants cid (subst (λ t. CidText cid t) same line.text_is)
+
+-- whether there are positional words
+pub no_texts : (xs : List (Bor (List ℕ))) → (length xs == 0) ≡ true → texts_of xs ≡ []
+no_texts [] e = refl
+no_texts (x ∷ xs) e = absurd (grind (arith, nat_tests))
+
+pub some_texts : (xs : List (Bor (List ℕ))) → (length xs == 0) ≡ false → texts_of xs ≡ [] → ⊥
+some_texts [] e none = absurd (grind (arith, nat_tests))
+some_texts (x ∷ xs) e none = cc

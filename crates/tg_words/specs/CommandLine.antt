@@ -1,38 +1,41 @@
 -- The grammar of the command line: the commands with their positional words and options.
-use Rattle.std.specs.Prelude.{◌≡◌, ℕ, List, [], ◌∷◌, codes, Ok}
+use Rattle.std.specs.Prelude.{◌≡◌, ℕ, List, [], ◌∷◌, codes, Ok, Some}
 use Rattle.hex.specs.Hex.{decode_of}
 use Rattle.tg_cid.specs.Cid.{CidParts}
 use Rattle.tg_cid.specs.Spelling.{CidText, CidBytes}
 use Rattle.tg_words.specs.declared.Command.{Command}
 use Rattle.tg_words.specs.declared.Command.TheVariants.{Check, Node, CidToHex, CidToText}
-use Rattle.tg_words.specs.Words.{WordsSpelling}
+use Rattle.tg_words.specs.Words.{Names, Given, WordsSpelling}
 
--- the words are one CID and no options
-pub record OneCid (words : List (List ℕ)) (cid : CidParts) : Type 0 where
-  pub text : List ℕ
-  pub operands : WordsSpelling [] words (text ∷ []) []
-  pub text_is : CidText cid text
+-- the options of each command
+abbrev pub no_names : Names
+no_names = record { valued = []; flags = [] }
+
+abbrev pub cid_names : Names
+cid_names = record { valued = codes "hex" ∷ []; flags = [] }
+
+-- the words are the command's name, and behind it these positional words and these options
+pub record Line (command : List ℕ) (names : Names) (words positional : List (List ℕ)) (options : List Given) : Type 0 where
+  pub rest : List (List ℕ)
+  pub begins : words ≡ command ∷ rest
+  pub operands : WordsSpelling names rest positional options
 
 -- `check CID` and `node CID`: the command of this name
 pub record OneCidLine (name : List ℕ) (words : List (List ℕ)) (cid : CidParts) : Type 0 where
-  pub rest : List (List ℕ)
-  pub command : words ≡ name ∷ rest
-  pub operands : OneCid rest cid
+  pub text : List ℕ
+  pub line : Line name no_names words (text ∷ []) []
+  pub text_is : CidText cid text
 
 -- `cid CID`
 pub record CidLine (words : List (List ℕ)) (cid : CidParts) : Type 0 where
-  pub rest : List (List ℕ)
-  pub command : words ≡ codes "cid" ∷ rest
   pub text : List ℕ
-  pub operands : WordsSpelling (codes "hex" ∷ []) rest (text ∷ []) []
+  pub line : Line (codes "cid") cid_names words (text ∷ []) []
   pub text_is : CidText cid text
 
 -- `cid --hex HEX`: an even number of hexadecimal digits of either case
 pub record CidHexLine (words : List (List ℕ)) (cid : CidParts) : Type 0 where
-  pub rest : List (List ℕ)
-  pub command : words ≡ codes "cid" ∷ rest
   pub digits : List ℕ
-  pub operands : WordsSpelling (codes "hex" ∷ []) rest [] ((codes "hex", digits) ∷ [])
+  pub line : Line (codes "cid") cid_names words [] ((codes "hex", Some digits) ∷ [])
   pub bytes : List ℕ
   pub digits_are : decode_of digits ≡ Ok bytes
   pub bytes_are : CidBytes cid bytes

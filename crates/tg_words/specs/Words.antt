@@ -1,10 +1,30 @@
 -- How the words behind a command are positional words and options. A word is a list of bytes.
-use Rattle.std.specs.Prelude.{◌≡◌, ◌≢◌, ℕ, ◌<◌, ◌⊎◌, List, [], ◌∷◌, ◌++◌, Bool, false, ◌==◌, Contains, codes, slice_get, Some}
+use Rattle.std.specs.Prelude.{◌≡◌, ◌≢◌, ℕ, ◌<◌, ◌⊎◌, List, [], ◌∷◌, ◌++◌, Bool, false, not, ◌&&◌, ◌==◌, nat_lt, length, Contains, codes, slice_get, Option, Some, None}
+use Rattle.std.specs.List.{list_all, list_any}
+use Rattle.std.specs.Str.{bytes_eq}
 
--- one item of a command line: a positional word, or an option with its value
+-- the names of a command's options: of those with a value, and of those without one
+pub record Names : Type 0 where
+  pub valued : List (List ℕ)
+  pub flags : List (List ℕ)
+
+-- a name isn't empty and has no `=` in it, and no name is one of both
+abbrev pub is_name : List ℕ → Bool
+is_name name = nat_lt 0 (length name) && not (list_any (λ letter. letter == 61) name)
+
+abbrev pub are_names : Names → Bool
+are_names names = list_all is_name names.valued && (list_all is_name names.flags
+    && list_all (λ flag. not (list_any (λ name. bytes_eq name flag) names.valued)) names.flags)
+
+-- an option that stands in the words, and its value if it has one
+abbrev pub Given : Type 0
+Given = List ℕ × Option (List ℕ)
+
+-- one item of a command line: a positional word, an option with its value, or an option without one
 pub data Item : Type 0 where
   positional : List ℕ → Item
-  option : List ℕ → List ℕ → Item
+  valued : List ℕ → List ℕ → Item
+  flag : List ℕ → Item
 
 abbrev pub begins_with_dash : List ℕ → Bool
 begins_with_dash [] = false
@@ -14,17 +34,19 @@ begins_with_dash (letter ∷ letters) = letter == 45
 abbrev pub IsPlain : List ℕ → Type 0
 IsPlain word = (word ≡ 45 ∷ []) ⊎ (begins_with_dash word ≡ false)
 
--- the words spell the item: a plain word; `--name=VALUE`; or `--name` and a plain word. The name is one of the command's.
-pub record OptionSpelling (names : List (List ℕ)) (name value : List ℕ) (words : List (List ℕ)) : Type 0 where
-  pub known : Contains names name
-  pub spelled : (words ≡ (codes "--" ++ (name ++ (codes "=" ++ value))) ∷ []) ⊎ ((words ≡ (codes "--" ++ name) ∷ value ∷ []) × IsPlain value)
+-- the words spell an option with a value: `--name=VALUE`; or `--name` and a plain word
+abbrev pub ValuedSpelling : List ℕ → List ℕ → List (List ℕ) → Type 0
+ValuedSpelling name value words =
+    (words ≡ (codes "--" ++ (name ++ (codes "=" ++ value))) ∷ []) ⊎ ((words ≡ (codes "--" ++ name) ∷ value ∷ []) × IsPlain value)
 
-abbrev pub ItemSpelling : List (List ℕ) → Item → List (List ℕ) → Type 0
+-- the words spell the item: a plain word; an option with a value; or `--name` alone. The name is one of the command's.
+abbrev pub ItemSpelling : Names → Item → List (List ℕ) → Type 0
 ItemSpelling names (positional word) words = (words ≡ word ∷ []) × IsPlain word
-ItemSpelling names (option name value) words = OptionSpelling names name value words
+ItemSpelling names (valued name value) words = Contains names.valued name × ValuedSpelling name value words
+ItemSpelling names (flag name) words = Contains names.flags name × (words ≡ (codes "--" ++ name) ∷ [])
 
 -- the words are the spellings of the items, one after another
-abbrev pub ItemsSpelling : List (List ℕ) → List Item → List (List ℕ) → Type 0
+abbrev pub ItemsSpelling : Names → List Item → List (List ℕ) → Type 0
 ItemsSpelling names [] words = words ≡ []
 ItemsSpelling names (item ∷ items) words =
     (front : List (List ℕ)) × (rest : List (List ℕ)) × (words ≡ front ++ rest) × ItemSpelling names item front × ItemsSpelling names items rest
@@ -33,23 +55,25 @@ ItemsSpelling names (item ∷ items) words =
 abbrev pub positionals_of : List Item → List (List ℕ)
 positionals_of [] = []
 positionals_of (positional word ∷ items) = word ∷ positionals_of items
-positionals_of (option name value ∷ items) = positionals_of items
+positionals_of (valued name value ∷ items) = positionals_of items
+positionals_of (flag name ∷ items) = positionals_of items
 
-abbrev pub options_of : List Item → List (List ℕ × List ℕ)
+abbrev pub options_of : List Item → List Given
 options_of [] = []
 options_of (positional word ∷ items) = options_of items
-options_of (option name value ∷ items) = (name, value) ∷ options_of items
+options_of (valued name value ∷ items) = (name, Some value) ∷ options_of items
+options_of (flag name ∷ items) = (name, None) ∷ options_of items
 
 -- the words after the first `--` are positional, whatever they begin with
 abbrev pub IsEnd : List (List ℕ) → List (List ℕ) → Type 0
 IsEnd rest late = ((rest ≡ []) × (late ≡ [])) ⊎ (rest ≡ codes "--" ∷ late)
 
 -- each option stands at most once
-abbrev pub StandOnce : List (List ℕ × List ℕ) → Type 0
-StandOnce options = (i j : ℕ) (a b : List ℕ × List ℕ) → i < j → slice_get options i ≡ Some a → slice_get options j ≡ Some b → a.0 ≢ b.0
+abbrev pub StandOnce : List Given → Type 0
+StandOnce options = (i j : ℕ) (a b : Given) → i < j → slice_get options i ≡ Some a → slice_get options j ≡ Some b → a.0 ≢ b.0
 
 -- the words are these positional words and these options, of the names that a command has
-pub record WordsSpelling (names words positional : List (List ℕ)) (options : List (List ℕ × List ℕ)) : Type 0 where
+pub record WordsSpelling (names : Names) (words positional : List (List ℕ)) (options : List Given) : Type 0 where
   pub items : List Item
   pub front : List (List ℕ)
   pub rest : List (List ℕ)

@@ -1,4 +1,5 @@
 use super::*;
+use operands::Operands;
 use std::alloc::AllocError;
 use std::test::Fail;
 
@@ -56,7 +57,7 @@ fn answer(wanted: Wanted, cid: Cid) -> Result<Command, WordsFault> {
 
 #[test]
 fn lines(rt: HostRuntime) -> Result<(), Fail> {
-    let lines: [(&[&str], Wanted); 44] = [
+    let lines: [(&[&str], Wanted); 47] = [
         (&["check", TEXT], Wanted::Check),
         (&["check", "--", TEXT], Wanted::Check),
         (&["check", TEXT, "--"], Wanted::Check),
@@ -76,6 +77,9 @@ fn lines(rt: HostRuntime) -> Result<(), Fail> {
         (&[], Wanted::Usage),
         (&[""], Wanted::Usage),
         (&["help"], Wanted::Usage),
+        (&["import", "folder", "pack"], Wanted::Usage),
+        (&["audit", "--seed", "1", "--files", "3"], Wanted::Usage),
+        (&["fetch", "--raw", "a:1", TEXT], Wanted::Usage),
         (&["--help"], Wanted::Usage),
         (&["version"], Wanted::Usage),
         (&["--", "check", TEXT], Wanted::Usage),
@@ -106,6 +110,80 @@ fn lines(rt: HostRuntime) -> Result<(), Fail> {
         let words = words_of(rt.alloc(), line)?;
         let expected = answer(wanted, Cid::from_bytes(&BYTES)?);
         assert_eq!(rt; read(rt.alloc(), words.as_slice()), expected);
+    }
+    Ok(())
+}
+
+// The words that the operands are written as: the positional words, then each option's name and its value, or `*`.
+fn written<'a>(alloc: Global, found: &Operands<'a>) -> Result<Vec<&'a str>, AllocError> {
+    let mut all = Vec::new(alloc);
+    for word in found.positional.as_slice() {
+        all.push(*word)?;
+    }
+    for option in found.options.as_slice() {
+        all.push(option.name)?;
+        all.push(option.value.unwrap_or("*"))?;
+    }
+    Ok(all)
+}
+
+#[test]
+fn operands_of_many_options(rt: HostRuntime) -> Result<(), Fail> {
+    let names = OptionNames {
+        valued: &["chunk", "width", "shard"],
+        flags: &["raw"],
+    };
+    let lines: [(&[&str], Option<&[&str]>); 30] = [
+        (&[], Some(&[])),
+        (&["a", "b"], Some(&["a", "b"])),
+        (&["a", "--chunk", "4", "b"], Some(&["a", "b", "chunk", "4"])),
+        (&["--chunk=4", "a", "b"], Some(&["a", "b", "chunk", "4"])),
+        (
+            &["a", "b", "--width=2", "--chunk", "4"],
+            Some(&["a", "b", "width", "2", "chunk", "4"]),
+        ),
+        (
+            &["--shard", "0", "a", "--raw", "b", "--chunk="],
+            Some(&["a", "b", "shard", "0", "raw", "*", "chunk", ""]),
+        ),
+        (&["--raw", "a"], Some(&["a", "raw", "*"])),
+        (&["-", "--chunk", "-"], Some(&["-", "chunk", "-"])),
+        (&["--chunk=-3:*", ""], Some(&["", "chunk", "-3:*"])),
+        (&["--chunk=a=b"], Some(&["chunk", "a=b"])),
+        (&["--chunk", "a=b"], Some(&["chunk", "a=b"])),
+        (&["--chunk=--width"], Some(&["chunk", "--width"])),
+        (
+            &["a", "--", "--chunk=4", "--", "-x"],
+            Some(&["a", "--chunk=4", "--", "-x"]),
+        ),
+        (&["--raw", "--"], Some(&["raw", "*"])),
+        (&["--", "--raw"], Some(&["--raw"])),
+        (&["--chunk", "-3:*"], None),
+        (&["--chunk", "--", "4"], None),
+        (&["--chunk", "--width", "4"], None),
+        (&["--chunk"], None),
+        (&["--chunk=4", "--chunk=4"], None),
+        (&["--chunk=4", "a", "--chunk", "5"], None),
+        (&["--raw", "--raw"], None),
+        (&["--raw="], None),
+        (&["--raw=yes"], None),
+        (&["--chun=4"], None),
+        (&["--chunks=4"], None),
+        (&["--=4"], None),
+        (&["---"], None),
+        (&["-c", "4"], None),
+        (&["--help"], None),
+    ];
+    for (line, wanted) in lines {
+        let words = words_of(rt.alloc(), line)?;
+        match (operands_of(rt.alloc(), words.as_slice(), names), wanted) {
+            (Ok(found), Some(wanted)) => assert_eq!(rt;
+                written(rt.alloc(), &found)?.as_slice(),
+                wanted
+            ),
+            (Err(fault), None) => assert_eq!(rt; fault, WordsFault::Usage),
+            _ => assert!(rt; false),
+        }
     }
     Ok(())
 }

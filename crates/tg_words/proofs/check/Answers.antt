@@ -1,7 +1,7 @@
-use Rattle.std.proofs.Common.{map, string_bytes, codes, Global, refl}
+use Rattle.std.proofs.Common.{map, string_bytes, codes, Global}
 use Rattle.std.proofs.lemmas.Result.{err_from_is_err_and}
 use Rattle.tg_words.specs.declared.Command.TheVariants.{Check}
-use Rattle.tg_words.proofs.Lines.{check_line, one_cid_err, one_cid_ok}
+use Rattle.tg_words.proofs.Lines.{check_line, one_cid_err, one_cid_line, one_cid_ok}
 use Rattle.tg_words.proofs.check.Goals as goal
 
 pub returns-in_err-one_cid : goal.returns-in_err-one_cid
@@ -14,5 +14,5 @@ pub returns : goal.returns
 returns c =
     let rest = map (string_bytes {Z = Global}) c.args.words.now in
     one_cid_ok (codes "check") Check rest c.in_ok-one_cid.field-0 (check_line rest)
-    (record { rest = rest; command = refl; operands = c.in_ok-one_cid.ensures.found })
+    (one_cid_line (codes "check") rest c.in_ok-one_cid.field-0 c.in_ok-one_cid.ensures.found)
     (λ cid operands. c.in_ok-one_cid.ensures.only cid operands)

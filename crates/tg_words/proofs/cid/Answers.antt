@@ -1,56 +1,67 @@
-use Rattle.std.proofs.Common.{◌≡◌, ℕ, List, [], ◌∷◌, Ok, sym, ap, subst, ◌∙◌}
+use Rattle.std.proofs.Common.{◌≡◌, [], ◌∷◌, Some, None, sym, ap, subst, ◌∙◌}
+use Rattle.std.specs.Prelude.{option_map}
 use Rattle.std.proofs.lemmas.Result.{err_from_is_err_and}
-use Rattle.hex.specs.Hex.{decode_of}
 use Rattle.tg_cid.specs.Spelling.{CidText}
-use Rattle.tg_words.specs.Operands.{texts_of}
-use Rattle.tg_words.proofs.Lines.{cid_err, cid_text_ok, cid_hex_ok}
+use Rattle.tg_words.specs.Operands.{texts_of, givens}
+use Rattle.tg_words.proofs.Lines.{cid_memory, cid_no_text, cid_no_hex, cid_text_ok, cid_hex_ok, hex_is, hex_value, no_texts, some_texts}
 use Rattle.tg_words.proofs.cid.Goals as goal
 
-pub returns-in_err-cid_of_text-in-Some-None : goal.returns-in_err-cid_of_text-in-Some-None
-returns-in_err-cid_of_text-in-Some-None c =
+pub returns-in_err-found : goal.returns-in_err-found
+returns-in_err-found c =
     let p = err_from_is_err_and c.from_residual.result c.from_residual.ensures.1 in
-    let here : texts_of c.in-Some.found.positional ≡ c.in-Some-None.text.now ∷ [] = ap texts_of c.in-Some-None.is-0 in
+    rw (p.1, p.2) (cid_memory _ _ (λ texts options s. c.in_err-found.ensures.only texts options s))
+
+pub returns-in_default : goal.returns-in_default
+returns-in_default c =
+    let none = hex_is _ _ (givens c.in_ok-found.found.options.items) None c.in_ok-found.ensures.found
+    (sym (ap (option_map (λ v. v.now)) c.in-None.is) ∙ c.value_of.ensures ∙ ap (λ xs. hex_value (givens xs)) c.as_slice.ensures.value) in
+    cid_no_text _ (texts_of c.in_ok-found.found.positional.items) _ _ (record { spelled = c.in_ok-found.ensures.found; only = c.in_ok-found.ensures.only }) none
+    (λ text is cid spelled. absurd (c.in_default.ensures.none text (ap texts_of c.as_slice-in-None.ensures.value ∙ is)))
+
+pub returns-in_err-cid_of_text-in-None : goal.returns-in_err-cid_of_text-in-None
+returns-in_err-cid_of_text-in-None c =
+    let p = err_from_is_err_and c.from_residual-in_err-cid_of_text-in-None.result c.from_residual-in_err-cid_of_text-in-None.ensures.1 in
+    let none = hex_is _ _ (givens c.in_ok-found.found.options.items) None c.in_ok-found.ensures.found
+    (sym (ap (option_map (λ v. v.now)) c.in-None.is) ∙ c.value_of.ensures ∙ ap (λ xs. hex_value (givens xs)) c.as_slice.ensures.value) in
+    let here : texts_of c.in_ok-found.found.positional.items ≡ c.in-Some-one_word.text.now ∷ [] = ap texts_of (sym c.as_slice-in-None.ensures.value) ∙ c.in-Some-one_word.ensures.some in
     rw (p.1, p.2)
-    (cid_err _ (texts_of c.in-Some.found.positional) (texts_of c.in-Some.found.value) _ c.in-Some.ensures.only
-    (λ text is none cid spelled.
-    let both : text ∷ [] ≡ c.in-Some-None.text.now ∷ [] = sym is ∙ here in
-    let same : text ≡ c.in-Some-None.text.now = cc in
-    c.in_err-cid_of_text-in-Some-None.ensures.only cid (subst (λ (t : List ℕ). CidText cid t) same spelled))
-    (λ digits is one cid bytes decoded spelled. absurd (let bad : [] ≡ c.in-Some-None.text.now ∷ [] = sym is ∙ here in cc)))
+    (cid_no_text _ (texts_of c.in_ok-found.found.positional.items) _ _ (record { spelled = c.in_ok-found.ensures.found; only = c.in_ok-found.ensures.only }) none
+    (λ text is cid spelled.
+    let both : text ∷ [] ≡ c.in-Some-one_word.text.now ∷ [] = sym is ∙ here in
+    let same : text ≡ c.in-Some-one_word.text.now = cc in
+    c.in_err-cid_of_text-in-None.ensures.only cid (subst (λ t. CidText cid t) same spelled)))
 
-pub returns-in_err-cid_of_hex-in-None-Some : goal.returns-in_err-cid_of_hex-in-None-Some
-returns-in_err-cid_of_hex-in-None-Some c =
-    let p = err_from_is_err_and c.from_residual-in_err-cid_of_hex-in-None-Some.result c.from_residual-in_err-cid_of_hex-in-None-Some.ensures.1 in
-    let here : texts_of c.in-Some.found.value ≡ c.in-None-Some.digits.now ∷ [] = ap texts_of c.in-None-Some.is-1 in
+pub returns-in-None : goal.returns-in-None
+returns-in-None c =
+    let none = hex_is _ _ (givens c.in_ok-found.found.options.items) None c.in_ok-found.ensures.found
+    (sym (ap (option_map (λ v. v.now)) c.in-None.is) ∙ c.value_of.ensures ∙ ap (λ xs. hex_value (givens xs)) c.as_slice.ensures.value) in
+    cid_text_ok _ (texts_of c.in_ok-found.found.positional.items) _ c.in-Some-one_word.text.now c.in_ok-cid_of_text-in-None.field-0
+    (record { spelled = c.in_ok-found.ensures.found; only = c.in_ok-found.ensures.only })
+    (ap texts_of (sym c.as_slice-in-None.ensures.value) ∙ c.in-Some-one_word.ensures.some) none
+    c.in_ok-cid_of_text-in-None.ensures.found c.in_ok-cid_of_text-in-None.ensures.only
+
+pub returns-then-not-is_empty : goal.returns-then-not-is_empty
+returns-then-not-is_empty c =
+    let one = hex_is _ _ (givens c.in_ok-found.found.options.items) (Some c.in-Some.digits.now) c.in_ok-found.ensures.found
+    (sym (ap (option_map (λ v. v.now)) c.in-Some.is) ∙ c.value_of.ensures ∙ ap (λ xs. hex_value (givens xs)) c.as_slice.ensures.value) in
+    cid_no_hex _ (texts_of c.in_ok-found.found.positional.items) _ c.in-Some.digits.now _ (record { spelled = c.in_ok-found.ensures.found; only = c.in_ok-found.ensures.only }) one
+    (λ none cid bytes decoded spelled. absurd (some_texts c.as_slice-in-Some.result.now (sym c.is_empty.ensures ∙ c.if-not-is_empty.true) (ap texts_of c.as_slice-in-Some.ensures.value ∙ none)))
+
+pub returns-in_err-cid_of_hex-in-Some : goal.returns-in_err-cid_of_hex-in-Some
+returns-in_err-cid_of_hex-in-Some c =
+    let p = err_from_is_err_and c.from_residual-in_err-cid_of_hex-in-Some.result c.from_residual-in_err-cid_of_hex-in-Some.ensures.1 in
+    let one = hex_is _ _ (givens c.in_ok-found.found.options.items) (Some c.in-Some.digits.now) c.in_ok-found.ensures.found
+    (sym (ap (option_map (λ v. v.now)) c.in-Some.is) ∙ c.value_of.ensures ∙ ap (λ xs. hex_value (givens xs)) c.as_slice.ensures.value) in
     rw (p.1, p.2)
-    (cid_err _ (texts_of c.in-Some.found.positional) (texts_of c.in-Some.found.value) _ c.in-Some.ensures.only
-    (λ text is none cid spelled. absurd (let bad : [] ≡ c.in-None-Some.digits.now ∷ [] = sym none ∙ here in cc))
-    (λ digits is one cid bytes decoded spelled.
-    let both : digits ∷ [] ≡ c.in-None-Some.digits.now ∷ [] = sym one ∙ here in
-    let same : digits ≡ c.in-None-Some.digits.now = cc in
-    c.in_err-cid_of_hex-in-None-Some.ensures.only cid bytes (subst (λ (d : List ℕ). decode_of d ≡ Ok bytes) same decoded) spelled))
+    (cid_no_hex _ (texts_of c.in_ok-found.found.positional.items) _ c.in-Some.digits.now _ (record { spelled = c.in_ok-found.ensures.found; only = c.in_ok-found.ensures.only }) one
+    (λ none cid bytes decoded spelled. c.in_err-cid_of_hex-in-Some.ensures.only cid bytes decoded spelled))
 
-pub returns-in_ok-cid_of_text-in-Some-None : goal.returns-in_ok-cid_of_text-in-Some-None
-returns-in_ok-cid_of_text-in-Some-None c =
-    cid_text_ok _ (texts_of c.in-Some.found.positional) (texts_of c.in-Some.found.value) c.in-Some-None.text.now c.in_ok-cid_of_text-in-Some-None.field-0
-    (ap texts_of c.in-Some-None.is-0) (ap texts_of c.in-Some-None.is-1) c.in-Some.ensures.found c.in-Some.ensures.only
-    c.in_ok-cid_of_text-in-Some-None.ensures.found c.in_ok-cid_of_text-in-Some-None.ensures.only
-
-pub returns-in_ok-cid_of_hex-in-None-Some : goal.returns-in_ok-cid_of_hex-in-None-Some
-returns-in_ok-cid_of_hex-in-None-Some c =
-    let found = c.in_ok-cid_of_hex-in-None-Some.ensures.found in
-    cid_hex_ok _ (texts_of c.in-Some.found.positional) (texts_of c.in-Some.found.value) c.in-None-Some.digits.now found.0 c.in_ok-cid_of_hex-in-None-Some.field-0
-    (ap texts_of c.in-None-Some.is-0) (ap texts_of c.in-None-Some.is-1) c.in-Some.ensures.found c.in-Some.ensures.only
-    found.1 found.2 c.in_ok-cid_of_hex-in-None-Some.ensures.only
-
-pub returns-in-None-None : goal.returns-in-None-None
-returns-in-None-None c =
-    cid_err _ (texts_of c.in-Some.found.positional) (texts_of c.in-Some.found.value) _ c.in-Some.ensures.only
-    (λ text is none cid spelled. absurd (let bad : text ∷ [] ≡ [] = sym is ∙ ap texts_of c.in-None-None.is-0 in cc))
-    (λ digits is one cid bytes decoded spelled. absurd (let bad : digits ∷ [] ≡ [] = sym one ∙ ap texts_of c.in-None-None.is-1 in cc))
-
-pub returns-in-Some-Some : goal.returns-in-Some-Some
-returns-in-Some-Some c =
-    cid_err _ (texts_of c.in-Some.found.positional) (texts_of c.in-Some.found.value) _ c.in-Some.ensures.only
-    (λ text is none cid spelled. absurd (let bad : [] ≡ c.in-Some-Some.field-0-1.now ∷ [] = sym none ∙ ap texts_of c.in-Some-Some.is-1 in cc))
-    (λ digits is one cid bytes decoded spelled. absurd (let bad : [] ≡ c.in-Some-Some.field-0-0.now ∷ [] = sym is ∙ ap texts_of c.in-Some-Some.is-0 in cc))
+pub returns : goal.returns
+returns c =
+    let one = hex_is _ _ (givens c.in_ok-found.found.options.items) (Some c.in-Some.digits.now) c.in_ok-found.ensures.found
+    (sym (ap (option_map (λ v. v.now)) c.in-Some.is) ∙ c.value_of.ensures ∙ ap (λ xs. hex_value (givens xs)) c.as_slice.ensures.value) in
+    let found = c.in_ok-cid_of_hex-in-Some.ensures.found in
+    cid_hex_ok _ (texts_of c.in_ok-found.found.positional.items) _ c.in-Some.digits.now found.0 c.in_ok-cid_of_hex-in-Some.field-0
+    (record { spelled = c.in_ok-found.ensures.found; only = c.in_ok-found.ensures.only })
+    (ap texts_of (sym c.as_slice-in-Some.ensures.value) ∙ no_texts c.as_slice-in-Some.result.now (sym c.is_empty.ensures ∙ c.if-not-is_empty.false)) one
+    found.1 found.2 c.in_ok-cid_of_hex-in-Some.ensures.only

@@ -1,0 +1,161 @@
+//! Words as positional words and options, for a command whose options have these names.
+
+ghost use Rattle.std.specs.Prelude.{◌≡◌, ◌≢◌, ℕ, List, [], ◌∷◌, map, string_bytes, option_map, option_and_then, IfOk, IfSome, IfNone, IsTrue, MatchResult, find};
+ghost use Rattle.std.specs.Str.{bytes_eq};
+ghost use Rattle.clap.specs.Words.{app_of, found_of, rows_of};
+ghost use Rattle.tg_words.specs.Operands.{given, givens, names_of, texts_of};
+ghost use Rattle.tg_words.specs.Parsing.{app_for, option_at, option_rule, options_in, positional_in, with_rules};
+ghost use Rattle.tg_words.specs.Words.{Given, WordsSpelling, are_names};
+
+use crate::WordsFault;
+use clap::parser::ValueSource;
+use clap::{Arg, ArgAction, ArgMatches, Command};
+use std::alloc::{AllocError, Global};
+
+/// The id of the positional words, which is no name of an option.
+const POSITIONAL: &str = "";
+
+/// The names of a command's options: of those with a value, and of those without one.
+#[derive(Clone, Copy)]
+pub struct OptionNames<'a> {
+    pub valued: &'a [&'a str],
+    pub flags: &'a [&'a str],
+}
+
+/// An option that stands in words, and its value if it has one.
+#[derive(Clone, Copy)]
+pub struct GivenOption<'a> {
+    pub name: &'a str,
+    pub value: Option<&'a str>,
+}
+
+/// The positional words and the options of words, each in order.
+#[derive(Drop)]
+pub struct Operands<'a> {
+    pub positional: Vec<&'a str>,
+    pub options: Vec<GivenOption<'a>>,
+}
+
+/// The positional words and the options that words spell, where the command has options of these names.
+///
+/// An option stands anywhere, at most once, as `--name=VALUE`, as `--name VALUE` or, where it has no value, as `--name`;
+/// `--` ends the options. Errors: `Usage` where the words aren't of this form, `OutOfMemory` for want of memory alone.
+pub fn operands_of<'a>(
+    alloc: Global,
+    words: &'a [String],
+    names: OptionNames<'a>,
+) -> Result<Operands<'a>, WordsFault>
+    requires { IsTrue (are_names (names_of names)) }
+    ensures found { IfOk result (λ found. WordsSpelling (names_of names.entry) (map string_bytes words.now)
+        (texts_of found.positional.items) (givens found.options.items)) }
+    ensures only { (positional : List (List ℕ)) (options : List Given)
+        → WordsSpelling (names_of names.entry) (map string_bytes words.now) positional options
+        → MatchResult result (λ found. (texts_of found.positional.items ≡ positional) × (givens found.options.items ≡ options))
+        (λ e. e ≡ WordsFault.OutOfMemory) }
+{
+    let command = command_of(alloc, names)?;
+    let matches = command.try_get_matches_from(words)?;
+    Ok(operands_in(alloc, &matches, names)?)
+}
+
+/// The command whose arguments are positional words of any number and the options of these names.
+fn command_of<'a>(alloc: Global, names: OptionNames<'a>) -> Result<Command<'a>, AllocError>
+    ensures { IfOk result (λ command. app_of command ≡ app_for (names_of names.entry)) }
+{
+    let positional = Arg::new(alloc, POSITIONAL).action(ArgAction::Append);
+    let command = Command::new(alloc, POSITIONAL)
+        .no_binary_name(true)
+        .disable_help_flag(true)
+        .disable_version_flag(true)
+        .arg(positional)?;
+    let command = with_options(alloc, command, names.valued, ArgAction::Set)?;
+    with_options(alloc, command, names.flags, ArgAction::SetTrue)
+}
+
+/// The command with an option of each of these names, of which a use does this.
+fn with_options<'a>(
+    alloc: Global,
+    mut command: Command<'a>,
+    names: &'a [&'a str],
+    action: ArgAction,
+) -> Result<Command<'a>, AllocError>
+    ensures { IfOk result (λ all. app_of all ≡ with_rules (app_of command.entry) (map (option_rule action) (texts_of names.now))) }
+{
+    for name in names {
+        let option = Arg::new(alloc, name).long(name).action(action);
+        command = command.arg(option)?;
+    }
+    Ok(command)
+}
+
+/// The operands that a parse found.
+fn operands_in<'a>(
+    alloc: Global,
+    matches: &ArgMatches<'a>,
+    names: OptionNames<'a>,
+) -> Result<Operands<'a>, AllocError>
+    ensures { IfOk result (λ found. (texts_of found.positional.items ≡ positional_in (rows_of (found_of matches.now)))
+        × (givens found.options.items ≡ options_in (texts_of names.entry.flags.now) (rows_of (found_of matches.now)))) }
+{
+    let mut found = Operands {
+        positional: Vec::new(alloc),
+        options: Vec::new(alloc),
+    };
+    if let Some(words) = matches.get_strs(POSITIONAL) {
+        found.positional.extend_from_slice(words)?;
+    }
+    for name in matches.ids() {
+        if let Some(option) = option_in(matches, name, names) {
+            found.options.push(option)?;
+        }
+    }
+    Ok(found)
+}
+
+/// The option of this name that a parse found among the words.
+fn option_in<'a>(
+    matches: &ArgMatches<'a>,
+    name: &'a str,
+    names: OptionNames<'a>,
+) -> Option<GivenOption<'a>>
+    ensures { option_map given result ≡ option_at (texts_of names.entry.flags.now) (rows_of (found_of matches.now)) name.now }
+{
+    if name == POSITIONAL || matches.value_source(name) != Some(ValueSource::CommandLine) {
+        return None;
+    }
+    let value = if names.flags.contains(&name) {
+        None
+    } else {
+        matches.get_str(name)
+    };
+    Some(GivenOption { name, value })
+}
+
+/// The word that stands alone.
+pub fn one_word<'a>(words: &[&'a str]) -> Option<&'a str>
+    ensures some { IfSome result (λ word. texts_of words.now ≡ word.now ∷ []) }
+    ensures none { IfNone result ((word : List ℕ) → texts_of words.now ≢ word ∷ []) }
+{
+    let (word, rest) = words.split_first()?;
+    if rest.is_empty() { Some(*word) } else { None }
+}
+
+/// The value of the first option of this name, where one stands and has a value.
+pub fn value_of<'a>(options: &[GivenOption<'a>], name: &str) -> Option<&'a str>
+    ensures { option_map (λ value. value.now) result
+        ≡ option_and_then (λ option. option.1) (find (λ option. bytes_eq option.0 name.now) (givens options.now)) }
+{
+    find_option(options, name)?.value
+}
+
+/// The first option of this name.
+fn find_option<'a>(options: &[GivenOption<'a>], name: &str) -> Option<GivenOption<'a>>
+    ensures { option_map given result ≡ find (λ option. bytes_eq option.0 name.now) (givens options.now) }
+{
+    for option in options {
+        if option.name == name {
+            return Some(*option);
+        }
+    }
+    None
+}
