@@ -1,4 +1,1 @@
-mod Fronts
-mod Arms
-mod NodeLines
-mod Statuses
+mod Endings

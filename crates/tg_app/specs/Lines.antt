@@ -1,16 +1,23 @@
--- The exit status of a refusal, and its line on err.
-use Rattle.std.specs.Prelude.{ℕ, List, [], ◌∷◌, ◌++◌, codes, Option, Some, None}
-use Rattle.tg_app.specs.Streams.{Output, Unput, PutOrFront}
+-- How a command ends: done, or refused; its exit status, and its line on err.
+use Rattle.std.specs.Prelude.{ℕ, List, [], ◌∷◌, ◌++◌, codes, Option, Some, None, Result, Ok, Err}
+use Rattle.tg_ascii.specs.Ascii.{line_feed}
+use Rattle.tg_streams.specs.Streams.{Output, Put, PutFront, PutOrFront, OutputQuiet}
+use Rattle.tg_app.specs.Blocks.{OutputUntouched}
 use Rattle.tg_words.specs.declared.WordsFault.{WordsFault}
 use Rattle.tg_words.specs.declared.WordsFault.TheVariants as words
-use Rattle.tg_app.specs.declared.node.NodeFault.{NodeFault}
-use Rattle.tg_app.specs.declared.node.NodeFault.TheVariants.{BadNode, BadLink, BadUnix}
+use Rattle.tg_node.specs.declared.fault.NodeFault.{NodeFault}
+use Rattle.tg_node.specs.declared.fault.NodeFault.TheVariants.{BadNode, BadLink, BadUnix}
 use Rattle.tg_app.specs.declared.refusal.Refusal.{Refusal}
 use Rattle.tg_app.specs.declared.refusal.Refusal.TheVariants.{Usage, BadDigest, BadBlock, BlockLimit, InputFault, SinkFault, OutOfMemory}
 
 abbrev pub refusal_of : WordsFault → Refusal
 refusal_of words.Usage = Usage
 refusal_of words.OutOfMemory = OutOfMemory
+
+-- the end of a command by its answer: none is a refusal where it is done
+abbrev pub end_of : {T : Type 0} → Result T Refusal → Option Refusal
+end_of (Ok done) = None
+end_of (Err refusal) = Some refusal
 
 abbrev pub status_of : Refusal → ℕ
 status_of Usage = 2
@@ -39,13 +46,24 @@ word_of OutOfMemory = codes "OutOfMemory"
 
 -- the line: the program's name, the word with its detail, a line feed
 abbrev pub line_of : Refusal → List ℕ
-line_of refusal = codes "tgate: " ++ (word_of refusal ++ 10 ∷ [])
+line_of refusal = codes "tgate: " ++ (word_of refusal ++ line_feed ∷ [])
 
--- the exit status of a command's end, and what it says on err
+-- the exit status of an end, and what it says on err
 abbrev pub exit_status : Option Refusal → ℕ
 exit_status None = 0
 exit_status (Some refusal) = status_of refusal
 
 abbrev pub Says : Option Refusal → Output → Type 0
-Says None err = Unput err
+Says None err = OutputUntouched err
 Says (Some refusal) err = PutOrFront (line_of refusal) err
+
+-- these bytes were put, and no fault was counted
+pub record PutAll (bytes : List ℕ) (out : Output) : Type 0 where
+  pub put : Put bytes out
+  pub quiet : OutputQuiet out
+
+-- how it ends to put a text: all of it went to out, or out failed after a front of it
+abbrev pub PutEnds : List ℕ → Output → Option Refusal → Type 0
+PutEnds text out None = PutAll text out
+PutEnds text out (Some SinkFault) = PutFront text out
+PutEnds text out (Some other) = ⊥

@@ -1,12 +1,13 @@
 //! Why a command ends before it is done, with the status and the line on err that say so.
 ghost use Rattle.std.specs.Prelude.{◌≡◌, OnOk, OnErr};
-ghost use Rattle.tg_app.specs.Lines.{cause_of};
-ghost use Rattle.tg_app.specs.Streams.{output_of, Put, PutFront};
+ghost use Rattle.tg_streams.specs.Streams.{Put, PutFront, into};
+ghost use Rattle.tg_app.specs.Lines.{PutEnds, cause_of, end_of};
 
-use crate::node::NodeFault;
-use crate::streams::put_pieces;
 use std::alloc::AllocError;
-use tg_edges::{Bytes, Failed, Sink};
+use tg_bytes::Bytes;
+use tg_faults::Failed;
+use tg_node::NodeFault;
+use tg_streams::{Sink, put_all, put_pieces};
 use tg_words::WordsFault;
 use thiserror::Error;
 
@@ -80,10 +81,8 @@ impl Refusal {
     /// Puts the line that says why. The error is a fault of the sink, which then holds a front of the line. It takes no
     /// memory.
     pub fn report<E: Sink>(&self, err: &mut E) -> Result<(), Failed>
-        ensures put { OnOk result (Put (line_of self.now)
-            (output_of E.wrote E.held E.faults err.old err.new)) }
-        ensures front { OnErr result (PutFront (line_of self.now)
-            (output_of E.wrote E.held E.faults err.old err.new)) }
+        ensures put { OnOk result (Put (line_of self.now) (into E.sink err.old err.new)) }
+        ensures front { OnErr result (PutFront (line_of self.now) (into E.sink err.old err.new)) }
     {
         let (word, cid, behind): (&[u8], &[u8], &[u8]) = match self {
             Refusal::Usage => (b"usage", b"", b""),
@@ -106,5 +105,15 @@ fn cause(fault: &NodeFault) -> &[u8]
         NodeFault::BadNode => b" BadNode",
         NodeFault::BadLink => b" BadLink",
         NodeFault::BadUnix => b" BadUnix",
+    }
+}
+
+/// Puts the text, and refuses where out fails.
+pub fn put_text<O: Sink>(out: &mut O, text: &[u8]) -> Result<(), Refusal>
+    ensures { PutEnds text.now (into O.sink out.old out.new) (end_of result) }
+{
+    match put_all(out, text) {
+        Ok(()) => Ok(()),
+        Err(_) => Err(Refusal::SinkFault),
     }
 }

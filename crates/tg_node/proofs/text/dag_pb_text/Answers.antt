@@ -1,0 +1,22 @@
+use Rattle.std.proofs.Common.{[], inl, inr}
+use Rattle.std.proofs.lemmas.Result.{err_from_is_err_and}
+use Rattle.tg_cid.specs.declared.cid.Codec.TheVariants.{DagPb}
+use Rattle.tg_cid.specs.declared.cid.HashKind.TheVariants.{Sha256}
+use Rattle.tg_node.proofs.NodeLines.{node_err, exact_lines}
+use Rattle.tg_node.proofs.text.dag_pb_text.Goals as goal
+
+pub returns-in_err-node : goal.returns-in_err-node
+returns-in_err-node c =
+    let p = err_from_is_err_and c.from_residual.result c.from_residual.ensures.1 in
+    rw (p.1, p.2) (node_err c.args.block.now c.in_err-node.field-0.0 c.in_err-node.ensures.only c.in_err-node.ensures.cause)
+
+pub returns : goal.returns
+returns c =
+    exact_lines c.args.block.now c.in_ok-node.node c.lines_of.result
+    (record {
+      text_is = c.in_ok-node.ensures.found;
+      only = c.in_ok-node.ensures.only;
+      good = λ fault cause. elim (c.in_ok-node.ensures.given fault cause) [ inl e ↦ absurd (cc) | inr e ↦ absurd (cc) ];
+    })
+    (λ a b p q. c.one_node_text.ensures (record { version = 1; codec = DagPb; hash = Sha256; digest = [] }) c.args.block.now a b p q)
+    c.lines_of.ensures
