@@ -1,0 +1,11 @@
+mod Lines
+mod Behind
+mod Steps
+mod LineSteps
+mod TrailerSteps
+mod ChunkLines
+mod Standing
+mod Advancing
+mod Divisions
+mod Breaks
+mod Determined

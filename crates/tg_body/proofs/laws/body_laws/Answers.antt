@@ -1,0 +1,5 @@
+use Rattle.tg_body.proofs.Determined.{none_missed, end_given, one_division, one_refusal}
+use Rattle.tg_body.proofs.laws.body_laws.Goals as goal
+
+pub returns : goal.returns
+returns c = record { none_missed = none_missed; end_given = end_given; one_division = one_division; one_refusal = one_refusal }

@@ -1,0 +1,5 @@
+pub mod Bodies
+pub mod History
+pub mod State
+pub mod Steps
+pub mod Laws

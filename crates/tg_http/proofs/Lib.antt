@@ -1,0 +1,10 @@
+mod Lines
+mod Heads
+mod Cuts
+mod Unique
+mod Grammar
+mod Values
+mod Digits
+mod Answering
+mod Hex
+mod Longer

@@ -1,0 +1,99 @@
+-- What the head of a request or of a reply is, and why bytes have none (RFC 9112, sections 2 to 6).
+use Rattle.std.specs.Prelude.{◌≡◌, ◌↔◌, ℕ, ◌<◌, ◌≤◌, ◌⊎◌, List, [], ◌++◌, map, length, codes, IsFalse, Option, MatchOption}
+use Rattle.httparse.specs.Grammar.{RequestHead as RequestTree, ResponseHead as ReplyTree, ReadsRequest, ReadsResponse, status_code}
+use Rattle.httparse.specs.Spans.{name_and_value}
+use Rattle.tg_http.specs.declared.fault.HttpFault.{HttpFault}
+use Rattle.tg_http.specs.declared.fault.HttpFault.TheVariants as faults
+use Rattle.tg_http.specs.declared.request.RequestHead.{RequestHead}
+use Rattle.tg_http.specs.declared.reply.ReplyHead.{ReplyHead}
+use Rattle.tg_http.specs.HeadText.{BeginsHead, HasNoHead}
+use Rattle.tg_http.specs.Fields.{values, closes, first, coding_of}
+use Rattle.tg_http.specs.Framing.{IsFramingOf, HasNoBody}
+
+-- no head text is whole yet, and there are too few bytes to say that none will be
+pub record IsWaiting (bytes : List ℕ) : Type 0 where
+  pub none : HasNoHead bytes
+  pub short : length bytes < 16384
+
+-- what is told of a request of this many bytes with these parts, its fields given by names and values
+pub record TellsParts (used : ℕ) (method target : List ℕ) (minor : ℕ) (fields : List (List ℕ × List ℕ)) (head : RequestHead) : Type 0 where
+  pub used_is : head.used ≡ used
+  pub method_is : head.method ≡ method
+  pub target_is : head.target ≡ target
+  pub minor_is : head.minor ≡ minor
+  pub accept_is : head.accept ≡ values (codes "accept") fields
+  pub close_is : head.close ≡ closes fields
+  pub framed_is : IsFalse head.framed ↔ HasNoBody fields
+
+-- the same of a reply
+pub record TellsReplyParts (used status : ℕ) (fields : List (List ℕ × List ℕ)) (head : ReplyHead) : Type 0 where
+  pub used_is : head.used ≡ used
+  pub status_is : head.status ≡ status
+  pub kind_is : head.kind ≡ first (values (codes "content-type") fields)
+  pub coding_is : head.coding ≡ coding_of (values (codes "content-encoding") fields)
+  pub framing_is : IsFramingOf fields head.framing
+
+abbrev pub TellsRequest : RequestTree → ℕ → RequestHead → Type 0
+TellsRequest tree used head = TellsParts used tree.method tree.target tree.minor (map name_and_value tree.fields) head
+
+abbrev pub TellsReply : ReplyTree → ℕ → ReplyHead → Type 0
+TellsReply tree used head = TellsReplyParts used (status_code tree) (map name_and_value tree.fields) head
+
+-- The bytes begin with a head text of at most 64 fields, which is this head of the grammar.
+pub record IsRequest (bytes text : List ℕ) (tree : RequestTree) : Type 0 where
+  pub count : ℕ
+  pub begins : BeginsHead bytes text count
+  pub few : count ≤ 64
+  pub reads : ReadsRequest text tree []
+
+pub record IsReply (bytes text : List ℕ) (tree : ReplyTree) : Type 0 where
+  pub count : ℕ
+  pub begins : BeginsHead bytes text count
+  pub few : count ≤ 64
+  pub reads : ReadsResponse text tree []
+
+-- what a reader of heads that refused nothing tells
+abbrev pub FindsRequest : List ℕ → Option RequestHead → Type 0
+FindsRequest bytes told =
+    MatchOption told (IsWaiting bytes)
+    (λ head. (text : List ℕ) × (tree : RequestTree) × IsRequest bytes text tree × TellsRequest tree (length text) head)
+
+abbrev pub FindsReply : List ℕ → Option ReplyHead → Type 0
+FindsReply bytes told =
+    MatchOption told (IsWaiting bytes)
+    (λ head. (text : List ℕ) × (tree : ReplyTree) × IsReply bytes text tree × TellsReply tree (length text) head)
+
+-- the first 16,384 bytes hold no whole head text, or the head text has more than 64 fields
+abbrev pub PassesLimit : List ℕ → Type 0
+PassesLimit bytes =
+    ((16384 ≤ length bytes) × HasNoHead bytes) ⊎ ((text : List ℕ) × (count : ℕ) × BeginsHead bytes text count × (64 < count))
+
+-- the bytes begin with a head text within the limits, of which this holds
+abbrev pub HasWholeText : (List ℕ → Type 0) → List ℕ → Type 0
+HasWholeText P bytes = (text : List ℕ) × (count : ℕ) × BeginsHead bytes text count × (count ≤ 64) × P text
+
+-- the text is no head of the grammar
+abbrev pub IsNoRequest : List ℕ → Type 0
+IsNoRequest text = (tree : RequestTree) → ReadsRequest text tree [] → ⊥
+
+abbrev pub IsNoReply : List ℕ → Type 0
+IsNoReply text = (tree : ReplyTree) → ReadsResponse text tree [] → ⊥
+
+-- the cause of each refusal of a head but want of memory
+abbrev pub HasHeadCause : (List ℕ → Type 0) → List ℕ → HttpFault → Type 0
+HasHeadCause none bytes faults.HeadLimit = PassesLimit bytes
+HasHeadCause none bytes faults.BadHead = HasWholeText none bytes
+HasHeadCause none bytes faults.BadFraming = ⊥
+HasHeadCause none bytes faults.OutOfMemory = ⊥
+
+-- what the front of bytes says of a request stays true whatever comes behind them
+abbrev pub RequestStays : Type 0
+RequestStays =
+    ((bytes more text : List ℕ) (tree : RequestTree) → IsRequest bytes text tree → IsRequest (bytes ++ more) text tree)
+    × ((bytes more : List ℕ) (fault : HttpFault) → HasHeadCause IsNoRequest bytes fault → HasHeadCause IsNoRequest (bytes ++ more) fault)
+
+-- the same of a reply
+abbrev pub ReplyStays : Type 0
+ReplyStays =
+    ((bytes more text : List ℕ) (tree : ReplyTree) → IsReply bytes text tree → IsReply (bytes ++ more) text tree)
+    × ((bytes more : List ℕ) (fault : HttpFault) → HasHeadCause IsNoReply bytes fault → HasHeadCause IsNoReply (bytes ++ more) fault)

@@ -1,0 +1,5 @@
+pub mod HeadText
+pub mod Fields
+pub mod Framing
+pub mod Heads
+pub mod Chunks

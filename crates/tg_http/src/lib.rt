@@ -1,0 +1,22 @@
+//! HTTP/1.1 heads read from bytes, the framing that they state, and the lines before chunks.
+#![tactic(auto)]
+
+mod chunk;
+mod fault;
+mod fields;
+mod framing;
+mod head_text;
+mod laws;
+mod reply;
+mod request;
+
+pub use chunk::chunk_head;
+pub use fault::HttpFault;
+pub use framing::Framing;
+pub use head_text::{MAX_FIELDS, MAX_TEXT, is_empty_line, line_length};
+pub use laws::longer_bytes;
+pub use reply::{ReplyHead, read_reply};
+pub use request::{RequestHead, read_request};
+
+#[cfg(test)]
+mod tests;
