@@ -1,7 +1,9 @@
 #!/usr/bin/env bash
 # The name hash over 1 MB of bytes beside a copy of the same memory, in MB/s and as a ratio; and the scan of protobuf
-# texts of 12,500 to 50,000 fields, whose speed stays the same as the text grows; and the reader of CARs over 256 MB beside
-# a copy of the same memory; and 200 MB of a file read through a pack by offsets, with the most memory that takes, beside cat.
+# texts of 12,500 to 50,000 fields, whose speed stays the same as the text grows; DAG-PB nodes of 1,024 links read without
+# memory; the readers of CARs and of HTTP bodies over 256 MB beside a copy of the same memory, that of CARs also beside `cp`
+# of a file of as many bytes; and 200 MB of a file read through a pack by offsets, with the most memory that takes, beside
+# cat.
 set -u
 cd "$(dirname "$0")/.." || exit 1
 command -v rt >/dev/null 2>&1 || { echo "skipped: no rt"; exit 0; }
@@ -14,13 +16,31 @@ program=$PWD/crates/tg_bench/out/tg_bench
     { print }
     END { printf "name hash / copy of the memory: %.2f of its speed\n", hash / copy }'
 "$program" table
-"$program" car | awk '
+"$program" node
+made=$(mktemp -d) || exit 1
+trap 'rm -rf "$made"' EXIT
+head -c 268435456 /dev/zero >"$made/car"
+cp "$made/car" "$made/copy"
+began=$(date +%s%N)
+cp "$made/car" "$made/copy"
+ended=$(date +%s%N)
+"$program" car | awk -v nanos=$((ended - began)) '
     /^reader/ { car = $5 }
     /^copy/ { copy = $2 }
     { print }
-    END { printf "reader of a CAR / copy of the memory: %.2f of its speed\n", car / copy }'
-made=$(mktemp -d) || exit 1
-trap 'rm -rf "$made"' EXIT
+    END {
+        cp = 268435456 * 1000 / nanos
+        printf "cp %d MB/s\n", cp
+        printf "reader of a CAR / copy of the memory: %.2f of its speed\n", car / copy
+        printf "reader of a CAR / cp: %.2f of its speed\n", car / cp
+    }'
+rm -f "$made/car" "$made/copy"
+"$program" body | awk '
+    /^body of a length/ { stated = $5 }
+    /^body in chunks/ { chunked = $4 }
+    /^copy/ { copy = $2 }
+    { print }
+    END { printf "body of a length, in chunks / copy of the memory: %.2f, %.2f of its speed\n", stated / copy, chunked / copy }'
 head -c 200000000 /dev/zero >"$made/pack"
 "$program" pack "$made/pack"
 seconds() { "$@" >/dev/null; }

@@ -56,7 +56,7 @@ fn feed_all(reader: &mut CarReader, bytes: &[u8]) -> usize {
             let Ok((taken, event)) = reader.feed(rest) else {
                 return given;
             };
-            if let Event::Section(section) = event {
+            if let Event::Section { section, .. } = event {
                 given = given.saturating_add(section.block.as_slice().len());
             }
             rest = &rest[taken..];

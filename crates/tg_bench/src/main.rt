@@ -1,9 +1,11 @@
-//! Speeds of parts that no command shows on their own: `tg_bench name-hash`, `tg_bench table`, `tg_bench car` and
-//! `tg_bench pack FILE`. Without a word it does nothing, as `rt ci` runs it.
+//! Speeds of parts that no command shows on their own: `tg_bench name-hash`, `tg_bench table`, `tg_bench node`,
+//! `tg_bench body`, `tg_bench car` and `tg_bench pack FILE`. Without a word it does nothing, as `rt ci` runs it.
 #![tactic(auto)]
 
+mod body;
 mod car;
 mod name_hash;
+mod node;
 mod pack;
 mod table;
 
@@ -18,6 +20,8 @@ fn main(rt: HostRuntime) -> io::Result<()> {
     match word.as_str() {
         "name-hash" => name_hash::run(&rt),
         "table" => table::run(&rt),
+        "node" => node::run(&rt),
+        "body" => body::run(&rt),
         "car" => car::run(&rt),
         "pack" => match words.next() {
             Some(path) => pack::run(&rt, path.as_str()),
