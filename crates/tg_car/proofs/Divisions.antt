@@ -3,7 +3,7 @@ use Rattle.std.proofs.Common.{◌≡◌, ℕ, ◌<◌, ◌≤◌, List, [], ◌�
 use Rattle.std.proofs.lemmas.Bool.{cases_lt}
 use Rattle.std.proofs.lemmas.List.{append_assoc, append-nil, append_cancel_left, length-append, length_push}
 use Rattle.std.proofs.lemmas.List.Elements.{All-head, All-tail}
-use Rattle.tg_varint.specs.Laws.{SpellingLaws}
+use Rattle.tg_car.specs.TextLaws.{TextLaws}
 use Rattle.tg_cid.specs.Cid.{CidParts}
 use Rattle.tg_car.specs.declared.section.Section.{Section}
 use Rattle.tg_car.specs.declared.fault.CarFault.{CarFault}
@@ -21,11 +21,11 @@ use Rattle.tg_car.proofs.Openings.{nothing_in_head}
 use Rattle.tg_car.proofs.Parts.{head_inside}
 use Rattle.tg_car.proofs.Sections.{section_head, section_whole, Onward, onward, none_inside, push_section, same_placed}
 
-pub same_header : SpellingLaws → (a b : List (List ℕ)) (u v x y : List ℕ) → HeaderText a u → HeaderText b v → u ++ x ≡ v ++ y → (u ≡ v) × (a ≡ b)
-same_header laws = one_header laws.no_front
+pub same_header : TextLaws → (a b : List (List ℕ)) (u v x y : List ℕ) → HeaderText a u → HeaderText b v → u ++ x ≡ v ++ y → (u ≡ v) × (a ≡ b)
+same_header laws = one_header laws.varints.no_front
 
 -- no whole header stands at the front of bytes inside a header
-pub none_in_header : SpellingLaws → (roots : List (List ℕ)) (u x r : List ℕ) → HeaderText roots u → u ++ x ≡ r → IsInHeader r → ⊥
+pub none_in_header : TextLaws → (roots : List (List ℕ)) (u x r : List ℕ) → HeaderText roots u → u ++ x ≡ r → IsInHeader r → ⊥
 none_in_header laws roots u x r text e inside =
     let whole : u ++ (x ++ inside.more) ≡ (r ++ inside.more) ++ [] =
     sym (append_assoc u x inside.more) ∙ (ap (λ (l : List ℕ). l ++ inside.more) e ∙ sym (append-nil (r ++ inside.more))) in
@@ -36,7 +36,7 @@ none_in_header laws roots u x r text e inside =
     omega (arith, length-append u x, length-append r inside.more)
 
 -- where a header goes on and none does with one more byte, no CAR does
-pub no_car_in_header : SpellingLaws → (a : List ℕ) (b : ℕ) → IsInHeader a → ((roots : List (List ℕ)) (rest : List ℕ) → HeaderText roots (a ++ b ∷ rest) → ⊥)
+pub no_car_in_header : TextLaws → (a : List ℕ) (b : ℕ) → IsInHeader a → ((roots : List (List ℕ)) (rest : List ℕ) → HeaderText roots (a ++ b ∷ rest) → ⊥)
     → IsCarFront (a ++ b ∷ []) → ⊥
 no_car_in_header laws a b inside none front =
     let car = front.3 in
@@ -52,11 +52,11 @@ no_car_in_header laws a b inside none front =
           none_in_header laws front.0 car.header l.middle a car.header_is (sym l.first) inside
     ]
 
-nothing_inside : SpellingLaws → IsInSection []
+nothing_inside : TextLaws → IsInSection []
 nothing_inside laws = head_inside [] (nothing_in_head laws [] refl)
 
 -- the sections of two readings, of which the one goes on to bytes inside a section
-pub going_on : SpellingLaws → (limit : ℕ) (roots : List (List ℕ)) (header d r : List ℕ) (ss ts : List Section) (front more q : List ℕ)
+pub going_on : TextLaws → (limit : ℕ) (roots : List (List ℕ)) (header d r : List ℕ) (ss ts : List Section) (front more q : List ℕ)
     → HeaderText roots header → SectionsText ss d → IsInSection r → (reached : Reaches limit front ts q)
     → header ++ (d ++ r) ≡ front ++ more → Onward ss ts d reached.done (q ++ more) r
 going_on laws limit roots header d r ss ts front more q text sections inside reached e =
@@ -69,7 +69,7 @@ going_on laws limit roots header d r ss ts front more q text sections inside rea
     append_cancel_left reached.header (d ++ r) (reached.done ++ (q ++ more)) (ap (λ (l : List ℕ). l ++ (d ++ r)) (sym headers.0) ∙ both) in
     onward laws ts ss d reached.done (q ++ more) r reached.sections_are sections inside rests
 
-no_section_so : SpellingLaws → (us : List Section) (head : List ℕ) (b : ℕ) (more middle : List ℕ) → IsInHead head → IsNoHead (head ++ b ∷ [])
+no_section_so : TextLaws → (us : List Section) (head : List ℕ) (b : ℕ) (more middle : List ℕ) → IsInHead head → IsNoHead (head ++ b ∷ [])
     → SectionsText us middle → head ++ b ∷ more ≡ middle → ⊥
 no_section_so laws [] head b more middle inside none text e =
     let lengths : length (head ++ b ∷ more) ≡ length middle = ap length e in
@@ -83,7 +83,7 @@ no_section_so laws (s ∷ us) head b more middle inside none text e =
     no_head_behind laws head b s.cid (length s.block) u (s.block ++ text.1) more inside none (section_head s text.0 t) whole
 
 -- where a section's length and CID go on and none do with one more byte, no CAR does
-pub no_car_in_section : SpellingLaws → (limit : ℕ) (bytes : List ℕ) (ts : List Section) (head : List ℕ) (b : ℕ) → Reaches limit bytes ts head → IsInHead head
+pub no_car_in_section : TextLaws → (limit : ℕ) (bytes : List ℕ) (ts : List Section) (head : List ℕ) (b : ℕ) → Reaches limit bytes ts head → IsInHead head
     → IsNoHead (head ++ b ∷ []) → IsCarFront (bytes ++ b ∷ []) → ⊥
 no_car_in_section laws limit bytes ts head b reached inside none front =
     let car = front.3 in
@@ -134,7 +134,7 @@ goes_front limit fed given (inl b) = header_front fed b.inside
 goes_front limit fed given (inr a) = section_front limit fed a.1.sections a.0 a.1.reaches a.1.inside
 
 -- no section of these passes the limit
-none_above : SpellingLaws → (limit : ℕ) (us : List Section) (c : CidParts) (number : ℕ) (head more middle r : List ℕ) → HeadText c number head → limit < number
+none_above : TextLaws → (limit : ℕ) (us : List Section) (c : CidParts) (number : ℕ) (head more middle r : List ℕ) → HeadText c number head → limit < number
     → SectionsText us middle → All (λ s. length s.block ≤ limit) us → IsWithin limit r → head ++ more ≡ middle ++ r → ⊥
 none_above laws limit [] c number head more middle r h above text all within e =
     let whole : r ≡ h.size ++ (h.name ++ more) =
@@ -157,7 +157,7 @@ all_behind : (P : Section → Type 0) (ts us : List Section) → All P (ts ++ us
 all_behind P [] us all = all
 all_behind P (t ∷ ts) us all = all_behind P ts us (All-tail P t (ts ++ us) all)
 
-limit_kept : SpellingLaws → (limit : ℕ) (fed : List ℕ) (given : List Event) (front more : List ℕ) (at : ℕ) → GoesOn limit fed given → fed ≡ front ++ more
+limit_kept : TextLaws → (limit : ℕ) (fed : List ℕ) (given : List Event) (front more : List ℕ) (at : ℕ) → GoesOn limit fed given → fed ≡ front ++ more
     → PassesLimit limit front at → ⊥
 limit_kept laws limit fed given front more at (inl b) e p =
     let reached = p.reaches in
@@ -175,7 +175,7 @@ limit_kept laws limit fed given front more at (inr a) e p =
     none_above laws limit on.sections p.cid p.number (p.size ++ p.name) more on.middle r text p.above on.text within a.1.within on.rest
 
 -- bytes that go on have no front that brings a fault
-pub missed : SpellingLaws → (limit : ℕ) (fed : List ℕ) (given : List Event) (front more : List ℕ) (fault : CarFault) → GoesOn limit fed given
+pub missed : TextLaws → (limit : ℕ) (fed : List ℕ) (given : List Event) (front more : List ℕ) (fault : CarFault) → GoesOn limit fed given
     → (fault ≡ faults.OutOfMemory → ⊥) → fed ≡ front ++ more → Brings limit front fault → ⊥
 missed laws limit fed given front more (faults.BadHeader at) g o e c = c.1.hopeless (shorter_front front more fed e (goes_front limit fed given g))
 missed laws limit fed given front more (faults.BadSection at) g o e c = c.2.hopeless (shorter_front front more fed e (goes_front limit fed given g))
@@ -183,20 +183,20 @@ missed laws limit fed given front more (faults.BlockLimit at number) g o e c = l
 missed laws limit fed given front more (faults.Torn at) g o e c = c
 missed laws limit fed given front more faults.OutOfMemory g o e c = o refl
 
-pub none_missed : SpellingLaws → (limit : ℕ) (h : History) (fault : CarFault) → IsExact limit h → HasCarCause limit h.fed fault → ⊥
+pub none_missed : TextLaws → (limit : ℕ) (h : History) (fault : CarFault) → IsExact limit h → HasCarCause limit h.fed fault → ⊥
 none_missed laws limit h fault exact c = missed laws limit h.fed h.given c.1 c.2 fault exact.goes_on c.0 c.3 c.4
 
-pub nothing_left : SpellingLaws → (us : List Section) (middle r q : List ℕ) → SectionsText us middle → IsInSection q → q ≡ middle ++ r → us ≡ []
+pub nothing_left : TextLaws → (us : List Section) (middle r q : List ℕ) → SectionsText us middle → IsInSection q → q ≡ middle ++ r → us ≡ []
 nothing_left laws [] middle r q text inside e = refl
 nothing_left laws (s ∷ us) middle r q text inside e =
     absurd (none_inside laws s text.0 (text.1 ++ r) q text.3
     (sym (append_assoc text.0 text.1 r) ∙ (ap (λ (l : List ℕ). l ++ r) (sym text.2) ∙ sym e)) inside)
 
-apart : SpellingLaws → (limit : ℕ) (fed : List ℕ) (given other : List Event) (r : List ℕ) → IsBeforeSections fed given → IsAmongSections limit fed other r → ⊥
+apart : TextLaws → (limit : ℕ) (fed : List ℕ) (given other : List Event) (r : List ℕ) → IsBeforeSections fed given → IsAmongSections limit fed other r → ⊥
 apart laws limit fed given other r b a =
     none_in_header laws a.reaches.roots a.reaches.header (a.reaches.done ++ r) fed a.reaches.header_is (sym a.reaches.whole) b.inside
 
-pub same_given : SpellingLaws → (limit : ℕ) (fed : List ℕ) (given other : List Event) → GoesOn limit fed given → GoesOn limit fed other → given ≡ other
+pub same_given : TextLaws → (limit : ℕ) (fed : List ℕ) (given other : List Event) → GoesOn limit fed given → GoesOn limit fed other → given ≡ other
 same_given laws limit fed given other (inl a) (inl b) = a.nothing_given ∙ sym b.nothing_given
 same_given laws limit fed given other (inl a) (inr b) = absurd (apart laws limit fed given other b.0 a b.1)
 same_given laws limit fed given other (inr a) (inl b) = absurd (apart laws limit fed other given a.0 b a.1)
@@ -218,6 +218,6 @@ same_given laws limit fed given other (inr a) (inr b) =
     same_placed laws (length own.header) a.1.sections own.done its.done a.0 b.0 a.1.placed b.1.placed a.1.placed_are theirs rests in
     a.1.given_is ∙ (ap₂ (λ (l : List ℕ) (m : List Event). events.Header l ∷ m) headers.0 placed ∙ sym b.1.given_is)
 
-pub one_division : SpellingLaws → (limit : ℕ) (g h : History) → IsExact limit g → IsExact limit h → g.fed ≡ h.fed → g.given ≡ h.given
+pub one_division : TextLaws → (limit : ℕ) (g h : History) → IsExact limit g → IsExact limit h → g.fed ≡ h.fed → g.given ≡ h.given
 one_division laws limit g h a b e =
     same_given laws limit h.fed g.given h.given (subst (λ (l : List ℕ). GoesOn limit l g.given) e a.goes_on) b.goes_on

@@ -2,7 +2,7 @@
 use Rattle.std.proofs.Common.{◌≡◌, ℕ, ◌+◌, ◌-◌, ◌^◌, ◌<◌, ◌≤◌, ◌⊎◌, Bool, true, false, Option, Some, None, List, [], ◌∷◌, ◌++◌, length, take, min, refl, ap, sym, ◌∙◌, subst, inl, inr, arith}
 use Rattle.std.proofs.lemmas.List.{append_assoc, append-nil, length-append, length-take-le, take_all}
 use Rattle.std.proofs.lemmas.List.Elements.{All-nil, All-push}
-use Rattle.tg_varint.specs.Laws.{SpellingLaws}
+use Rattle.tg_car.specs.TextLaws.{TextLaws}
 use Rattle.tg_car.specs.declared.section.Section.{Section}
 use Rattle.tg_car.specs.declared.head.Declared.{Declared}
 use Rattle.tg_car.specs.declared.event.Event.{Event}
@@ -41,7 +41,7 @@ none_given : (given : List Event) → given ≡ given ++ []
 none_given given = sym (append-nil given)
 
 -- the header is whole, and the first section is at hand
-header_whole : SpellingLaws → (limit : ℕ) (roots : List (List ℕ)) (fed came : List ℕ) → HeaderText roots fed → came ≡ []
+header_whole : TextLaws → (limit : ℕ) (roots : List (List ℕ)) (fed came : List ℕ) → HeaderText roots fed → came ≡ []
     → IsAmongSections limit fed (events.Header fed ∷ []) came
 header_whole laws limit roots fed came text none = record {
   sections = [];
@@ -65,7 +65,7 @@ abbrev Follows : ReaderState → List ℕ → HeaderState → ℕ → Bool → T
 Follows old piece state taken whole = (bytes : List ℕ) → FollowsHeader old.header bytes → IsInHeader bytes
     → FollowsHeader state (bytes ++ take taken piece) × IsHeaderSoFar whole (bytes ++ take taken piece)
 
-pub header_done : SpellingLaws → (old new : ReaderState) (piece text : List ℕ) (taken : ℕ) (state : HeaderState) (whole : Bool) → new.limit ≡ old.limit
+pub header_done : TextLaws → (old new : ReaderState) (piece text : List ℕ) (taken : ℕ) (state : HeaderState) (whole : Bool) → new.limit ≡ old.limit
     → new.refused ≡ old.refused → old.in_header ≡ true → new.in_header ≡ false → new.came ≡ old.came
     → text ≡ old.text ++ take taken piece → new.place ≡ min (old.place + taken) (2 ^ 64 - 1) → whole ≡ true → IsTaken whole piece taken
     → Follows old piece state taken whole → Steps old new piece taken (events.Header text)
@@ -123,7 +123,7 @@ header_more old new piece taken whole limit refused was is came text place w t f
           });
     }
 
-pub header_bad : SpellingLaws → (old : ReaderState) (piece : List ℕ) → old.in_header ≡ true
+pub header_bad : TextLaws → (old : ReaderState) (piece : List ℕ) → old.in_header ≡ true
     → ((bytes : List ℕ) → FollowsHeader old.header bytes → IsInHeader bytes → StopsHeader bytes piece) → Stops old old piece (faults.BadHeader 0)
 header_bad laws old piece was f = record {
   limit = refl;
@@ -170,7 +170,7 @@ taken_within true piece taken t = t.1
 taken_within false piece taken t = omega arith
 
 -- where the header isn't whole, all of the piece is taken
-nothing_behind : SpellingLaws → (whole : Bool) (fed piece : List ℕ) (taken : ℕ) → (l : Last fed piece taken) → IsTaken whole piece taken
+nothing_behind : TextLaws → (whole : Bool) (fed piece : List ℕ) (taken : ℕ) → (l : Last fed piece taken) → IsTaken whole piece taken
     → IsHeaderSoFar whole ((fed ++ l.front) ++ l.last ∷ []) → IsInHeader ((fed ++ l.front) ++ l.last ∷ []) → l.more ≡ []
 nothing_behind laws true fed piece taken l t h inside =
     let bytes = (fed ++ l.front) ++ l.last ∷ [] in
@@ -180,7 +180,7 @@ nothing_behind laws false fed piece taken l t h inside =
     let front : length l.front + 1 ≡ taken = l.front_long in
     nothing_more l.more (omega (arith, length-append l.front (l.last ∷ l.more)))
 
-pub header_memory : SpellingLaws → (old new : ReaderState) (piece : List ℕ) (taken : ℕ) (state : HeaderState) (whole : Bool) → new.limit ≡ old.limit
+pub header_memory : TextLaws → (old new : ReaderState) (piece : List ℕ) (taken : ℕ) (state : HeaderState) (whole : Bool) → new.limit ≡ old.limit
     → old.in_header ≡ true → 0 < taken → IsTaken whole piece taken → Follows old piece state taken whole → Stops old new piece faults.OutOfMemory
 header_memory laws old new piece taken state whole limit was some took f = record {
   limit = limit;
@@ -275,7 +275,7 @@ past_all place came size taken new fed rest p less q r s = omega arith
 size_all : (came size taken rest : ℕ) → came ≡ shown rest → size ≡ min (came + taken) (2 ^ 64 - 1) → rest + taken < 2 ^ 63 + 9 → size ≡ rest + taken
 size_all came size taken rest q r less = omega arith
 
-pub section_done : SpellingLaws → (old new : ReaderState) (piece : List ℕ) (taken came size : ℕ) (section : Section) → new.limit ≡ old.limit → new.refused ≡ old.refused
+pub section_done : TextLaws → (old new : ReaderState) (piece : List ℕ) (taken came size : ℕ) (section : Section) → new.limit ≡ old.limit → new.refused ≡ old.refused
     → old.in_header ≡ false → new.in_header ≡ false → came ≡ shown (length old.came) → size ≡ min (came + taken) (2 ^ 64 - 1)
     → new.place ≡ min (old.place + size) (2 ^ 64 - 1)
     → Takes old.limit old.came new.came piece taken (Some section) → Steps old new piece taken (events.Section old.place size section)
@@ -327,7 +327,7 @@ section_done laws old new piece taken came size section limit refused was is cam
       });
 }
 
-pub section_bad : SpellingLaws → (old new : ReaderState) (piece : List ℕ) (at : ℕ) → new.limit ≡ old.limit → old.in_header ≡ false
+pub section_bad : TextLaws → (old new : ReaderState) (piece : List ℕ) (at : ℕ) → new.limit ≡ old.limit → old.in_header ≡ false
     → at ≡ old.place → BreaksHead old.came piece → Stops old new piece (faults.BadSection at)
 section_bad laws old new piece at limit was at_is b = record {
   limit = limit;
@@ -371,7 +371,7 @@ record Reached (old : ReaderState) (fed : List ℕ) (given : List Event) (piece 
   reaches : Reaches old.limit ((fed ++ c.front) ++ c.last ∷ []) sections (c.text.size ++ c.text.name)
   at_is : length fed - length old.came ≡ length ((fed ++ c.front) ++ c.last ∷ []) - length (c.text.size ++ c.text.name)
 
-at_last_byte : SpellingLaws → (old : ReaderState) (fed : List ℕ) (given : List Event) (piece : List ℕ) (d : Declared) (c : Completes old.came piece d)
+at_last_byte : TextLaws → (old : ReaderState) (fed : List ℕ) (given : List Event) (piece : List ℕ) (d : Declared) (c : Completes old.came piece d)
     → HoldsSection old fed given → Reached old fed given piece d c
 at_last_byte laws old fed given piece d c o =
     let inside = head_before d (old.came ++ c.front) c.last c.text in
@@ -386,7 +386,7 @@ at_last_byte laws old fed given piece d c o =
       at_is = omega (arith, length-append (fed ++ c.front) (c.last ∷ []), length-append (old.came ++ c.front) (c.last ∷ []), length-append fed c.front, length-append old.came c.front);
     }
 
-pub section_above : SpellingLaws → (old new : ReaderState) (piece : List ℕ) (at number : ℕ) → new.limit ≡ old.limit → old.in_header ≡ false
+pub section_above : TextLaws → (old new : ReaderState) (piece : List ℕ) (at number : ℕ) → new.limit ≡ old.limit → old.in_header ≡ false
     → at ≡ old.place → number ≡ old.limit → ((d : Declared) × Completes old.came piece d × (old.limit < d.number))
     → Stops old new piece (faults.BlockLimit at number)
 section_above laws old new piece at number limit was at_is number_is (d, c, above) = record {
@@ -421,7 +421,7 @@ section_above laws old new piece at number limit was at_is number_is (d, c, abov
       };
 }
 
-pub section_memory : SpellingLaws → (old new : ReaderState) (piece : List ℕ) → new.limit ≡ old.limit → old.in_header ≡ false
+pub section_memory : TextLaws → (old new : ReaderState) (piece : List ℕ) → new.limit ≡ old.limit → old.in_header ≡ false
     → ((d : Declared) × Completes old.came piece d × (d.number ≤ old.limit) × (0 < d.number)) → Stops old new piece faults.OutOfMemory
 section_memory laws old new piece limit was (d, c, within, some) = record {
   limit = limit;
@@ -550,7 +550,7 @@ whole_car old none was nothing_came h k =
       placed_are = o.among.placed_are;
     }
 
-nothing_in_header : SpellingLaws → IsInHeader []
+nothing_in_header : TextLaws → IsInHeader []
 nothing_in_header laws = record {
   roots = [];
   more = 17 ∷ header_map [];
@@ -559,7 +559,7 @@ nothing_in_header laws = record {
     few = omega arith;
     each = All-nil (λ (root : List ℕ). IsRoot root);
     size = 17 ∷ [];
-    size_is = laws.one_byte 17 (omega arith);
+    size_is = laws.varints.one_byte 17 (omega arith);
     whole = refl;
   };
 }
@@ -573,7 +573,7 @@ pub stops_from : (old other new : ReaderState) (piece : List ℕ) (fault : CarFa
     → Stops other new piece fault
 stops_from old other new piece fault e s = subst (λ (o : ReaderState). Stops o new piece fault) e s
 
-pub stands_new : SpellingLaws → (new : ReaderState) → new.refused ≡ None → new.in_header ≡ true → new.place ≡ 0 → new.text ≡ [] → new.came ≡ []
+pub stands_new : TextLaws → (new : ReaderState) → new.refused ≡ None → new.in_header ≡ true → new.place ≡ 0 → new.text ≡ [] → new.came ≡ []
     → FollowsHeader new.header [] → StandsFor new nothing
 stands_new laws new none is place text came follows =
     let before : IsBeforeSections [] [] = record { nothing_given = refl; inside = nothing_in_header laws } in

@@ -3,11 +3,9 @@ use Rattle.std.proofs.Common.{◌≡◌, ℕ, ◌+◌, ◌<◌, ◌≤◌, List,
 use Rattle.std.proofs.lemmas.Bool.{cases_lt}
 use Rattle.std.proofs.lemmas.List.{append_assoc, append-nil, append_cancel_left, length-append, take-append-drop, take-append-le, length_push}
 use Rattle.std.proofs.Math.Seq.{take-append-add}
-use Rattle.tg_varint.specs.Laws.{SpellingLaws}
+use Rattle.tg_car.specs.TextLaws.{TextLaws}
 use Rattle.tg_cid.specs.Cid.{CidParts}
-use Rattle.tg_cid.specs.Spelling.{CidBytes}
 use Rattle.tg_car.specs.Heads.{HeadText, IsInHead, IsNoHead}
-use Rattle.tg_car.proofs.Names.{one_name, cid_head}
 
 -- two lists with one whole: the first begins with the second or is shorter and begins it
 pub record Longer (a b x y : List ℕ) : Type 0 where
@@ -33,15 +31,15 @@ pub record SameHeads (a b : List ℕ) (c d : CidParts) (m n : ℕ) : Type 0 wher
   pub cids : c ≡ d
   pub numbers : m ≡ n
 
-pub one_head : SpellingLaws → (c d : CidParts) (m n : ℕ) (a b x y : List ℕ) → HeadText c m a → HeadText d n b → a ++ x ≡ b ++ y → SameHeads a b c d m n
+pub one_head : TextLaws → (c d : CidParts) (m n : ℕ) (a b x y : List ℕ) → HeadText c m a → HeadText d n b → a ++ x ≡ b ++ y → SameHeads a b c d m n
 one_head laws c d m n a b x y h k e =
     let left : a ++ x ≡ h.size ++ (h.name ++ x) = ap (λ (l : List ℕ). l ++ x) h.whole ∙ append_assoc h.size h.name x in
     let right : b ++ y ≡ k.size ++ (k.name ++ y) = ap (λ (l : List ℕ). l ++ y) k.whole ∙ append_assoc k.size k.name y in
     let both : h.size ++ (h.name ++ x) ≡ k.size ++ (k.name ++ y) = sym left ∙ (e ∙ right) in
-    let sizes = laws.no_front (length h.name + m) (length k.name + n) h.size k.size (h.name ++ x) (k.name ++ y) h.size_is k.size_is both in
+    let sizes = laws.varints.no_front (length h.name + m) (length k.name + n) h.size k.size (h.name ++ x) (k.name ++ y) h.size_is k.size_is both in
     let rests : h.name ++ x ≡ k.name ++ y =
     append_cancel_left k.size (h.name ++ x) (k.name ++ y) (ap (λ (l : List ℕ). l ++ (h.name ++ x)) (sym sizes.0) ∙ both) in
-    let names = one_name laws c d h.name k.name x y h.name_is k.name_is rests in
+    let names = laws.cids.no_front c d h.name k.name x y h.name_is k.name_is rests in
     let lengths : length h.name ≡ length k.name = ap length names.0 in
     let sums : length h.name + m ≡ length k.name + n = sizes.1 in
     record {
@@ -51,33 +49,22 @@ one_head laws c d m n a b x y h k e =
     }
 
 -- what is whole and goes on can't be
-pub not_both : SpellingLaws → (c d : CidParts) (m n : ℕ) (a x more : List ℕ) → HeadText c m a → HeadText d n (a ++ (x ++ more)) → 0 < length more → ⊥
+pub not_both : TextLaws → (c d : CidParts) (m n : ℕ) (a x more : List ℕ) → HeadText c m a → HeadText d n (a ++ (x ++ more)) → 0 < length more → ⊥
 not_both laws c d m n a x more h k some =
     let same = one_head laws c d m n a (a ++ (x ++ more)) (x ++ more) [] h k (sym (append-nil (a ++ (x ++ more)))) in
     let sizes : length a ≡ length (a ++ (x ++ more)) = ap length same.bytes in
     omega (arith, length-append a (x ++ more), length-append x more)
 
-name_size : SpellingLaws → (c : CidParts) (name : List ℕ) → CidBytes c name → (0 < length name) × (length name ≤ 133)
-name_size laws c name h =
-    let k = cid_head laws c name h in
-    let whole : length name ≡ length k.0 + length c.digest = ap length k.2 ∙ length-append k.0 c.digest in
-    let digest : length c.digest ≡ 32 = k.3 in
-    elim k.1 [
-      | inl e ↦ let long : length k.0 ≡ 2 = ap length e in (omega arith, omega arith)
-      | inr e ↦ let long : length k.0 ≡ 4 = ap length e.1 in (omega arith, omega arith)
-    ]
-
-pub head_size : SpellingLaws → (c : CidParts) (m : ℕ) (a : List ℕ) → HeadText c m a → (0 < length a) × (length a ≤ 142)
+pub head_size : TextLaws → (c : CidParts) (m : ℕ) (a : List ℕ) → HeadText c m a → (0 < length a) × (length a ≤ 142)
 head_size laws c m a h =
-    let name = name_size laws c h.name h.name_is in
-    let low : 0 < length h.name = name.0 in
-    let high : length h.name ≤ 133 = name.1 in
+    let low : 0 < length h.name = laws.lengths.some c h.name h.name_is in
+    let high : length h.name ≤ 133 = laws.lengths.most c h.name h.name_is in
     let front : length h.size_is.front < 9 = h.size_is.at_most_nine in
     let size : length h.size ≡ length h.size_is.front + 1 = ap length h.size_is.whole ∙ length_push h.size_is.front h.size_is.last in
     let whole : length a ≡ length h.size + length h.name = ap length h.whole ∙ length-append h.size h.name in
     (omega arith, omega arith)
 
-pub in_head_size : SpellingLaws → (a : List ℕ) → IsInHead a → length a < 142
+pub in_head_size : TextLaws → (a : List ℕ) → IsInHead a → length a < 142
 in_head_size laws a h =
     let whole = head_size laws h.cid h.number (a ++ h.more) h.text in
     let most : length (a ++ h.more) ≤ 142 = whole.1 in
@@ -85,7 +72,7 @@ in_head_size laws a h =
     omega (arith, length-append a h.more)
 
 -- where a head goes on and no head does with one more byte, no whole head stands before it either
-pub no_head_behind : SpellingLaws → (a : List ℕ) (b : ℕ) (c : CidParts) (m : ℕ) (u x y : List ℕ) → IsInHead a → IsNoHead (a ++ b ∷ []) → HeadText c m u
+pub no_head_behind : TextLaws → (a : List ℕ) (b : ℕ) (c : CidParts) (m : ℕ) (u x y : List ℕ) → IsInHead a → IsNoHead (a ++ b ∷ []) → HeadText c m u
     → u ++ x ≡ a ++ b ∷ y → ⊥
 no_head_behind laws a b c m u x y inside none text e = elim (cases_lt (length a) (length u)) [
   | inl more ↦

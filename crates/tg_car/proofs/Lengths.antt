@@ -13,10 +13,11 @@ use Rattle.tg_car.proofs.Sizes.{map_size_is}
 abbrev pub IsMapOf : ℕ → Option HeaderState → Type 0
 IsMapOf size result = MatchOption result (IsMapSize size → ⊥) (λ state. (state ≡ states.Front 0 size) × IsMapSize size)
 
-pub positive : (front : List ℕ) (last : ℕ) → last < 128 → 0 < last → 0 < number_of (front ++ last ∷ [])
-positive [] last below above = omega arith
-positive (byte ∷ front) last below above =
-    let rest : 0 < number_of (front ++ last ∷ []) = positive front last below above in
+-- a number is no less than its last digit
+pub from_last : (front : List ℕ) (last : ℕ) → last < 128 → last ≤ number_of (front ++ last ∷ [])
+from_last [] last below = omega arith
+from_last (byte ∷ front) last below =
+    let rest : last ≤ number_of (front ++ last ∷ []) = from_last front last below in
     omega arith
 
 one_part : (front : List ℕ) (last number byte : ℕ) (rest map : List ℕ) → AllGoOn front → last < 128 → number ≡ number_of (front ++ last ∷ [])
@@ -42,7 +43,8 @@ two_parts (x ∷ []) last number first second rest map on low shortest spells mo
     let some : 0 < last = shortest (omega arith) in
     (omega arith, omega arith, omega arith, cc)
 two_parts (x ∷ y ∷ front) last number first second rest map on low shortest spells most e large =
-    let some : 0 < number_of (front ++ last ∷ []) = positive front last low (shortest (omega arith)) in
+    let some : 0 < last = shortest (omega arith) in
+    let more : last ≤ number_of (front ++ last ∷ []) = from_last front last low in
     absurd (omega arith)
 
 -- the map behind a length of one byte

@@ -6,7 +6,6 @@ mod Lengths
 mod ByteSteps
 mod Live
 mod OneText
-mod Names
 mod Heads
 mod Openings
 mod Parts

@@ -3,14 +3,13 @@ use Rattle.std.proofs.Common.{◌≡◌, ℕ, suc, zero, ◌+◌, ◌-◌, ◌*�
 use Rattle.std.specs.List.{flat_map}
 use Rattle.std.proofs.lemmas.Bool.{cases_lt, cases_eq}
 use Rattle.std.proofs.lemmas.List.{append_assoc, append-nil, length-append, length-replicate, length-drop}
-use Rattle.std.proofs.lemmas.List.Elements.{All-nil, All-cons}
+use Rattle.std.proofs.lemmas.List.Elements.{All-nil, All-cons, All-replicate}
 use Rattle.tg_car.specs.CarText.{IsRoot, HeaderText, string_head, root_text}
 use Rattle.tg_car.specs.Fronts.{IsInHeader}
 use Rattle.tg_car.specs.HeaderState.{CanBe, IsMapSize, IsLive, RootsThen, Follows, FollowsHeader, GoesOn, map_front, map_back}
 use Rattle.tg_car.specs.declared.header_state.Roots.{Roots}
 use Rattle.tg_car.specs.declared.header_state.HeaderState.{HeaderState}
 use Rattle.tg_car.specs.declared.header_state.HeaderState.TheVariants as states
-use Rattle.tg_car.proofs.Names.{zeros_are_bytes}
 use Rattle.tg_car.proofs.Sizes.{root_size}
 use Rattle.tg_car.proofs.RootTexts.{first_root, with_root, zero_then, long_from}
 use Rattle.tg_car.proofs.ArraySteps as arrays
@@ -112,7 +111,7 @@ zeros_root n low high =
       begins = refl;
       low = omega arith;
       high = omega arith;
-      are_bytes = All-cons (λ b. b < 256) 0 (replicate (n - 1) 0) (omega arith) (zeros_are_bytes (n - 1));
+      are_bytes = All-cons (λ b. b < 256) 0 (replicate (n - 1) 0) (omega arith) (All-replicate (λ (b : ℕ). b < 256) (n - 1) 0 (omega arith));
     }
 
 -- a root whose text has so many bytes
@@ -233,7 +232,7 @@ bytes_more left roots live =
         more = tail.0;
         whole = refl;
         left_is = long;
-        are_bytes = zeros_are_bytes left;
+        are_bytes = All-replicate (λ (b : ℕ). b < 256) left 0 (omega arith);
         behind = tail.1;
       },
     )

@@ -2,7 +2,7 @@
 use Rattle.std.proofs.Common.{◌≡◌, ℕ, ◌+◌, List, [], ◌∷◌, ◌++◌, length, ap, ap₂, sym, ◌∙◌, refl, inl, inr, arith}
 use Rattle.std.specs.List.{flat_map}
 use Rattle.std.proofs.lemmas.List.{append_assoc}
-use Rattle.tg_varint.specs.Laws.{SpellingLaws}
+use Rattle.tg_car.specs.TextLaws.{TextLaws}
 use Rattle.tg_varint.specs.Varint.{VarintSpelling}
 use Rattle.tg_car.specs.CarText.{string_head, array_head, root_text, header_map, HeaderText}
 use Rattle.tg_car.specs.HeaderState.{map_back}
@@ -98,6 +98,6 @@ one_header once a b u v x y h k e =
     )
 
 -- a list of roots has one header
-pub header_text : SpellingLaws → (roots : List (List ℕ)) (u v : List ℕ) → HeaderText roots u → HeaderText roots v → u ≡ v
+pub header_text : TextLaws → (roots : List (List ℕ)) (u v : List ℕ) → HeaderText roots u → HeaderText roots v → u ≡ v
 header_text laws roots u v h k =
-    h.whole ∙ (ap (λ (l : List ℕ). l ++ header_map roots) (laws.one_spelling (length (header_map roots)) h.size k.size h.size_is k.size_is) ∙ sym k.whole)
+    h.whole ∙ (ap (λ (l : List ℕ). l ++ header_map roots) (laws.varints.one_spelling (length (header_map roots)) h.size k.size h.size_is k.size_is) ∙ sym k.whole)

@@ -1,15 +1,14 @@
 -- A section whose length and CID are whole, and bytes of its block.
 use Rattle.std.proofs.Common.{◌≡◌, ℕ, ◌+◌, ◌-◌, ◌<◌, ◌≤◌, List, [], ◌∷◌, ◌++◌, length, take, drop, get_or, replicate, All, refl, ap, sym, ◌∙◌, subst, arith}
 use Rattle.std.proofs.lemmas.List.{append_assoc, length-append, length-replicate, length-take-le, take-append-drop, take_more, drop_more}
-use Rattle.std.proofs.lemmas.List.Elements.{All-append}
-use Rattle.tg_varint.specs.Laws.{SpellingLaws}
+use Rattle.std.proofs.lemmas.List.Elements.{All-append, All-replicate}
+use Rattle.tg_car.specs.TextLaws.{TextLaws}
 use Rattle.tg_varint.specs.Varint.{VarintSpelling}
 use Rattle.tg_cid.specs.Cid.{CidParts}
 use Rattle.tg_car.specs.declared.head.Declared.{Declared}
 use Rattle.tg_car.specs.CarText.{SectionText}
 use Rattle.tg_car.specs.Fronts.{IsInSection, IsWithin, Declares}
 use Rattle.tg_car.specs.Heads.{HeadText, IsInHead}
-use Rattle.tg_car.proofs.Names.{zeros_are_bytes}
 use Rattle.tg_car.proofs.Heads.{one_head, not_both}
 
 pub whole_section : (c : CidParts) (n : ℕ) (head block : List ℕ) → HeadText c n head → length block ≡ n → All (λ b. b < 256) block
@@ -32,14 +31,14 @@ head_inside head h =
       more = h.more ++ block;
       not_whole = let some : 0 < length h.more = h.not_whole in omega (arith, length-append h.more block);
       text = subst (SectionText (record { cid = h.cid; block = block })) (append_assoc head h.more block)
-          (whole_section h.cid h.number (head ++ h.more) block h.text (length-replicate {A = ℕ} h.number 0) (zeros_are_bytes h.number));
+          (whole_section h.cid h.number (head ++ h.more) block h.text (length-replicate {A = ℕ} h.number 0) (All-replicate (λ (b : ℕ). b < 256) h.number 0 (omega arith)));
     }
 
 declared_head : (bytes : List ℕ) (n : ℕ) → (d : Declares bytes n) → HeadText d.cid n (d.size ++ d.name)
 declared_head bytes n d = record { size = d.size; name = d.name; whole = refl; size_is = d.size_is; name_is = d.name_is }
 
 -- they declare nothing yet
-pub head_within : SpellingLaws → (limit : ℕ) (head : List ℕ) → IsInHead head → IsWithin limit head
+pub head_within : TextLaws → (limit : ℕ) (head : List ℕ) → IsInHead head → IsWithin limit head
 head_within laws limit head h n d =
     let whole : head ≡ (d.size ++ d.name) ++ d.begun = d.whole ∙ sym (append_assoc d.size d.name d.begun) in
     absurd (not_both laws d.cid h.cid n h.number (d.size ++ d.name) d.begun h.more (declared_head head n d)
@@ -59,10 +58,10 @@ block_inside c n head block h less bytes =
       more = more;
       not_whole = omega arith;
       text = subst (SectionText (record { cid = c; block = all })) (sym (append_assoc head block more))
-          (whole_section c n head all h size (All-append (λ (b : ℕ). b < 256) block more bytes (zeros_are_bytes left)));
+          (whole_section c n head all h size (All-append (λ (b : ℕ). b < 256) block more bytes (All-replicate (λ (b : ℕ). b < 256) left 0 (omega arith))));
     }
 
-pub whole_within : SpellingLaws → (limit : ℕ) (c : CidParts) (n : ℕ) (head block : List ℕ) → HeadText c n head → n ≤ limit → IsWithin limit (head ++ block)
+pub whole_within : TextLaws → (limit : ℕ) (c : CidParts) (n : ℕ) (head block : List ℕ) → HeadText c n head → n ≤ limit → IsWithin limit (head ++ block)
 whole_within laws limit c n head block h less m d =
     let whole : head ++ block ≡ (d.size ++ d.name) ++ d.begun = d.whole ∙ sym (append_assoc d.size d.name d.begun) in
     let same = one_head laws c d.cid n m head (d.size ++ d.name) block d.begun h (declared_head (head ++ block) m d) whole in

@@ -3,7 +3,7 @@ use Rattle.std.proofs.Common.{◌≡◌, ◌≢◌, ℕ, ◌-◌, ◌<◌, Optio
 use Rattle.std.proofs.lemmas.Bool.{cases_lt}
 use Rattle.std.proofs.lemmas.List.{append_assoc, append-nil, append_cancel_left, length_push}
 use Rattle.std.proofs.lemmas.List.Elements.{All-nil}
-use Rattle.tg_varint.specs.Laws.{SpellingLaws}
+use Rattle.tg_car.specs.TextLaws.{TextLaws}
 use Rattle.tg_car.specs.declared.section.Section.{Section}
 use Rattle.tg_car.specs.declared.event.Event.{Event}
 use Rattle.tg_car.specs.declared.fault.CarFault.{CarFault}
@@ -20,7 +20,7 @@ use Rattle.tg_car.proofs.Sections.{onward}
 use Rattle.tg_car.proofs.Divisions.{same_header, none_in_header, nothing_left, section_front, missed, same_given}
 
 -- bytes reach one front of a section
-same_rest : SpellingLaws → (limit : ℕ) (bytes : List ℕ) (ss ts : List Section) (r q : List ℕ) → Reaches limit bytes ss r → Reaches limit bytes ts q
+same_rest : TextLaws → (limit : ℕ) (bytes : List ℕ) (ss ts : List Section) (r q : List ℕ) → Reaches limit bytes ss r → Reaches limit bytes ts q
     → IsInSection r → IsInSection q → r ≡ q
 same_rest laws limit bytes ss ts r q a b inside other =
     let both : a.header ++ (a.done ++ r) ≡ b.header ++ (b.done ++ q) = sym a.whole ∙ b.whole in
@@ -37,7 +37,7 @@ same_before bytes p q x y e f =
     let long : length (p ++ x ∷ []) ≡ length (q ++ y ∷ []) = ap length (sym e ∙ f) in
     (same_fronts p q (x ∷ []) (y ∷ []) (omega (arith, length_push p x, length_push q y)) (sym e ∙ f)).0
 
-header_apart : SpellingLaws → (limit : ℕ) (bytes : List ℕ) (at : ℕ) → BreaksHeader bytes → BreaksSection limit bytes at → ⊥
+header_apart : TextLaws → (limit : ℕ) (bytes : List ℕ) (at : ℕ) → BreaksHeader bytes → BreaksSection limit bytes at → ⊥
 header_apart laws limit bytes at b s =
     let same : b.before ≡ s.before = same_before bytes b.before s.before b.last s.last b.whole s.whole in
     none_in_header laws s.reaches.roots s.reaches.header (s.reaches.done ++ s.rest) s.before s.reaches.header_is (sym s.reaches.whole)
@@ -53,21 +53,21 @@ passes_inside limit bytes at p =
 passes_front : (limit : ℕ) (bytes : List ℕ) (at : ℕ) → PassesLimit limit bytes at → IsCarFront bytes
 passes_front limit bytes at p = section_front limit bytes p.sections (p.size ++ p.name) p.reaches (passes_inside limit bytes at p)
 
-breaks_once : SpellingLaws → (limit : ℕ) (bytes : List ℕ) (m n : ℕ) → BreaksSection limit bytes m → BreaksSection limit bytes n → m ≡ n
+breaks_once : TextLaws → (limit : ℕ) (bytes : List ℕ) (m n : ℕ) → BreaksSection limit bytes m → BreaksSection limit bytes n → m ≡ n
 breaks_once laws limit bytes m n a b =
     let same : a.before ≡ b.before = same_before bytes a.before b.before a.last b.last a.whole b.whole in
     let rests : a.rest ≡ b.rest =
     same_rest laws limit b.before a.sections b.sections a.rest b.rest (subst (λ (l : List ℕ). Reaches limit l a.sections a.rest) same a.reaches) b.reaches a.went_on b.went_on in
     a.at_is ∙ (ap₂ (λ (l r : List ℕ). length l - length r) same rests ∙ sym b.at_is)
 
-passes_once : SpellingLaws → (limit : ℕ) (bytes : List ℕ) (m n : ℕ) → PassesLimit limit bytes m → PassesLimit limit bytes n → m ≡ n
+passes_once : TextLaws → (limit : ℕ) (bytes : List ℕ) (m n : ℕ) → PassesLimit limit bytes m → PassesLimit limit bytes n → m ≡ n
 passes_once laws limit bytes m n a b =
     let rests : a.size ++ a.name ≡ b.size ++ b.name =
     same_rest laws limit bytes a.sections b.sections (a.size ++ a.name) (b.size ++ b.name) a.reaches b.reaches (passes_inside limit bytes m a) (passes_inside limit bytes n b) in
     a.at_is ∙ (ap (λ (r : List ℕ). length bytes - length r) rests ∙ sym b.at_is)
 
 -- a byte brings one fault
-one_fault : SpellingLaws → (limit : ℕ) (bytes : List ℕ) (e f : CarFault) → e ≢ faults.OutOfMemory → f ≢ faults.OutOfMemory → Brings limit bytes e
+one_fault : TextLaws → (limit : ℕ) (bytes : List ℕ) (e f : CarFault) → e ≢ faults.OutOfMemory → f ≢ faults.OutOfMemory → Brings limit bytes e
     → Brings limit bytes f → e ≡ f
 one_fault laws limit bytes faults.OutOfMemory f n m g h = absurd (n refl)
 one_fault laws limit bytes (faults.Torn at) f n m g h = absurd g
@@ -96,13 +96,13 @@ handed fed front more x last =
     ∙ append_assoc ((fed ++ front) ++ last ∷ []) more x
 
 -- no byte that goes on behind it is refused
-not_before : SpellingLaws → (limit : ℕ) (given : List Event) (a b x y : List ℕ) (last next : ℕ) (e : CarFault) → e ≢ faults.OutOfMemory
+not_before : TextLaws → (limit : ℕ) (given : List Event) (a b x y : List ℕ) (last next : ℕ) (e : CarFault) → e ≢ faults.OutOfMemory
     → (a ++ last ∷ []) ++ x ≡ (b ++ next ∷ []) ++ y → length a < length b → GoesOn limit b given → Brings limit (a ++ last ∷ []) e → ⊥
 not_before laws limit given a b x y last next e n both less goes brings =
     let l = longer b (a ++ last ∷ []) (next ∷ y) x (sym (append_assoc b (next ∷ []) y) ∙ sym both) (omega (arith, length_push a last)) in
     missed laws limit b given (a ++ last ∷ []) l.middle e goes n l.first brings
 
-pub one_refusal : SpellingLaws → (limit : ℕ) (g h : History) (p q x y : List ℕ) (e f : CarFault) → IsExact limit g → IsExact limit h
+pub one_refusal : TextLaws → (limit : ℕ) (g h : History) (p q x y : List ℕ) (e f : CarFault) → IsExact limit g → IsExact limit h
     → g.stop ≡ Some (at_piece p e) → h.stop ≡ Some (at_piece q f) → e ≢ faults.OutOfMemory → f ≢ faults.OutOfMemory
     → (g.fed ++ p) ++ x ≡ (h.fed ++ q) ++ y → (e ≡ f) × (g.given ≡ h.given)
 one_refusal laws limit g h p q x y e f exact other sg sh n m same =

@@ -1,10 +1,8 @@
 -- No section begins another, and bytes have one division into sections.
 use Rattle.std.proofs.Common.{◌≡◌, ℕ, ◌+◌, ◌^◌, ◌<◌, List, [], ◌∷◌, ◌++◌, length, take, refl, ap, ap₂, sym, ◌∙◌, subst, arith}
 use Rattle.std.proofs.lemmas.List.{append_assoc, append-nil, append_cancel_left, length-append, length_push, take_at}
-use Rattle.tg_varint.specs.Laws.{SpellingLaws}
+use Rattle.tg_car.specs.TextLaws.{TextLaws}
 use Rattle.tg_varint.specs.Varint.{VarintSpelling}
-use Rattle.tg_cid.specs.Cid.{CidParts}
-use Rattle.tg_cid.specs.Spelling.{CidBytes}
 use Rattle.tg_car.specs.declared.section.Section.{Section}
 use Rattle.tg_car.specs.CarText.{SectionText, SectionsText}
 use Rattle.tg_car.specs.declared.event.Event.{Event}
@@ -22,7 +20,7 @@ section_head s a t = record { size = t.size; name = t.name; whole = refl; size_i
 pub section_whole : (s : Section) (a : List ℕ) → (t : SectionText s a) → a ≡ (t.size ++ t.name) ++ s.block
 section_whole s a t = t.whole ∙ sym (append_assoc t.size t.name s.block)
 
-pub one_section : SpellingLaws → (s t : Section) (u v x y : List ℕ) → SectionText s u → SectionText t v → u ++ x ≡ v ++ y → (u ≡ v) × (s ≡ t)
+pub one_section : TextLaws → (s t : Section) (u v x y : List ℕ) → SectionText s u → SectionText t v → u ++ x ≡ v ++ y → (u ≡ v) × (s ≡ t)
 one_section laws s t u v x y h k e =
     let a = h.size ++ h.name in
     let b = k.size ++ k.name in
@@ -41,7 +39,7 @@ one_section laws s t u v x y h k e =
     )
 
 -- no whole section stands at the front of bytes inside a section
-pub none_inside : SpellingLaws → (t : Section) (f x r : List ℕ) → SectionText t f → f ++ x ≡ r → IsInSection r → ⊥
+pub none_inside : TextLaws → (t : Section) (f x r : List ℕ) → SectionText t f → f ++ x ≡ r → IsInSection r → ⊥
 none_inside laws t f x r text e inside =
     let whole : f ++ (x ++ inside.more) ≡ (r ++ inside.more) ++ [] =
     sym (append_assoc f x inside.more) ∙ (ap (λ (l : List ℕ). l ++ inside.more) e ∙ sym (append-nil (r ++ inside.more))) in
@@ -59,7 +57,7 @@ pub record Onward (ss ts : List Section) (d e q r : List ℕ) : Type 0 where
   pub text : SectionsText sections middle
   pub rest : q ≡ middle ++ r
 
-pub onward : SpellingLaws → (ts ss : List Section) (d e q r : List ℕ) → SectionsText ts e → SectionsText ss d → IsInSection r → d ++ r ≡ e ++ q
+pub onward : TextLaws → (ts ss : List Section) (d e q r : List ℕ) → SectionsText ts e → SectionsText ss d → IsInSection r → d ++ r ≡ e ++ q
     → Onward ss ts d e q r
 onward laws [] ss d e q r h k inside same = record {
   sections = ss;
@@ -121,7 +119,7 @@ push_placed at (t ∷ ss) s d f given place size h k p q =
     )
 
 -- the sections of bytes are given in one way
-pub same_placed : SpellingLaws → (at : ℕ) (ss : List Section) (d e x y : List ℕ) (given other : List Event) → ArePlaced at ss d given → ArePlaced at ss e other
+pub same_placed : TextLaws → (at : ℕ) (ss : List Section) (d e x y : List ℕ) (given other : List Event) → ArePlaced at ss d given → ArePlaced at ss e other
     → d ++ x ≡ e ++ y → given ≡ other
 same_placed laws at [] d e x y given other h k same = h.1 ∙ sym k.1
 same_placed laws at (s ∷ ss) d e x y given other h k same =
@@ -135,18 +133,18 @@ same_placed laws at (s ∷ ss) d e x y given other h k same =
     h.5 ∙ (ap₂ (λ (l : List ℕ) (m : List Event). events.Section (shown at) (length l) s ∷ m) one.0 more ∙ sym k.5)
 
 -- a section has one text
-pub section_text : SpellingLaws → ((c : CidParts) (u v : List ℕ) → CidBytes c u → CidBytes c v → u ≡ v) → (s : Section) (u v : List ℕ) → SectionText s u → SectionText s v → u ≡ v
-section_text laws once s u v h k =
-    let names : h.name ≡ k.name = once s.cid h.name k.name h.name_is k.name_is in
+pub section_text : TextLaws → (s : Section) (u v : List ℕ) → SectionText s u → SectionText s v → u ≡ v
+section_text laws s u v h k =
+    let names : h.name ≡ k.name = laws.cids.one_bytes s.cid h.name k.name h.name_is k.name_is in
     let sized : VarintSpelling (length k.name + length s.block) h.size =
     subst (λ (l : List ℕ). VarintSpelling (length l + length s.block) h.size) names h.size_is in
-    let sizes : h.size ≡ k.size = laws.one_spelling (length k.name + length s.block) h.size k.size sized k.size_is in
+    let sizes : h.size ≡ k.size = laws.varints.one_spelling (length k.name + length s.block) h.size k.size sized k.size_is in
     h.whole ∙ (ap₂ (λ (p q : List ℕ). p ++ (q ++ s.block)) sizes names ∙ sym k.whole)
 
 -- a section has fewer than 2 ^ 63 + 9 bytes
-pub section_long : SpellingLaws → (s : Section) (bytes : List ℕ) → SectionText s bytes → length bytes < 2 ^ 63 + 9
+pub section_long : TextLaws → (s : Section) (bytes : List ℕ) → SectionText s bytes → length bytes < 2 ^ 63 + 9
 section_long laws s bytes h =
-    let below : length h.name + length s.block < 2 ^ 63 = laws.below (length h.name + length s.block) h.size h.size_is in
+    let below : length h.name + length s.block < 2 ^ 63 = laws.varints.below (length h.name + length s.block) h.size h.size_is in
     let front : length h.size_is.front < 9 = h.size_is.at_most_nine in
     let size : length h.size ≡ length h.size_is.front + 1 = ap length h.size_is.whole ∙ length_push h.size_is.front h.size_is.last in
     let whole : length bytes ≡ length (h.size ++ (h.name ++ s.block)) = ap length h.whole in

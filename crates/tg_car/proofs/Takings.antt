@@ -3,7 +3,7 @@ use Rattle.std.proofs.Common.{◌≡◌, ℕ, ◌+◌, ◌<◌, ◌≤◌, Optio
 use Rattle.std.proofs.lemmas.List.{append_assoc, append-nil, length-append, length-drop, length-take-le, take-append-drop}
 use Rattle.std.proofs.lemmas.List.Elements.{All-append, All-take, All-drop, All-nil}
 use Rattle.std.proofs.Math.Seq.{take-add}
-use Rattle.tg_varint.specs.Laws.{SpellingLaws}
+use Rattle.tg_car.specs.TextLaws.{TextLaws}
 use Rattle.tg_car.specs.declared.section.Section.{Section}
 use Rattle.tg_car.specs.declared.head.Declared.{Declared}
 use Rattle.tg_car.specs.declared.head.Front.{Front}
@@ -18,7 +18,7 @@ use Rattle.tg_car.proofs.Openings.{nothing_in_head}
 use Rattle.tg_car.proofs.Parts.{one_more, one_behind, before_last, whole_section, head_inside, head_within, block_inside, whole_within, declared_within}
 
 -- nothing came
-pub no_part : SpellingLaws → (d : Option Declared) (part : Part) → d ≡ None → part.head ≡ [] → part.block.items ≡ [] → IsPartOf d part
+pub no_part : TextLaws → (d : Option Declared) (part : Part) → d ≡ None → part.head ≡ [] → part.block.items ≡ [] → IsPartOf d part
 no_part laws d part e h b = subst (λ (o : Option Declared). IsPartOf o part) (sym e) (nothing_in_head laws part.head h, b)
 
 pub open_part : (part : Part) → IsPart part → part.declared ≡ None → IsInHead part.head × (part.block.items ≡ [])
@@ -35,7 +35,7 @@ Gives limit old new piece taken None = Takes limit old new piece taken None
 Gives limit old new piece taken (Some section) =
     (taken ≤ length piece) × (new ≡ []) × SectionText section (old ++ take taken piece) × (IsWithin limit old → length section.block ≤ limit)
 
-gives : SpellingLaws → (limit : ℕ) (d : Declared) (old new : Part) (piece : List ℕ) (taken : ℕ) (section : Option Section) → HeadText d.cid d.number old.head
+gives : TextLaws → (limit : ℕ) (d : Declared) (old new : Part) (piece : List ℕ) (taken : ℕ) (section : Option Section) → HeadText d.cid d.number old.head
     → All (λ b. b < 256) old.block.items → All (λ b. b < 256) piece → TakesBlock d old new piece taken section
     → Gives limit (came_of old) (came_of new) piece taken section
 gives laws limit d old new piece taken None text bytes piece_bytes t =
@@ -69,7 +69,7 @@ gives laws limit d old new piece taken (Some section) text bytes piece_bytes t =
     )
 
 -- bytes of the block
-pub takes_block : SpellingLaws → (limit : ℕ) (d : Declared) (old new : Part) (piece : List ℕ) (taken : ℕ) (section : Option Section) → IsPart old
+pub takes_block : TextLaws → (limit : ℕ) (d : Declared) (old new : Part) (piece : List ℕ) (taken : ℕ) (section : Option Section) → IsPart old
     → old.declared ≡ Some d → All (λ b. b < 256) piece → TakesBlock d old new piece taken section
     → Takes limit (came_of old) (came_of new) piece taken section
 takes_block laws limit d old new piece taken None part e bytes t =
@@ -83,7 +83,7 @@ takes_block laws limit d old new piece taken (Some section) part e bytes t =
     (g.0, λ some. omega arith, g.1, g.2, g.3)
 
 -- bytes of the length and the CID alone
-pub takes_head : SpellingLaws → (limit : ℕ) (old new : Part) (piece : List ℕ) (taken : ℕ) → IsPart old → old.declared ≡ None
+pub takes_head : TextLaws → (limit : ℕ) (old new : Part) (piece : List ℕ) (taken : ℕ) → IsPart old → old.declared ≡ None
     → TakesHead limit old new piece taken None → Takes limit (came_of old) (came_of new) piece taken None
 takes_head laws limit old new piece taken part e t =
     let o = open_part old part e in
@@ -119,7 +119,7 @@ lift limit old mid new piece taken more (Some section) less some e within g =
     )
 
 -- the rest of the length and the CID, and bytes of the block
-pub takes_both : SpellingLaws → (limit : ℕ) (d : Declared) (old mid new : Part) (piece : List ℕ) (taken more : ℕ) (section : Option Section) → IsPart old
+pub takes_both : TextLaws → (limit : ℕ) (d : Declared) (old mid new : Part) (piece : List ℕ) (taken more : ℕ) (section : Option Section) → IsPart old
     → old.declared ≡ None → All (λ b. b < 256) piece → TakesHead limit old mid piece taken (Some d)
     → TakesBlock d mid new (drop taken piece) more section → Takes limit (came_of old) (came_of new) piece (taken + more) section
 takes_both laws limit d old mid new piece taken more section part e bytes t u =

@@ -1,40 +1,16 @@
 -- What is written: a header of one root, and what stands before a block.
 use Rattle.std.proofs.Common.{◌≡◌, ℕ, ◌+◌, ◌<◌, ◌≤◌, List, [], ◌∷◌, ◌++◌, length, take, drop, All, ap, sym, ◌∙◌, refl, subst, inl, inr, arith}
-use Rattle.std.proofs.lemmas.List.{append_assoc, append-nil, length-append, length_push, take_at, drop_at}
-use Rattle.std.proofs.lemmas.List.Elements.{All-nil, All-cons, All-append}
+use Rattle.std.proofs.lemmas.List.{append_assoc, append-nil, length-append, take_at, drop_at}
+use Rattle.std.proofs.lemmas.List.Elements.{All-nil, All-cons}
 use Rattle.std.specs.List.{flat_map}
 use Rattle.tg_varint.specs.Varint.{VarintSpelling}
 use Rattle.tg_cid.specs.Cid.{CidParts}
-use Rattle.tg_cid.specs.Spelling.{CidBytes, Varints, codec_code, hash_code}
+use Rattle.tg_cid.specs.Laws.{LengthLaws}
+use Rattle.tg_cid.specs.Spelling.{CidBytes}
 use Rattle.tg_car.specs.CarText.{IsRoot, string_head, root_text, header_map, HeaderText, SectionText}
 use Rattle.tg_car.specs.HeaderState.{map_back}
 use Rattle.tg_car.specs.Writing.{HeaderOf}
 use Rattle.tg_car.proofs.Sizes.{map_size}
-
--- a CID has some bytes
-pub name_some : (cid : CidParts) (name : List ℕ) → CidBytes cid name → 0 < length name
-name_some cid name (inl h) = let long : length name ≡ length (0x12 ∷ 0x20 ∷ cid.digest) = ap length h.whole in omega arith
-name_some cid name (inr h) =
-    let v = h.numbers.3 in
-    let first : length h.numbers.0 ≡ length v.front + 1 = ap length v.whole ∙ length_push v.front v.last in
-    let head : length h.head ≡ length h.numbers.0 + length h.numbers.1 = ap length h.numbers.2 ∙ length-append h.numbers.0 h.numbers.1 in
-    let whole : length name ≡ length h.head + length cid.digest = ap length h.whole ∙ length-append h.head cid.digest in
-    omega arith
-
--- its bytes are bytes
-varints_bytes : (numbers bytes : List ℕ) → Varints numbers bytes → All (λ b. b < 256) bytes
-varints_bytes [] bytes h = subst (λ (l : List ℕ). All (λ b. b < 256) l) (sym h) (All-nil (λ (b : ℕ). b < 256))
-varints_bytes (n ∷ numbers) bytes h =
-    subst (λ (l : List ℕ). All (λ b. b < 256) l) (sym h.2)
-    (All-append (λ (b : ℕ). b < 256) h.0 h.1 h.3.are_bytes (varints_bytes numbers h.1 h.4))
-
-name_bytes : (cid : CidParts) (name : List ℕ) → CidBytes cid name → All (λ b. b < 256) name
-name_bytes cid name (inl h) =
-    subst (λ (l : List ℕ). All (λ b. b < 256) l) (sym h.whole) (All-cons (λ (b : ℕ). b < 256) 0x12 (0x20 ∷ cid.digest) (omega arith)
-    (All-cons (λ (b : ℕ). b < 256) 0x20 cid.digest (omega arith) h.are_bytes))
-name_bytes cid name (inr h) =
-    subst (λ (l : List ℕ). All (λ b. b < 256) l) (sym h.whole)
-    (All-append (λ (b : ℕ). b < 256) h.head cid.digest (varints_bytes (1 ∷ codec_code cid.codec ∷ hash_code cid.hash ∷ length cid.digest ∷ []) h.head h.numbers) h.are_bytes)
 
 -- how many bytes the map of one root has
 pub map_long : (name : List ℕ) → length (header_map ((0 ∷ name) ∷ [])) ≡ (length (string_head (length name + 1)) + length name) + 20
@@ -73,12 +49,12 @@ one_root name head size bytes some few are_bytes spelled is e =
     }
 
 -- what the writer puts together
-pub one_header : (cid : CidParts) (name head size bytes : List ℕ) (count : ℕ) → VarintSpelling count size
+pub one_header : LengthLaws → (cid : CidParts) (name head size bytes : List ℕ) (count : ℕ) → VarintSpelling count size
     → CidBytes (record cid { version = 1 }) name → length name ≤ 133 → count ≡ (length head + length name) + 20
     → head ≡ string_head (length name + 1)
     → bytes ≡ ((((size ++ (0xa2 ∷ 0x65 ∷ 114 ∷ 111 ∷ 111 ∷ 116 ∷ 115 ∷ 0x81 ∷ 0xd8 ∷ 0x2a ∷ [])) ++ head) ++ 0 ∷ []) ++ name) ++ map_back
     → HeaderOf cid bytes
-one_header cid name head size bytes count spelled is few count_is head_is e =
+one_header laws cid name head size bytes count spelled is few count_is head_is e =
     let map : count ≡ length (header_map ((0 ∷ name) ∷ [])) =
     count_is ∙ (ap (λ (l : List ℕ). (length l + length name) + 20) head_is ∙ sym (map_long name)) in
     let front : List ℕ = 0xa2 ∷ 0x65 ∷ 114 ∷ 111 ∷ 111 ∷ 116 ∷ 115 ∷ 0x81 ∷ 0xd8 ∷ 0x2a ∷ [] in
@@ -88,7 +64,7 @@ one_header cid name head size bytes count spelled is few count_is head_is e =
     ∙ (append_assoc (size ++ front) head (0 ∷ [] ++ (name ++ map_back)) ∙ append_assoc size front (head ++ (0 ∷ [] ++ (name ++ map_back)))))) in (
       name,
       is,
-      one_root name head size bytes (name_some (record cid { version = 1 }) name is) few (name_bytes (record cid { version = 1 }) name is)
+      one_root name head size bytes (laws.some (record cid { version = 1 }) name is) few (laws.are_bytes (record cid { version = 1 }) name is)
           (subst (λ (n : ℕ). VarintSpelling n size) map spelled) head_is whole,
     )
 

@@ -1,5 +1,5 @@
 -- The length and the CID at the front of a section.
-use Rattle.std.specs.Prelude.{◌≡◌, ℕ, ◌+◌, ◌<◌, ◌≤◌, List, ◌++◌, length}
+use Rattle.std.specs.Prelude.{◌≡◌, ℕ, ◌+◌, ◌<◌, List, ◌++◌, length}
 use Rattle.tg_varint.specs.Varint.{VarintSpelling}
 use Rattle.tg_cid.specs.Cid.{CidParts}
 use Rattle.tg_cid.specs.Spelling.{CidBytes}
@@ -23,15 +23,3 @@ pub record IsInHead (bytes : List ℕ) : Type 0 where
 -- no section's length and CID begin with these bytes
 pub record IsNoHead (bytes : List ℕ) : Type 0 where
   pub none : (cid : CidParts) (number : ℕ) (more : List ℕ) → HeadText cid number (bytes ++ more) → ⊥
-
--- the fewest bytes of a CID that begins so
-pub record IsFewest (name : List ℕ) (count : ℕ) : Type 0 where
-  pub cid : CidParts
-  pub more : List ℕ
-  pub begins : CidBytes cid (name ++ more)
-  pub count_is : count ≡ length (name ++ more)
-  pub fewest : (other : CidParts) (rest : List ℕ) → CidBytes other (name ++ rest) → count ≤ length (name ++ rest)
-
--- no CID begins so
-pub record IsNoName (name : List ℕ) : Type 0 where
-  pub none : (cid : CidParts) (more : List ℕ) → CidBytes cid (name ++ more) → ⊥

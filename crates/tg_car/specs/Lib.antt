@@ -1,8 +1,8 @@
+pub mod TextLaws
 pub mod CarText
 pub mod Fronts
 pub mod Faults
 pub mod Heads
-pub mod NameHeads
 pub mod Filling
 pub mod History
 pub mod HeaderState

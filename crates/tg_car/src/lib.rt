@@ -6,7 +6,6 @@ mod fault;
 mod head;
 mod header_state;
 mod laws;
-mod name;
 mod part;
 mod reader;
 mod room;

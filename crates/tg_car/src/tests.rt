@@ -19,6 +19,11 @@ const DIRECTORY_SECTION_HEAD: &[u8] =
     b"\x28\x01\x70\x12\x20\x59\x94\x84\x39\x06\x5f\x29\x61\x9e\xf4\x12\x80\xcb\xb9\x32\xbe\x52\xc5\
         \x6d\x99\xc5\x96\x6b\x65\xe0\x11\x12\x39\xf0\x98\xbb\xef";
 
+// Its CID.
+const DIRECTORY_CID: &[u8] =
+    b"\x01\x70\x12\x20\x59\x94\x84\x39\x06\x5f\x29\x61\x9e\xf4\x12\x80\xcb\xb9\x32\xbe\x52\xc5\
+        \x6d\x99\xc5\x96\x6b\x65\xe0\x11\x12\x39\xf0\x98\xbb\xef";
+
 const DIRECTORY_BLOCK: &[u8] = b"\x0a\x02\x08\x01";
 
 // Its CIDv0.
@@ -68,7 +73,9 @@ fn outcome_of(bytes: &[u8]) -> Outcome {
 }
 
 // The front of a header, a root and how many of it follow, and what is behind them; and the outcome.
-const HEADERS: [(&[u8], &[u8], usize, &[u8], Outcome); 61] = [
+type HeaderRow<'a> = (&'a [u8], &'a [u8], usize, &'a [u8], Outcome);
+
+const HEADERS: &[HeaderRow<'static>] = &[
     // Lengths: 17 is the least, and the next is 22; 13,074 is the greatest, and each is in its shortest spelling.
     (b"", b"", 0, b"", Outcome::Inside),
     (b"\x00", b"", 0, b"", Outcome::Refused(0)),
@@ -313,15 +320,22 @@ const HEADERS: [(&[u8], &[u8], usize, &[u8], Outcome); 61] = [
     ),
 ];
 
+// The bytes of a front, roots and what is behind them.
+fn header_bytes(alloc: Global, row: &HeaderRow<'_>) -> Result<Vec<u8>, AllocError> {
+    let (front, root, count, behind, _) = row;
+    let mut bytes = Vec::from_slice(alloc, front)?;
+    for _ in 0..*count {
+        bytes.extend_from_slice(root)?;
+    }
+    bytes.extend_from_slice(behind)?;
+    Ok(bytes)
+}
+
 #[test]
 fn headers(rt: HostRuntime) -> Result<(), Fail> {
-    for (front, root, count, behind, wanted) in HEADERS {
-        let mut bytes = Vec::from_slice(rt.alloc(), front)?;
-        for _ in 0..count {
-            bytes.extend_from_slice(root)?;
-        }
-        bytes.extend_from_slice(behind)?;
-        assert_eq!(rt; outcome_of(bytes.as_slice()), wanted);
+    for row in HEADERS {
+        let bytes = header_bytes(rt.alloc(), row)?;
+        assert_eq!(rt; outcome_of(bytes.as_slice()), row.4, "{bytes:?}");
     }
     Ok(())
 }
@@ -360,6 +374,33 @@ struct Answers {
     taken: usize,
     ended: Result<(), CarFault>,
     kept: bool,
+}
+
+// How many headers and sections a reader gives, and its end or refusal.
+type Wanted = (usize, usize, Result<(), CarFault>);
+
+impl Answers {
+    // Whether the reader answered so, gave each section in its place and kept its refusal.
+    fn are(&self, wanted: Wanted) -> bool {
+        let (headers, sections, ended) = wanted;
+        let given = self.headers == headers && self.sections == sections && self.ended == ended;
+        given && self.placed && self.kept
+    }
+
+    // Whether what it gave is a front of the text, and the whole where it refused nothing.
+    fn spell(&self, text: &[u8]) -> bool {
+        let again = self.again.as_slice();
+        text.starts_with(again) && (self.ended.is_err() || again.len() == text.len())
+    }
+
+    // Whether it took the whole text; of one that it refused, in pieces of one byte, all but the last byte.
+    fn take_of(&self, text: &[u8], size: usize) -> bool {
+        match (self.ended, size) {
+            (Ok(()) | Err(CarFault::Torn { .. }), _) => self.taken == text.len(),
+            (Err(_), 1) => self.taken.saturating_add(1) == text.len(),
+            (Err(_), _) => true,
+        }
+    }
 }
 
 // A reader's answers to a text in pieces of so many bytes.
@@ -442,43 +483,6 @@ fn add_event(answers: &mut Answers, event: Event) -> Result<(), AllocError> {
     Ok(())
 }
 
-// A text as its parts, one after another, and how many bytes its header has, or 0.
-#[derive(Clone, Copy)]
-struct Text<'a> {
-    header: usize,
-    parts: [&'a [u8]; 4],
-    limit: u64,
-    sections: usize,
-    ended: Result<(), CarFault>,
-}
-
-// Sections behind the header of the directory, which has 59 bytes.
-fn sections_of<'a>(
-    parts: [&'a [u8]; 3],
-    limit: u64,
-    sections: usize,
-    ended: Result<(), CarFault>,
-) -> Text<'a> {
-    Text {
-        header: 59,
-        parts: [DIRECTORY_HEADER, parts[0], parts[1], parts[2]],
-        limit,
-        sections,
-        ended,
-    }
-}
-
-// A header alone, or its refusal.
-fn header_of<'a>(header: usize, front: &'a [u8], ended: Result<(), CarFault>) -> Text<'a> {
-    Text {
-        header,
-        parts: [front, b"", b"", b""],
-        limit: 1000,
-        sections: 0,
-        ended,
-    }
-}
-
 const BAD_HEADER: Result<(), CarFault> = Err(CarFault::BadHeader { at: 0 });
 
 const BAD_SECTION: Result<(), CarFault> = Err(CarFault::BadSection { at: 59 });
@@ -486,164 +490,168 @@ const BAD_SECTION: Result<(), CarFault> = Err(CarFault::BadSection { at: 59 });
 // 2 ^ 63 - 1, the greatest length.
 const HUGE: &[u8] = b"\xff\xff\xff\xff\xff\xff\xff\xff\x7f";
 
+// How many headers are given of a CAR, its bytes, and its end or the refusal.
+const HEADER_TEXTS: &[(usize, &[u8], Result<(), CarFault>)] = &[
+    (1, b"\x11\xa2\x65roots\x80\x67version\x01", Ok(())),
+    (
+        1,
+        b"\x16\xa2\x65roots\x81\xd8\x2a\x42\x00\xff\x67version\x01",
+        Ok(()),
+    ),
+    (
+        1,
+        b"\x1b\xa2\x65roots\x82\xd8\x2a\x42\x00\xff\xd8\x2a\x42\x00\xff\x67version\x01",
+        Ok(()),
+    ),
+    (0, b"\x10", BAD_HEADER),
+    (0, b"\x14", BAD_HEADER),
+    (0, b"\xb0\x6d", BAD_HEADER),
+    (0, b"\x11\xa2\x65roots\x81", BAD_HEADER),
+    (0, b"", Err(CarFault::Torn { at: 0 })),
+];
+
+// Parts of a text behind the header of the directory, which has 59 bytes; the limit; how many sections they are; and the end or
+// the refusal.
+type SectionRow<'a> = ([&'a [u8]; 3], u64, usize, Result<(), CarFault>);
+
+const SECTION_TEXTS: &[SectionRow<'static>] = &[
+    // Lengths below 34, not shortest and of ten bytes.
+    ([b"\x00", b"", b""], 1000, 0, BAD_SECTION),
+    ([b"\x21", b"", b""], 1000, 0, BAD_SECTION),
+    ([b"\xa8\x00", b"", b""], 1000, 0, BAD_SECTION),
+    (
+        [b"\x80\x80\x80\x80\x80\x80\x80\x80\x80", b"", b""],
+        1000,
+        0,
+        BAD_SECTION,
+    ),
+    // CIDs refused at each of their first bytes; a CIDv1 has 36 bytes.
+    ([b"\x28\x00", b"", b""], 1000, 0, BAD_SECTION),
+    ([b"\x28\x02", b"", b""], 1000, 0, BAD_SECTION),
+    ([b"\x22\x01", b"", b""], 1000, 0, BAD_SECTION),
+    ([b"\x23\x01", b"", b""], 1000, 0, BAD_SECTION),
+    ([b"\x28\x01\x71", b"", b""], 1000, 0, BAD_SECTION),
+    ([b"\x28\x01\xd5", b"", b""], 1000, 0, BAD_SECTION),
+    ([b"\x28\x01\x70\x13", b"", b""], 1000, 0, BAD_SECTION),
+    ([b"\x28\x01\x55\x12\x21", b"", b""], 1000, 0, BAD_SECTION),
+    ([b"\x28\x12\x21", b"", b""], 1000, 0, BAD_SECTION),
+    // A CID is looked at before the limit, which the last byte of the CID passes.
+    ([HUGE, b"\x01\x55\x13", b""], 1000, 0, BAD_SECTION),
+    (
+        [HUGE, DIRECTORY_CID, b""],
+        1000,
+        0,
+        Err(CarFault::BlockLimit {
+            at: 59,
+            number: 1000,
+        }),
+    ),
+    (
+        [HUGE, DIRECTORY_ZERO, b""],
+        7,
+        0,
+        Err(CarFault::BlockLimit { at: 59, number: 7 }),
+    ),
+    (
+        [DIRECTORY_SECTION_HEAD, b"", b""],
+        3,
+        0,
+        Err(CarFault::BlockLimit { at: 59, number: 3 }),
+    ),
+    ([DIRECTORY_SECTION_HEAD, DIRECTORY_BLOCK, b""], 4, 1, Ok(())),
+    // CIDv0 sections, and sections without block bytes.
+    ([b"\x26", DIRECTORY_ZERO, DIRECTORY_BLOCK], 1000, 1, Ok(())),
+    ([b"\x22", DIRECTORY_ZERO, b""], 0, 1, Ok(())),
+    ([b"\x24", DIRECTORY_CID, b""], 0, 1, Ok(())),
+    // The second section.
+    (
+        [DIRECTORY_SECTION_HEAD, DIRECTORY_BLOCK, b"\x21"],
+        1000,
+        1,
+        Err(CarFault::BadSection { at: 100 }),
+    ),
+    (
+        [DIRECTORY_SECTION_HEAD, DIRECTORY_BLOCK, b"\x28"],
+        1000,
+        1,
+        Err(CarFault::Torn { at: 100 }),
+    ),
+];
+
 // Texts that are refused are refused at their last byte, whatever follows it; the sections of the others are given whole.
 #[test]
 fn read(rt: HostRuntime) -> Result<(), Fail> {
-    let cid = &DIRECTORY_SECTION_HEAD[1..];
-    let rows = [
-        header_of(18, b"\x11\xa2\x65roots\x80\x67version\x01", Ok(())),
-        header_of(
-            23,
-            b"\x16\xa2\x65roots\x81\xd8\x2a\x42\x00\xff\x67version\x01",
-            Ok(()),
-        ),
-        header_of(
-            28,
-            b"\x1b\xa2\x65roots\x82\xd8\x2a\x42\x00\xff\xd8\x2a\x42\x00\xff\x67version\x01",
-            Ok(()),
-        ),
-        header_of(0, b"\x10", BAD_HEADER),
-        header_of(0, b"\x14", BAD_HEADER),
-        header_of(0, b"\xb0\x6d", BAD_HEADER),
-        header_of(0, b"\x11\xa2\x65roots\x81", BAD_HEADER),
-        header_of(0, b"", Err(CarFault::Torn { at: 0 })),
-        // Lengths below 34, not shortest and of ten bytes.
-        sections_of([b"\x00", b"", b""], 1000, 0, BAD_SECTION),
-        sections_of([b"\x21", b"", b""], 1000, 0, BAD_SECTION),
-        sections_of([b"\xa8\x00", b"", b""], 1000, 0, BAD_SECTION),
-        sections_of(
-            [b"\x80\x80\x80\x80\x80\x80\x80\x80\x80", b"", b""],
-            1000,
-            0,
-            BAD_SECTION,
-        ),
-        // CIDs refused at each of their first bytes; a CIDv1 has 36 bytes.
-        sections_of([b"\x28\x00", b"", b""], 1000, 0, BAD_SECTION),
-        sections_of([b"\x28\x02", b"", b""], 1000, 0, BAD_SECTION),
-        sections_of([b"\x22\x01", b"", b""], 1000, 0, BAD_SECTION),
-        sections_of([b"\x23\x01", b"", b""], 1000, 0, BAD_SECTION),
-        sections_of([b"\x28\x01\x71", b"", b""], 1000, 0, BAD_SECTION),
-        sections_of([b"\x28\x01\xd5", b"", b""], 1000, 0, BAD_SECTION),
-        sections_of([b"\x28\x01\x70\x13", b"", b""], 1000, 0, BAD_SECTION),
-        sections_of([b"\x28\x01\x55\x12\x21", b"", b""], 1000, 0, BAD_SECTION),
-        sections_of([b"\x28\x12\x21", b"", b""], 1000, 0, BAD_SECTION),
-        // A CID is looked at before the limit, which the last byte of the CID passes.
-        sections_of([HUGE, b"\x01\x55\x13", b""], 1000, 0, BAD_SECTION),
-        sections_of(
-            [HUGE, cid, b""],
-            1000,
-            0,
-            Err(CarFault::BlockLimit {
-                at: 59,
-                number: 1000,
-            }),
-        ),
-        sections_of(
-            [HUGE, DIRECTORY_ZERO, b""],
-            7,
-            0,
-            Err(CarFault::BlockLimit { at: 59, number: 7 }),
-        ),
-        sections_of(
-            [DIRECTORY_SECTION_HEAD, b"", b""],
-            3,
-            0,
-            Err(CarFault::BlockLimit { at: 59, number: 3 }),
-        ),
-        sections_of([DIRECTORY_SECTION_HEAD, DIRECTORY_BLOCK, b""], 4, 1, Ok(())),
-        // CIDv0 sections, and sections without block bytes.
-        sections_of([b"\x26", DIRECTORY_ZERO, DIRECTORY_BLOCK], 1000, 1, Ok(())),
-        sections_of([b"\x22", DIRECTORY_ZERO, b""], 0, 1, Ok(())),
-        sections_of([b"\x24", cid, b""], 0, 1, Ok(())),
-        // The second section.
-        sections_of(
-            [DIRECTORY_SECTION_HEAD, DIRECTORY_BLOCK, b"\x21"],
-            1000,
-            1,
-            Err(CarFault::BadSection { at: 100 }),
-        ),
-        sections_of(
-            [DIRECTORY_SECTION_HEAD, DIRECTORY_BLOCK, b"\x28"],
-            1000,
-            1,
-            Err(CarFault::Torn { at: 100 }),
-        ),
-    ];
-    for row in rows {
-        let mut text = Vec::new(rt.alloc());
-        for part in row.parts {
-            text.extend_from_slice(part)?;
-        }
-        check(&rt, row, text.as_slice())?;
+    for (headers, text, ended) in HEADER_TEXTS {
+        check(&rt, 1000, (*headers, 0, *ended), text)?;
+    }
+    for (parts, limit, sections, ended) in SECTION_TEXTS {
+        let text = joined(rt.alloc(), DIRECTORY_HEADER, parts)?;
+        check(&rt, *limit, (1, *sections, *ended), text.as_slice())?;
     }
     Ok(())
 }
 
-fn check(rt: &(impl Abort + AllocGlobal), row: Text, text: &[u8]) -> Result<(), Fail> {
-    let torn = matches!(row.ended, Err(CarFault::Torn { .. }));
-    let refused = row.ended.is_err() && !torn;
-    for size in [1, 7, 100, 1000] {
-        let answers = read_in_pieces(rt.alloc(), row.limit, text, size)?;
-        assert_eq!(rt; answers.ended, row.ended);
-        assert!(rt; answers.kept && answers.placed);
-        assert_eq!(rt; answers.headers, usize::from(row.header > 0));
-        assert_eq!(rt; answers.sections, row.sections);
-        if !refused {
-            assert_eq!(rt; answers.taken, text.len());
-        } else if size == 1 {
-            assert_eq!(rt; answers.taken.saturating_add(1), text.len());
-        }
-        assert!(rt; text.starts_with(answers.again.as_slice()));
-        if row.ended.is_ok() {
-            assert_eq!(rt; answers.again.len(), text.len());
-        }
+// The bytes of a front and of the parts behind it.
+fn joined(alloc: Global, front: &[u8], parts: &[&[u8]]) -> Result<Vec<u8>, AllocError> {
+    let mut text = Vec::from_slice(alloc, front)?;
+    for part in parts {
+        text.extend_from_slice(part)?;
     }
-    if refused {
-        let mut longer = Vec::from_slice(rt.alloc(), text)?;
-        longer.extend_from_slice(text)?;
-        let answers = read_in_pieces(rt.alloc(), row.limit, longer.as_slice(), 1000)?;
-        assert_eq!(rt; answers.ended, row.ended);
-        assert_eq!(rt; answers.headers, usize::from(row.header > 0));
-        assert_eq!(rt; answers.sections, row.sections);
+    Ok(text)
+}
+
+fn check(
+    rt: &(impl Abort + AllocGlobal),
+    limit: u64,
+    wanted: Wanted,
+    text: &[u8],
+) -> Result<(), Fail> {
+    for size in [1, 7, 100, 1000] {
+        let answers = read_in_pieces(rt.alloc(), limit, text, size)?;
+        let is_so = answers.are(wanted) && answers.spell(text) && answers.take_of(text, size);
+        assert!(rt; is_so, "{wanted:?} in pieces of {size}: {answers:?}");
+    }
+    if !matches!(wanted.2, Ok(()) | Err(CarFault::Torn { .. })) {
+        let longer = joined(rt.alloc(), text, &[text])?;
+        let answers = read_in_pieces(rt.alloc(), limit, longer.as_slice(), 1000)?;
+        assert!(rt; answers.are(wanted), "{wanted:?} and more: {answers:?}");
     }
     Ok(())
 }
 
 #[test]
 fn cut(rt: HostRuntime) -> Result<(), Fail> {
-    let mut text = Vec::from_slice(rt.alloc(), DIRECTORY_HEADER)?;
-    text.extend_from_slice(DIRECTORY_SECTION_HEAD)?;
-    text.extend_from_slice(DIRECTORY_BLOCK)?;
+    let parts = [DIRECTORY_SECTION_HEAD, DIRECTORY_BLOCK];
+    let text = joined(rt.alloc(), DIRECTORY_HEADER, &parts)?;
     let text = text.as_slice();
     assert_eq!(rt; text.len(), 100);
     for end in 0..=text.len() {
-        let ended = match end {
-            0..59 => Err(CarFault::Torn { at: 0 }),
-            59 | 100 => Ok(()),
-            _ => Err(CarFault::Torn { at: 59 }),
+        let wanted = match end {
+            0..59 => (0, 0, Err(CarFault::Torn { at: 0 })),
+            59 => (1, 0, Ok(())),
+            100 => (1, 1, Ok(())),
+            _ => (1, 0, Err(CarFault::Torn { at: 59 })),
         };
         for size in [1, 7, 100] {
             let answers = read_in_pieces(rt.alloc(), 4, &text[..end], size)?;
-            assert_eq!(rt; answers.ended, ended);
-            assert!(rt; answers.kept && answers.placed);
-            assert_eq!(rt; answers.headers, usize::from(end >= 59));
-            assert_eq!(rt; answers.sections, usize::from(end == 100));
-            assert_eq!(rt; answers.taken, end);
+            let is_so = answers.are(wanted) && answers.taken == end;
+            assert!(rt; is_so, "{wanted:?} in pieces of {size}: {answers:?}");
         }
     }
+    Ok(())
+}
 
-    // 1,000 sections behind the header.
+#[test]
+fn a_thousand_sections(rt: HostRuntime) -> Result<(), Fail> {
+    let section = joined(rt.alloc(), DIRECTORY_SECTION_HEAD, &[DIRECTORY_BLOCK])?;
     let mut long = Vec::from_slice(rt.alloc(), DIRECTORY_HEADER)?;
     for _ in 0..1000 {
-        long.extend_from_slice(&text[59..])?;
+        long.extend_from_slice(section.as_slice())?;
     }
     for size in [7, 65_536] {
         let answers = read_in_pieces(rt.alloc(), 4, long.as_slice(), size)?;
-        assert_eq!(rt; answers.ended, Ok(()));
-        assert!(rt; answers.placed);
-        assert_eq!(rt; answers.headers, 1);
-        assert_eq!(rt; answers.sections, 1000);
-        assert_eq!(rt; answers.again.as_slice(), long.as_slice());
+        let is_so = answers.are((1, 1000, Ok(()))) && answers.spell(long.as_slice());
+        assert!(rt; is_so, "in pieces of {size}");
     }
     Ok(())
 }

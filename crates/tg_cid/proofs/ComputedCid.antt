@@ -3,7 +3,7 @@ use Rattle.std.proofs.Common.{◌≡◌, ℕ, ◌<◌, ◌≤◌, true, Option, 
 use Rattle.std.specs.Prelude.{◌↔◌, ◌==◌, ◌&&◌, if◌then◌else◌}
 use Rattle.std.proofs.lemmas.Bool.{cond_both, cond-true, eqb-true, eq-eqb, and_parts, and_from}
 use Rattle.std.proofs.lemmas.List.{append-nil, length-append}
-use Rattle.std.proofs.lemmas.List.Elements.{All-append, All-cons, All-tail}
+use Rattle.std.proofs.lemmas.List.Elements.{All-tail}
 use Rattle.tg_base32.specs.Laws.{TextLaws}
 use Rattle.tg_varint.specs.Computed.{varint, front_number}
 use Rattle.tg_varint.specs.Laws.{SpellingLaws}
@@ -16,6 +16,7 @@ use Rattle.tg_cid.specs.declared.cid.Codec.TheVariants.{Raw, DagPb}
 use Rattle.tg_cid.specs.declared.cid.HashKind.{HashKind}
 use Rattle.tg_cid.specs.declared.cid.HashKind.TheVariants.{Sha256, Identity}
 use Rattle.tg_cid.proofs.Causes.{same_cid}
+use Rattle.tg_cid.proofs.Lengths.{name_bytes}
 use Rattle.tg_cid.proofs.Prefix.{one_is}
 use Rattle.tg_cid.proofs.Written.{size_most, one_written}
 
@@ -277,28 +278,10 @@ bytes_law laws cid bytes h =
     let d = digest_is cid bytes h in
     one_written laws cid (varint (length cid.digest)) (v1_bytes cid) d.0 d.1 (size_spelled laws cid.hash (length cid.digest) d.0) refl
 
-code_below : (codec : Codec) → codec_code codec < 256
-code_below Raw = omega arith
-code_below DagPb = omega arith
-
-hash_below : (hash : HashKind) → hash_code hash < 256
-hash_below Sha256 = omega arith
-hash_below Identity = omega arith
-
-v1_are : SpellingLaws → (cid : CidParts) → IsDigestSize cid.hash (length cid.digest) → AreBytes cid.digest → AreBytes (v1_bytes cid)
-v1_are laws cid is are =
-    let code = codec_code cid.codec in
-    let hash = hash_code cid.hash in
-    let size = varint (length cid.digest) in
-    let spelled = size_spelled laws cid.hash (length cid.digest) is in
-    All-cons (λ (b : ℕ). b < 256) 1 (code ∷ hash ∷ (size ++ cid.digest)) (omega arith)
-    (All-cons (λ (b : ℕ). b < 256) code (hash ∷ (size ++ cid.digest)) (code_below cid.codec)
-    (All-cons (λ (b : ℕ). b < 256) hash (size ++ cid.digest) (hash_below cid.hash)
-    (All-append (λ (b : ℕ). b < 256) size cid.digest spelled.are_bytes are)))
-
 pub text_law_of : SpellingLaws → TextLaws → (cid : CidParts) (bytes : List ℕ) → CidBytes cid bytes → CidText (record cid { version = 1 }) (cid_text cid)
 unfolding cid_text
 text_law_of laws texts cid bytes h =
-    let d = digest_is cid bytes h in
-    let base = texts.computed (v1_bytes cid) (v1_are laws cid d.0 d.1) in
-    record { bytes = v1_bytes cid; in_base = record { letters = _; begins = refl; rest = base }; in_bytes = bytes_law laws cid bytes h }
+    let one : CidParts = record { version = 1; codec = cid.codec; hash = cid.hash; digest = cid.digest } in
+    let spelled = bytes_law laws cid bytes h in
+    let base = texts.computed (v1_bytes cid) (name_bytes one (v1_bytes cid) (inr spelled)) in
+    record { bytes = v1_bytes cid; in_base = record { letters = _; begins = refl; rest = base }; in_bytes = spelled }

@@ -9,3 +9,5 @@ mod Unique
 mod Written
 mod ComputedCid
 mod ComputedValues
+mod Lengths
+mod Heads

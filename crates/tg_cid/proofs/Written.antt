@@ -10,11 +10,11 @@ use Rattle.tg_cid.specs.declared.cid.Codec.TheVariants.{Raw, DagPb}
 use Rattle.tg_cid.specs.declared.cid.HashKind.{HashKind}
 use Rattle.tg_cid.specs.declared.cid.HashKind.TheVariants.{Sha256, Identity}
 
-code_below : (codec : Codec) → codec_code codec < 128
+pub code_below : (codec : Codec) → codec_code codec < 128
 code_below Raw = omega arith
 code_below DagPb = omega arith
 
-hash_below : (hash : HashKind) → hash_code hash < 128
+pub hash_below : (hash : HashKind) → hash_code hash < 128
 hash_below Sha256 = omega arith
 hash_below Identity = omega arith
 

@@ -6,3 +6,5 @@ pub mod Digest
 pub mod Faults
 pub mod Reading
 pub mod Computed
+pub mod Fewest
+pub mod Laws

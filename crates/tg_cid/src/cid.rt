@@ -24,7 +24,7 @@ use std::marker::Model;
 use tg_bytes::Bytes;
 
 // How many bytes a digest of sha2-256 has.
-const SHA256_LEN: usize = 32;
+pub(crate) const SHA256_LEN: usize = 32;
 
 /// How the blocks that a CID names are read.
 #[derive(Clone, Copy, Debug, PartialEq, Eq, Hash)]

@@ -1,9 +1,10 @@
 //! The laws of CIDs, for proofs.
-ghost use Rattle.std.specs.Prelude.{◌≡◌, ℕ, ◌≤◌, ◌↔◌, List, ◌++◌, length, IsTrue};
+ghost use Rattle.std.specs.Prelude.{◌≡◌, ℕ, ◌≤◌, ◌↔◌, List, length, IsTrue};
 ghost use Rattle.tg_cid.specs.Cid.{CidParts};
+ghost use Rattle.tg_cid.specs.Laws.{LengthLaws, OneSpelling};
 ghost use Rattle.tg_cid.specs.Limits.{max_digest_len};
 ghost use Rattle.tg_cid.specs.Names.{Names};
-ghost use Rattle.tg_cid.specs.Spelling.{CidBytes, CidText, IsDigestSize};
+ghost use Rattle.tg_cid.specs.Spelling.{CidBytes, IsDigestSize};
 
 use crate::cid::Cid;
 use std::hash::Hash;
@@ -13,13 +14,19 @@ use std::hash::Hash;
 ///
 /// CID specification; multihash; multibase.
 pub fn one_spelling()
-    ensures no_front { (a b : CidParts) (u v x y : List ℕ) → CidBytes a u → CidBytes b v → u ++ x ≡ v ++ y → (u ≡ v) × (a ≡ b) }
-    ensures one_bytes { (a : CidParts) (u v : List ℕ) → CidBytes a u → CidBytes a v → u ≡ v }
-    ensures one_text { (a : CidParts) (s t : List ℕ) → CidText a s → CidText a t → s ≡ t }
-    ensures one_cid { (a b : CidParts) (t : List ℕ) → CidText a t → CidText b t → a ≡ b }
+    ensures { OneSpelling }
 {
     tg_varint::spelling_laws();
     tg_base32::text_laws();
+}
+
+/// The bytes of a CID are bytes, there are 1 to 133 of them, and there is a CID.
+///
+/// CID specification; multihash.
+pub fn length_laws()
+    ensures { LengthLaws }
+{
+    tg_varint::spelling_laws();
 }
 
 /// A CID that is spelled has a digest of the size that its hash gives, 32 bytes for sha2-256 and at most 128 for any; and

@@ -36,6 +36,21 @@ fn spellings(rt: HostRuntime) -> Result<(), Fail> {
         assert!(rt; cid.holds(block) && !cid.holds(b"another"));
         assert_eq!(rt; cid == cid.to_v1(), cid.version() == 1);
     }
+    // A CIDv0 has 34 bytes, and a CIDv1 36.
+    let fewest: [(&[u8], Option<usize>); 9] = [
+        (b"", Some(34)),
+        (b"\x12", Some(34)),
+        (b"\x12\x21", None),
+        (ZERO_BYTES, Some(34)),
+        (b"\x01", Some(36)),
+        (b"\x01\x70\x12", Some(36)),
+        (RAW_BYTES, Some(36)),
+        (b"\x01\x55\x00", None),
+        (b"\x02", None),
+    ];
+    for (bytes, count) in fewest {
+        assert_eq!(rt; Cid::fewest(bytes), count);
+    }
     // Each refusal, as it is printed.
     let refused: [(&[u8], CidFault, &str); 9] = [
         (b"\x12", CidFault::Short { at: 1 }, "Short 1"),

@@ -2,11 +2,11 @@ use Rattle.tg_car.proofs.Openings.{no_name, too_few, open_name, whole_name, brok
 use Rattle.tg_car.proofs.head.behind_size.Goals as goal
 
 pub returns-in_default : goal.returns-in_default
-returns-in_default c = λ spelling v. no_name c.spelling_laws.ensures c.args.size spelling c.args.name.now v c.in_default.ensures
+returns-in_default c = λ spelling v. no_name c.text_laws.ensures c.args.size spelling c.args.name.now v c.in_default.ensures
 
 pub returns-then-size-count : goal.returns-then-size-count
 returns-then-size-count c = λ spelling v.
-    too_few c.spelling_laws.ensures c.args.size spelling c.args.name.now c.in-Some.count v c.in-Some.ensures c.if-size-count.true
+    too_few c.text_laws.ensures c.args.size spelling c.args.name.now c.in-Some.count v c.in-Some.ensures c.if-size-count.true
 
 pub returns-then-name-count : goal.returns-then-name-count
 returns-then-name-count c = λ spelling v.

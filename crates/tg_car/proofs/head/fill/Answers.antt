@@ -5,7 +5,7 @@ use Rattle.tg_car.proofs.Takings.{filled}
 use Rattle.tg_car.proofs.head.fill.Goals as goal
 
 pub push-requires : goal.push-requires
-push-requires c = omega (arith, in_head_size c.spelling_laws.ensures c.loop-at.head c.loop-at.invariant.1)
+push-requires c = omega (arith, in_head_size c.text_laws.ensures c.loop-at.head c.loop-at.invariant.1)
 
 pub returns-in_default : goal.returns-in_default
 returns-in_default c =

@@ -15,10 +15,10 @@ pub returns-in-Err-Short : goal.returns-in-Err-Short
 returns-in-Err-Short c =
     let bytes : All (λ b. b < 256) c.args.bytes.now =
     All-from_get_or (λ b. b < 256) c.args.bytes.now 0 (λ i l. omega (arith, c.type_inv.bytes i)) in
-    short_size c.spelling_laws.ensures c.args.bytes.now (c.read.ensures.short.0 cc) bytes
+    short_size c.text_laws.ensures c.args.bytes.now (c.read.ensures.short.0 cc) bytes
 
 pub returns-in-Err-TooLong : goal.returns-in-Err-TooLong
-returns-in-Err-TooLong c = long_size c.spelling_laws.ensures c.args.bytes.now (c.read.ensures.too_long.0 cc)
+returns-in-Err-TooLong c = long_size c.text_laws.ensures c.args.bytes.now (c.read.ensures.too_long.0 cc)
 
 pub returns-in-Err-NotShortest : goal.returns-in-Err-NotShortest
-returns-in-Err-NotShortest c = zero_size c.spelling_laws.ensures c.args.bytes.now (c.read.ensures.not_shortest.0 cc)
+returns-in-Err-NotShortest c = zero_size c.text_laws.ensures c.args.bytes.now (c.read.ensures.not_shortest.0 cc)

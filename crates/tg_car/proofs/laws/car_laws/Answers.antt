@@ -6,12 +6,12 @@ use Rattle.tg_car.proofs.laws.car_laws.Goals as goal
 
 pub returns : goal.returns
 returns c =
-    let laws = c.spelling_laws.ensures in
+    let laws = c.text_laws.ensures in
     record {
-      one_header = one_header laws.no_front;
+      one_header = one_header laws.varints.no_front;
       header_text = header_text laws;
       one_section = one_section laws;
-      section_text = section_text laws c.one_spelling.ensures.one_bytes;
+      section_text = section_text laws;
       none_missed = none_missed laws;
       one_division = one_division laws;
       one_refusal = one_refusal laws;

@@ -25,7 +25,7 @@ returns c =
     let fourth = c.in_ok-push_all-3.ensures.ok in
     let fifth = c.in_ok-push_all-4.ensures.ok in
     let last = c.in_ok-push_all-5.ensures.ok in
-    one_header c.args.root.now name head size c.push_all-5.new.self _ c.write-number_size.ensures.spelling is (omega arith) (omega arith)
+    one_header c.length_laws.ensures c.args.root.now name head size c.push_all-5.new.self _ c.write-number_size.ensures.spelling is (omega arith) (omega arith)
     (c.string_head-head_size.ensures.head ∙ ap string_head (omega arith))
     (last ∙ ap (λ (l : List ℕ). l ++ map_back) (fifth ∙ ap (λ (l : List ℕ). l ++ name) (fourth ∙ ap (λ (l : List ℕ). l ++ 0 ∷ [])
     (third ∙ ap (λ (l : List ℕ). l ++ head) (second ∙ ap (λ (l : List ℕ). l ++ front) first)))))

@@ -1,15 +1,12 @@
-use Rattle.std.proofs.Common.{◌≡◌, ap, rules}
+use Rattle.std.proofs.Common.{ap, rules}
 use Rattle.std.proofs.lemmas.Bool.{and_parts, and_from, eqb-true, eq-eqb}
 use Rattle.std.proofs.lemmas.Slice.Eq.{bytes_eq-Decides}
 use denote.Enum.Bare.{same_true, true_same}
 use Rattle.tg_cid.specs.Cid.{CidParts}
 use Rattle.tg_cid.specs.contracts.cid.Codec as codecs
 use Rattle.tg_cid.specs.contracts.cid.HashKind as hashes
+use Rattle.tg_cid.proofs.Causes.{same_cid}
 use Rattle.tg_cid.proofs.laws.equality.Goals as goal
-
--- equal parts make equal CIDs
-same_parts : (a b : CidParts) → a.version ≡ b.version → a.codec ≡ b.codec → a.hash ≡ b.hash → a.digest ≡ b.digest → a ≡ b
-same_parts a b v c h d = λ i. record { version = v i; codec = c i; hash = h i; digest = d i }
 
 pub returns : goal.returns
 returns c = λ a b. (
@@ -17,7 +14,7 @@ returns c = λ a b. (
       let versions = and_parts _ _ h in
       let codecs_are = and_parts _ _ versions.1 in
       let hashes_are = and_parts _ _ codecs_are.1 in
-      same_parts a b (eqb-true _ _ versions.0) (same_true codecs.the_type (search rules) _ _ codecs_are.0) (same_true hashes.the_type (search rules) _ _ hashes_are.0)
+      same_cid a b (eqb-true _ _ versions.0) (same_true codecs.the_type (search rules) _ _ codecs_are.0) (same_true hashes.the_type (search rules) _ _ hashes_are.0)
       ((bytes_eq-Decides _ _).0 hashes_are.1),
   λ e.
       and_from _ _ (eq-eqb _ _ (ap (λ (p : CidParts). p.version) e))

@@ -22,7 +22,7 @@ returns-in_default c =
     } in
     let was : c.self.inside.in_header ≡ true = ap (λ (s : ReaderState). s.in_header) c.self.view_is ∙ c.requires in
     subst (λ (s : ReaderState). Stops s s c.args.piece.now (BadHeader 0)) c.self.view_is
-    (header_bad c.spelling_laws.ensures old c.args.piece.now was c.in_default.ensures.bytes)
+    (header_bad c.text_laws.ensures old c.args.piece.now was c.in_default.ensures.bytes)
 
 pub returns-in_err-keep : goal.returns-in_err-keep
 returns-in_err-keep c =
@@ -42,7 +42,7 @@ returns-in_err-keep c =
     let new : ReaderState = record old { text = c.keep.new.text.items } in
     let p = err_from_is_err_and c.from_residual.result c.from_residual.ensures.1 in
     rw (p.1, p.2) (stops_from old c.args.self.now new c.args.piece.now OutOfMemory c.self.view_is
-    (header_memory c.spelling_laws.ensures old new c.args.piece.now found.taken found.state found.whole refl was
+    (header_memory c.text_laws.ensures old new c.args.piece.now found.taken found.state found.whole refl was
     (omega (arith, length-take-le found.taken c.args.piece.now most)) c.in-Some.ensures.taken c.in-Some.ensures.bytes))
 
 pub returns-then-found : goal.returns-then-found
@@ -59,7 +59,7 @@ returns-then-found c =
     let was : c.self.inside.in_header ≡ true = ap (λ (s : ReaderState). s.in_header) c.self.view_is ∙ c.requires in
     let found = c.in-Some.found in
     steps_from old _ _ c.args.piece.now found.taken (Header c.from.result) c.self.view_is
-    (header_done c.spelling_laws.ensures old _ c.args.piece.now c.from.result found.taken found.state found.whole refl refl was refl refl (c.from.ensures ∙ rw c.replace-text.ensures.value c.in_ok-keep.ensures.items)
+    (header_done c.text_laws.ensures old _ c.args.piece.now c.from.result found.taken found.state found.whole refl refl was refl refl (c.from.ensures ∙ rw c.replace-text.ensures.value c.in_ok-keep.ensures.items)
     c.saturating_add-self-inside.ensures c.if-found.true c.in-Some.ensures.taken c.in-Some.ensures.bytes)
 
 pub returns : goal.returns

@@ -39,7 +39,7 @@ returns-in-Ok-default-Some c =
     let size = c.saturating_add-size.result in
     let new : ReaderState = record old { place = c.saturating_add-self-inside.result; came = came_of c.take.new.self } in
     subst (λ (s : ReaderState). Steps s new c.args.piece.now c.in-Ok-default-Some.taken (Section c.self.inside.place size c.in-Ok-default-Some.section)) c.self.view_is
-    (section_done c.spelling_laws.ensures old new c.args.piece.now
+    (section_done c.text_laws.ensures old new c.args.piece.now
     c.in-Ok-default-Some.taken c.len-came.result size c.in-Ok-default-Some.section refl refl was was c.len-came.ensures c.saturating_add-size.ensures
     c.saturating_add-self-inside.ensures (rw c.in-Ok-default-Some.field-0-1-is at c.in-Ok-default-Some.ensures.took))
 
@@ -57,7 +57,7 @@ returns-in-Err-Bad c =
     let was : c.self.inside.in_header ≡ false = ap (λ (s : ReaderState). s.in_header) c.self.view_is ∙ c.requires in
     let new : ReaderState = record old { came = came_of c.take.new.self } in
     subst (λ (s : ReaderState). Stops s new c.args.piece.now (BadSection c.self.inside.place)) c.self.view_is
-    (section_bad c.spelling_laws.ensures old new c.args.piece.now c.self.inside.place refl was refl
+    (section_bad c.text_laws.ensures old new c.args.piece.now c.self.inside.place refl was refl
     (rw c.in-Err-Bad.field-0-is at c.in-Err-Bad.ensures.took))
 
 pub returns-in-Err-AboveLimit : goal.returns-in-Err-AboveLimit
@@ -74,7 +74,7 @@ returns-in-Err-AboveLimit c =
     let was : c.self.inside.in_header ≡ false = ap (λ (s : ReaderState). s.in_header) c.self.view_is ∙ c.requires in
     let new : ReaderState = record old { came = came_of c.take.new.self } in
     subst (λ (s : ReaderState). Stops s new c.args.piece.now (BlockLimit c.self.inside.place c.self.inside.limit)) c.self.view_is
-    (section_above c.spelling_laws.ensures old new c.args.piece.now c.self.inside.place c.self.inside.limit refl was refl refl
+    (section_above c.text_laws.ensures old new c.args.piece.now c.self.inside.place c.self.inside.limit refl was refl refl
     (rw c.in-Err-AboveLimit.field-0-is at c.in-Err-AboveLimit.ensures.took))
 
 pub returns-in-Err-OutOfMemory : goal.returns-in-Err-OutOfMemory
@@ -91,4 +91,4 @@ returns-in-Err-OutOfMemory c =
     let was : c.self.inside.in_header ≡ false = ap (λ (s : ReaderState). s.in_header) c.self.view_is ∙ c.requires in
     let new : ReaderState = record old { came = came_of c.take.new.self } in
     subst (λ (s : ReaderState). Stops s new c.args.piece.now OutOfMemory) c.self.view_is
-    (section_memory c.spelling_laws.ensures old new c.args.piece.now refl was (rw c.in-Err-OutOfMemory.field-0-is at c.in-Err-OutOfMemory.ensures.took))
+    (section_memory c.text_laws.ensures old new c.args.piece.now refl was (rw c.in-Err-OutOfMemory.field-0-is at c.in-Err-OutOfMemory.ensures.took))
