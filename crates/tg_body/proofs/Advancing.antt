@@ -1,20 +1,19 @@
 -- Steps of a reader of a body, one after another.
-use Rattle.std.proofs.Common.{◌≡◌, ◌≢◌, ℕ, zero, suc, ◌+◌, ◌-◌, ◌<◌, ◌≤◌, ◌⊎◌, Bool, true, false, List, [], ◌∷◌, ◌++◌, length, take, drop, refl, sym, ap, ◌∙◌, subst, inl, inr, arith, append_assoc}
+use Rattle.std.proofs.Common.{◌≡◌, ℕ, zero, suc, ◌+◌, ◌-◌, ◌<◌, ◌≤◌, true, false, List, [], ◌∷◌, ◌++◌, length, take, drop, refl, sym, ap, ◌∙◌, subst, inl, inr, arith, append_assoc}
 use Rattle.std.specs.Prelude.{slice_range}
 use Rattle.std.proofs.lemmas.Bool.{false≢true}
-use Rattle.std.proofs.lemmas.List.{append-nil, length-append, length-drop, length-take-le, take-append-drop, take_rest}
+use Rattle.std.proofs.lemmas.List.{append-nil, length-drop, take-append-drop, take_rest}
 use Rattle.tg_http.specs.declared.framing.Framing.{Framing}
 use Rattle.tg_http.specs.declared.fault.HttpFault.{HttpFault}
 use Rattle.tg_http.specs.declared.fault.HttpFault.TheVariants as faults
-use Rattle.tg_body.specs.declared.stage.Stage.{Stage}
 use Rattle.tg_body.specs.declared.stage.Step.{Step}
 use Rattle.tg_body.specs.declared.stage.Step.TheVariants as steps
 use Rattle.tg_body.specs.declared.body.Body.TheVariants as bodies
 use Rattle.tg_body.specs.declared.reader.BodyReader.{BodyReader}
-use Rattle.tg_body.specs.History.{HasFeedCause, StopsAtByte, WantsMemory, BreaksChunked, IsInText}
+use Rattle.tg_body.specs.History.{HasFeedCause, BreaksChunked, IsInText}
 use Rattle.tg_body.specs.Bodies.{ChunkedFront}
 use Rattle.tg_body.specs.State.{Holds, is_done, HasNothingLeft}
-use Rattle.tg_body.specs.Steps.{Steps, Stops, Advances, ends}
+use Rattle.tg_body.specs.Steps.{Steps, Stops, Advances}
 
 -- so many bytes of the piece were taken, and none of them is one of the body
 pub record Taken (old now : BodyReader) (piece : List ℕ) (at : ℕ) : Type 0 where
@@ -202,6 +201,7 @@ stops_later old now new piece at fault t s = record {
             front = front ++ want.front;
             more = want.more;
             whole = piece_is want.whole ∙ sym (append_assoc front want.front want.more);
+            some = want.some;
             went_on = subst (λ (b : List ℕ). IsInText body b) (append_assoc bytes front want.front) want.went_on;
           },
         )

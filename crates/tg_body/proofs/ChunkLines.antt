@@ -1,16 +1,16 @@
 -- Chunk lines and trailers, whole.
-use Rattle.std.proofs.Common.{◌≡◌, ◌≢◌, ℕ, zero, suc, ◌+◌, ◌^◌, ◌<◌, ◌≤◌, false, true, List, [], ◌∷◌, ◌++◌, map, length, take, drop, Option, Some, None, refl, sym, ap, ◌∙◌, subst, arith, append_assoc}
+use Rattle.std.proofs.Common.{◌≡◌, ◌≢◌, ℕ, ◌^◌, ◌<◌, ◌≤◌, false, true, List, [], ◌∷◌, ◌++◌, map, length, take, drop, Option, Some, None, sym, ap, ◌∙◌, subst, arith, append_assoc}
 use Rattle.std.specs.Prelude.{All, IsTrue}
 use Rattle.std.specs.Char.{is_ascii_hexdigit}
 use Rattle.std.proofs.lemmas.List.{append-nil, length-append, length-map, length-take-le, drop_all}
 use Rattle.std.proofs.lemmas.List.Elements.{All-append, All-cons, All-nil, All-weaker}
-use Rattle.httparse.specs.Grammar.{LineEnd, print_end, AllPass, is_ows, is_extension_byte, IsExtension, print_extension, ChunkLine, IsChunkLine, print_chunk_line, ReadsChunkLine, chunk_size, HasNoChunkLine, NeverHasChunkLine, Field, print_field, IsField, print_section, ReadsSection, HasNoSection}
-use Rattle.httparse.specs.Spans.{IsChunkLineAt, IsSectionAt, SectionOverflows, header_bytes, name_and_value}
+use Rattle.httparse.specs.Grammar.{LineEnd, print_end, is_ows, is_extension_byte, IsExtension, print_extension, ChunkLine, IsChunkLine, print_chunk_line, ReadsChunkLine, chunk_size, NeverHasChunkLine, Field, print_section, ReadsSection}
+use Rattle.httparse.specs.Spans.{IsChunkLineAt, IsSectionAt, header_bytes, name_and_value}
 use Rattle.httparse.specs.declared.spans.HeaderSpan.{HeaderSpan}
 use Rattle.httparse.proofs.ChunkLemmas.{chunk_line_unique}
-use Rattle.tg_http.specs.HeadText.{IsLine, IsFullLine, joined}
+use Rattle.tg_http.specs.Laws.{LineLaws}
+use Rattle.tg_http.specs.HeadText.{HasNoFeed, IsLine, IsFullLine, joined}
 use Rattle.tg_body.specs.Bodies.{SizeLine, TrailerText}
-use Rattle.tg_body.proofs.Lines.{HasNoFeed, one_line}
 
 no_feed_hex : (b : ℕ) → IsTrue (is_ascii_hexdigit b) → b ≢ 10
 no_feed_hex b t e = let none : false ≡ true = subst (λ (n : ℕ). is_ascii_hexdigit n ≡ true) e t in cc
@@ -42,10 +42,10 @@ chunk_is_line l i = record {
   whole = sym (append_assoc (l.digits ++ l.pad ++ print_extension l.extension) (13 ∷ []) (10 ∷ []));
 }
 
-pub size_found : (line : List ℕ) (len size : ℕ) (l : ChunkLine) → IsLine line → length line ≤ 16384 → IsChunkLineAt line len size l → size < 2 ^ 63
+pub size_found : LineLaws → (line : List ℕ) (len size : ℕ) (l : ChunkLine) → IsLine line → length line ≤ 16384 → IsChunkLineAt line len size l → size < 2 ^ 63
     → SizeLine size line
-size_found line len size l i fits at small =
-    let same = one_line (print_chunk_line l) line (drop len line) [] (chunk_is_line l at.reads.0) i (sym at.reads.1 ∙ sym (append-nil line)) in
+size_found laws line len size l i fits at small =
+    let same = laws.one_line (print_chunk_line l) line (drop len line) [] (chunk_is_line l at.reads.0) i (sym at.reads.1 ∙ sym (append-nil line)) in
     record {
       tree = l;
       reads = (at.reads.0, sym same.0 ∙ sym (append-nil (print_chunk_line l)));

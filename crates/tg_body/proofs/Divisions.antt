@@ -1,15 +1,13 @@
 -- What bytes in chunks give is determined by the bytes.
-use Rattle.std.proofs.Common.{◌≡◌, ◌≢◌, ℕ, zero, suc, ◌+◌, ◌<◌, ◌≤◌, ◌⊎◌, Bool, true, false, List, [], ◌∷◌, ◌++◌, length, take, refl, sym, ap, ap₂, ◌∙◌, subst, inl, inr, arith, append_assoc}
+use Rattle.std.proofs.Common.{◌≡◌, ℕ, ◌+◌, ◌<◌, ◌≤◌, ◌⊎◌, List, [], ◌∷◌, ◌++◌, length, take, refl, sym, ap, ap₂, ◌∙◌, subst, inl, inr, arith, append_assoc}
 use Rattle.std.specs.Prelude.{All}
-use Rattle.std.proofs.lemmas.List.{append-nil, length-append, take_all, take_at, take-append-le}
-use Rattle.std.proofs.lemmas.List.Elements.{All-head, All-tail, All-take, All-push, All-nil}
+use Rattle.std.proofs.lemmas.List.{append-nil, length-append, take_all, take_at}
+use Rattle.std.proofs.lemmas.List.Elements.{All-head, All-tail}
 use Rattle.httparse.specs.Grammar.{LineEnd, print_end, print_chunk_line, chunk_size}
 use Rattle.httparse.proofs.ChunkLemmas.{chunk_line_unique}
-use Rattle.tg_http.specs.HeadText.{IsLine, IsEmptyLine, IsFullLine, joined}
+use Rattle.tg_http.specs.Laws.{LineLaws}
+use Rattle.tg_http.specs.HeadText.{HasNoFeed, IsLine, IsFullLine, joined}
 use Rattle.tg_body.specs.Bodies.{SizeLine, ChunkText, ChunksText, TrailerText, ChunkedText, IsOpenLine, IsOpenBlock, InChunk, ChunkedFront}
-use Rattle.tg_body.specs.History.{BreaksLine, BreaksDataEnd, BreaksBlock, BreaksTrailer, BreaksChunked}
-use Rattle.tg_body.proofs.Lines.{HasNoFeed, one_line, end_line, feed_in_line}
-use Rattle.tg_body.proofs.Behind.{joined_more}
 use Rattle.tg_body.proofs.ChunkLines.{chunk_is_line}
 
 -- bytes that begin with a chunk line of this size
@@ -21,15 +19,15 @@ pub record FirstLine (size : ℕ) (rest bytes : List ℕ) : Type 0 where
 pub size_line : (size : ℕ) (line : List ℕ) → SizeLine size line → IsLine line
 size_line size line s = subst IsLine (sym (s.reads.1 ∙ append-nil (print_chunk_line s.tree))) (chunk_is_line s.tree s.reads.0)
 
-pub first_same : (n m : ℕ) (q p bytes : List ℕ) → FirstLine n q bytes → FirstLine m p bytes → (n ≡ m) × (q ≡ p)
-first_same n m q p bytes a b =
-    let same = one_line a.line b.line q p (size_line n a.line a.line_is) (size_line m b.line b.line_is) (sym a.whole ∙ b.whole) in
+pub first_same : LineLaws → (n m : ℕ) (q p bytes : List ℕ) → FirstLine n q bytes → FirstLine m p bytes → (n ≡ m) × (q ≡ p)
+first_same laws n m q p bytes a b =
+    let same = laws.one_line a.line b.line q p (size_line n a.line a.line_is) (size_line m b.line b.line_is) (sym a.whole ∙ b.whole) in
     let left : SizeLine n b.line = subst (SizeLine n) same.0 a.line_is in
     let tree = chunk_line_unique b.line left.tree b.line_is.tree [] [] left.reads b.line_is.reads in
     (left.size_is ∙ ap chunk_size tree.0 ∙ sym b.line_is.size_is, same.1)
 
-pub no_first : (n : ℕ) (q bytes : List ℕ) → HasNoFeed bytes → FirstLine n q bytes → ⊥
-no_first n q bytes none a = feed_in_line a.line q (size_line n a.line a.line_is) (subst HasNoFeed a.whole none)
+pub no_first : LineLaws → (n : ℕ) (q bytes : List ℕ) → HasNoFeed bytes → FirstLine n q bytes → ⊥
+no_first laws n q bytes none a = laws.feed_in_line a.line q (size_line n a.line a.line_is) (subst HasNoFeed a.whole none)
 
 pub chunk_first : (chunk bytes y t : List ℕ) → ChunkText chunk bytes → t ≡ bytes ++ y → FirstLine (length chunk) (chunk ++ 13 ∷ 10 ∷ y) t
 chunk_first chunk bytes y t c e = record {
@@ -82,22 +80,22 @@ short n part q (inr (inl d)) some = by_end d.2
     by_end (inr w) = omega (arith, ap length w, d.1, length-append part (13 ∷ []))
 short n part q (inr (inr z)) some = absurd (omega (arith, z.0, some))
 
-no_chunk_view : (part rest : List ℕ) → View part rest → NoChunk rest
-no_chunk_view part rest (inl o) chunk bytes y c e =
-    no_first (length chunk) (chunk ++ 13 ∷ 10 ∷ y) rest o.1.no_feed (chunk_first chunk bytes y rest c e)
-no_chunk_view part rest (inr v) chunk bytes y c e =
-    let same = first_same v.0 (length chunk) v.1 (chunk ++ 13 ∷ 10 ∷ y) rest v.2 (chunk_first chunk bytes y rest c e) in
+no_chunk_view : LineLaws → (part rest : List ℕ) → View part rest → NoChunk rest
+no_chunk_view laws part rest (inl o) chunk bytes y c e =
+    no_first laws (length chunk) (chunk ++ 13 ∷ 10 ∷ y) rest o.1.no_feed (chunk_first chunk bytes y rest c e)
+no_chunk_view laws part rest (inr v) chunk bytes y c e =
+    let same = first_same laws v.0 (length chunk) v.1 (chunk ++ 13 ∷ 10 ∷ y) rest v.2 (chunk_first chunk bytes y rest c e) in
     let few = short v.0 part v.1 v.3 (omega (arith, same.0, c.some)) in
     omega (arith, few, same.0, ap length same.1, length-append chunk (13 ∷ 10 ∷ y))
 
-pub no_chunk_last : (q t : List ℕ) → FirstLine 0 q t → NoChunk t
-no_chunk_last q t f chunk bytes y c e =
-    let same = first_same 0 (length chunk) q (chunk ++ 13 ∷ 10 ∷ y) t f (chunk_first chunk bytes y t c e) in
+pub no_chunk_last : LineLaws → (q t : List ℕ) → FirstLine 0 q t → NoChunk t
+no_chunk_last laws q t f chunk bytes y c e =
+    let same = first_same laws 0 (length chunk) q (chunk ++ 13 ∷ 10 ∷ y) t f (chunk_first chunk bytes y t c e) in
     omega (arith, same.0, c.some)
 
-one_chunk : (c d a b x y : List ℕ) → ChunkText c a → ChunkText d b → a ++ x ≡ b ++ y → (c ≡ d) × (x ≡ y)
-one_chunk c d a b x y k j e =
-    let same = first_same (length c) (length d) (c ++ 13 ∷ 10 ∷ x) (d ++ 13 ∷ 10 ∷ y) (a ++ x) (chunk_first c a x (a ++ x) k refl) (chunk_first d b y (a ++ x) j e) in
+one_chunk : LineLaws → (c d a b x y : List ℕ) → ChunkText c a → ChunkText d b → a ++ x ≡ b ++ y → (c ≡ d) × (x ≡ y)
+one_chunk laws c d a b x y k j e =
+    let same = first_same laws (length c) (length d) (c ++ 13 ∷ 10 ∷ x) (d ++ 13 ∷ 10 ∷ y) (a ++ x) (chunk_first c a x (a ++ x) k refl) (chunk_first d b y (a ++ x) j e) in
     let parts = same_front c d (13 ∷ 10 ∷ x) (13 ∷ 10 ∷ y) same.0 same.1 in
     (parts.0, tails x y parts.1)
   where
@@ -105,17 +103,17 @@ one_chunk c d a b x y k j e =
     tails x y e = cc
 
 -- chunks at the front of bytes, up to where no whole chunk is, are determined
-pub sync : (cs ds : List (List ℕ)) (f g t s : List ℕ) → ChunksText cs f → ChunksText ds g → NoChunk t → NoChunk s → f ++ t ≡ g ++ s → (cs ≡ ds) × (t ≡ s)
-sync [] [] f g t s k j nt ns e = (refl, sym (ap (λ (x : List ℕ). x ++ t) k) ∙ e ∙ ap (λ (x : List ℕ). x ++ s) j)
-sync [] (d ∷ ds) f g t s k j nt ns e =
+pub sync : LineLaws → (cs ds : List (List ℕ)) (f g t s : List ℕ) → ChunksText cs f → ChunksText ds g → NoChunk t → NoChunk s → f ++ t ≡ g ++ s → (cs ≡ ds) × (t ≡ s)
+sync laws [] [] f g t s k j nt ns e = (refl, sym (ap (λ (x : List ℕ). x ++ t) k) ∙ e ∙ ap (λ (x : List ℕ). x ++ s) j)
+sync laws [] (d ∷ ds) f g t s k j nt ns e =
     absurd (nt d j.0 (j.1 ++ s) j.3 (sym (ap (λ (x : List ℕ). x ++ t) k) ∙ e ∙ ap (λ (x : List ℕ). x ++ s) j.2 ∙ append_assoc j.0 j.1 s))
-sync (c ∷ cs) [] f g t s k j nt ns e =
+sync laws (c ∷ cs) [] f g t s k j nt ns e =
     absurd (ns c k.0 (k.1 ++ t) k.3 (sym (ap (λ (x : List ℕ). x ++ s) j) ∙ sym e ∙ ap (λ (x : List ℕ). x ++ t) k.2 ∙ append_assoc k.0 k.1 t))
-sync (c ∷ cs) (d ∷ ds) f g t s k j nt ns e =
+sync laws (c ∷ cs) (d ∷ ds) f g t s k j nt ns e =
     let left : f ++ t ≡ k.0 ++ (k.1 ++ t) = ap (λ (x : List ℕ). x ++ t) k.2 ∙ append_assoc k.0 k.1 t in
     let right : g ++ s ≡ j.0 ++ (j.1 ++ s) = ap (λ (x : List ℕ). x ++ s) j.2 ∙ append_assoc j.0 j.1 s in
-    let same = one_chunk c d k.0 j.0 (k.1 ++ t) (j.1 ++ s) k.3 j.3 (sym left ∙ e ∙ right) in
-    let more = sync cs ds k.1 j.1 t s k.4 j.4 nt ns same.1 in
+    let same = one_chunk laws c d k.0 j.0 (k.1 ++ t) (j.1 ++ s) k.3 j.3 (sym left ∙ e ∙ right) in
+    let more = sync laws cs ds k.1 j.1 t s k.4 j.4 nt ns same.1 in
     (ap₂ (λ (a : List ℕ) (b : List (List ℕ)). a ∷ b) same.0 more.0, more.1)
 
 -- where bytes of a chunked body are behind whole chunks
@@ -139,8 +137,8 @@ inside_part n part q (inr (inl d)) = by_end d.2
     by_end (inr w) = sym (ap (take n) w ∙ take_at part (13 ∷ []) n d.1)
 inside_part n part q (inr (inr z)) = z.1 ∙ ap (λ m. take m q) (sym z.0)
 
-pub front_place : (body bytes : List ℕ) → ChunkedFront body bytes → Place body bytes
-front_place body bytes f = record {
+pub front_place : LineLaws → (body bytes : List ℕ) → ChunkedFront body bytes → Place body bytes
+front_place laws body bytes f = record {
   chunks = f.chunks;
   front = f.front;
   part = f.part;
@@ -148,7 +146,7 @@ front_place body bytes f = record {
   chunks_are = f.chunks_are;
   whole = f.whole;
   body_is = f.body_is;
-  no_chunk = no_chunk_view f.part f.rest (view f.part f.rest f.inside);
+  no_chunk = no_chunk_view laws f.part f.rest (view f.part f.rest f.inside);
   part_is = by_view (view f.part f.rest f.inside);
 }
   where
@@ -159,8 +157,8 @@ front_place body bytes f = record {
 pub text_first : (line trailer : List ℕ) → SizeLine 0 line → FirstLine 0 trailer (line ++ trailer)
 text_first line trailer s = record { line = line; line_is = s; whole = refl }
 
-pub text_place : (body bytes : List ℕ) → ChunkedText body bytes → Place body bytes
-text_place body bytes t = record {
+pub text_place : LineLaws → (body bytes : List ℕ) → ChunkedText body bytes → Place body bytes
+text_place laws body bytes t = record {
   chunks = t.chunks;
   front = t.front;
   part = [];
@@ -168,72 +166,72 @@ text_place body bytes t = record {
   chunks_are = t.chunks_are;
   whole = t.whole;
   body_is = t.body_is ∙ sym (append-nil (joined t.chunks));
-  no_chunk = no_chunk_last t.trailer (t.line ++ t.trailer) (text_first t.line t.trailer t.line_is);
+  no_chunk = no_chunk_last laws t.trailer (t.line ++ t.trailer) (text_first t.line t.trailer t.line_is);
   part_is = inr (0, t.trailer, text_first t.line t.trailer t.line_is, refl);
 }
 
-pub front_no_chunk : (body bytes : List ℕ) (f : ChunkedFront body bytes) → NoChunk f.rest
-front_no_chunk body bytes f = no_chunk_view f.part f.rest (view f.part f.rest f.inside)
+pub front_no_chunk : LineLaws → (body bytes : List ℕ) (f : ChunkedFront body bytes) → NoChunk f.rest
+front_no_chunk laws body bytes f = no_chunk_view laws f.part f.rest (view f.part f.rest f.inside)
 
-pub text_no_chunk : (body bytes : List ℕ) (t : ChunkedText body bytes) → NoChunk (t.line ++ t.trailer)
-text_no_chunk body bytes t = no_chunk_last t.trailer (t.line ++ t.trailer) (text_first t.line t.trailer t.line_is)
+pub text_no_chunk : LineLaws → (body bytes : List ℕ) (t : ChunkedText body bytes) → NoChunk (t.line ++ t.trailer)
+text_no_chunk laws body bytes t = no_chunk_last laws t.trailer (t.line ++ t.trailer) (text_first t.line t.trailer t.line_is)
 
-pub one_body : (body other bytes : List ℕ) → Place body bytes → Place other bytes → body ≡ other
-one_body body other bytes a b =
-    let same = sync a.chunks b.chunks a.front b.front a.rest b.rest a.chunks_are b.chunks_are a.no_chunk b.no_chunk (sym a.whole ∙ b.whole) in
+pub one_body : LineLaws → (body other bytes : List ℕ) → Place body bytes → Place other bytes → body ≡ other
+one_body laws body other bytes a b =
+    let same = sync laws a.chunks b.chunks a.front b.front a.rest b.rest a.chunks_are b.chunks_are a.no_chunk b.no_chunk (sym a.whole ∙ b.whole) in
     a.body_is ∙ ap₂ (λ (c : List (List ℕ)) (p : List ℕ). joined c ++ p) same.0 (parts same.1 a.part_is b.part_is) ∙ sym b.body_is
   where
     parts : a.rest ≡ b.rest → ((a.part ≡ []) × HasNoFeed a.rest) ⊎ ((n : ℕ) × (q : List ℕ) × FirstLine n q a.rest × (a.part ≡ take n q))
         → ((b.part ≡ []) × HasNoFeed b.rest) ⊎ ((n : ℕ) × (q : List ℕ) × FirstLine n q b.rest × (b.part ≡ take n q)) → a.part ≡ b.part
     parts e (inl x) (inl y) = x.0 ∙ sym y.0
-    parts e (inl x) (inr y) = absurd (no_first y.0 y.1 b.rest (subst HasNoFeed e x.1) y.2)
-    parts e (inr x) (inl y) = absurd (no_first x.0 x.1 a.rest (subst HasNoFeed (sym e) y.1) x.2)
+    parts e (inl x) (inr y) = absurd (no_first laws y.0 y.1 b.rest (subst HasNoFeed e x.1) y.2)
+    parts e (inr x) (inl y) = absurd (no_first laws x.0 x.1 a.rest (subst HasNoFeed (sym e) y.1) x.2)
     parts e (inr x) (inr y) =
         let f : FirstLine x.0 x.1 b.rest = subst (FirstLine x.0 x.1) e x.2 in
-        let same = first_same x.0 y.0 x.1 y.1 b.rest f y.2 in
+        let same = first_same laws x.0 y.0 x.1 y.1 b.rest f y.2 in
         x.3 ∙ ap₂ (λ (n : ℕ) (q : List ℕ). take n q) same.0 same.1 ∙ sym y.3
 
 regroup : (m j p x : List ℕ) → ((m ++ j) ++ p) ++ x ≡ m ++ ((j ++ p) ++ x)
 regroup m j p x = ap (λ (s : List ℕ). s ++ x) (append_assoc m j p) ∙ append_assoc m (j ++ p) x
 
 -- lines that aren't empty, and bytes of a line, hold no empty line
-pub open_not_whole : (ls ms : List (List ℕ)) (rest x : List ℕ) (e : LineEnd) → All IsFullLine ls → All IsFullLine ms → HasNoFeed rest
+pub open_not_whole : LineLaws → (ls ms : List (List ℕ)) (rest x : List ℕ) (e : LineEnd) → All IsFullLine ls → All IsFullLine ms → HasNoFeed rest
     → joined ls ++ rest ≡ (joined ms ++ print_end e) ++ x → ⊥
-open_not_whole [] [] rest x e a b none same = feed_in_line (print_end e) x (end_line e) (subst HasNoFeed same none)
-open_not_whole [] (m ∷ ms) rest x e a b none same =
-    feed_in_line m ((joined ms ++ print_end e) ++ x) (All-head IsFullLine m ms b).line_is
+open_not_whole laws [] [] rest x e a b none same = laws.feed_in_line (print_end e) x (laws.end_line e) (subst HasNoFeed same none)
+open_not_whole laws [] (m ∷ ms) rest x e a b none same =
+    laws.feed_in_line m ((joined ms ++ print_end e) ++ x) (All-head IsFullLine m ms b).line_is
     (subst HasNoFeed (same ∙ regroup m (joined ms) (print_end e) x) none)
-open_not_whole (l ∷ ls) [] rest x e a b none same =
+open_not_whole laws (l ∷ ls) [] rest x e a b none same =
     let full = All-head IsFullLine l ls a in
-    let here = one_line l (print_end e) (joined ls ++ rest) x full.line_is (end_line e) (sym (append_assoc l (joined ls) rest) ∙ same) in
+    let here = laws.one_line l (print_end e) (joined ls ++ rest) x full.line_is (laws.end_line e) (sym (append_assoc l (joined ls) rest) ∙ same) in
     full.not_empty (e, here.0)
-open_not_whole (l ∷ ls) (m ∷ ms) rest x e a b none same =
-    let here = one_line l m (joined ls ++ rest) ((joined ms ++ print_end e) ++ x) (All-head IsFullLine l ls a).line_is (All-head IsFullLine m ms b).line_is
+open_not_whole laws (l ∷ ls) (m ∷ ms) rest x e a b none same =
+    let here = laws.one_line l m (joined ls ++ rest) ((joined ms ++ print_end e) ++ x) (All-head IsFullLine l ls a).line_is (All-head IsFullLine m ms b).line_is
     (sym (append_assoc l (joined ls) rest) ∙ same ∙ regroup m (joined ms) (print_end e) x) in
-    open_not_whole ls ms rest x e (All-tail IsFullLine l ls a) (All-tail IsFullLine m ms b) none here.1
+    open_not_whole laws ls ms rest x e (All-tail IsFullLine l ls a) (All-tail IsFullLine m ms b) none here.1
 
 -- lines up to and with the first empty one are determined
-pub one_block : (ls ms : List (List ℕ)) (e f : LineEnd) (x y : List ℕ) → All IsFullLine ls → All IsFullLine ms
+pub one_block : LineLaws → (ls ms : List (List ℕ)) (e f : LineEnd) (x y : List ℕ) → All IsFullLine ls → All IsFullLine ms
     → (joined ls ++ print_end e) ++ x ≡ (joined ms ++ print_end f) ++ y → joined ls ++ print_end e ≡ joined ms ++ print_end f
-one_block [] [] e f x y a b same = (one_line (print_end e) (print_end f) x y (end_line e) (end_line f) same).0
-one_block [] (m ∷ ms) e f x y a b same =
+one_block laws [] [] e f x y a b same = (laws.one_line (print_end e) (print_end f) x y (laws.end_line e) (laws.end_line f) same).0
+one_block laws [] (m ∷ ms) e f x y a b same =
     let full = All-head IsFullLine m ms b in
-    let here = one_line (print_end e) m x ((joined ms ++ print_end f) ++ y) (end_line e) full.line_is (same ∙ regroup m (joined ms) (print_end f) y) in
+    let here = laws.one_line (print_end e) m x ((joined ms ++ print_end f) ++ y) (laws.end_line e) full.line_is (same ∙ regroup m (joined ms) (print_end f) y) in
     absurd (full.not_empty (e, sym here.0))
-one_block (l ∷ ls) [] e f x y a b same =
+one_block laws (l ∷ ls) [] e f x y a b same =
     let full = All-head IsFullLine l ls a in
-    let here = one_line l (print_end f) ((joined ls ++ print_end e) ++ x) y full.line_is (end_line f) (sym (regroup l (joined ls) (print_end e) x) ∙ same) in
+    let here = laws.one_line l (print_end f) ((joined ls ++ print_end e) ++ x) y full.line_is (laws.end_line f) (sym (regroup l (joined ls) (print_end e) x) ∙ same) in
     absurd (full.not_empty (f, here.0))
-one_block (l ∷ ls) (m ∷ ms) e f x y a b same =
-    let here = one_line l m ((joined ls ++ print_end e) ++ x) ((joined ms ++ print_end f) ++ y) (All-head IsFullLine l ls a).line_is (All-head IsFullLine m ms b).line_is
+one_block laws (l ∷ ls) (m ∷ ms) e f x y a b same =
+    let here = laws.one_line l m ((joined ls ++ print_end e) ++ x) ((joined ms ++ print_end f) ++ y) (All-head IsFullLine l ls a).line_is (All-head IsFullLine m ms b).line_is
     (sym (regroup l (joined ls) (print_end e) x) ∙ same ∙ regroup m (joined ms) (print_end f) y) in
-    let others = one_block ls ms e f x y (All-tail IsFullLine l ls a) (All-tail IsFullLine m ms b) here.1 in
+    let others = one_block laws ls ms e f x y (All-tail IsFullLine l ls a) (All-tail IsFullLine m ms b) here.1 in
     append_assoc l (joined ls) (print_end e) ∙ ap₂ (λ (s t : List ℕ). s ++ t) here.0 others ∙ sym (append_assoc m (joined ms) (print_end f))
 
 -- bytes of a body that isn't whole are no whole body
-pub front_not_text : (body other bytes : List ℕ) → ChunkedFront body bytes → ChunkedText other bytes → ⊥
-front_not_text body other bytes f t =
-    let same = sync f.chunks t.chunks f.front t.front f.rest (t.line ++ t.trailer) f.chunks_are t.chunks_are (front_no_chunk body bytes f) (text_no_chunk other bytes t) (sym f.whole ∙ t.whole) in
+pub front_not_text : LineLaws → (body other bytes : List ℕ) → ChunkedFront body bytes → ChunkedText other bytes → ⊥
+front_not_text laws body other bytes f t =
+    let same = sync laws f.chunks t.chunks f.front t.front f.rest (t.line ++ t.trailer) f.chunks_are t.chunks_are (front_no_chunk laws body bytes f) (text_no_chunk laws other bytes t) (sym f.whole ∙ t.whole) in
     by_view (view f.part f.rest f.inside) (subst (FirstLine 0 t.trailer) (sym same.1) (text_first t.line t.trailer t.line_is))
   where
     trailer : TrailerText t.trailer
@@ -244,11 +242,11 @@ front_not_text body other bytes f t =
     by_inside n q (inr (inl d)) none is = omega (arith, d.0, none)
     by_inside n q (inr (inr z)) none is =
         let block = z.2 in
-        open_not_whole block.lines trailer.lines block.rest [] trailer.empty block.lines_are trailer.lines_are block.no_feed
+        open_not_whole laws block.lines trailer.lines block.rest [] trailer.empty block.lines_are trailer.lines_are block.no_feed
         (sym block.whole ∙ is ∙ trailer.up_to_empty ∙ sym (append-nil (joined trailer.lines ++ print_end trailer.empty)))
 
     by_view : View f.part f.rest → FirstLine 0 t.trailer f.rest → ⊥
-    by_view (inl o) last = no_first 0 t.trailer f.rest o.1.no_feed last
+    by_view (inl o) last = no_first laws 0 t.trailer f.rest o.1.no_feed last
     by_view (inr v) last =
-        let here = first_same v.0 0 v.1 t.trailer f.rest v.2 last in
+        let here = first_same laws v.0 0 v.1 t.trailer f.rest v.2 last in
         by_inside v.0 v.1 v.3 here.0 here.1

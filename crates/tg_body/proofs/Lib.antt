@@ -1,4 +1,3 @@
-mod Lines
 mod Behind
 mod Steps
 mod LineSteps

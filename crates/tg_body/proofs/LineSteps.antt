@@ -1,7 +1,6 @@
 -- One step of a reader in a chunk line.
-use Rattle.std.proofs.Common.{◌≡◌, ◌≢◌, ℕ, zero, suc, ◌+◌, ◌-◌, ◌<◌, ◌≤◌, ◌⊎◌, Bool, true, false, List, [], ◌∷◌, ◌++◌, length, take, drop, get_or, refl, sym, ap, ap₂, ◌∙◌, subst, inl, inr, arith, append_assoc, zero-add}
-use Rattle.std.specs.Prelude.{All}
-use Rattle.std.proofs.lemmas.List.{length-append, length-take-le, append-nil, take-append-drop, take_at, take-take, take-append-le, drop_more, take_more, take_all}
+use Rattle.std.proofs.Common.{◌≡◌, ◌≢◌, ℕ, ◌+◌, ◌-◌, ◌<◌, ◌≤◌, ◌⊎◌, false, List, [], ◌∷◌, ◌++◌, length, take, drop, refl, sym, ap, ◌∙◌, subst, inl, inr, arith, append_assoc, zero-add}
+use Rattle.std.proofs.lemmas.List.{length-append, length-take-le, append-nil, take-append-drop, take_at, take_all}
 use Rattle.std.proofs.lemmas.List.Elements.{All-nil, All-append, All-take}
 use Rattle.tg_http.specs.declared.framing.Framing.{Framing}
 use Rattle.tg_http.specs.declared.framing.Framing.TheVariants as framings
@@ -11,13 +10,12 @@ use Rattle.tg_body.specs.declared.stage.Stage.{Stage}
 use Rattle.tg_body.specs.declared.stage.Stage.TheVariants as stages
 use Rattle.tg_body.specs.declared.stage.Step.TheVariants as steps
 use Rattle.tg_body.specs.declared.reader.BodyReader.{BodyReader}
-use Rattle.tg_http.specs.HeadText.{IsLine, IsFullLine, joined}
-use Rattle.tg_body.specs.Bodies.{SizeLine, IsOpenLine}
+use Rattle.tg_http.specs.HeadText.{HasNoFeed, IsLine, IsFullLine, joined}
+use Rattle.tg_body.specs.Bodies.{SizeLine}
 use Rattle.tg_body.specs.History.{BreaksLine}
 use Rattle.tg_body.specs.State.{BehindChunks, Holds, is_done, HasNothingLeft}
-use Rattle.tg_body.specs.Steps.{Steps, Stops, EndsLine, InsideLine, IsTooLong}
+use Rattle.tg_body.specs.Steps.{Steps, Stops, EndsLine, IsTooLong}
 use Rattle.tg_body.proofs.Behind.{held_front}
-use Rattle.tg_body.proofs.Lines.{HasNoFeed}
 
 -- the stage behind a chunk line of this size
 abbrev pub IsBehindLine : ℕ → Stage → Type 0
@@ -225,8 +223,8 @@ line_bad old new piece came size at framing refused kept never =
 
 -- no memory for bytes of a chunk line
 pub line_wants : (old new : BodyReader) (piece : List ℕ) → old.stage ≡ stages.Line → new.framing ≡ old.framing → new.refused ≡ old.refused
-    → Stops old new piece faults.OutOfMemory
-line_wants old new piece at framing refused = record {
+    → 0 < length piece → Stops old new piece faults.OutOfMemory
+line_wants old new piece at framing refused some = record {
   framing = framing;
   refused = refused;
   goes_on = ap is_done at;
@@ -239,6 +237,7 @@ line_wants old new piece at framing refused = record {
           front = [];
           more = piece;
           whole = refl;
+          some = some;
           went_on = record {
             chunks = behind.chunks;
             front = behind.front;
@@ -253,9 +252,9 @@ line_wants old new piece at framing refused = record {
 }
 
 pub line_refuses : (old new : BodyReader) (piece : List ℕ) (fault : HttpFault) → old.stage ≡ stages.Line → new.framing ≡ old.framing → new.refused ≡ old.refused
-    → (fault ≡ faults.OutOfMemory) ⊎ ((fault ≡ faults.BadFraming) × IsTooLong old.came piece) → Stops old new piece fault
+    → ((fault ≡ faults.OutOfMemory) × (0 < length piece)) ⊎ ((fault ≡ faults.BadFraming) × IsTooLong old.came piece) → Stops old new piece fault
 line_refuses old new piece fault at framing refused (inl memory) =
-    subst (λ (f : HttpFault). Stops old new piece f) (sym memory) (line_wants old new piece at framing refused)
+    subst (λ (f : HttpFault). Stops old new piece f) (sym memory.0) (line_wants old new piece at framing refused memory.1)
 line_refuses old new piece fault at framing refused (inr long) =
     subst (λ (f : HttpFault). Stops old new piece f) (sym long.0) (line_long old new piece at framing refused long.1)
 

@@ -1,21 +1,16 @@
 -- What a reader of a body stands for after a call.
-use Rattle.std.proofs.Common.{◌≡◌, ◌≢◌, ℕ, zero, suc, ◌+◌, ◌<◌, ◌≤◌, ◌⊎◌, Bool, true, false, Option, Some, None, List, [], ◌∷◌, ◌++◌, length, take, refl, sym, ap, ◌∙◌, subst, inl, inr, arith, append_assoc}
-use Rattle.std.specs.Prelude.{All, option_map, slice_range}
-use Rattle.std.proofs.lemmas.List.{append-nil, length-append}
+use Rattle.std.proofs.Common.{◌≡◌, ℕ, Bool, false, Option, Some, None, List, ◌++◌, take, refl, sym, ap, ◌∙◌, subst}
+use Rattle.std.specs.Prelude.{option_map}
+use Rattle.std.proofs.lemmas.List.{append-nil}
 use Rattle.tg_http.specs.declared.framing.Framing.{Framing}
-use Rattle.tg_http.specs.declared.framing.Framing.TheVariants as framings
 use Rattle.tg_http.specs.declared.fault.HttpFault.{HttpFault}
-use Rattle.tg_http.specs.declared.fault.HttpFault.TheVariants as faults
-use Rattle.tg_body.specs.declared.stage.Stage.{Stage}
-use Rattle.tg_body.specs.declared.stage.Stage.TheVariants as stages
 use Rattle.tg_body.specs.declared.body.Body.{Body}
 use Rattle.tg_body.specs.declared.body.Body.TheVariants as bodies
 use Rattle.tg_body.specs.declared.reader.BodyReader.{BodyReader}
-use Rattle.tg_body.specs.Bodies.{BodyText}
-use Rattle.tg_body.specs.History.{History, Stop, at_piece, at_end, stopped, with_body, IsSoFar, HasStopped, HasFeedCause, EndsInside}
-use Rattle.tg_body.specs.State.{Holds, is_done, HasNothingLeft, fault_of, StandsFor}
+use Rattle.tg_body.specs.History.{History, Stop, at_piece, stopped, with_body, IsSoFar, HasStopped, HasFeedCause}
+use Rattle.tg_body.specs.State.{Holds, is_done, fault_of, StandsFor}
 use Rattle.tg_body.specs.Steps.{Advances, Stops}
-use Rattle.tg_body.proofs.Behind.{so_far, held_front}
+use Rattle.tg_body.proofs.Behind.{so_far}
 
 pub none_refused : (refusal : Option Stop) → None ≡ option_map fault_of refusal → refusal ≡ None
 none_refused None e = refl

@@ -1,19 +1,17 @@
 -- One step of a reader of a body.
-use Rattle.std.proofs.Common.{◌≡◌, ◌≢◌, ℕ, zero, suc, ◌+◌, ◌-◌, ◌<◌, ◌≤◌, ◌⊎◌, min, Option, Some, None, Bool, true, false, List, [], ◌∷◌, ◌++◌, length, take, drop, refl, sym, ap, ap₂, ◌∙◌, subst, inl, inr, arith, append_assoc}
+use Rattle.std.proofs.Common.{◌≡◌, ◌≢◌, ℕ, ◌+◌, ◌-◌, ◌<◌, ◌⊎◌, min, Some, None, false, List, [], ◌∷◌, ◌++◌, length, take, drop, refl, sym, ap, ap₂, ◌∙◌, subst, inl, inr, arith, append_assoc}
 use Rattle.std.specs.Prelude.{slice_get}
-use Rattle.std.proofs.lemmas.List.{length-append, length-take-le, append-nil, take-append-drop}
+use Rattle.std.proofs.lemmas.List.{length-append, length-take-le, append-nil}
 use Rattle.std.proofs.lemmas.List.Elements.{All-nil}
 use Rattle.tg_http.specs.declared.fault.HttpFault.TheVariants as faults
-use Rattle.tg_http.specs.declared.framing.Framing.{Framing}
-use Rattle.tg_http.specs.declared.framing.Framing.TheVariants as framings
 use Rattle.tg_body.specs.declared.stage.Stage.{Stage}
 use Rattle.tg_body.specs.declared.stage.Stage.TheVariants as stages
 use Rattle.tg_body.specs.declared.stage.Step.{Step}
 use Rattle.tg_body.specs.declared.stage.Step.TheVariants as steps
 use Rattle.tg_body.specs.declared.reader.BodyReader.{BodyReader}
 use Rattle.tg_http.specs.HeadText.{joined}
-use Rattle.tg_body.specs.Bodies.{SizeLine, IsOpenLine, BodyText}
-use Rattle.tg_body.specs.State.{BehindChunks, Holds, is_done, HasNothingLeft}
+use Rattle.tg_body.specs.Bodies.{SizeLine, IsOpenLine}
+use Rattle.tg_body.specs.State.{Holds, is_done, HasNothingLeft}
 use Rattle.tg_body.specs.Steps.{Given, TookAll, ends, Steps, Stops}
 use Rattle.tg_body.proofs.Behind.{chunks_more, joined_more, byte_behind, held_front}
 

@@ -1,5 +1,5 @@
 -- One step of a reader in a trailer.
-use Rattle.std.proofs.Common.{◌≡◌, ◌≢◌, ℕ, ◌+◌, ◌-◌, ◌<◌, ◌≤◌, ◌⊎◌, min, false, List, [], ◌∷◌, ◌++◌, length, take, drop, refl, sym, ap, ◌∙◌, subst, inl, inr, arith, append_assoc}
+use Rattle.std.proofs.Common.{◌≡◌, ◌≢◌, ℕ, ◌+◌, ◌-◌, ◌<◌, ◌≤◌, ◌⊎◌, min, List, [], ◌∷◌, ◌++◌, length, take, drop, refl, sym, ap, ◌∙◌, subst, inl, inr, arith, append_assoc}
 use Rattle.std.specs.Prelude.{All}
 use Rattle.std.proofs.lemmas.List.{length-append, length-take-le, append-nil, drop_at, take_all, take_rest, drop_min}
 use Rattle.std.proofs.lemmas.List.Elements.{All-nil, All-append, All-push}
@@ -12,13 +12,12 @@ use Rattle.tg_body.specs.declared.stage.Stage.{Stage}
 use Rattle.tg_body.specs.declared.stage.Stage.TheVariants as stages
 use Rattle.tg_body.specs.declared.stage.Step.TheVariants as steps
 use Rattle.tg_body.specs.declared.reader.BodyReader.{BodyReader}
-use Rattle.tg_http.specs.HeadText.{IsLine, IsEmptyLine, IsFullLine, joined}
-use Rattle.tg_body.specs.Bodies.{TrailerText, BodyText, InTrailer}
+use Rattle.tg_http.specs.HeadText.{HasNoFeed, IsLine, IsEmptyLine, IsFullLine, joined}
+use Rattle.tg_body.specs.Bodies.{TrailerText, BodyText}
 use Rattle.tg_body.specs.History.{BreaksBlock}
 use Rattle.tg_body.specs.State.{BehindChunks, Holds, is_done, HasNothingLeft}
 use Rattle.tg_body.specs.Steps.{Steps, Stops, EndsLine, InsideLine, IsTooLong}
 use Rattle.tg_body.proofs.Behind.{held_front, joined_more}
-use Rattle.tg_body.proofs.Lines.{HasNoFeed}
 use Rattle.tg_body.proofs.LineSteps.{line_more, line_split, line_size, long_split, front_no_feed}
 
 -- more bytes of what is behind the chunks and a line
@@ -287,8 +286,8 @@ trailer_bad old new piece came size begun at framing refused kept empty never =
 
 -- no memory for bytes of a trailer
 pub trailer_wants : (old new : BodyReader) (piece : List ℕ) (begun : ℕ) → old.stage ≡ stages.Trailer begun → new.framing ≡ old.framing → new.refused ≡ old.refused
-    → Stops old new piece faults.OutOfMemory
-trailer_wants old new piece begun at framing refused = record {
+    → 0 < length piece → Stops old new piece faults.OutOfMemory
+trailer_wants old new piece begun at framing refused some = record {
   framing = framing;
   refused = refused;
   goes_on = ap is_done at;
@@ -301,6 +300,7 @@ trailer_wants old new piece begun at framing refused = record {
           front = [];
           more = piece;
           whole = refl;
+          some = some;
           went_on = record {
             chunks = behind.chunks;
             front = behind.front;
@@ -321,9 +321,9 @@ trailer_wants old new piece begun at framing refused = record {
 }
 
 pub trailer_refuses : (old new : BodyReader) (piece : List ℕ) (fault : HttpFault) (begun : ℕ) → old.stage ≡ stages.Trailer begun → new.framing ≡ old.framing
-    → new.refused ≡ old.refused → (fault ≡ faults.OutOfMemory) ⊎ ((fault ≡ faults.BadFraming) × IsTooLong old.came piece) → Stops old new piece fault
+    → new.refused ≡ old.refused → ((fault ≡ faults.OutOfMemory) × (0 < length piece)) ⊎ ((fault ≡ faults.BadFraming) × IsTooLong old.came piece) → Stops old new piece fault
 trailer_refuses old new piece fault begun at framing refused (inl memory) =
-    subst (λ (f : HttpFault). Stops old new piece f) (sym memory) (trailer_wants old new piece begun at framing refused)
+    subst (λ (f : HttpFault). Stops old new piece f) (sym memory.0) (trailer_wants old new piece begun at framing refused memory.1)
 trailer_refuses old new piece fault begun at framing refused (inr long) =
     subst (λ (f : HttpFault). Stops old new piece f) (sym long.0) (trailer_long old new piece begun at framing refused long.1)
 

@@ -1,5 +1,5 @@
 -- The bodies of the framings (RFC 9112, sections 6.3 and 7.1), and bytes with which a body goes on.
-use Rattle.std.specs.Prelude.{◌≡◌, ◌≢◌, ℕ, ◌+◌, ◌^◌, ◌<◌, ◌≤◌, ◌⊎◌, List, [], ◌∷◌, ◌++◌, length, All}
+use Rattle.std.specs.Prelude.{◌≡◌, ◌≢◌, ℕ, ◌^◌, ◌<◌, ◌≤◌, ◌⊎◌, List, [], ◌∷◌, ◌++◌, length, All}
 use Rattle.httparse.specs.Ascii.{crlf_bytes}
 use Rattle.httparse.specs.Grammar.{LineEnd, print_end, Field, ReadsSection, ChunkLine, ReadsChunkLine, chunk_size}
 use Rattle.tg_http.specs.declared.framing.Framing.{Framing}

@@ -104,11 +104,12 @@ pub record IsInText (body bytes : List ℕ) : Type 0 where
   pub whole : bytes ≡ front ++ rest
   pub body_is : body ≡ joined chunks
 
--- memory is wanted for more bytes of a chunk line or of a trailer
+-- memory is wanted for bytes of the piece, which are of a chunk line or of a trailer
 pub record WantsMemory (fed given piece : List ℕ) : Type 0 where
   pub front : List ℕ
   pub more : List ℕ
   pub whole : piece ≡ front ++ more
+  pub some : 0 < length more
   pub went_on : IsInText given (fed ++ front)
 
 -- the cause of each refusal of `feed`

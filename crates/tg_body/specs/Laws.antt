@@ -1,5 +1,5 @@
 -- What holds of bodies and of what a reader gives of them.
-use Rattle.std.specs.Prelude.{◌≡◌, ◌≢◌, ℕ, true, false, Some, List, ◌++◌}
+use Rattle.std.specs.Prelude.{◌≡◌, ◌≢◌, ℕ, true, Some, List, ◌++◌}
 use Rattle.tg_http.specs.declared.fault.HttpFault.{HttpFault}
 use Rattle.tg_http.specs.declared.fault.HttpFault.TheVariants.{OutOfMemory}
 use Rattle.tg_http.specs.declared.framing.Framing.{Framing}

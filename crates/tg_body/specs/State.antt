@@ -1,19 +1,14 @@
 -- What a reader of a body holds, and the histories that it stands for.
-use Rattle.std.specs.Prelude.{◌≡◌, ◌≢◌, ℕ, ◌+◌, ◌<◌, ◌≤◌, ◌⊎◌, ⊤, Bool, true, false, Option, Some, None, List, [], ◌∷◌, ◌++◌, length, take, slice_range, All, Result, MatchResult, option_map}
+use Rattle.std.specs.Prelude.{◌≡◌, ◌≢◌, ℕ, ◌+◌, ◌<◌, ⊤, Bool, true, false, None, List, [], ◌∷◌, ◌++◌, length, All, option_map}
 use Rattle.tg_http.specs.declared.fault.HttpFault.{HttpFault}
-use Rattle.tg_http.specs.declared.fault.HttpFault.TheVariants as faults
 use Rattle.tg_http.specs.declared.framing.Framing.{Framing}
 use Rattle.tg_http.specs.declared.framing.Framing.TheVariants as framings
 use Rattle.tg_body.specs.declared.stage.Stage.{Stage}
 use Rattle.tg_body.specs.declared.stage.Stage.TheVariants as stages
-use Rattle.tg_body.specs.declared.stage.Step.{Step}
-use Rattle.tg_body.specs.declared.stage.Step.TheVariants as steps
 use Rattle.tg_body.specs.declared.reader.BodyReader.{BodyReader}
-use Rattle.tg_body.specs.declared.body.Body.{Body}
-use Rattle.tg_body.specs.declared.body.Body.TheVariants as bodies
 use Rattle.tg_http.specs.HeadText.{IsFullLine, joined}
-use Rattle.tg_body.specs.Bodies.{SizeLine, ChunksText, IsOpenLine, BodyText, ChunkedText}
-use Rattle.tg_body.specs.History.{Stop, at_piece, at_end, History, HasFeedCause, IsExact}
+use Rattle.tg_body.specs.Bodies.{SizeLine, ChunksText, IsOpenLine, BodyText}
+use Rattle.tg_body.specs.History.{Stop, at_piece, at_end, History, IsExact}
 
 -- chunks, and what came behind them, with this body in the chunks
 pub record BehindChunks (body bytes : List ℕ) (part rest : List ℕ) : Type 0 where

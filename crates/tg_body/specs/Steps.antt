@@ -1,11 +1,6 @@
 -- What one step of a reader of a body takes, gives and refuses.
-use Rattle.std.specs.Prelude.{◌≡◌, ◌≢◌, ℕ, ◌+◌, ◌-◌, ◌<◌, ◌≤◌, ◌⊎◌, ⊤, Bool, true, false, Option, Some, None, List, [], ◌∷◌, ◌++◌, length, take, slice_range, All, Result, MatchResult, option_map}
+use Rattle.std.specs.Prelude.{◌≡◌, ◌≢◌, ℕ, ◌+◌, ◌-◌, ◌<◌, ◌≤◌, ◌⊎◌, ⊤, Bool, true, false, List, [], ◌++◌, length, take, slice_range, All}
 use Rattle.tg_http.specs.declared.fault.HttpFault.{HttpFault}
-use Rattle.tg_http.specs.declared.fault.HttpFault.TheVariants as faults
-use Rattle.tg_http.specs.declared.framing.Framing.{Framing}
-use Rattle.tg_http.specs.declared.framing.Framing.TheVariants as framings
-use Rattle.tg_body.specs.declared.stage.Stage.{Stage}
-use Rattle.tg_body.specs.declared.stage.Stage.TheVariants as stages
 use Rattle.tg_body.specs.declared.stage.Step.{Step}
 use Rattle.tg_body.specs.declared.stage.Step.TheVariants as steps
 use Rattle.tg_body.specs.declared.reader.BodyReader.{BodyReader}

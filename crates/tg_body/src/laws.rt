@@ -6,4 +6,6 @@ ghost use Rattle.tg_body.specs.Laws.{BodyLaws};
 /// RFC 9112, section 7.1.
 pub fn body_laws()
     ensures { BodyLaws }
-{}
+{
+    tg_http::line_laws();
+}

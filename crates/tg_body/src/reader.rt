@@ -56,7 +56,7 @@ impl BodyReader {
     /// takes nothing and gives `End`; over chunks `End` comes with the last byte of the trailer; a body that goes on until
     /// the link closes is never ended here. Errors: `BadFraming` at the first byte with which no body goes on, where chunk
     /// lines and trailers are judged once they are whole or have 16,384 bytes, or at once where there is no framing; and
-    /// `OutOfMemory` where no room for a chunk line or a trailer is found.
+    /// `OutOfMemory` where no room for bytes of a chunk line or of a trailer is found, which an empty piece never gives.
     pub fn feed(&mut self, piece: &[u8]) -> Result<(usize, Body), HttpFault>
         ensures within { IfOk result (λ told. told.0 ≤ length piece.now) }
         ensures moves { IfOk result (λ told. 0 < length piece.now → (0 < told.0) ⊎ (told.1 ≡ Body.End)) }
@@ -73,6 +73,7 @@ impl BodyReader {
             (λ fault. self.new.refused ≡ Some fault) }
         ensures framing { self.new.framing ≡ self.old.framing }
     {
+        tg_http::line_laws();
         if let Some(fault) = self.refused {
             return Err(fault);
         }

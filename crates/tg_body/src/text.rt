@@ -13,11 +13,12 @@ use tg_http::{HttpFault, MAX_FIELDS, MAX_TEXT, line_length};
 
 /// Keeps bytes of the piece up to the end of a line, and says how many where the line is whole.
 ///
-/// Errors: `BadFraming` where 16,384 bytes are there and none of them ends the line, and `OutOfMemory`.
+/// Errors: `BadFraming` where 16,384 bytes are there and none of them ends the line, and `OutOfMemory`, which an
+/// empty piece never gives.
 pub(crate) fn keep_line(came: &mut Bytes, piece: &[u8]) -> Result<Option<usize>, HttpFault>
     ensures { MatchResult result
         (λ told. MatchOption told (InsideLine came.old piece.now came.new) (λ size. EndsLine came.old piece.now size came.new))
-        (λ fault. (fault ≡ HttpFault.OutOfMemory) ⊎ ((fault ≡ HttpFault.BadFraming) × IsTooLong came.old piece.now)) }
+        (λ fault. ((fault ≡ HttpFault.OutOfMemory) × (0 < length piece.now)) ⊎ ((fault ≡ HttpFault.BadFraming) × IsTooLong came.old piece.now)) }
 {
     let room = MAX_TEXT.saturating_sub(came.as_slice().len());
     match line_length(piece) {
@@ -26,7 +27,9 @@ pub(crate) fn keep_line(came: &mut Bytes, piece: &[u8]) -> Result<Option<usize>,
             Ok(Some(size))
         }
         None if piece.len() < room => {
-            came.push_all(piece)?;
+            if !piece.is_empty() {
+                came.push_all(piece)?;
+            }
             Ok(None)
         }
         _ => Err(HttpFault::BadFraming),
@@ -38,6 +41,7 @@ pub(crate) fn stated_size(line: &[u8]) -> Option<u64>
     ensures { IsLine line.now → length line.now ≤ 16384
         → MatchOption result ((size : ℕ) → SizeLine size line.now → ⊥) (λ size. SizeLine size line.now) }
 {
+    tg_http::line_laws();
     match parse_chunk_size(line) {
         Ok(Status::Complete((_, size))) => { if size < 1 << 63 { Some(size) } else { None } }
         Ok(Status::Partial) => None,

@@ -9,8 +9,7 @@ use Rattle.httparse.specs.Grammar.{LineEnd, crlf, lf, AllPass, is_token_byte, is
 use Rattle.httparse.specs.Pieces.{is_newline}
 use Rattle.httparse.proofs.GrammarLemmas.{cons-append}
 use Rattle.httparse.proofs.PieceLemmas.{token_is_no_newline}
-use Rattle.tg_http.specs.HeadText.{IsLine, IsFullLine, joined, HeadText}
-use Rattle.tg_http.proofs.Lines.{HasNoFeed}
+use Rattle.tg_http.specs.HeadText.{HasNoFeed, IsLine, IsFullLine, joined, HeadText}
 use Rattle.tg_http.proofs.Unique.{one_head}
 
 no_feed_token : (b : ℕ) → IsTrue (is_token_byte b) → b ≢ 10

@@ -1,13 +1,8 @@
 -- Lines at the front of bytes: there is one.
 use Rattle.std.proofs.Common.{◌≡◌, ◌≢◌, ℕ, ◌<◌, List, [], ◌∷◌, ◌++◌, length, refl, sym, ap, ◌∙◌, arith, append_assoc}
-use Rattle.std.specs.Prelude.{All}
 use Rattle.std.proofs.lemmas.List.Elements.{All-head, All-tail, All-nil, All-cons}
 use Rattle.httparse.specs.Grammar.{LineEnd, print_end, crlf, lf}
-use Rattle.tg_http.specs.HeadText.{IsLine}
-
--- no line feed is among them
-abbrev pub HasNoFeed : List ℕ → Type 0
-HasNoFeed bytes = All (λ b. b ≢ 10) bytes
+use Rattle.tg_http.specs.HeadText.{HasNoFeed, IsLine}
 
 -- a line feed behind bytes that have none stands at one place
 same_fronts : (a b : List ℕ) (r q : List ℕ) → HasNoFeed a → HasNoFeed b → a ++ 10 ∷ r ≡ b ++ 10 ∷ q → (a ≡ b) × (r ≡ q)

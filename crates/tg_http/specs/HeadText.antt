@@ -3,10 +3,14 @@ use Rattle.std.specs.Prelude.{◌≡◌, ◌≢◌, ℕ, ◌≤◌, List, [], �
 use Rattle.std.specs.List.{flat_map}
 use Rattle.httparse.specs.Grammar.{LineEnd, print_end, print_blank}
 
+-- no line feed is among them
+abbrev pub HasNoFeed : List ℕ → Type 0
+HasNoFeed bytes = All (λ b. b ≢ 10) bytes
+
 -- a line goes up to and with its line feed
 pub record IsLine (line : List ℕ) : Type 0 where
   pub front : List ℕ
-  pub inside : All (λ b. b ≢ 10) front
+  pub inside : HasNoFeed front
   pub whole : line ≡ front ++ 10 ∷ []
 
 -- an empty line is a line feed alone, or CR and a line feed

@@ -3,3 +3,4 @@ pub mod Fields
 pub mod Framing
 pub mod Heads
 pub mod Chunks
+pub mod Laws

@@ -142,7 +142,9 @@ fn lists_token(value: &[u8], token: &[u8]) -> bool
 }
 
 /// The bytes without the spaces and tabs at both ends.
-fn without_spaces(bytes: &[u8]) -> &[u8]
+///
+/// RFC 9110, section 5.6.3.
+pub fn without_spaces(bytes: &[u8]) -> &[u8]
     ensures { result.now ≡ trim_ows bytes.now }
 {
     let mut start = 0;

@@ -1,5 +1,9 @@
-//! Laws of heads.
+//! Laws of heads and lines.
+ghost use Rattle.std.specs.Prelude.{length};
+ghost use Rattle.httparse.specs.Grammar.{IsRequestHead, RequestHead as RequestTree, print_request};
+ghost use Rattle.tg_http.specs.HeadText.{HeadText};
 ghost use Rattle.tg_http.specs.Heads.{RequestStays, ReplyStays};
+ghost use Rattle.tg_http.specs.Laws.{LineLaws};
 
 /// Bytes that were answered with a head or a refusal get the same answer whatever comes behind them.
 ///
@@ -7,4 +11,18 @@ ghost use Rattle.tg_http.specs.Heads.{RequestStays, ReplyStays};
 pub fn longer_bytes()
     ensures request { RequestStays }
     ensures reply { ReplyStays }
+{}
+
+/// A line goes up to its first line feed, so bytes have one first line.
+///
+/// RFC 9112, section 2.2.
+pub fn line_laws()
+    ensures { LineLaws }
+{}
+
+/// A request head of the grammar is a head text with as many lines as it has fields.
+///
+/// RFC 9112, sections 2.1 and 3.
+pub fn request_heads()
+    ensures { (tree : RequestTree) → IsRequestHead tree → HeadText (print_request tree) (length tree.fields) }
 {}

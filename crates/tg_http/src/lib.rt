@@ -12,9 +12,10 @@ mod request;
 
 pub use chunk::chunk_head;
 pub use fault::HttpFault;
+pub use fields::without_spaces;
 pub use framing::Framing;
 pub use head_text::{MAX_FIELDS, MAX_TEXT, is_empty_line, line_length};
-pub use laws::longer_bytes;
+pub use laws::{line_laws, longer_bytes, request_heads};
 pub use reply::{ReplyHead, read_reply};
 pub use request::{RequestHead, read_request};
 

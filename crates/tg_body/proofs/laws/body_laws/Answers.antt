@@ -2,4 +2,6 @@ use Rattle.tg_body.proofs.Determined.{none_missed, end_given, one_division, one_
 use Rattle.tg_body.proofs.laws.body_laws.Goals as goal
 
 pub returns : goal.returns
-returns c = record { none_missed = none_missed; end_given = end_given; one_division = one_division; one_refusal = one_refusal }
+returns c =
+    let laws = c.line_laws.ensures in
+    record { none_missed = none_missed laws; end_given = end_given laws; one_division = one_division laws; one_refusal = one_refusal laws }

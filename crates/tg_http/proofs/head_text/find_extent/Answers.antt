@@ -1,10 +1,9 @@
 use Rattle.std.proofs.Common.{◌≡◌, ℕ, ◌+◌, ◌-◌, ◌≤◌, List, ◌++◌, length, take, drop, sym, ap, ap₂, ◌∙◌, subst, arith, Some}
 use Rattle.std.proofs.lemmas.Bool.{false≢true}
 use Rattle.std.proofs.lemmas.List.{take_rest, length-take-le}
-use Rattle.tg_http.specs.HeadText.{IsEmptyLine, IsFullLine, HeadText}
+use Rattle.tg_http.specs.HeadText.{HasNoFeed, IsEmptyLine, IsFullLine, HeadText}
 use Rattle.tg_http.proofs.Cuts.{cut, line_here, size_fits, step_forward, step_back, full_adds, full_takes, last_adds, last_takes, left_is}
 use Rattle.tg_http.proofs.Heads.{blank_first, blank_taken, tail_has_feed}
-use Rattle.tg_http.proofs.Lines.{HasNoFeed}
 use Rattle.tg_http.proofs.head_text.find_extent.Goals as goal
 
 pub loop-size-preserved-then-not-is_empty_line : goal.loop-size-preserved-then-not-is_empty_line

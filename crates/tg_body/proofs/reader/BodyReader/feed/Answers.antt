@@ -11,10 +11,10 @@ returns-in-Ok-clause-stands c = λ h s.
 pub returns-in-Ok-clause-whole : goal.returns-in-Ok-clause-whole
 returns-in-Ok-clause-whole c = λ h s none text other.
     let old = c.args.self.now in
-    let told = c.in-Ok.ensures.whole (nothing_left old.framing old.stage old.came h.given h.fed (s.holds none) text other) in
+    let told = c.in-Ok.ensures.whole (nothing_left c.line_laws.ensures old.framing old.stage old.came h.given h.fed (s.holds none) text other) in
     ap₂ (λ (taken : ℕ) (body : Body). Ok (taken, body)) told.0 told.1
 
 pub returns-in-Err-clause-whole : goal.returns-in-Err-clause-whole
 returns-in-Err-clause-whole c = λ h s none text other.
     let old = c.args.self.now in
-    absurd (c.in-Err.ensures.left (nothing_left old.framing old.stage old.came h.given h.fed (s.holds none) text other))
+    absurd (c.in-Err.ensures.left (nothing_left c.line_laws.ensures old.framing old.stage old.came h.given h.fed (s.holds none) text other))

@@ -1,4 +1,3 @@
-use Rattle.std.proofs.Common.{sym, ◌∙◌}
 use Rattle.tg_body.proofs.Steps.{byte_steps, byte_stops}
 use Rattle.tg_body.proofs.reader.BodyReader.take_byte.Goals as goal
 

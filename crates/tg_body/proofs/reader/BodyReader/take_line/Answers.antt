@@ -1,6 +1,5 @@
-use Rattle.std.proofs.Common.{ℕ, ◌≡◌, ◌≤◌, List, length, refl, sym, subst}
+use Rattle.std.proofs.Common.{ℕ, List, refl, sym, subst}
 use Rattle.std.proofs.lemmas.Result.{err_from_is_err_and}
-use Rattle.tg_http.specs.HeadText.{IsLine}
 use Rattle.tg_body.specs.declared.reader.BodyReader.{BodyReader}
 use Rattle.tg_body.specs.Steps.{EndsLine}
 use Rattle.tg_body.proofs.LineSteps.{line_refuses, line_bad, line_states}
