@@ -1,7 +1,8 @@
 #!/usr/bin/env bash
 # The name hash over 1 MB of bytes beside a copy of the same memory, in MB/s and as a ratio; and the scan of protobuf
 # texts of 12,500 to 50,000 fields, whose speed stays the same as the text grows; DAG-PB nodes of 1,024 links read without
-# memory; the readers of CARs and of HTTP bodies over 256 MB beside a copy of the same memory, that of CARs also beside `cp`
+# memory; DAG-PB nodes and UnixFS data decoded and encoded, beside a copy of the same bytes, and the most memory that a
+# message of a million blocksizes takes; the readers of CARs and of HTTP bodies over 256 MB beside a copy of the same memory, that of CARs also beside `cp`
 # of a file of as many bytes; and 200 MB of a file read through a pack by offsets, with the most memory that takes, beside
 # cat.
 set -u
@@ -17,6 +18,11 @@ program=$PWD/crates/tg_bench/out/tg_bench
     END { printf "name hash / copy of the memory: %.2f of its speed\n", hash / copy }'
 "$program" table
 "$program" node
+{ "$program" dagpb; "$program" unixfs; } | awk '
+    { print; split($0, line, ": "); split(line[2], word, " ") }
+    word[1] == "decode" { decode = word[2] }
+    word[1] == "encode" { encode = word[2] }
+    word[1] == "copy" { printf "%s, decoded, encoded / copied: %.3f, %.3f of its speed\n", line[1], decode / word[2], encode / word[2] }'
 made=$(mktemp -d) || exit 1
 trap 'rm -rf "$made"' EXIT
 head -c 268435456 /dev/zero >"$made/car"

@@ -1,25 +1,22 @@
 -- A text that is a node's has no cause of a fault, and a text has one.
-use Rattle.std.proofs.Common.{◌≡◌, ℕ, ◌+◌, ◌<◌, ◌≤◌, ◌⊎◌, Result, Ok, Err, List, [], ◌∷◌, ◌++◌, length, take, drop, get_or, sym, ap, ap₂, ◌∙◌, subst, inl, inr, arith, length-append}
-use Rattle.std.specs.Prelude.{All, slice_range, MatchResult}
-use Rattle.std.proofs.lemmas.List.{take-append-drop, drop_more}
+use Rattle.std.proofs.Common.{◌≡◌, ℕ, ◌+◌, ◌≤◌, List, [], ◌∷◌, ◌++◌, length, sym, ap, ap₂, ◌∙◌, subst, inl, inr, arith, length-append}
+use Rattle.std.specs.Prelude.{All, slice_range}
 use Rattle.std.proofs.lemmas.List.Elements.{All-nil, All-cons, All-head}
 use Rattle.tg_pbtable.specs.declared.table.Field.{Field}
 use Rattle.tg_pbtable.specs.declared.table.Value.TheVariants.{Place}
 use Rattle.tg_pbtable.specs.declared.table.Order.TheVariants.{Ascending, Runs}
 use Rattle.tg_pbtable.specs.declared.fault.PbFault.{PbFault}
 use Rattle.tg_pbtable.specs.declared.fault.PbFault.TheVariants as faults
-use Rattle.tg_pbtable.specs.Message.{Message}
 use Rattle.tg_pbtable.specs.Faults.{HasCause}
 use Rattle.tg_pbtable.specs.Values.{bytes_at}
 use Rattle.tg_pbtable.specs.Laws.{TableLaws}
 use Rattle.tg_dagpb.specs.declared.TheConstants.{NODE, LINK}
 use Rattle.tg_dagpb.specs.declared.Link.{Link}
 use Rattle.tg_dagpb.specs.declared.Node.{Node}
-use Rattle.tg_dagpb.specs.Node.{LinkText, LinkTexts, HasNodeParts, NodeText}
+use Rattle.tg_dagpb.specs.Node.{LinkText, LinkTexts, NodeText}
 use Rattle.tg_dagpb.specs.Faults.{IsLinkText, HasBadLink, HasNodeCause, moved_by}
-use Rattle.tg_dagpb.specs.Reading.{place_of, GathersNode, no_node, IsBadField, placed}
+use Rattle.tg_dagpb.specs.Reading.{place_of, placed}
 use Rattle.tg_dagpb.proofs.Parts.{node_table, link_table, All-split}
-use Rattle.tg_dagpb.proofs.Same.{one_node}
 
 -- ---- links
 
@@ -123,48 +120,3 @@ place_inside text (faults.OutOfOrder at) h = first_inside h.rest text h.begins.f
 place_inside text (faults.Doubled at) h = first_inside h.rest text h.begins.front at h.begins.whole h.begins.at_is
 place_inside text (faults.Missing number) h = omega arith
 place_inside text faults.OutOfMemory h = omega arith
-
--- ---- a field that is a bad link, behind the fields that are read
-
-split_at : (fs : List Field) (i : ℕ) (d : Field) → i < length fs → fs ≡ take i fs ++ get_or fs i d ∷ drop (i + 1) fs
-split_at fs i d l = sym (take-append-drop i fs) ∙ ap (λ (t : List Field). take i fs ++ t) (drop_more fs i d l)
-
-pub bad_there : (text : List ℕ) (fs : List Field) (i : ℕ) (d : Field) (node : Node) (fault : PbFault) → i < length fs → Message NODE.now Runs text fs → GathersNode text (take i fs) no_node node
-    → IsBadField text (get_or fs i d) fault → HasBadLink text fault
-bad_there text fs i d node fault l m g b =
-    let whole : fs ≡ take i fs ++ placed b.start b.end ∷ drop (i + 1) fs = split_at fs i d l ∙ ap (λ (f : Field). take i fs ++ f ∷ drop (i + 1) fs) b.field_is in
-    record {
-      before = take i fs;
-      start = b.start;
-      end = b.end;
-      after = drop (i + 1) fs;
-      message = subst (λ (t : List Field). Message NODE.now Runs text t) whole m;
-      earlier = all_links g.more (bytes_at text 2 (take i fs)) g.texts;
-      cause = b.bad.cause;
-      cause_is = b.bad.cause_is;
-      fault_is = b.bad.fault_is;
-    }
-
--- ---- what a refusal says of the other texts and faults
-
-pub only_memory : (laws : TableLaws) → (text : List ℕ) (fault : PbFault) → (fault ≡ faults.OutOfMemory) ⊎ HasNodeCause text fault → (node : Node) → NodeText node text → fault ≡ faults.OutOfMemory
-only_memory laws text fault h node p = elim h [ inl e ↦ e | inr cause ↦ absurd (node_has_none laws text node fault p cause) ]
-
-pub that_one : (laws : TableLaws) → (text : List ℕ) (fault : PbFault) → (fault ≡ faults.OutOfMemory) ⊎ HasNodeCause text fault → (other : PbFault) → HasNodeCause text other → (fault ≡ other) ⊎ (fault ≡ faults.OutOfMemory)
-that_one laws text fault h other p = elim h [ inl e ↦ inr e | inr cause ↦ inl (one_node_cause laws text fault other cause p) ]
-
-abbrev pub IsOutcome : List ℕ → List Field → Result Node PbFault → Type 0
-IsOutcome text fs r = MatchResult r (λ node. HasNodeParts text fs node) (λ fault. (fault ≡ faults.OutOfMemory) ⊎ HasBadLink text fault)
-
-late : (text : List ℕ) (fault : PbFault) → (fault ≡ faults.OutOfMemory) ⊎ HasBadLink text fault → (fault ≡ faults.OutOfMemory) ⊎ HasNodeCause text fault
-late text fault h = elim h [ inl e ↦ inl e | inr bad ↦ inr (inr bad) ]
-
-pub node_only : (laws : TableLaws) → (text : List ℕ) (fs : List Field) (r : Result Node PbFault) → Message NODE.now Runs text fs → IsOutcome text fs r → (node : Node) → NodeText node text
-    → MatchResult r (λ found. found ≡ node) (λ fault. fault ≡ faults.OutOfMemory)
-node_only laws text fs (Ok found) m h node p = one_node laws text found node (record { fields = fs; message = m; parts = h }) p
-node_only laws text fs (Err fault) m h node p = only_memory laws text fault (late text fault h) node p
-
-pub node_given : (laws : TableLaws) → (text : List ℕ) (fs : List Field) (r : Result Node PbFault) → Message NODE.now Runs text fs → IsOutcome text fs r → (fault : PbFault) → HasNodeCause text fault
-    → (r ≡ Err fault) ⊎ (r ≡ Err faults.OutOfMemory)
-node_given laws text fs (Ok found) m h fault p = absurd (node_has_none laws text found fault (record { fields = fs; message = m; parts = h }) p)
-node_given laws text fs (Err e) m h fault p = elim (that_one laws text e (late text e h) fault p) [ inl x ↦ inl (ap (λ (y : PbFault). Err y) x) | inr x ↦ inr (ap (λ (y : PbFault). Err y) x) ]

@@ -7,7 +7,7 @@ use Rattle.tg_pbtable.specs.declared.table.Field.{Field}
 use Rattle.tg_pbtable.specs.declared.table.Order.TheVariants.{Runs}
 use Rattle.tg_pbtable.specs.declared.fault.PbFault.{PbFault}
 use Rattle.tg_pbtable.specs.Message.{Message, count_of}
-use Rattle.tg_pbtable.specs.Values.{bytes_at}
+use Rattle.tg_pbtable.specs.Values.{bytes_at, later}
 use Rattle.tg_pbtable.specs.Place.{placed_bytes}
 use Rattle.tg_pbtable.specs.declared.table.Place.{Place}
 use Rattle.tg_pbtable.specs.Laws.{TableLaws}
@@ -18,10 +18,9 @@ use Rattle.tg_dagpb.specs.declared.Node.{Node}
 use Rattle.tg_dagpb.specs.Node.{LinkText, LinkTexts, NodeText}
 use Rattle.tg_dagpb.specs.Cursor.{HasPayloadAt, placed_link}
 use Rattle.tg_dagpb.specs.Faults.{IsLinkText, HasBadLink}
-use Rattle.tg_dagpb.specs.Reading.{later, placed, IsLinkBetween, IsBadPlace, IsBadField, HasFirstBad, IsVerdict}
+use Rattle.tg_dagpb.specs.Reading.{placed, IsLinkBetween, IsBadPlace, IsBadField, HasFirstBad, IsVerdict}
 use Rattle.tg_dagpb.proofs.Parts.{any_rule}
 use Rattle.tg_dagpb.proofs.Causes.{link_has_none}
-use Rattle.tg_dagpb.proofs.Gathering.{later_more, at_most_one}
 use Rattle.tg_dagpb.proofs.Same.{one_node}
 
 -- ---- the verdict on one field more
@@ -73,7 +72,7 @@ links_of (t ∷ texts) h =
 pub payload_more : (laws : TableLaws) → (text : List ℕ) (fs : List Field) (f : Field) (old new : Option (List ℕ)) → old ≡ later None (bytes_at text 1 fs) → new ≡ later old (bytes_at text 1 (f ∷ []))
     → new ≡ later None (bytes_at text 1 (fs ++ f ∷ []))
 payload_more laws text fs f old new p q =
-    later_more None old new (bytes_at text 1 fs) (bytes_at text 1 (f ∷ [])) (bytes_at text 1 (fs ++ f ∷ [])) (laws.values.bytes_append text 1 fs (f ∷ [])) p q
+    laws.last_bytes.later_more None old new (bytes_at text 1 fs) (bytes_at text 1 (f ∷ [])) (bytes_at text 1 (fs ++ f ∷ [])) (laws.values.bytes_append text 1 fs (f ∷ [])) p q
 
 pub payload_there : (laws : TableLaws) → (text : List ℕ) (fs : List Field) (place : Option Place) → Message NODE.now Runs text fs → All IsLinkText (bytes_at text 2 fs) → placed_bytes text place ≡ later None (bytes_at text 1 fs)
     → HasPayloadAt text place
@@ -85,7 +84,7 @@ payload_there laws text fs place m all e =
       is_text = record {
         fields = fs;
         message = m;
-        parts = record { links = links.1; payload = at_most_one (bytes_at text 1 fs) (placed_bytes text place) (omega (arith, laws.values.count text 1 fs)) e };
+        parts = record { links = links.1; payload = laws.last_bytes.at_most_one (bytes_at text 1 fs) (placed_bytes text place) (omega (arith, laws.values.count text 1 fs)) e };
       };
       payload_is = refl;
     }

@@ -1,5 +1,5 @@
 -- The node that is computed of a text is its own, and the fault that is computed has its cause.
-use Rattle.std.proofs.Common.{◌≡◌, ◌≢◌, ℕ, ◌-◌, ◌<◌, ◌≤◌, Option, Some, None, Result, Ok, Err, List, [], ◌∷◌, ◌++◌, length, drop, refl, sym, ap, ap₂, ◌∙◌, subst, inl, inr, arith}
+use Rattle.std.proofs.Common.{◌≡◌, ◌≢◌, ℕ, ◌-◌, ◌<◌, ◌≤◌, Option, Some, None, Result, Ok, Err, List, [], ◌∷◌, ◌++◌, drop, refl, sym, ap, ap₂, ◌∙◌, subst, inl, inr, arith}
 use Rattle.std.specs.Prelude.{All, MatchResult, ◌↔◌, ◌==◌, unwrap_or, slice_range}
 use Rattle.std.proofs.lemmas.Bool.{cond-true, cond-false, cases_eq, eq-eqb, ne_eqb}
 use Rattle.std.proofs.lemmas.List.Elements.{All-nil, All-cons, All-head, All-tail, All-append, All-take, All-drop}
@@ -27,16 +27,6 @@ AreBytes text = All (λ (b : ℕ). b < 256) text
 
 -- ---- a link
 
-at_most_one : {A : Type 0} (xs : List A) → length xs ≤ 1 → xs ≡ listed (first_of xs)
-at_most_one [] l = refl
-at_most_one (x ∷ []) l = refl
-at_most_one (x ∷ y ∷ xs) l = absurd (omega arith)
-
-exactly_one : (xs : List (List ℕ)) → length xs ≡ 1 → xs ≡ unwrap_or (first_of xs) [] ∷ []
-exactly_one [] l = absurd (omega arith)
-exactly_one (x ∷ []) l = refl
-exactly_one (x ∷ y ∷ xs) l = absurd (omega arith)
-
 first_listed : {A : Type 0} (o : Option A) → first_of (listed o) ≡ o
 first_listed None = refl
 first_listed (Some x) = refl
@@ -47,9 +37,9 @@ link_parts_told laws text fs m =
     let two : count_of fs 2 ≤ 1 = m.counts 1 any_rule (omega arith) in
     let three : count_of fs 3 ≤ 1 = m.counts 2 any_rule (omega arith) in
     record {
-      hash = exactly_one (bytes_at text 1 fs) (laws.values.all_bytes LINK.now text 1 fs (link_table laws) (link_rule 0 (omega arith)) m.ruled ∙ one);
-      name = at_most_one (bytes_at text 2 fs) (omega (arith, laws.values.count text 2 fs));
-      tsize = at_most_one (numbers_at 3 fs) (omega (arith, laws.values.count text 3 fs));
+      hash = laws.last_bytes.first_alone [] (bytes_at text 1 fs) (laws.values.all_bytes LINK.now text 1 fs (link_table laws) (link_rule 0 (omega arith)) m.ruled ∙ one);
+      name = laws.last_bytes.first_listed (bytes_at text 2 fs) (omega (arith, laws.values.count text 2 fs));
+      tsize = laws.last_number.first_listed (numbers_at 3 fs) (omega (arith, laws.values.count text 3 fs));
     }
 
 link_again : (text : List ℕ) (fs : List Field) (link : Link) → HasLinkParts text fs link → link_parts text fs ≡ link
@@ -219,7 +209,7 @@ NodeTold text r = MatchResult r (λ node. NodeText node text) (λ e. HasNodeCaus
 with_links_told : (laws : TableLaws) → (text : List ℕ) (fields : List Field) (r : Result (List Link) PbFault) → Message NODE.now Runs text fields → LinksTold text fields r → NodeTold text (with_links text fields r)
 with_links_told laws text fields (Ok links) m h =
     let one : count_of fields 1 ≤ 1 = m.counts 0 any_rule (omega arith) in
-    record { fields = fields; message = m; parts = record { links = h; payload = at_most_one (bytes_at text 1 fields) (omega (arith, laws.values.count text 1 fields)) } }
+    record { fields = fields; message = m; parts = record { links = h; payload = laws.last_bytes.first_listed (bytes_at text 1 fields) (omega (arith, laws.values.count text 1 fields)) } }
 with_links_told laws text fields (Err e) m h = inr (record {
   before = h.before;
   start = h.start;

@@ -1,6 +1,6 @@
--- The fields that a writer makes of a link and of a node are theirs, and the text that is written is too.
-use Rattle.std.proofs.Common.{◌≡◌, ◌≢◌, ℕ, zero, suc, ◌+◌, ◌-◌, ◌<◌, ◌≤◌, Option, Some, None, List, [], ◌∷◌, ◌++◌, length, take, get_or, refl, sym, ap, ap₂, ◌∙◌, append_assoc, subst, arith, length-append}
-use Rattle.std.specs.Prelude.{All, slice_range}
+-- The text that is written for a link and for a node is theirs.
+use Rattle.std.proofs.Common.{◌≡◌, ◌≢◌, ℕ, zero, suc, ◌+◌, ◌-◌, ◌^◌, ◌<◌, ◌≤◌, Option, Some, None, List, [], ◌∷◌, ◌++◌, length, take, get_or, refl, sym, ap, ap₂, ◌∙◌, append_assoc, subst, arith, length-append}
+use Rattle.std.specs.Prelude.{All, slice_range, min}
 use Rattle.std.specs.List.Sorted.{IsNonDecreasing}
 use Rattle.std.proofs.lemmas.List.{append-nil, take_at, drop_at, get_or_default}
 use Rattle.std.proofs.lemmas.List.Sorted.{IsNonDecreasingBy-push}
@@ -9,23 +9,31 @@ use Rattle.tg_pbtable.specs.declared.table.Rule.{Rule}
 use Rattle.tg_pbtable.specs.declared.table.Wire.TheVariants.{Varint, Bytes}
 use Rattle.tg_pbtable.specs.declared.table.Field.{Field}
 use Rattle.tg_pbtable.specs.declared.table.Value.TheVariants.{Number, Place}
-use Rattle.tg_pbtable.specs.declared.table.Order.{Order}
 use Rattle.tg_pbtable.specs.declared.table.Order.TheVariants.{Ascending, Runs}
-use Rattle.tg_pbtable.specs.Message.{Message, HasRule, AreRuled, IsCount, IsInOrder, count_of, numbers_of, wire_of}
-use Rattle.tg_pbtable.specs.Emitted.{LiesIn, AreSameFields}
+use Rattle.tg_pbtable.specs.Message.{HasRule, AreRuled, IsCount, count_of, numbers_of, wire_of}
+use Rattle.tg_pbtable.specs.Emitted.{AreSameFields, HeadSpelling, BytesSpelling, FieldTexts, Puts, IsSizeOf}
 use Rattle.tg_pbtable.specs.Values.{number_in, bytes_in, numbers_at, bytes_at, listed}
 use Rattle.tg_pbtable.specs.Laws.{TableLaws}
 use Rattle.tg_dagpb.specs.declared.TheConstants.{NODE, LINK}
 use Rattle.tg_dagpb.specs.declared.Link.{Link}
 use Rattle.tg_dagpb.specs.declared.Node.{Node}
 use Rattle.tg_dagpb.specs.Node.{LinkText, LinkTexts, HasLinkParts, HasNodeParts, CanonicalText}
-use Rattle.tg_dagpb.specs.Writing.{spans, joined, sizes}
+use Rattle.tg_dagpb.specs.Writing.{BytesTexts, NumberTexts, LinkContent, LinkField}
 use Rattle.tg_dagpb.proofs.Parts.{node_table, link_table, node_rule, link_rule}
 use Rattle.tg_dagpb.proofs.Same.{link_again, node_again}
 use Rattle.tg_dagpb.proofs.Orders.{Halves, longer, halves_together, first_links}
 use Rattle.tg_dagpb.proofs.Gathering.{texts_append}
 
 -- ---- fields of bytes one behind another
+
+-- the fields of one number whose bytes lie one behind another from `at` on
+abbrev spans : ℕ → ℕ → List (List ℕ) → List Field
+spans number at [] = []
+spans number at (text ∷ texts) = record { number = number; value = Place at (at + length text) } ∷ spans number (at + length text) texts
+
+abbrev joined : List (List ℕ) → List ℕ
+joined [] = []
+joined (text ∷ texts) = text ++ joined texts
 
 between : (a b c : List ℕ) (start end : ℕ) → start ≡ length a → end ≡ start + length b → slice_range (a ++ (b ++ c)) start end ≡ b
 between a b c start end s e =
@@ -44,12 +52,6 @@ spans_ruled : (rules : List Rule) (n at : ℕ) (texts : List (List ℕ)) → Has
 spans_ruled rules n at [] h = All-nil (λ (f : Field). HasRule rules f.number (wire_of f.value))
 spans_ruled rules n at (t ∷ ts) h = All-cons (λ (f : Field). HasRule rules f.number (wire_of f.value)) (record { number = n; value = Place at (at + length t) }) (spans n (at + length t) ts) h (spans_ruled rules n (at + length t) ts h)
 
-spans_inside : (source : List ℕ) (n at : ℕ) (texts : List (List ℕ)) → at + length (joined texts) ≤ length source → All (λ (f : Field). LiesIn source f.value) (spans n at texts)
-spans_inside source n at [] l = All-nil (λ (f : Field). LiesIn source f.value)
-spans_inside source n at (t ∷ ts) l =
-    let size : length (t ++ joined ts) ≡ length t + length (joined ts) = length-append t (joined ts) in
-    All-cons (λ (f : Field). LiesIn source f.value) (record { number = n; value = Place at (at + length t) }) (spans n (at + length t) ts) (omega arith, omega arith) (spans_inside source n (at + length t) ts (omega arith))
-
 spans_none : (laws : TableLaws) → (k n at : ℕ) (texts : List (List ℕ)) → numbers_at k (spans n at texts) ≡ []
 spans_none laws k n at texts = laws.values.no_numbers k (spans n at texts) (λ i d l e. spans_places n at texts i d l)
 
@@ -65,25 +67,28 @@ spans_bytes laws source front n at (t ∷ ts) back w e =
     laws.values.bytes_here source n (record { number = n; value = Place at (at + length t) }) (spans n (at + length t) ts) refl
     ∙ ap₂ (λ (x : List ℕ) (xs : List (List ℕ)). x ∷ xs) here rest
 
-spans_push : (n at : ℕ) (ts : List (List ℕ)) (t : List ℕ) → spans n at (ts ++ t ∷ []) ≡ spans n at ts ++ spans n (at + length (joined ts)) (t ∷ [])
-spans_push n at [] t = ap (λ (i : ℕ). spans n i (t ∷ [])) (omega arith)
-spans_push n at (x ∷ ts) t =
-    let next : (at + length x) + length (joined ts) ≡ at + length (x ++ joined ts) = omega (arith, length-append x (joined ts)) in
-    ap (λ (fs : List Field). record { number = n; value = Place at (at + length x) } ∷ fs) (spans_push n (at + length x) ts t ∙ ap (λ (i : ℕ). spans n (at + length x) ts ++ spans n i (t ∷ [])) next)
-
-joined_push : (ts : List (List ℕ)) (t : List ℕ) → joined (ts ++ t ∷ []) ≡ joined ts ++ joined (t ∷ [])
-joined_push [] t = refl
-joined_push (x ∷ ts) t = ap (λ (s : List ℕ). x ++ s) (joined_push ts t) ∙ sym (append_assoc x (joined ts) (joined (t ∷ [])))
+spans_texts : (source front : List ℕ) (n at : ℕ) (texts : List (List ℕ)) (back bytes : List ℕ) → source ≡ front ++ (joined texts ++ back) → at ≡ length front → BytesTexts n texts bytes → FieldTexts source (spans n at texts) bytes
+spans_texts source front n at [] back bytes w e h = h
+spans_texts source front n at (t ∷ ts) back bytes w e h =
+    let whole : source ≡ front ++ (t ++ (joined ts ++ back)) = w ∙ ap (λ (x : List ℕ). front ++ x) (append_assoc t (joined ts) back) in
+    let here : slice_range source at (at + length t) ≡ t = ap (λ (x : List ℕ). slice_range x at (at + length t)) whole ∙ between front t (joined ts ++ back) at (at + length t) e refl in
+    let rest = spans_texts source (front ++ t) n (at + length t) ts back h.1 (whole ∙ sym (append_assoc front t (joined ts ++ back))) (omega (arith, length-append front t)) h.4 in
+    (h.0, h.1, h.2, subst (λ (x : List ℕ). BytesSpelling n x h.0) (sym here) h.3, rest)
 
 -- ---- fields of numbers
+
+-- the fields of one number with these numbers
+abbrev sizes : ℕ → List ℕ → List Field
+sizes number [] = []
+sizes number (value ∷ values) = record { number = number; value = Number value } ∷ sizes number values
+
+sizes_texts : (source : List ℕ) (n : ℕ) (values bytes : List ℕ) → NumberTexts n values bytes → FieldTexts source (sizes n values) bytes
+sizes_texts source n [] bytes h = h
+sizes_texts source n (v ∷ vs) bytes h = (h.0, h.1, h.2, h.3, sizes_texts source n vs h.1 h.4)
 
 sizes_ruled : (rules : List Rule) (n : ℕ) (values : List ℕ) → HasRule rules n Varint → AreRuled rules (sizes n values)
 sizes_ruled rules n [] h = All-nil (λ (f : Field). HasRule rules f.number (wire_of f.value))
 sizes_ruled rules n (v ∷ vs) h = All-cons (λ (f : Field). HasRule rules f.number (wire_of f.value)) (record { number = n; value = Number v }) (sizes n vs) h (sizes_ruled rules n vs h)
-
-sizes_inside : (source : List ℕ) (n : ℕ) (values : List ℕ) → All (λ (f : Field). LiesIn source f.value) (sizes n values)
-sizes_inside source n [] = All-nil (λ (f : Field). LiesIn source f.value)
-sizes_inside source n (v ∷ vs) = All-cons (λ (f : Field). LiesIn source f.value) (record { number = n; value = Number v }) (sizes n vs) tt (sizes_inside source n vs)
 
 sizes_empty : (source : List ℕ) (n : ℕ) (values : List ℕ) → All (λ (f : Field). bytes_in source f.value ≡ []) (sizes n values)
 sizes_empty source n [] = All-nil (λ (f : Field). bytes_in source f.value ≡ [])
@@ -98,10 +103,10 @@ sizes_values laws n (v ∷ vs) = laws.values.numbers_here n (record { number = n
 
 -- ---- the fields of a link
 
-abbrev pub link_source : Link → List ℕ
+abbrev link_source : Link → List ℕ
 link_source link = joined (link.hash ∷ []) ++ joined (listed link.name)
 
-abbrev pub link_fields : Link → List Field
+abbrev link_fields : Link → List Field
 link_fields link = (spans 1 0 (link.hash ∷ []) ++ spans 2 (length (joined (link.hash ∷ []))) (listed link.name)) ++ sizes 3 (listed link.tsize)
 
 three_bytes : (laws : TableLaws) → (s : List ℕ) (n : ℕ) (xs ys zs : List Field) → bytes_at s n ((xs ++ ys) ++ zs) ≡ (bytes_at s n xs ++ bytes_at s n ys) ++ bytes_at s n zs
@@ -135,7 +140,7 @@ link_parts laws link =
           (spans_none laws 3 1 0 (link.hash ∷ [])) (spans_none laws 3 2 (length hash) (listed link.name)) (sizes_values laws 3 (listed link.tsize));
     }
 
-pub link_ruled : (link : Link) → AreRuled LINK.now (link_fields link)
+link_ruled : (link : Link) → AreRuled LINK.now (link_fields link)
 link_ruled link =
     let P = λ (f : Field). HasRule LINK.now f.number (wire_of f.value) in
     let hash = joined (link.hash ∷ []) in
@@ -144,18 +149,6 @@ link_ruled link =
     All-append P (xs ++ ys) (sizes 3 (listed link.tsize))
     (All-append P xs ys (spans_ruled LINK.now 1 0 (link.hash ∷ []) (link_rule 0 (omega arith))) (spans_ruled LINK.now 2 (length hash) (listed link.name) (link_rule 1 (omega arith))))
     (sizes_ruled LINK.now 3 (listed link.tsize) (link_rule 2 (omega arith)))
-
-pub link_inside : (link : Link) → All (λ (f : Field). LiesIn (link_source link) f.value) (link_fields link)
-link_inside link =
-    let s = link_source link in
-    let P = λ (f : Field). LiesIn s f.value in
-    let hash = joined (link.hash ∷ []) in
-    let xs = spans 1 0 (link.hash ∷ []) in
-    let ys = spans 2 (length hash) (listed link.name) in
-    let size : length s ≡ length hash + length (joined (listed link.name)) = length-append hash (joined (listed link.name)) in
-    All-append P (xs ++ ys) (sizes 3 (listed link.tsize))
-    (All-append P xs ys (spans_inside s 1 0 (link.hash ∷ []) (omega arith)) (spans_inside s 2 (length hash) (listed link.name) (omega arith)))
-    (sizes_inside s 3 (listed link.tsize))
 
 few : {A : Type 0} (o : Option A) → length (listed o) ≤ 1
 few None = omega arith
@@ -186,74 +179,35 @@ link_rises hash (Some name) None = two_rise 2 (omega arith)
 link_rises hash None (Some tsize) = two_rise 3 (omega arith)
 link_rises hash (Some name) (Some tsize) = rises (1 ∷ 2 ∷ []) 3 (two_rise 2 (omega arith)) (λ _. omega arith)
 
--- what `emit` says of a text
-abbrev pub Again : List Rule → List ℕ → List Field → List ℕ → Type 0
-Again rules source fields text = (order : Order) → All (λ (rule : Rule). IsCount rule.times (count_of fields rule.number)) rules → IsInOrder order (numbers_of fields)
-    → (placed : List Field) × Message rules order text placed × AreSameFields source fields text placed
+link_texts : (laws : TableLaws) → (link : Link) (content : List ℕ) → LinkContent link content → FieldTexts (link_source link) (link_fields link) content
+link_texts laws link content h =
+    let s = link_source link in
+    let hash = joined (link.hash ∷ []) in
+    let xs = spans 1 0 (link.hash ∷ []) in
+    let ys = spans 2 (length hash) (listed link.name) in
+    let zs = sizes 3 (listed link.tsize) in
+    let first : FieldTexts s xs h.hash = spans_texts s [] 1 0 (link.hash ∷ []) (joined (listed link.name)) h.hash refl refl (h.hash, [], sym (append-nil h.hash), h.hash_is, refl) in
+    let second : FieldTexts s ys h.name = spans_texts s hash 2 (length hash) (listed link.name) [] h.name (ap (λ (t : List ℕ). hash ++ t) (sym (append-nil (joined (listed link.name))))) refl h.name_is in
+    let third : FieldTexts s zs h.tsize = sizes_texts s 3 (listed link.tsize) h.tsize h.tsize_is in
+    subst (λ (t : List ℕ). FieldTexts s (link_fields link) t) (append_assoc h.hash h.name h.tsize ∙ sym h.whole)
+    (laws.writing.append s (xs ++ ys) zs (h.hash ++ h.name) h.tsize (laws.writing.append s xs ys h.hash h.name first second) third)
 
-pub link_written : (laws : TableLaws) → (link : Link) (text : List ℕ) → Again LINK.now (link_source link) (link_fields link) text → LinkText link text
-link_written laws link text again =
-    let h = again Ascending (link_counts laws link) (link_rises link.hash link.name link.tsize) in
+pub link_written : (laws : TableLaws) → (link : Link) (content : List ℕ) → LinkContent link content → LinkText link content
+link_written laws link content h =
+    let s = link_source link in
+    let got = laws.writing.message LINK.now Ascending s (link_fields link) content (link_ruled link) (link_counts laws link) (link_rises link.hash link.name link.tsize) (link_texts laws link content h) in
     record {
-      fields = h.0;
-      message = h.1;
-      parts = link_again laws (link_source link) text (link_fields link) h.0 link h.2 (link_parts laws link);
+      fields = got.0;
+      message = got.1;
+      parts = link_again laws s content (link_fields link) got.0 link got.2 (link_parts laws link);
     }
-
--- what a draft holds after the hash, the name and the size are put into it
-pub record IsLink (link : Link) (fields : List Field) (source : List ℕ) : Type 0 where
-  pub fields_are : fields ≡ link_fields link
-  pub source_is : source ≡ link_source link
-
-pub link_drafted : (link : Link) (f0 f1 f2 f3 : List Field) (s0 s1 s2 s3 hash : List ℕ) → f0 ≡ [] → s0 ≡ [] → hash ≡ link.hash
-    → f1 ≡ f0 ++ spans 1 (length s0) (hash ∷ []) → s1 ≡ s0 ++ joined (hash ∷ []) → f2 ≡ f1 ++ spans 2 (length s1) (listed link.name) → s2 ≡ s1 ++ joined (listed link.name)
-    → f3 ≡ f2 ++ sizes 3 (listed link.tsize) → s3 ≡ s2 → IsLink link f3 s3
-link_drafted link f0 f1 f2 f3 s0 s1 s2 s3 hash fe se he e1 g1 e2 g2 e3 g3 =
-    let source1 : s1 ≡ joined (link.hash ∷ []) = g1 ∙ ap₂ (λ (s h : List ℕ). s ++ joined (h ∷ [])) se he in
-    let fields1 : f1 ≡ spans 1 0 (link.hash ∷ []) = e1 ∙ ap (λ (fs : List Field). fs ++ spans 1 (length s0) (hash ∷ [])) fe ∙ ap₂ (λ (s h : List ℕ). spans 1 (length s) (h ∷ [])) se he in
-    let fields2 : f2 ≡ spans 1 0 (link.hash ∷ []) ++ spans 2 (length (joined (link.hash ∷ []))) (listed link.name) =
-    e2 ∙ ap₂ (λ (fs : List Field) (s : List ℕ). fs ++ spans 2 (length s) (listed link.name)) fields1 source1 in
-    record {
-      fields_are = e3 ∙ ap (λ (fs : List Field). fs ++ sizes 3 (listed link.tsize)) fields2;
-      source_is = g3 ∙ g2 ∙ ap (λ (s : List ℕ). s ++ joined (listed link.name)) source1;
-    }
-
-pub link_may : (link : Link) (fields : List Field) (source : List ℕ) → IsLink link fields source → AreRuled LINK.now fields × All (λ (f : Field). LiesIn source f.value) fields
-link_may link fields source d = (
-  subst (λ (fs : List Field). AreRuled LINK.now fs) (sym d.fields_are) (link_ruled link),
-  subst (λ (fs : List Field). All (λ (f : Field). LiesIn source f.value) fs) (sym d.fields_are)
-      (subst (λ (s : List ℕ). All (λ (f : Field). LiesIn s f.value) (link_fields link)) (sym d.source_is) (link_inside link)),
-)
-
-pub link_done : (laws : TableLaws) → (link : Link) (fields : List Field) (source text : List ℕ) → IsLink link fields source → Again LINK.now source fields text → LinkText link text
-link_done laws link fields source text d again =
-    link_written laws link text (subst (λ (fs : List Field). Again LINK.now (link_source link) fs text) d.fields_are (subst (λ (s : List ℕ). Again LINK.now s fields text) d.source_is again))
 
 -- ---- the fields of a node
 
--- the links that are put into a draft
-pub record IsDrafted (links : List Link) (fields : List Field) (source : List ℕ) : Type 0 where
-  pub texts : List (List ℕ)
-  pub are_texts : LinkTexts links texts
-  pub fields_are : fields ≡ spans 2 0 texts
-  pub source_is : source ≡ joined texts
-
-pub none_drafted : (fields : List Field) (source : List ℕ) → fields ≡ [] → source ≡ [] → IsDrafted [] fields source
-none_drafted fields source e f = record { texts = []; are_texts = tt; fields_are = e; source_is = f }
-
-pub one_drafted : (links : List Link) (link : Link) (text : List ℕ) (fields more : List Field) (source longer : List ℕ) → IsDrafted links fields source → LinkText link text
-    → more ≡ fields ++ spans 2 (length source) (text ∷ []) → longer ≡ source ++ joined (text ∷ []) → IsDrafted (links ++ link ∷ []) more longer
-one_drafted links link text fields more source longer d h e f = record {
-  texts = d.texts ++ text ∷ [];
-  are_texts = texts_append links (link ∷ []) d.texts (text ∷ []) d.are_texts (h, tt);
-  fields_are = e ∙ ap₂ (λ (fs : List Field) (s : List ℕ). fs ++ spans 2 (length s) (text ∷ [])) d.fields_are d.source_is ∙ sym (spans_push 2 0 d.texts text ∙ ap (λ (i : ℕ). spans 2 0 d.texts ++ spans 2 i (text ∷ [])) (omega arith));
-  source_is = f ∙ ap (λ (s : List ℕ). s ++ joined (text ∷ [])) d.source_is ∙ sym (joined_push d.texts text);
-}
-
-abbrev pub node_source : List (List ℕ) → Option (List ℕ) → List ℕ
+abbrev node_source : List (List ℕ) → Option (List ℕ) → List ℕ
 node_source texts payload = joined texts ++ joined (listed payload)
 
-abbrev pub node_fields : List (List ℕ) → Option (List ℕ) → List Field
+abbrev node_fields : List (List ℕ) → Option (List ℕ) → List Field
 node_fields texts payload = spans 2 0 texts ++ spans 1 (length (joined texts)) (listed payload)
 
 node_parts : (laws : TableLaws) → (node : Node) (texts : List (List ℕ)) → LinkTexts node.links texts → HasNodeParts (node_source texts node.payload) (node_fields texts node.payload) node
@@ -278,14 +232,6 @@ node_ruled : (texts : List (List ℕ)) (payload : Option (List ℕ)) → AreRule
 node_ruled texts payload =
     All-append (λ (f : Field). HasRule NODE.now f.number (wire_of f.value)) (spans 2 0 texts) (spans 1 (length (joined texts)) (listed payload))
     (spans_ruled NODE.now 2 0 texts (node_rule 1 (omega arith))) (spans_ruled NODE.now 1 (length (joined texts)) (listed payload) (node_rule 0 (omega arith)))
-
-node_inside : (texts : List (List ℕ)) (payload : Option (List ℕ)) → All (λ (f : Field). LiesIn (node_source texts payload) f.value) (node_fields texts payload)
-node_inside texts payload =
-    let s = node_source texts payload in
-    let front = joined texts in
-    let size : length s ≡ length front + length (joined (listed payload)) = length-append front (joined (listed payload)) in
-    All-append (λ (f : Field). LiesIn s f.value) (spans 2 0 texts) (spans 1 (length front) (listed payload))
-    (spans_inside s 2 0 texts (omega arith)) (spans_inside s 1 (length front) (listed payload) (omega arith))
 
 node_counts : (laws : TableLaws) → (node : Node) (texts : List (List ℕ)) → LinkTexts node.links texts → (k : ℕ) (d : Rule) → k < 2 → IsCount (get_or NODE.now k d).times (count_of (node_fields texts node.payload) (get_or NODE.now k d).number)
 node_counts laws node texts h zero d l =
@@ -319,41 +265,67 @@ same_halves m n s t (f ∷ front) rest (g ∷ gs) same a b =
     let P = λ (x : Field). x.number ≡ m in
     longer m n g gs (sym same.0 ∙ All-head P f front a) (same_halves m n s t front rest gs same.2 (All-tail P f front a) b)
 
-node_written : (laws : TableLaws) → (node : Node) (texts : List (List ℕ)) (text : List ℕ) → LinkTexts node.links texts → Again NODE.now (node_source texts node.payload) (node_fields texts node.payload) text → CanonicalText node text
-node_written laws node texts text h again =
-    let s = node_source texts node.payload in
-    let fs = node_fields texts node.payload in
-    let halves = node_halves texts node.payload in
-    let got = again Runs (node_counts laws node texts h) (halves_together 2 1 fs (omega arith) halves) in
-    record {
-      is_text = record { fields = got.0; message = got.1; parts = node_again laws s text fs got.0 node got.2 (node_parts laws node texts h) };
-      order = first_links got.0 (same_halves 2 1 s text halves.front halves.rest got.0 got.2 halves.are_first halves.are_last);
-    }
-
--- what a draft holds after the links and the data are put into it
-pub record IsNode (node : Node) (fields : List Field) (source : List ℕ) : Type 0 where
+-- the text of links is put
+pub record HasLinks (links : List Link) (text : List ℕ) : Type 0 where
   pub texts : List (List ℕ)
-  pub are_texts : LinkTexts node.links texts
-  pub fields_are : fields ≡ node_fields texts node.payload
-  pub source_is : source ≡ node_source texts node.payload
+  pub are_texts : LinkTexts links texts
+  pub fields : BytesTexts 2 texts text
 
-pub node_drafted : (node : Node) (fields more : List Field) (source longer : List ℕ) → IsDrafted node.links fields source
-    → more ≡ fields ++ spans 1 (length source) (listed node.payload) → longer ≡ source ++ joined (listed node.payload) → IsNode node more longer
-node_drafted node fields more source longer d e f = record {
-  texts = d.texts;
-  are_texts = d.are_texts;
-  fields_are = e ∙ ap₂ (λ (fs : List Field) (s : List ℕ). fs ++ spans 1 (length s) (listed node.payload)) d.fields_are d.source_is;
-  source_is = f ∙ ap (λ (s : List ℕ). s ++ joined (listed node.payload)) d.source_is;
+bytes_append : (n : ℕ) (xs ys : List (List ℕ)) (a b : List ℕ) → BytesTexts n xs a → BytesTexts n ys b → BytesTexts n (xs ++ ys) (a ++ b)
+bytes_append n [] ys a b p q = subst (λ (t : List ℕ). BytesTexts n ys (t ++ b)) (sym p) q
+bytes_append n (x ∷ xs) ys a b p q = (p.0, p.1 ++ b, ap (λ (t : List ℕ). t ++ b) p.2 ∙ append_assoc p.0 p.1 b, p.3, bytes_append n xs ys p.1 b p.4 q)
+
+pub one_link_more : (links : List Link) (link : Link) (old new : List ℕ) → HasLinks links old → Puts (λ bytes. LinkField link bytes) old new → HasLinks (links ++ link ∷ []) new
+one_link_more links link old new h p = record {
+  texts = h.texts ++ p.spells.content ∷ [];
+  are_texts = texts_append links (link ∷ []) h.texts (p.spells.content ∷ []) h.are_texts (p.spells.is_text, tt);
+  fields = subst (λ (t : List ℕ). BytesTexts 2 (h.texts ++ p.spells.content ∷ []) t) (sym p.whole)
+      (bytes_append 2 h.texts (p.spells.content ∷ []) old p.bytes h.fields (p.bytes, [], sym (append-nil p.bytes), p.spells.field, refl));
 }
 
-pub node_may : (node : Node) (fields : List Field) (source : List ℕ) → IsNode node fields source → AreRuled NODE.now fields × All (λ (f : Field). LiesIn source f.value) fields
-node_may node fields source d = (
-  subst (λ (fs : List Field). AreRuled NODE.now fs) (sym d.fields_are) (node_ruled d.texts node.payload),
-  subst (λ (fs : List Field). All (λ (f : Field). LiesIn source f.value) fs) (sym d.fields_are)
-      (subst (λ (s : List ℕ). All (λ (f : Field). LiesIn s f.value) (node_fields d.texts node.payload)) (sym d.source_is) (node_inside d.texts node.payload)),
-)
+pub node_written : (laws : TableLaws) → (node : Node) (old new : List ℕ) → HasLinks node.links old → Puts (λ bytes. BytesTexts 1 (listed node.payload) bytes) old new → CanonicalText node new
+node_written laws node old new h p =
+    let s = node_source h.texts node.payload in
+    let fs = node_fields h.texts node.payload in
+    let front = joined h.texts in
+    let back = joined (listed node.payload) in
+    let halves = node_halves h.texts node.payload in
+    let first : FieldTexts s (spans 2 0 h.texts) old = spans_texts s [] 2 0 h.texts back old refl refl h.fields in
+    let second : FieldTexts s (spans 1 (length front) (listed node.payload)) p.bytes = spans_texts s front 1 (length front) (listed node.payload) [] p.bytes (ap (λ (t : List ℕ). front ++ t) (sym (append-nil back))) refl p.spells in
+    let all : FieldTexts s fs new = subst (λ (t : List ℕ). FieldTexts s fs t) (sym p.whole) (laws.writing.append s (spans 2 0 h.texts) (spans 1 (length front) (listed node.payload)) old p.bytes first second) in
+    let got = laws.writing.message NODE.now Runs s fs new (node_ruled h.texts node.payload) (node_counts laws node h.texts h.are_texts) (halves_together 2 1 fs (omega arith) halves) all in
+    record {
+      is_text = record { fields = got.0; message = got.1; parts = node_again laws s new fs got.0 node got.2 (node_parts laws node h.texts h.are_texts) };
+      order = first_links got.0 (same_halves 2 1 s new halves.front halves.rest got.0 got.2 halves.are_first halves.are_last);
+    }
 
-pub node_done : (laws : TableLaws) → (node : Node) (fields : List Field) (source text : List ℕ) → IsNode node fields source → Again NODE.now source fields text → CanonicalText node text
-node_done laws node fields source text d again =
-    node_written laws node d.texts text d.are_texts
-    (subst (λ (fs : List Field). Again NODE.now (node_source d.texts node.payload) fs text) d.fields_are (subst (λ (s : List ℕ). Again NODE.now s fields text) d.source_is again))
+-- ---- what is put
+
+pub content_put : (link : Link) (hash a b c d : List ℕ) → hash ≡ link.hash → Puts (λ bytes. BytesSpelling 1 hash bytes) a b → Puts (λ bytes. BytesTexts 2 (listed link.name) bytes) b c → Puts (λ bytes. NumberTexts 3 (listed link.tsize) bytes) c d
+    → Puts (λ bytes. LinkContent link bytes) a d
+content_put link hash a b c d e p q r = record {
+  bytes = p.bytes ++ (q.bytes ++ r.bytes);
+  whole = r.whole ∙ ap (λ (t : List ℕ). t ++ r.bytes) (q.whole ∙ ap (λ (t : List ℕ). t ++ q.bytes) p.whole) ∙ append_assoc (a ++ p.bytes) q.bytes r.bytes ∙ append_assoc a p.bytes (q.bytes ++ r.bytes);
+  spells = record { hash = p.bytes; name = q.bytes; tsize = r.bytes; whole = refl; hash_is = subst (λ (t : List ℕ). BytesSpelling 1 t p.bytes) e p.spells; name_is = q.spells; tsize_is = r.spells };
+}
+
+-- the size is right, since the whole text has fewer bytes than the greatest number
+pub link_put : (laws : TableLaws) → (link : Link) (size : ℕ) (a b c : List ℕ) → IsSizeOf (λ bytes. LinkContent link bytes) size → length c < 2 ^ 64
+    → Puts (λ bytes. HeadSpelling 2 size bytes) a b → Puts (λ bytes. LinkContent link bytes) b c → Puts (λ bytes. LinkField link bytes) a c
+link_put laws link size a b c s short p q =
+    let fits : length q.bytes < 2 ^ 64 = omega (arith, ap length q.whole, length-append b q.bytes) in
+    let right : size ≡ length q.bytes = s q.bytes q.spells ∙ (let e : min (length q.bytes) (2 ^ 64 - 1) ≡ length q.bytes = omega arith in e) in
+    record {
+      bytes = p.bytes ++ q.bytes;
+      whole = q.whole ∙ ap (λ (t : List ℕ). t ++ q.bytes) p.whole ∙ append_assoc a p.bytes q.bytes;
+      spells = record {
+        content = q.bytes;
+        is_text = link_written laws link q.bytes q.spells;
+        field = record {
+          head = p.bytes;
+          whole = refl;
+          head_is = subst (λ (n : ℕ). HeadSpelling 2 n p.bytes) right p.spells;
+          are_bytes = laws.writing.are_bytes (link_source link) (link_fields link) q.bytes (link_texts laws link q.bytes q.spells);
+        };
+      };
+    }

@@ -1,12 +1,11 @@
 -- The tables of nodes and of links.
-use Rattle.std.proofs.Common.{◌≡◌, ℕ, ◌<◌, Option, Some, None, List, [], ◌∷◌, ◌++◌, length, get_or, refl}
+use Rattle.std.proofs.Common.{ℕ, ◌<◌, List, [], ◌∷◌, ◌++◌, length, get_or, refl}
 use Rattle.std.specs.Prelude.{All}
 use Rattle.std.proofs.lemmas.List.Elements.{Contains-get_or, All-nil, All-cons, All-head, All-tail}
 use Rattle.tg_pbtable.specs.declared.table.Rule.{Rule}
 use Rattle.tg_pbtable.specs.declared.table.Wire.TheVariants.{Varint}
 use Rattle.tg_pbtable.specs.declared.table.Times.TheVariants.{One}
 use Rattle.tg_pbtable.specs.Message.{HasRule, IsTable}
-use Rattle.tg_pbtable.specs.Values.{listed}
 use Rattle.tg_pbtable.specs.Laws.{TableLaws}
 use Rattle.tg_dagpb.specs.declared.TheConstants.{NODE, LINK}
 
@@ -25,12 +24,6 @@ node_rule i l = record { rule = get_or NODE.now i any_rule; among = Contains-get
 
 pub link_rule : (i : ℕ) → i < length LINK.now → HasRule LINK.now (get_or LINK.now i any_rule).number (get_or LINK.now i any_rule).wire
 link_rule i l = record { rule = get_or LINK.now i any_rule; among = Contains-get_or LINK.now i any_rule l; number_is = refl; wire_is = refl }
-
-pub listed_same : {A : Type 0} (a b : Option A) → listed a ≡ listed b → a ≡ b
-listed_same None None e = refl
-listed_same (Some x) (Some y) e = cc
-listed_same None (Some y) e = absurd (cc)
-listed_same (Some x) None e = absurd (cc)
 
 pub All-split : {X : Type 0} (P : X → Type 0) (xs ys : List X) → All P (xs ++ ys) → All P xs × All P ys
 All-split P [] ys h = (All-nil P, h)

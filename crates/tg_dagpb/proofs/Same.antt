@@ -9,7 +9,7 @@ use Rattle.tg_dagpb.specs.declared.TheConstants.{NODE, LINK}
 use Rattle.tg_dagpb.specs.declared.Link.{Link}
 use Rattle.tg_dagpb.specs.declared.Node.{Node}
 use Rattle.tg_dagpb.specs.Node.{HasLinkParts, LinkText, LinkTexts, HasNodeParts, NodeText}
-use Rattle.tg_dagpb.proofs.Parts.{node_table, link_table, listed_same}
+use Rattle.tg_dagpb.proofs.Parts.{node_table, link_table}
 
 -- ---- one link
 
@@ -22,15 +22,15 @@ three_same h k m n t u a b c = rw (a, b, c) refl
 head_same : (a b : List ℕ) → a ∷ [] ≡ b ∷ [] → a ≡ b
 head_same a b e = cc
 
-parts_same : (text : List ℕ) (fs : List Field) (a b : Link) → HasLinkParts text fs a → HasLinkParts text fs b → a ≡ b
-parts_same text fs a b p q = three_same a.hash b.hash a.name b.name a.tsize b.tsize
+parts_same : (laws : TableLaws) → (text : List ℕ) (fs : List Field) (a b : Link) → HasLinkParts text fs a → HasLinkParts text fs b → a ≡ b
+parts_same laws text fs a b p q = three_same a.hash b.hash a.name b.name a.tsize b.tsize
     (head_same a.hash b.hash (sym p.hash ∙ q.hash))
-    (listed_same a.name b.name (sym p.name ∙ q.name))
-    (listed_same a.tsize b.tsize (sym p.tsize ∙ q.tsize))
+    (laws.last_bytes.listed_same a.name b.name (sym p.name ∙ q.name))
+    (laws.last_number.listed_same a.tsize b.tsize (sym p.tsize ∙ q.tsize))
 
 pub one_link : (laws : TableLaws) → (text : List ℕ) (a b : Link) → LinkText a text → LinkText b text → a ≡ b
 one_link laws text a b p q =
-    parts_same text q.fields a b (subst (λ (fs : List Field). HasLinkParts text fs a) (laws.messages.one_reading 0 text p.fields q.fields p.message.spelled q.message.spelled) p.parts) q.parts
+    parts_same laws text q.fields a b (subst (λ (fs : List Field). HasLinkParts text fs a) (laws.messages.one_reading 0 text p.fields q.fields p.message.spelled q.message.spelled) p.parts) q.parts
 
 -- ---- one text of a link
 
@@ -83,7 +83,7 @@ two_same l m p q a b = rw (a, b) refl
 nodes_same : (laws : TableLaws) → (text : List ℕ) (fs : List Field) (a b : Node) → HasNodeParts text fs a → HasNodeParts text fs b → a ≡ b
 nodes_same laws text fs a b p q = two_same a.links b.links a.payload b.payload
     (one_links laws (bytes_at text 2 fs) a.links b.links p.links q.links)
-    (listed_same a.payload b.payload (sym p.payload ∙ q.payload))
+    (laws.last_bytes.listed_same a.payload b.payload (sym p.payload ∙ q.payload))
 
 pub one_node : (laws : TableLaws) → (text : List ℕ) (a b : Node) → NodeText a text → NodeText b text → a ≡ b
 one_node laws text a b p q =

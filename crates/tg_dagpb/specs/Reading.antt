@@ -6,23 +6,17 @@ use Rattle.tg_pbtable.specs.declared.table.Value.TheVariants as values
 use Rattle.tg_pbtable.specs.declared.table.Place.{Place}
 use Rattle.tg_pbtable.specs.declared.fault.PbFault.{PbFault}
 use Rattle.tg_pbtable.specs.declared.fault.PbFault.TheVariants as faults
-use Rattle.tg_pbtable.specs.Values.{numbers_at, bytes_at}
+use Rattle.tg_pbtable.specs.Values.{numbers_at, bytes_at, later}
 use Rattle.tg_pbtable.specs.Faults.{HasCause}
 use Rattle.tg_pbtable.specs.declared.cursor.FieldCursor.{FieldCursor}
 use Rattle.tg_pbtable.specs.Cursor.{HasRead}
 use Rattle.tg_dagpb.specs.declared.TheConstants.{NODE, LINK}
 use Rattle.tg_dagpb.specs.declared.Link.{Link}
-use Rattle.tg_dagpb.specs.declared.Node.{Node}
-use Rattle.tg_dagpb.specs.Node.{LinkText, LinkTexts}
+use Rattle.tg_dagpb.specs.Node.{LinkText}
 use Rattle.tg_dagpb.specs.Faults.{moved_by, IsLinkText}
 use Rattle.tg_pbtable.specs.Place.{AreInside, placed_bytes}
 use Rattle.tg_dagpb.specs.declared.LinkPlaces.{LinkPlaces}
 use Rattle.tg_dagpb.specs.Cursor.{IsBetween, placed_link, LieInside}
-
--- the last of the values, or the one from before where there is none
-abbrev pub later : {A : Type 0} → Option A → List A → Option A
-later before [] = before
-later before (x ∷ xs) = later (Some x) xs
 
 -- the link after the fields: of each number the last value
 pub record GathersLink (text : List ℕ) (fields : List Field) (old new : Link) : Type 0 where
@@ -37,17 +31,6 @@ placed start end = record { number = 2; value = values.Place start end }
 -- the link before any field
 abbrev pub no_link : Link
 no_link = record { hash = []; name = None; tsize = None }
-
--- the node after the fields: all links, and the last data
-pub record GathersNode (text : List ℕ) (fields : List Field) (old new : Node) : Type 0 where
-  pub more : List Link
-  pub links : new.links ≡ old.links ++ more
-  pub texts : LinkTexts more (bytes_at text 2 fields)
-  pub payload : new.payload ≡ later old.payload (bytes_at text 1 fields)
-
--- the node before any field
-abbrev pub no_node : Node
-no_node = record { links = []; payload = None }
 
 -- the bytes at a place are no link's, for this fault
 pub record IsBadPlace (text : List ℕ) (start end : ℕ) (fault : PbFault) : Type 0 where

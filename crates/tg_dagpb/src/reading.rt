@@ -1,24 +1,23 @@
 //! Nodes and links read from their blocks.
 ghost use Rattle.std.specs.Prelude.{◌≡◌, ℕ, ◌+◌, ◌<◌, ◌^◌, ◌≤◌, ◌⊎◌, ◌∷◌, ◌++◌, [], length, slice_range, All, List as Items, IfOk, IfErr, IfSome, OnOk, MatchOption, MatchResult};
-ghost use Rattle.tg_pbtable.specs.Message.{Message};
 ghost use Rattle.tg_pbtable.specs.Emitted.{LiesIn};
 ghost use Rattle.tg_pbtable.specs.Faults.{HasCause};
-ghost use Rattle.tg_pbtable.specs.Values.{bytes_at};
-ghost use Rattle.tg_pbtable.specs.declared.table.Order.TheVariants.{Ascending, Runs};
+ghost use Rattle.tg_pbtable.specs.Values.{bytes_at, later};
+ghost use Rattle.tg_pbtable.specs.declared.table.Order.TheVariants.{Ascending};
 ghost use Rattle.tg_pbtable.specs.declared.fault.PbFault.{PbFault};
 ghost use Rattle.tg_pbtable.specs.Place.{AreInside, placed_bytes};
-ghost use Rattle.tg_dagpb.specs.Node.{NodeText, HasNodeParts};
-ghost use Rattle.tg_dagpb.specs.Faults.{IsLinkText, HasNodeCause, HasBadLink, moved_by};
+ghost use Rattle.tg_dagpb.specs.Node.{NodeText};
+ghost use Rattle.tg_dagpb.specs.Faults.{IsLinkText, HasNodeCause, moved_by};
 ghost use Rattle.tg_dagpb.specs.Cursor.{IsBetween, IsCursor, HasPayloadAt, LieInside, link_of, placed_link};
-ghost use Rattle.tg_dagpb.specs.Reading.{GathersLink, GathersNode, IsBadField, IsBadPlace, IsLinkBetween, later, place_of, placed};
-ghost use Rattle.tg_dagpb.specs.declared.TheConstants.{NODE, LINK};
+ghost use Rattle.tg_dagpb.specs.Reading.{GathersLink, IsBadField, IsBadPlace, IsLinkBetween, place_of, placed};
+ghost use Rattle.tg_dagpb.specs.declared.TheConstants.{LINK};
 ghost use Rattle.tg_dagpb.specs.declared.Node.{Node};
 ghost use Rattle.tg_dagpb.specs.declared.Link.{Link};
 
 use crate::{LINK, Link, LinkPlaces, LinkSpan, NODE, Node};
 use std::alloc::{AllocError, Global};
 use tg_bytes::{Bytes, List};
-use tg_pbtable::{Field, FieldCursor, Order, PbFault, Place, Value, field_at, scan, table_laws};
+use tg_pbtable::{Field, FieldCursor, Order, PbFault, Place, Value, field_at, table_laws};
 
 /// The node that a block spells.
 ///
@@ -30,14 +29,66 @@ pub fn decode(alloc: Global, bytes: &[u8]) -> Result<Node, PbFault>
     ensures only { (node : Node) → NodeText node bytes.now
         → MatchResult result (λ found. found ≡ node) (λ e. e ≡ PbFault.OutOfMemory) }
 
-    // Each refusal comes only where its cause holds, and where a cause holds it comes or memory is wanted.
+    // Each refusal but want of memory comes exactly where its cause holds; memory is taken only for a node.
     ensures cause { IfErr result (λ e. (e ≡ PbFault.OutOfMemory) ⊎ HasNodeCause bytes.now e) }
-    ensures given { (fault : PbFault) → HasNodeCause bytes.now fault
-        → (result ≡ Err fault) ⊎ (result ≡ Err PbFault.OutOfMemory) }
+    ensures given { (fault : PbFault) → HasNodeCause bytes.now fault → result ≡ Err fault }
 {
-    table_laws();
-    let fields = scan(alloc, NODE, Order::Runs, bytes)?;
-    node_of(alloc, bytes, fields.as_slice())
+    let payload = payload_at(bytes)?;
+    Ok(copied(alloc, bytes, payload)?)
+}
+
+/// The node of which the data lies at the place, each part copied once. The error is want of memory.
+fn copied(alloc: Global, bytes: &[u8], payload: Option<Place>) -> Result<Node, AllocError>
+    requires inside { AreInside bytes.now payload }
+    requires cursor { IsCursor bytes.now 0 }
+    ensures { (links : Items Link) → IsBetween bytes.now 0 [] links
+        → IfOk result (λ node. node ≡ record { links = links; payload = placed_bytes bytes.now payload }) }
+{
+    Ok(Node {
+        links: copied_links(alloc, bytes)?,
+        payload: copied_bytes(alloc, bytes, payload)?,
+    })
+}
+
+/// The links of a node, in order. The error is want of memory.
+fn copied_links(alloc: Global, bytes: &[u8]) -> Result<List<Link>, AllocError>
+    requires { IsCursor bytes.now 0 }
+    ensures { (links : Items Link) → IsBetween bytes.now 0 [] links → IfOk result (λ found. found ≡ links) }
+{
+    let mut links = List::new(alloc);
+    let mut at = 0;
+    while let Some((places, next)) = link_places_at(bytes, at) {
+        links.push(copied_link(alloc, bytes, places)?)?;
+        at = next;
+    }
+    Ok(links)
+}
+
+/// The link whose parts lie at the places. The error is want of memory.
+fn copied_link(alloc: Global, bytes: &[u8], places: LinkPlaces) -> Result<Link, AllocError>
+    requires { LieInside bytes.now places }
+    ensures { IfOk result (λ link. link ≡ placed_link bytes.now places) }
+{
+    Ok(Link {
+        hash: Bytes::of(alloc, places.hash.bytes_in(bytes))?,
+        name: copied_bytes(alloc, bytes, places.name)?,
+        tsize: places.tsize,
+    })
+}
+
+/// The bytes at a place, where there is one. The error is want of memory.
+fn copied_bytes(
+    alloc: Global,
+    bytes: &[u8],
+    place: Option<Place>,
+) -> Result<Option<Bytes>, AllocError>
+    requires { AreInside bytes.now place }
+    ensures { IfOk result (λ copy. copy ≡ placed_bytes bytes.now place) }
+{
+    match place {
+        Some(place) => Ok(Some(Bytes::of(alloc, place.bytes_in(bytes))?)),
+        None => Ok(None),
+    }
 }
 
 /// Whether the bytes are a node's, with the answer of `decode`; it takes no memory.
@@ -155,81 +206,14 @@ fn span_of(bytes: &[u8], places: LinkPlaces) -> LinkSpan<'_>
     ensures { link_of result ≡ placed_link bytes.now places }
 {
     let name = match places.name {
-        Some(name) => Some(&bytes[name.start..name.end]),
+        Some(name) => Some(name.bytes_in(bytes)),
         None => None,
     };
     LinkSpan {
-        hash: &bytes[places.hash.start..places.hash.end],
+        hash: places.hash.bytes_in(bytes),
         name,
         tsize: places.tsize,
     }
-}
-
-/// The node of the fields of a message.
-fn node_of(alloc: Global, bytes: &[u8], fields: &[Field]) -> Result<Node, PbFault>
-    requires message { Message NODE.now Runs bytes.now fields.now }
-    requires inside { All (λ field. LiesIn bytes.now field.value) fields.now }
-    ensures { MatchResult result (λ node. HasNodeParts bytes.now fields.now node)
-        (λ e. (e ≡ PbFault.OutOfMemory) ⊎ HasBadLink bytes.now e) }
-{
-    table_laws();
-    let mut node = Node {
-        links: List::new(alloc),
-        payload: None,
-    };
-    for field in fields {
-        take_part(&mut node, alloc, bytes, field)?;
-    }
-    Ok(node)
-}
-
-/// Puts the link or the data of a field into the node.
-fn take_part(node: &mut Node, alloc: Global, bytes: &[u8], field: &Field) -> Result<(), PbFault>
-    requires { LiesIn bytes.now field.now.value }
-    ensures { MatchResult result (λ _. GathersNode bytes.now (field.now ∷ []) node.old node.new)
-        (λ e. (e ≡ PbFault.OutOfMemory) ⊎ IsBadField bytes.now field.now e) }
-{
-    if let Value::Place { start, end } = field.value {
-        match field.number {
-            1 => put_payload(node, alloc, &bytes[start..end]).map_err(|_| PbFault::OutOfMemory)?,
-            2 => {
-                let places = link_between(bytes, start, end)?;
-                put_link(node, alloc, span_of(bytes, places)).map_err(|_| PbFault::OutOfMemory)?;
-            }
-            _ => {}
-        }
-    }
-    Ok(())
-}
-
-/// Puts the data into the node. The error is want of memory.
-fn put_payload(node: &mut Node, alloc: Global, bytes: &[u8]) -> Result<(), AllocError>
-    ensures { OnOk result (node.new ≡ record node.old { payload = Some bytes.now }) }
-{
-    node.payload = Some(Bytes::of(alloc, bytes)?);
-    Ok(())
-}
-
-/// Puts the link behind the others. The error is want of memory.
-fn put_link(node: &mut Node, alloc: Global, span: LinkSpan<'_>) -> Result<(), AllocError>
-    ensures { OnOk result (node.new ≡ record node.old { links = node.old.links ++ link_of span.entry ∷ [] }) }
-{
-    node.links.push(copied(alloc, span)?)
-}
-
-/// A copy of the link. The error is want of memory.
-fn copied(alloc: Global, span: LinkSpan<'_>) -> Result<Link, AllocError>
-    ensures { IfOk result (λ link. link ≡ link_of span.entry) }
-{
-    let name = match span.name {
-        Some(name) => Some(Bytes::of(alloc, name)?),
-        None => None,
-    };
-    Ok(Link {
-        hash: Bytes::of(alloc, span.hash)?,
-        name,
-        tsize: span.tsize,
-    })
 }
 
 /// The place of the link that a field of a node is, where it is one.

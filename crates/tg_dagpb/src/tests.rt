@@ -105,6 +105,16 @@ const TWO: &[LinkSpan<'static>] = &[
     },
 ];
 
+// A name of 130 bytes, so that its length and the link's take two bytes each.
+const LONG: &[u8] = b"nnnnnnnnnnnnnnnnnnnnnnnnnnnnnnnnnnnnnnnnnnnnnnnnnnnnnnnnnnnnnnnnn\
+    nnnnnnnnnnnnnnnnnnnnnnnnnnnnnnnnnnnnnnnnnnnnnnnnnnnnnnnnnnnnnnnnn";
+
+const LONG_NAME: &[LinkSpan<'static>] = &[LinkSpan {
+    hash: A,
+    name: Some(LONG),
+    tsize: None,
+}];
+
 /// A block, which is the canonical text of its node, and the node's parts.
 #[derive(Clone, Copy)]
 struct Row<'a> {
@@ -157,6 +167,12 @@ const BLOCKS: &[Row<'static>] = &[
     Row {
         block: b"\x12\x08\x0a\x01a\x12\x03\xff\0/",
         links: ODD_NAME,
+        payload: None,
+    },
+    Row {
+        block: b"\x12\x88\x01\x0a\x01a\x12\x82\x01nnnnnnnnnnnnnnnnnnnnnnnnnnnnnnnnnnnnnnnnnnnnnnnnnnnnnnnnnnnnnnnnn\
+        nnnnnnnnnnnnnnnnnnnnnnnnnnnnnnnnnnnnnnnnnnnnnnnnnnnnnnnnnnnnnnnnn",
+        links: LONG_NAME,
         payload: None,
     },
     Row {

@@ -4,20 +4,19 @@ use Rattle.std.specs.Prelude.{All, MatchResult, ◌↔◌, ◌&&◌, not, if◌t
 use Rattle.std.proofs.lemmas.Bool.{cond_both, both_ways, and_parts, and_cases, not-true, not-false}
 use Rattle.std.proofs.lemmas.List.{length-drop, drop-drop, append-nil}
 use Rattle.tg_pbtable.specs.declared.table.Rule.{Rule}
-use Rattle.tg_pbtable.specs.declared.table.Times.{Times}
-use Rattle.tg_pbtable.specs.declared.table.Times.TheVariants.{One, Optional, Many}
+use Rattle.tg_pbtable.specs.declared.table.Times.TheVariants.{Many}
 use Rattle.tg_pbtable.specs.declared.table.Order.{Order}
 use Rattle.tg_pbtable.specs.declared.table.Field.{Field}
 use Rattle.tg_pbtable.specs.declared.fault.PbFault.{PbFault}
 use Rattle.tg_pbtable.specs.declared.fault.PbFault.TheVariants as faults
-use Rattle.tg_pbtable.specs.Message.{Message, IsTable, Spelled, count_of, numbers_of, IsAtMost, IsCount}
+use Rattle.tg_pbtable.specs.Message.{Message, IsTable, Spelled, count_of, numbers_of}
 use Rattle.tg_pbtable.specs.Faults.{FirstAt, IsShort, HasBadVarint, IsUnknown, HasWrongWire, HasCause}
 use Rattle.tg_pbtable.specs.declared.cursor.FieldCursor.{FieldCursor}
 use Rattle.tg_pbtable.specs.Cursor.{HasRead, IsRefused, EndsIn, has_number}
 use Rattle.tg_pbtable.specs.Computed.{and_then, field_in, Ruled, ruled, ends_in, breaks_order, is_many, joined, lowest_missing, whole, fields_from, fields_of}
 use Rattle.tg_pbtable.proofs.Spellings.{one_reading}
 use Rattle.tg_pbtable.proofs.Causes.{no_cause, one_cause}
-use Rattle.tg_pbtable.proofs.Scanning.{read_more, out_of_order, doubled, times_is, nothing_yet, none_in_order, end_begins}
+use Rattle.tg_pbtable.proofs.Scanning.{read_more, out_of_order, doubled, times_is, nothing_yet, none_in_order, end_begins, exact_count}
 use Rattle.tg_pbtable.proofs.ComputedVarints.{gone_on, field_told}
 use Rattle.tg_pbtable.proofs.ComputedRules.{IsRuledAs, RuledTold, ruled_told, ends_true, ends_found, breaks_true, breaks_false, many_true, many_false, LowestTold, lowest_told}
 
@@ -83,11 +82,6 @@ joined_told rules order text fields at r table l s h =
 
 -- ---- the end
 
-exact : (times : Times) (n : ℕ) → IsAtMost times n → (times ≡ One → 0 < n) → IsCount times n
-exact One n most some = let p : 0 < n = some refl in omega arith
-exact Optional n most some = most
-exact Many n most some = tt
-
 abbrev pub FieldsTold : List Rule → Order → List ℕ → Result (List Field) PbFault → Type 0
 FieldsTold rules order text r = MatchResult r (λ fields. Message rules order text fields) (λ e. HasCause rules order text e)
 
@@ -97,7 +91,7 @@ whole_told rules order text fields at None past s h =
     record {
       spelled = subst (λ (t : List ℕ). Spelled 0 fields t) (sym (b.whole ∙ append-nil b.front)) b.spelled;
       ruled = b.ruled;
-      counts = λ k d l. exact (get_or rules k d).times (count_of fields (get_or rules k d).number) (b.counts k d l) (h k d l);
+      counts = λ k d l. exact_count (get_or rules k d).times (count_of fields (get_or rules k d).number) (b.counts k d l) (h k d l);
       ordered = b.ordered;
     }
 whole_told rules order text fields at (Some number) past s h = record {

@@ -23,7 +23,7 @@ use Rattle.tg_pbtable.specs.Faults.{HasField, BreaksOrder}
 use Rattle.tg_pbtable.specs.Cursor.{IsRefused, EndsIn, has_number}
 use Rattle.tg_pbtable.specs.Reading.{IsValueOf, IsSpelledAt, IsRuleAt, IsRuled}
 use Rattle.tg_pbtable.specs.Computed.{rule_of, Ruled, with_value, with_rule, ruled, ends_in, breaks_order, is_many, asks, lower, lowest_missing}
-use Rattle.tg_pbtable.proofs.Numbers.{count_contains, contains_count, last_of, rises, new_run, same_run}
+use Rattle.tg_pbtable.proofs.Numbers.{count_contains, contains_count, last_of, none_counted, rises, new_run, same_run}
 use Rattle.tg_pbtable.proofs.Whole.{same_code}
 use Rattle.tg_pbtable.proofs.ComputedVarints.{FieldTold}
 
@@ -139,9 +139,6 @@ none_greater (m ∷ ms) n (suc k) e l = none_greater ms n k (or_parts (nat_lt n 
 pub counted : (fields : List Field) (n : ℕ) → has_number fields n ≡ true → 0 < count_of fields n
 counted fields n e = ltb-true 0 (count_of fields n) e
 
-pub uncounted : (fields : List Field) (n : ℕ) → has_number fields n ≡ false → count_of fields n ≡ 0
-uncounted fields n e = let none : count_of fields n ≤ 0 = ltb-false 0 (count_of fields n) e in omega arith
-
 pub breaks_true : (order : Order) (fields : List Field) (n : ℕ) → breaks_order order fields n ≡ true → BreaksOrder order (numbers_of fields) n
 breaks_true Ascending fields n e = some_greater (numbers_of fields) n e
 breaks_true Runs fields n e =
@@ -151,7 +148,7 @@ breaks_true Runs fields n e =
 pub breaks_false : (order : Order) (fields : List Field) (n : ℕ) → breaks_order order fields n ≡ false → IsInOrder order (numbers_of fields) → IsInOrder order (numbers_of fields ++ n ∷ [])
 breaks_false Ascending fields n e h = rises (numbers_of fields) n h (λ some. none_greater (numbers_of fields) n (length (numbers_of fields) - 1) e (omega arith))
 breaks_false Runs fields n e h = elim (and_cases (has_number fields n) (not (ends_in (numbers_of fields) n)) e) [
-  | inl fails ↦ new_run (numbers_of fields) n h (λ c. let some : 0 < count_of fields n = contains_count fields n c in let none : count_of fields n ≡ 0 = uncounted fields n fails in omega arith)
+  | inl fails ↦ new_run (numbers_of fields) n h (λ c. let some : 0 < count_of fields n = contains_count fields n c in let none : count_of fields n ≡ 0 = none_counted fields n fails in omega arith)
   | inr fails ↦ same_run (numbers_of fields) n h (ends_true (numbers_of fields) n (not-false (ends_in (numbers_of fields) n) fails))
 ]
 
@@ -240,7 +237,7 @@ lowest_told (r ∷ rules) fields =
     cond_both (asks r.times && not (has_number fields r.number)) (lower r.number others) others (LowestTold (r ∷ rules) fields)
     (λ t.
     let both = and_parts (asks r.times) (not (has_number fields r.number)) t in
-    unmet_further r rules fields others (asks_true r.times both.0) (uncounted fields r.number (not-true (has_number fields r.number) both.1)) told)
+    unmet_further r rules fields others (asks_true r.times both.0) (none_counted fields r.number (not-true (has_number fields r.number) both.1)) told)
     (λ f. met_further r rules fields others
     (λ one. elim (and_cases (asks r.times) (not (has_number fields r.number)) f) [
       | inl fails ↦ absurd (asks_false r.times fails one)

@@ -1,117 +1,117 @@
 -- The text of fields, one field after another.
-use Rattle.std.proofs.Common.{◌≡◌, ℕ, ◌+◌, ◌-◌, ◌*◌, ◌<◌, cond, List, [], ◌∷◌, ◌++◌, length, drop, get_or, refl, sym, ap, ap₂, ◌∙◌, append_assoc, subst, arith}
+use Rattle.std.proofs.Common.{◌≡◌, ℕ, ◌+◌, ◌<◌, cond, List, [], ◌∷◌, ◌++◌, length, get_or, refl, sym, ap, ap₂, ◌∙◌, append_assoc, subst}
 use Rattle.std.specs.Prelude.{All, slice_range, ◌==◌, Result, Ok, Err, OnOk}
 use Rattle.std.specs.Result.{is_ok}
 use Rattle.std.proofs.lemmas.List.{length-append, append-nil}
-use Rattle.std.proofs.lemmas.List.Elements.{All-cons, All-head, All-tail, All-take, All-drop}
+use Rattle.std.proofs.lemmas.List.Elements.{All-nil, All-cons, All-head, All-tail, All-append}
 use Rattle.tg_pbtable.specs.declared.table.Rule.{Rule}
 use Rattle.tg_pbtable.specs.declared.table.Order.{Order}
 use Rattle.tg_pbtable.specs.declared.table.Field.{Field}
 use Rattle.tg_pbtable.specs.declared.table.Value.{Value}
 use Rattle.tg_pbtable.specs.declared.table.Value.TheVariants.{Number, Place}
+use Rattle.tg_pbtable.specs.declared.table.Wire.TheVariants.{Varint, Bytes}
 use Rattle.tg_pbtable.specs.Varint.{VarintSpelling}
-use Rattle.tg_pbtable.specs.Message.{Message, ValueSpelling, FieldSpelling, Spelled, HasRule, AreRuled, IsCount, IsInOrder, count_of, numbers_of, wire_of}
-use Rattle.tg_pbtable.specs.Emitted.{IsSameValue, AreSameFields}
-use Rattle.tg_pbtable.specs.Writing.{Puts, PutsVarint}
+use Rattle.tg_pbtable.specs.Wires.{wire_code}
+use Rattle.tg_pbtable.specs.Message.{Message, KeySpelling, NumberSpelling, PlaceSpelling, ValueSpelling, Spelled, HasRule, AreRuled, IsCount, IsInOrder, count_of, numbers_of, wire_of}
+use Rattle.tg_pbtable.specs.Emitted.{IsSameValue, AreSameFields, HeadSpelling, BytesSpelling, ValueText, FieldTexts, Puts}
 use Rattle.tg_pbtable.proofs.Numbers.{count_cons}
-use Rattle.tg_pbtable.proofs.Spellings.{place_range, range_at, spelled_push, moved}
+use Rattle.tg_pbtable.proofs.Spellings.{place_range}
 
--- ---- one field
+-- ---- what is put
 
-pub number_put : (source old mid new : List ℕ) (field : Field) (n : ℕ) → field.value ≡ Number n → PutsVarint (field.number * 8) old mid → PutsVarint n mid new → Puts source field old new
-number_put source old mid new field n is k v =
-    let key_is : VarintSpelling (field.number * 8 + 0) k.bytes = subst (λ (x : ℕ). VarintSpelling x k.bytes) (let e : field.number * 8 ≡ field.number * 8 + 0 = omega arith in e) k.spells in
-    record {
-      bytes = k.bytes ++ v.bytes;
-      placed = record { number = field.number; value = Number n };
-      whole = v.whole ∙ ap (λ (t : List ℕ). t ++ v.bytes) k.whole ∙ append_assoc old k.bytes v.bytes;
-      number_is = refl;
-      spells = record { key = k.bytes; amount = v.bytes; whole = refl; key_is = key_is; amount_is = v.spells };
-      same_value = subst (λ (x : Value). IsSameValue source x new (Number n)) (sym is) refl;
-    }
+pub put_both : (P Q R : List ℕ → Type 0) → ((a b : List ℕ) → P a → Q b → R (a ++ b)) → (old mid new : List ℕ) → Puts P old mid → Puts Q mid new → Puts R old new
+put_both P Q R both old mid new p q = record {
+  bytes = p.bytes ++ q.bytes;
+  whole = q.whole ∙ ap (λ (t : List ℕ). t ++ q.bytes) p.whole ∙ append_assoc old p.bytes q.bytes;
+  spells = both p.bytes q.bytes p.spells q.spells;
+}
 
-pub place_put : (source old one two new : List ℕ) (field : Field) (start end : ℕ) → All (λ (b : ℕ). b < 256) source → field.value ≡ Place start end
-    → PutsVarint (field.number * 8 + 2) old one → PutsVarint (length (slice_range source start end)) one two → new ≡ two ++ slice_range source start end → Puts source field old new
-place_put source old one two new field start end are is k v e =
+pub number_both : (number value : ℕ) (a b : List ℕ) → KeySpelling number (wire_code Varint) a → VarintSpelling value b → NumberSpelling number value (a ++ b)
+number_both number value a b p q = record { key = a; amount = b; whole = refl; key_is = p; amount_is = q }
+
+pub head_both : (number size : ℕ) (a b : List ℕ) → KeySpelling number (wire_code Bytes) a → VarintSpelling size b → HeadSpelling number size (a ++ b)
+head_both number size a b p q = record { key = a; amount = b; whole = refl; key_is = p; amount_is = q }
+
+pub bytes_put : (number : ℕ) (content old mid new : List ℕ) → All (λ (b : ℕ). b < 256) content → Puts (λ bytes. HeadSpelling number (length content) bytes) old mid → new ≡ mid ++ content
+    → Puts (λ bytes. BytesSpelling number content bytes) old new
+bytes_put number content old mid new are p e = record {
+  bytes = p.bytes ++ content;
+  whole = e ∙ ap (λ (t : List ℕ). t ++ content) p.whole ∙ append_assoc old p.bytes content;
+  spells = record { head = p.bytes; whole = refl; head_is = p.spells; are_bytes = are };
+}
+
+-- ---- fields, wherever they stand
+
+pub texts_append : (source : List ℕ) (fs gs : List Field) (a b : List ℕ) → FieldTexts source fs a → FieldTexts source gs b → FieldTexts source (fs ++ gs) (a ++ b)
+texts_append source [] gs a b p q = subst (λ (t : List ℕ). FieldTexts source gs (t ++ b)) (sym p) q
+texts_append source (f ∷ fs) gs a b p q =
+    (p.0, p.1 ++ b, ap (λ (t : List ℕ). t ++ b) p.2 ∙ append_assoc p.0 p.1 b, p.3, texts_append source fs gs p.1 b p.4 q)
+
+pub text_more : (source : List ℕ) (fs : List Field) (f : Field) (old new : List ℕ) → FieldTexts source fs old → Puts (λ bytes. ValueText source f.number f.value bytes) old new → FieldTexts source (fs ++ f ∷ []) new
+text_more source fs f old new h p =
+    subst (λ (t : List ℕ). FieldTexts source (fs ++ f ∷ []) t) (sym p.whole)
+    (texts_append source fs (f ∷ []) old p.bytes h (p.bytes, [], sym (append-nil p.bytes), p.spells, refl))
+
+abbrev AreBytes : List ℕ → Type 0
+AreBytes text = All (λ (b : ℕ). b < 256) text
+
+value_bytes : (source : List ℕ) (number : ℕ) (value : Value) (text : List ℕ) → ValueText source number value text → AreBytes text
+value_bytes source number (Number n) text p =
+    subst AreBytes (sym p.whole) (All-append (λ (b : ℕ). b < 256) p.key p.amount p.key_is.groups.are_bytes p.amount_is.groups.are_bytes)
+value_bytes source number (Place start end) text p =
+    let head : AreBytes p.head = subst AreBytes (sym p.head_is.whole) (All-append (λ (b : ℕ). b < 256) p.head_is.key p.head_is.amount p.head_is.key_is.groups.are_bytes p.head_is.amount_is.groups.are_bytes) in
+    subst AreBytes (sym p.whole) (All-append (λ (b : ℕ). b < 256) p.head (slice_range source start end) head p.are_bytes)
+
+pub texts_bytes : (source : List ℕ) (fs : List Field) (text : List ℕ) → FieldTexts source fs text → AreBytes text
+texts_bytes source [] text p = subst AreBytes (sym p) (All-nil (λ (b : ℕ). b < 256))
+texts_bytes source (f ∷ fs) text p =
+    subst AreBytes (sym p.2) (All-append (λ (b : ℕ). b < 256) p.0 p.1 (value_bytes source f.number f.value p.0 p.3) (texts_bytes source fs p.1 p.4))
+
+-- ---- their places in a text
+
+record PlacedValue (source : List ℕ) (number : ℕ) (value : Value) (before front rest : List ℕ) : Type 0 where
+  placed : Value
+  spelled : ValueSpelling (length before) number placed front
+  same : IsSameValue source value (before ++ (front ++ rest)) placed
+
+placed_value : (source : List ℕ) (number : ℕ) (value : Value) (before front rest : List ℕ) → ValueText source number value front → PlacedValue source number value before front rest
+placed_value source number (Number n) before front rest p = record { placed = Number n; spelled = p; same = refl }
+placed_value source number (Place start end) before front rest p =
     let content = slice_range source start end in
-    let from = length old + length k.bytes + length v.bytes in
-    let whole : new ≡ old ++ (k.bytes ++ (v.bytes ++ content)) =
-    e ∙ ap (λ (t : List ℕ). t ++ content) (v.whole ∙ ap (λ (t : List ℕ). t ++ v.bytes) k.whole)
-    ∙ append_assoc (old ++ k.bytes) v.bytes content ∙ append_assoc old k.bytes (v.bytes ++ content) in
-    let ranged : new ≡ (old ++ (k.bytes ++ v.bytes)) ++ (content ++ []) =
-    whole ∙ ap (λ (t : List ℕ). old ++ t) (sym (append_assoc k.bytes v.bytes content)) ∙ sym (append_assoc old (k.bytes ++ v.bytes) content) ∙ ap (λ (t : List ℕ). (old ++ (k.bytes ++ v.bytes)) ++ t) (sym (append-nil content)) in
-    let there : slice_range new from (from + length content) ≡ content =
-    ap (λ (t : List ℕ). slice_range t from (from + length content)) ranged
-    ∙ range_at (old ++ (k.bytes ++ v.bytes)) content [] from (from + length content) (omega (arith, length-append old (k.bytes ++ v.bytes), length-append k.bytes v.bytes)) refl in
-    record {
-      bytes = k.bytes ++ (v.bytes ++ content);
-      placed = record { number = field.number; value = Place from (from + length content) };
-      whole = whole;
-      number_is = refl;
-      spells = record {
-        key = k.bytes;
-        size = v.bytes;
-        content = content;
-        whole = refl;
-        key_is = k.spells;
-        size_is = v.spells;
-        are_bytes = All-take (λ (b : ℕ). b < 256) (end - start) (drop start source) (All-drop (λ (b : ℕ). b < 256) start source are);
-        start_is = refl;
-        end_is = refl;
-      };
-      same_value = subst (λ (x : Value). IsSameValue source x new (Place from (from + length content))) (sym is) (sym there);
-    }
+    let from = length before + length p.head_is.key + length p.head_is.amount in
+    let here : PlaceSpelling (length before) number from (from + length content) front = record {
+      key = p.head_is.key;
+      size = p.head_is.amount;
+      content = content;
+      whole = p.whole ∙ ap (λ (t : List ℕ). t ++ content) p.head_is.whole ∙ append_assoc p.head_is.key p.head_is.amount content;
+      key_is = p.head_is.key_is;
+      size_is = p.head_is.amount_is;
+      are_bytes = p.are_bytes;
+      start_is = refl;
+      end_is = refl;
+    } in
+    record { placed = Place from (from + length content); spelled = here; same = sym (place_range (length before) number from (from + length content) before front rest here refl) }
 
--- ---- fields
-
--- the text of the fields, each at its place
-pub record Written (source : List ℕ) (fields : List Field) (text : List ℕ) : Type 0 where
+-- the fields at their places in a text, behind what stands before them
+pub record Placed (source : List ℕ) (fields : List Field) (before text : List ℕ) : Type 0 where
   pub placed : List Field
-  pub spelled : Spelled 0 placed text
-  pub same : AreSameFields source fields text placed
+  pub spelled : Spelled (length before) placed text
+  pub same : AreSameFields source fields (before ++ text) placed
 
-same_value_more : (source before front rest more : List ℕ) (v : Value) (number : ℕ) (w : Value) → ValueSpelling (length before) number w front → IsSameValue source v (before ++ (front ++ rest)) w
-    → IsSameValue source v (before ++ (front ++ (rest ++ more))) w
-same_value_more source before front rest more (Number m) number (Number n) p same = same
-same_value_more source before front rest more (Number m) number (Place start end) p same = absurd same
-same_value_more source before front rest more (Place from to) number (Number n) p same = absurd same
-same_value_more source before front rest more (Place from to) number (Place start end) p same =
-    same ∙ place_range (length before) number start end before front rest p refl ∙ sym (place_range (length before) number start end before front (rest ++ more) p refl)
-
-same_more : (source : List ℕ) (fs gs : List Field) (before mid more : List ℕ) → Spelled (length before) gs mid → AreSameFields source fs (before ++ mid) gs → AreSameFields source fs (before ++ (mid ++ more)) gs
-same_more source [] [] before mid more p same = tt
-same_more source [] (g ∷ gs) before mid more p same = absurd same
-same_more source (f ∷ fs) [] before mid more p same = absurd same
-same_more source (f ∷ fs) (g ∷ gs) before mid more p same =
-    let whole : before ++ mid ≡ before ++ (p.0 ++ p.1) = ap (λ (t : List ℕ). before ++ t) p.2 in
-    let longer : before ++ (mid ++ more) ≡ before ++ (p.0 ++ (p.1 ++ more)) = ap (λ (t : List ℕ). before ++ t) (ap (λ (t : List ℕ). t ++ more) p.2 ∙ append_assoc p.0 p.1 more) in
-    let value = same_value_more source before p.0 p.1 more f.value g.number g.value p.3 (subst (λ (t : List ℕ). IsSameValue source f.value t g.value) whole same.1) in
-    let others = same_more source fs gs (before ++ p.0) p.1 more (moved (length before) before p.0 p.1 gs refl p.4)
-    (subst (λ (t : List ℕ). AreSameFields source fs t gs) (whole ∙ sym (append_assoc before p.0 p.1)) same.2) in (
-      same.0,
-      subst (λ (t : List ℕ). IsSameValue source f.value t g.value) (sym longer) value,
-      subst (λ (t : List ℕ). AreSameFields source fs t gs) (append_assoc before p.0 (p.1 ++ more) ∙ sym longer) others,
-    )
-
-same_push : (source text : List ℕ) (fs gs : List Field) (f g : Field) → AreSameFields source fs text gs → f.number ≡ g.number → IsSameValue source f.value text g.value → AreSameFields source (fs ++ f ∷ []) text (gs ++ g ∷ [])
-same_push source text [] [] f g same n v = (n, v, tt)
-same_push source text [] (y ∷ ys) f g same n v = absurd same
-same_push source text (x ∷ xs) [] f g same n v = absurd same
-same_push source text (x ∷ xs) (y ∷ ys) f g same n v = (same.0, same.1, same_push source text xs ys f g same.2 n v)
-
-pub nothing_written : (source : List ℕ) → Written source [] []
-nothing_written source = record { placed = []; spelled = refl; same = tt }
-
-pub written_more : (source : List ℕ) (fs : List Field) (f : Field) (text new : List ℕ) → Written source fs text → Puts source f text new → Written source (fs ++ f ∷ []) new
-written_more source fs f text new h p =
-    let placed = h.placed ++ p.placed ∷ [] in
-    let spelled : Spelled 0 placed (text ++ p.bytes) = spelled_push h.placed p.placed 0 text p.bytes h.spelled (subst (λ (n : ℕ). FieldSpelling n p.placed p.bytes) (let e : length text ≡ 0 + length text = omega arith in e) p.spells) in
+pub placed_fields : (source : List ℕ) (fs : List Field) (before text : List ℕ) → FieldTexts source fs text → Placed source fs before text
+placed_fields source [] before text p = record { placed = []; spelled = p; same = tt }
+placed_fields source (f ∷ fs) before text p =
+    let v = placed_value source f.number f.value before p.0 p.1 p.3 in
+    let rest = placed_fields source fs (before ++ p.0) p.1 p.4 in
+    let whole : before ++ text ≡ before ++ (p.0 ++ p.1) = ap (λ (t : List ℕ). before ++ t) p.2 in
     record {
-      placed = placed;
-      spelled = subst (λ (t : List ℕ). Spelled 0 placed t) (sym p.whole) spelled;
-      same = same_push source new fs h.placed f p.placed
-          (subst (λ (t : List ℕ). AreSameFields source fs t h.placed) (sym p.whole) (same_more source fs h.placed [] text p.bytes h.spelled h.same))
-          p.number_is p.same_value;
+      placed = record { number = f.number; value = v.placed } ∷ rest.placed;
+      spelled = (p.0, p.1, p.2, v.spelled, subst (λ (n : ℕ). Spelled n rest.placed p.1) (length-append before p.0) rest.spelled);
+      same = (
+        refl,
+        subst (λ (t : List ℕ). IsSameValue source f.value t v.placed) (sym whole) v.same,
+        subst (λ (t : List ℕ). AreSameFields source fs t rest.placed) (append_assoc before p.0 p.1 ∙ sym whole) rest.same,
+      );
     }
 
 -- ---- a message again
@@ -146,7 +146,7 @@ same_ruled source text rules (f ∷ fs) (g ∷ gs) same r =
     (record { rule = has.rule; among = has.among; number_is = has.number_is ∙ same.0; wire_is = has.wire_is ∙ same_wire source text f.value g.value same.1 })
     (same_ruled source text rules fs gs same.2 (All-tail (λ (x : Field). HasRule rules x.number (wire_of x.value)) f fs r))
 
-pub message_again : (source text : List ℕ) (rules : List Rule) (order : Order) (fields : List Field) → AreRuled rules fields → All (λ (rule : Rule). IsCount rule.times (count_of fields rule.number)) rules → IsInOrder order (numbers_of fields) → (w : Written source fields text)
+pub message_again : (source text : List ℕ) (rules : List Rule) (order : Order) (fields : List Field) → AreRuled rules fields → All (λ (rule : Rule). IsCount rule.times (count_of fields rule.number)) rules → IsInOrder order (numbers_of fields) → (w : Placed source fields [] text)
     → Message rules order text w.placed
 message_again source text rules order fields ruled counts inorder w = record {
   spelled = w.spelled;
@@ -155,11 +155,13 @@ message_again source text rules order fields ruled counts inorder w = record {
   ordered = subst (λ (ns : List ℕ). IsInOrder order ns) (same_numbers source text fields w.placed w.same) inorder;
 }
 
--- ---- what a call that may fail leaves
+pub emitted : (rules : List Rule) (order : Order) (source : List ℕ) (fields : List Field) (text : List ℕ) → AreRuled rules fields → All (λ (rule : Rule). IsCount rule.times (count_of fields rule.number)) rules → IsInOrder order (numbers_of fields)
+    → FieldTexts source fields text → (placed : List Field) × Message rules order text placed × AreSameFields source fields text placed
+emitted rules order source fields text ruled counts inorder h =
+    let p = placed_fields source fields [] text h in
+    (p.placed, message_again source text rules order fields ruled counts inorder p, p.same)
 
-pub ok_then : {T E : Type 0} (r : Result T E) (P Q : Type 0) → (P → Q) → OnOk r P → OnOk r Q
-ok_then (Ok x) P Q f h = f h
-ok_then (Err e) P Q f h = tt
+-- ---- what a call that may fail leaves
 
 pub extended : {T E : Type 0} (r : Result T E) (old more new : List ℕ) → new ≡ cond (is_ok r) (old ++ more) old → OnOk r (new ≡ old ++ more)
 extended (Ok x) old more new e = e

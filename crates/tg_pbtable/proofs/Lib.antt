@@ -10,6 +10,7 @@ mod Between
 mod Emitting
 mod Tables
 mod Values
+mod Lasts
 mod ComputedValues
 mod ComputedVarints
 mod ComputedRules

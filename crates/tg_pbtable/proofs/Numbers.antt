@@ -1,10 +1,10 @@
 -- The numbers of fields: how many of one there are, and in which order they stand.
-use Rattle.std.proofs.Common.{◌≡◌, ℕ, ◌+◌, ◌-◌, ◌<◌, ◌≤◌, ◌≢◌, Bool, true, cond, Option, Some, None, List, [], ◌∷◌, ◌++◌, length, take, get_or, refl, sym, ap, ◌∙◌, subst, inl, inr, arith}
+use Rattle.std.proofs.Common.{◌≡◌, ℕ, ◌+◌, ◌-◌, ◌<◌, ◌≤◌, ◌≢◌, Bool, true, false, cond, Option, Some, None, List, [], ◌∷◌, ◌++◌, length, take, get_or, refl, sym, ap, ◌∙◌, subst, inl, inr, arith}
 use Rattle.std.specs.Prelude.{Any, Contains, ◌==◌}
 use Rattle.std.specs.Option.{option_eq}
 use Rattle.std.specs.List.Sorted.{IsNonDecreasing}
 use Rattle.std.proofs.lemmas.Bool.Decides.{Decides-eqb}
-use Rattle.std.proofs.lemmas.Bool.{cases_lt, cases_eq, eq-eqb, ne_eqb}
+use Rattle.std.proofs.lemmas.Bool.{cases_lt, cases_eq, eq-eqb, ne_eqb, ltb-false}
 use Rattle.std.proofs.lemmas.List.{length-append, get_or_push, get_or_at, get_or_append_left, take_more, take_all, map-append, get_or_default}
 use Rattle.std.proofs.lemmas.List.Elements.{Contains-append_right}
 use Rattle.std.proofs.lemmas.List.Sorted.{IsNonDecreasingBy-push}
@@ -15,7 +15,7 @@ use Rattle.tg_pbtable.specs.declared.table.Order.{Order}
 use Rattle.tg_pbtable.specs.declared.table.Order.TheVariants.{Ascending, Runs}
 use Rattle.tg_pbtable.specs.Message.{count_of, numbers_of, StandTogether, IsInOrder}
 use Rattle.tg_pbtable.specs.Faults.{BreaksOrder}
-use Rattle.tg_pbtable.specs.Cursor.{EndsIn, IsLast}
+use Rattle.tg_pbtable.specs.Cursor.{EndsIn, IsLast, has_number}
 
 -- ---- counts
 
@@ -53,6 +53,9 @@ count_contains (f ∷ fs) n h = elim (cases_eq f.number n) [
   | inl e ↦ (0, omega arith, e)
   | inr e ↦ Contains-append_right (f.number ∷ []) (numbers_of fs) n (count_contains fs n (omega (arith, count_cons f fs n, none_if f.number n e)))
 ]
+
+pub none_counted : (fields : List Field) (n : ℕ) → has_number fields n ≡ false → count_of fields n ≡ 0
+none_counted fields n e = let none : count_of fields n ≤ 0 = ltb-false 0 (count_of fields n) e in omega arith
 
 pub count_twice : (fs gs : List Field) (f : Field) (n : ℕ) → f.number ≡ n → Contains (numbers_of fs) n → 2 ≤ count_of (fs ++ f ∷ gs) n
 count_twice fs gs f n e h = omega (arith, count_append fs (f ∷ gs) n, count_cons f gs n, one_if f.number n e, contains_count fs n h)

@@ -1,13 +1,13 @@
--- The groups of a number put one by one.
+-- The groups of a number put one by one, and how many there are.
 use Rattle.std.proofs.Common.{◌≡◌, ℕ, suc, ◌+◌, ◌*◌, ◌/◌, ◌%◌, ◌^◌, ◌<◌, ◌≤◌, List, [], ◌∷◌, ◌++◌, length, refl, sym, ap, ap₂, ◌∙◌, append_assoc, subst, inl, inr, arith}
 use Rattle.std.specs.Prelude.{All}
 use Rattle.std.proofs.lemmas.Bool.{cases_lt}
 use Rattle.std.proofs.lemmas.List.{length-append, append-nil}
-use Rattle.std.proofs.lemmas.List.Elements.{All-push, All-nil}
+use Rattle.std.proofs.lemmas.List.Elements.{All-push, All-nil, All-cons, All-tail}
 use Rattle.std.proofs.lemmas.Nat.{pow-add, pow_below, mul-le}
-use Rattle.tg_pbtable.specs.Varint.{number_of, AllGoOn}
-use Rattle.tg_pbtable.specs.Writing.{PutsVarint}
-use Rattle.tg_pbtable.proofs.Varints.{number_push}
+use Rattle.tg_pbtable.specs.Varint.{number_of, AllGoOn, VarintSpelling}
+use Rattle.tg_pbtable.specs.Emitted.{Puts}
+use Rattle.tg_pbtable.proofs.Varints.{number_push, same_bytes}
 
 -- groups of the number are put, and `left` is what the others are to spell
 pub record HasPut (number left : ℕ) (old new : List ℕ) : Type 0 where
@@ -55,7 +55,7 @@ fewer n left k h p = elim (cases_lt k 10) [
       absurd (omega arith)
 ]
 
-pub all_put : (number left : ℕ) (old new : List ℕ) → number < 2 ^ 64 → left < 128 → HasPut number left old new → PutsVarint number old (new ++ left ∷ [])
+pub all_put : (number left : ℕ) (old new : List ℕ) → number < 2 ^ 64 → left < 128 → HasPut number left old new → Puts (λ bytes. VarintSpelling number bytes) old (new ++ left ∷ [])
 all_put number left old new fits low h = record {
   bytes = h.bytes ++ left ∷ [];
   whole = ap (λ (t : List ℕ). t ++ left ∷ []) h.whole ∙ append_assoc old h.bytes (left ∷ []);
@@ -77,3 +77,103 @@ all_put number left old new fits low h = record {
     fits = fits;
   };
 }
+
+-- ---- how many
+
+-- a spelling of a number that takes two groups or more: the first, and the spelling of what is left
+record HasTail (number : ℕ) (bytes : List ℕ) : Type 0 where
+  first : ℕ
+  rest : List ℕ
+  whole : bytes ≡ first ∷ rest
+  spells : VarintSpelling (number / 128) rest
+
+tail_in : (number : ℕ) (front : List ℕ) (last : ℕ) (bytes : List ℕ) → bytes ≡ front ++ last ∷ [] → All (λ (b : ℕ). b < 256) bytes → AllGoOn front → last < 128 → (0 < length front → 0 < last) → length front < 10
+    → number ≡ number_of bytes → number < 2 ^ 64 → 128 ≤ number → HasTail number bytes
+tail_in number [] last bytes w are on low short ten is fits enough =
+    let one : number ≡ last % 128 + 128 * 0 = is ∙ ap number_of w in
+    absurd (omega arith)
+tail_in number (b ∷ front) last bytes w are on low short ten is fits enough =
+    let rest = front ++ last ∷ [] in
+    let sum : number ≡ b % 128 + 128 * number_of rest = is ∙ ap number_of w in
+    let left : number / 128 ≡ number_of rest = omega arith in
+    record {
+      first = b;
+      rest = rest;
+      whole = w;
+      spells = record {
+        groups = record {
+          front = front;
+          last = last;
+          whole = refl;
+          are_bytes = All-tail (λ (x : ℕ). x < 256) b rest (subst (λ (t : List ℕ). All (λ (x : ℕ). x < 256) t) w are);
+          goes_on = All-tail (λ (x : ℕ). 128 ≤ x) b front on;
+          ends = low;
+          shortest = λ _. short (omega arith);
+          at_most_ten = omega arith;
+          spells = left;
+        };
+        fits = omega arith;
+      };
+    }
+
+tail_of : (number : ℕ) (bytes : List ℕ) → 128 ≤ number → VarintSpelling number bytes → HasTail number bytes
+tail_of number bytes enough p =
+    let g = p.groups in
+    tail_in number g.front g.last bytes g.whole g.are_bytes g.goes_on g.ends g.shortest g.at_most_ten g.spells p.fits enough
+
+one_byte : (number : ℕ) → number < 128 → VarintSpelling number (number ∷ [])
+one_byte number low = record {
+  groups = record {
+    front = [];
+    last = number;
+    whole = refl;
+    are_bytes = All-cons (λ (b : ℕ). b < 256) number [] (omega arith) (All-nil (λ (b : ℕ). b < 256));
+    goes_on = All-nil (λ (b : ℕ). 128 ≤ b);
+    ends = low;
+    shortest = λ p. absurd (omega arith);
+    at_most_ten = omega arith;
+    spells = omega arith;
+  };
+  fits = omega arith;
+}
+
+-- all groups but those of `left` are counted
+pub record HasCounted (number left size : ℕ) : Type 0 where
+  pub k : ℕ
+  pub low : ℕ
+  pub size_is : size ≡ k + 1
+  pub spells : number ≡ low + left * 2 ^ (7 * k)
+  pub more : 0 < k → 0 < left
+  pub rest : (bytes : List ℕ) → VarintSpelling number bytes → (tail : List ℕ) × (length bytes ≡ k + length tail) × VarintSpelling left tail
+
+pub none_counted : (number : ℕ) → HasCounted number number 1
+none_counted number = record { k = 0; low = 0; size_is = refl; spells = omega arith; more = λ p. absurd (omega arith); rest = λ bytes p. (bytes, omega arith, p) }
+
+pub few_counted : (number left size : ℕ) → number < 2 ^ 64 → HasCounted number left size → size ≤ 10
+few_counted number left size fits h = elim (cases_lt 0 h.k) [
+  | inl some ↦ let k : h.k < 10 = fewer h.low left h.k (subst (λ (n : ℕ). n < 2 ^ 64) h.spells fits) (h.more some) in omega (arith, h.size_is)
+  | inr none ↦ omega (arith, h.size_is)
+]
+
+pub one_counted : (number left size : ℕ) → 128 ≤ left → HasCounted number left size → HasCounted number (left / 128) (size + 1)
+one_counted number left size enough h =
+    let split : 7 * (h.k + 1) ≡ 7 + 7 * h.k = omega arith in
+    let pow : 2 ^ (7 * (h.k + 1)) ≡ 128 * 2 ^ (7 * h.k) = ap (λ (k : ℕ). 2 ^ k) split ∙ pow-add 2 7 (7 * h.k) in
+    record {
+      k = h.k + 1;
+      low = h.low + left % 128 * 2 ^ (7 * h.k);
+      size_is = omega (arith, h.size_is);
+      spells = h.spells ∙ sums h.low left (2 ^ (7 * h.k)) ∙ ap (λ (p : ℕ). h.low + left % 128 * 2 ^ (7 * h.k) + left / 128 * p) (sym pow);
+      more = λ _. omega arith;
+      rest = λ bytes p.
+          let old = h.rest bytes p in
+          let new = tail_of left old.0 enough old.2 in
+          let one : length old.0 ≡ suc (length new.rest) = ap length new.whole in
+          (new.rest, omega (arith, old.1), new.spells);
+    }
+
+pub all_counted : (number left size : ℕ) (bytes : List ℕ) → left < 128 → HasCounted number left size → VarintSpelling number bytes → size ≡ length bytes
+all_counted number left size bytes low h p =
+    let last = h.rest bytes p in
+    let one : length last.0 ≡ 1 = ap length (same_bytes left last.0 (left ∷ []) last.2 (one_byte left low)) in
+    omega (arith, h.size_is, last.1)

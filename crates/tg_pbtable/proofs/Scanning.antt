@@ -21,7 +21,7 @@ use Rattle.tg_pbtable.specs.Emitted.{LiesIn}
 use Rattle.tg_pbtable.specs.Cursor.{HasRead, EndsIn, has_number}
 use Rattle.tg_pbtable.specs.Reading.{IsRuled, IsRuleAt, AreMet, IsLowest, IsLowestUnmet}
 use Rattle.tg_pbtable.proofs.Causes.{one_rule, one_cause, no_cause}
-use Rattle.tg_pbtable.proofs.Numbers.{count_push_same, count_push_other, contains_count, count_contains, none_before, numbers_push}
+use Rattle.tg_pbtable.proofs.Numbers.{count_push_same, count_push_other, contains_count, count_contains, none_before, none_counted, numbers_push}
 use Rattle.tg_pbtable.proofs.Spellings.{spelled_push}
 use Rattle.tg_pbtable.proofs.Tables.{value_inside}
 
@@ -215,7 +215,7 @@ end_begins rules way text fields c past s =
 some_count : (rules : List Rule) (fields : List Field) (seen : List Bool) (k : ℕ) (d : Rule) → seen ≡ map (λ (r : Rule). has_number fields r.number) rules → k < length rules → get_or seen k false ≡ has_number fields (get_or rules k d).number
 some_count rules fields seen k d e l = ap (λ (t : List Bool). get_or t k false) e ∙ get_or-map (λ (x : Rule). has_number fields x.number) rules k d false l
 
-exact_count : (times : Times) (n : ℕ) → IsAtMost times n → (times ≡ One → 0 < n) → IsCount times n
+pub exact_count : (times : Times) (n : ℕ) → IsAtMost times n → (times ≡ One → 0 < n) → IsCount times n
 exact_count One n most some = let p : 0 < n = some refl in omega arith
 exact_count Optional n most some = most
 exact_count Many n most some = tt
@@ -230,12 +230,6 @@ whole_message rules way text fields c past s met =
           (λ asks. (Decides-ltb 0 (count_of fields (get_or rules k d).number)).0 (sym (some_count rules fields c.seen k d s.seen_is l) ∙ met k d l asks));
       ordered = b.ordered;
     }
-
-none_counted : (fields : List Field) (n : ℕ) → has_number fields n ≡ false → count_of fields n ≡ 0
-none_counted fields n e = elim (cases_lt 0 (count_of fields n)) [
-  | inr le ↦ omega arith
-  | inl some ↦ let yes : has_number fields n ≡ true = (Decides-ltb 0 (count_of fields n)).1 some in let clash : true ≡ false = sym yes ∙ e in absurd cc
-]
 
 unmet_value : (fields : List Field) (n : ℕ) → count_of fields n ≡ 0 → has_number fields n ≡ false
 unmet_value fields n e = ap (nat_lt 0) e

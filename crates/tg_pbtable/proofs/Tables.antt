@@ -1,6 +1,7 @@
 -- What a caller shows of its own table and fields.
-use Rattle.std.proofs.Common.{◌≡◌, ℕ, zero, suc, ◌<◌, ◌≤◌, Bool, true, false, List, [], ◌∷◌, ◌++◌, length, get_or, map, refl, sym, ap, ◌∙◌, append_assoc, subst, arith}
+use Rattle.std.proofs.Common.{◌≡◌, ℕ, zero, suc, ◌<◌, ◌≤◌, true, List, [], ◌∷◌, ◌++◌, length, get_or, map, refl, sym, ap, ◌∙◌, append_assoc, subst, arith}
 use Rattle.std.specs.Prelude.{All, nat_lt, ◌&&◌}
+use Rattle.std.proofs.lemmas.Bool.{and_parts}
 use Rattle.std.proofs.lemmas.Bool.Decides.{Decides-ltb}
 use Rattle.std.proofs.lemmas.List.{length-append}
 use Rattle.std.proofs.lemmas.List.Elements.{All-nil, All-cons}
@@ -35,16 +36,10 @@ places_inside text fs p = inside fs [] text p
 
 -- ---- a table whose numbers rise
 
-both : (a b : Bool) → (a && b) ≡ true → (a ≡ true) × (b ≡ true)
-both true true e = (refl, refl)
-both true false e = absurd cc
-both false true e = absurd cc
-both false false e = absurd cc
-
 parts : (low : ℕ) (r : Rule) (rs : List Rule) → rises_from low (r ∷ rs) ≡ true → (low < r.number) × (r.number < 536870912) × (rises_from r.number rs ≡ true)
 parts low r rs e =
-    let first = both (nat_lt low r.number) (nat_lt r.number 536870912 && rises_from r.number rs) e in
-    let second = both (nat_lt r.number 536870912) (rises_from r.number rs) first.1 in
+    let first = and_parts (nat_lt low r.number) (nat_lt r.number 536870912 && rises_from r.number rs) e in
+    let second = and_parts (nat_lt r.number 536870912) (rises_from r.number rs) first.1 in
     ((Decides-ltb low r.number).0 first.0, (Decides-ltb r.number 536870912).0 second.0, second.1)
 
 all_above : (low bound : ℕ) (rs : List Rule) → bound ≤ low → rises_from low rs ≡ true → All (λ (r : Rule). bound < r.number) rs

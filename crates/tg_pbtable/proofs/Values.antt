@@ -2,7 +2,7 @@
 use Rattle.std.proofs.Common.{◌≡◌, ◌≢◌, ℕ, suc, ◌+◌, ◌<◌, ◌≤◌, ◌⊎◌, Bool, true, false, cond, List, [], ◌∷◌, ◌++◌, length, get_or, refl, sym, ap, ap₂, ◌∙◌, append_assoc, subst, inl, inr, arith}
 use Rattle.std.specs.Prelude.{All, slice_range, ◌==◌, if◌then◌else◌}
 use Rattle.std.specs.List.Sorted.{IsNonDecreasing}
-use Rattle.std.proofs.lemmas.Bool.{eq-eqb, ne_eqb, cases_eq}
+use Rattle.std.proofs.lemmas.Bool.{cond-true, cond-false, eq-eqb, ne_eqb, cases_eq}
 use Rattle.std.proofs.lemmas.List.Elements.{All-nil, All-cons, All-head, All-tail, All-contains, Contains-append_right}
 use Rattle.tg_pbtable.specs.declared.table.Rule.{Rule}
 use Rattle.tg_pbtable.specs.declared.table.Wire.{Wire}
@@ -20,14 +20,6 @@ use Rattle.tg_pbtable.proofs.Causes.{one_rule}
 use Rattle.tg_pbtable.proofs.Numbers.{count_cons, contains_count, count_contains}
 
 -- ---- numbers and bytes in one word
-
-chosen : {A : Type 0} (b : Bool) (x y : A) → b ≡ true → (if b then x else y) ≡ x
-chosen true x y e = refl
-chosen false x y e = absurd (cc)
-
-passed : {A : Type 0} (b : Bool) (x y : A) → b ≡ false → (if b then x else y) ≡ y
-passed true x y e = absurd (cc)
-passed false x y e = refl
 
 abbrev pub parts_at : {A : Type 0} → (Value → List A) → ℕ → List Field → List A
 parts_at part number [] = []
@@ -58,16 +50,16 @@ pub bytes_append : (text : List ℕ) (n : ℕ) (xs ys : List Field) → bytes_at
 bytes_append text n xs ys = rw (bytes_are text n (xs ++ ys), bytes_are text n xs, bytes_are text n ys) (parts_append (bytes_in text) n xs ys)
 
 pub numbers_here : (n : ℕ) (f : Field) (fs : List Field) → f.number ≡ n → numbers_at n (f ∷ fs) ≡ number_in f.value ++ numbers_at n fs
-numbers_here n f fs e = chosen (f.number == n) (number_in f.value ++ numbers_at n fs) (numbers_at n fs) (eq-eqb f.number n e)
+numbers_here n f fs e = cond-true (f.number == n) (number_in f.value ++ numbers_at n fs) (numbers_at n fs) (eq-eqb f.number n e)
 
 pub numbers_other : (n : ℕ) (f : Field) (fs : List Field) → f.number ≢ n → numbers_at n (f ∷ fs) ≡ numbers_at n fs
-numbers_other n f fs e = passed (f.number == n) (number_in f.value ++ numbers_at n fs) (numbers_at n fs) (ne_eqb f.number n e)
+numbers_other n f fs e = cond-false (f.number == n) (number_in f.value ++ numbers_at n fs) (numbers_at n fs) (ne_eqb f.number n e)
 
 pub bytes_here : (text : List ℕ) (n : ℕ) (f : Field) (fs : List Field) → f.number ≡ n → bytes_at text n (f ∷ fs) ≡ bytes_in text f.value ++ bytes_at text n fs
-bytes_here text n f fs e = chosen (f.number == n) (bytes_in text f.value ++ bytes_at text n fs) (bytes_at text n fs) (eq-eqb f.number n e)
+bytes_here text n f fs e = cond-true (f.number == n) (bytes_in text f.value ++ bytes_at text n fs) (bytes_at text n fs) (eq-eqb f.number n e)
 
 pub bytes_other : (text : List ℕ) (n : ℕ) (f : Field) (fs : List Field) → f.number ≢ n → bytes_at text n (f ∷ fs) ≡ bytes_at text n fs
-bytes_other text n f fs e = passed (f.number == n) (bytes_in text f.value ++ bytes_at text n fs) (bytes_at text n fs) (ne_eqb f.number n e)
+bytes_other text n f fs e = cond-false (f.number == n) (bytes_in text f.value ++ bytes_at text n fs) (bytes_at text n fs) (ne_eqb f.number n e)
 
 -- fields of which none of this number has such a value
 pub no_numbers_in : (n : ℕ) (fs : List Field) → All (λ (f : Field). f.number ≡ n → number_in f.value ≡ []) fs → numbers_at n fs ≡ []

@@ -1,8 +1,13 @@
--- What is written for fields whose places lie in a source.
-use Rattle.std.specs.Prelude.{◌≡◌, ℕ, ◌≤◌, List, [], ◌∷◌, length, slice_range, ⊤}
+-- What is written for fields whose places lie in a source (protobuf encoding guide, Message Structure and Length-Delimited
+-- Records).
+use Rattle.std.specs.Prelude.{◌≡◌, ℕ, ◌-◌, ◌^◌, ◌<◌, ◌≤◌, List, [], ◌∷◌, ◌++◌, length, slice_range, All, min, ⊤}
 use Rattle.tg_pbtable.specs.declared.table.Field.{Field}
 use Rattle.tg_pbtable.specs.declared.table.Value.{Value}
 use Rattle.tg_pbtable.specs.declared.table.Value.TheVariants.{Number, Place}
+use Rattle.tg_pbtable.specs.declared.table.Wire.TheVariants.{Bytes}
+use Rattle.tg_pbtable.specs.Varint.{VarintSpelling}
+use Rattle.tg_pbtable.specs.Wires.{wire_code}
+use Rattle.tg_pbtable.specs.Message.{KeySpelling, NumberSpelling}
 
 -- a place lies inside the source
 abbrev pub LiesIn : List ℕ → Value → Type 0
@@ -22,3 +27,43 @@ AreSameFields source [] text [] = ⊤
 AreSameFields source (f ∷ fs) text (g ∷ gs) = (f.number ≡ g.number) × IsSameValue source f.value text g.value × AreSameFields source fs text gs
 AreSameFields source [] text (g ∷ gs) = ⊥
 AreSameFields source (f ∷ fs) text [] = ⊥
+
+-- a key and the spelling of a length, which that many bytes follow
+pub record HeadSpelling (number size : ℕ) (head : List ℕ) : Type 0 where
+  pub key : List ℕ
+  pub amount : List ℕ
+  pub whole : head ≡ key ++ amount
+  pub key_is : KeySpelling number (wire_code Bytes) key
+  pub amount_is : VarintSpelling size amount
+
+-- a field of these bytes, wherever it stands
+pub record BytesSpelling (number : ℕ) (content bytes : List ℕ) : Type 0 where
+  pub head : List ℕ
+  pub whole : bytes ≡ head ++ content
+  pub head_is : HeadSpelling number (length content) head
+  pub are_bytes : All (λ b. b < 256) content
+
+-- a field of as many bytes
+abbrev pub SizedSpelling : ℕ → ℕ → List ℕ → Type 0
+SizedSpelling number size bytes = (content : List ℕ) × (length content ≡ size) × BytesSpelling number content bytes
+
+-- a field of a value, whose place lies in the source, wherever it stands
+abbrev pub ValueText : List ℕ → ℕ → Value → List ℕ → Type 0
+ValueText source number (Number n) bytes = NumberSpelling number n bytes
+ValueText source number (Place start end) bytes = BytesSpelling number (slice_range source start end) bytes
+
+-- the fields of the source one behind another, wherever they stand
+abbrev pub FieldTexts : List ℕ → List Field → List ℕ → Type 0
+FieldTexts source [] bytes = bytes ≡ []
+FieldTexts source (field ∷ fields) bytes =
+    (front : List ℕ) × (rest : List ℕ) × (bytes ≡ front ++ rest) × ValueText source field.number field.value front × FieldTexts source fields rest
+
+-- bytes of which the relation speaks are put behind a text
+pub record Puts (Spells : List ℕ → Type 0) (old new : List ℕ) : Type 0 where
+  pub bytes : List ℕ
+  pub whole : new ≡ old ++ bytes
+  pub spells : Spells bytes
+
+-- how many bytes those have of which the relation speaks, or the greatest number where they are more
+abbrev pub IsSizeOf : (List ℕ → Type 0) → ℕ → Type 0
+IsSizeOf Spells size = (bytes : List ℕ) → Spells bytes → size ≡ min (length bytes) (2 ^ 64 - 1)

@@ -1,16 +1,16 @@
 -- What follows from the definitions of tables, messages and values, in plain words for those who call this crate.
-use Rattle.std.specs.Prelude.{◌≡◌, ◌≢◌, ℕ, ◌+◌, ◌<◌, ◌↔◌, List, [], ◌∷◌, ◌++◌, length, All, Bool, true, nat_lt, ◌&&◌, Ok, Err}
+use Rattle.std.specs.Prelude.{◌≡◌, ◌≢◌, ℕ, ◌+◌, ◌<◌, ◌≤◌, ◌↔◌, Option, Some, None, unwrap_or, List, [], ◌∷◌, ◌++◌, length, All, Bool, true, nat_lt, ◌&&◌, Ok, Err}
 use Rattle.tg_pbtable.specs.declared.table.Rule.{Rule}
 use Rattle.tg_pbtable.specs.declared.table.Wire.TheVariants.{Varint, Bytes}
 use Rattle.tg_pbtable.specs.declared.table.Order.{Order}
 use Rattle.tg_pbtable.specs.declared.table.Order.TheVariants.{Ascending}
 use Rattle.tg_pbtable.specs.declared.table.Field.{Field}
 use Rattle.tg_pbtable.specs.declared.fault.PbFault.{PbFault}
-use Rattle.tg_pbtable.specs.Message.{Message, IsTable, Spelled, HasRule, AreRuled, count_of, numbers_of}
+use Rattle.tg_pbtable.specs.Message.{Message, IsTable, Spelled, HasRule, AreRuled, IsCount, IsInOrder, count_of, numbers_of}
 use Rattle.tg_pbtable.specs.Faults.{HasCause}
-use Rattle.tg_pbtable.specs.Emitted.{AreSameFields}
-use Rattle.tg_pbtable.specs.Values.{number_in, bytes_in, numbers_at, bytes_at, HasSameValues, IsSameFor}
-use Rattle.tg_pbtable.specs.Computed.{fields_of}
+use Rattle.tg_pbtable.specs.Emitted.{AreSameFields, FieldTexts}
+use Rattle.tg_pbtable.specs.Values.{number_in, bytes_in, numbers_at, bytes_at, listed, later, HasSameValues, IsSameFor}
+use Rattle.tg_pbtable.specs.Computed.{fields_of, first_of}
 
 -- the numbers rise from above `low`, and are below 2 ^ 29
 abbrev pub rises_from : ℕ → List Rule → Bool
@@ -64,7 +64,31 @@ pub record ValueLaws : Type 0 where
   pub by_rules : (rules : List Rule) (s t : List ℕ) (a b : List Field) → IsTable rules → AreRuled rules a → AreRuled rules b
       → All (λ rule. IsSameFor s a t b rule.number rule.wire) rules → HasSameValues s a t b
 
--- both, as a caller hands them to its lemmas
+-- the last of some values, and the first
+pub record LastLaws (A : Type 0) : Type 0 where
+  pub later_more : (before mid now : Option A) (xs ys zs : List A) → zs ≡ xs ++ ys → mid ≡ later before xs → now ≡ later mid ys
+      → now ≡ later before zs
+  pub at_most_one : (xs : List A) (one : Option A) → length xs ≤ 1 → one ≡ later None xs → xs ≡ listed one
+  pub exactly_one : (before : A) (xs : List A) (one : A) → length xs ≡ 1 → Some one ≡ later (Some before) xs → xs ≡ one ∷ []
+  -- the first of them, where there is one at most, or just one
+  pub first_listed : (xs : List A) → length xs ≤ 1 → xs ≡ listed (first_of xs)
+  pub first_alone : (other : A) (xs : List A) → length xs ≡ 1 → xs ≡ unwrap_or (first_of xs) other ∷ []
+  pub listed_same : (a b : Option A) → listed a ≡ listed b → a ≡ b
+
+-- what is written for fields, wherever it stands
+pub record WritingLaws : Type 0 where
+  pub append : (source : List ℕ) (xs ys : List Field) (s t : List ℕ) → FieldTexts source xs s → FieldTexts source ys t
+      → FieldTexts source (xs ++ ys) (s ++ t)
+  pub are_bytes : (source : List ℕ) (fields : List Field) (text : List ℕ) → FieldTexts source fields text → All (λ b. b < 256) text
+  -- where the table, the counts and the order allow the fields, it is a message of them, at their places in it
+  pub message : (rules : List Rule) (order : Order) (source : List ℕ) (fields : List Field) (text : List ℕ) → AreRuled rules fields
+      → All (λ rule. IsCount rule.times (count_of fields rule.number)) rules → IsInOrder order (numbers_of fields)
+      → FieldTexts source fields text → (placed : List Field) × Message rules order text placed × AreSameFields source fields text placed
+
+-- all of them, as a caller hands them to its lemmas
 pub record TableLaws : Type 0 where
   pub messages : MessageLaws
   pub values : ValueLaws
+  pub last_number : LastLaws ℕ
+  pub last_bytes : LastLaws (List ℕ)
+  pub writing : WritingLaws

@@ -5,7 +5,6 @@ pub mod Faults
 pub mod Emitted
 pub mod Cursor
 pub mod Reading
-pub mod Writing
 pub mod Values
 pub mod Computed
 pub mod Laws

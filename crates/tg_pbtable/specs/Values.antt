@@ -28,6 +28,11 @@ abbrev pub listed : {A : Type 0} → Option A → List A
 listed None = []
 listed (Some x) = x ∷ []
 
+-- the last of the values, or the one from before where there is none
+abbrev pub later : {A : Type 0} → Option A → List A → Option A
+later before [] = before
+later before (x ∷ xs) = later (Some x) xs
+
 -- two texts, each with its fields, have the same values of each number
 pub record HasSameValues (source : List ℕ) (fields : List Field) (text : List ℕ) (others : List Field) : Type 0 where
   pub numbers : (number : ℕ) → numbers_at number fields ≡ numbers_at number others

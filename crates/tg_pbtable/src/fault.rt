@@ -2,7 +2,7 @@
 ghost use Rattle.std.specs.Prelude.{◌≡◌};
 ghost use Rattle.tg_pbtable.specs.declared.fault.PbFault.TheVariants.{OutOfMemory};
 
-use std::alloc::AllocFailed;
+use std::alloc::{AllocError, AllocFailed};
 use thiserror::Error;
 
 /// Why a text is no message under a table. `at` is the offset of the first byte of the field's key.
@@ -39,6 +39,14 @@ impl<T: Drop> From<AllocFailed<T>> for PbFault {
     ghost from_gives = { λ _ e. e ≡ OutOfMemory };
 
     fn from(_: AllocFailed<T>) -> Self {
+        PbFault::OutOfMemory
+    }
+}
+
+impl From<AllocError> for PbFault {
+    ghost from_gives = { λ _ e. e ≡ OutOfMemory };
+
+    fn from(_: AllocError) -> Self {
         PbFault::OutOfMemory
     }
 }

@@ -18,4 +18,4 @@ pub use laws::table_laws;
 pub use reading::scan;
 pub use ruled::field_at;
 pub use table::{Field, Fields, Order, Place, Rule, Times, Value, Wire};
-pub use writing::emit;
+pub use writing::{emit, put_bytes, put_head, put_number, size_of_bytes, size_of_number};

@@ -20,6 +20,7 @@ pub(crate) struct RawField {
 }
 
 /// The field of which the key stands at `at`.
+#[inline(always)]
 pub(crate) fn raw_field_at(bytes: &[u8], at: usize) -> Result<RawField, ReadFault>
     requires { at ≤ length bytes.now }
     ensures { MatchResult result (λ raw. IsFieldAt at (drop at bytes.now) raw)
@@ -34,6 +35,7 @@ pub(crate) fn raw_field_at(bytes: &[u8], at: usize) -> Result<RawField, ReadFaul
 }
 
 /// The value of a wire type at `at`, with the offset behind it.
+#[inline(always)]
 fn value_at(bytes: &[u8], at: usize, code: u64) -> Result<Option<(Value, usize)>, ReadFault>
     requires { at ≤ length bytes.now }
     ensures { MatchResult result (λ value. IsValueAt at (drop at bytes.now) code value)
@@ -57,7 +59,7 @@ fn value_at(bytes: &[u8], at: usize, code: u64) -> Result<Option<(Value, usize)>
 }
 
 /// The number that a varint at the front spells, and how many bytes it takes.
-#[inline]
+#[inline(always)]
 fn varint_at(bytes: &[u8]) -> Result<(u64, usize), ReadFault>
     ensures { MatchResult result (λ r. IsVarintAt bytes.now r.0 r.1) (λ e. IsVarintFault e bytes.now) }
 {

@@ -41,6 +41,7 @@ pub fn field_at<const N: usize>(
 }
 
 /// The index of the rule of the field at `at`, the field, and where the next one begins.
+#[inline(always)]
 pub(crate) fn ruled_field<const N: usize>(
     rules: &[Rule; N],
     bytes: &[u8],

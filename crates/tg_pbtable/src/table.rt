@@ -2,6 +2,7 @@
 ghost use Rattle.std.specs.Prelude.{◌≡◌};
 ghost use Rattle.tg_pbtable.specs.Wires.{wire_code};
 ghost use Rattle.tg_pbtable.specs.Reading.{IsWireOf};
+ghost use Rattle.tg_pbtable.specs.Place.{IsInside, bytes_of};
 
 use std::marker::Model;
 
@@ -79,6 +80,16 @@ pub enum Value {
 pub struct Place {
     pub start: usize,
     pub end: usize,
+}
+
+impl Place {
+    /// The bytes of a text that lie there.
+    pub fn bytes_in(self, text: &[u8]) -> &[u8]
+        requires { IsInside text.now self }
+        ensures { result.now ≡ bytes_of text.now self }
+    {
+        &text[self.start..self.end]
+    }
 }
 
 /// One field of a text.

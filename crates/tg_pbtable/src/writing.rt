@@ -1,8 +1,9 @@
 //! The text of fields.
-ghost use Rattle.std.specs.Prelude.{◌≤◌, List, All, IfOk, OnOk};
-ghost use Rattle.tg_pbtable.specs.Message.{Message, IsTable, Spelled, AreRuled, IsCount, count_of, IsInOrder, numbers_of};
-ghost use Rattle.tg_pbtable.specs.Emitted.{LiesIn, AreSameFields};
-ghost use Rattle.tg_pbtable.specs.Writing.{Puts, PutsVarint};
+ghost use Rattle.std.specs.Prelude.{◌≡◌, ◌+◌, ◌*◌, ◌≤◌, ℕ, List, length, All, IfOk, OnOk};
+ghost use Rattle.tg_pbtable.specs.Wires.{wire_code};
+ghost use Rattle.tg_pbtable.specs.Varint.{VarintSpelling};
+ghost use Rattle.tg_pbtable.specs.Message.{Message, IsTable, KeySpelling, NumberSpelling, Spelled, AreRuled, IsCount, count_of, IsInOrder, numbers_of};
+ghost use Rattle.tg_pbtable.specs.Emitted.{LiesIn, AreSameFields, HeadSpelling, BytesSpelling, SizedSpelling, ValueText, Puts, IsSizeOf};
 ghost use Rattle.tg_pbtable.specs.declared.table.Field.{Field};
 ghost use Rattle.tg_pbtable.specs.declared.table.Order.{Order};
 
@@ -48,46 +49,100 @@ fn size_of_fields(fields: &[Field]) -> usize {
 
 /// How many bytes the spelling of a field takes.
 fn size_of_field(field: &Field) -> usize {
-    let key = size_of_varint(u64::from(field.number) * 8);
     match field.value {
-        Value::Number(number) => key + size_of_varint(number),
-        Value::Place { start, end } => {
-            let content = end.saturating_sub(start);
-            content.saturating_add(key + size_of_varint(content as u64))
-        }
+        Value::Number(value) => size_of_number(field.number, value),
+        Value::Place { start, end } => size_of_bytes(field.number, end.saturating_sub(start)),
     }
-}
-
-/// How many bytes the spelling of a number takes: one for each seven bits, and one at least.
-fn size_of_varint(number: u64) -> usize
-    ensures { result ≤ 10 }
-{
-    (70 - (number | 1).leading_zeros() as usize) / 7
 }
 
 /// Puts the spelling of a field behind the text.
 fn put_field(text: &mut Vec<u8>, field: &Field, source: &[u8]) -> Result<(), AllocError>
     requires { LiesIn source.now field.now.value }
-    ensures { OnOk result (Puts source.now field.now text.old.items text.new.items) }
+    ensures { OnOk result (Puts (λ bytes. ValueText source.now field.now.number field.now.value bytes)
+        text.old.items text.new.items) }
 {
-    let key = u64::from(field.number) * 8;
     match field.value {
-        Value::Number(number) => {
-            put_varint(text, key + Wire::Varint.code())?;
-            put_varint(text, number)
-        }
-        Value::Place { start, end } => {
-            let content = &source[start..end];
-            put_varint(text, key + Wire::Bytes.code())?;
-            put_varint(text, content.len() as u64)?;
-            text.extend_from_slice(content)
-        }
+        Value::Number(value) => put_number(text, field.number, value),
+        Value::Place { start, end } => put_bytes(text, field.number, &source[start..end]),
     }
+}
+
+/// Puts a field of a number behind the text. The error is want of memory.
+///
+/// Protobuf encoding guide, Message Structure.
+pub fn put_number(text: &mut Vec<u8>, number: u32, value: u64) -> Result<(), AllocError>
+    ensures { OnOk result (Puts (λ bytes. NumberSpelling number value bytes) text.old.items text.new.items) }
+{
+    put_key(text, number, Wire::Varint)?;
+    put_varint(text, value)
+}
+
+/// Puts a field of these bytes behind the text. The error is want of memory.
+///
+/// Protobuf encoding guide, Length-Delimited Records.
+pub fn put_bytes(text: &mut Vec<u8>, number: u32, content: &[u8]) -> Result<(), AllocError>
+    ensures { OnOk result (Puts (λ bytes. BytesSpelling number content.now bytes) text.old.items text.new.items) }
+{
+    put_head(text, number, content.len())?;
+    text.extend_from_slice(content)
+}
+
+/// Puts the key of a field of bytes and their number behind the text; the bytes are to follow. The error is want of memory.
+///
+/// Protobuf encoding guide, Length-Delimited Records.
+pub fn put_head(text: &mut Vec<u8>, number: u32, size: usize) -> Result<(), AllocError>
+    ensures { OnOk result (Puts (λ bytes. HeadSpelling number size bytes) text.old.items text.new.items) }
+{
+    put_key(text, number, Wire::Bytes)?;
+    put_varint(text, size as u64)
+}
+
+/// How many bytes a field of a number takes.
+pub fn size_of_number(number: u32, value: u64) -> usize
+    ensures { IsSizeOf (λ bytes. NumberSpelling number value bytes) result }
+{
+    size_of_varint(key(number, Wire::Varint)) + size_of_varint(value)
+}
+
+/// How many bytes a field of so many bytes takes, with its key and their number; the greatest number where it is more.
+pub fn size_of_bytes(number: u32, size: usize) -> usize
+    ensures { IsSizeOf (λ bytes. SizedSpelling number size bytes) result }
+{
+    let head = size_of_varint(key(number, Wire::Bytes)) + size_of_varint(size as u64);
+    size.saturating_add(head)
+}
+
+/// The number that the key of a field is.
+fn key(number: u32, wire: Wire) -> u64
+    ensures { result ≡ number * 8 + wire_code wire }
+{
+    u64::from(number) * 8 + wire.code()
+}
+
+/// Puts the key of a field behind the text.
+fn put_key(text: &mut Vec<u8>, number: u32, wire: Wire) -> Result<(), AllocError>
+    ensures { OnOk result (Puts (λ bytes. KeySpelling number (wire_code wire) bytes) text.old.items text.new.items) }
+{
+    put_varint(text, key(number, wire))
+}
+
+/// How many bytes the spelling of a number takes: one for each seven bits, and one at least.
+fn size_of_varint(number: u64) -> usize
+    ensures spelled { (bytes : List ℕ) → VarintSpelling number bytes → result ≡ length bytes }
+    ensures few { result ≤ 10 }
+{
+    let mut size = 1;
+    let mut left = number;
+    while left >= 128 {
+        left /= 128;
+        size += 1;
+    }
+    size
 }
 
 /// Puts the spelling of a number behind the text.
 fn put_varint(text: &mut Vec<u8>, number: u64) -> Result<(), AllocError>
-    ensures { OnOk result (PutsVarint number text.old.items text.new.items) }
+    ensures { OnOk result (Puts (λ bytes. VarintSpelling number bytes) text.old.items text.new.items) }
 {
     let mut left = number;
     while left >= 128 {

@@ -1,5 +1,5 @@
 -- The data that is computed of a text is its own, and the fault that is computed has its cause.
-use Rattle.std.proofs.Common.{◌≡◌, ◌≢◌, ℕ, ◌<◌, ◌≤◌, true, false, Option, Some, None, Result, Ok, Err, List, [], ◌∷◌, length, refl, sym, ap, ◌∙◌, subst, inl, inr, arith}
+use Rattle.std.proofs.Common.{◌≡◌, ◌≢◌, ℕ, ◌<◌, ◌≤◌, true, false, Option, Some, None, Result, Ok, Err, List, refl, sym, ap, ◌∙◌, subst, inl, inr, arith}
 use Rattle.std.specs.Prelude.{All, MatchResult, ◌↔◌, ◌==◌, ◌||◌, unwrap_or, if◌then◌else◌}
 use Rattle.std.proofs.lemmas.Bool.{cond_both, cond-true, cond-false, eqb-true, eqb-false, eq-eqb, ne_eqb, cases_eq, false_from_ne_true}
 use Rattle.std.proofs.lemmas.Bool.Decides.{Decides-eqb, Decides-or}
@@ -8,7 +8,7 @@ use Rattle.tg_pbtable.specs.declared.table.Order.TheVariants.{Ascending}
 use Rattle.tg_pbtable.specs.declared.fault.PbFault.{PbFault}
 use Rattle.tg_pbtable.specs.Message.{Message, count_of}
 use Rattle.tg_pbtable.specs.Faults.{HasCause}
-use Rattle.tg_pbtable.specs.Values.{numbers_at, bytes_at, listed}
+use Rattle.tg_pbtable.specs.Values.{numbers_at, bytes_at}
 use Rattle.tg_pbtable.specs.Computed.{fields_of}
 use Rattle.tg_pbtable.specs.Laws.{TableLaws}
 use Rattle.tg_unixfs.specs.declared.TheConstants.{DATA}
@@ -17,21 +17,11 @@ use Rattle.tg_unixfs.specs.declared.UnixFault.{UnixFault}
 use Rattle.tg_unixfs.specs.declared.UnixFault.TheVariants as faults
 use Rattle.tg_unixfs.specs.Unix.{UnixText, HasParts, IsUnix, IsKind, IsShardOf}
 use Rattle.tg_unixfs.specs.Faults.{HasData, HasUnixCause}
-use Rattle.tg_unixfs.specs.Computed.{first_of, parts_of, is_kind, checked_shard, checked, with_fields, unix_of}
+use Rattle.tg_unixfs.specs.Computed.{parts_of, is_kind, checked_shard, checked, with_fields, unix_of}
 use Rattle.tg_unixfs.proofs.Parts.{data_table, any_rule, rule_at}
 use Rattle.tg_unixfs.proofs.Same.{one_data}
 
 -- ---- the parts
-
-at_most_one : {A : Type 0} (xs : List A) → length xs ≤ 1 → xs ≡ listed (first_of xs)
-at_most_one [] l = refl
-at_most_one (x ∷ []) l = refl
-at_most_one (x ∷ y ∷ xs) l = absurd (omega arith)
-
-exactly_one : (xs : List ℕ) → length xs ≡ 1 → xs ≡ unwrap_or (first_of xs) 0 ∷ []
-exactly_one [] l = absurd (omega arith)
-exactly_one (x ∷ []) l = refl
-exactly_one (x ∷ y ∷ xs) l = absurd (omega arith)
 
 pub parts_told : (laws : TableLaws) → (text : List ℕ) (fs : List Field) → Message DATA.now Ascending text fs → HasParts text fs (parts_of text fs)
 parts_told laws text fs m =
@@ -41,12 +31,12 @@ parts_told laws text fs m =
     let five : count_of fs 5 ≤ 1 = m.counts 4 any_rule (omega arith) in
     let six : count_of fs 6 ≤ 1 = m.counts 5 any_rule (omega arith) in
     record {
-      kind = exactly_one (numbers_at 1 fs) (laws.values.all_numbers DATA.now 1 fs (data_table laws) (rule_at 0 (omega arith)) m.ruled ∙ one);
-      inline = at_most_one (bytes_at text 2 fs) (omega (arith, laws.values.count text 2 fs));
-      filesize = at_most_one (numbers_at 3 fs) (omega (arith, laws.values.count text 3 fs));
+      kind = laws.last_number.first_alone 0 (numbers_at 1 fs) (laws.values.all_numbers DATA.now 1 fs (data_table laws) (rule_at 0 (omega arith)) m.ruled ∙ one);
+      inline = laws.last_bytes.first_listed (bytes_at text 2 fs) (omega (arith, laws.values.count text 2 fs));
+      filesize = laws.last_number.first_listed (numbers_at 3 fs) (omega (arith, laws.values.count text 3 fs));
       sizes = refl;
-      hash = at_most_one (numbers_at 5 fs) (omega (arith, laws.values.count text 5 fs));
-      fanout = at_most_one (numbers_at 6 fs) (omega (arith, laws.values.count text 6 fs));
+      hash = laws.last_number.first_listed (numbers_at 5 fs) (omega (arith, laws.values.count text 5 fs));
+      fanout = laws.last_number.first_listed (numbers_at 6 fs) (omega (arith, laws.values.count text 6 fs));
     }
 
 -- ---- the checks

@@ -1,40 +1,52 @@
 -- The text that is written for data is the data's.
-use Rattle.std.proofs.Common.{◌≡◌, ℕ, List, sym, subst}
-use Rattle.std.specs.Prelude.{All}
-use Rattle.tg_pbtable.specs.declared.table.Rule.{Rule}
+use Rattle.std.proofs.Common.{◌≡◌, ℕ, ◌+◌, ◌<◌, Option, Some, List, [], ◌++◌, length, take, get_or, refl, sym, ap, ◌∙◌, append_assoc, subst}
+use Rattle.std.proofs.lemmas.List.{append-nil}
 use Rattle.tg_pbtable.specs.declared.table.Field.{Field}
-use Rattle.tg_pbtable.specs.declared.table.Order.{Order}
 use Rattle.tg_pbtable.specs.declared.table.Order.TheVariants.{Ascending}
-use Rattle.tg_pbtable.specs.Message.{Message, AreRuled, IsCount, IsInOrder, count_of, numbers_of}
-use Rattle.tg_pbtable.specs.Emitted.{LiesIn, AreSameFields}
+use Rattle.tg_pbtable.specs.Message.{NumberSpelling}
+use Rattle.tg_pbtable.specs.Emitted.{BytesSpelling, FieldTexts, Puts}
 use Rattle.tg_pbtable.specs.Laws.{TableLaws}
 use Rattle.tg_unixfs.specs.declared.TheConstants.{DATA}
 use Rattle.tg_unixfs.specs.declared.Unix.{Unix}
 use Rattle.tg_unixfs.specs.Unix.{IsUnix, UnixText}
-use Rattle.tg_unixfs.specs.Writing.{source_of, all_fields}
+use Rattle.tg_unixfs.specs.Writing.{source_of, all_fields, numbered, as_numbers, optional, placed}
 use Rattle.tg_unixfs.proofs.Same.{parts_again}
-use Rattle.tg_unixfs.proofs.Listing.{listed_parts, listed_counts, listed_rise, listed_ruled, listed_inside}
+use Rattle.tg_unixfs.proofs.Listing.{whole, sizes_more, listed_parts, listed_counts, listed_rise, listed_ruled}
 
-pub encoded : (laws : TableLaws) → (u : Unix) (source text : List ℕ) (fs : List Field) → IsUnix u → source ≡ source_of u.inline → fs ≡ all_fields u
-    → ((order : Order) → All (λ (rule : Rule). IsCount rule.times (count_of fs rule.number)) DATA.now → IsInOrder order (numbers_of fs)
-    → (placed : List Field) × Message DATA.now order text placed × AreSameFields source fs text placed)
-    → UnixText u text
-encoded laws u source text fs is s f again =
-    let counts = subst (λ (xs : List Field). All (λ (rule : Rule). IsCount rule.times (count_of xs rule.number)) DATA.now) (sym f) (listed_counts u) in
-    let rise = subst (λ (xs : List Field). IsInOrder Ascending (numbers_of xs)) (sym f) (listed_rise u) in
-    let h = again Ascending counts rise in
-    let same = subst (λ (xs : List Field). AreSameFields (source_of u.inline) xs text h.0) f (subst (λ (t : List ℕ). AreSameFields t fs text h.0) s h.2) in
+-- the fields are put behind a text
+abbrev pub PutsFields : List ℕ → List Field → List ℕ → List ℕ → Type 0
+PutsFields source fields old new = Puts (λ bytes. FieldTexts source fields bytes) old new
+
+pub number_put : (source : List ℕ) (number value : ℕ) (old new : List ℕ) → Puts (λ bytes. NumberSpelling number value bytes) old new → PutsFields source (optional number (Some value)) old new
+number_put source number value old new p = record { bytes = p.bytes; whole = p.whole; spells = (p.bytes, [], sym (append-nil p.bytes), p.spells, refl) }
+
+pub inline_put : (inline : Option (List ℕ)) (bytes content old new : List ℕ) → inline ≡ Some bytes → content ≡ bytes → Puts (λ text. BytesSpelling 2 content text) old new → PutsFields (source_of inline) (placed inline) old new
+inline_put inline bytes content old new is e p =
+    let spells = subst (λ (t : List ℕ). BytesSpelling 2 t p.bytes) (e ∙ sym (whole bytes)) p.spells in
+    subst (λ (o : Option (List ℕ)). PutsFields (source_of o) (placed o) old new) (sym is)
+    (record { bytes = p.bytes; whole = p.whole; spells = (p.bytes, [], sym (append-nil p.bytes), spells, refl) })
+
+pub then_put : (laws : TableLaws) (source : List ℕ) (fs gs : List Field) (old mid new : List ℕ) → PutsFields source fs old mid → PutsFields source gs mid new → PutsFields source (fs ++ gs) old new
+then_put laws source fs gs old mid new p q = record {
+  bytes = p.bytes ++ q.bytes;
+  whole = q.whole ∙ ap (λ (t : List ℕ). t ++ q.bytes) p.whole ∙ append_assoc old p.bytes q.bytes;
+  spells = laws.writing.append source fs gs p.bytes q.bytes p.spells q.spells;
+}
+
+pub size_put : (laws : TableLaws) (source sizes : List ℕ) (i d : ℕ) (old mid new : List ℕ) → i < length sizes → PutsFields source (numbered 4 (as_numbers (take i sizes))) old mid
+    → Puts (λ bytes. NumberSpelling 4 (get_or sizes i d) bytes) mid new → PutsFields source (numbered 4 (as_numbers (take (i + 1) sizes))) old new
+size_put laws source sizes i d old mid new l p q =
+    subst (λ (fs : List Field). PutsFields source fs old new) (sym (sizes_more sizes i d l))
+    (then_put laws source (numbered 4 (as_numbers (take i sizes))) (optional 4 (Some (get_or sizes i d))) old mid new p (number_put source 4 (get_or sizes i d) mid new q))
+
+pub encoded : (laws : TableLaws) → (u : Unix) (text : List ℕ) → IsUnix u → PutsFields (source_of u.inline) (all_fields u) [] text → UnixText u text
+encoded laws u text is p =
+    let source = source_of u.inline in
+    let h = laws.writing.message DATA.now Ascending source (all_fields u) text (listed_ruled u) (listed_counts u) (listed_rise u)
+    (subst (λ (t : List ℕ). FieldTexts source (all_fields u) t) (sym p.whole) p.spells) in
     record {
       fields = h.0;
       message = h.1;
-      parts = parts_again laws (source_of u.inline) text (all_fields u) h.0 u same (listed_parts u);
+      parts = parts_again laws source text (all_fields u) h.0 u h.2 (listed_parts u);
       is_unix = is;
     }
-
-pub ruled : (u : Unix) (fs : List Field) → fs ≡ all_fields u → AreRuled DATA.now fs
-ruled u fs f = subst (λ (xs : List Field). AreRuled DATA.now xs) (sym f) (listed_ruled u)
-
-pub inside : (u : Unix) (source : List ℕ) (fs : List Field) → source ≡ source_of u.inline → fs ≡ all_fields u → All (λ (x : Field). LiesIn source x.value) fs
-inside u source fs s f =
-    subst (λ (t : List ℕ). All (λ (x : Field). LiesIn t x.value) fs) (sym s)
-    (subst (λ (xs : List Field). All (λ (x : Field). LiesIn (source_of u.inline) x.value) xs) (sym f) (listed_inside u))

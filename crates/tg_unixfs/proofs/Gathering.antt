@@ -1,44 +1,27 @@
 -- Data gathered from the fields of a message has them as its parts.
-use Rattle.std.proofs.Common.{◌≡◌, ℕ, ◌≤◌, Option, Some, None, List, [], ◌∷◌, ◌++◌, length, refl, sym, ap, ◌∙◌, append_assoc, arith}
+use Rattle.std.proofs.Common.{◌≡◌, ℕ, ◌≤◌, Some, List, [], ◌∷◌, ◌++◌, sym, ap, ◌∙◌, append_assoc, arith}
 use Rattle.tg_pbtable.specs.declared.table.Field.{Field}
 use Rattle.tg_pbtable.specs.declared.table.Order.TheVariants.{Ascending}
 use Rattle.tg_pbtable.specs.Message.{Message, count_of}
 use Rattle.tg_unixfs.specs.declared.TheConstants.{DATA}
 use Rattle.tg_unixfs.specs.declared.Unix.{Unix}
-use Rattle.tg_pbtable.specs.Values.{numbers_at, bytes_at, listed}
+use Rattle.tg_pbtable.specs.Values.{numbers_at, bytes_at}
 use Rattle.tg_pbtable.specs.Laws.{TableLaws}
 use Rattle.tg_unixfs.specs.Unix.{HasParts}
-use Rattle.tg_unixfs.specs.Reading.{later, Gathers, nothing}
+use Rattle.tg_unixfs.specs.Reading.{Gathers, nothing}
 use Rattle.tg_unixfs.proofs.Parts.{data_table, any_rule, rule_at}
-
-later_append : {A : Type 0} (o : Option A) (xs ys : List A) → later o (xs ++ ys) ≡ later (later o xs) ys
-later_append o [] ys = refl
-later_append o (x ∷ xs) ys = later_append (Some x) xs ys
-
-later_more : {A : Type 0} (o mid new : Option A) (xs ys zs : List A) → zs ≡ xs ++ ys → mid ≡ later o xs → new ≡ later mid ys → new ≡ later o zs
-later_more o mid new xs ys zs e p q = q ∙ ap (λ m. later m ys) p ∙ sym (later_append o xs ys) ∙ ap (later o) (sym e)
 
 pub gathers_more : (laws : TableLaws) → (text : List ℕ) (fs : List Field) (f : Field) (a b c : Unix) → Gathers text fs a b → Gathers text (f ∷ []) b c → Gathers text (fs ++ f ∷ []) a c
 gathers_more laws text fs f a b c p q =
     let one = f ∷ [] in
     record {
-      kind = later_more (Some a.kind) (Some b.kind) (Some c.kind) (numbers_at 1 fs) (numbers_at 1 one) (numbers_at 1 (fs ++ one)) (laws.values.numbers_append 1 fs one) p.kind q.kind;
-      inline = later_more a.inline b.inline c.inline (bytes_at text 2 fs) (bytes_at text 2 one) (bytes_at text 2 (fs ++ one)) (laws.values.bytes_append text 2 fs one) p.inline q.inline;
-      filesize = later_more a.filesize b.filesize c.filesize (numbers_at 3 fs) (numbers_at 3 one) (numbers_at 3 (fs ++ one)) (laws.values.numbers_append 3 fs one) p.filesize q.filesize;
+      kind = laws.last_number.later_more (Some a.kind) (Some b.kind) (Some c.kind) (numbers_at 1 fs) (numbers_at 1 one) (numbers_at 1 (fs ++ one)) (laws.values.numbers_append 1 fs one) p.kind q.kind;
+      inline = laws.last_bytes.later_more a.inline b.inline c.inline (bytes_at text 2 fs) (bytes_at text 2 one) (bytes_at text 2 (fs ++ one)) (laws.values.bytes_append text 2 fs one) p.inline q.inline;
+      filesize = laws.last_number.later_more a.filesize b.filesize c.filesize (numbers_at 3 fs) (numbers_at 3 one) (numbers_at 3 (fs ++ one)) (laws.values.numbers_append 3 fs one) p.filesize q.filesize;
       sizes = q.sizes ∙ ap (λ (t : List ℕ). t ++ numbers_at 4 one) p.sizes ∙ append_assoc a.sizes (numbers_at 4 fs) (numbers_at 4 one) ∙ ap (λ (t : List ℕ). a.sizes ++ t) (sym (laws.values.numbers_append 4 fs one));
-      hash = later_more a.hash b.hash c.hash (numbers_at 5 fs) (numbers_at 5 one) (numbers_at 5 (fs ++ one)) (laws.values.numbers_append 5 fs one) p.hash q.hash;
-      fanout = later_more a.fanout b.fanout c.fanout (numbers_at 6 fs) (numbers_at 6 one) (numbers_at 6 (fs ++ one)) (laws.values.numbers_append 6 fs one) p.fanout q.fanout;
+      hash = laws.last_number.later_more a.hash b.hash c.hash (numbers_at 5 fs) (numbers_at 5 one) (numbers_at 5 (fs ++ one)) (laws.values.numbers_append 5 fs one) p.hash q.hash;
+      fanout = laws.last_number.later_more a.fanout b.fanout c.fanout (numbers_at 6 fs) (numbers_at 6 one) (numbers_at 6 (fs ++ one)) (laws.values.numbers_append 6 fs one) p.fanout q.fanout;
     }
-
-at_most_one : {A : Type 0} (xs : List A) (o : Option A) → length xs ≤ 1 → o ≡ later None xs → xs ≡ listed o
-at_most_one [] o l e = ap listed (sym e)
-at_most_one (x ∷ []) o l e = ap listed (sym e)
-at_most_one (x ∷ y ∷ xs) o l e = absurd (omega arith)
-
-exactly_one : (xs : List ℕ) (k : ℕ) → length xs ≡ 1 → Some k ≡ later (Some 0) xs → xs ≡ k ∷ []
-exactly_one [] k l e = absurd (omega arith)
-exactly_one (x ∷ []) k l e = ap listed (sym e)
-exactly_one (x ∷ y ∷ xs) k l e = absurd (omega arith)
 
 pub gathered_parts : (laws : TableLaws) → (text : List ℕ) (fs : List Field) (u : Unix) → Message DATA.now Ascending text fs → Gathers text fs nothing u → HasParts text fs u
 gathered_parts laws text fs u m g =
@@ -48,10 +31,10 @@ gathered_parts laws text fs u m g =
     let five : count_of fs 5 ≤ 1 = m.counts 4 any_rule (omega arith) in
     let six : count_of fs 6 ≤ 1 = m.counts 5 any_rule (omega arith) in
     record {
-      kind = exactly_one (numbers_at 1 fs) u.kind (laws.values.all_numbers DATA.now 1 fs (data_table laws) (rule_at 0 (omega arith)) m.ruled ∙ one) g.kind;
-      inline = at_most_one (bytes_at text 2 fs) u.inline (omega (arith, laws.values.count text 2 fs)) g.inline;
-      filesize = at_most_one (numbers_at 3 fs) u.filesize (omega (arith, laws.values.count text 3 fs)) g.filesize;
+      kind = laws.last_number.exactly_one 0 (numbers_at 1 fs) u.kind (laws.values.all_numbers DATA.now 1 fs (data_table laws) (rule_at 0 (omega arith)) m.ruled ∙ one) g.kind;
+      inline = laws.last_bytes.at_most_one (bytes_at text 2 fs) u.inline (omega (arith, laws.values.count text 2 fs)) g.inline;
+      filesize = laws.last_number.at_most_one (numbers_at 3 fs) u.filesize (omega (arith, laws.values.count text 3 fs)) g.filesize;
       sizes = sym g.sizes;
-      hash = at_most_one (numbers_at 5 fs) u.hash (omega (arith, laws.values.count text 5 fs)) g.hash;
-      fanout = at_most_one (numbers_at 6 fs) u.fanout (omega (arith, laws.values.count text 6 fs)) g.fanout;
+      hash = laws.last_number.at_most_one (numbers_at 5 fs) u.hash (omega (arith, laws.values.count text 5 fs)) g.hash;
+      fanout = laws.last_number.at_most_one (numbers_at 6 fs) u.fanout (omega (arith, laws.values.count text 6 fs)) g.fanout;
     }

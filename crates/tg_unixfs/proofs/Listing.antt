@@ -11,7 +11,6 @@ use Rattle.tg_pbtable.specs.declared.table.Field.{Field}
 use Rattle.tg_pbtable.specs.declared.table.Value.{Value}
 use Rattle.tg_pbtable.specs.declared.table.Value.TheVariants.{Number, Place}
 use Rattle.tg_pbtable.specs.Message.{HasRule, AreRuled, IsCount, count_of, numbers_of, wire_of}
-use Rattle.tg_pbtable.specs.Emitted.{LiesIn}
 use Rattle.tg_unixfs.specs.declared.TheConstants.{DATA}
 use Rattle.tg_unixfs.specs.declared.Unix.{Unix}
 use Rattle.tg_pbtable.specs.Values.{number_in, bytes_in, numbers_at, bytes_at, listed}
@@ -29,16 +28,11 @@ numbered_append : (k : ℕ) (xs ys : List Value) → numbered k (xs ++ ys) ≡ n
 numbered_append k [] ys = refl
 numbered_append k (x ∷ xs) ys = ap (λ (t : List Field). (record { number = k; value = x }) ∷ t) (numbered_append k xs ys)
 
-pub sizes_more : (xs : List ℕ) (i d : ℕ) (first old new : List Field) → i < length xs → old ≡ first ++ numbered 4 (as_numbers (take i xs)) → new ≡ old ++ optional 4 (Some (get_or xs i d))
-    → new ≡ first ++ numbered 4 (as_numbers (take (i + 1) xs))
-sizes_more xs i d first old new l e f =
-    let more : numbered 4 (as_numbers (take (i + 1) xs)) ≡ numbered 4 (as_numbers (take i xs)) ++ optional 4 (Some (get_or xs i d)) =
+pub sizes_more : (xs : List ℕ) (i d : ℕ) → i < length xs → numbered 4 (as_numbers (take (i + 1) xs)) ≡ numbered 4 (as_numbers (take i xs)) ++ optional 4 (Some (get_or xs i d))
+sizes_more xs i d l =
     ap (λ (t : List ℕ). numbered 4 (as_numbers t)) (take_more xs i d l)
     ∙ ap (numbered 4) (as_numbers_append (take i xs) (get_or xs i d ∷ []))
-    ∙ numbered_append 4 (as_numbers (take i xs)) (as_numbers (get_or xs i d ∷ [])) in
-    f ∙ ap (λ (t : List Field). t ++ optional 4 (Some (get_or xs i d))) e
-    ∙ append_assoc first (numbered 4 (as_numbers (take i xs))) (optional 4 (Some (get_or xs i d)))
-    ∙ ap (λ (t : List Field). first ++ t) (sym more)
+    ∙ numbered_append 4 (as_numbers (take i xs)) (as_numbers (get_or xs i d ∷ []))
 
 -- ---- the parts of fields of one number
 
@@ -90,11 +84,7 @@ numbers_back : (ns : List ℕ) → all_of number_in (as_numbers ns) ≡ ns
 numbers_back [] = refl
 numbers_back (n ∷ ns) = ap (λ (t : List ℕ). n ∷ t) (numbers_back ns)
 
-numbers_have_none : (text ns : List ℕ) → all_of (bytes_in text) (as_numbers ns) ≡ []
-numbers_have_none text [] = refl
-numbers_have_none text (n ∷ ns) = numbers_have_none text ns
-
-whole : (bytes : List ℕ) → slice_range bytes 0 (length bytes) ≡ bytes
+pub whole : (bytes : List ℕ) → slice_range bytes 0 (length bytes) ≡ bytes
 whole bytes = take_all (length bytes - 0) bytes (omega arith)
 
 inline_back : (inline : Option (List ℕ)) → all_of (bytes_in (source_of inline)) (as_places inline) ≡ listed inline
@@ -236,38 +226,30 @@ six_rise a b c d e f =
 pub listed_rise : (u : Unix) → IsNonDecreasing (numbers_of (all_fields u))
 listed_rise u = six_rise (Number u.kind ∷ []) (as_places u.inline) (as_numbers (listed u.filesize)) (as_numbers u.sizes) (as_numbers (listed u.hash)) (as_numbers (listed u.fanout))
 
--- ---- rules and places
+-- ---- rules
 
-abbrev IsFit : List ℕ → Field → Type 0
-IsFit source f = HasRule DATA.now f.number (wire_of f.value) × LiesIn source f.value
+abbrev IsRuled : Field → Type 0
+IsRuled f = HasRule DATA.now f.number (wire_of f.value)
 
-fit_numbers : (source : List ℕ) (k : ℕ) → HasRule DATA.now k Varint → (ns : List ℕ) → All (IsFit source) (numbered k (as_numbers ns))
-fit_numbers source k h [] = All-nil (IsFit source)
-fit_numbers source k h (n ∷ ns) = All-cons (IsFit source) (record { number = k; value = Number n }) (numbered k (as_numbers ns)) (h, tt) (fit_numbers source k h ns)
+ruled_numbers : (k : ℕ) → HasRule DATA.now k Varint → (ns : List ℕ) → All IsRuled (numbered k (as_numbers ns))
+ruled_numbers k h [] = All-nil IsRuled
+ruled_numbers k h (n ∷ ns) = All-cons IsRuled (record { number = k; value = Number n }) (numbered k (as_numbers ns)) h (ruled_numbers k h ns)
 
-fit_inline : (inline : Option (List ℕ)) → HasRule DATA.now 2 Bytes → All (IsFit (source_of inline)) (placed inline)
-fit_inline None h = All-nil (IsFit [])
-fit_inline (Some bytes) h = All-cons (IsFit bytes) (record { number = 2; value = Place 0 (length bytes) }) [] (h, (omega arith, omega arith)) (All-nil (IsFit bytes))
+ruled_inline : (inline : Option (List ℕ)) → HasRule DATA.now 2 Bytes → All IsRuled (placed inline)
+ruled_inline None h = All-nil IsRuled
+ruled_inline (Some bytes) h = All-cons IsRuled (record { number = 2; value = Place 0 (length bytes) }) [] h (All-nil IsRuled)
 
-listed_fit : (u : Unix) → All (IsFit (source_of u.inline)) (all_fields u)
-listed_fit u =
-    let source = source_of u.inline in
-    let P = IsFit source in
+pub listed_ruled : (u : Unix) → AreRuled DATA.now (all_fields u)
+listed_ruled u =
     let p1 = numbered 1 (Number u.kind ∷ []) in
     let p2 = placed u.inline in
     let p3 = optional 3 u.filesize in
     let p4 = numbered 4 (as_numbers u.sizes) in
     let p5 = optional 5 u.hash in
     let p6 = optional 6 u.fanout in
-    All-append P p1 (p2 ++ (p3 ++ (p4 ++ (p5 ++ p6)))) (fit_numbers source 1 (rule_at 0 (omega arith)) (u.kind ∷ []))
-    (All-append P p2 (p3 ++ (p4 ++ (p5 ++ p6))) (fit_inline u.inline (rule_at 1 (omega arith)))
-    (All-append P p3 (p4 ++ (p5 ++ p6)) (fit_numbers source 3 (rule_at 2 (omega arith)) (listed u.filesize))
-    (All-append P p4 (p5 ++ p6) (fit_numbers source 4 (rule_at 3 (omega arith)) u.sizes)
-    (All-append P p5 p6 (fit_numbers source 5 (rule_at 4 (omega arith)) (listed u.hash))
-    (fit_numbers source 6 (rule_at 5 (omega arith)) (listed u.fanout))))))
-
-pub listed_ruled : (u : Unix) → AreRuled DATA.now (all_fields u)
-listed_ruled u = λ k d l. (listed_fit u k d l).0
-
-pub listed_inside : (u : Unix) → All (λ (f : Field). LiesIn (source_of u.inline) f.value) (all_fields u)
-listed_inside u = λ k d l. (listed_fit u k d l).1
+    All-append IsRuled p1 (p2 ++ (p3 ++ (p4 ++ (p5 ++ p6)))) (ruled_numbers 1 (rule_at 0 (omega arith)) (u.kind ∷ []))
+    (All-append IsRuled p2 (p3 ++ (p4 ++ (p5 ++ p6))) (ruled_inline u.inline (rule_at 1 (omega arith)))
+    (All-append IsRuled p3 (p4 ++ (p5 ++ p6)) (ruled_numbers 3 (rule_at 2 (omega arith)) (listed u.filesize))
+    (All-append IsRuled p4 (p5 ++ p6) (ruled_numbers 4 (rule_at 3 (omega arith)) u.sizes)
+    (All-append IsRuled p5 p6 (ruled_numbers 5 (rule_at 4 (omega arith)) (listed u.hash))
+    (ruled_numbers 6 (rule_at 5 (omega arith)) (listed u.fanout))))))

@@ -1,5 +1,5 @@
 -- Data read by places: its causes exclude one another, and cursors over its blocksizes.
-use Rattle.std.proofs.Common.{◌≡◌, ℕ, List, [], ◌∷◌, ◌++◌, refl, sym, ap, ◌∙◌, subst, inr, arith}
+use Rattle.std.proofs.Common.{◌≡◌, ℕ, List, [], ◌∷◌, ◌++◌, refl, sym, ap, ◌∙◌, append_assoc, subst, inr, arith}
 use Rattle.std.specs.Prelude.{Option, unwrap_or}
 use Rattle.std.proofs.lemmas.List.{append-nil}
 use Rattle.tg_pbtable.specs.declared.table.Field.{Field}
@@ -145,3 +145,24 @@ pub between_past : (laws : TableLaws) (text : List ℕ) (at : ℕ) (behind ahead
 between_past laws text at behind ahead f next e b g =
     let h = between_next laws text at behind ahead [] (numbers_at 4 g.more) f next e b g refl in
     subst (λ (t : List ℕ). IsBetween text next t ahead) (append-nil behind) (subst (λ (t : List ℕ). IsBetween text next (behind ++ []) t) (sym h.0) h.1)
+
+-- ---- blocksizes taken one by one
+
+-- the blocksizes are the first of all, and the cursor stands behind them
+abbrev pub AreFirst : List ℕ → ℕ → List ℕ → Type 0
+AreFirst text at behind = (all : List ℕ) → IsBetween text 0 [] all → (ahead : List ℕ) × (all ≡ behind ++ ahead) × IsBetween text at behind ahead
+
+pub start_of : (text : List ℕ) (unix : Unix) → UnixText unix text → IsBetween text 0 [] unix.sizes
+start_of text unix h = subst (λ (sizes : List ℕ). IsBetween text 0 [] sizes) h.parts.sizes (start_between text h.fields h.message)
+
+pub one_more : (text : List ℕ) (at next : ℕ) (behind : List ℕ) (size : ℕ) → ((ahead : List ℕ) → IsBetween text at behind ahead → (more : List ℕ) × (ahead ≡ size ∷ more) × IsBetween text next (behind ++ size ∷ []) more)
+    → AreFirst text at behind → AreFirst text next (behind ++ size ∷ [])
+one_more text at next behind size step h = λ all start.
+    let old = h all start in
+    let new = step old.0 old.2 in
+    (new.0, old.1 ∙ ap (λ (t : List ℕ). behind ++ t) new.1 ∙ sym (append_assoc behind (size ∷ []) new.0), new.2)
+
+pub all_taken : (text : List ℕ) (at : ℕ) (behind : List ℕ) → ((ahead : List ℕ) → IsBetween text at behind ahead → ahead ≡ []) → AreFirst text at behind → (all : List ℕ) → IsBetween text 0 [] all → behind ≡ all
+all_taken text at behind none h all start =
+    let old = h all start in
+    sym (old.1 ∙ ap (λ (t : List ℕ). behind ++ t) (none old.0 old.2) ∙ append-nil behind)

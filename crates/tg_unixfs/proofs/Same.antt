@@ -1,11 +1,11 @@
 -- Two texts of the same data have the same values, and a text has one data.
-use Rattle.std.proofs.Common.{◌≡◌, ℕ, zero, suc, ◌<◌, Option, Some, None, List, [], ◌∷◌, get_or, refl, sym, ◌∙◌, subst, arith}
+use Rattle.std.proofs.Common.{◌≡◌, ℕ, zero, suc, ◌<◌, Option, List, [], ◌∷◌, get_or, refl, sym, ◌∙◌, subst, arith}
 use Rattle.tg_pbtable.specs.declared.table.Rule.{Rule}
 use Rattle.tg_pbtable.specs.declared.table.Field.{Field}
 use Rattle.tg_pbtable.specs.declared.table.Order.TheVariants.{Ascending}
 use Rattle.tg_pbtable.specs.Message.{Message}
 use Rattle.tg_pbtable.specs.Emitted.{AreSameFields}
-use Rattle.tg_pbtable.specs.Values.{listed, HasSameValues, IsSameFor}
+use Rattle.tg_pbtable.specs.Values.{HasSameValues, IsSameFor}
 use Rattle.tg_pbtable.specs.Laws.{TableLaws}
 use Rattle.tg_unixfs.specs.declared.TheConstants.{DATA}
 use Rattle.tg_unixfs.specs.declared.Unix.{Unix}
@@ -42,12 +42,6 @@ texts_alike laws s t u a b = laws.values.by_rules DATA.now s t a.fields b.fields
 
 -- ---- one text has one data
 
-listed_same : {A : Type 0} (a b : Option A) → listed a ≡ listed b → a ≡ b
-listed_same None None e = refl
-listed_same (Some x) (Some y) e = cc
-listed_same None (Some y) e = absurd (cc)
-listed_same (Some x) None e = absurd (cc)
-
 head_same : (a b : ℕ) → a ∷ [] ≡ b ∷ [] → a ≡ b
 head_same a b e = cc
 
@@ -58,15 +52,15 @@ six_same : (k1 k2 : ℕ) (i1 i2 : Option (List ℕ)) (f1 f2 : Option ℕ) (s1 s2
     → unix_of k1 i1 f1 s1 h1 o1 ≡ unix_of k2 i2 f2 s2 h2 o2
 six_same k1 k2 i1 i2 f1 f2 s1 s2 h1 h2 o1 o2 k i f s h o = rw (k, i, f, s, h, o) refl
 
-parts_same : (text : List ℕ) (fs : List Field) (a b : Unix) → HasParts text fs a → HasParts text fs b → a ≡ b
-parts_same text fs a b p q = six_same a.kind b.kind a.inline b.inline a.filesize b.filesize a.sizes b.sizes a.hash b.hash a.fanout b.fanout
+parts_same : (laws : TableLaws) → (text : List ℕ) (fs : List Field) (a b : Unix) → HasParts text fs a → HasParts text fs b → a ≡ b
+parts_same laws text fs a b p q = six_same a.kind b.kind a.inline b.inline a.filesize b.filesize a.sizes b.sizes a.hash b.hash a.fanout b.fanout
     (head_same a.kind b.kind (sym p.kind ∙ q.kind))
-    (listed_same a.inline b.inline (sym p.inline ∙ q.inline))
-    (listed_same a.filesize b.filesize (sym p.filesize ∙ q.filesize))
+    (laws.last_bytes.listed_same a.inline b.inline (sym p.inline ∙ q.inline))
+    (laws.last_number.listed_same a.filesize b.filesize (sym p.filesize ∙ q.filesize))
     (sym p.sizes ∙ q.sizes)
-    (listed_same a.hash b.hash (sym p.hash ∙ q.hash))
-    (listed_same a.fanout b.fanout (sym p.fanout ∙ q.fanout))
+    (laws.last_number.listed_same a.hash b.hash (sym p.hash ∙ q.hash))
+    (laws.last_number.listed_same a.fanout b.fanout (sym p.fanout ∙ q.fanout))
 
 pub one_data : (laws : TableLaws) → (text : List ℕ) (fs gs : List Field) (a b : Unix) → Message DATA.now Ascending text fs → Message DATA.now Ascending text gs → HasParts text fs a → HasParts text gs b → a ≡ b
 one_data laws text fs gs a b m n p q =
-    parts_same text gs a b (subst (λ (xs : List Field). HasParts text xs a) (laws.messages.one_reading 0 text fs gs m.spelled n.spelled) p) q
+    parts_same laws text gs a b (subst (λ (xs : List Field). HasParts text xs a) (laws.messages.one_reading 0 text fs gs m.spelled n.spelled) p) q

@@ -1,19 +1,14 @@
 -- The UnixFS data of a text, or why there is none, as a function: what `UnixText` and `HasUnixCause` say as relations.
-use Rattle.std.specs.Prelude.{ℕ, List, [], ◌∷◌, Option, Some, None, unwrap_or, Result, Ok, Err, Bool, ◌||◌, ◌==◌, if◌then◌else◌}
+use Rattle.std.specs.Prelude.{ℕ, List, unwrap_or, Result, Ok, Err, Bool, ◌||◌, ◌==◌, if◌then◌else◌}
 use Rattle.tg_pbtable.specs.declared.table.Field.{Field}
 use Rattle.tg_pbtable.specs.declared.table.Order.TheVariants.{Ascending}
 use Rattle.tg_pbtable.specs.declared.fault.PbFault.{PbFault}
 use Rattle.tg_pbtable.specs.Values.{numbers_at, bytes_at}
-use Rattle.tg_pbtable.specs.Computed.{fields_of}
+use Rattle.tg_pbtable.specs.Computed.{fields_of, first_of}
 use Rattle.tg_unixfs.specs.declared.TheConstants.{DATA}
 use Rattle.tg_unixfs.specs.declared.Unix.{Unix}
 use Rattle.tg_unixfs.specs.declared.UnixFault.{UnixFault}
 use Rattle.tg_unixfs.specs.declared.UnixFault.TheVariants as faults
-
--- the first of the values
-abbrev pub first_of : {A : Type 0} → List A → Option A
-first_of [] = None
-first_of (x ∷ xs) = Some x
 
 -- the parts of the data that the fields of a message are
 abbrev pub parts_of : List ℕ → List Field → Unix

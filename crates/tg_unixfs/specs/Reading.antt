@@ -1,18 +1,13 @@
 -- The steps of reading UnixFS data, and what keeps data from standing.
-use Rattle.std.specs.Prelude.{◌≡◌, ◌≢◌, ℕ, List, [], ◌∷◌, ◌++◌, Option, Some, None, unwrap_or}
+use Rattle.std.specs.Prelude.{◌≡◌, ◌≢◌, ℕ, List, [], ◌++◌, Some, None, unwrap_or}
 use Rattle.tg_pbtable.specs.declared.table.Field.{Field}
 use Rattle.tg_pbtable.specs.declared.fault.PbFault.{PbFault}
 use Rattle.tg_pbtable.specs.declared.fault.PbFault.TheVariants as pb
 use Rattle.tg_unixfs.specs.declared.Unix.{Unix}
 use Rattle.tg_unixfs.specs.declared.UnixFault.{UnixFault}
 use Rattle.tg_unixfs.specs.declared.UnixFault.TheVariants as faults
-use Rattle.tg_pbtable.specs.Values.{numbers_at, bytes_at}
+use Rattle.tg_pbtable.specs.Values.{numbers_at, bytes_at, later}
 use Rattle.tg_unixfs.specs.Unix.{IsKind}
-
--- the last of the values, or the one from before where there is none
-abbrev pub later : {A : Type 0} → Option A → List A → Option A
-later before [] = before
-later before (x ∷ xs) = later (Some x) xs
 
 -- the data after the fields: of each number the last value, and all sizes
 pub record Gathers (text : List ℕ) (fields : List Field) (old new : Unix) : Type 0 where

@@ -1,15 +1,14 @@
 //! UnixFS data: the message in a DAG-PB node's payload.
 #![tactic(auto)]
 
-ghost use Rattle.std.specs.Prelude.{◌≡◌, ℕ, ◌⊎◌, ◌++◌, ◌∷◌, [], List as Items, All, IfOk, IfErr, OnOk, MatchResult};
-ghost use Rattle.tg_pbtable.specs.Message.{Message};
-ghost use Rattle.tg_pbtable.specs.Emitted.{LiesIn};
-ghost use Rattle.tg_pbtable.specs.declared.table.Order.TheVariants.{Ascending};
-ghost use Rattle.tg_unixfs.specs.Unix.{UnixText, CanonicalText, HasParts, IsUnix};
+ghost use Rattle.std.specs.Prelude.{◌≡◌, ℕ, ◌⊎◌, [], List as Items, IfOk, IfErr, OnOk, MatchResult};
+ghost use Rattle.tg_pbtable.specs.Emitted.{FieldTexts, Puts, IsSizeOf};
+ghost use Rattle.tg_pbtable.specs.Place.{AreInside, placed_bytes};
+ghost use Rattle.tg_unixfs.specs.Unix.{UnixText, CanonicalText, IsUnix};
 ghost use Rattle.tg_unixfs.specs.Faults.{HasUnixCause};
-ghost use Rattle.tg_unixfs.specs.Reading.{Gathers, IsUnfit, carried};
-ghost use Rattle.tg_unixfs.specs.Writing.{all_fields, optional, placed, source_of};
-ghost use Rattle.tg_unixfs.specs.declared.TheConstants.{DATA};
+ghost use Rattle.tg_unixfs.specs.Reading.{carried};
+ghost use Rattle.tg_unixfs.specs.Places.{IsBetween, IsCursor, placed_unix};
+ghost use Rattle.tg_unixfs.specs.Writing.{as_numbers, numbered, optional, placed, source_of};
 ghost use Rattle.tg_unixfs.specs.declared.UnixFault.TheVariants.{OutOfMemory};
 ghost use Rattle.tg_unixfs.specs.declared.Unix.{Unix};
 ghost use Rattle.tg_unixfs.specs.declared.UnixFault.{UnixFault};
@@ -21,7 +20,10 @@ pub use computed::computes;
 pub use places::{UnixPlaces, places_of, size_at};
 use std::alloc::{AllocError, Global};
 use tg_bytes::{Bytes, List};
-use tg_pbtable::{Field, Fields, Order, PbFault, Rule, Times, Value, Wire, emit, scan, table_laws};
+use tg_pbtable::{
+    PbFault, Place, Rule, Times, Wire, put_bytes, put_number, size_of_bytes, size_of_number,
+    table_laws,
+};
 use thiserror::Error;
 
 /// The table of UnixFS data, whose fields stand in ascending order: 1 Type, 2 Data, 3 filesize, 4 blocksizes, 5 hashType,
@@ -129,86 +131,58 @@ pub fn decode(alloc: Global, bytes: &[u8]) -> Result<Unix, UnixFault>
     ensures only { (unix : Unix) → UnixText unix bytes.now
         → MatchResult result (λ found. found ≡ unix) (λ e. e ≡ UnixFault.OutOfMemory) }
 
-    // Each refusal comes only where its cause holds, and where a cause holds it comes or memory is wanted.
+    // Each refusal but want of memory comes exactly where its cause holds; memory is taken only for data.
     ensures cause { IfErr result (λ e. (e ≡ UnixFault.OutOfMemory) ⊎ HasUnixCause bytes.now e) }
-    ensures given { (fault : UnixFault) → HasUnixCause bytes.now fault
-        → (result ≡ Err fault) ⊎ (result ≡ Err UnixFault.OutOfMemory) }
+    ensures given { (fault : UnixFault) → HasUnixCause bytes.now fault → result ≡ Err fault }
 {
-    let fields = scan(alloc, DATA, Order::Ascending, bytes)?;
-    let unix = gathered(alloc, bytes, fields.as_slice())?;
-    check(&unix)?;
-    Ok(unix)
+    let places = places_of(bytes)?;
+    Ok(copied(alloc, bytes, places)?)
 }
 
-/// The data of the fields of a message.
-fn gathered(alloc: Global, bytes: &[u8], fields: &[Field]) -> Result<Unix, AllocError>
-    requires message { Message DATA.now Ascending bytes.now fields.now }
-    requires inside { All (λ field. LiesIn bytes.now field.value) fields.now }
-    ensures { IfOk result (λ unix. HasParts bytes.now fields.now unix) }
+/// The data of which the parts lie at the places, each copied once. The error is want of memory.
+fn copied(alloc: Global, bytes: &[u8], places: UnixPlaces) -> Result<Unix, AllocError>
+    requires inside { AreInside bytes.now places.inline }
+    requires cursor { IsCursor bytes.now 0 }
+    ensures { (sizes : Items ℕ) → IsBetween bytes.now 0 [] sizes
+        → IfOk result (λ unix. unix ≡ placed_unix bytes.now places sizes) }
 {
-    table_laws();
-    let mut unix = Unix {
-        kind: 0,
-        inline: None,
-        filesize: None,
-        sizes: List::new(alloc),
-        hash: None,
-        fanout: None,
-    };
-    for field in fields {
-        take_part(&mut unix, alloc, bytes, field)?;
-    }
-    Ok(unix)
+    Ok(Unix {
+        kind: places.kind,
+        inline: copied_bytes(alloc, bytes, places.inline)?,
+        filesize: places.filesize,
+        sizes: sizes_of(alloc, bytes)?,
+        hash: places.hash,
+        fanout: places.fanout,
+    })
 }
 
-/// Puts the value of a field into the data.
-fn take_part(unix: &mut Unix, alloc: Global, bytes: &[u8], field: &Field) -> Result<(), AllocError>
-    requires { LiesIn bytes.now field.now.value }
-    ensures { OnOk result (Gathers bytes.now (field.now ∷ []) unix.old unix.new) }
+/// The bytes at a place, where there is one. The error is want of memory.
+fn copied_bytes(
+    alloc: Global,
+    bytes: &[u8],
+    place: Option<Place>,
+) -> Result<Option<Bytes>, AllocError>
+    requires { AreInside bytes.now place }
+    ensures { IfOk result (λ copy. copy ≡ placed_bytes bytes.now place) }
 {
-    match field.value {
-        Value::Number(value) => match field.number {
-            1 => unix.kind = value,
-            3 => unix.filesize = Some(value),
-            4 => unix.sizes.push(value)?,
-            5 => unix.hash = Some(value),
-            6 => unix.fanout = Some(value),
-            _ => {}
-        },
-        Value::Place { start, end } => {
-            if field.number == 2 {
-                unix.inline = Some(Bytes::of(alloc, &bytes[start..end])?);
-            }
-        }
-    }
-    Ok(())
-}
-
-/// Whether the data may stand.
-fn check(unix: &Unix) -> Result<(), UnixFault>
-    ensures { MatchResult result (λ _. IsUnix unix.now) (λ e. IsUnfit unix.now e) }
-{
-    match unix.kind {
-        0 | 1 | 2 | 4 => Ok(()),
-        5 => check_shard(unix),
-        number => Err(UnixFault::BadKind { number }),
+    match place {
+        Some(place) => Ok(Some(Bytes::of(alloc, place.bytes_in(bytes))?)),
+        None => Ok(None),
     }
 }
 
-/// Whether the hash and the fanout are those of a shard.
-fn check_shard(unix: &Unix) -> Result<(), UnixFault>
-    requires { unix.now.kind ≡ 5 }
-    ensures { MatchResult result (λ _. IsUnix unix.now) (λ e. IsUnfit unix.now e) }
+/// The blocksizes of the data that a payload spells, in order. The error is want of memory.
+fn sizes_of(alloc: Global, bytes: &[u8]) -> Result<List<u64>, AllocError>
+    requires { IsCursor bytes.now 0 }
+    ensures { (sizes : Items ℕ) → IsBetween bytes.now 0 [] sizes → IfOk result (λ found. found ≡ sizes) }
 {
-    let hash = unix.hash.unwrap_or(0);
-    if hash != MURMUR {
-        return Err(UnixFault::BadHash { number: hash });
+    let mut sizes = List::new(alloc);
+    let mut at = 0;
+    while let Some((size, next)) = size_at(bytes, at) {
+        sizes.push(size)?;
+        at = next;
     }
-    let fanout = unix.fanout.unwrap_or(0);
-    if fanout != FANOUT {
-        return Err(UnixFault::BadFanout { number: fanout });
-    }
-    Ok(())
+    Ok(sizes)
 }
 
 /// The canonical text of data that `decode` can give. The error is want of memory.
@@ -219,63 +193,71 @@ pub fn encode(alloc: Global, unix: &Unix) -> Result<Bytes, AllocError>
     ensures { IfOk result (λ text. CanonicalText unix.now text) }
 {
     table_laws();
-    let fields = fields_of(alloc, unix)?;
-    let text = emit(alloc, DATA, &fields, source_of(unix))?;
+    let mut text = Vec::with_capacity(alloc, size_of_text(unix))?;
+    put_number(&mut text, 1, unix.kind)?;
+    put_inline(&mut text, &unix.inline)?;
+    put_optional(&mut text, 3, unix.filesize)?;
+    put_sizes(&mut text, unix.sizes.as_slice())?;
+    put_optional(&mut text, 5, unix.hash)?;
+    put_optional(&mut text, 6, unix.fanout)?;
     Ok(Bytes::from(text))
 }
 
-/// The inline bytes, or none.
-fn source_of(unix: &Unix) -> &[u8]
-    ensures { result.now ≡ source_of unix.now.inline }
+/// How many bytes the text takes, which is how much is reserved for it.
+fn size_of_text(unix: &Unix) -> usize {
+    let inline = match &unix.inline {
+        Some(inline) => size_of_bytes(2, inline.as_slice().len()),
+        None => 0,
+    };
+    let mut size = size_of_number(1, unix.kind).saturating_add(inline);
+    for blocksize in unix.sizes.as_slice() {
+        size = size.saturating_add(size_of_number(4, *blocksize));
+    }
+    size.saturating_add(size_of_optional(3, unix.filesize))
+        .saturating_add(size_of_optional(5, unix.hash))
+        .saturating_add(size_of_optional(6, unix.fanout))
+}
+
+/// How many bytes a field of a number takes, where there is one.
+fn size_of_optional(number: u32, value: Option<u64>) -> usize
+    ensures { IsSizeOf (λ bytes. FieldTexts [] (optional number value) bytes) result }
 {
-    match &unix.inline {
-        Some(inline) => inline.as_slice(),
-        None => &[],
+    match value {
+        Some(value) => size_of_number(number, value),
+        None => 0,
     }
 }
 
-/// The fields of data in ascending order, the inline bytes being a place of themselves.
-fn fields_of(alloc: Global, unix: &Unix) -> Result<Fields, AllocError>
-    ensures { IfOk result (λ fields. fields ≡ all_fields unix.now) }
+/// Puts the field of a number behind the text, where there is one.
+fn put_optional(text: &mut Vec<u8>, number: u32, value: Option<u64>) -> Result<(), AllocError>
+    ensures { (source : Items ℕ) → OnOk result (Puts (λ bytes. FieldTexts source (optional number value) bytes)
+        text.old.items text.new.items) }
 {
-    let sizes = unix.sizes.as_slice();
-    let mut fields = Vec::with_capacity(alloc, 5 + sizes.len())?;
-    put_number(&mut fields, 1, Some(unix.kind))?;
-    put_inline(&mut fields, &unix.inline)?;
-    put_number(&mut fields, 3, unix.filesize)?;
+    match value {
+        Some(value) => put_number(text, number, value),
+        None => Ok(()),
+    }
+}
+
+/// Puts the field of the inline bytes behind the text, where there are any.
+fn put_inline(text: &mut Vec<u8>, inline: &Option<Bytes>) -> Result<(), AllocError>
+    ensures { OnOk result (Puts (λ bytes. FieldTexts (source_of inline.now) (placed inline.now) bytes)
+        text.old.items text.new.items) }
+{
+    match inline {
+        Some(inline) => put_bytes(text, 2, inline.as_slice()),
+        None => Ok(()),
+    }
+}
+
+/// Puts the fields of the blocksizes behind the text.
+fn put_sizes(text: &mut Vec<u8>, sizes: &[u64]) -> Result<(), AllocError>
+    ensures { (source : Items ℕ) → OnOk result (Puts (λ bytes. FieldTexts source (numbered 4 (as_numbers sizes.now)) bytes)
+        text.old.items text.new.items) }
+{
+    table_laws();
     for size in sizes {
-        put_number(&mut fields, 4, Some(*size))?;
-    }
-    put_number(&mut fields, 5, unix.hash)?;
-    put_number(&mut fields, 6, unix.fanout)?;
-    Ok(Fields::new(fields))
-}
-
-/// Puts a field of a number behind the fields, where there is one.
-fn put_number(fields: &mut Vec<Field>, number: u32, value: Option<u64>) -> Result<(), AllocError>
-    ensures { OnOk result (fields.new.items ≡ fields.old.items ++ optional number value) }
-{
-    if let Some(value) = value {
-        fields.push(Field {
-            number,
-            value: Value::Number(value),
-        })?;
-    }
-    Ok(())
-}
-
-/// Puts the field of the inline bytes behind the fields, where there are any.
-fn put_inline(fields: &mut Vec<Field>, inline: &Option<Bytes>) -> Result<(), AllocError>
-    ensures { OnOk result (fields.new.items ≡ fields.old.items ++ placed inline.now) }
-{
-    if let Some(inline) = inline {
-        fields.push(Field {
-            number: 2,
-            value: Value::Place {
-                start: 0,
-                end: inline.as_slice().len(),
-            },
-        })?;
+        put_number(text, 4, *size)?;
     }
     Ok(())
 }

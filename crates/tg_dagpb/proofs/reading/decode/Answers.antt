@@ -1,17 +1,42 @@
-use Rattle.std.proofs.Common.{List, sym, subst}
-use Rattle.tg_pbtable.specs.declared.table.Field.{Field}
-use Rattle.tg_pbtable.specs.declared.table.Order.TheVariants.{Runs}
-use Rattle.tg_pbtable.specs.Message.{Message}
-use Rattle.tg_dagpb.specs.declared.TheConstants.{NODE}
-use Rattle.tg_dagpb.proofs.Causes.{node_only, node_given}
+use Rattle.std.proofs.Common.{◌≡◌, ℕ, Option, Result, Ok, Err, List, ap, ◌∙◌, sym, subst}
+use Rattle.std.proofs.lemmas.Result.{err_from_is_err_and}
+use Rattle.tg_pbtable.specs.declared.fault.PbFault.{PbFault}
+use Rattle.tg_dagpb.specs.declared.Link.{Link}
+use Rattle.tg_dagpb.specs.declared.Node.{Node}
+use Rattle.tg_dagpb.specs.Node.{NodeText}
+use Rattle.tg_dagpb.proofs.Cursors.{start_between}
 use Rattle.tg_dagpb.proofs.reading.decode.Goals as goal
 
+abbrev node_with : List Link → Option (List ℕ) → Node
+node_with links payload = record { links = links; payload = payload }
+
+err_same : {T : Type 0} (a b : PbFault) → ◌≡◌ {A = Result T PbFault} (Err a) (Err b) → a ≡ b
+err_same a b e = cc
+
+not_both : {T : Type 0} (x : T) (fault : PbFault) → ◌≡◌ {A = Result T PbFault} (Ok x) (Err fault) → ⊥
+not_both x fault e = absurd (cc)
+
+pub returns-in_err-payload-clause-only : goal.returns-in_err-payload-clause-only
+returns-in_err-payload-clause-only c = λ node text. absurd (c.in_err-payload.ensures.only node text)
+
+pub returns-in_err-payload-clause-given : goal.returns-in_err-payload-clause-given
+returns-in_err-payload-clause-given c = λ fault cause.
+    let p = err_from_is_err_and c.from_residual.result c.from_residual.ensures.1 in
+    rw (p.1, p.2) (ap (λ (x : PbFault). Err x) (err_same c.in_err-payload.field-0.0 fault (c.in_err-payload.ensures.given fault cause)))
+
+pub returns-clause-found : goal.returns-clause-found
+returns-clause-found c =
+    let text = c.args.bytes.now in
+    let h = c.in_ok-payload.ensures.found in
+    let same : c.in_ok-copied.field-0 ≡ h.node = c.in_ok-copied.ensures h.node.links (start_between text h.node h.is_text) ∙ ap (node_with h.node.links) h.payload_is in
+    subst (λ (node : Node). NodeText node text) (sym same) h.is_text
+
 pub returns-clause-only : goal.returns-clause-only
-returns-clause-only c =
-    let m = subst (λ (fs : List Field). Message NODE.now Runs c.args.bytes.now fs) (sym c.as_slice.ensures) c.in_ok-fields.ensures.found in
-    λ node text. node_only c.table_laws.ensures c.args.bytes.now c.as_slice.result.now c.node_of.result m c.node_of.ensures node text
+returns-clause-only c = λ node text.
+    c.in_ok-copied.ensures node.links (start_between c.args.bytes.now node text) ∙ ap (node_with node.links) (c.in_ok-payload.ensures.only node text)
+
+pub returns-in_err-copied-clause-given : goal.returns-in_err-copied-clause-given
+returns-in_err-copied-clause-given c = λ fault cause. absurd (not_both c.in_ok-payload.payload fault (c.in_ok-payload.ensures.given fault cause))
 
 pub returns-clause-given : goal.returns-clause-given
-returns-clause-given c =
-    let m = subst (λ (fs : List Field). Message NODE.now Runs c.args.bytes.now fs) (sym c.as_slice.ensures) c.in_ok-fields.ensures.found in
-    λ fault cause. node_given c.table_laws.ensures c.args.bytes.now c.as_slice.result.now c.node_of.result m c.node_of.ensures fault cause
+returns-clause-given c = λ fault cause. absurd (not_both c.in_ok-payload.payload fault (c.in_ok-payload.ensures.given fault cause))

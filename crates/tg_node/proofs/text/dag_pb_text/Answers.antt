@@ -1,4 +1,4 @@
-use Rattle.std.proofs.Common.{[], inl, inr}
+use Rattle.std.proofs.Common.{[]}
 use Rattle.std.proofs.lemmas.Result.{err_from_is_err_and}
 use Rattle.tg_cid.specs.declared.cid.Codec.TheVariants.{DagPb}
 use Rattle.tg_cid.specs.declared.cid.HashKind.TheVariants.{Sha256}
@@ -16,7 +16,7 @@ returns c =
     (record {
       text_is = c.in_ok-node.ensures.found;
       only = c.in_ok-node.ensures.only;
-      good = λ fault cause. elim (c.in_ok-node.ensures.given fault cause) [ inl e ↦ absurd (cc) | inr e ↦ absurd (cc) ];
+      good = λ fault cause. let e = c.in_ok-node.ensures.given fault cause in absurd (cc);
     })
     (λ a b p q. c.one_node_text.ensures (record { version = 1; codec = DagPb; hash = Sha256; digest = [] }) c.args.block.now a b p q)
     c.lines_of.ensures

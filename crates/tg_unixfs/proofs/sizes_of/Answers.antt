@@ -1,0 +1,23 @@
+use Rattle.std.proofs.Common.{◌<◌, ◌≤◌, ℕ, List, length, refl, sym, subst, arith}
+use Rattle.tg_unixfs.proofs.Placing.{AreFirst, one_more, all_taken}
+use Rattle.tg_unixfs.proofs.sizes_of.Goals as goal
+
+pub loop-size-init : goal.loop-size-init
+loop-size-init c = record { cursor = c.requires; passed = λ all start. rw c.new-sizes.ensures (all, refl, start) }
+
+pub loop-size-smaller : goal.loop-size-smaller
+loop-size-smaller c =
+    let forward = c.in-Some.ensures.forward in
+    let up : c.loop-size.at < c.in-Some.next = forward.0 in
+    let inside : c.in-Some.next ≤ length c.args.bytes.now = forward.1 in
+    omega arith
+
+pub loop-size-preserved : goal.loop-size-preserved
+loop-size-preserved c = record {
+  cursor = c.in-Some.ensures.cursor;
+  passed = subst (λ (sizes : List ℕ). AreFirst c.args.bytes.now c.in-Some.next sizes) (sym c.in_ok-push.ensures.ok)
+      (one_more c.args.bytes.now c.loop-size.at c.in-Some.next c.loop-size.sizes c.in-Some.size (c.in-Some.ensures.next c.loop-size.sizes) c.loop-size.invariant.passed);
+}
+
+pub returns : goal.returns
+returns c = all_taken c.args.bytes.now c.loop-size.at c.loop-size.sizes (c.in_default.ensures.next c.loop-size.sizes) c.loop-size.invariant.passed
