@@ -9,5 +9,8 @@ mod KindTests
 mod LinkCids
 mod BlockKinds
 mod InnerCauses
+mod Ahead
+mod CidsAhead
+mod PlacedAnswers
 mod NameLemmas
 mod BitLemmas

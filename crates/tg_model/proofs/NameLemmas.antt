@@ -1,6 +1,6 @@
 -- Good names, the first bad one, the first one that stands before, and the slots of links: one link more at a time.
 use Rattle.tg_model.specs.declared.fault.BlockFault.TheVariants as faults
-use Rattle.std.proofs.Common.{◌≡◌, ℕ, ◌+◌, ◌<◌, Bool, true, false, cond, List, [], ◌∷◌, ◌++◌, Some, Ok, Err, Result, Ordering, BTreeSet, Bor, length, map, drop, get_or, not, refl, ap, sym, ◌∙◌, zero, suc, arith}
+use Rattle.std.proofs.Common.{◌≡◌, ℕ, ◌+◌, ◌<◌, Bool, true, false, cond, List, [], ◌∷◌, ◌++◌, Some, Ok, Err, Result, Ordering, BTreeSet, Bor, length, length-append, map, drop, get_or, not, refl, ap, sym, ◌∙◌}
 use Rattle.std.specs.BTreeSet.{contains}
 use Rattle.std.specs.Cmp.Lexicographic.{slice_cmp}
 use Rattle.std.specs.List.{list_any, list_all}
@@ -12,7 +12,6 @@ use Rattle.std.proofs.lemmas.List.{append_assoc, drop_more}
 use Rattle.std.proofs.lemmas.Map.Text.{is_eq-slice_cmp}
 use Rattle.tg_cid.specs.Cid.{CidParts}
 use Rattle.tg_dagpb.specs.declared.Link.{Link}
-use Rattle.tg_model.proofs.IndexedLists.{drop_at}
 use Rattle.tg_model.proofs.NameTests.{bytes_eq_comm}
 use Rattle.tg_model.specs.Computed.{◌>>=◌, doubled_from, first_from, has_digits, is_good_name, slot_at, slots_from, unless}
 use Rattle.tg_model.specs.Reading.{name_of}
@@ -27,22 +26,16 @@ pub good_from_bytes : (name : List ℕ) → length name == 0 ≡ false → bytes
 good_from_bytes [] full one two = absurd cc
 good_from_bytes (b ∷ name) full one two = simp (one, two, and-true)
 
--- the first index at which values made of elements pass is that at which the elements do
-pub first_from-map : {X Y : Type 0} (test : Y → Bool) (make : X → Y) (at : ℕ) (xs : List X)
-    → first_from test at (map make xs) ≡ first_from (λ x. test (make x)) at xs
-first_from-map test make at [] = refl
-first_from-map test make at (x ∷ xs) = ap (λ o. if test (make x) then Some at else o) (first_from-map test make (at + 1) xs)
-
 -- ---- names that stand before
 
 -- the order of references to bytes
 abbrev pub by_bytes : Bor (List ℕ) → Bor (List ℕ) → Ordering
 by_bytes x y = slice_cmp nat_cmp x.now y.now
 
--- the names before `at` are seen, and the search for the first doubled one goes on there
-pub record Seen (links : List Link) (at : ℕ) (seen : BTreeSet (Bor (List ℕ))) : Type 0 where
+-- names are seen, and the search for the first doubled one goes on in the links that are left
+pub record Seen (links rest : List Link) (at : ℕ) (seen : BTreeSet (Bor (List ℕ))) : Type 0 where
   pub before : List (List ℕ)
-  pub goes_on : doubled_from 0 [] (map name_of links) ≡ doubled_from at before (map name_of (drop at links))
+  pub goes_on : doubled_from 0 [] (map name_of links) ≡ doubled_from at before (map name_of rest)
   pub has : (q : Bor (List ℕ)) → contains by_bytes seen q ≡ list_any (bytes_eq q.now) before
 
 -- the first of two tests, or else the second
@@ -51,32 +44,31 @@ cond_is_or true c = refl
 cond_is_or false c = refl
 
 -- the search at a link with this name
-doubled_at : (links : List Link) (at : ℕ) (before : List (List ℕ)) (link : Link) (name : List ℕ) → at < length links
-    → link ≡ get_or links at link → name ≡ name_of link
-    → doubled_from at before (map name_of (drop at links))
-    ≡ (if list_any (bytes_eq name) before then Some at else doubled_from (at + 1) (name ∷ before) (map name_of (drop (at + 1) links)))
-doubled_at links at before link name within is_link is_name =
-    ap (λ (ls : List Link). doubled_from at before (map name_of ls)) (drop_at links at link is_link within)
-    ∙ ap (λ (n : List ℕ). doubled_from at before (n ∷ map name_of (drop (at + 1) links))) (sym is_name)
+doubled_at : (at : ℕ) (before : List (List ℕ)) (rest more : List Link) (link : Link) (name : List ℕ) → rest ≡ link ∷ more → name ≡ name_of link
+    → doubled_from at before (map name_of rest)
+    ≡ (if list_any (bytes_eq name) before then Some at else doubled_from (at + 1) (name ∷ before) (map name_of more))
+doubled_at at before rest more link name is_link is_name =
+    ap (λ (ls : List Link). doubled_from at before (map name_of ls)) is_link
+    ∙ ap (λ (n : List ℕ). doubled_from at before (n ∷ map name_of more)) (sym is_name)
 
--- the name of the link stands before
-pub seen_here : (links : List Link) (at : ℕ) (seen : BTreeSet (Bor (List ℕ))) (link : Link) (name : Bor (List ℕ)) → Seen links at seen
-    → at < length links → link ≡ get_or links at link → name.now ≡ name_of link → contains by_bytes seen name ≡ true
+-- the name of the next link stands before
+pub seen_here : (links rest more : List Link) (at : ℕ) (seen : BTreeSet (Bor (List ℕ))) (link : Link) (name : Bor (List ℕ)) → Seen links rest at seen
+    → rest ≡ link ∷ more → name.now ≡ name_of link → contains by_bytes seen name ≡ true
     → doubled_from 0 [] (map name_of links) ≡ Some at
-seen_here links at seen link name s within is_link is_name found =
-    s.goes_on ∙ doubled_at links at s.before link name.now within is_link is_name
-    ∙ cond-true (list_any (bytes_eq name.now) s.before) (Some at) (doubled_from (at + 1) (name.now ∷ s.before) (map name_of (drop (at + 1) links)))
+seen_here links rest more at seen link name s is_link is_name found =
+    s.goes_on ∙ doubled_at at s.before rest more link name.now is_link is_name
+    ∙ cond-true (list_any (bytes_eq name.now) s.before) (Some at) (doubled_from (at + 1) (name.now ∷ s.before) (map name_of more))
     (sym (s.has name) ∙ found)
 
 -- or it is seen from there on
-pub seen_more : (links : List Link) (at : ℕ) (seen more : BTreeSet (Bor (List ℕ))) (link : Link) (name : Bor (List ℕ)) → Seen links at seen
-    → at < length links → link ≡ get_or links at link → name.now ≡ name_of link → contains by_bytes seen name ≡ false
-    → ((q : Bor (List ℕ)) → contains by_bytes more q ≡ cond (is_eq (by_bytes name q)) true (contains by_bytes seen q))
-    → Seen links (at + 1) more
-seen_more links at seen more link name s within is_link is_name missing adds = record {
+pub seen_more : (links rest more : List Link) (at : ℕ) (seen now : BTreeSet (Bor (List ℕ))) (link : Link) (name : Bor (List ℕ)) → Seen links rest at seen
+    → rest ≡ link ∷ more → name.now ≡ name_of link → contains by_bytes seen name ≡ false
+    → ((q : Bor (List ℕ)) → contains by_bytes now q ≡ cond (is_eq (by_bytes name q)) true (contains by_bytes seen q))
+    → Seen links more (at + 1) now
+seen_more links rest more at seen now link name s is_link is_name missing adds = record {
   before = name.now ∷ s.before;
-  goes_on = s.goes_on ∙ doubled_at links at s.before link name.now within is_link is_name
-      ∙ cond-false (list_any (bytes_eq name.now) s.before) (Some at) (doubled_from (at + 1) (name.now ∷ s.before) (map name_of (drop (at + 1) links)))
+  goes_on = s.goes_on ∙ doubled_at at s.before rest more link name.now is_link is_name
+      ∙ cond-false (list_any (bytes_eq name.now) s.before) (Some at) (doubled_from (at + 1) (name.now ∷ s.before) (map name_of more))
       (sym (s.has name) ∙ missing);
   has = λ q.
       adds q ∙ ap (λ b. cond b true (contains by_bytes seen q)) (is_eq-slice_cmp name.now q.now ∙ bytes_eq_comm name.now q.now)
@@ -85,26 +77,9 @@ seen_more links at seen more link name s within is_link is_name missing adds = r
 
 -- ---- slots
 
--- the slots of the links from `at` on, behind those of the links before
-abbrev pub slots_behind : List Slot → ℕ → List ℕ → List Link → List CidParts → Result (List Slot) BlockFault
-slots_behind front at numbers links cids = slots_from at (drop at numbers) (drop at links) (drop at cids) >>= λ slots. Ok (front ++ slots)
-
--- the slots from a link on
-slots_at : (at : ℕ) (numbers : List ℕ) (links : List Link) (cids : List CidParts) (link : Link) (cid : CidParts)
-    → at < length numbers → at < length links → at < length cids → link ≡ get_or links at link → cid ≡ get_or cids at cid
-    → slots_from at (drop at numbers) (drop at links) (drop at cids)
-    ≡ unless (not (has_digits (get_or numbers at 0) link)) (faults.BadSlot at) (
-    slots_from (at + 1) (drop (at + 1) numbers) (drop (at + 1) links) (drop (at + 1) cids) >>= λ slots. Ok (slot_at (get_or numbers at 0) link cid ∷ slots))
-slots_at at numbers links cids link cid n l c is_link is_cid =
-    ap (λ ns. slots_from at ns (drop at links) (drop at cids)) (drop_more numbers at 0 n)
-    ∙ ap (λ ls. slots_from at (get_or numbers at 0 ∷ drop (at + 1) numbers) ls (drop at cids)) (drop_at links at link is_link l)
-    ∙ ap (λ cs. slots_from at (get_or numbers at 0 ∷ drop (at + 1) numbers) (link ∷ drop (at + 1) links) cs) (drop_at cids at cid is_cid c)
-
--- a place below the length has an element
-element_at : {X : Type 0} (xs : List X) (at : ℕ) → at < length xs → (x : X) × (x ≡ get_or xs at x)
-element_at [] at within = absurd (omega arith)
-element_at (x ∷ xs) zero within = (x, refl)
-element_at (x ∷ xs) (suc at) within = element_at xs at (omega arith)
+-- the slots of the links that are left, behind those of the links before
+abbrev pub slots_behind : List Slot → List ℕ → List Link → List CidParts → Result (List Slot) BlockFault
+slots_behind front numbers links cids = slots_from (length front) (drop (length front) numbers) links cids >>= λ slots. Ok (front ++ slots)
 
 -- one slot after another joins those before
 slot_joins : (front : List Slot) (slot : Slot) (rest : Result (List Slot) BlockFault)
@@ -112,25 +87,47 @@ slot_joins : (front : List Slot) (slot : Slot) (rest : Result (List Slot) BlockF
 slot_joins front slot (Ok slots) = ap (λ l. Ok l) (sym (append_assoc front (slot ∷ []) slots))
 slot_joins front slot (Err fault) = refl
 
+-- the slots at the next link
+slots_at : (front : List Slot) (numbers : List ℕ) (links more_links : List Link) (cids more_cids : List CidParts) (link : Link) (cid : CidParts)
+    → length front < length numbers → links ≡ link ∷ more_links → cids ≡ cid ∷ more_cids
+    → slots_from (length front) (drop (length front) numbers) links cids
+    ≡ unless (not (has_digits (get_or numbers (length front) 0) link)) (faults.BadSlot (length front)) (
+    slots_from (length front + 1) (drop (length front + 1) numbers) more_links more_cids >>= λ slots. Ok (slot_at (get_or numbers (length front) 0) link cid ∷ slots))
+slots_at front numbers links more_links cids more_cids link cid n is_link is_cid =
+    ap (λ ns. slots_from (length front) ns links cids) (drop_more numbers (length front) 0 n)
+    ∙ ap (λ ls. slots_from (length front) (get_or numbers (length front) 0 ∷ drop (length front + 1) numbers) ls cids) is_link
+    ∙ ap (λ cs. slots_from (length front) (get_or numbers (length front) 0 ∷ drop (length front + 1) numbers) (link ∷ more_links) cs) is_cid
+
 -- a link that begins with the digits of its slot is the next slot
-pub slots_more : (front : List Slot) (at : ℕ) (numbers : List ℕ) (links : List Link) (cids : List CidParts) (link : Link) (cid : CidParts)
-    → at < length numbers → at < length links → at < length cids → link ≡ get_or links at link → cid ≡ get_or cids at cid
-    → has_digits (get_or numbers at 0) link ≡ true
-    → slots_behind front at numbers links cids ≡ slots_behind (front ++ slot_at (get_or numbers at 0) link cid ∷ []) (at + 1) numbers links cids
-slots_more front at numbers links cids link cid n l c is_link is_cid digits =
-    let rest = slots_from (at + 1) (drop (at + 1) numbers) (drop (at + 1) links) (drop (at + 1) cids) in
-    let slot = slot_at (get_or numbers at 0) link cid in
-    let whole = slots_at at numbers links cids link cid n l c is_link is_cid in
-    ap (λ r. r >>= λ slots. Ok (front ++ slots)) (whole ∙ ap (λ b. unless (not b) (faults.BadSlot at) (rest >>= λ slots. Ok (slot ∷ slots))) digits)
+pub slots_more : (front : List Slot) (numbers : List ℕ) (links more_links : List Link) (cids more_cids : List CidParts) (link : Link) (cid : CidParts)
+    → length front < length numbers → links ≡ link ∷ more_links → cids ≡ cid ∷ more_cids
+    → has_digits (get_or numbers (length front) 0) link ≡ true
+    → slots_behind front numbers links cids ≡ slots_behind (front ++ slot_at (get_or numbers (length front) 0) link cid ∷ []) numbers more_links more_cids
+slots_more front numbers links more_links cids more_cids link cid n is_link is_cid digits =
+    let rest = slots_from (length front + 1) (drop (length front + 1) numbers) more_links more_cids in
+    let slot = slot_at (get_or numbers (length front) 0) link cid in
+    let whole = slots_at front numbers links more_links cids more_cids link cid n is_link is_cid in
+    let longer : length front + 1 ≡ length (front ++ slot ∷ []) = sym (length-append front (slot ∷ [])) in
+    ap (λ r. r >>= λ slots. Ok (front ++ slots)) (whole ∙ ap (λ b. unless (not b) (faults.BadSlot (length front)) (rest >>= λ slots. Ok (slot ∷ slots))) digits)
     ∙ slot_joins front slot rest
+    ∙ ap (λ (n : ℕ). slots_from n (drop n numbers) more_links more_cids >>= λ slots. Ok ((front ++ slot ∷ []) ++ slots)) longer
 
 -- a link that doesn't is the fault
-pub slots_bad : (front : List Slot) (at : ℕ) (numbers : List ℕ) (links : List Link) (cids : List CidParts) (link : Link)
-    → at < length numbers → at < length links → at < length cids → link ≡ get_or links at link
-    → has_digits (get_or numbers at 0) link ≡ false → slots_behind front at numbers links cids ≡ Err (faults.BadSlot at)
-slots_bad front at numbers links cids link n l c is_link digits =
-    let rest = slots_from (at + 1) (drop (at + 1) numbers) (drop (at + 1) links) (drop (at + 1) cids) in
-    let cid = element_at cids at c in
-    let slot = slot_at (get_or numbers at 0) link cid.0 in
-    let whole = slots_at at numbers links cids link cid.0 n l c is_link cid.1 in
-    ap (λ r. r >>= λ slots. Ok (front ++ slots)) (whole ∙ ap (λ b. unless (not b) (faults.BadSlot at) (rest >>= λ slots. Ok (slot ∷ slots))) digits)
+pub slots_bad : (front : List Slot) (numbers : List ℕ) (links more_links : List Link) (cids more_cids : List CidParts) (link : Link) (cid : CidParts)
+    → length front < length numbers → links ≡ link ∷ more_links → cids ≡ cid ∷ more_cids
+    → has_digits (get_or numbers (length front) 0) link ≡ false → slots_behind front numbers links cids ≡ Err (faults.BadSlot (length front))
+slots_bad front numbers links more_links cids more_cids link cid n is_link is_cid digits =
+    let rest = slots_from (length front + 1) (drop (length front + 1) numbers) more_links more_cids in
+    let slot = slot_at (get_or numbers (length front) 0) link cid in
+    let whole = slots_at front numbers links more_links cids more_cids link cid n is_link is_cid in
+    ap (λ r. r >>= λ slots. Ok (front ++ slots)) (whole ∙ ap (λ b. unless (not b) (faults.BadSlot (length front)) (rest >>= λ slots. Ok (slot ∷ slots))) digits)
+
+-- ---- the first index at which a test holds
+
+-- where it holds of the next value, that is the index
+pub first_here : {A : Type 0} (test : A → Bool) (at : ℕ) (x : A) (xs : List A) → test x ≡ true → first_from test at (x ∷ xs) ≡ Some at
+first_here test at x xs e = cond-true (test x) (Some at) (first_from test (at + 1) xs) e
+
+-- where it doesn't, the search goes on
+pub first_past : {A : Type 0} (test : A → Bool) (at : ℕ) (x : A) (xs : List A) → test x ≡ false → first_from test at (x ∷ xs) ≡ first_from test (at + 1) xs
+first_past test at x xs e = cond-false (test x) (Some at) (first_from test (at + 1) xs) e

@@ -12,6 +12,8 @@ pub mod InnerFaults
 pub mod LimitNumbers
 pub mod Lookup
 pub mod PathWalk
+pub mod Placed
+pub mod PlacedSteps
 pub mod Queries
 pub mod Reading
 pub mod ShowsTree

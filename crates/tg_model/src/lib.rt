@@ -3,9 +3,12 @@
 #![tactic(auto)]
 
 mod fault;
+mod folders;
 mod kinds;
 mod laws;
 mod limits;
+mod links;
+mod placed;
 mod queries;
 mod reading;
 mod shards;
@@ -17,6 +20,8 @@ pub use fault::BlockFault;
 pub use kinds::{Entry, Kind, Made, NewEntry, Part, Slot, Step};
 pub use laws::readings;
 pub use limits::{LimitKind, Limits};
+pub use links::part_at;
+pub use placed::{FilePlaces, PartCursor, PlacedKind, reads_in_place};
 pub use queries::{Form, Path, Query, Scope, Span, SpanFrom, well_formed};
 pub use reading::reads;
 pub use shards::check_shard;
