@@ -35,6 +35,9 @@ const H_LINE: &[u8] = b"bafkreifzjut3te2nhyekklss27nh3k72ysco7y32koao5eei66wof36
 const H_HEX_LINE: &[u8] =
     b"01551220b94d27b9934d3e08a52e52d7da7dabfac484efe37a5380ee9088f7ace2efcde9\n";
 
+const H_HEX_BYTES: &[u8] =
+    b"01551220b94d27b9934d3e08a52e52d7da7dabfac484efe37a5380ee9088f7ace2efcde9";
+
 const E_LINE: &[u8] = b"bafybeiczsscdsbs7ffqz55asqdf3smv6klcw3gofszvwlyarci47bgf354\n";
 
 const E_HEX_LINE: &[u8] =
@@ -45,19 +48,15 @@ const SPEC_LINE: &[u8] = b"bafybeigdyrzt5sfp7udm7hu76uh7y26nf3efuylqabf3oclgtqy5
 const SPEC_HEX_LINE: &[u8] =
     b"01701220c3c4733ec8affd06cf9e9ff50ffc6bcd2ec85a6170004bb709669c31de94391a\n";
 
-/// The calls of the streams that fail, by their numbers.
-#[derive(Clone, Copy, Debug)]
-struct Failing {
-    input: &'static [u64],
-    out: &'static [u64],
-    err: &'static [u64],
-}
+/// The numbers of the calls that fail, of the input, of out and of err.
+type Failing = [&'static [u64]; 3];
 
-const NONE: Failing = Failing {
-    input: &[],
-    out: &[],
-    err: &[],
-};
+const NONE: Failing = [&[], &[], &[]];
+
+/// A list of call numbers.
+fn numbers(alloc: Global, calls: &[u64]) -> Result<List<u64>, AllocError> {
+    Ok(List::from(Vec::from_slice(alloc, calls)?))
+}
 
 /// What a run left.
 #[derive(Debug, Drop)]
@@ -65,6 +64,13 @@ struct Outcome {
     status: u8,
     out: Vec<u8>,
     err: Vec<u8>,
+}
+
+impl Outcome {
+    /// Whether the run left just these.
+    fn is(&self, status: u8, out: &[u8], err: &str) -> bool {
+        self.status == status && self.out.as_slice() == out && self.err.as_slice() == err.as_bytes()
+    }
 }
 
 /// Runs the words over an input in memory, by pieces of this size.
@@ -81,10 +87,11 @@ fn run_over(
     for word in words {
         list.push(String::from_str(alloc, word)?)?;
     }
-    let calls = |fails: &[u64]| Ok::<List<u64>, Fail>(List::from(Vec::from_slice(alloc, fails)?));
-    let mut input = MemSource::new(Bytes::of(alloc, input)?, piece, calls(failing.input)?);
-    let mut out = MemSink::new(alloc, piece, calls(failing.out)?);
-    let mut err = MemSink::new(alloc, piece, calls(failing.err)?);
+    let [input_fails, out_fails, err_fails] = failing;
+    let bytes = Bytes::of(alloc, input)?;
+    let mut input = MemSource::new(bytes, piece, numbers(alloc, input_fails)?);
+    let mut out = MemSink::new(alloc, piece, numbers(alloc, out_fails)?);
+    let mut err = MemSink::new(alloc, piece, numbers(alloc, err_fails)?);
     let status = run(alloc, list.as_slice(), &mut input, &mut out, &mut err);
     Ok(Outcome {
         status,
@@ -107,56 +114,59 @@ const F_BLOCK: &[u8] =
     \x21\xcf\xdd\xc1\xc9\xa9\xc4\x52\xc2\x0c\x5d\x33\x12\x00\x18\x03\
     \x0a\x0a\x08\x02\x18\x0b\x20\x04\x20\x04\x20\x03";
 
-const F_TEXT: &str = "links 3\n\
+const F_TEXT: &[u8] = b"links 3\n\
     link bafkreiaoxxbtc63vqopwim4h26bvgww4gygkahzty5pxyhttoow42z24bm 4 =\n\
     link bafkreiek7dtgfi5skhxqfuxnqv2fkniinl3xvinmmospl6aa6ua4rzoqsm 4 =\n\
     link bafkreiefy5w4vyrjturdlr4t7y2clpmig5xvyrzbz7o4dsnjyrjmedc5gm 3 =\n\
     payload 10\nunix 2 filesize 11 inline - sizes 3 hash - fanout -\nsize 4\nsize 4\nsize 3\n";
 
+const BAD_DIGEST: &str =
+    "tgate: BadDigest bafkreifzjut3te2nhyekklss27nh3k72ysco7y32koao5eei66wof36n5e\n";
+
+/// Words, the input, the status, and what stands on out and on err.
+type Row<'a> = (&'a [&'a str], &'a [u8], u8, &'a [u8], &'a str);
+
+const ANSWERS: &[Row<'static>] = &[
+    (&["check", Z], b"", 0, b"", ""),
+    (&["check", H], b"hello world", 0, b"hello world", ""),
+    (&["check", H], b"hello World", 3, b"", BAD_DIGEST),
+    (&["check", H], b"", 3, b"", BAD_DIGEST),
+    (
+        &["check", E],
+        b"\x0a\x02\x08\x01",
+        0,
+        b"\x0a\x02\x08\x01",
+        "",
+    ),
+    (&["node", H], b"hello world", 0, b"raw 11\n", ""),
+    (&["node", F], F_BLOCK, 0, F_TEXT, ""),
+    (&["node", H], b"hello World", 3, b"", BAD_DIGEST),
+    (
+        &["node", N],
+        b"\x12\x00",
+        3,
+        b"",
+        "tgate: BadBlock bafybeiai3j6elszain36pzbcjhg2k4j7vbsrc3o3wtfvugkjwls3iofgvm BadNode\n",
+    ),
+    (&["cid", SPEC], b"", 0, SPEC_HEX_LINE, ""),
+    (&["cid", "--hex", SPEC_V0_HEX], b"", 0, SPEC_LINE, ""),
+    (&["cid", H], b"", 0, H_HEX_LINE, ""),
+    (&["cid", E], b"", 0, E_HEX_LINE, ""),
+    (&["cid", "--", H], b"", 0, H_HEX_LINE, ""),
+    (&["cid", "--hex", H_HEX], b"", 0, H_LINE, ""),
+    (&["cid", "--hex", H_HEX_UPPER], b"", 0, H_LINE, ""),
+    (&["cid", E_HEX_OPTION], b"", 0, E_LINE, ""),
+    (&["cid", "--hex", E_V0_HEX], b"", 0, E_LINE, ""),
+];
+
 #[test]
 fn commands_answer(rt: HostRuntime) -> Result<(), Fail> {
-    let bad = "tgate: BadDigest bafkreifzjut3te2nhyekklss27nh3k72ysco7y32koao5eei66wof36n5e\n";
-    let rows: [(&[&str], &[u8], u8, &[u8], &str); 18] = [
-        (&["check", Z], b"", 0, b"", ""),
-        (&["check", H], b"hello world", 0, b"hello world", ""),
-        (&["check", H], b"hello World", 3, b"", bad),
-        (&["check", H], b"", 3, b"", bad),
-        (
-            &["check", E],
-            b"\x0a\x02\x08\x01",
-            0,
-            b"\x0a\x02\x08\x01",
-            "",
-        ),
-        (&["node", H], b"hello world", 0, b"raw 11\n", ""),
-        (&["node", F], F_BLOCK, 0, F_TEXT.as_bytes(), ""),
-        (&["node", H], b"hello World", 3, b"", bad),
-        (
-            &["node", N],
-            b"\x12\x00",
-            3,
-            b"",
-            "tgate: BadBlock bafybeiai3j6elszain36pzbcjhg2k4j7vbsrc3o3wtfvugkjwls3iofgvm BadNode\n",
-        ),
-        (&["cid", SPEC], b"", 0, SPEC_HEX_LINE, ""),
-        (&["cid", "--hex", SPEC_V0_HEX], b"", 0, SPEC_LINE, ""),
-        (&["cid", H], b"", 0, H_HEX_LINE, ""),
-        (&["cid", E], b"", 0, E_HEX_LINE, ""),
-        (&["cid", "--", H], b"", 0, H_HEX_LINE, ""),
-        (&["cid", "--hex", H_HEX], b"", 0, H_LINE, ""),
-        (&["cid", "--hex", H_HEX_UPPER], b"", 0, H_LINE, ""),
-        (&["cid", E_HEX_OPTION], b"", 0, E_LINE, ""),
-        (&["cid", "--hex", E_V0_HEX], b"", 0, E_LINE, ""),
-    ];
-    for (words, input, status, out, err) in rows {
+    for (words, input, status, out, err) in ANSWERS {
         for piece in [1, 7, 65_536] {
             let run = run_over(&rt, words, input, piece, NONE)?;
-            assert_eq!(rt; run.status, status, "{words:?} in pieces of {piece}");
-            assert_eq!(rt; run.out.as_slice(), out, "{words:?} in pieces of {piece}");
-            assert_eq!(rt;
-                run.err.as_slice(),
-                err.as_bytes(),
-                "{words:?} in pieces of {piece}"
+            assert!(rt;
+                run.is(*status, out, err),
+                "{words:?} in pieces of {piece}: {run:?}"
             );
         }
     }
@@ -176,121 +186,141 @@ fn blocks_are_limited(rt: HostRuntime) -> Result<(), Fail> {
     let largest = zeros(rt.alloc(), 2_097_152)?;
     for command in ["check", "node"] {
         let over = run_over(&rt, &[command, H], one_more.as_slice(), 65_536, NONE)?;
-        assert_eq!(rt; over.status, 7, "{command}");
-        assert_eq!(rt; over.out.len(), 0, "{command}");
-        assert_eq!(rt;
-            over.err.as_slice(),
-            b"tgate: Limit Block 2097152\n".as_slice(),
-            "{command}"
+        assert!(rt;
+            over.is(7, b"", "tgate: Limit Block 2097152\n"),
+            "{command}: {over:?}"
         );
         let exact = run_over(&rt, &[command, H], largest.as_slice(), 65_536, NONE)?;
-        assert_eq!(rt; exact.status, 3, "{command}");
-        assert_eq!(rt; exact.out.len(), 0, "{command}");
+        assert!(rt;
+            exact.status == 3 && exact.out.is_empty(),
+            "{command}: {exact:?}"
+        );
     }
     Ok(())
 }
+
+const H_UPPER: &str = "BAFKREIFZJUT3TE2NHYEKKLSS27NH3K72YSCO7Y32KOAO5EEI66WOF36N5E";
+
+const H_TAIL: &str = "bafkreifzjut3te2nhyekklss27nh3k72ysco7y32koao5eei66wof36n5f";
+
+const H_V0: &str = "QmUNLLsPACCz1vLxQVkXqqLX5R1X345qqfHbsf67hvA3Nn";
+
+const OTHER_WORDS: &[&[&str]] = &[
+    &[],
+    &["check"],
+    &["check", H_UPPER],
+    &["check", H_V0],
+    &["check", H_TAIL],
+    &["check", H, H],
+    &["check", "--x", H],
+    &["--", "check", H],
+    &["cid", "--hex", "0155"],
+    &["cid", "--hex", "0"],
+    &[
+        "cid",
+        "--hex",
+        "01551220b94d27b9934d3e08a52e52d7da7dabfac484efe37a5380ee9088f7ace2efcde900",
+    ],
+    &["cid", H, "--hex", "00"],
+    &["cid", "bafkqaaa"],
+    &["--help"],
+    &["node", H, H],
+    &["node", "--hex", H_HEX],
+    &["nodes", H],
+    &["serve", "pack", "--port", "0", "--count", "1"],
+];
 
 #[test]
 fn other_words_are_refused(rt: HostRuntime) -> Result<(), Fail> {
-    let upper = "BAFKREIFZJUT3TE2NHYEKKLSS27NH3K72YSCO7Y32KOAO5EEI66WOF36N5E";
-    let tail = "bafkreifzjut3te2nhyekklss27nh3k72ysco7y32koao5eei66wof36n5f";
-    let v0 = "QmUNLLsPACCz1vLxQVkXqqLX5R1X345qqfHbsf67hvA3Nn";
-    let rows: [&[&str]; 18] = [
-        &[],
-        &["check"],
-        &["check", upper],
-        &["check", v0],
-        &["check", tail],
-        &["check", H, H],
-        &["check", "--x", H],
-        &["--", "check", H],
-        &["cid", "--hex", "0155"],
-        &["cid", "--hex", "0"],
-        &[
-            "cid",
-            "--hex",
-            "01551220b94d27b9934d3e08a52e52d7da7dabfac484efe37a5380ee9088f7ace2efcde900",
-        ],
-        &["cid", H, "--hex", "00"],
-        &["cid", "bafkqaaa"],
-        &["--help"],
-        &["node", H, H],
-        &["node", "--hex", H_HEX],
-        &["nodes", H],
-        &["serve", "pack", "--port", "0", "--count", "1"],
-    ];
-    for words in rows {
+    for words in OTHER_WORDS {
         let run = run_over(&rt, words, b"hello world", 7, NONE)?;
-        assert_eq!(rt; run.status, 2, "{words:?}");
-        assert_eq!(rt; run.out.len(), 0, "{words:?}");
-        assert_eq!(rt;
-            run.err.as_slice(),
-            b"tgate: usage\n".as_slice(),
-            "{words:?}"
-        );
+        assert!(rt; run.is(2, b"", "tgate: usage\n"), "{words:?}: {run:?}");
     }
     Ok(())
 }
 
-/// The `fails`-th call of the input alone fails, or that of out.
-const fn input(fails: &'static [u64]) -> Failing {
-    Failing {
-        input: fails,
-        ..NONE
-    }
-}
+const HELLO: &[u8] = b"hello world";
 
-const fn out(fails: &'static [u64]) -> Failing {
-    Failing { out: fails, ..NONE }
-}
+const INPUT_FAULT: &str = "tgate: InputFault\n";
+
+const SINK_FAULT: &str = "tgate: SinkFault\n";
+
+/// Words, the input, the calls that fail, the status, and what stands on out and on err.
+type FaultRow<'a> = (&'a [&'a str], &'a [u8], Failing, u8, &'a [u8], &'a str);
+
+const FAULTS: &[FaultRow<'static>] = &[
+    // The input fails at its first call, at a later one, and behind the last that is needed.
+    (&["check", H], HELLO, [&[0], &[], &[]], 6, b"", INPUT_FAULT),
+    (&["check", H], HELLO, [&[1], &[], &[]], 6, b"", INPUT_FAULT),
+    (&["check", H], HELLO, [&[3], &[], &[]], 6, b"", INPUT_FAULT),
+    (&["check", H], HELLO, [&[4], &[], &[]], 0, HELLO, ""),
+    (&["node", H], HELLO, [&[0], &[], &[]], 6, b"", INPUT_FAULT),
+    (&["node", H], HELLO, [&[3], &[], &[]], 6, b"", INPUT_FAULT),
+    (&["node", H], HELLO, [&[4], &[], &[]], 0, b"raw 11\n", ""),
+    // Out likewise.
+    (&["check", H], HELLO, [&[], &[0], &[]], 6, b"", SINK_FAULT),
+    (
+        &["check", H],
+        HELLO,
+        [&[], &[2], &[]],
+        6,
+        b"hello wo",
+        SINK_FAULT,
+    ),
+    (&["check", H], HELLO, [&[], &[3], &[]], 0, HELLO, ""),
+    (
+        &["node", H],
+        HELLO,
+        [&[], &[1], &[]],
+        6,
+        b"raw ",
+        SINK_FAULT,
+    ),
+    (&["node", H], HELLO, [&[], &[2], &[]], 0, b"raw 11\n", ""),
+    (&["cid", H], b"", [&[], &[0], &[]], 6, b"", SINK_FAULT),
+    (&["cid", H], b"", [&[], &[19], &[]], 0, H_HEX_LINE, ""),
+    (
+        &["cid", H],
+        b"",
+        [&[], &[18], &[]],
+        6,
+        H_HEX_BYTES,
+        SINK_FAULT,
+    ),
+    (
+        &["cid", "--hex", H_HEX],
+        b"",
+        [&[], &[16], &[]],
+        0,
+        H_LINE,
+        "",
+    ),
+    // Streams that a command doesn't touch.
+    (&["cid", H], b"", [&[0], &[], &[]], 0, H_HEX_LINE, ""),
+    (
+        &["check"],
+        HELLO,
+        [&[0], &[], &[]],
+        2,
+        b"",
+        "tgate: usage\n",
+    ),
+    (
+        &["check"],
+        HELLO,
+        [&[], &[0], &[]],
+        2,
+        b"",
+        "tgate: usage\n",
+    ),
+    (&["check", H], b"hello World", [&[], &[], &[0]], 3, b"", ""),
+];
 
 #[test]
 fn faults_of_the_streams_are_told(rt: HostRuntime) -> Result<(), Fail> {
-    let hello: &[u8] = b"hello world";
-    let err: Failing = Failing { err: &[0], ..NONE };
-    let input_fault = "tgate: InputFault\n";
-    let sink_fault = "tgate: SinkFault\n";
-    let rows: [(&[&str], &[u8], Failing, u8, &[u8], &str); 20] = [
-        // The input fails at its first call, at a later one, and behind the last that is needed.
-        (&["check", H], hello, input(&[0]), 6, b"", input_fault),
-        (&["check", H], hello, input(&[1]), 6, b"", input_fault),
-        (&["check", H], hello, input(&[3]), 6, b"", input_fault),
-        (&["check", H], hello, input(&[4]), 0, hello, ""),
-        (&["node", H], hello, input(&[0]), 6, b"", input_fault),
-        (&["node", H], hello, input(&[3]), 6, b"", input_fault),
-        (&["node", H], hello, input(&[4]), 0, b"raw 11\n", ""),
-        // Out likewise.
-        (&["check", H], hello, out(&[0]), 6, b"", sink_fault),
-        (&["check", H], hello, out(&[2]), 6, b"hello wo", sink_fault),
-        (&["check", H], hello, out(&[3]), 0, hello, ""),
-        (&["node", H], hello, out(&[1]), 6, b"raw ", sink_fault),
-        (&["node", H], hello, out(&[2]), 0, b"raw 11\n", ""),
-        (&["cid", H], b"", out(&[0]), 6, b"", sink_fault),
-        (&["cid", H], b"", out(&[19]), 0, H_HEX_LINE, ""),
-        (
-            &["cid", H],
-            b"",
-            out(&[18]),
-            6,
-            H_HEX.as_bytes(),
-            sink_fault,
-        ),
-        (&["cid", "--hex", H_HEX], b"", out(&[16]), 0, H_LINE, ""),
-        // Streams that a command doesn't touch.
-        (&["cid", H], b"", input(&[0]), 0, H_HEX_LINE, ""),
-        (&["check"], hello, input(&[0]), 2, b"", "tgate: usage\n"),
-        (&["check"], hello, out(&[0]), 2, b"", "tgate: usage\n"),
-        (&["check", H], b"hello World", err, 3, b"", ""),
-    ];
-    for (words, bytes, failing, status, wrote, said) in rows {
-        let run = run_over(&rt, words, bytes, 4, failing)?;
-        assert_eq!(rt; run.status, status, "{words:?} {failing:?}");
-        assert_eq!(rt; run.out.as_slice(), wrote, "{words:?} {failing:?}");
-        assert_eq!(rt;
-            run.err.as_slice(),
-            said.as_bytes(),
-            "{words:?} {failing:?}"
-        );
+    for (words, input, failing, status, out, err) in FAULTS {
+        let run = run_over(&rt, words, input, 4, *failing)?;
+        assert!(rt; run.is(*status, out, err), "{words:?} {failing:?}: {run:?}");
     }
     Ok(())
 }

@@ -1,5 +1,4 @@
 mod HelloChecks
-mod KeptBlocks
 mod HelloTexts
 mod HelloLayout
 mod BlockLogs

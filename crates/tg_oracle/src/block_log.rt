@@ -15,8 +15,10 @@ use tg_model::{Blocks, BlocksFault, Keep, KeepFault};
 #[derive(Drop)]
 pub struct BlockLog {
     alloc: Global,
-    number: u64,
-    blocks: List<LoggedBlock>,
+    /// The number that it was made with.
+    pub number: u64,
+    /// The blocks that are kept, in order.
+    pub blocks: List<LoggedBlock>,
     lookups: u64,
 }
 

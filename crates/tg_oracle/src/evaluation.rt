@@ -3,7 +3,7 @@ ghost use Rattle.std.specs.Prelude.{◌<◌, IfOk};
 
 use crate::ranges::{bounds, is_met};
 use crate::texts::{escaped, joined};
-use std::alloc::{AllocError, AllocFailed, Global};
+use std::alloc::{AllocError, Global};
 use tg_bytes::{Bytes, List};
 use tg_cid::Cid;
 use tg_model::{BlockFault, Kind, Query, Scope, Span, check_shard, reads};
@@ -111,12 +111,6 @@ enum Stop {
 
 impl From<AllocError> for Stop {
     fn from(_fault: AllocError) -> Stop {
-        Stop::Fault(EvaluationFault::OutOfMemory)
-    }
-}
-
-impl<T: Drop> From<AllocFailed<T>> for Stop {
-    fn from(_fault: AllocFailed<T>) -> Stop {
         Stop::Fault(EvaluationFault::OutOfMemory)
     }
 }
@@ -300,17 +294,13 @@ impl<'a> Run<'a> {
         let size = total(opened);
         match &opened.kind {
             Kind::Raw | Kind::File { .. } => {
-                self.say_line(format!(in self.alloc; "file {size} {path}")?.as_str())?;
+                self.say_sized("file", size, path)?;
                 self.content(depth, opened, 0, None)?;
                 Ok(self.say_line("")?)
             }
-            Kind::Symlink { target } => {
-                self.say_line(format!(in self.alloc; "link {size} {path}")?.as_str())?;
-                self.say(target.as_slice())?;
-                Ok(self.say_line("")?)
-            }
+            Kind::Symlink { target } => Ok(self.say_link(target.as_slice(), size, path)?),
             Kind::Basic { entries } => {
-                self.say_line(format!(in self.alloc; "dir {path}")?.as_str())?;
+                self.say_directory(path)?;
                 for entry in entries.as_slice() {
                     let name = joined(self.alloc, path, entry.name.as_slice())?;
                     let below = self.open(left, entry.cid, Position::Top)?;
@@ -320,7 +310,7 @@ impl<'a> Run<'a> {
             }
             Kind::Shard { slots } => {
                 if above.is_empty() {
-                    self.say_line(format!(in self.alloc; "dir {path}")?.as_str())?;
+                    self.say_directory(path)?;
                 }
                 for slot in slots.as_slice() {
                     match &slot.name {
@@ -389,6 +379,23 @@ impl<'a> Run<'a> {
         self.say(b"\n")
     }
 
+    /// Adds the line of what has a size in a bundle.
+    fn say_sized(&mut self, sort: &str, size: u64, path: &str) -> Result<(), AllocError> {
+        self.say_line(format!(in self.alloc; "{sort} {size} {path}")?.as_str())
+    }
+
+    /// Adds the line of a directory in a bundle.
+    fn say_directory(&mut self, path: &str) -> Result<(), AllocError> {
+        self.say_line(format!(in self.alloc; "dir {path}")?.as_str())
+    }
+
+    /// Adds the record of a symbolic link in a bundle.
+    fn say_link(&mut self, target: &[u8], size: u64, path: &str) -> Result<(), AllocError> {
+        self.say_sized("link", size, path)?;
+        self.say(target)?;
+        self.say_line("")
+    }
+
     /// Adds those bytes to the text that are in the range, of which the first is at `from`.
     fn say_range(
         &mut self,
@@ -430,7 +437,7 @@ fn bad_block(cid: Cid, depth: u32, fault: BlockFault) -> Stop {
 
 /// How many blocks there are from the root to one, both counted, from which on so many may be opened.
 fn from_root(depth: u32) -> u32 {
-    DEPTH.saturating_sub(depth) + 1
+    DEPTH.saturating_sub(depth).saturating_add(1)
 }
 
 /// One block less deep to go.
@@ -533,7 +540,12 @@ fn with_slot(alloc: Global, above: &[u8], slot: u8) -> Result<Vec<u8>, AllocErro
 }
 
 /// Puts an entry before the first one with a greater name.
-fn put_sorted(alloc: Global, entries: &mut Vec<Named>, name: &[u8], cid: Cid) -> Result<(), Stop> {
+fn put_sorted(
+    alloc: Global,
+    entries: &mut Vec<Named>,
+    name: &[u8],
+    cid: Cid,
+) -> Result<(), AllocError> {
     let mut at = 0;
     for entry in entries.as_slice() {
         if entry.name.as_slice() < name {

@@ -1,5 +1,4 @@
-//! A plain and slow evaluator of queries over stored blocks. Tests of other crates compare their answers with its; the tests
-//! of the block model stand here too.
+//! A plain and slow evaluator of queries over stored blocks. Tests of other crates compare their answers with its.
 #![tactic(auto)]
 
 mod block_log;
@@ -20,16 +19,3 @@ pub use queries::{QueryFault, ranged_query, scoped_query, span_of};
 pub use ranges::{bounds, is_met};
 pub use sizes::car_size;
 pub use small_dags::{small_directories, small_files, small_shards};
-
-#[cfg(test)]
-mod call_tests;
-#[cfg(test)]
-mod directory_tests;
-#[cfg(test)]
-mod fault_tests;
-#[cfg(test)]
-mod file_tests;
-#[cfg(test)]
-mod store_tests;
-#[cfg(test)]
-mod tests;

@@ -132,33 +132,45 @@ fn numbers(rt: &HostRuntime, calls: &[u64]) -> Result<List<u64>, Fail> {
     Ok(List::from(Vec::from_slice(rt.alloc(), calls)?))
 }
 
+// What takes of at most six bytes give, of which the second fails.
+const TAKES: &[Result<usize, Failed>] = &[Ok(4), Err(Failed), Ok(4), Ok(3), Ok(0), Ok(0)];
+
 #[test]
-fn memory_moves_pieces_and_fails_when_told(rt: HostRuntime) -> Result<(), Fail> {
+fn a_source_gives_pieces_and_fails_when_told(rt: HostRuntime) -> Result<(), Fail> {
     let bytes = Bytes::of(rt.alloc(), b"hello world")?;
     let mut source = MemSource::new(bytes, 4, numbers(&rt, &[1])?);
-    let mut sink = MemSink::with_calls(rt.alloc(), 3, Calls::after(10, numbers(&rt, &[12, 15])?));
     let mut buf = [0; 6];
-    for (call, want) in [Ok(4), Err(Failed), Ok(4), Ok(3), Ok(0), Ok(0)]
-        .into_iter()
-        .enumerate()
-    {
-        assert_eq!(rt; source.take(&mut buf), want, "take {call}");
+    for want in TAKES {
+        assert_eq!(rt; source.take(&mut buf), *want);
     }
     assert_eq!(rt; source.count(), 1);
-    assert_eq!(rt; source.left(), b"".as_slice());
-    assert_eq!(rt; put_all(&mut sink, b"hello world"), Err(Failed));
-    assert_eq!(rt; sink.held(), b"hello ".as_slice());
-    assert_eq!(rt; put_all(&mut sink, b"world"), Ok(()));
-    assert_eq!(rt; sink.put(b"!"), Err(Failed));
-    assert_eq!(rt; sink.held(), b"hello world".as_slice());
+    assert!(rt; source.left().is_empty());
+    Ok(())
+}
+
+// What is put, whether it goes, and what the sink holds behind it.
+const PUTS: &[(&[u8], Result<(), Failed>, &[u8])] = &[
+    (b"hello world", Err(Failed), b"hello "),
+    (b"world", Ok(()), b"hello world"),
+    (b"!", Err(Failed), b"hello world"),
+];
+
+#[test]
+fn a_sink_takes_pieces_and_fails_when_told(rt: HostRuntime) -> Result<(), Fail> {
+    let calls = Calls::after(10, numbers(&rt, &[12, 15])?);
+    let mut sink = MemSink::with_calls(rt.alloc(), 3, calls);
+    for (bytes, want, held) in PUTS {
+        assert_eq!(rt; put_all(&mut sink, bytes), *want);
+        assert_eq!(rt; sink.held(), *held);
+    }
     assert_eq!(rt; sink.count(), 2);
     Ok(())
 }
 
 #[test]
 fn a_pipe_carries_the_bytes(rt: HostRuntime) -> Result<(), Fail> {
-    let (reader, writer) = pipe(&rt)?;
-    let mut sink = StdSink::new(writer);
+    let (reader, mut writer) = pipe(&rt)?;
+    let mut sink = StdSink::new(&mut writer);
     let mut source = StdSource::new(reader);
     assert_eq!(rt; put_all(&mut sink, b"hello world"), Ok(()));
     let mut buf = [0; 6];
@@ -166,7 +178,7 @@ fn a_pipe_carries_the_bytes(rt: HostRuntime) -> Result<(), Fail> {
     assert_eq!(rt; buf.as_slice(), b"hello ".as_slice());
     assert_eq!(rt; take_piece(&mut source, &mut buf), Ok(5));
     assert_eq!(rt; &buf[..5], b"world".as_slice());
-    drop(sink);
+    drop(writer);
     assert_eq!(rt; take_piece(&mut source, &mut buf), Ok(0));
     assert_eq!(rt; source.count(), 0);
     Ok(())

@@ -55,61 +55,62 @@ fn answer(wanted: Wanted, cid: Cid) -> Result<Command, WordsFault> {
     }
 }
 
+const LINES: &[(&[&str], Wanted)] = &[
+    (&["check", TEXT], Wanted::Check),
+    (&["check", "--", TEXT], Wanted::Check),
+    (&["check", TEXT, "--"], Wanted::Check),
+    (&["node", TEXT], Wanted::Node),
+    (&["node", "--", TEXT], Wanted::Node),
+    (&["node"], Wanted::Usage),
+    (&["node", TEXT, TEXT], Wanted::Usage),
+    (&["node", "--hex", HEX], Wanted::Usage),
+    (&["node", HEX_OPTION], Wanted::Usage),
+    (&["nodes", TEXT], Wanted::Usage),
+    (&["cid", TEXT], Wanted::CidToHex),
+    (&["cid", "--hex", HEX], Wanted::CidToText),
+    (&["cid", "--hex", UPPER_HEX], Wanted::CidToText),
+    (&["cid", HEX_OPTION], Wanted::CidToText),
+    (&["cid", UPPER_HEX_OPTION], Wanted::CidToText),
+    (&["cid", HEX_OPTION, "--"], Wanted::CidToText),
+    (&[], Wanted::Usage),
+    (&[""], Wanted::Usage),
+    (&["help"], Wanted::Usage),
+    (&["import", "folder", "pack"], Wanted::Usage),
+    (&["audit", "--seed", "1", "--files", "3"], Wanted::Usage),
+    (&["fetch", "--raw", "a:1", TEXT], Wanted::Usage),
+    (&["--help"], Wanted::Usage),
+    (&["version"], Wanted::Usage),
+    (&["--", "check", TEXT], Wanted::Usage),
+    (&["check"], Wanted::Usage),
+    (&["check", "-"], Wanted::Usage),
+    (&["check", "-H"], Wanted::Usage),
+    (&["check", "--x", TEXT], Wanted::Usage),
+    (&["check", TEXT, TEXT], Wanted::Usage),
+    (&["check", TEXT, "--", TEXT], Wanted::Usage),
+    (&["check", UPPER_TEXT], Wanted::Usage),
+    (&["cid"], Wanted::Usage),
+    (&["cid", TEXT, "--hex", "00"], Wanted::Usage),
+    (&["cid", "--", "--hex", HEX], Wanted::Usage),
+    (&["cid", "--", HEX_OPTION], Wanted::Usage),
+    (&["cid", "--hex=00", "--hex=00"], Wanted::Usage),
+    (&["cid", HEX_OPTION, HEX_OPTION], Wanted::Usage),
+    (&["cid", "--hex"], Wanted::Usage),
+    (&["cid", "--hex", "--hex"], Wanted::Usage),
+    (&["cid", "--hex", "--", HEX], Wanted::Usage),
+    (&["cid", "--hex", "0"], Wanted::Usage),
+    (&["cid", "--hex="], Wanted::Usage),
+    (&["cid", "--hex", "0155"], Wanted::Usage),
+    (&["cid", UPPER_OPTION], Wanted::Usage),
+    (&["cid", LONGER_OPTION], Wanted::Usage),
+    (&["cid", "-hex", HEX], Wanted::Usage),
+];
+
 #[test]
 fn lines(rt: HostRuntime) -> Result<(), Fail> {
-    let lines: [(&[&str], Wanted); 47] = [
-        (&["check", TEXT], Wanted::Check),
-        (&["check", "--", TEXT], Wanted::Check),
-        (&["check", TEXT, "--"], Wanted::Check),
-        (&["node", TEXT], Wanted::Node),
-        (&["node", "--", TEXT], Wanted::Node),
-        (&["node"], Wanted::Usage),
-        (&["node", TEXT, TEXT], Wanted::Usage),
-        (&["node", "--hex", HEX], Wanted::Usage),
-        (&["node", HEX_OPTION], Wanted::Usage),
-        (&["nodes", TEXT], Wanted::Usage),
-        (&["cid", TEXT], Wanted::CidToHex),
-        (&["cid", "--hex", HEX], Wanted::CidToText),
-        (&["cid", "--hex", UPPER_HEX], Wanted::CidToText),
-        (&["cid", HEX_OPTION], Wanted::CidToText),
-        (&["cid", UPPER_HEX_OPTION], Wanted::CidToText),
-        (&["cid", HEX_OPTION, "--"], Wanted::CidToText),
-        (&[], Wanted::Usage),
-        (&[""], Wanted::Usage),
-        (&["help"], Wanted::Usage),
-        (&["import", "folder", "pack"], Wanted::Usage),
-        (&["audit", "--seed", "1", "--files", "3"], Wanted::Usage),
-        (&["fetch", "--raw", "a:1", TEXT], Wanted::Usage),
-        (&["--help"], Wanted::Usage),
-        (&["version"], Wanted::Usage),
-        (&["--", "check", TEXT], Wanted::Usage),
-        (&["check"], Wanted::Usage),
-        (&["check", "-"], Wanted::Usage),
-        (&["check", "-H"], Wanted::Usage),
-        (&["check", "--x", TEXT], Wanted::Usage),
-        (&["check", TEXT, TEXT], Wanted::Usage),
-        (&["check", TEXT, "--", TEXT], Wanted::Usage),
-        (&["check", UPPER_TEXT], Wanted::Usage),
-        (&["cid"], Wanted::Usage),
-        (&["cid", TEXT, "--hex", "00"], Wanted::Usage),
-        (&["cid", "--", "--hex", HEX], Wanted::Usage),
-        (&["cid", "--", HEX_OPTION], Wanted::Usage),
-        (&["cid", "--hex=00", "--hex=00"], Wanted::Usage),
-        (&["cid", HEX_OPTION, HEX_OPTION], Wanted::Usage),
-        (&["cid", "--hex"], Wanted::Usage),
-        (&["cid", "--hex", "--hex"], Wanted::Usage),
-        (&["cid", "--hex", "--", HEX], Wanted::Usage),
-        (&["cid", "--hex", "0"], Wanted::Usage),
-        (&["cid", "--hex="], Wanted::Usage),
-        (&["cid", "--hex", "0155"], Wanted::Usage),
-        (&["cid", UPPER_OPTION], Wanted::Usage),
-        (&["cid", LONGER_OPTION], Wanted::Usage),
-        (&["cid", "-hex", HEX], Wanted::Usage),
-    ];
-    for (line, wanted) in lines {
+    let cid = Cid::from_bytes(&BYTES)?;
+    for (line, wanted) in LINES {
         let words = words_of(rt.alloc(), line)?;
-        let expected = answer(wanted, Cid::from_bytes(&BYTES)?);
-        assert_eq!(rt; read(rt.alloc(), words.as_slice()), expected);
+        assert_eq!(rt; read(rt.alloc(), words.as_slice()), answer(*wanted, cid));
     }
     Ok(())
 }
@@ -127,63 +128,66 @@ fn written<'a>(alloc: Global, found: &Operands<'a>) -> Result<Vec<&'a str>, Allo
     Ok(all)
 }
 
+const NAMES: OptionNames<'static> = OptionNames {
+    valued: &["chunk", "width", "shard"],
+    flags: &["raw"],
+};
+
+const OPERANDS: &[(&[&str], Option<&[&str]>)] = &[
+    (&[], Some(&[])),
+    (&["a", "b"], Some(&["a", "b"])),
+    (&["a", "--chunk", "4", "b"], Some(&["a", "b", "chunk", "4"])),
+    (&["--chunk=4", "a", "b"], Some(&["a", "b", "chunk", "4"])),
+    (
+        &["a", "b", "--width=2", "--chunk", "4"],
+        Some(&["a", "b", "width", "2", "chunk", "4"]),
+    ),
+    (
+        &["--shard", "0", "a", "--raw", "b", "--chunk="],
+        Some(&["a", "b", "shard", "0", "raw", "*", "chunk", ""]),
+    ),
+    (&["--raw", "a"], Some(&["a", "raw", "*"])),
+    (&["-", "--chunk", "-"], Some(&["-", "chunk", "-"])),
+    (&["--chunk=-3:*", ""], Some(&["", "chunk", "-3:*"])),
+    (&["--chunk=a=b"], Some(&["chunk", "a=b"])),
+    (&["--chunk", "a=b"], Some(&["chunk", "a=b"])),
+    (&["--chunk=--width"], Some(&["chunk", "--width"])),
+    (
+        &["a", "--", "--chunk=4", "--", "-x"],
+        Some(&["a", "--chunk=4", "--", "-x"]),
+    ),
+    (&["--raw", "--"], Some(&["raw", "*"])),
+    (&["--", "--raw"], Some(&["--raw"])),
+    (&["--chunk", "-3:*"], None),
+    (&["--chunk", "--", "4"], None),
+    (&["--chunk", "--width", "4"], None),
+    (&["--chunk"], None),
+    (&["--chunk=4", "--chunk=4"], None),
+    (&["--chunk=4", "a", "--chunk", "5"], None),
+    (&["--raw", "--raw"], None),
+    (&["--raw="], None),
+    (&["--raw=yes"], None),
+    (&["--chun=4"], None),
+    (&["--chunks=4"], None),
+    (&["--=4"], None),
+    (&["---"], None),
+    (&["-c", "4"], None),
+    (&["--help"], None),
+];
+
+// Whether words are read as operands that are written so, or refused.
+fn are_read(alloc: Global, line: &[&str], wanted: Option<&[&str]>) -> Result<bool, AllocError> {
+    let words = words_of(alloc, line)?;
+    match operands_of(alloc, words.as_slice(), NAMES) {
+        Ok(found) => Ok(wanted == Some(written(alloc, &found)?.as_slice())),
+        Err(fault) => Ok(fault == WordsFault::Usage && wanted.is_none()),
+    }
+}
+
 #[test]
 fn operands_of_many_options(rt: HostRuntime) -> Result<(), Fail> {
-    let names = OptionNames {
-        valued: &["chunk", "width", "shard"],
-        flags: &["raw"],
-    };
-    let lines: [(&[&str], Option<&[&str]>); 30] = [
-        (&[], Some(&[])),
-        (&["a", "b"], Some(&["a", "b"])),
-        (&["a", "--chunk", "4", "b"], Some(&["a", "b", "chunk", "4"])),
-        (&["--chunk=4", "a", "b"], Some(&["a", "b", "chunk", "4"])),
-        (
-            &["a", "b", "--width=2", "--chunk", "4"],
-            Some(&["a", "b", "width", "2", "chunk", "4"]),
-        ),
-        (
-            &["--shard", "0", "a", "--raw", "b", "--chunk="],
-            Some(&["a", "b", "shard", "0", "raw", "*", "chunk", ""]),
-        ),
-        (&["--raw", "a"], Some(&["a", "raw", "*"])),
-        (&["-", "--chunk", "-"], Some(&["-", "chunk", "-"])),
-        (&["--chunk=-3:*", ""], Some(&["", "chunk", "-3:*"])),
-        (&["--chunk=a=b"], Some(&["chunk", "a=b"])),
-        (&["--chunk", "a=b"], Some(&["chunk", "a=b"])),
-        (&["--chunk=--width"], Some(&["chunk", "--width"])),
-        (
-            &["a", "--", "--chunk=4", "--", "-x"],
-            Some(&["a", "--chunk=4", "--", "-x"]),
-        ),
-        (&["--raw", "--"], Some(&["raw", "*"])),
-        (&["--", "--raw"], Some(&["--raw"])),
-        (&["--chunk", "-3:*"], None),
-        (&["--chunk", "--", "4"], None),
-        (&["--chunk", "--width", "4"], None),
-        (&["--chunk"], None),
-        (&["--chunk=4", "--chunk=4"], None),
-        (&["--chunk=4", "a", "--chunk", "5"], None),
-        (&["--raw", "--raw"], None),
-        (&["--raw="], None),
-        (&["--raw=yes"], None),
-        (&["--chun=4"], None),
-        (&["--chunks=4"], None),
-        (&["--=4"], None),
-        (&["---"], None),
-        (&["-c", "4"], None),
-        (&["--help"], None),
-    ];
-    for (line, wanted) in lines {
-        let words = words_of(rt.alloc(), line)?;
-        match (operands_of(rt.alloc(), words.as_slice(), names), wanted) {
-            (Ok(found), Some(wanted)) => assert_eq!(rt;
-                written(rt.alloc(), &found)?.as_slice(),
-                wanted
-            ),
-            (Err(fault), None) => assert_eq!(rt; fault, WordsFault::Usage),
-            _ => assert!(rt; false),
-        }
+    for (line, wanted) in OPERANDS {
+        assert!(rt; are_read(rt.alloc(), line, *wanted)?, "{line:?}");
     }
     Ok(())
 }

@@ -1,11 +1,11 @@
 //! Files, their parts and byte ranges.
-use super::*;
-use crate::tests::{
+use crate::shelf::{
     PathEnd, RangeRow, Row, Shelf, expect, expect_below, expect_ranges, expect_rows, hello_file,
     hello_root, raw_cid, text_of,
 };
 use std::test::Fail;
 use tg_model::{Scope, SpanFrom};
+use tg_oracle::{End, car_size, evaluate, ranged_query, scoped_query};
 
 const HELLO: &[Row<'static>] = &[
     (
@@ -35,7 +35,7 @@ fn a_file_in_chunks(rt: HostRuntime) -> Result<(), Fail> {
     );
     expect_rows(&rt, &shelf, root, HELLO)?;
     let query = scoped_query(rt.alloc(), root, &[], Scope::Block)?;
-    let found = evaluate(rt.alloc(), shelf.stored(), &query)?;
+    let found = evaluate(rt.alloc(), shelf.blocks.as_slice(), &query)?;
     assert_eq!(rt; found.text.as_slice().len(), 144);
     assert_eq!(rt; car_size(found.sent.as_slice()), 241);
     Ok(())

@@ -1,6 +1,5 @@
 //! Blocks without a kind, and blocks that can't stand where they stand.
-use super::*;
-use crate::tests::{
+use crate::shelf::{
     CHILD_SHARD, HELLO_SHARD, PARENT_SHARD, PathEnd, Row, Shelf, expect_below, expect_rows,
     node_block, raw_cid,
 };
@@ -11,6 +10,7 @@ use tg_bytes::{Bytes, List};
 use tg_cid::{Cid, Codec};
 use tg_dagpb::{Link, Node};
 use tg_model::{BlockFault, Kind, Scope, check_shard, reads};
+use tg_oracle::{End, evaluate, scoped_query};
 use tg_pbtable::PbFault;
 use tg_unixfs::UnixFault;
 
@@ -53,6 +53,23 @@ fn fault_of(alloc: Global, block: &[u8]) -> Option<BlockFault> {
     }
 }
 
+/// A link with this name and hash.
+fn link_of(alloc: Global, name: Option<&str>, hash: &[u8]) -> Result<Link, Fail> {
+    Ok(Link {
+        hash: Bytes::of(alloc, hash)?,
+        name: name_of(alloc, name)?,
+        tsize: None,
+    })
+}
+
+/// The bytes of a name, or none.
+fn name_of(alloc: Global, name: Option<&str>) -> Result<Option<Bytes>, Fail> {
+    match name {
+        Some(name) => Ok(Some(Bytes::of(alloc, name.as_bytes())?)),
+        None => Ok(None),
+    }
+}
+
 /// The block of a node whose links have these names and the one hash.
 fn block_of(
     alloc: Global,
@@ -62,15 +79,7 @@ fn block_of(
 ) -> Result<Bytes, Fail> {
     let mut links = List::new(alloc);
     for name in names {
-        let name = match name {
-            Some(name) => Some(Bytes::of(alloc, name.as_bytes())?),
-            None => None,
-        };
-        links.push(Link {
-            hash: Bytes::of(alloc, hash)?,
-            name,
-            tsize: None,
-        })?;
+        links.push(link_of(alloc, *name, hash)?)?;
     }
     let payload = Some(Bytes::of(alloc, payload)?);
     Ok(tg_dagpb::encode(alloc, &Node { links, payload })?)
@@ -264,10 +273,9 @@ const SHARDS: &[FaultRow<'static>] = &[
 
 #[test]
 fn nodes_without_a_kind(rt: HostRuntime) -> Result<(), Fail> {
-    for rows in [FILES, FOLDERS, SHARDS] {
-        expect_faults(&rt, rt.alloc(), rows)?;
-    }
-    Ok(())
+    expect_faults(&rt, rt.alloc(), FILES)?;
+    expect_faults(&rt, rt.alloc(), FOLDERS)?;
+    expect_faults(&rt, rt.alloc(), SHARDS)
 }
 
 /// The names of a shard's links, its data, the slots that were passed, and why it can't stand there, if it can't.
@@ -382,16 +390,11 @@ fn expect_no_part(
 fn parts_that_are_no_files(rt: HostRuntime) -> Result<(), Fail> {
     let links = [("00m", raw_cid(b"1"), 1)];
     // A shard that is misplaced besides is told so, since that is the first of its faults.
-    let rows: [(&[(&str, Cid, u64)], &[u8], BlockFault); 4] = [
-        (&[], FOLDER, BlockFault::NotPart),
-        (&[], b"\x08\x04", BlockFault::NotPart),
-        (&[], NO_SLOT, BlockFault::NotPart),
-        (&links, SLOT_0, BlockFault::Misplaced { at: 0 }),
-    ];
-    for (links, payload, fault) in rows {
-        expect_no_part(&rt, rt.alloc(), links, payload, fault)?;
-    }
-    Ok(())
+    expect_no_part(&rt, rt.alloc(), &[], FOLDER, BlockFault::NotPart)?;
+    expect_no_part(&rt, rt.alloc(), &[], b"\x08\x04", BlockFault::NotPart)?;
+    expect_no_part(&rt, rt.alloc(), &[], NO_SLOT, BlockFault::NotPart)?;
+    let misplaced = BlockFault::Misplaced { at: 0 };
+    expect_no_part(&rt, rt.alloc(), &links, SLOT_0, misplaced)
 }
 
 /// Expects that a child with this data ends the traversal of a shard, in which an entry comes before.
@@ -414,10 +417,9 @@ fn expect_no_shard(rt: &impl Abort, alloc: Global, payload: &[u8]) -> Result<(),
 
 #[test]
 fn children_that_are_no_shards(rt: HostRuntime) -> Result<(), Fail> {
-    for payload in [FOLDER, b"\x08\x04".as_slice(), b"\x08\x02".as_slice()] {
-        expect_no_shard(&rt, rt.alloc(), payload)?;
-    }
-    Ok(())
+    expect_no_shard(&rt, rt.alloc(), FOLDER)?;
+    expect_no_shard(&rt, rt.alloc(), b"\x08\x04")?;
+    expect_no_shard(&rt, rt.alloc(), b"\x08\x02")
 }
 
 // A block without a kind that is asked for alone is sent.
@@ -520,7 +522,7 @@ fn many_levels(rt: HostRuntime) -> Result<(), Fail> {
         root = shelf.node(&[("", root, 1)], b"\x08\x02\x20\x01")?;
     }
     let query = scoped_query(alloc, root, &[], Scope::Entity)?;
-    let found = evaluate(alloc, shelf.stored(), &query)?;
+    let found = evaluate(alloc, shelf.blocks.as_slice(), &query)?;
     assert_eq!(rt; found.end, End::Whole);
     assert_eq!(rt; found.text.as_slice(), b"x".as_slice());
     assert_eq!(rt; found.sent.as_slice().len(), 512);

@@ -1,5 +1,4 @@
 //! Blocks that tests make, and what they expect of a query over them.
-use super::*;
 use std::alloc::Global;
 use std::process::Abort;
 use std::test::Fail;
@@ -7,6 +6,9 @@ use tg_bytes::{Bytes, List};
 use tg_cid::{Cid, Codec};
 use tg_dagpb::{Link, Node};
 use tg_model::{Query, Scope, SpanFrom, Step, reads, step};
+use tg_oracle::{
+    End, EvaluationFault, StoredBlock, car_size, evaluate, ranged_query, scoped_query,
+};
 
 /// A link of a node: its name, where it leads, and its Tsize.
 pub type Linked<'a> = (&'a str, Cid, u64);
@@ -15,7 +17,8 @@ pub type Linked<'a> = (&'a str, Cid, u64);
 #[derive(Drop)]
 pub struct Shelf {
     alloc: Global,
-    blocks: List<StoredBlock>,
+    /// The blocks, in order.
+    pub blocks: List<StoredBlock>,
 }
 
 impl Shelf {
@@ -50,11 +53,6 @@ impl Shelf {
     pub fn node(&mut self, links: &[Linked<'_>], payload: &[u8]) -> Result<Cid, Fail> {
         let block = node_block(self.alloc, links, payload)?;
         self.put(Codec::DagPb, block.as_slice())
-    }
-
-    /// The stored blocks.
-    pub fn stored(&self) -> &[StoredBlock] {
-        self.blocks.as_slice()
     }
 }
 
@@ -94,9 +92,9 @@ pub fn hello_root(shelf: &mut Shelf) -> Result<Cid, Fail> {
 /// Stores that root and its leaves in order.
 pub fn hello_file(shelf: &mut Shelf) -> Result<Cid, Fail> {
     let root = hello_root(shelf)?;
-    for leaf in [b"hell".as_slice(), b"o wo", b"rld"] {
-        shelf.raw(leaf)?;
-    }
+    shelf.raw(b"hell")?;
+    shelf.raw(b"o wo")?;
+    shelf.raw(b"rld")?;
     Ok(root)
 }
 
@@ -116,14 +114,14 @@ pub fn expect(
     end: &End,
     text: &[u8],
 ) -> Result<u64, Fail> {
-    let found = evaluate(shelf.alloc, shelf.stored(), query)?;
+    let found = evaluate(shelf.alloc, shelf.blocks.as_slice(), query)?;
     let sent = found.sent.as_slice();
     assert_eq!(rt; &found.end, end, "{query:?}");
     assert_eq!(rt; found.text.as_slice(), text, "{query:?}");
     assert_eq!(rt; sent.len(), indexes.len(), "{query:?}");
     for (section, index) in sent.iter().zip(indexes) {
         assert_eq!(rt; section.index, *index, "{query:?}");
-        if let Some(stored) = shelf.stored().get(*index) {
+        if let Some(stored) = shelf.blocks.as_slice().get(*index) {
             assert_eq!(rt; section.cid, stored.cid, "{query:?}");
             let size = stored.block.as_slice().len() as u64;
             assert_eq!(rt; section.size, size, "{query:?}");
@@ -198,7 +196,7 @@ fn end_by_steps(
 
 /// The block that is stored under a CID.
 fn block_under(shelf: &Shelf, cid: Cid) -> Option<&[u8]> {
-    for stored in shelf.stored() {
+    for stored in shelf.blocks.as_slice() {
         if stored.cid == cid {
             return Some(stored.block.as_slice());
         }

@@ -1,8 +1,8 @@
 use Rattle.std.proofs.Common.{◌≡◌, ◌∷◌, ◌∙◌, [], IfOk, IfSome, Option, Some, inr, sym, subst, unwrap_or}
 use Rattle.tg_model.specs.Stores.{AreKeptAs, Store}
-use Rattle.tg_oracle.proofs.KeptBlocks.{err_so, first_found, kept_found, ok_so}
-use Rattle.tg_oracle.proofs.store_tests.keep_then_get.Given as given
-use Rattle.tg_oracle.proofs.store_tests.keep_then_get.Goals as goal
+use Rattle.tg_model_tests.proofs.KeptBlocks.{err_so, first_found, kept_found, ok_so}
+use Rattle.tg_model_tests.proofs.stores.keep_then_get.Given as given
+use Rattle.tg_model_tests.proofs.stores.keep_then_get.Goals as goal
 
 found : (g : given.Over) (c : goal.After-get g)
     → IfOk c.get.result (λ found. IfSome (g.S.Blocks.blocks.stored c.args.store.now) (λ held. found ≡ Some (unwrap_or (held c.args.cid) c.args.block.now)))

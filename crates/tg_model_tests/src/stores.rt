@@ -7,11 +7,11 @@ ghost use Rattle.tg_model.specs.Stores.{IsNamedBlock, Kept, LookedUp, as_v1, kep
 ghost use Rattle.tg_oracle.specs.BlockLogLaws.{searched_logs};
 ghost use Rattle.tg_oracle.specs.LoggedBlocks.{section_of};
 
-use crate::block_log::BlockLog;
 use std::test::Fail;
 use tg_bytes::Bytes;
 use tg_cid::{Cid, Codec};
 use tg_model::{Blocks, BlocksFault, Keep, KeepFault};
+use tg_oracle::BlockLog;
 
 /// A store in which blocks are kept and looked up. A look-up keeps nothing.
 trait KeptBlocks: Blocks + Keep {

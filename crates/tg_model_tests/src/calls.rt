@@ -1,0 +1,86 @@
+//! The block model's calls for ranges, and queries that are none. What `step`, `check_shard`, `window`, `resolve_span` and the readers
+//! answer is said by equations of their contracts; here stand values from outside.
+use crate::shelf::raw_cid;
+use std::alloc::Global;
+use tg_cid::Cid;
+use tg_model::{Part, Scope, SpanFrom, resolve_span, window};
+use tg_oracle::{QueryFault, bounds, scoped_query, span_of};
+
+/// A range of a file, the file's size, the bounds, and the run of parts that they meet.
+type RangeRow = (SpanFrom, Option<u64>, u64, (u64, u64), (usize, usize));
+
+/// The greatest number of a range.
+const MOST: u64 = (1 << 63) - 1;
+
+const RANGES: &[RangeRow] = &[
+    (SpanFrom::Start(5), Some(6), 13, (5, 7), (0, 3)),
+    (SpanFrom::Start(6), Some(9), 13, (6, 10), (2, 3)),
+    (SpanFrom::Start(0), Some(1), 13, (0, 2), (0, 0)),
+    (SpanFrom::Start(100), Some(200), 13, (100, 13), (0, 0)),
+    (SpanFrom::Start(MOST), Some(MOST), 13, (MOST, 13), (0, 0)),
+    (SpanFrom::Last(MOST), None, 13, (0, 13), (0, 4)),
+    (SpanFrom::Last(3), Some(MOST), 13, (10, 13), (3, 4)),
+    (SpanFrom::Last(0), None, 13, (13, 13), (0, 0)),
+];
+
+/// Whether a range has the bounds of its row, and meets its run of the parts, which have 4, 0, 4 and 3 bytes and stand behind 2
+/// inline ones.
+fn has_bounds(row: &RangeRow, cid: Cid) -> bool {
+    let (from, to, total, want, run) = *row;
+    let parts = [
+        Part { cid, size: 4 },
+        Part { cid, size: 0 },
+        Part { cid, size: 4 },
+        Part { cid, size: 3 },
+    ];
+    let Ok(span) = span_of(from, to) else {
+        return false;
+    };
+    let (low, high) = resolve_span(&span, total);
+    (low, high) == want && bounds(&span, total) == want && window(2, &parts, low, high) == run
+}
+
+#[test]
+fn ranges_and_their_parts(rt: HostRuntime) {
+    let cid = raw_cid(b"");
+    for row in RANGES {
+        assert!(rt; has_bounds(row, cid), "{row:?}");
+    }
+}
+
+/// The fault of a query for the block at a path, or none.
+fn path_fault(alloc: Global, path: &[&str]) -> Option<QueryFault> {
+    scoped_query(alloc, raw_cid(b""), path, Scope::Block).err()
+}
+
+const NO_NAMES: &[&str] = &["", ".", "..", "a/b", "a\0", "/"];
+
+#[test]
+fn paths_that_are_none(rt: HostRuntime) {
+    for name in NO_NAMES {
+        let found = path_fault(rt.alloc(), &["a", *name]);
+        assert_eq!(rt; found, Some(QueryFault::BadPath), "{name}");
+    }
+    assert_eq!(rt; path_fault(rt.alloc(), &["..."; 128]), None);
+    let found = path_fault(rt.alloc(), &["a"; 129]);
+    assert_eq!(rt; found, Some(QueryFault::BadPath));
+}
+
+// Ranges, and whether they are one of a query.
+const SPANS: &[(SpanFrom, Option<u64>, bool)] = &[
+    (SpanFrom::Start(5), Some(5), true),
+    (SpanFrom::Start(6), Some(5), false),
+    (SpanFrom::Last(6), Some(5), true),
+    (SpanFrom::Start(MOST), Some(MOST), true),
+    (SpanFrom::Start(MOST + 1), None, false),
+    (SpanFrom::Last(MOST + 1), None, false),
+    (SpanFrom::Start(0), Some(MOST + 1), false),
+    (SpanFrom::Last(0), Some(MOST + 1), false),
+];
+
+#[test]
+fn ranges_that_are_none(rt: HostRuntime) {
+    for (from, to, is_span) in SPANS {
+        assert_eq!(rt; span_of(*from, *to).is_ok(), *is_span, "{from:?} {to:?}");
+    }
+}
