@@ -8,10 +8,11 @@ use Rattle.tg_laws.proofs.OpenedDags.{first_one}
 use Rattle.tg_laws.proofs.PartialLaws.{followed}
 use Rattle.tg_laws.proofs.ShownDags.{Computes, HoldsEach, shown_node}
 use Rattle.tg_laws.proofs.StepLaws.{ends_at_terminal, goes_below, steps_on}
-use Rattle.tg_laws.proofs.Terminals.{IsAt, IsReached, Leads, leads_at, step_leads, top_reached}
-use Rattle.tg_laws.proofs.VisitPlaces.{Each, Stands, visits_stand}
+use Rattle.tg_laws.proofs.Terminals.{IsReached, Leads, leads_at, step_leads, top_reached}
+use Rattle.tg_laws.proofs.VisitPlaces.{visits_stand}
 use Rattle.tg_laws.specs.Depths.{EndsDeeper, IsCutAt, children_down_to, down_to}
 use Rattle.tg_laws.specs.PartialDags.{ChildrenOpenedFrom, OpenedFrom, each, none, opened, unseen}
+use Rattle.tg_laws.specs.Standing.{Each, IsAt, Stands}
 use Rattle.tg_laws.specs.Steps.{after_step, from_child, from_node}
 use Rattle.tg_model.specs.Computed.{read}
 use Rattle.tg_model.specs.Dag.{AreWhole, Children, Dag, IsWhole, Section, bare, blocks, blocks_of_children, no_child, node, root_cid, root_cids, unopened, with_child}

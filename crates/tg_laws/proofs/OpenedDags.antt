@@ -64,7 +64,7 @@ one_hash hashes.Sha256 digest a b p q = sym p ∙ q
 one_hash hashes.Identity digest a b p q = absurd p
 
 -- sections of one CID are equal, or they collide
-compared : (a b : Section) (test : Bool) → Decides test (a.block ≡ b.block) → a.cid ≡ b.cid → Names a.cid a.block → Names b.cid b.block → (a ≡ b) ⊎ Clash a b
+pub compared : (a b : Section) (test : Bool) → Decides test (a.block ≡ b.block) → a.cid ≡ b.cid → Names a.cid a.block → Names b.cid b.block → (a ≡ b) ⊎ Clash a b
 compared a b true decides e p q = inl (ap₂ (λ (cid : CidParts) (block : List ℕ). let section : Section = record { cid = cid; block = block } in section) e (decides.0 refl))
 compared a b false decides e p q = inr (record {
   same_cid = e;

@@ -6,7 +6,8 @@ use Rattle.tg_laws.proofs.CountedPlaces.{just_asked}
 use Rattle.tg_laws.specs.Openings.{IsAtPlace}
 use Rattle.tg_laws.proofs.Listings.{partial_met}
 use Rattle.tg_laws.proofs.TerminalTexts.{partial-text}
-use Rattle.tg_laws.proofs.Terminals.{IsAt, IsReached, Leads, leads_at, step_leads, top_reached}
+use Rattle.tg_laws.proofs.Terminals.{IsReached, Leads, leads_at, step_leads, top_reached}
+use Rattle.tg_laws.specs.Standing.{IsAt}
 use Rattle.tg_model.specs.Answer.{is_listed, named_of, node_text}
 use Rattle.tg_model.specs.Content.{entries}
 use Rattle.tg_model.specs.Dag.{Children, Dag, Section, bare, blocks, blocks_of_children, no_child, node, unopened, with_child}

@@ -1,10 +1,12 @@
 -- What a checked partial DAG is, and what is written of one that was opened for a query.
-use Rattle.std.proofs.Common.{◌≡◌, ◌⊎◌, ◌++◌, ℕ, Bool, true, false, Option, Some, List, [], append-nil, inl, inr, map, refl, sym, ap, ◌∙◌, subst, subst₂}
-use Rattle.std.specs.Prelude.{◌||◌}
+use Rattle.std.proofs.Common.{◌≡◌, ◌⊎◌, ◌++◌, ◌∷◌, ℕ, Contains, Bool, true, false, Option, Some, List, [], append-nil, inl, inr, map, refl, sym, ap, ◌∙◌, subst, subst₂}
+use Rattle.std.proofs.lemmas.Slice.Eq.{bytes_eq-Decides}
+use Rattle.std.specs.Prelude.{bytes_eq, ◌||◌}
+use Rattle.tg_cid.specs.Names.{Names}
 use Rattle.tg_laws.proofs.AgainstPeers.{answer_or_pair, collision_pair, empty_front, front_written, has_answer, not_early, or_pair}
 use Rattle.tg_laws.proofs.Followed.{EndFollows, Follows, at_end, at_node, path_follows, traversal_follows}
 use Rattle.tg_laws.proofs.Listings.{traversal_met}
-use Rattle.tg_laws.proofs.OpenedDags.{OneKind, opened_checked, opened_or_collision, same_root}
+use Rattle.tg_laws.proofs.OpenedDags.{OneKind, compared, first_one, opened_checked, opened_or_collision, same_root}
 use Rattle.tg_laws.proofs.OpenedReads.{meet_entries, say_texts}
 use Rattle.tg_laws.proofs.OwnSections.{listed_text}
 use Rattle.tg_laws.proofs.SentBlocks.{all_opened}
@@ -22,6 +24,23 @@ use Rattle.tg_model.specs.declared.queries.Scope.{Scope}
 use Rattle.tg_model.specs.declared.queries.Scope.TheVariants as scopes
 
 -- ---- partial DAGs
+
+-- a received block and one of a DAG
+pub one_block : (d : Dag) (received held : Section) → Contains (blocks d) held → received.cid ≡ held.cid → Names received.cid received.block → Names held.cid held.block
+    → (received ≡ held) ⊎ CollisionPair (received ∷ []) d
+one_block d received held within e p n =
+    elim (compared received held (bytes_eq received.block held.block) (bytes_eq-Decides received.block held.block) e p n) [
+      | inl same ↦ inl same
+      | inr clash ↦ inr (record {
+        received = received;
+        held = held;
+        is_received = first_one received [];
+        is_held = within;
+        same_cid = clash.same_cid;
+        differ = clash.differ;
+        same_hash = clash.same_hash;
+      })
+    ]
 
 pub opened_or_pair : OneKind → (d s : Dag) → IsSound d → IsChecked s → root_cid s ≡ root_cid d → OpenedFrom s d ⊎ CollisionPair (blocks s) d
 opened_or_pair one_kind d s sound checked root =

@@ -5,8 +5,9 @@ use Rattle.std.specs.Prelude.{⊤}
 use Rattle.tg_cid.specs.Cid.{CidParts}
 use Rattle.tg_laws.proofs.OpenedParts.{opened, opened_at, opened_gives, opened_children, sections_in, sections_of}
 use Rattle.tg_laws.proofs.Terminals.{terminal_sound}
-use Rattle.tg_laws.proofs.VisitPlaces.{Each, each_mapped}
+use Rattle.tg_laws.proofs.VisitPlaces.{each_mapped}
 use Rattle.tg_laws.proofs.WholeTraversals.{traverse-whole}
+use Rattle.tg_laws.specs.Standing.{Each}
 use Rattle.tg_model.specs.Dag.{Dag, Children, Section, bare, blocks, with_child, no_child, node, root_cid, unopened}
 use Rattle.tg_model.specs.PathWalk.{PathEnd, PathWalk, path_walk, terminal}
 use Rattle.tg_model.specs.Queries.{QueryParts, SpanParts}

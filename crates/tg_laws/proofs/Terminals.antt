@@ -3,6 +3,7 @@ use Rattle.std.proofs.Common.{◌≡◌, Option, Some, None, List, [], ◌∷◌
 use Rattle.std.proofs.lemmas.Bool.{cond_both, eqb-true}
 use Rattle.std.specs.Prelude.{⊤, bytes_eq, ◌==◌}
 use Rattle.tg_laws.proofs.WholeTraversals.{traverse-whole}
+use Rattle.tg_laws.specs.Standing.{IsAt, IsLedTo}
 use Rattle.tg_model.specs.Dag.{AreWhole, Dag, IsWhole, Children, Section, bare, with_child, no_child, node, unopened}
 use Rattle.tg_model.specs.PathWalk.{PathEnd, PathWalk, Spot, StepTo, absent, child_below, entry_step, not_folder_here, path_walk, slot_step, slots_step, spot_at, step_of, terminal, to_child, to_entry, unless_misfit, walk_from, walk_child, walk_step, whole}
 use Rattle.tg_model.specs.Queries.{QueryParts, SpanParts}
@@ -18,12 +19,6 @@ use Rattle.tg_model.specs.declared.queries.Scope.TheVariants as scopes
 use Rattle.tg_murmur.specs.NameHash.{slot_of}
 
 -- ---- a step leads to a child whose position fits it
-
--- the position with this index
-abbrev pub IsAt : ℕ → Position → List Position → Type 0
-IsAt k position [] = ⊥
-IsAt zero position (p ∷ places) = p ≡ position
-IsAt (suc k) position (p ∷ places) = IsAt k position places
 
 -- the index that a step leads to, counted from a number, is that of a child at this position
 pub record LeadsTo (from k : ℕ) (position : Position) (places : List Position) : Type 0 where
@@ -111,6 +106,15 @@ pub leads_at : (k : ℕ) (position : Position) (places : List Position) → Lead
 leads_at k position places h =
     let same : h.index ≡ k = omega (arith, h.is) in
     subst (λ (n : ℕ). IsAt n position places) same h.here
+
+led : (places : List Position) (below : Position) (step : StepTo) → Leads 0 places below step → IsLedTo places below step
+led places below (to_entry k) h = leads_at k top places h
+led places below (to_child k) h = leads_at k below places h
+led places below absent h = tt
+led places below not_folder_here h = tt
+
+pub steps_lead : (position : Position) (kind : Kind) (level : ℕ) (name : List ℕ) → IsLedTo (positions position kind) (child_below position (slot_of name level)) (step_of kind level name)
+steps_lead position kind level name = led (positions position kind) (child_below position (slot_of name level)) (step_of kind level name) (step_leads position kind level name)
 
 -- the terminal is the node that is reached
 same_sound : (position : Position) (d t : Dag) → position ≡ top → IsWhole d → IsCheckedAt position d → terminal d ≡ terminal t → IsSound t

@@ -4,9 +4,10 @@ use Rattle.std.proofs.lemmas.Bool.{ltb-false, ltb-true}
 use Rattle.std.proofs.lemmas.List.{take_all}
 use Rattle.tg_laws.proofs.AskedPlaces.{Behind, ChildOpens, ChildrenOpen, Opens, along, asked_at, asked_at_visits, asked_by_step, asked_inside, within}
 use Rattle.tg_laws.proofs.StepLaws.{ends_at_terminal, goes_below, steps_on}
-use Rattle.tg_laws.proofs.Terminals.{IsAt, IsReached, Leads, leads_at, step_leads, top_reached}
-use Rattle.tg_laws.proofs.VisitPlaces.{Each, Stands, visits_stand}
+use Rattle.tg_laws.proofs.Terminals.{IsReached, Leads, leads_at, step_leads, top_reached}
+use Rattle.tg_laws.proofs.VisitPlaces.{visits_stand}
 use Rattle.tg_laws.specs.PartialDags.{ChildrenOpenedFrom, OpenedFrom, each, none, opened, same_bare, unseen}
+use Rattle.tg_laws.specs.Standing.{Each, IsAt, Stands}
 use Rattle.tg_laws.specs.Steps.{after_step, from_child, from_node}
 use Rattle.tg_model.specs.Dag.{Children, Dag, Section, bare, blocks, blocks_of_children, no_child, node, unopened, with_child}
 use Rattle.tg_model.specs.PathWalk.{Spot, StepTo, TraversalEnd, absent, child_below, gone, not_folder_here, spot_at, step_of, stopped, to_child, to_entry, whole}

@@ -2,29 +2,18 @@
 use Rattle.std.proofs.Common.{◌≡◌, Bool, true, false, Option, Some, None, List, [], ◌∷◌, ◌++◌, ℕ, ◌+◌, ◌-◌, map, refl, length}
 use Rattle.std.specs.Prelude.{⊤, if◌then◌else◌}
 use Rattle.tg_cid.specs.Cid.{CidParts}
+use Rattle.tg_laws.specs.Standing.{Each, Stands}
 use Rattle.tg_model.specs.Sound.{Position, part, passed, position_by_name, positions, slot_position, top}
 use Rattle.tg_model.specs.Traversal.{Reach, Visit, bundled, entire, entry_visit, file_visits, is_met, listed, part_visits, passed_over, ranged, slot_visit, visit_by_name, visits}
 use Rattle.tg_model.specs.declared.kinds.Kind.{Kind}
 use Rattle.tg_model.specs.declared.kinds.Kind.TheVariants.{Basic, File, Raw, Shard, Symlink}
 use Rattle.tg_model.specs.declared.kinds.Part.{Part}
 
--- visit by visit, a relation holds between what is gone into and the position of the child
-abbrev pub Each : (Option (Reach × Position) → Position → Type 0) → List Visit → List Position → Type 0
-Each R [] [] = ⊤
-Each R (visit ∷ visits) (position ∷ positions) = R visit.into position × Each R visits positions
-Each R [] (position ∷ positions) = ⊥
-Each R (visit ∷ visits) [] = ⊥
-
 -- both are made of the same links, one by one
 pub each_mapped : {A : Type 0} (R : Option (Reach × Position) → Position → Type 0) (visit : A → Visit) (position : A → Position)
     → ((x : A) → R (visit x).into (position x)) → (xs : List A) → Each R (map visit xs) (map position xs)
 each_mapped R visit position h [] = tt
 each_mapped R visit position h (x ∷ xs) = (h x, each_mapped R visit position h xs)
-
--- a child is gone into at its position, or passed over
-abbrev pub Stands : Option (Reach × Position) → Position → Type 0
-Stands None position = ⊤
-Stands (Some into) position = into.1 ≡ position
 
 -- a part is gone into at its position where the range meets it
 met_part_stands : (met : Bool) (low high size : ℕ)

@@ -1,6 +1,7 @@
 -- A traversal below a whole and checked node comes through, whatever is asked of it.
 use Rattle.std.proofs.Common.{◌≡◌, Option, Some, None, List, [], ◌∷◌, ℕ, ◌+◌, refl, sym, subst}
-use Rattle.tg_laws.proofs.VisitPlaces.{Each, Stands, visits_stand}
+use Rattle.tg_laws.proofs.VisitPlaces.{visits_stand}
+use Rattle.tg_laws.specs.Standing.{Each, Stands}
 use Rattle.tg_model.specs.Dag.{AreWhole, Dag, IsWhole, Children, bare, with_child, no_child, node, unopened}
 use Rattle.tg_model.specs.PathWalk.{Spot, TraversalEnd, spot_at, whole}
 use Rattle.tg_model.specs.Sound.{AreCheckedAt, IsCheckedAt, Position, position_fault, positions}

@@ -1,6 +1,7 @@
 -- A DAG with some blocks unopened.
-use Rattle.std.specs.Prelude.{List, Option, None, [], false, map, true, ℕ, ◌++◌, ◌≡◌, ◌⊎◌}
+use Rattle.std.specs.Prelude.{Contains, List, Option, None, [], false, map, true, ℕ, ◌++◌, ◌∷◌, ◌≡◌, ◌⊎◌}
 use Rattle.tg_cid.specs.Cid.{CidParts}
+use Rattle.tg_cid.specs.Names.{Names}
 use Rattle.tg_model.specs.Answer.{answer, is_listed, named_of, node_text}
 use Rattle.tg_model.specs.Content.{entries}
 use Rattle.tg_model.specs.Dag.{Children, Dag, Section, bare, blocks, no_child, node, root_cid, unopened, with_child}
@@ -24,6 +25,11 @@ mutual
   pub data ChildrenOpenedFrom : Children → Children → Type 0 where
     none : ChildrenOpenedFrom no_child no_child
     each : (s d : Dag) (children others : Children) → OpenedFrom s d → ChildrenOpenedFrom children others → ChildrenOpenedFrom (with_child s children) (with_child d others)
+
+-- a received block and one of a DAG that one CID names are equal, or they are a collision pair
+abbrev pub AreOneBlock : Type 0
+AreOneBlock = (d : Dag) (received held : Section) → Contains (blocks d) held → received.cid ≡ held.cid → Names received.cid received.block → Names held.cid held.block
+    → (received ≡ held) ⊎ CollisionPair (received ∷ []) d
 
 -- a checked partial DAG is the sound DAG of its root with some blocks unopened, or there is a collision pair
 abbrev pub AreOpenedFrom : Type 0

@@ -1,0 +1,11 @@
+mod BesideSteps
+mod FilledChildren
+mod OpeningSteps
+mod Outputs
+mod PathSteps
+mod ResolveSteps
+mod Rooted
+mod StageSteps
+mod StoreSteps
+mod TaskMaps
+mod VerifySteps

@@ -1,0 +1,20 @@
+//! Laws of what a verifier stands for.
+ghost use Rattle.tg_traverse.specs.Verified.{VerifiedLaws};
+
+use crate::beside::beside_dags;
+use crate::openings::taken_blocks;
+use tg_laws::{opened_texts, partial_dags};
+
+/// What a verifier stands for that takes sections one by one, each at the place that is wanted next and passing there: they are in
+/// progress or fit, what was given is what is written for them, and beside each sound DAG of the query's root it is what that DAG's
+/// traversal gives, or there is a collision pair. And each section of a list that fits, or is in progress, passes in its turn.
+///
+/// Trustless Gateway specification, dag-scope and entity-bytes.
+pub fn verified_sections()
+    ensures { VerifiedLaws }
+{
+    taken_blocks();
+    beside_dags();
+    partial_dags();
+    opened_texts();
+}
