@@ -1,0 +1,67 @@
+-- What calls give, in the words of the steps.
+use Rattle.std.proofs.Common.{◌≡◌, ◌≢◌, ◌+◌, ◌-◌, ◌<◌, ◌≤◌, ℕ, true, List, [], ◌∷◌, length, get_or, sym, ap, ◌∙◌, subst, inl, inr, arith}
+use Rattle.std.specs.Prelude.{slice_index, ◌==◌}
+use Rattle.std.specs.List.{sum_by}
+use Rattle.std.proofs.lemmas.Bool.{cases_eq, cases_lt, ne_eqb}
+use Rattle.tg_cid.specs.Cid.{CidParts}
+use Rattle.tg_cid.specs.declared.cid.Codec.TheVariants.{DagPb}
+use Rattle.tg_filedag.proofs.Closings.{BeginsAt}
+use Rattle.tg_filedag.proofs.Steps.{height_at}
+use Rattle.tg_filedag.specs.Linking.{IsKeptNode}
+use Rattle.tg_filedag.specs.State.{heights}
+use Rattle.tg_filedag.specs.Trees.{IsFileBlock, content_in, node_made, section_of, tsize_in}
+use Rattle.tg_filedag.specs.declared.subtree.Subtree.{Subtree}
+use Rattle.tg_model.specs.Dag.{Section}
+use Rattle.tg_model.specs.Stores.{Keeping, KeepingQuiet, Kept}
+use Rattle.tg_model.specs.declared.kinds.Made.{Made}
+
+pub zero_of : (n : ℕ) → (n == 0) ≡ true → n ≡ 0
+zero_of n e = elim (cases_eq n 0) [
+  | inl h ↦ h
+  | inr ne ↦ let f = ne_eqb n 0 ne in absurd (cc)
+]
+
+-- the node that is kept
+node_is : (links : List Subtree) (block : List ℕ) (cid : CidParts) (content tsize : ℕ) → cid ≡ (section_of DagPb block).cid → content ≡ sum_by content_in links
+    → tsize ≡ length block + sum_by tsize_in links → ◌≡◌ {A = Made} (record { cid = cid; content = content; tsize = tsize }) (node_made links block)
+node_is links block cid content tsize p q r = λ i. record { cid = p i; content = q i; tsize = r i }
+
+section_is : (cid : CidParts) (text block : List ℕ) → cid ≡ (section_of DagPb block).cid → text ≡ block
+    → ◌≡◌ {A = Section} (record { cid = cid; block = text }) (section_of DagPb block)
+section_is cid text block p q = λ i. record { cid = p i; block = q i }
+
+pub node_kept : (links : List Subtree) (block text : List ℕ) (cid : CidParts) (content tsize : ℕ) (keeping : Keeping) → IsFileBlock links block → length block ≤ 524288
+    → cid ≡ (section_of DagPb block).cid → text ≡ block → content ≡ sum_by content_in links → tsize ≡ length block + sum_by tsize_in links
+    → Kept (record { cid = cid; block = text } ∷ []) keeping → KeepingQuiet keeping → IsKeptNode links (record { cid = cid; content = content; tsize = tsize }) keeping
+node_kept links block text cid content tsize keeping written small p q r s kept quiet = record {
+  block = block;
+  written = written;
+  small = small;
+  made_is = node_is links block cid content tsize p r s;
+  keeps = record { kept = subst (λ (x : Section). Kept (x ∷ []) keeping) (section_is cid text block p q) kept; quiet = quiet };
+}
+
+-- the height of a subtree that is read
+pub read_height : (ss : List Subtree) (i j : ℕ) (s : Subtree) → i ≡ j → j < length ss → s ≡ get_or ss i s → s.height ≡ slice_index (heights ss) j
+read_height ss i j s e lt is =
+    ap (λ (x : Subtree). x.height) is ∙ sym (height_at ss i s (omega arith)) ∙ ap (λ (n : ℕ). slice_index (heights ss) n) e
+
+-- where the lowest level begins
+begins_at : (ss : List Subtree) (start height : ℕ) → 0 < length ss → height ≡ slice_index (heights ss) (length ss - 1)
+    → ((i : ℕ) → i < start → slice_index (heights ss) i ≢ height) → (start < length ss → slice_index (heights ss) start ≡ height) → BeginsAt ss start
+begins_at ss start height some is before found =
+    elim (cases_lt start (length ss)) [
+      | inl inside ↦ record {
+        inside = inside;
+        before = λ i lt. subst (λ (h : ℕ). slice_index (heights ss) i ≢ h) is (before i lt);
+        same = found inside ∙ is;
+      }
+      | inr outside ↦ absurd (before (length ss - 1) (omega arith) (sym is))
+    ]
+
+pub begins : (view ss : List Subtree) (start height : ℕ) → view ≡ ss → 0 < length ss → height ≡ slice_index (heights ss) (length ss - 1)
+    → ((i : ℕ) → i < start → slice_index (heights view) i ≢ height) → (start < length view → slice_index (heights view) start ≡ height) → BeginsAt ss start
+begins view ss start height e some is before found =
+    begins_at ss start height some is
+    (subst (λ (t : List Subtree). (i : ℕ) → i < start → slice_index (heights t) i ≢ height) e before)
+    (subst (λ (t : List Subtree). start < length t → slice_index (heights t) start ≡ height) e found)

@@ -1,0 +1,70 @@
+-- Lists of which all but the last are one number.
+use Rattle.std.proofs.Common.{◌≡◌, ◌+◌, ◌<◌, ◌≤◌, ℕ, zero, suc, List, Some, [], ◌∷◌, ◌++◌, length, refl, sym, ◌∙◌, arith}
+use Rattle.std.specs.Prelude.{All, Option, map, slice_get}
+use Rattle.std.proofs.lemmas.List.Elements.{All-cons, All-head, All-nil, All-tail}
+use Rattle.tg_filedag.specs.Chunks.{AreChunks, joined}
+use Rattle.std.proofs.lemmas.List.{length-append}
+use Rattle.tg_model.specs.ImportLayout.{AreFull, HasBytes}
+
+the_same : (a b : ℕ) → ◌≡◌ {A = Option ℕ} (Some a) (Some b) → a ≡ b
+the_same a b e = cc
+
+pub full_nil : (number : ℕ) → AreFull number []
+full_nil number = record { full = λ i n lt e. absurd (omega arith); last = λ i n eq e. absurd (omega arith) }
+
+one_last : (number x i n : ℕ) → x ≤ number → i + 1 ≡ length (x ∷ []) → slice_get (x ∷ []) i ≡ Some n → n ≤ number
+one_last number x zero n le eq e = let same = the_same x n e in omega arith
+one_last number x (suc i) n le eq e = absurd (omega arith)
+
+pub full_one : (number x : ℕ) → x ≤ number → AreFull number (x ∷ [])
+full_one number x le = record { full = λ i n lt e. absurd (omega arith); last = λ i n eq e. one_last number x i n le eq e }
+
+cons_all : (number x : ℕ) (zs : List ℕ) (i n : ℕ) → x ≡ number → AreFull number zs → i + 1 < length (x ∷ zs) → slice_get (x ∷ zs) i ≡ Some n → n ≡ number
+cons_all number x zs zero n is full lt e = sym (the_same x n e) ∙ is
+cons_all number x zs (suc i) n is full lt e = full.full i n (omega arith) e
+
+cons_last : (number x : ℕ) (zs : List ℕ) (i n : ℕ) → x ≡ number → AreFull number zs → i + 1 ≡ length (x ∷ zs) → slice_get (x ∷ zs) i ≡ Some n → n ≤ number
+cons_last number x zs zero n is full eq e = let same = the_same x n e in omega arith
+cons_last number x zs (suc i) n is full eq e = full.last i n (omega arith) e
+
+pub full_cons : (number x : ℕ) (zs : List ℕ) → x ≡ number → AreFull number zs → AreFull number (x ∷ zs)
+full_cons number x zs is full = record {
+  full = λ i n lt e. cons_all number x zs i n is full lt e;
+  last = λ i n eq e. cons_last number x zs i n is full eq e;
+}
+
+-- full ones before full ones
+pub full_append : (number : ℕ) (xs ys : List ℕ) → All (λ n. n ≡ number) xs → AreFull number ys → AreFull number (xs ++ ys)
+full_append number [] ys all full = full
+full_append number (x ∷ xs) ys all full =
+    let P = λ (n : ℕ). n ≡ number in
+    full_cons number x (xs ++ ys) (All-head P x xs all) (full_append number xs ys (All-tail P x xs all) full)
+
+pub full_all : (number : ℕ) (xs : List ℕ) → All (λ n. n ≡ number) xs → AreFull number xs
+full_all number [] all = full_nil number
+full_all number (x ∷ xs) all =
+    let P = λ (n : ℕ). n ≡ number in
+    full_cons number x xs (All-head P x xs all) (full_all number xs (All-tail P x xs all))
+
+pub all_some : (number : ℕ) (xs : List ℕ) → 0 < number → All (λ n. n ≡ number) xs → All (λ n. 0 < n) xs
+all_some number [] some all = All-nil (λ (n : ℕ). 0 < n)
+all_some number (x ∷ xs) some all =
+    let P = λ (n : ℕ). n ≡ number in
+    let is = All-head P x xs all in
+    All-cons (λ (n : ℕ). 0 < n) x xs (omega arith) (all_some number xs some (All-tail P x xs all))
+
+-- chunks of which there are several are longer than one
+several_longer : (size : ℕ) (a b : List ℕ) (chunks : List (List ℕ)) → AreFull size (map length (a ∷ b ∷ chunks)) → HasBytes (a ∷ b ∷ chunks)
+    → size < length (joined (a ∷ b ∷ chunks))
+several_longer size a b chunks full some =
+    let P = λ (bytes : List ℕ). 0 < length bytes in
+    let first : length a ≡ size = full.full 0 (length a) (omega arith) refl in
+    let second = All-head P b chunks (All-tail P a (b ∷ chunks) some) in
+    let whole = length-append a (b ++ joined chunks) in
+    let rest = length-append b (joined chunks) in
+    omega arith
+
+pub chunks_longer : (size : ℕ) (chunks : List (List ℕ)) → AreChunks size chunks → 2 ≤ length chunks → size < length (joined chunks)
+chunks_longer size [] are two = absurd (omega arith)
+chunks_longer size (a ∷ []) are two = absurd (omega arith)
+chunks_longer size (a ∷ b ∷ chunks) are two = several_longer size a b chunks are.full are.not_empty

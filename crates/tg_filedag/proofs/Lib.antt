@@ -1,0 +1,14 @@
+mod Falling
+mod FullLists
+mod Forests
+mod Parts
+mod Shapes
+mod Files
+mod Steps
+mod Closings
+mod KeepingSteps
+mod Cutting
+mod Beginnings
+mod Runs
+mod Rooms
+mod Calls

@@ -1,0 +1,54 @@
+-- How the bytes of a file are cut into chunks (this project's own profile of UnixFS).
+use Rattle.std.specs.Prelude.{List, [], length, map, take, ℕ, ◌++◌, ◌-◌, ◌∷◌, ◌≡◌}
+use Rattle.tg_model.specs.ImportLayout.{AreFull, HasBytes}
+
+-- the chunks one behind another
+abbrev pub joined : List (List ℕ) → List ℕ
+joined [] = []
+joined (chunk ∷ chunks) = chunk ++ joined chunks
+
+-- all chunks but the last have this size and the last has at most it, and a chunk that isn't alone has a byte
+pub record AreChunks (size : ℕ) (chunks : List (List ℕ)) : Type 0 where
+  pub full : AreFull size (map length chunks)
+  pub not_empty : HasBytes chunks
+
+-- what a contract sees of a chunker: how many bytes a chunk has, and the bytes of the chunk at hand
+pub record ChunkerState : Type 0 where
+  pub size : ℕ
+  pub bytes : List ℕ
+
+-- the bytes of a piece that there is room for, and what a chunker is with them
+abbrev pub taken_of : ChunkerState → List ℕ → List ℕ
+taken_of state piece = take (state.size - length state.bytes) piece
+
+abbrev pub fed_with : ChunkerState → List ℕ → ChunkerState
+fed_with state piece = record { size = state.size; bytes = state.bytes ++ taken_of state piece }
+
+abbrev pub cleared : ChunkerState → ChunkerState
+cleared state = record { size = state.size; bytes = [] }
+
+-- a call that changes a chunker
+pub data ChunkerCall : Type 0 where
+  feeds : List ℕ → ChunkerCall
+  clears : ChunkerCall
+
+-- what a chunker is after calls, the chunks that it was cleared of, and the bytes that it took
+abbrev pub state_after : ChunkerState → List ChunkerCall → ChunkerState
+state_after state [] = state
+state_after state (feeds piece ∷ calls) = state_after (fed_with state piece) calls
+state_after state (clears ∷ calls) = state_after (cleared state) calls
+
+abbrev pub chunks_after : ChunkerState → List ChunkerCall → List (List ℕ)
+chunks_after state [] = []
+chunks_after state (feeds piece ∷ calls) = chunks_after (fed_with state piece) calls
+chunks_after state (clears ∷ calls) = state.bytes ∷ chunks_after (cleared state) calls
+
+abbrev pub bytes_taken : ChunkerState → List ChunkerCall → List ℕ
+bytes_taken state [] = []
+bytes_taken state (feeds piece ∷ calls) = taken_of state piece ++ bytes_taken (fed_with state piece) calls
+bytes_taken state (clears ∷ calls) = bytes_taken (cleared state) calls
+
+-- the chunks that a chunker is cleared of, with the one at hand behind them, are the bytes that it took
+abbrev pub KeepsBytes : Type 0
+KeepsBytes = (state : ChunkerState) (calls : List ChunkerCall)
+    → joined (chunks_after state calls) ++ (state_after state calls).bytes ≡ state.bytes ++ bytes_taken state calls

@@ -1,0 +1,30 @@
+-- Sections that are kept one after another, and what stands after a fault.
+use Rattle.std.specs.Prelude.{List, Option, ℕ, ◌≡◌}
+use Rattle.tg_faults.specs.Faults.{Rose}
+use Rattle.tg_model.specs.Dag.{Section}
+use Rattle.tg_model.specs.Stores.{AreKeptAs, IsLeftAs, Keeping, KeepingQuiet, Kept, Store}
+use Rattle.tg_model.specs.declared.stores.KeepFault.{KeepFault}
+use Rattle.tg_model.specs.declared.stores.KeepFault.TheVariants as faults
+
+-- these sections were kept, one after another, and no fault of the store was counted
+pub record Keeps (sections : List Section) (keeping : Keeping) : Type 0 where
+  pub kept : Kept sections keeping
+  pub quiet : KeepingQuiet keeping
+
+-- after a fault a store tells what it told, or, where it failed itself, nothing any more
+abbrev pub IsLeftBy : KeepFault → Option Store → Option Store → Type 0
+IsLeftBy faults.Failed old new = IsLeftAs old new
+IsLeftBy faults.OutOfMemory old new = new ≡ old
+
+-- a fault of the store was counted where it failed itself, and none for want of memory
+abbrev pub IsCountedBy : KeepFault → ℕ → ℕ → Type 0
+IsCountedBy faults.Failed before now = Rose before now
+IsCountedBy faults.OutOfMemory before now = now ≡ before
+
+-- these sections were kept, one after another, before this fault
+pub record StopsAfter (sections : List Section) (fault : KeepFault) (keeping : Keeping) : Type 0 where
+  pub moved : keeping.kept sections
+  pub between : Option Store
+  pub stored : AreKeptAs keeping.stored_old between sections
+  pub left : IsLeftBy fault between keeping.stored_new
+  pub counted : IsCountedBy fault keeping.faults_old keeping.faults_new

@@ -1,0 +1,7 @@
+pub mod Chunks
+pub mod Heights
+pub mod Keeping
+pub mod Trees
+pub mod State
+pub mod MadeFile
+pub mod Linking

@@ -1,0 +1,13 @@
+//! The DAG of a file: its bytes are cut into chunks, and the chunks are linked while they come.
+#![tactic(auto)]
+
+mod balanced;
+mod chunker;
+mod keeping;
+mod laws;
+mod linking;
+mod subtree;
+
+pub use balanced::Balanced;
+pub use chunker::Chunker;
+pub use laws::kept_bytes;

@@ -1,0 +1,9 @@
+//! A part of a file that waits to be linked.
+use tg_model::Made;
+
+/// A DAG of a part of a file: how many links lie between its root and each of its leaves, and what was made.
+#[derive(Clone, Copy, Debug, PartialEq, Eq)]
+pub struct Subtree {
+    pub height: u64,
+    pub made: Made,
+}

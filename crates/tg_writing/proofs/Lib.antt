@@ -1,0 +1,3 @@
+mod TextLengths
+mod NodeLengths
+mod NodeLinks
