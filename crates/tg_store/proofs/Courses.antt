@@ -1,0 +1,156 @@
+-- How bytes are divided into a header and sections.
+use Rattle.std.proofs.Common.{◌≡◌, ◌≤◌, ◌<◌, ℕ, List, [], ◌∷◌, ◌++◌, length, All, refl, ap, ap₂, sym, subst, ◌∙◌, arith}
+use Rattle.std.proofs.lemmas.List.{append-nil, append_assoc, append_cancel_left, length-append}
+use Rattle.std.proofs.lemmas.List.Elements.{All-cons, All-head, All-nil, All-tail}
+use Rattle.tg_car.specs.CarText.{HeaderText, SectionText, SectionsText}
+use Rattle.tg_car.specs.Fronts.{IsInHeader, IsInSection, Reaches}
+use Rattle.tg_car.specs.Laws.{CarLaws}
+use Rattle.tg_car.specs.declared.section.Section.{Section}
+use Rattle.tg_cid.specs.Limits.{max_block_len}
+
+-- ---- lists
+
+-- the shorter of two fronts begins the longer one
+pub record Longer (a b x y : List ℕ) : Type 0 where
+  pub middle : List ℕ
+  pub first : b ≡ a ++ middle
+  pub rest : x ≡ middle ++ y
+
+pub longer : (a b x y : List ℕ) → a ++ x ≡ b ++ y → length a ≤ length b → Longer a b x y
+longer [] b x y e l = record { middle = b; first = refl; rest = e }
+longer (n ∷ a) [] x y e l = absurd (omega arith)
+longer (n ∷ a) (m ∷ b) x y e l =
+    let heads : n ≡ m = cc in
+    let tails : a ++ x ≡ b ++ y = cc in
+    let less : length a ≤ length b = omega arith in
+    let behind = longer a b x y tails less in
+    record { middle = behind.middle; first = ap₂ (λ (k : ℕ) (l : List ℕ). k ∷ l) (sym heads) behind.first; rest = behind.rest }
+
+-- the last of two lists is the same, and what is before it
+pub same_front : (a b : List ℕ) (x y : ℕ) → a ++ x ∷ [] ≡ b ++ y ∷ [] → a ≡ b
+same_front [] [] x y e = refl
+same_front [] (m ∷ b) x y e = let sizes : length (x ∷ []) ≡ length (m ∷ (b ++ y ∷ [])) = ap length e in absurd (omega (arith, length-append b (y ∷ [])))
+same_front (n ∷ a) [] x y e = let sizes : length (n ∷ (a ++ x ∷ [])) ≡ length (y ∷ []) = ap length e in absurd (omega (arith, length-append a (x ∷ [])))
+same_front (n ∷ a) (m ∷ b) x y e =
+    let heads : n ≡ m = cc in
+    let tails : a ++ x ∷ [] ≡ b ++ y ∷ [] = cc in
+    ap₂ (λ (k : ℕ) (l : List ℕ). k ∷ l) heads (same_front a b x y tails)
+
+-- ---- sections
+
+-- a section of these begins the bytes, and at least so many are behind it
+pub record Begins (Q : Section → Type 0) (bytes : List ℕ) (least : ℕ) : Type 0 where
+  pub section : Section
+  pub text : List ℕ
+  pub more : List ℕ
+  pub whole : bytes ≡ text ++ more
+  pub text_is : SectionText section text
+  pub holds : Q section
+  pub left : least ≤ length more
+
+-- of two divisions of the same bytes
+pub data Compared (Q : Section → Type 0) (ss ts : List Section) (r q : List ℕ) : Type 0 where
+  same : ss ≡ ts → r ≡ q → Compared Q ss ts r q
+  left_goes_on : Begins Q r (length q) → Compared Q ss ts r q
+  right_goes_on : Begins Q q (length r) → Compared Q ss ts r q
+
+pub compare : CarLaws → (Q : Section → Type 0) (ss ts : List Section) (u v r q : List ℕ) → SectionsText ss u → SectionsText ts v → All Q ss → All Q ts
+    → u ++ r ≡ v ++ q → Compared Q ss ts r q
+compare laws Q [] [] u v r q h k p p' e = same refl (ap (λ (l : List ℕ). l ++ r) (sym h) ∙ (e ∙ ap (λ (l : List ℕ). l ++ q) k))
+compare laws Q [] (t ∷ ts) u v r q h k p p' e = left_goes_on (record {
+  section = t;
+  text = k.0;
+  more = k.1 ++ q;
+  whole = ap (λ (l : List ℕ). l ++ r) (sym h) ∙ (e ∙ (ap (λ (l : List ℕ). l ++ q) k.2 ∙ append_assoc k.0 k.1 q));
+  text_is = k.3;
+  holds = All-head Q t ts p';
+  left = omega (arith, length-append k.1 q);
+})
+compare laws Q (s ∷ ss) [] u v r q h k p p' e = right_goes_on (record {
+  section = s;
+  text = h.0;
+  more = h.1 ++ r;
+  whole = ap (λ (l : List ℕ). l ++ q) (sym k) ∙ (sym e ∙ (ap (λ (l : List ℕ). l ++ r) h.2 ∙ append_assoc h.0 h.1 r));
+  text_is = h.3;
+  holds = All-head Q s ss p;
+  left = omega (arith, length-append h.1 r);
+})
+compare laws Q (s ∷ ss) (t ∷ ts) u v r q h k p p' e =
+    let both : h.0 ++ (h.1 ++ r) ≡ k.0 ++ (k.1 ++ q) =
+    sym (ap (λ (l : List ℕ). l ++ r) h.2 ∙ append_assoc h.0 h.1 r) ∙ (e ∙ (ap (λ (l : List ℕ). l ++ q) k.2 ∙ append_assoc k.0 k.1 q)) in
+    let one = laws.one_section s t h.0 k.0 (h.1 ++ r) (k.1 ++ q) h.3 k.3 both in
+    let rests : h.1 ++ r ≡ k.1 ++ q = append_cancel_left k.0 (h.1 ++ r) (k.1 ++ q) (ap (λ (l : List ℕ). l ++ (h.1 ++ r)) (sym one.0) ∙ both) in
+    elim (compare laws Q ss ts h.1 k.1 r q h.4 k.4 (All-tail Q s ss p) (All-tail Q t ts p') rests) [
+      | same ends left ↦ same (ap₂ (λ (x : Section) (l : List Section). x ∷ l) one.1 ends) left
+      | left_goes_on b ↦ left_goes_on b
+      | right_goes_on b ↦ right_goes_on b
+    ]
+
+-- no whole section stands at the front of bytes inside a section
+pub none_inside : CarLaws → (s : Section) (text more r : List ℕ) → SectionText s text → text ++ more ≡ r → IsInSection r → ⊥
+none_inside laws s text more r text_is e inside =
+    let whole : text ++ (more ++ inside.more) ≡ (r ++ inside.more) ++ [] =
+    sym (append_assoc text more inside.more) ∙ (ap (λ (l : List ℕ). l ++ inside.more) e ∙ sym (append-nil (r ++ inside.more))) in
+    let one = laws.one_section s inside.section text (r ++ inside.more) (more ++ inside.more) [] text_is inside.text whole in
+    let lengths : length text ≡ length (r ++ inside.more) = ap length one.0 in
+    let parts : length (text ++ more) ≡ length r = ap length e in
+    let some : 0 < length inside.more = inside.not_whole in
+    omega (arith, length-append text more, length-append r inside.more)
+
+-- nor a whole header at the front of bytes inside a header
+pub none_in_header : CarLaws → (roots : List (List ℕ)) (text more r : List ℕ) → HeaderText roots text → text ++ more ≡ r → IsInHeader r → ⊥
+none_in_header laws roots text more r text_is e inside =
+    let whole : text ++ (more ++ inside.more) ≡ (r ++ inside.more) ++ [] =
+    sym (append_assoc text more inside.more) ∙ (ap (λ (l : List ℕ). l ++ inside.more) e ∙ sym (append-nil (r ++ inside.more))) in
+    let one = laws.one_header roots inside.roots text (r ++ inside.more) (more ++ inside.more) [] text_is inside.text whole in
+    let lengths : length text ≡ length (r ++ inside.more) = ap length one.0 in
+    let parts : length (text ++ more) ≡ length r = ap length e in
+    let some : 0 < length inside.more = inside.not_whole in
+    omega (arith, length-append text more, length-append r inside.more)
+
+-- ---- what was reached
+
+-- two headers at the front of the same bytes
+pub record SameHeader (roots other : List (List ℕ)) (rest behind : List ℕ) : Type 0 where
+  pub roots_are : roots ≡ other
+  pub rests : rest ≡ behind
+
+pub same_header : CarLaws → (roots other : List (List ℕ)) (u v x y : List ℕ) → HeaderText roots u → HeaderText other v → u ++ x ≡ v ++ y → SameHeader roots other x y
+same_header laws roots other u v x y h k e =
+    let one = laws.one_header roots other u v x y h k e in
+    record { roots_are = one.1; rests = append_cancel_left v x y (ap (λ (l : List ℕ). l ++ x) (sym one.0) ∙ e) }
+
+-- two readings of bytes that end inside a section
+pub record SameReach (roots other : List (List ℕ)) (ss ts : List Section) (r q : List ℕ) : Type 0 where
+  pub roots_are : roots ≡ other
+  pub sections_are : ss ≡ ts
+  pub rests : r ≡ q
+
+abbrev pub IsSmall : Section → Type 0
+IsSmall section = length section.block ≤ max_block_len
+
+pub same_reach : CarLaws → (bytes : List ℕ) (ss ts : List Section) (r q : List ℕ) → (a : Reaches max_block_len bytes ss r) → (b : Reaches max_block_len bytes ts q)
+    → IsInSection r → IsInSection q → SameReach a.roots b.roots ss ts r q
+same_reach laws bytes ss ts r q a b inside within =
+    let head = same_header laws a.roots b.roots a.header b.header (a.done ++ r) (b.done ++ q) a.header_is b.header_is (sym a.whole ∙ b.whole) in
+    elim (compare laws IsSmall ss ts a.done b.done r q a.sections_are b.sections_are a.within b.within head.rests) [
+      | same sections rests ↦ record { roots_are = head.roots_are; sections_are = sections; rests = rests }
+      | left_goes_on g ↦ absurd (none_inside laws g.section g.text g.more r g.text_is (sym g.whole) inside)
+      | right_goes_on g ↦ absurd (none_inside laws g.section g.text g.more q g.text_is (sym g.whole) within)
+    ]
+
+-- ---- sections appended
+
+pub sections_join : (ss ts : List Section) (u v : List ℕ) → SectionsText ss u → SectionsText ts v → SectionsText (ss ++ ts) (u ++ v)
+sections_join [] ts u v h k = subst (λ (l : List ℕ). SectionsText ts l) (ap (λ (l : List ℕ). l ++ v) (sym h)) k
+sections_join (s ∷ ss) ts u v h k = (h.0, h.1 ++ v, ap (λ (l : List ℕ). l ++ v) h.2 ∙ append_assoc h.0 h.1 v, h.3, sections_join ss ts h.1 v h.4 k)
+
+pub one_text : (section : Section) (text : List ℕ) → SectionText section text → SectionsText (section ∷ []) text
+one_text section text h = (text, [], sym (append-nil text), h, refl)
+
+-- what holds of all but the last, and of it
+pub all_front : (P : Section → Type 0) (ss : List Section) (s : Section) → All P (ss ++ s ∷ []) → All P ss × P s
+all_front P [] s h = (All-nil P, All-head P s [] h)
+all_front P (t ∷ ss) s h =
+    let rest = all_front P ss s (All-tail P t (ss ++ s ∷ []) h) in
+    (All-cons P t ss (All-head P t (ss ++ s ∷ []) h) rest.0, rest.1)

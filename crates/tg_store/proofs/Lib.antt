@@ -1,0 +1,12 @@
+mod MemKeeping
+mod Keeping
+mod Appending
+mod Courses
+mod Events
+mod Stopping
+mod Headers
+mod Causes
+mod Growing
+mod Stepping
+mod Moving
+mod Scanning

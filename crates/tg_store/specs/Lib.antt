@@ -1,0 +1,11 @@
+pub mod Keys
+pub mod KeyLaws
+pub mod Entries
+pub mod EntryLaws
+pub mod Packs
+pub mod PackLaws
+pub mod PackReads
+pub mod PackWrites
+pub mod Finishing
+pub mod Attaching
+pub mod AttachedPacks
