@@ -1,0 +1,10 @@
+mod Letters
+mod CidAnswers
+mod Names
+mod FirstCuts
+mod Digits
+mod Fronts
+mod SpanTexts
+mod PathTexts
+mod RootTexts
+mod Roads

@@ -1,0 +1,12 @@
+mod Roads
+mod Firsts
+mod Pieces
+mod Escapes
+mod RootTexts
+mod Growing
+mod GoodTargets
+mod Visible
+mod PrintedTargets
+mod Printed
+mod TargetTexts
+mod Examples

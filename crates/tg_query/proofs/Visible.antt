@@ -1,0 +1,141 @@
+-- Bytes of printed requests: visible ones, and those that are none of the marks that cut a target.
+use Rattle.std.proofs.Common.{◌≡◌, ◌≢◌, ◌⊎◌, ℕ, zero, suc, ◌+◌, ◌^◌, ◌<◌, ◌≤◌, Bool, true, false, All, List, [], ◌∷◌, ◌++◌, get_or, length, refl, sym, ap, subst, ◌∙◌, inl, inr, arith, zero-add}
+use Rattle.std.specs.Char.{digit_value}
+use Rattle.std.specs.List.{flat_map, list_all, range_with_len}
+use Rattle.std.specs.Prelude.{codes, decimal, nat_le, nat_lt, not, ◌&&◌, ◌||◌, ◌==◌}
+use Rattle.std.specs.Str.Parse.{AllDigits}
+use Rattle.httparse.specs.Grammar.{is_uri_byte, is_value_byte}
+use Rattle.percent_encoding.specs.AsciiSet.{should_percent_encode}
+use Rattle.percent_encoding.specs.Percent.{percent_encode}
+use Rattle.percent_encoding.proofs.AsciiSetLemmas.{ascii_from_kept}
+use Rattle.percent_encoding.proofs.PercentLemmas.{All-percent_encode, IsEscapeByte}
+use Rattle.std.proofs.lemmas.Bool.Decides.{nat_tests}
+use Rattle.std.proofs.lemmas.Bool.{and_from, and_parts, le-leb, leb-true, lt-ltb, ltb-true}
+use Rattle.std.proofs.lemmas.Fmt.{decimal_is_IsNumeral}
+use Rattle.std.proofs.lemmas.List.Elements.{All-append, All-cons, All-nil, All-weaker}
+use Rattle.std.proofs.lemmas.List.FromFn.{get_or-range_with_len, length-range_with_len}
+use Rattle.tg_base32.specs.Base32.{IsLetter}
+use Rattle.tg_model.specs.Texts.{escaped}
+use Rattle.tg_query.specs.declared.requests.TheConstants.{ESCAPED}
+use Rattle.tg_query.proofs.Escapes.{escapes}
+
+-- ---- tests over all bytes of ASCII
+
+agree_at : (test : ℕ → Bool) (xs : List ℕ) → list_all test xs ≡ true → (i : ℕ) → i < length xs → test (get_or xs i 0) ≡ true
+agree_at test [] t i inside = absurd (omega arith)
+agree_at test (x ∷ xs) t zero inside = (and_parts (test x) (list_all test xs) t).0
+agree_at test (x ∷ xs) t (suc i) inside = agree_at test xs (and_parts (test x) (list_all test xs) t).1 i (omega arith)
+
+by_table : (test : ℕ → Bool) (size : ℕ) → list_all test (range_with_len 0 size) ≡ true → (b : ℕ) → b < size → test b ≡ true
+by_table test size t b h =
+    subst (λ (n : ℕ). test n ≡ true) (get_or-range_with_len 0 size b 0 h ∙ zero-add b)
+    (agree_at test (range_with_len 0 size) t b (omega (arith, length-range_with_len 0 size, h)))
+
+implied : (x y : Bool) → (not x || y) ≡ true → x ≡ true → y ≡ true
+implied true y e h = e
+implied false y e h = absurd cc
+
+either : (x y : Bool) → (x || y) ≡ true → x ≡ false → y ≡ true
+either true y e h = absurd cc
+either false y e h = e
+
+-- ---- the classes
+
+-- visible, and neither `/`, `?`, `&`
+abbrev pub is_plain : ℕ → Bool
+is_plain b = nat_le 33 b && (nat_le b 126 && (not (b == 47) && (not (b == 63) && not (b == 38))))
+
+abbrev pub is_visible : ℕ → Bool
+is_visible b = nat_le 33 b && nat_le b 126
+
+abbrev pub Plain : List ℕ → Type 0
+Plain bytes = All (λ (b : ℕ). is_plain b ≡ true) bytes
+
+abbrev pub Visible : List ℕ → Type 0
+Visible bytes = All (λ (b : ℕ). is_visible b ≡ true) bytes
+
+pub all_from : (test : ℕ → Bool) (bytes : List ℕ) → list_all test bytes ≡ true → All (λ (b : ℕ). test b ≡ true) bytes
+all_from test [] t = All-nil (λ (b : ℕ). test b ≡ true)
+all_from test (b ∷ bytes) t =
+    let both = and_parts (test b) (list_all test bytes) t in
+    All-cons (λ (b : ℕ). test b ≡ true) b bytes both.0 (all_from test bytes both.1)
+
+visible_below : (b : ℕ) → is_visible b ≡ true → b < 128
+visible_below b h = let both = and_parts (nat_le 33 b) (nat_le b 126) h in omega (arith, leb-true b 126 both.1)
+
+plain_visible : (b : ℕ) → is_plain b ≡ true → is_visible b ≡ true
+plain_visible b h =
+    let first = and_parts (nat_le 33 b) (nat_le b 126 && (not (b == 47) && (not (b == 63) && not (b == 38)))) h in
+    let second = and_parts (nat_le b 126) (not (b == 47) && (not (b == 63) && not (b == 38))) first.1 in
+    and_from (nat_le 33 b) (nat_le b 126) first.0 second.0
+
+pub plain_is_visible : (bytes : List ℕ) → Plain bytes → Visible bytes
+plain_is_visible bytes = All-weaker (λ (b : ℕ). is_plain b ≡ true) (λ (b : ℕ). is_visible b ≡ true) plain_visible bytes
+
+pub visible_uri : (b : ℕ) → is_visible b ≡ true → is_uri_byte b ≡ true
+visible_uri b h = implied (is_visible b) (is_uri_byte b) (by_table (λ b. not (is_visible b) || is_uri_byte b) 128 refl b (visible_below b h)) h
+
+pub visible_value : (b : ℕ) → is_visible b ≡ true → is_value_byte b ≡ true
+visible_value b h = implied (is_visible b) (is_value_byte b) (by_table (λ b. not (is_visible b) || is_value_byte b) 128 refl b (visible_below b h)) h
+
+pub visible_ascii : (bytes : List ℕ) → Visible bytes → All (λ (b : ℕ). b < 128) bytes
+visible_ascii bytes = All-weaker (λ (b : ℕ). is_visible b ≡ true) (λ (b : ℕ). b < 128) visible_below bytes
+
+-- a plain byte is no mark
+
+pub plain_not : (mark b : ℕ) → is_plain mark ≡ false → is_plain b ≡ true → b ≢ mark
+plain_not mark b none h e = let same : is_plain mark ≡ true = subst (λ (n : ℕ). is_plain n ≡ true) e h in absurd cc
+
+pub plain_without : (mark : ℕ) (bytes : List ℕ) → is_plain mark ≡ false → Plain bytes → All (λ (b : ℕ). b ≢ mark) bytes
+plain_without mark bytes none = All-weaker (λ (b : ℕ). is_plain b ≡ true) (λ (b : ℕ). b ≢ mark) (λ b h. plain_not mark b none h) bytes
+
+-- ---- what is plain
+
+between : (low high b : ℕ) → list_all (λ b. not (nat_le low b && nat_le b high) || is_plain b) (range_with_len 0 128) ≡ true → low ≤ b → b ≤ high → high < 128
+    → is_plain b ≡ true
+between low high b table from to small =
+    implied (nat_le low b && nat_le b high) (is_plain b)
+    (by_table (λ b. not (nat_le low b && nat_le b high) || is_plain b) 128 table b (omega (arith, to, small)))
+    (and_from (nat_le low b) (nat_le b high) (le-leb low b from) (le-leb b high to))
+
+letter_plain : (b : ℕ) → IsLetter b → is_plain b ≡ true
+letter_plain b (inl h) = between 97 122 b refl h.0 h.1 (omega arith)
+letter_plain b (inr h) = between 50 55 b refl h.0 h.1 (omega arith)
+
+pub letters_plain : (text : List ℕ) → All IsLetter text → Plain text
+letters_plain text = All-weaker IsLetter (λ (b : ℕ). is_plain b ≡ true) letter_plain text
+
+escape_plain : (b : ℕ) → IsEscapeByte b → is_plain b ≡ true
+escape_plain b (inl e) = ap is_plain e
+escape_plain b (inr (inl h)) = between 48 57 b refl h.0 h.1 (omega arith)
+escape_plain b (inr (inr h)) = between 65 70 b refl h.0 h.1 (omega arith)
+
+kept_table : list_all (λ b. should_percent_encode ESCAPED b || is_plain b) (range_with_len 0 128) ≡ true
+unfolding should_percent_encode
+kept_table = refl
+
+kept_plain : (b : ℕ) → should_percent_encode ESCAPED b ≡ false → is_plain b ≡ true
+kept_plain b kept =
+    either (should_percent_encode ESCAPED b) (is_plain b)
+    (by_table (λ b. should_percent_encode ESCAPED b || is_plain b) 128 kept_table b (ascii_from_kept ESCAPED b kept)) kept
+
+pub escaped_plain : (name : List ℕ) → All (λ (b : ℕ). b < 256) name → Plain (escaped name)
+escaped_plain name are =
+    subst Plain (escapes name are) (All-percent_encode (λ (b : ℕ). is_plain b ≡ true) ESCAPED name kept_plain escape_plain)
+
+-- a digit
+abbrev digit_test : ℕ → Bool
+digit_test b = not (nat_lt (digit_value b) 10) || is_plain b
+
+digit_low : (b : ℕ) → digit_value b < 10 → b < 128
+digit_low b h = grind (arith, nat_tests)
+
+digits_plain : (text : List ℕ) → AllDigits 10 text → Plain text
+digits_plain [] all = All-nil (λ (b : ℕ). is_plain b ≡ true)
+digits_plain (b ∷ text) all =
+    All-cons (λ (b : ℕ). is_plain b ≡ true) b text
+    (implied (nat_lt (digit_value b) 10) (is_plain b) (by_table digit_test 128 refl b (digit_low b all.0)) (lt-ltb (digit_value b) 10 all.0))
+    (digits_plain text all.1)
+
+pub decimal_plain : (n : ℕ) → n < 2 ^ 64 → Plain (decimal n)
+decimal_plain n h = digits_plain (decimal n) (decimal_is_IsNumeral n h).0.1

@@ -1,0 +1,5 @@
+pub mod Targets
+pub mod Accepts
+pub mod Joins
+pub mod Requests
+pub mod Laws

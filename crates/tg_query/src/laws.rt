@@ -1,0 +1,32 @@
+//! Laws of requests, each the contract of a function that does nothing.
+ghost use Rattle.std.specs.Prelude.{◌≡◌, ◌↔◌, ℕ, List, Ok};
+ghost use Rattle.tg_model.specs.Queries.{QueryParts};
+ghost use Rattle.tg_query.specs.Laws.{IsOneHead, IsPrintable};
+ghost use Rattle.tg_query.specs.Requests.{request_text};
+ghost use Rattle.tg_query.specs.Targets.{TargetText, target_of};
+ghost use Rattle.tg_query.specs.declared.targets.Target.{Target};
+
+/// The request that is printed for a query whose root is a CIDv1 is one head and nothing else, where it fits a head; and
+/// what its target and its `Accept` ask is that query.
+///
+/// RFC 9112, sections 2 to 6; Trustless Gateway specification.
+pub fn printed_requests()
+    ensures { (q : QueryParts) (addr : List ℕ) → IsPrintable q addr → IsOneHead q (request_text q addr) }
+{
+    tg_path::cuts_read();
+    tg_path::roots_read();
+    tg_path::spans_read();
+    tg_cid::computes();
+    tg_http::request_heads();
+}
+
+/// What is computed of a target is what its grammar says.
+///
+/// Path Gateway and Trustless Gateway specifications.
+pub fn targets_read()
+    ensures { (text : List ℕ) (target : Target) → (target_of text ≡ Ok target) ↔ TargetText text target }
+{
+    tg_path::cuts_read();
+    tg_path::roots_read();
+    tg_path::spans_read();
+}

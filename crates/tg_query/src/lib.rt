@@ -1,0 +1,15 @@
+//! What requests ask: targets and `Accept` fields read as queries, and the request that a client prints for a query.
+#![tactic(auto)]
+
+mod accepts;
+mod joins;
+mod laws;
+mod requests;
+mod targets;
+
+pub use accepts::{Accepted, CarChoice, parse_accept};
+pub use joins::join;
+pub use laws::{printed_requests, targets_read};
+pub use requests::{ESCAPED, print_request};
+pub use targets::{Target, parse_target};
+pub use tg_path::{QueryFault, parse_span, parse_word};
