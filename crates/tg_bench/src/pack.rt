@@ -1,7 +1,8 @@
 //! A file of the system read through a pack by offsets, into one buffer of 65,536 bytes.
+use crate::held::print_most_held;
+use std::io;
 use std::rt::{Clock, Files};
 use std::time::Instant;
-use std::{fs, io};
 use tg_edges::{Failed, HostPack, Pack};
 
 const PIECE: usize = 65_536;
@@ -18,13 +19,7 @@ pub fn run<R: Files + Clock + Print + AllocGlobal + Clone + Drop>(
     let nanos = begin.elapsed(rt)?.as_nanos().max(1);
     let speed = u128::from(read) * 1000 / nanos;
     println!(rt; "pack of {read} bytes read by offsets: {speed} MB/s, buffer {PIECE} bytes")?;
-    let status = fs::read_to_string(rt, "/proc/self/status")?;
-    for line in status.as_str().lines() {
-        if line.starts_with("VmHWM:") {
-            println!(rt; "{line}")?;
-        }
-    }
-    Ok(())
+    print_most_held(rt)
 }
 
 /// Reads a pack to its end, and says how many bytes it has.
