@@ -73,7 +73,7 @@ module _ (laws : CarLaws) (spellings : SpellingLaws) (cids : CidsOnce) where
       let parts : length bytes ≡ length v.front + 1 = ap length v.whole ∙ length-append v.front (v.last ∷ []) in
       omega arith
 
-  some_section : (section : Section) (text : List ℕ) → SectionText section text → 0 < length text
+  pub some_section : (section : Section) (text : List ℕ) → SectionText section text → 0 < length text
   some_section section text t =
       let some : 0 < length t.size = some_spelling (length t.name + length section.block) t.size t.size_is in
       let parts : length text ≡ length t.size + length (t.name ++ section.block) = ap length t.whole ∙ length-append t.size (t.name ++ section.block) in

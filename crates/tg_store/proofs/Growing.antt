@@ -10,7 +10,7 @@ use Rattle.tg_store.specs.Entries.{first_of_each, new_beside}
 use Rattle.tg_store.specs.Finishing.{IsNew}
 use Rattle.tg_store.specs.Packs.{ArePlacedAt, GrewBy, HasKept, PackStoreState, in_car, unfinished_root}
 
-placed_sections : (at : ℕ) (sections : List Section) (bytes : List ℕ) (places : List (Key × Place)) → ArePlacedAt at sections bytes places → SectionsText (map in_car sections) bytes
+pub placed_sections : (at : ℕ) (sections : List Section) (bytes : List ℕ) (places : List (Key × Place)) → ArePlacedAt at sections bytes places → SectionsText (map in_car sections) bytes
 placed_sections at [] bytes places h = h.0
 placed_sections at (section ∷ sections) bytes places h = (h.0, h.1, h.3, h.4, placed_sections (at + length h.0) sections h.1 h.2 h.6)
 

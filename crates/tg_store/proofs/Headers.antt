@@ -152,7 +152,7 @@ block_stays old header place size long behind =
     let was : drop (place.offset - 59) (drop 59 old) ≡ drop place.offset old = drop-drop (place.offset - 59) 59 old ∙ ap (λ n. drop n old) (sym split) in
     ap (take place.size) (new ∙ was)
 
-written_over : (old header : List ℕ) → length header ≡ 59 → over old 0 header ≡ header ++ drop 59 old
+pub written_over : (old header : List ℕ) → length header ≡ 59 → over old 0 header ≡ header ++ drop 59 old
 written_over old header size =
     let from : 0 + length header ≡ 59 = omega arith in
     ap (λ n. header ++ drop n old) from

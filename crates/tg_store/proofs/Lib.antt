@@ -10,3 +10,4 @@ mod Growing
 mod Stepping
 mod Moving
 mod Scanning
+mod Finished

@@ -1,15 +1,18 @@
 //! The laws of stores in packs, for proofs.
-ghost use Rattle.std.specs.Prelude.{◌≡◌, ◌∷◌, [], ℕ, List, Some, map};
+ghost use Rattle.std.specs.Prelude.{◌≡◌, ◌≢◌, ◌∷◌, [], ℕ, List, Some, map};
 ghost use Rattle.tg_car.specs.CarText.{CarText};
+ghost use Rattle.tg_cid.specs.Cid.{CidParts};
 ghost use Rattle.tg_model.specs.Dag.{Section};
-ghost use Rattle.tg_model.specs.Stores.{Store};
+ghost use Rattle.tg_model.specs.Stores.{Kept, Store, kept_in};
 ghost use Rattle.tg_store.specs.Attaching.{HasPackCause, IsAttached};
-ghost use Rattle.tg_store.specs.Entries.{first_of_each};
-ghost use Rattle.tg_store.specs.Finishing.{IsNew};
-ghost use Rattle.tg_store.specs.Packs.{HasKept, PackStoreState, in_car, unfinished_root};
+ghost use Rattle.tg_store.specs.Entries.{first_of_each, store_of};
+ghost use Rattle.tg_store.specs.Finishing.{IsFinished, IsNew, unfinished_cid};
+ghost use Rattle.tg_store.specs.Packs.{HasKept, PackStoreState, block_at, in_car, unfinished_root};
 ghost use Rattle.tg_store.specs.declared.fault.PackFault.{PackFault};
 
+use crate::pack_store::PackStore;
 use tg_files::Pack;
+use tg_model::Keep;
 
 /// Once sections were kept in a store that was created, its pack holds, as far as it is told, the CAR of the unfinished root
 /// and of these sections in order, each CID once. `finish` puts another root in its place.
@@ -19,6 +22,24 @@ pub fn pack_laws<P: Pack>()
     ensures { (a b : PackStoreState P) (sections : List Section) (content : List ℕ) → IsNew P.pack a → HasKept P.pack a b sections
         → P.pack.content b.pack ≡ Some content → CarText (unfinished_root ∷ []) (map in_car (first_of_each sections)) content }
 {}
+
+/// A pack that was created, in which sections were kept and which was finished, is attached again, as far as it is told, and as the
+/// same map: what it holds is a CAR that no cause refuses, and under each CID stands the block that the store told. What is attached
+/// of one content is the same at every CID.
+///
+/// CARv1 specification.
+pub fn finished_packs<P: Pack>()
+    ensures attached { (a b c : PackStoreState P) (sections : List Section) (root : CidParts) (content : List ℕ) → IsNew P.pack a
+        → Kept sections (kept_in ⟦<PackStore<P> as Keep>⟧.keeper a b) → IsFinished P.pack b c root → root.version ≡ 1 → root ≢ unfinished_cid
+        → P.pack.content c.pack ≡ Some content
+        → IsAttached content (store_of (block_at content) c.places) × ((fault : PackFault) → HasPackCause content fault → ⊥) }
+    ensures same { (content : List ℕ) (s t : Store) (cid : CidParts) → IsAttached content s → IsAttached content t → s cid ≡ t cid }
+{
+    tg_varint::spelling_laws();
+    tg_car::car_laws();
+    tg_cid::one_spelling();
+    one_cause();
+}
 
 /// No two causes of a refusal hold of one content, and none of one that is attached.
 ///

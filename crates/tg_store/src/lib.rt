@@ -12,6 +12,6 @@ mod reading;
 mod writing;
 
 pub use fault::{PackFault, PackRefused};
-pub use laws::{one_cause, pack_laws};
+pub use laws::{finished_packs, one_cause, pack_laws};
 pub use mem_store::MemStore;
 pub use pack_store::PackStore;

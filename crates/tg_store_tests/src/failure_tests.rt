@@ -96,6 +96,9 @@ const CALLS: [(u64, Fails); 9] = [
     (8, Fails::Nowhere),
 ];
 
+// A number that no call has.
+const NO_CALL: u64 = 1_000;
+
 #[test]
 fn packs_are_made_and_each_call_fails(rt: HostRuntime) -> Result<(), Fail> {
     let mut wanted = Bytes::new(rt.alloc());
@@ -113,6 +116,34 @@ fn packs_are_made_and_each_call_fails(rt: HostRuntime) -> Result<(), Fail> {
             assert!(rt; pack.content().is_none());
         }
     }
+    Ok(())
+}
+
+/// Whether the store gives this block under the CID.
+fn gives<B: Blocks>(store: &mut B, cid: Cid, block: &[u8]) -> bool {
+    match store.get(&cid) {
+        Ok(Some(found)) => found.as_slice() == block,
+        Ok(None) | Err(_) => false,
+    }
+}
+
+/// Whether the store gives the directory by both of its CIDs, the directory's bytes as raw ones, and `hello world`.
+fn gives_all<B: Blocks>(store: &mut B, one: Cid, zero: Cid) -> bool {
+    gives(store, one, DIRECTORY)
+        && gives(store, zero, DIRECTORY)
+        && gives(store, Cid::of_block(Codec::Raw, DIRECTORY), DIRECTORY)
+        && gives(store, Cid::of_block(Codec::Raw, HELLO), HELLO)
+}
+
+#[test]
+fn a_finished_pack_is_attached(rt: HostRuntime) -> Result<(), Fail> {
+    let one = Cid::from_bytes(DIRECTORY_ONE)?;
+    let zero = Cid::from_bytes(DIRECTORY_ZERO)?;
+    let (failed, pack) = make(rt.alloc(), NO_CALL)?;
+    assert_eq!(rt; failed, Fails::Nowhere);
+    let attached = PackStore::attach_pack(rt.alloc(), pack).map_err(|refused| refused.fault);
+    let mut store = attached?;
+    assert!(rt; gives_all(&mut store, one, zero));
     Ok(())
 }
 
