@@ -1,0 +1,13 @@
+//! What is left of a query's traversal, as frames of the blocks that were opened: which block is wanted next, what the block at
+//! that place is read as, and what it leaves. It speaks of no store and of no peer.
+#![tactic(auto)]
+
+mod frame;
+mod frames;
+mod opening;
+mod position;
+mod reading;
+mod stack;
+
+pub use frames::{Frames, Next, copied_path};
+pub use position::{Miss, Wanted};
