@@ -14,3 +14,5 @@ mod files;
 mod shelf;
 #[cfg(test)]
 mod stores;
+#[cfg(test)]
+mod walks;

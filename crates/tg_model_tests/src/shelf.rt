@@ -1,4 +1,5 @@
 //! Blocks that tests make, and what they expect of a query over them.
+use crate::walks::expect_walk;
 use std::alloc::Global;
 use std::process::Abort;
 use std::test::Fail;
@@ -22,6 +23,11 @@ pub struct Shelf {
 }
 
 impl Shelf {
+    /// The allocator.
+    pub fn alloc(&self) -> Global {
+        self.alloc
+    }
+
     /// No blocks.
     pub fn new(alloc: Global) -> Shelf {
         Shelf {
@@ -127,6 +133,7 @@ pub fn expect(
             assert_eq!(rt; section.size, size, "{query:?}");
         }
     }
+    expect_walk(rt, shelf, query, &found)?;
     Ok(car_size(sent))
 }
 

@@ -1,0 +1,149 @@
+//! Walks over a store, beside the evaluator.
+use crate::shelf::Shelf;
+use std::process::Abort;
+use std::rt::HostRuntime;
+use std::test::Fail;
+use tg_cid::{Cid, MAX_BLOCK_LEN};
+use tg_frames::copied_path;
+use tg_model::{Keep, Query, Scope};
+use tg_oracle::{End, Evaluation, evaluate, scoped_query};
+use tg_store::MemStore;
+use tg_walk::{ResolveFault, Walk, WalkFault, resolve};
+
+/// A store that holds the blocks, or none where a CID doesn't name its block.
+fn store_of(shelf: &Shelf) -> Result<Option<MemStore>, Fail> {
+    let mut store = MemStore::new(shelf.alloc());
+    for stored in shelf.blocks.as_slice() {
+        let block = stored.block.as_slice();
+        if block.len() > MAX_BLOCK_LEN || !stored.cid.holds(block) {
+            return Ok(None);
+        }
+        store.keep(stored.cid, block)?;
+    }
+    Ok(Some(store))
+}
+
+/// Expects that a walk over the blocks gives what the evaluator sends, and ends as the evaluation does, and that the path leads where it
+/// does. Nothing is expected where a CID doesn't name its block.
+pub fn expect_walk(
+    rt: &impl Abort,
+    shelf: &Shelf,
+    query: &Query,
+    found: &Evaluation,
+) -> Result<(), Fail> {
+    let Some(mut store) = store_of(shelf)? else {
+        return Ok(());
+    };
+    let mut walk = Walk::new(shelf.alloc(), query)?;
+    for sent in found.sent.as_slice() {
+        let Some((cid, block)) = walk.next(&mut store)? else {
+            return Err(Fail::new("the walk ended too soon"));
+        };
+        assert_eq!(rt; cid, sent.cid, "{query:?}");
+        let stored = shelf
+            .blocks
+            .as_slice()
+            .get(sent.index)
+            .map(|stored| stored.block.as_slice());
+        assert_eq!(rt; Some(block.as_slice()), stored, "{query:?}");
+    }
+    let end = walk.next(&mut store).map(|last| last.is_some());
+    assert_eq!(rt; end, walk_end(&found.end), "{query:?}");
+    let again = walk.next(&mut store).map(|last| last.is_some());
+    assert_eq!(rt; again, end, "{query:?}");
+    expect_resolved(rt, shelf, &mut store, query)
+}
+
+/// Expects that the path of a query leads to the block which the evaluator sends last for it, or ends as its evaluation does.
+fn expect_resolved(
+    rt: &impl Abort,
+    shelf: &Shelf,
+    store: &mut MemStore,
+    query: &Query,
+) -> Result<(), Fail> {
+    let alloc = shelf.alloc();
+    let path = copied_path(alloc, query.path())?;
+    let block = Query::car(query.root(), path, Scope::Block, None, true);
+    let found = evaluate(alloc, shelf.blocks.as_slice(), &block)?;
+    match resolve(alloc, store, &query.root(), query.path()) {
+        Ok(cid) => {
+            let last = found.sent.as_slice().last().map(|sent| sent.cid);
+            assert_eq!(rt; found.end, End::Whole, "{query:?}");
+            assert_eq!(rt; Some(cid), last, "{query:?}");
+        }
+        Err(fault) => assert_eq!(rt; Some(fault), refusal_at(&found.end), "{query:?}"),
+    }
+    Ok(())
+}
+
+/// Why a path leads to no stored block, where it doesn't.
+fn refusal_at(end: &End) -> Option<ResolveFault> {
+    match *end {
+        End::Whole => None,
+        End::NotThere { at } => Some(ResolveFault::NotThere {
+            segment: segment_at(at),
+        }),
+        End::NotFolder { at } => Some(ResolveFault::NotFolder {
+            segment: segment_at(at),
+        }),
+        End::Gone { depth: 1, .. } => Some(ResolveFault::NoRoot),
+        End::Gone { cid, .. } => Some(ResolveFault::Gone { cid }),
+        End::BadBlock { cid, fault, .. } => Some(ResolveFault::BadBlock { cid, fault }),
+    }
+}
+
+/// The number of a segment.
+fn segment_at(at: u64) -> u32 {
+    u32::try_from(at).unwrap_or(u32::MAX)
+}
+
+/// Stores a file of one byte whose only leaf lies so many blocks below the root, the root counted.
+fn chain(shelf: &mut Shelf, nodes: u32) -> Result<Cid, Fail> {
+    let mut below = shelf.raw(b"x")?;
+    for _ in 0..nodes {
+        below = shelf.node(&[("", below, 1)], b"\x08\x02\x18\x01\x20\x01")?;
+    }
+    Ok(below)
+}
+
+/// How many blocks the walk over a chain gives, and how it ends.
+fn walked(shelf: &Shelf, root: Cid) -> Result<(u32, Option<WalkFault>), Fail> {
+    let Some(mut store) = store_of(shelf)? else {
+        return Err(Fail::new("a CID doesn't name its block"));
+    };
+    let query = scoped_query(shelf.alloc(), root, &[], Scope::Entity)?;
+    let mut walk = Walk::new(shelf.alloc(), &query)?;
+    for given in 0..1_000 {
+        match walk.next(&mut store) {
+            Ok(Some(_)) => {}
+            Ok(None) => return Ok((given, None)),
+            Err(fault) => return Ok((given, Some(fault))),
+        }
+    }
+    Err(Fail::new("the walk doesn't end"))
+}
+
+#[test]
+fn walks_go_512_blocks_deep(rt: HostRuntime) -> Result<(), Fail> {
+    let mut shelf = Shelf::new(rt.alloc());
+    let root = chain(&mut shelf, 511)?;
+    assert_eq!(rt; walked(&shelf, root)?, (512, None));
+    let root = chain(&mut shelf, 512)?;
+    assert_eq!(rt; walked(&shelf, root)?, (512, Some(WalkFault::TooDeep)));
+    Ok(())
+}
+
+/// The end of a walk: no further block, or a refusal.
+fn walk_end(end: &End) -> Result<bool, WalkFault> {
+    match *end {
+        End::Whole => Ok(false),
+        End::NotThere { at } => Err(WalkFault::NotThere {
+            segment: segment_at(at),
+        }),
+        End::NotFolder { at } => Err(WalkFault::NotFolder {
+            segment: segment_at(at),
+        }),
+        End::Gone { cid, .. } => Err(WalkFault::Gone { cid }),
+        End::BadBlock { cid, fault, .. } => Err(WalkFault::BadBlock { cid, fault }),
+    }
+}

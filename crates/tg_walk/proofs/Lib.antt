@@ -1,0 +1,5 @@
+mod Walking
+mod WalkSteps
+mod OpenedHere
+mod PathPlaces
+mod PathSteps

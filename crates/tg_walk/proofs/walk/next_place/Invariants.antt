@@ -1,0 +1,14 @@
+use Rattle.std.proofs.Common.{◌≡◌, length}
+use Rattle.tg_frames.specs.Left.{tasks_left}
+use Rattle.tg_traverse.specs.Tasks.{tasks_then}
+use Rattle.tg_walk.proofs.walk.next_place.Given as goal
+
+-- only texts and entries were passed over
+abbrev pub invariant-loop-frames : goal.invariant-loop-frames
+invariant-loop-frames l = record {
+  query : l.frames.query ≡ l.fn.frames.query;
+  same : tasks_then (tasks_left l.frames) ≡ tasks_then (tasks_left l.fn.frames);
+}
+
+abbrev pub decreases-loop-frames : goal.decreases-loop-frames
+decreases-loop-frames l = length (tasks_left l.frames)

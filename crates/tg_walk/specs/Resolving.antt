@@ -1,0 +1,67 @@
+-- Where a path leads over what a store shows (Path Gateway specification, Path Resolution).
+use Rattle.std.specs.Prelude.{Err, List, None, Ok, Option, Result, Some, [], ⊤, ℕ, ◌∷◌, ◌≡◌}
+use Rattle.tg_cid.specs.Cid.{CidParts}
+use Rattle.tg_walk.specs.declared.fault.ResolveFault.{ResolveFault}
+use Rattle.tg_walk.specs.declared.fault.ResolveFault.TheVariants as refusals
+use Rattle.tg_walk.specs.declared.fault.WalkFault.{WalkFault}
+use Rattle.tg_walk.specs.declared.fault.WalkFault.TheVariants as walks
+use Rattle.tg_model.specs.Dag.{Dag}
+use Rattle.tg_model.specs.PathWalk.{PathEnd, Spot, bad_block, gone, not_folder, not_reached, not_there, path_walk, terminal}
+use Rattle.tg_model.specs.StoreView.{store_view}
+use Rattle.tg_model.specs.Stores.{IsCauseOf, Lookups, LookupsQuiet, Store}
+use Rattle.tg_model.specs.declared.stores.BlocksFault.{BlocksFault}
+use Rattle.tg_model.specs.declared.stores.BlocksFault.TheVariants as store_faults
+use Rattle.tg_traverse.specs.Stages.{IsOpened}
+use Rattle.tg_traverse.specs.StoreWalks.{section_of}
+use Rattle.tg_traverse.specs.Tasks.{Task, open_block, segment_want, stop_at, terminal_want}
+
+-- a store's fault, and a walk's; want of memory is the refusal's own
+abbrev pub refusal_of_store : BlocksFault → ResolveFault
+refusal_of_store (store_faults.Changed want got) = refusals.Store (store_faults.Changed want got)
+refusal_of_store store_faults.Failed = refusals.Store store_faults.Failed
+refusal_of_store store_faults.OutOfMemory = refusals.OutOfMemory
+
+abbrev pub refusal_of_walk : WalkFault → ResolveFault
+refusal_of_walk (walks.BadBlock cid fault) = refusals.BadBlock cid fault
+refusal_of_walk (walks.Gone cid) = refusals.Gone cid
+refusal_of_walk walks.TooDeep = refusals.OutOfMemory
+refusal_of_walk (walks.Store fault) = refusals.Store fault
+refusal_of_walk (walks.NotThere i) = refusals.NotThere i
+refusal_of_walk (walks.NotFolder i) = refusals.NotFolder i
+refusal_of_walk walks.OutOfMemory = refusals.OutOfMemory
+
+-- where the path walk over what the store shows ends
+abbrev pub end_over : Store → CidParts → List (List ℕ) → PathEnd
+end_over store root path = (path_walk path (store_view store root)).end
+
+-- the path leads to this terminal, which is stored
+pub record LeadsTo (store : Store) (root : CidParts) (path : List (List ℕ)) (cid : CidParts) : Type 0 where
+  pub d : Dag
+  pub end : end_over store root path ≡ terminal d
+  pub block : List ℕ
+  pub stored : store cid ≡ Some block
+  pub opened : IsOpened d (section_of cid block)
+
+-- each answer is the end of the path walk
+abbrev pub IsResolvedTo : Store → CidParts → List (List ℕ) → Result CidParts ResolveFault → Type 0
+IsResolvedTo store root path (Ok cid) = LeadsTo store root path cid
+IsResolvedTo store root path (Err refusals.NoRoot) = store root ≡ None
+IsResolvedTo store root path (Err (refusals.NotThere i)) = end_over store root path ≡ not_reached (not_there i)
+IsResolvedTo store root path (Err (refusals.NotFolder i)) = end_over store root path ≡ not_reached (not_folder i)
+IsResolvedTo store root path (Err (refusals.BadBlock cid fault)) = (spot : Spot) × (spot.cid ≡ cid) × (end_over store root path ≡ not_reached (bad_block spot fault))
+IsResolvedTo store root path (Err (refusals.Gone cid)) = (spot : Spot) × (spot.cid ≡ cid) × (end_over store root path ≡ not_reached (gone spot))
+IsResolvedTo store root path (Err (refusals.Store fault)) = ⊤
+IsResolvedTo store root path (Err refusals.OutOfMemory) = ⊤
+
+-- a fault of the store comes as it came; no other refusal hides one
+abbrev pub HasResolveCause : Result CidParts ResolveFault → Option Store → Lookups → Type 0
+HasResolveCause (Ok cid) told lookups = LookupsQuiet lookups
+HasResolveCause (Err (refusals.Store fault)) told lookups = (cid : CidParts) × IsCauseOf told cid lookups.faults_old lookups.faults_new fault
+HasResolveCause (Err other) told lookups = LookupsQuiet lookups
+
+-- one place of the path is left, at this depth; or a segment led nowhere
+abbrev pub IsPathPlace : ℕ → List (Task CidParts) → Type 0
+IsPathPlace d (open_block (segment_want i position name path depth) cid ∷ []) = depth ≡ d
+IsPathPlace d (open_block (terminal_want depth) cid ∷ []) = depth ≡ d
+IsPathPlace d (stop_at miss ∷ []) = ⊤
+IsPathPlace d _ = ⊥

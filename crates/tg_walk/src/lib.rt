@@ -1,0 +1,10 @@
+//! A walk over the blocks of a store: the blocks that a query asks for, one by one, and where a path leads.
+#![tactic(auto)]
+
+mod fault;
+mod resolving;
+mod walk;
+
+pub use fault::{ResolveFault, WalkFault};
+pub use resolving::resolve;
+pub use walk::{MAX_DEPTH, Walk};

@@ -1,0 +1,60 @@
+//! Where a path leads in a store.
+ghost use Rattle.std.specs.Prelude.{◌≡◌, ◌≤◌, All, List, Some, length};
+ghost use Rattle.tg_cid.specs.Cid.{CidParts};
+ghost use Rattle.tg_walk.specs.Resolving.{HasResolveCause, IsResolvedTo};
+ghost use Rattle.tg_model.specs.EntryNames.{IsGoodName};
+ghost use Rattle.tg_model.specs.Stores.{LookedUp, Store, looked_in};
+
+use crate::fault::ResolveFault;
+use crate::walk::{next_place, open};
+use std::alloc::Global;
+use tg_cid::Cid;
+use tg_frames::{Frames, copied_path};
+use tg_model::{Blocks, Path, Query, Scope};
+use tg_traverse::resolved_paths;
+
+/// How many places a path of 128 segments has at most: 1,025 blocks, which are eight shards a segment and the root, and one where the
+/// last segment leads nowhere.
+const MAX_PATH_PLACES: u32 = 1026;
+
+/// The CID of the block that a path leads to from a root, in a store that has it. A path has at most 128 segments, each the name of an
+/// entry.
+///
+/// Path Gateway specification, Path Resolution. Errors, at the first place where one holds: `NoRoot` where the root isn't stored;
+/// `Gone` where a block below it isn't; `BadBlock` where a block of the path has no kind or can't stand there; `NotThere` and
+/// `NotFolder` where a segment leads nowhere; `Store` where the store gave no answer; and `OutOfMemory`.
+pub fn resolve<B: Blocks>(
+    alloc: Global,
+    blocks: &mut B,
+    root: &Cid,
+    path: &Path,
+) -> Result<Cid, ResolveFault>
+    requires few { length path.now ≤ 128 }
+    requires good { All IsGoodName path.now }
+    ensures end { (store : Store) → B.blocks.stored blocks.old ≡ Some store → IsResolvedTo store root.now path.now result }
+    ensures looked { (cids : List CidParts) × LookedUp cids (looked_in B.blocks blocks.old blocks.new) }
+    ensures cause { HasResolveCause result (B.blocks.stored blocks.old) (looked_in B.blocks blocks.old blocks.new) }
+{
+    resolved_paths();
+    let query = Query::car(*root, copied_path(alloc, path)?, Scope::Block, None, true);
+    let mut frames = Frames::new(alloc, &query)?;
+    let mut last = *root;
+    for passed in 0..MAX_PATH_PLACES {
+        let Some(place) = next_place(&mut frames)? else {
+            break;
+        };
+        last = place.cid;
+        let Some(block) = blocks.get(&place.cid)? else {
+            return Err(if passed == 0 {
+                ResolveFault::NoRoot
+            } else {
+                ResolveFault::Gone { cid: place.cid }
+            });
+        };
+        if !frames.is_read() {
+            return Ok(place.cid);
+        }
+        open(alloc, &mut frames, place.cid, &block)?;
+    }
+    Err(ResolveFault::Gone { cid: last })
+}
