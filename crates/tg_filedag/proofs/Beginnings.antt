@@ -3,7 +3,7 @@ use Rattle.std.proofs.Common.{◌≡◌, ◌+◌, ◌≤◌, ℕ, List, Option, 
 use Rattle.std.proofs.lemmas.List.{append-nil}
 use Rattle.tg_filedag.proofs.Parts.{joined_append}
 use Rattle.tg_filedag.specs.Chunks.{joined}
-use Rattle.tg_filedag.specs.Keeping.{Keeps}
+use Rattle.tg_writing.specs.Keeping.{Keeps}
 use Rattle.tg_filedag.specs.Linking.{HasRoom, TakesLeaf}
 use Rattle.tg_filedag.specs.State.{BalancedState, HasNoFullLevel, IsGrowing, StandsFor}
 use Rattle.tg_filedag.specs.declared.subtree.Subtree.{Subtree}

@@ -1,6 +1,6 @@
 -- Sections kept behind others, and a fault behind them.
 use Rattle.std.proofs.Common.{◌≡◌, ℕ, List, Option, None, Some, Result, Err, [], ◌++◌, refl, ◌∙◌, subst}
-use Rattle.tg_filedag.specs.Keeping.{IsCountedBy, Keeps, StopsAfter}
+use Rattle.tg_writing.specs.Keeping.{IsCountedBy, Keeps, StopsAfter}
 use Rattle.tg_filedag.proofs.Closings.{IsOpen}
 use Rattle.tg_filedag.specs.State.{IsGrowing}
 use Rattle.tg_filedag.specs.declared.subtree.Subtree.{Subtree}

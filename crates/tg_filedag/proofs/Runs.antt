@@ -11,7 +11,7 @@ use Rattle.tg_filedag.proofs.KeepingSteps.{Closed, Joins, Raised, keeps_both, ke
 use Rattle.tg_filedag.proofs.Parts.{NodeLaws}
 use Rattle.tg_filedag.proofs.Shapes.{HaveHeight, full_last, leaf_subtree}
 use Rattle.tg_filedag.proofs.Steps.{heights_closed, heights_count, leaf_pushed}
-use Rattle.tg_filedag.specs.Keeping.{Keeps, StopsAfter}
+use Rattle.tg_writing.specs.Keeping.{Keeps, StopsAfter}
 use Rattle.tg_filedag.specs.Linking.{Closes, HasFullLevel, MakesFile, Raises, StopsLeaf, StopsLinking, TakesLeaf}
 use Rattle.tg_filedag.specs.MadeFile.{IsMadeFile}
 use Rattle.tg_filedag.specs.State.{HasNoFullLevel, IsClosing, IsFrontFor, IsGrowing, heights}

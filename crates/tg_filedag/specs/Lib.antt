@@ -1,6 +1,5 @@
 pub mod Chunks
 pub mod Heights
-pub mod Keeping
 pub mod Trees
 pub mod State
 pub mod MadeFile

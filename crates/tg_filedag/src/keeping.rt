@@ -2,7 +2,7 @@
 ghost use Rattle.std.specs.Prelude.{◌≡◌, ◌≤◌, [], ◌∷◌, All, IfOk, IfErr, OnErr, length, map};
 ghost use Rattle.std.specs.List.{sum_by};
 ghost use Rattle.tg_cid.specs.Limits.{max_block_len};
-ghost use Rattle.tg_filedag.specs.Keeping.{Keeps, StopsAfter};
+ghost use Rattle.tg_writing.specs.Keeping.{Keeps, StopsAfter};
 ghost use Rattle.tg_filedag.specs.Linking.{IsKeptNode};
 ghost use Rattle.tg_filedag.specs.Trees.{IsFileBlock, IsPlain, content_in, entry_for, leaf_made, section_of, tsize_in};
 ghost use Rattle.tg_cid.specs.declared.cid.Codec.TheVariants.{Raw};

@@ -1,0 +1,9 @@
+mod BitFields
+mod Hashes
+mod Rooms
+mod KeepingSteps
+mod MadeSlots
+mod Runs
+mod Making
+mod Finished
+mod Directory

@@ -1,0 +1,4 @@
+pub mod Order
+pub mod Links
+pub mod Shards
+pub mod Directories
