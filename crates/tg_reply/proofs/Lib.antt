@@ -1,0 +1,14 @@
+mod Numbers
+mod HeadLines
+mod ReadBack
+mod ReplyHeads
+mod ChunkTexts
+mod CarTexts
+mod Paths
+mod Memory
+mod OneHead
+mod Writings
+mod SomeWriting
+mod TwoRequests
+mod Readings
+mod Cutting

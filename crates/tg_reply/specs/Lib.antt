@@ -1,0 +1,11 @@
+pub mod Refusals
+pub mod Heads
+pub mod CarBytes
+pub mod Asked
+pub mod Replies
+pub mod Streams
+pub mod Examples
+pub mod Laws
+pub mod Bodies
+pub mod Readings
+pub mod Cutting

@@ -1,0 +1,90 @@
+//! Laws of replies, each the contract of a function that does nothing.
+ghost use Rattle.httparse.specs.Grammar.{AllPass, is_value_byte};
+ghost use Rattle.std.specs.Prelude.{◌≡◌, ◌≢◌, ◌<◌, ℕ, All, Err, List};
+ghost use Rattle.tg_cid.specs.Spelling.{CidBytes};
+ghost use Rattle.tg_http.specs.declared.request.RequestHead.{RequestHead};
+ghost use Rattle.tg_model.specs.Queries.{QueryParts};
+ghost use Rattle.tg_path.specs.declared.fault.QueryFault.{QueryFault};
+ghost use Rattle.tg_reply.specs.Asked.{asked};
+ghost use Rattle.tg_reply.specs.Bodies.{CarsInParts, CutGoesOn, WholeInChunks, WholeInLength, WholeUntilClose};
+ghost use Rattle.tg_reply.specs.Cutting.{CutsBeforeDeeper};
+ghost use Rattle.tg_reply.specs.Heads.{asked_path};
+ghost use Rattle.tg_reply.specs.Laws.{CarReadsBack, RawReadsBack, RefusalsReadBack};
+ghost use Rattle.tg_reply.specs.Readings.{CarReads, RawReads, RefusalsRead, RefusedBytesRead};
+ghost use Rattle.tg_reply.specs.declared.refusal.Refusal.{Refusal};
+
+/// The head of each reply reads back, whatever follows it, as a head with the status, type and framing that it was given and no
+/// coding: of refusals always, and of replies with blocks where it fits a head and the path is bytes of a field.
+///
+/// RFC 9112, sections 4 to 6.
+pub fn reply_heads()
+    ensures refusals { RefusalsReadBack }
+    ensures raw { RawReadsBack }
+    ensures car { CarReadsBack }
+{}
+
+/// The body of each reply with blocks, through a reader of bodies: a raw block and a text have their length; the parts of a CAR
+/// in chunks are a whole body, and cut they are the front of one that goes on; to HTTP/1.0 they go on until the connection
+/// closes.
+///
+/// RFC 9112, sections 6.3 and 7.1.
+pub fn reply_bodies()
+    ensures length { WholeInLength }
+    ensures whole { WholeInChunks }
+    ensures cut { CutGoesOn }
+    ensures plain { WholeUntilClose }
+{}
+
+/// The parts of a CAR are together the text of the CAR with the query's root alone, in its version 1 form, and with the sections,
+/// where their CIDs are spelled and their blocks are bytes and not too long; and no part is empty.
+///
+/// CARv1 specification, Header and Data.
+pub fn car_bytes()
+    ensures { CarsInParts }
+{
+    tg_cid::computes();
+    tg_cid::length_laws();
+    tg_varint::spelling_laws();
+}
+
+/// The path that a head tells is bytes of a field, where the root is spelled and the names are bytes.
+///
+/// RFC 9110, section 5.5; RFC 3986, section 2.1.
+pub fn told_paths()
+    ensures { (q : QueryParts) (name : List ℕ) → CidBytes q.root name → All (λ name. All (λ b. b < 256) name) q.path
+        → AllPass is_value_byte (asked_path q) }
+{
+    tg_cid::computes();
+}
+
+/// A request is never refused for want of memory.
+pub fn no_memory()
+    ensures { (head : RequestHead) (fault : QueryFault) → asked head ≡ Err (Refusal.Query fault) → fault ≢ QueryFault.OutOfMemory }
+{
+    tg_path::roots_read();
+    tg_path::paths_read();
+    tg_path::spans_read();
+}
+
+/// What a reader makes of the replies to `GET`: a refusal is its text, a raw block is the block, and a CAR that isn't cut is the
+/// CAR, each whole in the framing that its head states; where the head of a reply with blocks fits a head, the root is spelled,
+/// the names are bytes, and the sections are spelled.
+///
+/// RFC 9112, sections 4 to 7; CARv1 specification.
+pub fn replies_read()
+    ensures refusals { RefusalsRead }
+    ensures refused_bytes { RefusedBytesRead }
+    ensures raw { RawReads }
+    ensures car { CarReads }
+{
+    told_paths();
+    car_bytes();
+}
+
+/// Of any DAG whose blocks below a depth are unopened the traversal gives the places of the whole one before the first that is
+/// deeper, and comes through exactly where the whole one does and no place is deeper.
+///
+/// Trustless Gateway specification, dag-scope.
+pub fn cut_places()
+    ensures { CutsBeforeDeeper }
+{}

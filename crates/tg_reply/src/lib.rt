@@ -1,0 +1,16 @@
+//! What a gateway's reply to a request is: the query that a head asks, the text of a reply, and the replies to a stream of bytes.
+#![tactic(auto)]
+
+mod examples;
+mod laws;
+mod refusal;
+mod status;
+mod streams;
+
+pub use examples::{block_replies, text_replies, two_replies};
+pub use laws::{
+    car_bytes, cut_places, no_memory, replies_read, reply_bodies, reply_heads, told_paths,
+};
+pub use refusal::Refusal;
+pub use status::Status;
+pub use streams::one_writing;
