@@ -40,7 +40,7 @@ pub record WalkState : Type 0 where
 abbrev pub HasGiven : Given → List Section → Type 0
 HasGiven given sections = map (λ p. p.section) given.places ≡ sections
 
--- what was given is a front of what the traversal of the store's view gives, and goes no deeper
+-- what was given is a front of what the traversal of the store's view gives
 pub record IsFront (q : QueryParts) (store : Store) (sections : List Section) : Type 0 where
   pub given : Given
   pub gave : HasGiven given sections
