@@ -6,7 +6,7 @@ mod Shapes
 mod Files
 mod Steps
 mod Closings
-mod KeepingSteps
+mod Meanwhile
 mod Cutting
 mod Beginnings
 mod Runs

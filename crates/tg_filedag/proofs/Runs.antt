@@ -7,7 +7,8 @@ use Rattle.tg_cid.specs.declared.cid.Codec.TheVariants.{DagPb, Raw}
 use Rattle.tg_filedag.proofs.Closings.{BeginsAt, IsOpen, MayClose, closed, closed_file, full_height, growing_closing, level_height, low_height, lowest_above, lowest_few, lowest_height, may_close, none_full, opened, raised}
 use Rattle.tg_filedag.proofs.Falling.{at_end}
 use Rattle.tg_filedag.proofs.Files.{made_file}
-use Rattle.tg_filedag.proofs.KeepingSteps.{Closed, Joins, Raised, keeps_both, keeps_nothing, stops_behind}
+use Rattle.tg_filedag.proofs.Meanwhile.{Closed, Raised}
+use Rattle.tg_writing.specs.KeepingSteps.{Joins, keeps_both, keeps_nothing, stops_behind}
 use Rattle.tg_filedag.proofs.Parts.{NodeLaws}
 use Rattle.tg_filedag.proofs.Shapes.{HaveHeight, full_last, leaf_subtree}
 use Rattle.tg_filedag.proofs.Steps.{heights_closed, heights_count, leaf_pushed}

@@ -8,7 +8,7 @@ use Rattle.std.proofs.lemmas.List.Elements.{All-push, Contains-append_cases, Con
 use Rattle.std.proofs.lemmas.List.Sums.{sum_by-take-le}
 use Rattle.tg_cid.specs.Cid.{CidParts}
 use Rattle.tg_dagpb.specs.declared.Link.{Link}
-use Rattle.tg_hamt.proofs.KeepingSteps.{Joins, keeps_both}
+use Rattle.tg_writing.specs.KeepingSteps.{Joins, keeps_both}
 use Rattle.tg_hamt.proofs.MadeSlots.{MadeSlot, all_checked, all_blocks, all_cids, all_laid, all_listed, all_named, all_own, all_own_blocks, all_plain, all_read, all_stand, all_tsizes, all_whole, children_in, links_lead, links_of, numbers_in, own_in, roots_are, runs_in, slots_in}
 use Rattle.tg_hamt.proofs.Making.{IsMaking, IsSoFar}
 use Rattle.tg_hamt.specs.Links.{IsKeptShard, section_of, tsize_in}

@@ -1,7 +1,6 @@
 mod BitFields
 mod Hashes
 mod Rooms
-mod KeepingSteps
 mod MadeSlots
 mod Runs
 mod Making

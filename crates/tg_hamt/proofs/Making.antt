@@ -9,7 +9,7 @@ use Rattle.std.proofs.lemmas.Grind.{flat_map-append}
 use Rattle.std.proofs.lemmas.Option.{get_or_from_slice_get, slice_get_within}
 use Rattle.tg_cid.specs.declared.cid.HashKind.TheVariants.{Sha256}
 use Rattle.tg_hamt.proofs.BitFields.{at_least}
-use Rattle.tg_hamt.proofs.KeepingSteps.{Joins, keeps_both, keeps_nothing, same_stops, stops_behind}
+use Rattle.tg_writing.specs.KeepingSteps.{Joins, keeps_both, keeps_nothing, same_stops, stops_behind}
 use Rattle.tg_hamt.proofs.MadeSlots.{IsMadeSlot, MadeSlot, all_of_shards, child_made, child_slot, entry_made, entry_slot, links_of, numbers_in, of_shards, own_in, runs_in, shard_dag}
 use Rattle.tg_hamt.proofs.Runs.{HashesFit, all_range, length_range, next_higher, range_joins, range_of_one, run_deeper, run_order, run_passed}
 use Rattle.tg_hamt.specs.Links.{IsShardLink, child_link_of, entry_link_of, tsize_in}

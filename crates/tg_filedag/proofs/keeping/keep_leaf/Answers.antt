@@ -1,5 +1,5 @@
 use Rattle.std.proofs.lemmas.Result.{err_from_is_err_and}
-use Rattle.tg_filedag.proofs.KeepingSteps.{call_stops}
+use Rattle.tg_writing.specs.KeepingSteps.{call_stops}
 use Rattle.tg_filedag.proofs.keeping.keep_leaf.Goals as goal
 use Rattle.tg_model.specs.Stores.{kept_in}
 

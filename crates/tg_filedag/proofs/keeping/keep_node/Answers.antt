@@ -2,7 +2,7 @@ use Rattle.std.proofs.Common.{◌≡◌, ◌+◌, ℕ, List, length, ap, ◌∙�
 use Rattle.std.proofs.lemmas.Result.{err_from_is_err_and}
 use Rattle.tg_cid.specs.declared.cid.Codec.TheVariants.{DagPb}
 use Rattle.tg_filedag.proofs.Calls.{node_kept}
-use Rattle.tg_filedag.proofs.KeepingSteps.{call_stops, same_stops}
+use Rattle.tg_writing.specs.KeepingSteps.{call_stops, same_stops}
 use Rattle.tg_filedag.proofs.Rooms.{block_small}
 use Rattle.tg_filedag.proofs.keeping.keep_node.Goals as goal
 use Rattle.tg_filedag.specs.Trees.{section_of}

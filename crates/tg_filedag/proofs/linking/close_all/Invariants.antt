@@ -1,5 +1,5 @@
 use Rattle.std.proofs.Common.{ℕ, List}
-use Rattle.tg_filedag.proofs.KeepingSteps.{Closed}
+use Rattle.tg_filedag.proofs.Meanwhile.{Closed}
 use Rattle.tg_filedag.proofs.Runs.{left_over}
 use Rattle.tg_filedag.proofs.linking.close_all.Given as goal
 use Rattle.tg_filedag.specs.State.{IsGrowing}

@@ -1,7 +1,7 @@
 use Rattle.std.proofs.Common.{◌≡◌, List, [], ◌∷◌, ◌++◌, refl, sym, ap, ◌∙◌, subst, inl}
 use Rattle.std.proofs.lemmas.Result.{IfErr-weaker, err_from_is_err_and, on_ok_weaker}
 use Rattle.tg_cid.specs.declared.cid.Codec.TheVariants.{Raw}
-use Rattle.tg_filedag.proofs.KeepingSteps.{same_stops}
+use Rattle.tg_writing.specs.KeepingSteps.{same_stops}
 use Rattle.tg_filedag.proofs.Runs.{at_once, leaf_stops, leaf_taken}
 use Rattle.tg_filedag.proofs.Steps.{leaf_pushed}
 use Rattle.tg_filedag.proofs.linking.link_leaf.Goals as goal

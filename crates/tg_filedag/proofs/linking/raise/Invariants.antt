@@ -1,5 +1,5 @@
 use Rattle.std.proofs.Common.{ℕ, List, length}
-use Rattle.tg_filedag.proofs.KeepingSteps.{Raised}
+use Rattle.tg_filedag.proofs.Meanwhile.{Raised}
 use Rattle.tg_filedag.proofs.linking.raise.Given as goal
 use Rattle.tg_filedag.specs.State.{IsGrowing}
 use Rattle.tg_model.specs.Dag.{Section}

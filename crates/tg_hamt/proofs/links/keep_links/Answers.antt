@@ -1,6 +1,6 @@
 use Rattle.std.proofs.Common.{◌≡◌, ◌+◌, ℕ, List, refl, [], ◌∷◌, length, ap, ◌∙◌, subst, arith}
 use Rattle.std.proofs.lemmas.Result.{err_from_is_err_and}
-use Rattle.tg_hamt.proofs.KeepingSteps.{call_stops, same_stops}
+use Rattle.tg_writing.specs.KeepingSteps.{call_stops, same_stops}
 use Rattle.tg_hamt.proofs.Rooms.{shard_small}
 use Rattle.tg_hamt.proofs.links.keep_links.Goals as goal
 use Rattle.std.specs.List.{sum_by}

@@ -3,7 +3,7 @@ use Rattle.std.proofs.lemmas.List.{get_or_default}
 use Rattle.std.proofs.lemmas.Result.{err_from_is_err_and}
 use Rattle.std.specs.Prelude.{IfErr, IfOk, OnErr}
 use Rattle.tg_hamt.proofs.Finished.{NodeLaws, finished, finished_light, room_left}
-use Rattle.tg_hamt.proofs.KeepingSteps.{same_stops}
+use Rattle.tg_writing.specs.KeepingSteps.{same_stops}
 use Rattle.tg_hamt.proofs.Making.{IsStep, child_few, child_level, child_next, child_order, child_passed, child_tsizes, entry_next, making_none, stops_behind_child, stops_child, stops_here}
 use Rattle.tg_hamt.proofs.shards.+keep_shard.Goals as goal
 use Rattle.tg_hamt.specs.Order.{slot_in}

@@ -1,5 +1,5 @@
--- Sections kept behind others, and a fault behind them.
-use Rattle.std.proofs.Common.{◌≡◌, ℕ, List, Option, None, Some, Result, Err, [], ◌++◌, refl, ◌∙◌, subst}
+-- Steps of a store that keeps blocks, one behind another: what was kept in both, and what a fault leaves.
+use Rattle.std.proofs.Common.{◌≡◌, ◌≤◌, ℕ, List, Option, None, Some, Result, Err, [], ◌++◌, refl, ◌∙◌, subst}
 use Rattle.tg_writing.specs.Keeping.{IsCountedBy, Keeps, StopsAfter}
 use Rattle.tg_laws.specs.Stores.{KeepingJoins}
 use Rattle.tg_model.specs.Dag.{Section}
@@ -41,6 +41,10 @@ nothing_as (Some store) = refl
 
 pub keeps_nothing : {S : Type 0} → (m : KeepMeaning S) → ((s : S) → m.kept s s []) → (s : S) → Keeps [] (kept_in m s s)
 keeps_nothing m rests s = record { kept = record { moved = rests s; stored = nothing_as (m.stored s) }; quiet = refl }
+
+-- a count that rose behind what was kept quietly
+pub counted_behind : (a b c : ℕ) → b ≡ a → b ≤ c → a ≤ c
+counted_behind a b c e h = subst (λ (n : ℕ). n ≤ c) e h
 
 -- a fault of one call
 failed_stops : (keeping : Keeping) → KeepingRose keeping → KeptNothing keeping → StopsAfter [] faults.Failed keeping
