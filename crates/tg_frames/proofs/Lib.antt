@@ -6,3 +6,4 @@ mod Opened
 mod OpenedPlaces
 mod Reaches
 mod StepsLeft
+mod OwnTexts

@@ -2,3 +2,4 @@ pub mod Frames
 pub mod Places
 pub mod Left
 pub mod Opening
+pub mod PlaceTexts

@@ -1,5 +1,5 @@
 //! What is left of a query's traversal, as frames of the blocks that were opened: which block is wanted next, what the block at
-//! that place is read as, and what it leaves. It speaks of no store and of no peer.
+//! that place is read as, what it says itself, and what it leaves. It speaks of no store and of no peer.
 #![tactic(auto)]
 
 mod frame;
@@ -8,6 +8,8 @@ mod opening;
 mod position;
 mod reading;
 mod stack;
+mod text;
 
 pub use frames::{Frames, Next, copied_path};
 pub use position::{Miss, Wanted};
+pub use text::{PlaceText, SizeFault};
