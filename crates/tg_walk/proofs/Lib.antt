@@ -3,3 +3,4 @@ mod WalkSteps
 mod OpenedHere
 mod PathPlaces
 mod PathSteps
+mod Fewer

@@ -1,10 +1,10 @@
 -- One step along a path over a store.
-use Rattle.std.proofs.Common.{Err, List, None, Ok, Option, Some, [], ap, arith, false, inl, inr, length, refl, subst, sym, true, ℕ, ◌++◌, ◌+◌, ◌∙◌, ◌∷◌, ◌≡◌, ◌≤◌, ◌⊎◌}
+use Rattle.std.proofs.Common.{Err, List, None, Ok, Option, Some, [], ap, arith, false, inl, inr, length, refl, subst, suc, sym, true, zero, ℕ, ◌++◌, ◌+◌, ◌∙◌, ◌∷◌, ◌≡◌, ◌≤◌, ◌⊎◌}
 use Rattle.tg_cid.specs.Cid.{CidParts}
 use Rattle.tg_walk.proofs.PathPlaces.{first_place, next_on_path}
 use Rattle.tg_frames.specs.Left.{LeftState, WantedAt, tasks_left, wanted_tasks}
 use Rattle.tg_frames.specs.Places.{missing_of}
-use Rattle.tg_walk.specs.Resolving.{HasResolveCause, IsPathPlace, IsResolvedTo, LeadsTo, refusal_of_store, refusal_of_walk}
+use Rattle.tg_walk.specs.Resolving.{HasResolveCause, IsPathPlace, IsResolvedTo, IsStoredRoot, LeadsTo, refusal_of_store, refusal_of_walk}
 use Rattle.tg_walk.specs.Walks.{IsNextPlace, IsOpened, IsOpenedThere, IsWantedHere, fault_of_miss}
 use Rattle.tg_walk.specs.declared.fault.ResolveFault.TheVariants as refusals
 use Rattle.tg_walk.specs.declared.fault.WalkFault.{WalkFault}
@@ -30,11 +30,13 @@ use Rattle.tg_traverse.specs.Tasks.{Task, Want, depth_of, fault_at, give_entries
 abbrev pub path_query : CidParts → List (List ℕ) → QueryParts
 path_query root path = record { root = root; path = path; form = forms.Car; scope = scopes.Block; span = None; dups = true }
 
--- behind so many blocks one place is left, at first the root's; and in a told store it leads where the path does
+-- behind so many blocks one place is left, at first the root's; and in a told store it leads where the path does, and behind the first
+-- block the root is stored
 pub record IsAlong (root : CidParts) (path : List (List ℕ)) (told : Option Store) (passed : ℕ) (left : LeftState) : Type 0 where
   pub query : left.query ≡ path_query root path
   pub place : IsPathPlace (passed + 1) (tasks_left left)
   pub first : passed ≡ 0 → tasks_left left ≡ start (path_query root path) root
+  pub behind : (store : Store) → told ≡ Some store → (passed ≡ 0 → ⊥) → IsStoredRoot store root
   pub way : (store : Store) → told ≡ Some store → IsResolved (path_query root path) store (tasks_left left) × (passed ≤ 1025)
 
 -- the place whose block is wanted, likewise
@@ -46,6 +48,7 @@ pub record IsPlaceAlong (root : CidParts) (path : List (List ℕ)) (told : Optio
   pub later : left.later ≡ []
   pub place : IsPathPlace (passed + 1) (open_block at.want at.cid ∷ [])
   pub first : passed ≡ 0 → at.cid ≡ root
+  pub behind : (store : Store) → told ≡ Some store → (passed ≡ 0 → ⊥) → IsStoredRoot store root
   pub way : (store : Store) → told ≡ Some store → IsResolved (path_query root path) store (open_block at.want at.cid ∷ []) × (passed ≤ 1025)
 
 -- ---- before the first block
@@ -56,6 +59,7 @@ starts laws root path told left q t = record {
   query = q;
   place = subst (IsPathPlace 1) (sym t) (first_place path root);
   first = λ z. t;
+  behind = λ store e n. absurd (n refl);
   way = λ store e. (subst (IsResolved (path_query root path) store) (sym t) (laws.start (path_query root path) store), omega (arith));
 }
 
@@ -93,6 +97,7 @@ placed root path told passed old mid wanted at q on w c later e = record {
   later = later;
   place = subst (IsPathPlace (passed + 1)) (sym e) on.place;
   first = λ z. same_cid at.want (path_want 0 path 1) at.cid root (e ∙ on.first z);
+  behind = on.behind;
   way = λ store t. (subst (IsResolved (path_query root path) store) (sym e) (on.way store t).0, (on.way store t).1);
 }
 
@@ -111,10 +116,19 @@ place_along root path told passed old mid wanted q on (at, w, c, t) =
 
 -- ---- where there is none
 
-miss_ends : (laws : ResolveLaws) (root : CidParts) (path : List (List ℕ)) (store : Store) (miss : Miss) (more : List (Task CidParts))
+miss_ends : (laws : ResolveLaws) (root : CidParts) (path : List (List ℕ)) (store : Store) (miss : Miss) (more : List (Task CidParts)) → IsStoredRoot store root
     → IsResolved (path_query root path) store (stop_at (missing_of miss) ∷ more) → IsResolvedTo store root path (Err (refusal_of_walk (fault_of_miss miss)))
-miss_ends laws root path store (misses.NoEntry i) more h = laws.miss (path_query root path) store (missing_of (misses.NoEntry i)) more h
-miss_ends laws root path store (misses.NoDirectory i) more h = laws.miss (path_query root path) store (missing_of (misses.NoDirectory i)) more h
+miss_ends laws root path store (misses.NoEntry i) more b h = record { root_stored = b; end = laws.miss (path_query root path) store (missing_of (misses.NoEntry i)) more h }
+miss_ends laws root path store (misses.NoDirectory i) more b h = record { root_stored = b; end = laws.miss (path_query root path) store (missing_of (misses.NoDirectory i)) more h }
+
+-- at first the root is left, and no segment led nowhere yet
+no_miss_first : (w : Want) (cid : CidParts) (miss : _) (more : List (Task CidParts)) → open_block w cid ∷ [] ≡ stop_at miss ∷ more → ⊥
+no_miss_first w cid miss more e = cc
+
+root_before : (root : CidParts) (path : List (List ℕ)) (told : Option Store) (store : Store) (passed : ℕ) (old : LeftState) (miss : Miss) (more : List (Task CidParts)) → told ≡ Some store
+    → IsAlong root path told passed old → tasks_left old ≡ stop_at (missing_of miss) ∷ more → IsStoredRoot store root
+root_before root path told store passed old miss more e on t =
+    on.behind store e (λ z. no_miss_first (path_want 0 path 1) root (missing_of miss) more (sym (on.first z) ∙ t))
 
 -- a segment leads nowhere
 pub stops_before : (laws : ResolveLaws) (root : CidParts) (path : List (List ℕ)) (told : Option Store) (store : Store) (passed : ℕ) (old mid : LeftState) (fault : WalkFault) → told ≡ Some store
@@ -123,8 +137,9 @@ stops_before laws root path told store passed old mid fault e on (inl g) =
     subst (λ (f : WalkFault). IsResolvedTo store root path (Err (refusal_of_walk f))) (sym g) _
 stops_before laws root path told store passed old mid fault e on (inr (miss, more, g, t)) =
     subst (λ (f : WalkFault). IsResolvedTo store root path (Err (refusal_of_walk f))) (sym g)
-    (miss_ends laws root path store miss more
-    (subst (IsResolved (path_query root path) store) (sym (place_then (passed + 1) (tasks_left old) on.place) ∙ t) (on.way store e).0))
+    (let left : tasks_left old ≡ stop_at (missing_of miss) ∷ more = sym (place_then (passed + 1) (tasks_left old) on.place) ∙ t in
+    miss_ends laws root path store miss more (root_before root path told store passed old miss more e on left)
+    (subst (IsResolved (path_query root path) store) left (on.way store e).0))
 
 miss_cause : (told : Option Store) (lookups : Lookups) (miss : Miss) → LookupsQuiet lookups → HasResolveCause (Err (refusal_of_walk (fault_of_miss miss))) told lookups
 miss_cause told lookups (misses.NoEntry i) quiet = quiet
@@ -148,24 +163,37 @@ pub no_root : (root : CidParts) (path : List (List ℕ)) (told : Option Store) (
 no_root root path told store passed mid wanted there z s = ap store (sym (there.cid_is ∙ there.first z)) ∙ s
 
 pub gone_there : (laws : ResolveLaws) (root : CidParts) (path : List (List ℕ)) (told : Option Store) (store : Store) (passed : ℕ) (mid : LeftState) (wanted : Wanted) → length path ≤ 128
-    → told ≡ Some store → IsPlaceAlong root path told passed mid wanted → store wanted.cid ≡ None → IsResolvedTo store root path (Err (refusals.Gone wanted.cid))
-gone_there laws root path told store passed mid wanted few e there s = (
+    → told ≡ Some store → IsPlaceAlong root path told passed mid wanted → (passed ≡ 0 → ⊥) → store wanted.cid ≡ None → IsResolvedTo store root path (Err (refusals.Gone wanted.cid))
+gone_there laws root path told store passed mid wanted few e there below s = (
   spot_of there.at.want there.at.cid,
   sym there.cid_is,
-  laws.not_stored (path_query root path) store there.at.want there.at.cid [] few (ap store (sym there.cid_is) ∙ s) (there.way store e).0,
+  s,
+  record {
+    root_stored = there.behind store e below;
+    end = laws.not_stored (path_query root path) store there.at.want there.at.cid [] few (ap store (sym there.cid_is) ∙ s) (there.way store e).0;
+  },
 )
 
 -- ---- where it is
 
+found_stored : (found : Option (List ℕ)) (block : List ℕ) → found ≡ Some block → found ≡ None → ⊥
+found_stored found block s n = cc
+
+-- then the root is stored too: it is this block's, or it was passed
+root_there : (root : CidParts) (path : List (List ℕ)) (told : Option Store) (store : Store) (passed : ℕ) (mid : LeftState) (wanted : Wanted) (block : List ℕ) → told ≡ Some store
+    → IsPlaceAlong root path told passed mid wanted → store wanted.cid ≡ Some block → IsStoredRoot store root
+root_there root path told store zero mid wanted block e there s = found_stored (store root) block (ap store (sym (there.cid_is ∙ there.first refl)) ∙ s)
+root_there root path told store (suc passed) mid wanted block e there s = there.behind store e (λ z. omega (arith, z))
+
 -- the terminal
 leads : (laws : ResolveLaws) (root : CidParts) (path : List (List ℕ)) (store : Store) (d : ℕ) (w : Want) (cid : CidParts) (block : List ℕ) → length path ≤ 128
     → is_read_at (path_query root path) w ≡ false → IsPathPlace d (open_block w cid ∷ []) → store cid ≡ Some block → IsResolved (path_query root path) store (open_block w cid ∷ [])
-    → LeadsTo store root path cid
-leads laws root path store d (segment_want i position name names depth) cid block few r p s h = absurd (cc)
-leads laws root path store d (terminal_want depth) cid block few r p s h =
+    → IsStoredRoot store root → LeadsTo store root path cid
+leads laws root path store d (segment_want i position name names depth) cid block few r p s h b = absurd (cc)
+leads laws root path store d (terminal_want depth) cid block few r p s h b =
     let ends : _ = laws.reached (path_query root path) store depth cid block [] few s h in
-    record { d = shown_at store depth cid; end = ends.0; block = block; stored = s; opened = ends.1 }
-leads laws root path store d (node_want reach position depth) cid block few r p s h = absurd p
+    record { root_stored = b; d = shown_at store depth cid; end = ends.0; block = block; stored = s; opened = ends.1 }
+leads laws root path store d (node_want reach position depth) cid block few r p s h b = absurd p
 
 pub leads_there : (laws : ResolveLaws) (root : CidParts) (path : List (List ℕ)) (told : Option Store) (store : Store) (passed : ℕ) (mid : LeftState) (wanted : Wanted) (block : List ℕ)
     → length path ≤ 128 → told ≡ Some store → IsPlaceAlong root path told passed mid wanted → store wanted.cid ≡ Some block
@@ -173,7 +201,8 @@ pub leads_there : (laws : ResolveLaws) (root : CidParts) (path : List (List ℕ)
 leads_there laws root path told store passed mid wanted block few e there s r =
     subst (LeadsTo store root path) (sym there.cid_is)
     (leads laws root path store (passed + 1) there.at.want there.at.cid block few
-    (subst (λ (q : QueryParts). is_read_at q there.at.want ≡ false) there.query (r there.at there.wanted_is)) there.place (ap store (sym there.cid_is) ∙ s) (there.way store e).0)
+    (subst (λ (q : QueryParts). is_read_at q there.at.want ≡ false) there.query (r there.at there.wanted_is)) there.place (ap store (sym there.cid_is) ∙ s) (there.way store e).0
+    (root_there root path told store passed mid wanted block e there s))
 
 -- the block may be opened there
 pub wanted_here : (root : CidParts) (path : List (List ℕ)) (told : Option Store) (passed : ℕ) (mid : LeftState) (wanted : Wanted) → IsPlaceAlong root path told passed mid wanted → passed ≤ 1026
@@ -191,13 +220,13 @@ IsBad q w cid block fault = (is_read_at q w ≡ true) × ((read cid block ≡ Er
 
 bad_ends : (laws : ResolveLaws) (root : CidParts) (path : List (List ℕ)) (store : Store) (d : ℕ) (w : Want) (cid : CidParts) (block : List ℕ) (fault : BlockFault) → length path ≤ 128
     → IsPathPlace d (open_block w cid ∷ []) → store cid ≡ Some block → IsResolved (path_query root path) store (open_block w cid ∷ []) → IsBad (path_query root path) w cid block fault
-    → IsResolvedTo store root path (Err (refusals.BadBlock cid fault))
-bad_ends laws root path store d (segment_want i position name names depth) cid block fault few p s h (r, inl e) =
-    (spot_at cid depth position, refl, laws.unreadable (path_query root path) store i position name names depth cid block fault [] few s e h)
-bad_ends laws root path store d (segment_want i position name names depth) cid block fault few p s h (r, inr (kind, e, f)) =
-    (spot_at cid depth position, refl, laws.misfit (path_query root path) store i position name names depth cid block kind fault [] few s e f h)
-bad_ends laws root path store d (terminal_want depth) cid block fault few p s h (r, cause) = absurd (cc)
-bad_ends laws root path store d (node_want reach position depth) cid block fault few p s h bad = absurd p
+    → IsStoredRoot store root → IsResolvedTo store root path (Err (refusals.BadBlock cid fault))
+bad_ends laws root path store d (segment_want i position name names depth) cid block fault few p s h (r, inl e) b =
+    (spot_at cid depth position, refl, record { root_stored = b; end = laws.unreadable (path_query root path) store i position name names depth cid block fault [] few s e h })
+bad_ends laws root path store d (segment_want i position name names depth) cid block fault few p s h (r, inr (kind, e, f)) b =
+    (spot_at cid depth position, refl, record { root_stored = b; end = laws.misfit (path_query root path) store i position name names depth cid block kind fault [] few s e f h })
+bad_ends laws root path store d (terminal_want depth) cid block fault few p s h (r, cause) b = absurd (cc)
+bad_ends laws root path store d (node_want reach position depth) cid block fault few p s h bad b = absurd p
 
 stopped_at : (laws : ResolveLaws) (root : CidParts) (path : List (List ℕ)) (told : Option Store) (store : Store) (passed : ℕ) (mid new : LeftState) (wanted : Wanted) (block : List ℕ) (fault : WalkFault)
     → length path ≤ 128 → told ≡ Some store → (there : IsPlaceAlong root path told passed mid wanted) → store wanted.cid ≡ Some block → IsOpened mid there.at block (Err fault) new
@@ -207,7 +236,8 @@ stopped_at laws root path told store passed mid new wanted block fault few e the
 stopped_at laws root path told store passed mid new wanted block fault few e there s (inr (bad, g, h)) =
     subst (λ (f : WalkFault). IsResolvedTo store root path (Err (refusal_of_walk f))) (sym g)
     (bad_ends laws root path store (passed + 1) there.at.want there.at.cid block bad few there.place (ap store (sym there.cid_is) ∙ s) (there.way store e).0
-    (subst (λ (q : QueryParts). IsBad q there.at.want there.at.cid block bad) there.query (h.is_read, h.cause)))
+    (subst (λ (q : QueryParts). IsBad q there.at.want there.at.cid block bad) there.query (h.is_read, h.cause))
+    (root_there root path told store passed mid wanted block e there s))
 
 pub stops_at_block : (laws : ResolveLaws) (root : CidParts) (path : List (List ℕ)) (told : Option Store) (store : Store) (passed : ℕ) (mid new : LeftState) (wanted : Wanted) (block : List ℕ) (fault : WalkFault)
     → length path ≤ 128 → told ≡ Some store → IsPlaceAlong root path told passed mid wanted → store wanted.cid ≡ Some block
@@ -281,6 +311,7 @@ went_on laws root path told passed mid new wanted block few there s q h = record
   place = subst (IsPathPlace (passed + 1 + 1)) (sym h.tasks)
       (next_place root path (passed + 1) there.at.want there.at.cid (section_of there.at.cid block) h.kind (links_of h.kind) there.place h.is_read);
   first = λ z. absurd (omega (arith, z));
+  behind = λ store e n. root_there root path told store passed mid wanted block e there (s store e);
   way = λ store e. (
     subst (IsResolved (path_query root path) store) (sym h.tasks)
         (next_way laws root path store (passed + 1) there.at.want there.at.cid block h.kind few there.place h.is_read (ap store (sym there.cid_is) ∙ s store e) h.reads h.fits (there.way store e).0),

@@ -6,7 +6,7 @@ use Rattle.tg_walk.specs.declared.fault.ResolveFault.TheVariants as refusals
 use Rattle.tg_walk.specs.declared.fault.WalkFault.{WalkFault}
 use Rattle.tg_walk.specs.declared.fault.WalkFault.TheVariants as walks
 use Rattle.tg_model.specs.Dag.{Dag}
-use Rattle.tg_model.specs.PathWalk.{PathEnd, Spot, bad_block, gone, not_folder, not_reached, not_there, path_walk, terminal}
+use Rattle.tg_model.specs.PathWalk.{PathEnd, Spot, Stop, bad_block, gone, not_folder, not_reached, not_there, path_walk, terminal}
 use Rattle.tg_model.specs.StoreView.{store_view}
 use Rattle.tg_model.specs.Stores.{IsCauseOf, Lookups, LookupsQuiet, Store}
 use Rattle.tg_model.specs.declared.stores.BlocksFault.{BlocksFault}
@@ -34,22 +34,31 @@ refusal_of_walk walks.OutOfMemory = refusals.OutOfMemory
 abbrev pub end_over : Store → CidParts → List (List ℕ) → PathEnd
 end_over store root path = (path_walk path (store_view store root)).end
 
--- the path leads to this terminal, which is stored
+abbrev pub IsStoredRoot : Store → CidParts → Type 0
+IsStoredRoot store root = store root ≡ None → ⊥
+
+-- the path leads to this terminal, which is stored, as the root is
 pub record LeadsTo (store : Store) (root : CidParts) (path : List (List ℕ)) (cid : CidParts) : Type 0 where
+  pub root_stored : IsStoredRoot store root
   pub d : Dag
   pub end : end_over store root path ≡ terminal d
   pub block : List ℕ
   pub stored : store cid ≡ Some block
   pub opened : IsOpened d (section_of cid block)
 
--- each answer is the end of the path walk
+-- the root is stored, and the path walk stops so
+pub record StopsAt (store : Store) (root : CidParts) (path : List (List ℕ)) (stop : Stop) : Type 0 where
+  pub root_stored : IsStoredRoot store root
+  pub end : end_over store root path ≡ not_reached stop
+
+-- each answer is the end of the path walk; where the root isn't stored, none comes but `NoRoot`, `Store` and `OutOfMemory`
 abbrev pub IsResolvedTo : Store → CidParts → List (List ℕ) → Result CidParts ResolveFault → Type 0
 IsResolvedTo store root path (Ok cid) = LeadsTo store root path cid
 IsResolvedTo store root path (Err refusals.NoRoot) = store root ≡ None
-IsResolvedTo store root path (Err (refusals.NotThere i)) = end_over store root path ≡ not_reached (not_there i)
-IsResolvedTo store root path (Err (refusals.NotFolder i)) = end_over store root path ≡ not_reached (not_folder i)
-IsResolvedTo store root path (Err (refusals.BadBlock cid fault)) = (spot : Spot) × (spot.cid ≡ cid) × (end_over store root path ≡ not_reached (bad_block spot fault))
-IsResolvedTo store root path (Err (refusals.Gone cid)) = (spot : Spot) × (spot.cid ≡ cid) × (end_over store root path ≡ not_reached (gone spot))
+IsResolvedTo store root path (Err (refusals.NotThere i)) = StopsAt store root path (not_there i)
+IsResolvedTo store root path (Err (refusals.NotFolder i)) = StopsAt store root path (not_folder i)
+IsResolvedTo store root path (Err (refusals.BadBlock cid fault)) = (spot : Spot) × (spot.cid ≡ cid) × StopsAt store root path (bad_block spot fault)
+IsResolvedTo store root path (Err (refusals.Gone cid)) = (spot : Spot) × (spot.cid ≡ cid) × (store cid ≡ None) × StopsAt store root path (gone spot)
 IsResolvedTo store root path (Err (refusals.Store fault)) = ⊤
 IsResolvedTo store root path (Err refusals.OutOfMemory) = ⊤
 

@@ -1,5 +1,5 @@
 -- What a walk over a store has given, and why it gives no more (Trustless Gateway specification: dag-scope, entity-bytes, order dfs).
-use Rattle.std.specs.Prelude.{Err, List, None, Ok, Option, Result, Some, [], false, map, true, ⊤, ℕ, ◌++◌, ◌∷◌, ◌≡◌, ◌≤◌, ◌⊎◌, length}
+use Rattle.std.specs.Prelude.{Err, List, None, Ok, Option, Result, Some, [], false, length, map, suc, true, zero, ⊤, ℕ, ◌*◌, ◌++◌, ◌+◌, ◌-◌, ◌<◌, ◌^◌, ◌∷◌, ◌≡◌, ◌≤◌, ◌⊎◌}
 use Rattle.tg_cid.specs.Cid.{CidParts}
 use Rattle.tg_cid.specs.Limits.{max_block_len}
 use Rattle.tg_cid.specs.Names.{Names}
@@ -13,6 +13,8 @@ use Rattle.tg_model.specs.Computed.{read}
 use Rattle.tg_model.specs.Dag.{links_of}
 use Rattle.tg_model.specs.declared.fault.BlockFault.{BlockFault}
 use Rattle.tg_model.specs.declared.kinds.Kind.{Kind}
+use Rattle.tg_model.specs.declared.placed.PlacedKind.TheVariants as placed
+use Rattle.tg_model.specs.declared.placed.PlacedKind.{PlacedKind}
 use Rattle.tg_walk.specs.declared.fault.WalkFault.{WalkFault}
 use Rattle.tg_walk.specs.declared.fault.WalkFault.TheVariants as faults
 use Rattle.tg_model.specs.declared.stores.BlocksFault.TheVariants as store_faults
@@ -25,7 +27,7 @@ use Rattle.tg_model.specs.Traversal.{Traversal, and_then, traversal}
 use Rattle.tg_model.specs.declared.stores.BlocksFault.{BlocksFault}
 use Rattle.tg_traverse.specs.StoreWalks.{IsWalked, WalkEnds, WalkTooDeep, section_of}
 use Rattle.tg_traverse.specs.Stages.{Given, ending}
-use Rattle.tg_traverse.specs.Tasks.{Task, Want, depth_of, fault_at, is_read_at, stop_at, tasks_of, tasks_then}
+use Rattle.tg_traverse.specs.Tasks.{Task, Want, depth_of, fault_at, give_entries, give_text, is_read_at, open_block, stop_at, tasks_of, tasks_then}
 
 -- how many blocks there are at most from the root to a block that a walk gives, both counted
 abbrev pub max_depth : ℕ
@@ -85,6 +87,23 @@ StandsBy (Some fault) most left store sections = HasWalkCause left.query store m
 abbrev pub StandsFor : WalkState → Store → List Section → Type 0
 StandsFor state store sections = StandsBy state.refused max_depth state.left store sections
 
+-- how many blocks a walk gives at most from a place on, with so many levels of blocks below it: a block has less than 2 ^ 64 links
+abbrev pub blocks_from : ℕ → ℕ
+blocks_from zero = 1
+blocks_from (suc levels) = 2 ^ 64 * blocks_from levels
+
+-- and from each place on that is left, none of them more than `most` blocks deep
+abbrev pub blocks_over : ℕ → List (Task CidParts) → ℕ
+blocks_over most [] = 0
+blocks_over most (open_block w cid ∷ tasks) = blocks_from (most + 1 - depth_of w) + blocks_over most tasks
+blocks_over most (give_text text ∷ tasks) = blocks_over most tasks
+blocks_over most (give_entries met ∷ tasks) = blocks_over most tasks
+blocks_over most (stop_at miss ∷ tasks) = blocks_over most tasks
+
+-- how many blocks a walk still gives at most, which ends the loop that asks for them
+abbrev pub blocks_left : LeftState → ℕ
+blocks_left left = blocks_over max_depth (tasks_left left)
+
 -- what a step gave, and what the walk stands for behind it: one section more; or all were given
 abbrev pub HasStepped : Result (Option (CidParts × List ℕ)) WalkFault → WalkState → Store → List Section → Type 0
 HasStepped (Ok (Some found)) new store sections = StandsFor new store (sections ++ section_of found.0 found.1 ∷ [])
@@ -115,6 +134,18 @@ fault_of_store store_faults.Failed = faults.Store store_faults.Failed
 fault_of_store store_faults.OutOfMemory = faults.OutOfMemory
 
 -- ---- steps
+
+-- how many links a block has that is read as this kind
+abbrev pub placed_links : PlacedKind → ℕ
+placed_links placed.Raw = 0
+placed_links (placed.File places) = places.count
+placed_links (placed.Basic entries) = length entries
+placed_links (placed.Shard slots) = length slots
+placed_links (placed.Symlink target) = 0
+
+-- behind a block that was opened at the wanted place, not too deep, fewer blocks are left
+abbrev pub HasFewer : LeftState → LeftState → Type 0
+HasFewer old new = (most : ℕ) (at : WantedAt) → old.wanted ≡ Some at → depth_of at.want ≤ most → blocks_over most (tasks_left new) < blocks_over most (tasks_left old)
 
 abbrev pub fault_of_miss : Miss → WalkFault
 fault_of_miss (misses.NoEntry i) = faults.NotThere i

@@ -1,7 +1,7 @@
 //! A walk over the blocks of a store.
-ghost use Rattle.std.specs.Prelude.{◌≡◌, ◌≤◌, List, [], None, Some, IfOk, MatchResult};
-ghost use Rattle.tg_frames.specs.Left.{IsHeldFor, WantedAt};
-ghost use Rattle.tg_walk.specs.Walks.{HasGone, HasLookedUp, HasStepped, HasStoreCause, IsNamedFound, IsNextPlace, IsOnWalk, IsOpened, IsWantedHere, StandsFor, fault_of_block, fault_of_miss};
+ghost use Rattle.std.specs.Prelude.{◌≡◌, ◌≤◌, ◌<◌, ◌^◌, List, [], None, Some, IfOk, IfSome, MatchResult, OnOk};
+ghost use Rattle.tg_frames.specs.Left.{IsHeldFor, WantedAt, tasks_left};
+ghost use Rattle.tg_walk.specs.Walks.{HasFewer, HasGone, HasLookedUp, HasStepped, HasStoreCause, IsNamedFound, IsNextPlace, IsOnWalk, IsOpened, IsWantedHere, StandsFor, blocks_left, blocks_over, fault_of_block, fault_of_miss, placed_links};
 ghost use Rattle.tg_model.specs.Dag.{Section};
 ghost use Rattle.tg_model.specs.Stores.{Store, looked_in};
 
@@ -40,6 +40,7 @@ impl Walk {
     /// The walk for a query, before its first block. The error is want of memory.
     pub fn new(alloc: Global, query: &Query) -> Result<Walk, AllocError>
         ensures query { IfOk result (λ walk. walk.left.query ≡ query.now) }
+        ensures fresh { IfOk result (λ walk. walk.refused ≡ None) }
         ensures stands { IfOk result (λ walk. (store : Store) → StandsFor walk store []) }
     {
         store_walks();
@@ -60,6 +61,7 @@ impl Walk {
         ensures stands { (store : Store) (sections : List Section) → B.blocks.stored blocks.old ≡ Some store → StandsFor self.old store sections
             → HasStepped result self.new store sections }
         ensures named { IsNamedFound result }
+        ensures fewer { IfOk result (λ found. IfSome found (λ _. blocks_left self.new.left < blocks_left self.old.left)) }
         ensures looked { HasLookedUp result (looked_in B.blocks blocks.old blocks.new) }
         ensures cause { self.old.refused ≡ None → HasStoreCause result (B.blocks.stored blocks.old) (looked_in B.blocks blocks.old blocks.new) }
         ensures again { (fault : WalkFault) → self.old.refused ≡ Some fault
@@ -97,6 +99,7 @@ fn step<B: Blocks>(
     ensures stands { (store : Store) (sections : List Section) → B.blocks.stored blocks.old ≡ Some store → IsOnWalk most frames.old store sections
         → HasGone result most frames.new store sections }
     ensures named { IsNamedFound result }
+    ensures fewer { IfOk result (λ found. IfSome found (λ _. blocks_over most (tasks_left frames.new) < blocks_over most (tasks_left frames.old))) }
     ensures looked { HasLookedUp result (looked_in B.blocks blocks.old blocks.new) }
     ensures cause { HasStoreCause result (B.blocks.stored blocks.old) (looked_in B.blocks blocks.old blocks.new) }
 {
@@ -149,6 +152,7 @@ pub(crate) fn open(
     requires { IsWantedHere frames.old cid }
     ensures query { frames.new.query ≡ frames.old.query }
     ensures opened { (at : WantedAt) → frames.old.wanted ≡ Some at → IsOpened frames.old at block.now result frames.new }
+    ensures fewer { OnOk result (HasFewer frames.old frames.new) }
 {
     if !frames.is_read() {
         frames.pass();
@@ -158,9 +162,23 @@ pub(crate) fn open(
         Ok(found) => found,
         Err(fault) => return Err(fault_of_block(cid, fault)),
     };
+    let _links = link_count(&found);
     let held = held_for(alloc, &found, block)?;
     frames.open(found, held)?;
     Ok(())
+}
+
+/// How many links a block has that is read as this kind.
+fn link_count(found: &PlacedKind) -> u64
+    ensures count { result ≡ placed_links found.now }
+    ensures few { result < 2 ^ 64 }
+{
+    match found {
+        PlacedKind::Raw | PlacedKind::Symlink { .. } => 0,
+        PlacedKind::File(places) => places.count,
+        PlacedKind::Basic { entries } => entries.as_slice().len() as u64,
+        PlacedKind::Shard { slots } => slots.as_slice().len() as u64,
+    }
 }
 
 /// Why a walk gives no more at a block with this fault.

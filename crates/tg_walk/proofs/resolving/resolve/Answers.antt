@@ -58,7 +58,7 @@ returns-in_default-2-clause-end g c store told =
       | then-passed-eq0 w ↦ subst (λ (fault : ResolveFault). IsResolvedTo store c.args.root.now c.args.path.now (Err fault)) (sym w.result-is)
           (no_root c.args.root.now c.args.path.now (g.B.Blocks.blocks.stored c.args.blocks.now) store c.loop-passed.passed c.next_place.new.frames c.in-Some.place there w.if-passed-eq0.true (found_in (g.B.Blocks.blocks.stored c.loop-passed.blocks) store c.in-Some.place.cid c.in_ok-block.field-0 (c.loop-passed.invariant.looked.looked.stored ∙ told) c.in_ok-block.ensures.gotten ∙ c.in_default-2.is))
       | else-passed-eq0 w ↦ subst (λ (fault : ResolveFault). IsResolvedTo store c.args.root.now c.args.path.now (Err fault)) (sym w.result-is)
-          (gone_there c.resolved_paths.ensures c.args.root.now c.args.path.now (g.B.Blocks.blocks.stored c.args.blocks.now) store c.loop-passed.passed c.next_place.new.frames c.in-Some.place c.requires.few told there (found_in (g.B.Blocks.blocks.stored c.loop-passed.blocks) store c.in-Some.place.cid c.in_ok-block.field-0 (c.loop-passed.invariant.looked.looked.stored ∙ told) c.in_ok-block.ensures.gotten ∙ c.in_default-2.is))
+          (gone_there c.resolved_paths.ensures c.args.root.now c.args.path.now (g.B.Blocks.blocks.stored c.args.blocks.now) store c.loop-passed.passed c.next_place.new.frames c.in-Some.place c.requires.few told there w.if-passed-eq0.false (found_in (g.B.Blocks.blocks.stored c.loop-passed.blocks) store c.in-Some.place.cid c.in_ok-block.field-0 (c.loop-passed.invariant.looked.looked.stored ∙ told) c.in_ok-block.ensures.gotten ∙ c.in_default-2.is))
     ]
 
 pub returns-in_default-2-clause-looked : goal.returns-in_default-2-clause-looked

@@ -1,5 +1,6 @@
 use Rattle.std.proofs.Common.{Ok, Option, subst, ◌∙◌}
 use Rattle.std.proofs.lemmas.Result.{err_from_is_err_and}
+use Rattle.tg_walk.proofs.Fewer.{fewer_next}
 use Rattle.tg_walk.proofs.WalkSteps.{ends_there, found_in, front_there, goes_on, gone_there, stops_at_block, stops_before, stops_deep, store_stops}
 use Rattle.tg_walk.specs.Walks.{IsNextPlace}
 use Rattle.tg_frames.specs.declared.position.Wanted.{Wanted}
@@ -48,3 +49,8 @@ returns-clause-stands g c store sections told on =
     c.requires c.next_place.ensures.query c.open.ensures.query on
     (subst (λ (found : Option Wanted). IsNextPlace c.args.frames.now (Ok found) c.next_place.new.frames) c.in-Some.is c.in_ok-place.ensures.next)
     c.if-place-most.false (found_in _ store c.in-Some.place.cid c.in_ok-block.field-0 told c.in_ok-block.ensures.gotten ∙ c.in-Some-2.is) c.in_ok-open.ensures.opened
+
+pub returns-clause-fewer : goal.returns-clause-fewer
+returns-clause-fewer g c =
+    fewer_next c.args.most c.args.frames.now c.next_place.new.frames c.open.new.frames c.in-Some.place
+    (subst (λ (found : Option Wanted). IsNextPlace c.args.frames.now (Ok found) c.next_place.new.frames) c.in-Some.is c.in_ok-place.ensures.next) c.if-place-most.false c.in_ok-open.ensures.fewer
