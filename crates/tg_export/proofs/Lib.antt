@@ -1,0 +1,4 @@
+mod Answering
+mod Attached
+mod Moves
+mod Parts

@@ -1,0 +1,103 @@
+-- A store that is looked up in, and a sink that bytes are put into, from one moment to the next.
+use Rattle.std.proofs.Common.{Err, List, Ok, Option, [], refl, subst, ℕ, ◌++◌, ◌∙◌}
+use Rattle.std.specs.Prelude.{Result, ⊤}
+use Rattle.tg_cid.specs.Cid.{CidParts}
+use Rattle.tg_export.specs.Cars.{HasCarCause, PutNothing, PutWhole, fault_of_path, fault_of_walk}
+use Rattle.tg_export.specs.declared.fault.ExportFault.{ExportFault}
+use Rattle.tg_export.specs.declared.fault.ExportFault.TheVariants as faults
+use Rattle.tg_model.specs.Stores.{BlocksMeaning, IsCauseOf, LookedUp, Lookups, LookupsQuiet, Store, looked_in}
+use Rattle.tg_model.specs.declared.stores.BlocksFault.{BlocksFault}
+use Rattle.tg_model.specs.declared.stores.BlocksFault.TheVariants as store_faults
+use Rattle.tg_streams.specs.Joining.{SinkJoins, put_put, put_put_front}
+use Rattle.tg_streams.specs.Streams.{PutFront, SinkMeaning, into}
+use Rattle.tg_walk.specs.Resolving.{HasResolveCause}
+use Rattle.tg_walk.specs.Walks.{HasStoreCause}
+use Rattle.tg_walk.specs.declared.fault.ResolveFault.{ResolveFault}
+use Rattle.tg_walk.specs.declared.fault.ResolveFault.TheVariants as refusals
+use Rattle.tg_walk.specs.declared.fault.WalkFault.{WalkFault}
+use Rattle.tg_walk.specs.declared.fault.WalkFault.TheVariants as walks
+
+-- ---- sinks
+
+pub puts_nothing : {S : Type 0} (m : SinkMeaning S) (a : S) → m.wrote a a [] → PutNothing (into m a a)
+puts_nothing m a rests = record { unput = record { moved = rests; held = refl }; quiet = refl }
+
+pub puts_both : {S : Type 0} (m : SinkMeaning S) (a b c : S) (u v : List ℕ) → SinkJoins S m → PutWhole (into m a b) u → PutWhole (into m b c) v → PutWhole (into m a c) (u ++ v)
+puts_both m a b c u v joins p q = record { put = put_put _ m a b c u v joins p.put q.put; quiet = q.quiet ∙ p.quiet }
+
+pub puts_front : {S : Type 0} (m : SinkMeaning S) (a b c : S) (u v : List ℕ) → SinkJoins S m → PutWhole (into m a b) u → PutFront v (into m b c) → PutFront (u ++ v) (into m a c)
+puts_front m a b c u v joins p q = put_put_front _ m a b c u v joins p.put p.quiet q
+
+-- ---- stores
+
+-- CIDs were looked up, and no fault was counted
+pub record HasLooked (lookups : Lookups) : Type 0 where
+  pub cids : List CidParts
+  pub looked : LookedUp cids lookups
+  pub quiet : LookupsQuiet lookups
+
+abbrev pub LooksJoin : (S : Type 0) → BlocksMeaning S → Type 0
+LooksJoin S m = (a b c : S) (u v : List CidParts) → m.looked a b u → m.looked b c v → m.looked a c (u ++ v)
+
+pub looks_nothing : {S : Type 0} (m : BlocksMeaning S) (a : S) → m.looked a a [] → HasLooked (looked_in m a a)
+looks_nothing m a rests = record { cids = []; looked = record { moved = rests; stored = refl }; quiet = refl }
+
+pub looks_both : {S : Type 0} (m : BlocksMeaning S) (a b c : S) (u v : List CidParts) → LooksJoin S m → LookedUp u (looked_in m a b) → LookedUp v (looked_in m b c) → LookedUp (u ++ v) (looked_in m a c)
+looks_both m a b c u v joins p q = record { moved = joins a b c u v p.moved q.moved; stored = q.stored ∙ p.stored }
+
+pub looks_on : {S : Type 0} (m : BlocksMeaning S) (a b c : S) (v : List CidParts) → LooksJoin S m → HasLooked (looked_in m a b) → LookedUp v (looked_in m b c) → LookupsQuiet (looked_in m b c)
+    → HasLooked (looked_in m a c)
+looks_on m a b c v joins p q quiet = record { cids = p.cids ++ v; looked = looks_both m a b c p.cids v joins p.looked q; quiet = quiet ∙ p.quiet }
+
+-- ---- causes
+
+-- the cause of a fault behind look-ups that counted none
+cause_since : {S : Type 0} (m : BlocksMeaning S) (a b c : S) (cid : CidParts) (fault : BlocksFault) → HasLooked (looked_in m a b)
+    → IsCauseOf (m.stored b) cid (m.faults b) (m.faults c) fault → IsCauseOf (m.stored a) cid (m.faults a) (m.faults c) fault
+cause_since m a b c cid fault p q =
+    subst (λ (told : Option Store). IsCauseOf told cid (m.faults a) (m.faults c) fault) p.looked.stored
+    (subst (λ (n : ℕ). IsCauseOf (m.stored b) cid n (m.faults c) fault) p.quiet q)
+
+pub path_cause : (told : Option Store) (lookups : Lookups) (fault : ResolveFault) → HasResolveCause (Err fault) told lookups → HasCarCause told lookups (Err (fault_of_path fault))
+path_cause told lookups refusals.NoRoot h = h
+path_cause told lookups (refusals.NotThere i) h = h
+path_cause told lookups (refusals.NotFolder i) h = h
+path_cause told lookups (refusals.BadBlock cid fault) h = h
+path_cause told lookups (refusals.Gone cid) h = h
+path_cause told lookups (refusals.Store (store_faults.Changed want got)) h = h
+path_cause told lookups (refusals.Store store_faults.Failed) h = h
+path_cause told lookups (refusals.Store store_faults.OutOfMemory) h = h.1
+path_cause told lookups refusals.OutOfMemory h = h
+
+pub walk_cause : {S : Type 0} (m : BlocksMeaning S) (a b c : S) (fault : WalkFault) → HasLooked (looked_in m a b) → HasStoreCause (Err fault) (m.stored b) (looked_in m b c)
+    → HasCarCause (m.stored a) (looked_in m a c) (Err (fault_of_walk fault))
+walk_cause m a b c (walks.BadBlock cid fault) p h = h ∙ p.quiet
+walk_cause m a b c (walks.Gone cid) p h = h ∙ p.quiet
+walk_cause m a b c walks.TooDeep p h = h ∙ p.quiet
+walk_cause m a b c (walks.Store (store_faults.Changed want got)) p h = (h.0, cause_since m a b c h.0 (store_faults.Changed want got) p h.1)
+walk_cause m a b c (walks.Store store_faults.Failed) p h = (h.0, cause_since m a b c h.0 store_faults.Failed p h.1)
+walk_cause m a b c (walks.Store store_faults.OutOfMemory) p h = h.1 ∙ p.quiet
+walk_cause m a b c (walks.NotThere i) p h = h ∙ p.quiet
+walk_cause m a b c (walks.NotFolder i) p h = h ∙ p.quiet
+walk_cause m a b c walks.OutOfMemory p h = h ∙ p.quiet
+
+pub car_cause : {S : Type 0} (m : BlocksMeaning S) (a b c : S) (end : Result ⊤ ExportFault) → HasLooked (looked_in m a b) → HasCarCause (m.stored b) (looked_in m b c) end
+    → HasCarCause (m.stored a) (looked_in m a c) end
+car_cause m a b c (Ok done) p h = h ∙ p.quiet
+car_cause m a b c (Err (faults.Pack fault)) p h = h ∙ p.quiet
+car_cause m a b c (Err faults.SinkFault) p h = h ∙ p.quiet
+car_cause m a b c (Err faults.OutOfMemory) p h = h ∙ p.quiet
+car_cause m a b c (Err (faults.Resolve refusals.NoRoot)) p h = h ∙ p.quiet
+car_cause m a b c (Err (faults.Resolve (refusals.NotThere i))) p h = h ∙ p.quiet
+car_cause m a b c (Err (faults.Resolve (refusals.NotFolder i))) p h = h ∙ p.quiet
+car_cause m a b c (Err (faults.Resolve (refusals.BadBlock cid fault))) p h = h ∙ p.quiet
+car_cause m a b c (Err (faults.Resolve (refusals.Gone cid))) p h = h ∙ p.quiet
+car_cause m a b c (Err (faults.Resolve (refusals.Store fault))) p h = (h.0, cause_since m a b c h.0 fault p h.1)
+car_cause m a b c (Err (faults.Resolve refusals.OutOfMemory)) p h = h ∙ p.quiet
+car_cause m a b c (Err (faults.Walk (walks.BadBlock cid fault))) p h = h ∙ p.quiet
+car_cause m a b c (Err (faults.Walk (walks.Gone cid))) p h = h ∙ p.quiet
+car_cause m a b c (Err (faults.Walk walks.TooDeep)) p h = h ∙ p.quiet
+car_cause m a b c (Err (faults.Walk (walks.Store fault))) p h = (h.0, cause_since m a b c h.0 fault p h.1)
+car_cause m a b c (Err (faults.Walk (walks.NotThere i))) p h = h ∙ p.quiet
+car_cause m a b c (Err (faults.Walk (walks.NotFolder i))) p h = h ∙ p.quiet
+car_cause m a b c (Err (faults.Walk walks.OutOfMemory)) p h = h ∙ p.quiet

@@ -1,0 +1,248 @@
+-- A CAR that is put in parts: the header, and section behind section.
+use Rattle.std.proofs.Common.{All, Err, List, None, Ok, Option, Some, [], ap, append-nil, append_assoc, inl, inr, length, map, refl, subst, sym, ℕ, ◌++◌, ◌∙◌, ◌∷◌, ◌≡◌, ◌≤◌}
+use Rattle.std.specs.Prelude.{IfSome, Result, ⊤}
+use Rattle.std.proofs.lemmas.List.{map-append}
+use Rattle.std.proofs.lemmas.List.Elements.{All-append, All-cons, All-nil}
+use Rattle.tg_car.specs.CarText.{SectionText, SectionsText}
+use Rattle.tg_car.specs.Writing.{HeaderOf}
+use Rattle.tg_car.specs.declared.section.Section.{Section as CarSection}
+use Rattle.tg_cid.specs.Cid.{CidParts}
+use Rattle.tg_cid.specs.Limits.{max_block_len}
+use Rattle.tg_cid.specs.Names.{Names}
+use Rattle.tg_export.proofs.Moves.{puts_both, puts_front}
+use Rattle.tg_export.specs.Cars.{BytesEnd, CarEnds, HasCar, HasResolved, HasText, HasTexts, IsGoodSection, PutNothing, PutWhole, SectionEnds, SectionsEnd, fault_of_path, fault_of_walk}
+use Rattle.tg_export.specs.declared.fault.ExportFault.{ExportFault}
+use Rattle.tg_export.specs.declared.fault.ExportFault.TheVariants as faults
+use Rattle.tg_model.specs.Dag.{Section}
+use Rattle.tg_model.specs.PathWalk.{whole}
+use Rattle.tg_model.specs.Queries.{QueryParts}
+use Rattle.tg_model.specs.Stores.{Store}
+use Rattle.tg_model.specs.declared.stores.BlocksFault.TheVariants as store_faults
+use Rattle.tg_store.specs.Packs.{in_car}
+use Rattle.tg_streams.specs.Joining.{SinkJoins, put_front_more, put_nothing}
+use Rattle.tg_streams.specs.Streams.{Output, PutFront, SinkMeaning, into}
+use Rattle.tg_traverse.specs.StoreWalks.{WalkLaws, section_of}
+use Rattle.tg_walk.specs.Resolving.{IsResolvedTo}
+use Rattle.tg_walk.specs.Walks.{HasEnded, HasStepped, HasWalkCause, IsFront, IsNamedFound, IsOnWalk, StandsBy, StandsFor, WalkState, max_depth}
+use Rattle.tg_walk.specs.declared.fault.ResolveFault.{ResolveFault}
+use Rattle.tg_walk.specs.declared.fault.ResolveFault.TheVariants as refusals
+use Rattle.tg_walk.specs.declared.fault.WalkFault.{WalkFault}
+use Rattle.tg_walk.specs.declared.fault.WalkFault.TheVariants as walks
+
+-- ---- one section more
+
+sections_then : (sections : List CarSection) (section : CarSection) (bytes text : List ℕ) → SectionsText sections bytes → SectionText section text
+    → SectionsText (sections ++ section ∷ []) (bytes ++ text)
+sections_then [] section bytes text e is = (text, [], ap (λ (b : List ℕ). b ++ text) e ∙ sym (append-nil text), is, refl)
+sections_then (first ∷ sections) section bytes text (front, rest, e, t, more) is =
+    (front, rest ++ text, ap (λ (b : List ℕ). b ++ text) e ∙ append_assoc front rest text, t, sections_then sections section rest text more is)
+
+texts_then : (sections : List Section) (section : Section) (bytes text : List ℕ) → SectionsText (map in_car sections) bytes → SectionText (in_car section) text
+    → SectionsText (map in_car (sections ++ section ∷ [])) (bytes ++ text)
+texts_then sections section bytes text p is =
+    subst (λ (l : List CarSection). SectionsText l (bytes ++ text)) (sym (map-append in_car sections (section ∷ []))) (sections_then (map in_car sections) (in_car section) bytes text p is)
+
+good_then : (sections : List Section) (cid : CidParts) (block : List ℕ) → All IsGoodSection sections → Names cid block → length block ≤ max_block_len
+    → All IsGoodSection (sections ++ section_of cid block ∷ [])
+good_then sections cid block all named small =
+    All-append IsGoodSection sections (section_of cid block ∷ []) all
+    (All-cons IsGoodSection (section_of cid block) [] (record { named = named; small = small }) (All-nil IsGoodSection))
+
+-- told or not, one thing after another holds
+told_then : (told : Option Store) (holds after : Store → Type 0) → ((store : Store) → told ≡ Some store → holds store → after store) → IfSome told holds → IfSome told after
+told_then None holds after step h = tt
+told_then (Some store) holds after step h = step store refl h
+
+pub told_each : (told : Option Store) (holds : Store → Type 0) → ((store : Store) → told ≡ Some store → holds store) → IfSome told holds
+told_each None holds h = tt
+told_each (Some store) holds h = h store refl
+
+-- ---- a walk that has given these sections
+
+-- what it has given is a front of the traversal
+pub front_of : (laws : WalkLaws) (state : WalkState) (store : Store) (sections : List Section) → state.refused ≡ None → StandsFor state store sections → IsFront state.left.query store sections
+front_of laws state store sections e stands =
+    let on : IsOnWalk max_depth state.left store sections = subst (λ (refused : Option WalkFault). StandsBy refused max_depth state.left store sections) e stands in
+    let front = laws.front state.left.query store max_depth on.given _ on.walked in
+    record { given = on.given; gave = on.gave; rest = front.0; front = front.1 }
+
+pub cause_of : (state : WalkState) (store : Store) (sections : List Section) (fault : WalkFault) → state.refused ≡ Some fault → StandsFor state store sections
+    → HasWalkCause state.left.query store max_depth sections fault
+cause_of state store sections fault e stands = subst (λ (refused : Option WalkFault). StandsBy refused max_depth state.left store sections) e stands
+
+-- ---- what was put behind the header
+
+-- the bytes of a section's head and its block
+pub section_ends : {S : Type 0} (m : SinkMeaning S) (a b c : S) (head block : List ℕ) (section : Section) (result : Result ⊤ ExportFault) → SinkJoins S m
+    → SectionText (in_car section) (head ++ block) → PutWhole (into m a b) head → BytesEnd block (into m b c) result → SectionEnds section (into m a c) result
+section_ends m a b c head block section (Ok done) joins is p q = record { text = head ++ block; text_is = is; is_done = puts_both m a b c head block joins p q }
+section_ends m a b c head block section (Err fault) joins is p q =
+    (q.0, record { text = head ++ block; text_is = is; is_done = puts_front m a b c head block joins p q.1 })
+
+pub section_stops : {S : Type 0} (m : SinkMeaning S) (a b : S) (head block : List ℕ) (section : Section) (fault : ExportFault)
+    → SectionText (in_car section) (head ++ block) → BytesEnd head (into m a b) (Err fault) → SectionEnds section (into m a b) (Err fault)
+section_stops m a b head block section fault is q =
+    (q.0, record { text = head ++ block; text_is = is; is_done = put_front_more _ m a b head block q.1 })
+
+-- the same texts, of which another thing holds
+retold : (told : Option Store) (holds after : Store → List Section → Type 0) (done : List ℕ → Type 0)
+    → ((store : Store) (sections : List Section) → told ≡ Some store → holds store sections → after store sections) → HasTexts told holds done → HasTexts told after done
+retold told holds after done step h = record {
+  sections = h.sections;
+  bytes = h.bytes;
+  named = h.named;
+  texts = h.texts;
+  is_so = told_then told (λ store. holds store h.sections) (λ store. after store h.sections) (λ store e p. step store h.sections e p) h.is_so;
+  is_done = h.is_done;
+}
+
+-- and one section more
+with_text : (told : Option Store) (holds after : Store → List Section → Type 0) (done more all : List ℕ → Type 0) (cid : CidParts) (block : List ℕ)
+    → ((store : Store) (sections : List Section) → told ≡ Some store → holds store sections → after store (sections ++ section_of cid block ∷ []))
+    → ((u v : List ℕ) → done u → more v → all (u ++ v)) → Names cid block → length block ≤ max_block_len → HasText (section_of cid block) more → HasTexts told holds done → HasTexts told after all
+with_text told holds after done more all cid block step both named small t h = record {
+  sections = h.sections ++ section_of cid block ∷ [];
+  bytes = h.bytes ++ t.text;
+  named = good_then h.sections cid block h.named named small;
+  texts = texts_then h.sections (section_of cid block) h.bytes t.text h.texts t.text_is;
+  is_so = told_then told (λ store. holds store h.sections) (λ store. after store (h.sections ++ section_of cid block ∷ [])) (λ store e p. step store h.sections e p) h.is_so;
+  is_done = both h.bytes t.text h.is_done t.is_done;
+}
+
+-- the texts of what the walk has given were put
+abbrev pub HasPutTexts : Option Store → WalkState → (List ℕ → Type 0) → Type 0
+HasPutTexts told state done = HasTexts told (λ store sections. StandsFor state store sections) done
+
+pub none_put : {S : Type 0} (m : SinkMeaning S) (a : S) (told : Option Store) (state : WalkState) → m.wrote a a [] → ((store : Store) → StandsFor state store [])
+    → HasPutTexts told state (PutWhole (into m a a))
+none_put m a told state rests stands = record {
+  sections = [];
+  bytes = [];
+  named = All-nil IsGoodSection;
+  texts = refl;
+  is_so = told_each told (λ store. StandsFor state store []) (λ store e. stands store);
+  is_done = record { put = put_nothing _ m a rests; quiet = refl };
+}
+
+-- a step of the walk, which is called over what the store tells now
+abbrev pub HasNext : Option Store → WalkState → Result (Option (CidParts × List ℕ)) WalkFault → WalkState → Type 0
+HasNext told state found new = (store : Store) (sections : List Section) → told ≡ Some store → StandsFor state store sections → HasStepped found new store sections
+
+-- the walk gave a block, whose section was put, or out failed in it
+pub puts_more : {S : Type 0} (m : SinkMeaning S) (a b c : S) (told now : Option Store) (state new : WalkState) (cid : CidParts) (block : List ℕ) → SinkJoins S m → now ≡ told
+    → HasNext now state (Ok (Some (cid, block))) new → IsNamedFound (Ok (Some (cid, block))) → HasText (section_of cid block) (PutWhole (into m b c)) → HasPutTexts told state (PutWhole (into m a b))
+    → HasPutTexts told new (PutWhole (into m a c))
+puts_more m a b c told now state new cid block joins e next found t h =
+    with_text told (λ store sections. StandsFor state store sections) (λ store sections. StandsFor new store sections) (PutWhole (into m a b)) (PutWhole (into m b c)) (PutWhole (into m a c)) cid block
+    (λ store sections is stands. next store sections (e ∙ is) stands) (λ u v p q. puts_both m a b c u v joins p q) found.0 found.1 t h
+
+pub sink_ends : {S : Type 0} (m : SinkMeaning S) (a b c : S) (laws : WalkLaws) (q : QueryParts) (told now : Option Store) (state new : WalkState) (cid : CidParts) (block : List ℕ) → SinkJoins S m
+    → now ≡ told → new.left.query ≡ q → new.refused ≡ None
+    → HasNext now state (Ok (Some (cid, block))) new → IsNamedFound (Ok (Some (cid, block))) → HasText (section_of cid block) (λ text. PutFront text (into m b c)) → HasPutTexts told state (PutWhole (into m a b))
+    → SectionsEnd q told (into m a c) (Err faults.SinkFault)
+sink_ends m a b c laws q told now state new cid block joins e is_q none next found t h =
+    with_text told (λ store sections. StandsFor state store sections) (λ store sections. IsFront q store sections) (PutWhole (into m a b)) (λ text. PutFront text (into m b c)) (λ text. PutFront text (into m a c)) cid block
+    (λ store sections is stands. subst (λ (q : QueryParts). IsFront q store (sections ++ section_of cid block ∷ [])) is_q
+    (front_of laws new store (sections ++ section_of cid block ∷ []) none (next store sections (e ∙ is) stands)))
+    (λ u v p q. puts_front m a b c u v joins p q) found.0 found.1 t h
+
+-- the walk gave no more
+pub all_given : (out : Output) (q : QueryParts) (told now : Option Store) (state new : WalkState) → now ≡ told → new.left.query ≡ q
+    → HasNext now state (Ok None) new → HasPutTexts told state (PutWhole out) → SectionsEnd q told out (Ok tt)
+all_given out q told now state new e is_q next h =
+    retold told (λ store sections. StandsFor state store sections) (λ store sections. HasEnded q store max_depth sections whole) (PutWhole out)
+    (λ store sections is stands. subst (λ (q : QueryParts). HasEnded q store max_depth sections whole) is_q (next store sections (e ∙ is) stands).1) h
+
+-- or it was refused
+fault_ends : (out : Output) (q : QueryParts) (told : Option Store) (fault : WalkFault) → HasTexts told (λ store sections. HasWalkCause q store max_depth sections fault) (PutWhole out)
+    → SectionsEnd q told out (Err (fault_of_walk fault))
+fault_ends out q told (walks.BadBlock cid fault) h = h
+fault_ends out q told (walks.Gone cid) h = h
+fault_ends out q told walks.TooDeep h = h
+fault_ends out q told (walks.Store (store_faults.Changed want got)) h = h
+fault_ends out q told (walks.Store store_faults.Failed) h = h
+fault_ends out q told (walks.Store store_faults.OutOfMemory) h = h
+fault_ends out q told (walks.NotThere i) h = h
+fault_ends out q told (walks.NotFolder i) h = h
+fault_ends out q told walks.OutOfMemory h = h
+
+pub walk_ends : (out : Output) (q : QueryParts) (told now : Option Store) (state new : WalkState) (fault : WalkFault) → now ≡ told → new.left.query ≡ q → new.refused ≡ Some fault
+    → HasNext now state (Err fault) new → HasPutTexts told state (PutWhole out) → SectionsEnd q told out (Err (fault_of_walk fault))
+walk_ends out q told now state new fault e is_q some next h =
+    fault_ends out q told fault
+    (retold told (λ store sections. StandsFor state store sections) (λ store sections. HasWalkCause q store max_depth sections fault) (PutWhole out)
+    (λ store sections is stands. subst (λ (q : QueryParts). HasWalkCause q store max_depth sections fault) is_q (cause_of new store sections fault some (next store sections (e ∙ is) stands))) h)
+
+-- or it isn't followed further
+pub front_ends : (out : Output) (laws : WalkLaws) (q : QueryParts) (told : Option Store) (state : WalkState) → state.left.query ≡ q → state.refused ≡ None → HasPutTexts told state (PutWhole out)
+    → SectionsEnd q told out (Err faults.OutOfMemory)
+front_ends out laws q told state is_q none h =
+    retold told (λ store sections. StandsFor state store sections) (λ store sections. IsFront q store sections) (PutWhole out)
+    (λ store sections is stands. subst (λ (q : QueryParts). IsFront q store sections) is_q (front_of laws state store sections none stands)) h
+
+-- ---- the header before them
+
+with_header : (root : CidParts) (told : Option Store) (holds after : Store → List Section → Type 0) (done all : List ℕ → Type 0) (header : List ℕ) → HeaderOf root header
+    → ((store : Store) (sections : List Section) → told ≡ Some store → holds store sections → after store sections) → ((bytes : List ℕ) → done bytes → all (header ++ bytes))
+    → HasTexts told holds done → HasCar root told after all
+with_header root told holds after done all header is step both h = record {
+  sections = h.sections;
+  bytes = header ++ h.bytes;
+  named = h.named;
+  car = record { header = header; rest = h.bytes; whole = refl; header_is = is; sections_are = h.texts };
+  is_so = told_then told (λ store. holds store h.sections) (λ store. after store h.sections) (λ store e p. step store h.sections e p) h.is_so;
+  is_done = both h.bytes h.is_done;
+}
+
+abbrev pub IsResolved : QueryParts → Option Store → Type 0
+IsResolved q told = (store : Store) → told ≡ Some store → HasResolved store q
+
+pub resolved : (q : QueryParts) (told : Option Store) (root : CidParts) (path : List (List ℕ)) (cid : CidParts) → root ≡ q.root → path ≡ q.path
+    → ((store : Store) → told ≡ Some store → IsResolvedTo store root path (Ok cid)) → IsResolved q told
+resolved q told root path cid e f leads store is = record {
+  cid = cid;
+  leads = subst (λ (r : CidParts). IsResolvedTo store r q.path (Ok cid)) e (subst (λ (p : List (List ℕ)). IsResolvedTo store root p (Ok cid)) f (leads store is));
+}
+
+pub car_ends : {S : Type 0} (m : SinkMeaning S) (a b c : S) (q : QueryParts) (told : Option Store) (header : List ℕ) (result : Result ⊤ ExportFault) → SinkJoins S m → HeaderOf q.root header
+    → IsResolved q told → PutWhole (into m a b) header → SectionsEnd q told (into m b c) result → CarEnds q told (into m a c) result
+car_ends m a b c q told header (Ok done) joins is way p h =
+    with_header q.root told (λ store sections. HasEnded q store max_depth sections whole) (λ store sections. HasResolved store q × HasEnded q store max_depth sections whole)
+    (PutWhole (into m b c)) (PutWhole (into m a c)) header is (λ store sections e x. (way store e, x)) (λ bytes d. puts_both m a b c header bytes joins p d) h
+car_ends m a b c q told header (Err (faults.Walk fault)) joins is way p h =
+    with_header q.root told (λ store sections. HasWalkCause q store max_depth sections fault) (λ store sections. HasResolved store q × HasWalkCause q store max_depth sections fault)
+    (PutWhole (into m b c)) (PutWhole (into m a c)) header is (λ store sections e x. (way store e, x)) (λ bytes d. puts_both m a b c header bytes joins p d) h
+car_ends m a b c q told header (Err faults.SinkFault) joins is way p h =
+    with_header q.root told (λ store sections. IsFront q store sections) (λ store sections. HasResolved store q × IsFront q store sections)
+    (λ bytes. PutFront bytes (into m b c)) (λ bytes. PutFront bytes (into m a c)) header is (λ store sections e x. (way store e, x)) (λ bytes d. puts_front m a b c header bytes joins p d) h
+car_ends m a b c q told header (Err faults.OutOfMemory) joins is way p h =
+    inr (with_header q.root told (λ store sections. IsFront q store sections) (λ store sections. HasResolved store q × IsFront q store sections)
+    (PutWhole (into m b c)) (PutWhole (into m a c)) header is (λ store sections e x. (way store e, x)) (λ bytes d. puts_both m a b c header bytes joins p d) h)
+car_ends m a b c q told header (Err (faults.Resolve fault)) joins is way p h = absurd h
+car_ends m a b c q told header (Err (faults.Pack fault)) joins is way p h = absurd h
+
+-- out failed in the header
+pub header_ends : {S : Type 0} (m : SinkMeaning S) (a b : S) (q : QueryParts) (told : Option Store) (laws : WalkLaws) (state : WalkState) (header : List ℕ) → HeaderOf q.root header → IsResolved q told
+    → state.left.query ≡ q → state.refused ≡ None → ((store : Store) → StandsFor state store []) → PutFront header (into m a b) → CarEnds q told (into m a b) (Err faults.SinkFault)
+header_ends m a b q told laws state header is way is_q none stands p = record {
+  sections = [];
+  bytes = header ++ [];
+  named = All-nil IsGoodSection;
+  car = record { header = header; rest = []; whole = refl; header_is = is; sections_are = refl };
+  is_so = told_each told (λ store. HasResolved store q × IsFront q store [])
+      (λ store e. (way store e, subst (λ (q : QueryParts). IsFront q store []) is_q (front_of laws state store [] none (stands store))));
+  is_done = put_front_more _ m a b header [] p;
+}
+
+-- the path leads nowhere
+pub path_ends : (out : Output) (q : QueryParts) (told : Option Store) (fault : ResolveFault) → PutNothing out → ((store : Store) → told ≡ Some store → IsResolvedTo store q.root q.path (Err fault))
+    → CarEnds q told out (Err (fault_of_path fault))
+path_ends out q told refusals.NoRoot nothing h = (nothing, told_each told (λ store. IsResolvedTo store q.root q.path (Err refusals.NoRoot)) h)
+path_ends out q told (refusals.NotThere i) nothing h = (nothing, told_each told (λ store. IsResolvedTo store q.root q.path (Err (refusals.NotThere i))) h)
+path_ends out q told (refusals.NotFolder i) nothing h = (nothing, told_each told (λ store. IsResolvedTo store q.root q.path (Err (refusals.NotFolder i))) h)
+path_ends out q told (refusals.BadBlock cid fault) nothing h = (nothing, told_each told (λ store. IsResolvedTo store q.root q.path (Err (refusals.BadBlock cid fault))) h)
+path_ends out q told (refusals.Gone cid) nothing h = (nothing, told_each told (λ store. IsResolvedTo store q.root q.path (Err (refusals.Gone cid))) h)
+path_ends out q told (refusals.Store (store_faults.Changed want got)) nothing h = (nothing, told_each told (λ store. IsResolvedTo store q.root q.path (Err (refusals.Store (store_faults.Changed want got)))) h)
+path_ends out q told (refusals.Store store_faults.Failed) nothing h = (nothing, told_each told (λ store. IsResolvedTo store q.root q.path (Err (refusals.Store store_faults.Failed))) h)
+path_ends out q told (refusals.Store store_faults.OutOfMemory) nothing h = inl nothing
+path_ends out q told refusals.OutOfMemory nothing h = inl nothing

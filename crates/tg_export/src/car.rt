@@ -1,0 +1,93 @@
+//! The answer to a query over a store, written as a CAR.
+ghost use Rattle.std.specs.Prelude.{◌≡◌, ◌≤◌, [], List, None, Some, length};
+ghost use Rattle.tg_cid.specs.Cid.{CidParts};
+ghost use Rattle.tg_cid.specs.Limits.{max_block_len};
+ghost use Rattle.tg_export.specs.Cars.{BytesEnd, CarEnds, HasCarCause, HasOwnMemory, IsOtherwiseWhole, SectionEnds, SectionsEnd};
+ghost use Rattle.tg_model.specs.Dag.{Section};
+ghost use Rattle.tg_model.specs.PathWalk.{TraversalEnd, whole};
+ghost use Rattle.tg_model.specs.Stores.{LookedUp, Store, looked_in};
+ghost use Rattle.tg_streams.specs.Streams.{into};
+ghost use Rattle.tg_traverse.specs.StoreWalks.{section_of};
+ghost use Rattle.tg_walk.specs.Walks.{HasEnded, StandsFor, max_depth};
+
+use crate::fault::ExportFault;
+use std::alloc::Global;
+use tg_car::{header, section_head};
+use tg_cid::Cid;
+use tg_model::{Blocks, Query};
+use tg_streams::{Sink, put_all};
+use tg_traverse::store_walks;
+use tg_walk::{Walk, resolve};
+
+/// Writes the CAR of a query over a store: its header, with the query's root, and then the section of each block that the query asks
+/// for, repeats with them, in order, as the walk gives it. Each block is looked up when it is written, and none is kept.
+///
+/// The path is resolved first, which looks up its blocks once more. CARv1 specification; Trustless Gateway specification, CAR
+/// responses. Errors: `Resolve` where the path doesn't lead to a stored block, with which nothing was written; `Walk` where the walk
+/// ends before the last block, behind the sections up to there; `SinkFault` where out failed, which then has a front of the CAR; and
+/// `OutOfMemory`.
+pub fn write_car<B: Blocks, S: Sink>(
+    alloc: Global,
+    query: &Query,
+    blocks: &mut B,
+    out: &mut S,
+) -> Result<(), ExportFault>
+    ensures ends { CarEnds query.now (B.blocks.stored blocks.old) (into S.sink out.old out.new) result }
+    ensures looked { (cids : List CidParts) × LookedUp cids (looked_in B.blocks blocks.old blocks.new) }
+    ensures cause { HasCarCause (B.blocks.stored blocks.old) (looked_in B.blocks blocks.old blocks.new) result }
+    ensures memory { HasOwnMemory result }
+    // Where the store has the whole traversal, none of it too deep, it is written, but for counted faults and want of memory.
+    ensures answered { (store : Store) (sections : List Section) → B.blocks.stored blocks.old ≡ Some store
+        → HasEnded query.now store max_depth sections whole → IsOtherwiseWhole result }
+{
+    store_walks();
+    resolve(alloc, blocks, &query.root(), query.path())?;
+    let header = header(alloc, &query.root())?;
+    let mut walk = Walk::new(alloc, query)?;
+    put(out, header.as_slice())?;
+    write_sections(&mut walk, blocks, out)
+}
+
+/// Writes the section of each block that a walk gives, from its first one on.
+///
+/// CARv1 specification, Data. Errors: `Walk` where the walk ends before the last block; `SinkFault`; and `OutOfMemory`.
+fn write_sections<B: Blocks, S: Sink>(
+    walk: &mut Walk,
+    blocks: &mut B,
+    out: &mut S,
+) -> Result<(), ExportFault>
+    requires fresh { walk.old.refused ≡ None }
+    requires stands { (store : Store) → StandsFor walk.old store [] }
+    ensures ends { SectionsEnd walk.old.left.query (B.blocks.stored blocks.old) (into S.sink out.old out.new) result }
+    ensures looked { (cids : List CidParts) × LookedUp cids (looked_in B.blocks blocks.old blocks.new) }
+    ensures cause { HasCarCause (B.blocks.stored blocks.old) (looked_in B.blocks blocks.old blocks.new) result }
+    ensures memory { HasOwnMemory result }
+{
+    store_walks();
+    while let Some((cid, block)) = walk.next(blocks)? {
+        put_section(out, cid, block.as_slice())?;
+    }
+    Ok(())
+}
+
+/// Puts the section of a block: the length, the CID and the block. The error is a fault of out.
+///
+/// CARv1 specification, Data.
+fn put_section<S: Sink>(out: &mut S, cid: Cid, block: &[u8]) -> Result<(), ExportFault>
+    requires small { length block.now ≤ max_block_len }
+    ensures { SectionEnds (section_of cid block.now) (into S.sink out.old out.new) result }
+{
+    let (head, size) = section_head(&cid, block.len() as u64);
+    put(out, &head[..size])?;
+    put(out, block)
+}
+
+/// Puts all of the bytes. The error is a fault of out, which then has a front of them.
+fn put<S: Sink>(out: &mut S, bytes: &[u8]) -> Result<(), ExportFault>
+    ensures { BytesEnd bytes.now (into S.sink out.old out.new) result }
+{
+    match put_all(out, bytes) {
+        Ok(()) => Ok(()),
+        Err(_) => Err(ExportFault::SinkFault),
+    }
+}
