@@ -1,6 +1,7 @@
-//! A sharded directory of entries that are tested first.
+//! Directories of entries that are tested first.
 ghost use Rattle.std.specs.Prelude.{◌≡◌, ◌<◌, ◌≤◌, ◌^◌, ℕ, All, false, IsTrue, bytes_eq, length, map, slice_index_or};
 ghost use Rattle.std.specs.List.{IsDistinct, sum_by};
+ghost use Rattle.tg_hamt.specs.Directories.{AreGoodEntries};
 ghost use Rattle.tg_hamt.specs.Order.{IsGoodEntry};
 ghost use Rattle.tg_model.specs.EntryNames.{IsGoodName};
 ghost use Rattle.tg_model.specs.declared.kinds.NewEntry.{NewEntry as Entries};
@@ -18,6 +19,9 @@ pub enum CheckedFault {
     /// There are more than 65,536 entries, one can't stand in a directory, two have one name, or their Tsizes pass 2^62.
     #[error("BadEntries")]
     BadEntries,
+    /// The threshold passes 1,048,576.
+    #[error("BadThreshold")]
+    BadThreshold,
     /// The builder's own fault.
     #[error("Built {0}")]
     Built(HamtFault),
@@ -29,13 +33,47 @@ pub fn checked_build<K: Keep>(
     entries: &[NewEntry],
     keep: &mut K,
 ) -> Result<Made, CheckedFault> {
-    if entries.len() > 65_536 || !are_good(entries) || !differ(entries) || !are_light(entries) {
+    if !may_stand(entries) {
         return Err(CheckedFault::BadEntries);
     }
     match build(alloc, entries, keep) {
         Ok(made) => Ok(made),
         Err(fault) => Err(CheckedFault::Built(fault)),
     }
+}
+
+/// The directory of these entries, sharded above this weight, where they may stand in one.
+pub fn checked_directory<K: Keep>(
+    alloc: Global,
+    entries: &[NewEntry],
+    threshold: u64,
+    keep: &mut K,
+) -> Result<Made, CheckedFault> {
+    if !may_stand(entries) {
+        return Err(CheckedFault::BadEntries);
+    }
+    if threshold > 1_048_576 {
+        return Err(CheckedFault::BadThreshold);
+    }
+    match tg_dir::build(alloc, entries, threshold, keep) {
+        Ok(made) => Ok(made),
+        Err(fault) => Err(CheckedFault::Built(fault)),
+    }
+}
+
+/// The weight of the directory of these entries, where they may stand in one.
+pub fn checked_weight(entries: &[NewEntry]) -> Result<u64, CheckedFault> {
+    if !may_stand(entries) {
+        return Err(CheckedFault::BadEntries);
+    }
+    Ok(tg_dir::weight(entries))
+}
+
+/// Whether the entries may stand in a directory, of at most 65,536.
+fn may_stand(entries: &[NewEntry]) -> bool
+    ensures { IsTrue result → AreGoodEntries entries.now }
+{
+    entries.len() <= 65_536 && are_good(entries) && differ(entries) && are_light(entries)
 }
 
 /// Whether each entry may stand in a directory.

@@ -1,9 +1,11 @@
-//! Tests of sharded directories over a store in memory.
+//! Tests of directories over a store in memory.
 #![tactic(auto)]
 
 mod checked;
 
-pub use checked::{CheckedFault, checked_build};
+pub use checked::{CheckedFault, checked_build, checked_directory, checked_weight};
 
+#[cfg(test)]
+mod by_weight;
 #[cfg(test)]
 mod tests;

@@ -1,10 +1,9 @@
-use Rattle.std.proofs.Common.{◌≡◌, ℕ, List, length, take, ap, sym, ◌∙◌, subst, arith, rules}
+use Rattle.std.proofs.Common.{◌≡◌, ℕ, length, take, ap, ◌∙◌, subst, arith}
 use Rattle.std.specs.Prelude.{All}
 use Rattle.std.proofs.Math.Seq.{take-length}
 use Rattle.std.proofs.lemmas.List.Elements.{All-more}
 use Rattle.tg_hamt.specs.Order.{IsGoodEntry}
 use Rattle.tg_hamt_tests.proofs.checked.are_good.Goals as goal
-use Rattle.tg_model.specs.declared.kinds.NewEntry.{NewEntry}
 
 pub loop-entry-preserved : goal.loop-entry-preserved
 loop-entry-preserved c =

@@ -1,0 +1,5 @@
+mod Weighing
+mod Pairs
+mod Orders
+mod OneBlock
+mod ByWeight
