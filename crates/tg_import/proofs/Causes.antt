@@ -1,0 +1,318 @@
+-- Why an import of a folder stops, from why one of its steps did.
+use Rattle.std.proofs.Common.{Result, Ok, Err, ◌≡◌, ◌≢◌, ◌⊎◌, inl, inr, ⊎_elim, ℕ, zero, suc, ◌+◌, ◌-◌, ◌<◌, ◌≤◌, cond, List, Option, [], ◌∷◌, ◌++◌, length, get_or, take, drop, refl, ap, sym, ◌∙◌, subst, arith, add-one, drop-cons}
+use Rattle.std.specs.Prelude.{Contains, IfErr, IfOk, OnOk, map, nat_lt}
+use Rattle.std.proofs.lemmas.List.Elements.{All-contains}
+use Rattle.std.proofs.lemmas.List.Sorted.{All-permutation}
+use Rattle.std.proofs.lemmas.List.{take-append-drop}
+use Rattle.tg_faults.specs.Faults.{Rose}
+use Rattle.tg_files.specs.Folders.{FolderMeaning, FolderQuiet, Leads, folder_step}
+use Rattle.tg_import.proofs.FoldersMade.{folder_blocks, folder_counts, folder_imported, sound_all, tsizes_listed}
+use Rattle.tg_dir.specs.Made.{IsMadeBy, MakesDirectory}
+use Rattle.tg_model.specs.declared.kinds.Made.{Made}
+use Rattle.tg_tree.specs.Tree.{HasFolderAt, IsAt}
+use Rattle.tg_writing.specs.KeepingSteps.{Joins, keeps_both, keeps_nothing, same_stops, stops_behind}
+use Rattle.tg_import.proofs.SoFar.{IsSoFar, weights}
+use Rattle.tg_import.specs.Counting.{counts_of_children, one_folder, one_sharded, plus}
+use Rattle.tg_import.specs.Imported.{AreEntryNames, AreItemsOf}
+use Rattle.tg_import.specs.Refused.{HasDirectoryFault, HasFolderFault, HasItemFault, HasNameFault, IsCauseBy, IsCrowdedFault, IsFileFault, IsImportCause, KeepsSome, PassesTotal, item_names, max_total, sort_fault, weight_of_items}
+use Rattle.tg_import.specs.Steps.{ImportsAs, IsEntriesCause, IsListCause, IsWriterFor, own_count_for, tsizes_for}
+use Rattle.tg_import.specs.declared.fault.ImportFault.TheVariants as faults
+use Rattle.tg_import.specs.declared.fault.ImportFault.{ImportFault}
+use Rattle.tg_import.specs.declared.folder.Importer.{Importer}
+use Rattle.tg_import.specs.declared.summary.Options.{Options}
+use Rattle.tg_import.specs.declared.summary.Summary.{Summary}
+use Rattle.tg_import_file.specs.Files.{FileWriterState}
+use Rattle.tg_laws.specs.Stores.{KeepingJoins}
+use Rattle.tg_model.specs.Dag.{Section}
+use Rattle.tg_model.specs.Stores.{KeepMeaning, kept_in}
+use Rattle.tg_model.specs.declared.kinds.NewEntry.{NewEntry}
+use Rattle.tg_model.specs.declared.stores.KeepFault.TheVariants as keep_faults
+use Rattle.tg_tree.specs.declared.items.Item.{Item}
+use Rattle.tg_tree.specs.declared.items.Sort.TheVariants as sorts
+use Rattle.tg_tree.specs.declared.items.Sort.{Sort}
+use Rattle.tg_tree.specs.declared.tree.Tree.{Tree}
+use Rattle.tg_writing.specs.Keeping.{Keeps}
+
+-- ---- a step behind others
+
+rose_on : (a b c : ℕ) → b ≡ a → Rose b c → Rose a c
+rose_on a b c e h = subst (λ (n : ℕ). Rose n c) e h
+
+counted_on : (a b c : ℕ) → b ≡ a → b ≤ c → a ≤ c
+counted_on a b c e h = omega arith
+
+module _ {S T : Type 0} (m : KeepMeaning S) (f : FolderMeaning T) (joins : Joins m) (stores : KeepingJoins) (k0 k1 k2 : S) (t0 t1 t2 : T) (u : List Section) (quiet : f.faults t1 ≡ f.faults t0)
+    (keeps : Keeps u (kept_in m k0 k1)) where
+  some_behind : KeepsSome (kept_in m k1 k2) → KeepsSome (kept_in m k0 k2)
+  some_behind some = (u ++ some.0, keeps_both m joins stores k0 k1 k2 u some.0 keeps some.1)
+
+  refused_behind : (Refused Wider : Type 0) → (Refused → Wider) → FolderQuiet (folder_step f t1 t2) × KeepsSome (kept_in m k1 k2) × Refused → FolderQuiet (folder_step f t0 t2) × KeepsSome (kept_in m k0 k2) × Wider
+  refused_behind Refused Wider wider h = (h.0 ∙ quiet, some_behind h.1, wider h.2)
+
+  pub cause_behind : (Refused Wider : ImportFault → Type 0) (fault : ImportFault) → (Refused fault → Wider fault) → IsCauseBy Refused fault (folder_step f t1 t2) (kept_in m k1 k2)
+      → IsCauseBy Wider fault (folder_step f t0 t2) (kept_in m k0 k2)
+  cause_behind Refused Wider faults.Folder wider h =
+      (record { rose = rose_on (f.faults t0) (f.faults t1) (f.faults t2) quiet h.0.rose; counted = counted_on (f.faults t0) (f.faults t1) (f.faults t2) quiet h.0.counted }, some_behind h.1)
+  cause_behind Refused Wider faults.Keep wider h = (h.0 ∙ quiet, (u ++ h.1.0, stops_behind m joins stores k0 k1 k2 u h.1.0 keep_faults.Failed keeps h.1.1))
+  cause_behind Refused Wider faults.OutOfMemory wider h = (h.0 ∙ quiet, (u ++ h.1.0, stops_behind m joins stores k0 k1 k2 u h.1.0 keep_faults.OutOfMemory keeps h.1.1))
+  cause_behind Refused Wider (faults.TooDeep at) wider h = refused_behind (Refused (faults.TooDeep at)) (Wider (faults.TooDeep at)) wider h
+  cause_behind Refused Wider (faults.BadName at) wider h = refused_behind (Refused (faults.BadName at)) (Wider (faults.BadName at)) wider h
+  cause_behind Refused Wider (faults.LongName at) wider h = refused_behind (Refused (faults.LongName at)) (Wider (faults.LongName at)) wider h
+  cause_behind Refused Wider (faults.SameHash a b) wider h = refused_behind (Refused (faults.SameHash a b)) (Wider (faults.SameHash a b)) wider h
+  cause_behind Refused Wider (faults.NotPlain at) wider h = refused_behind (Refused (faults.NotPlain at)) (Wider (faults.NotPlain at)) wider h
+  cause_behind Refused Wider (faults.TooBig at) wider h = refused_behind (Refused (faults.TooBig at)) (Wider (faults.TooBig at)) wider h
+
+-- nothing was kept, and memory is wanted
+pub memory_cause : {S T : Type 0} → (m : KeepMeaning S) (f : FolderMeaning T) → ((s : S) → m.kept s s []) → (k : S) (t0 t1 : T) (Refused : ImportFault → Type 0) → f.faults t1 ≡ f.faults t0
+    → IsCauseBy Refused faults.OutOfMemory (folder_step f t0 t1) (kept_in m k k)
+memory_cause m f rests k t0 t1 Refused quiet = (quiet, ([], same_stops m rests k))
+
+-- ---- the folder's fault
+
+module _ (options : Options) (told : Option Tree) (path : List (List ℕ)) (counted : Summary) (fault : ImportFault) (items : List Item) where
+  abbrev Inner : ℕ → List (List ℕ) → Summary → ImportFault → Type 0
+  Inner levels = λ path counted fault. HasFolderFault levels options told path counted fault
+
+  abbrev Below : ℕ → Type 0
+  Below levels = IsCrowdedFault path items fault ⊎ (HasNameFault path items fault ⊎ (AreEntryNames (item_names items)
+      × (HasItemFault (Inner levels) options told path counted items fault ⊎ HasDirectoryFault options told path counted items fault)))
+
+  pub deeper : (levels : ℕ) → levels ≢ 0 → AreItemsOf told path items → Below (levels - 1) → HasFolderFault levels options told path counted fault
+  deeper zero some of h = absurd (some refl)
+  deeper (suc levels) some of h = (items, of, (let e : suc levels - 1 ≡ levels = omega arith in subst Below e h))
+
+  listing : (levels : ℕ) → IsCrowdedFault path items fault ⊎ HasNameFault path items fault → Below levels
+  listing levels h = ⊎_elim (λ (x : IsCrowdedFault path items fault). inl x) (λ (x : HasNameFault path items fault). inr (inl x)) h
+
+-- why a folder isn't listed
+pub list_cause : {S T : Type 0} → (m : KeepMeaning S) (f : FolderMeaning T) → ((s : S) → m.kept s s []) → (k : S) (t0 t1 : T) (levels : ℕ) (options : Options) (path : List (List ℕ)) (counted : Summary) (fault : ImportFault)
+    → levels ≢ 0 → IsListCause (f.tree t0) path fault (folder_step f t0 t1) → IsImportCause levels options (f.tree t0) path counted fault (folder_step f t0 t1) (kept_in m k k)
+list_cause m f rests k t0 t1 levels options path counted faults.Folder some h = (h, ([], keeps_nothing m rests k))
+list_cause m f rests k t0 t1 levels options path counted faults.Keep some h =
+    absurd (⊎_elim (λ (x : IsCrowdedFault path h.1.0 faults.Keep). x) (λ (x : HasNameFault path h.1.0 faults.Keep). x.is) h.1.2)
+list_cause m f rests k t0 t1 levels options path counted faults.OutOfMemory some h = (h, ([], same_stops m rests k))
+list_cause m f rests k t0 t1 levels options path counted (faults.TooDeep at) some h = (h.0, ([], keeps_nothing m rests k), deeper options (f.tree t0) path counted (faults.TooDeep at) h.1.0 levels some h.1.1 (listing options (f.tree t0) path counted (faults.TooDeep at) h.1.0 (levels - 1) h.1.2))
+list_cause m f rests k t0 t1 levels options path counted (faults.BadName at) some h = (h.0, ([], keeps_nothing m rests k), deeper options (f.tree t0) path counted (faults.BadName at) h.1.0 levels some h.1.1 (listing options (f.tree t0) path counted (faults.BadName at) h.1.0 (levels - 1) h.1.2))
+list_cause m f rests k t0 t1 levels options path counted (faults.LongName at) some h = (h.0, ([], keeps_nothing m rests k), deeper options (f.tree t0) path counted (faults.LongName at) h.1.0 levels some h.1.1 (listing options (f.tree t0) path counted (faults.LongName at) h.1.0 (levels - 1) h.1.2))
+list_cause m f rests k t0 t1 levels options path counted (faults.SameHash a b) some h = (h.0, ([], keeps_nothing m rests k), deeper options (f.tree t0) path counted (faults.SameHash a b) h.1.0 levels some h.1.1 (listing options (f.tree t0) path counted (faults.SameHash a b) h.1.0 (levels - 1) h.1.2))
+list_cause m f rests k t0 t1 levels options path counted (faults.NotPlain at) some h = (h.0, ([], keeps_nothing m rests k), deeper options (f.tree t0) path counted (faults.NotPlain at) h.1.0 levels some h.1.1 (listing options (f.tree t0) path counted (faults.NotPlain at) h.1.0 (levels - 1) h.1.2))
+list_cause m f rests k t0 t1 levels options path counted (faults.TooBig at) some h = (h.0, ([], keeps_nothing m rests k), deeper options (f.tree t0) path counted (faults.TooBig at) h.1.0 levels some h.1.1 (listing options (f.tree t0) path counted (faults.TooBig at) h.1.0 (levels - 1) h.1.2))
+
+-- ---- an entry's fault
+
+pub split_at : (items taken : List Item) (item : Item) → length taken < length items → item ≡ get_or items (length taken) item → taken ≡ take (length taken) items
+    → items ≡ taken ++ item ∷ drop (length taken + 1) items
+split_at items taken item lt is front =
+    sym (take-append-drop (length taken) items) ∙ ap (λ (l : List Item). l ++ drop (length taken) items) (sym front)
+    ∙ ap (λ (l : List Item). taken ++ l) (rw add-one (drop-cons items (length taken) item lt) ∙ ap (λ (x : Item). x ∷ drop (length taken + 1) items) (sym is))
+
+-- what is at fault in the entry at its place
+pub item_refused : {S T : Type 0} → (m : KeepMeaning S) (f : FolderMeaning T) (k0 k1 : S) (t0 t1 : T) (options : Options) (path : List (List ℕ)) (counted : Summary) (options_now : Options) (writer : FileWriterState)
+    (summary : Summary) (taken items : List Item) (item : Item) (entries : List NewEntry) (levels : ℕ) (fault : ImportFault) → IsSoFar m f k0 k1 t0 t1 options path counted options_now writer summary taken entries
+    → levels ≢ 0 → AreItemsOf (f.tree t0) path items → AreEntryNames (item_names items) → length taken < length items → item ≡ get_or items (length taken) item → taken ≡ take (length taken) items
+    → sort_fault (λ path counted fault. HasFolderFault (levels - 1) options_now (f.tree t1) path counted fault) (f.tree t1) (path ++ item.name ∷ []) summary item.sort fault
+    → HasFolderFault levels options (f.tree t0) path counted fault
+item_refused m f k0 k1 t0 t1 options path counted options_now writer summary taken items item entries levels fault so_far some of names lt is front refused =
+    deeper options (f.tree t0) path counted fault items levels some of (inr (inr (
+      names,
+      inl (record {
+        before = taken;
+        item = item;
+        after = drop (length taken + 1) items;
+        whole = split_at items taken item lt is front;
+        children = so_far.children;
+        imported = so_far.imported;
+        is = subst (λ (s : Summary). sort_fault (λ path counted fault. HasFolderFault (levels - 1) options (f.tree t0) path counted fault) (f.tree t0) (path ++ item.name ∷ []) s item.sort fault) so_far.summary_is
+            (subst (λ (o : Options). sort_fault (λ path counted fault. HasFolderFault (levels - 1) o (f.tree t0) path counted fault) (f.tree t0) (path ++ item.name ∷ []) summary item.sort fault) so_far.options_are
+            (subst (λ (told : Option Tree). sort_fault (λ path counted fault. HasFolderFault (levels - 1) options_now told path counted fault) told (path ++ item.name ∷ []) summary item.sort fault) so_far.same refused));
+      }),
+    )))
+
+module _ (FolderFault : List (List ℕ) → Summary → ImportFault → Type 0) (told : Option Tree) (path at : List (List ℕ)) (counted : Summary) (sort : Sort) (fault : ImportFault) (here : at ≡ path) where
+  pub file_sort : sort ≡ sorts.File → IsFileFault told at counted fault → sort_fault FolderFault told path counted sort fault
+  file_sort is h =
+      subst (λ (s : Sort). sort_fault FolderFault told path counted s fault) (sym is) (subst (λ (p : List (List ℕ)). IsFileFault told p counted fault) here h)
+
+  pub folder_sort : sort ≡ sorts.Folder → FolderFault at counted fault → sort_fault FolderFault told path counted sort fault
+  folder_sort is h =
+      subst (λ (s : Sort). sort_fault FolderFault told path counted s fault) (sym is) (subst (λ (p : List (List ℕ)). FolderFault p counted fault) here h)
+
+pub plain_sort : (FolderFault : List (List ℕ) → Summary → ImportFault → Type 0) (told : Option Tree) (path at : List (List ℕ)) (counted : Summary) (sort : Sort) → at ≡ path
+    → (sort ≡ sorts.Symlink) ⊎ (sort ≡ sorts.Other) → sort_fault FolderFault told path counted sort (faults.NotPlain at)
+plain_sort FolderFault told path at counted sort here which = ⊎_elim
+    (λ (is : sort ≡ sorts.Symlink). subst (λ (s : Sort). sort_fault FolderFault told path counted s (faults.NotPlain at)) (sym is) here)
+    (λ (is : sort ≡ sorts.Other). subst (λ (s : Sort). sort_fault FolderFault told path counted s (faults.NotPlain at)) (sym is) here)
+    which
+
+-- ---- the directory's fault
+
+-- the directory of the entries, all of which were imported, isn't made
+pub entries_cause : {S T : Type 0} → (m : KeepMeaning S) (f : FolderMeaning T) → Joins m → KeepingJoins → (k0 k1 k2 : S) (t0 t1 : T) (options : Options) (path : List (List ℕ)) (counted : Summary) (options_now : Options)
+    (writer : FileWriterState) (summary : Summary) (items : List Item) (entries : List NewEntry) (levels : ℕ) (fault : ImportFault) → IsSoFar m f k0 k1 t0 t1 options path counted options_now writer summary items entries
+    → levels ≢ 0 → AreItemsOf (f.tree t0) path items → AreEntryNames (item_names items) → IsEntriesCause options_now.shard path summary entries fault (kept_in m k1 k2)
+    → IsImportCause levels options (f.tree t0) path counted fault (folder_step f t0 t1) (kept_in m k0 k2)
+entries_cause m f joins stores k0 k1 k2 t0 t1 options path counted options_now writer summary items entries levels (faults.TooBig at) so_far some of names h = (
+  so_far.quiet,
+  (so_far.sections ++ [], keeps_both m joins stores k0 k1 k2 so_far.sections [] so_far.keeps h.0),
+  deeper options (f.tree t0) path counted (faults.TooBig at) items levels some of (inr (inr (
+    names,
+    inr (record {
+      children = so_far.children;
+      imported = so_far.imported;
+      is = (
+        h.1,
+        ⊎_elim
+            (λ (x : max_total < tsizes_for entries). inl (subst (λ (n : ℕ). max_total < n) (tsizes_listed entries so_far.children so_far.lead) x))
+            (λ (x : PassesTotal (plus summary (own_count_for options_now.shard entries))).
+            inr (subst (λ (o : Options). PassesTotal (plus (plus counted (counts_of_children so_far.children)) (cond (nat_lt o.shard (weight_of_items items)) one_sharded one_folder))) so_far.options_are
+            (subst (λ (n : ℕ). PassesTotal (plus (plus counted (counts_of_children so_far.children)) (cond (nat_lt options_now.shard n) one_sharded one_folder))) (weights entries items so_far.names so_far.sized)
+            (subst (λ (s : Summary). PassesTotal (plus s (own_count_for options_now.shard entries))) so_far.summary_is x))))
+            h.2,
+      );
+    }),
+  ))),
+)
+entries_cause m f joins stores k0 k1 k2 t0 t1 options path counted options_now writer summary items entries levels (faults.SameHash a b) so_far some of names h = (
+  so_far.quiet,
+  (so_far.sections ++ [], keeps_both m joins stores k0 k1 k2 so_far.sections [] so_far.keeps h.0),
+  deeper options (f.tree t0) path counted (faults.SameHash a b) items levels some of (inr (inr (
+    names,
+    inr (record {
+      children = so_far.children;
+      imported = so_far.imported;
+      is = (
+        subst (λ (o : Options). o.shard < weight_of_items items) so_far.options_are (subst (λ (n : ℕ). options_now.shard < n) (weights entries items so_far.names so_far.sized) h.1),
+        record {
+          first_in = subst (λ (l : List (List ℕ)). Contains l a) so_far.names h.2.first_in;
+          second_in = subst (λ (l : List (List ℕ)). Contains l b) so_far.names h.2.second_in;
+          before = h.2.before;
+          same = h.2.same;
+        },
+      );
+    }),
+  ))),
+)
+entries_cause m f joins stores k0 k1 k2 t0 t1 options path counted options_now writer summary items entries levels faults.Keep so_far some of names h =
+    (so_far.quiet, (so_far.sections ++ h.0, stops_behind m joins stores k0 k1 k2 so_far.sections h.0 keep_faults.Failed so_far.keeps h.1))
+entries_cause m f joins stores k0 k1 k2 t0 t1 options path counted options_now writer summary items entries levels faults.OutOfMemory so_far some of names h =
+    (so_far.quiet, (so_far.sections ++ h.0, stops_behind m joins stores k0 k1 k2 so_far.sections h.0 keep_faults.OutOfMemory so_far.keeps h.1))
+entries_cause m f joins stores k0 k1 k2 t0 t1 options path counted options_now writer summary items entries levels faults.Folder so_far some of names h = absurd h
+entries_cause m f joins stores k0 k1 k2 t0 t1 options path counted options_now writer summary items entries levels (faults.TooDeep at) so_far some of names h = absurd h
+entries_cause m f joins stores k0 k1 k2 t0 t1 options path counted options_now writer summary items entries levels (faults.BadName at) so_far some of names h = absurd h
+entries_cause m f joins stores k0 k1 k2 t0 t1 options path counted options_now writer summary items entries levels (faults.LongName at) so_far some of names h = absurd h
+entries_cause m f joins stores k0 k1 k2 t0 t1 options path counted options_now writer summary items entries levels (faults.NotPlain at) so_far some of names h = absurd h
+
+-- ---- the folder
+
+-- the directory of the entries, all of which were imported
+pub folder_imports : {S T : Type 0} → (m : KeepMeaning S) (f : FolderMeaning T) → Joins m → KeepingJoins → (k0 k1 k2 : S) (t0 t1 : T) (options : Options) (path : List (List ℕ)) (counted : Summary) (options_now : Options)
+    (writer : FileWriterState) (summary summary_later : Summary) (items : List Item) (entries : List NewEntry) (made : Made) → IsSoFar m f k0 k1 t0 t1 options path counted options_now writer summary items entries
+    → HasFolderAt (f.tree t0) path → AreItemsOf (f.tree t0) path items → MakesDirectory options_now.shard entries made (kept_in m k1 k2)
+    → summary_later ≡ plus summary (own_count_for options_now.shard entries)
+    → ImportsAs options (f.tree t0) path counted made summary_later (kept_in m k0 k2)
+folder_imports m f joins stores k0 k1 k2 t0 t1 options path counted options_now writer summary summary_later items entries made so_far at of makes later =
+    let sound = sound_all options (f.tree t0) path items so_far.children so_far.imported in
+    let found = makes.directory so_far.children so_far.lead sound in
+    let d = found.0 in
+    let m_by : IsMadeBy options.shard entries so_far.children made makes.sections d =
+    subst (λ (o : Options). IsMadeBy o.shard entries so_far.children made makes.sections d) so_far.options_are found.1 in
+    record {
+      d = d;
+      kept = record {
+        imported = folder_imported options (f.tree t0) path items entries so_far.children made makes.sections d at of so_far.lead so_far.names so_far.imported m_by;
+        sections = so_far.sections ++ makes.sections;
+        keeps = keeps_both m joins stores k0 k1 k2 so_far.sections makes.sections so_far.keeps makes.keeps;
+        all = folder_blocks options.shard entries so_far.children made so_far.sections makes.sections d so_far.lead m_by so_far.all;
+      };
+      cid = m_by.directory.cid;
+      tsize = m_by.directory.tsize;
+      summary_is = folder_counts options.shard entries so_far.children made makes.sections d counted summary_later so_far.lead m_by
+          (subst (λ (o : Options). summary_later ≡ plus (plus counted (counts_of_children so_far.children)) (own_count_for o.shard entries)) so_far.options_are
+          (later ∙ ap (λ (s : Summary). plus s (own_count_for options_now.shard entries)) so_far.summary_is));
+    }
+
+-- ---- an item in its turn
+
+pub record IsTurn (items taken : List Item) (item : Item) : Type 0 where
+  pub below : length taken < length items
+  pub is : item ≡ get_or items (length taken) item
+  pub front : taken ≡ take (length taken) items
+
+map_same : (items : List Item) → map (λ (x : Item). x) items ≡ items
+map_same [] = refl
+map_same (item ∷ items) = ap (λ (l : List Item). item ∷ l) (map_same items)
+
+pub turn_of : (items taken : List Item) (item : Item) → (length taken < length items) × (item ≡ get_or items (length taken) item) → map (λ (x : Item). x) taken ≡ take (length taken) items → IsTurn items taken item
+turn_of items taken item at front = record { below = at.0; is = at.1; front = sym (map_same taken) ∙ front }
+
+-- what the item's name leads to
+pub led_at : {S T : Type 0} → (m : KeepMeaning S) (f : FolderMeaning T) (k0 k1 : S) (t0 t1 : T) (options : Options) (path at : List (List ℕ)) (counted : Summary) (options_now : Options) (writer : FileWriterState)
+    (summary : Summary) (taken items : List Item) (item : Item) (entries : List NewEntry) (sort : Sort) → IsSoFar m f k0 k1 t0 t1 options path counted options_now writer summary taken entries
+    → AreItemsOf (f.tree t0) path items → IsTurn items taken item → at ≡ path ++ item.name ∷ [] → item.sort ≡ sort → IsAt sort (f.tree t1) at
+led_at m f k0 k1 t0 t1 options path at counted options_now writer summary taken items item entries sort so_far of turn here is =
+    let leads = All-permutation (Leads (f.tree t0) path) of.listed items of.same of.leads in
+    let lead = All-contains (Leads (f.tree t0) path) items item leads (length taken, turn.below, sym turn.is) in
+    subst (λ (told : Option Tree). IsAt sort told at) (sym so_far.same)
+    (subst (λ (p : List (List ℕ)). IsAt sort (f.tree t0) p) (sym here) (subst (λ (s : Sort). IsAt s (f.tree t0) (path ++ item.name ∷ [])) is lead))
+
+-- one of the steps that import an entry
+pub record IsDone {S T : Type 0} (m : KeepMeaning S) (f : FolderMeaning T) (k1 k2 : S) (t1 t2 : T) (options_now options_later : Options) (writer : FileWriterState) (at : List (List ℕ)) (summary summary_later : Summary)
+    (made : Made) : Type 0 where
+  pub same : f.tree t2 ≡ f.tree t1
+  pub quiet : f.faults t2 ≡ f.faults t1
+  pub options_are : options_later ≡ options_now
+  pub ready : IsWriterFor options_now writer
+  pub imports : ImportsAs options_now (f.tree t1) at summary made summary_later (kept_in m k1 k2)
+
+-- memory is wanted behind it
+pub memory_behind : {S T : Type 0} → (m : KeepMeaning S) (f : FolderMeaning T) → Joins m → ((s : S) → m.kept s s []) → KeepingJoins → (k0 k1 k2 : S) (t0 t1 t2 : T) (options : Options) (path at : List (List ℕ)) (counted : Summary)
+    (options_now options_later : Options) (writer writer_later : FileWriterState) (summary summary_later : Summary) (taken : List Item) (entries : List NewEntry) (made : Made) (Refused : ImportFault → Type 0)
+    → IsSoFar m f k0 k1 t0 t1 options path counted options_now writer summary taken entries
+    → IsDone m f k1 k2 t1 t2 options_now options_later writer_later at summary summary_later made → IsCauseBy Refused faults.OutOfMemory (folder_step f t0 t2) (kept_in m k0 k2)
+memory_behind m f joins rests stores k0 k1 k2 t0 t1 t2 options path at counted options_now options_later writer writer_later summary summary_later taken entries made Refused so_far done =
+    let kept = done.imports.kept in
+    let both = keeps_both m joins stores k0 k1 k2 so_far.sections kept.sections so_far.keeps kept.keeps in
+    (done.quiet ∙ so_far.quiet, ((so_far.sections ++ kept.sections) ++ [], stops_behind m joins stores k0 k2 k2 (so_far.sections ++ kept.sections) [] keep_faults.OutOfMemory both (same_stops m rests k2)))
+
+-- ---- answers
+
+pub ok_both : {X E : Type 0} {P Q : X → Type 0} {C : Type 0} → (r : Result X E) → ((x : X) → P x → C → Q x) → IfOk r P → OnOk r C → IfOk r Q
+ok_both (Ok x) f h c = f x h c
+ok_both (Err e) f h c = tt
+
+pub ok_then : {X E : Type 0} {P Q : X → Type 0} → (r : Result X E) → ((x : X) → P x → Q x) → IfOk r P → IfOk r Q
+ok_then (Ok x) f h = f x h
+ok_then (Err e) f h = tt
+
+pub err_then : {X E : Type 0} {P Q : E → Type 0} → (r : Result X E) → ((e : E) → P e → Q e) → IfErr r P → IfErr r Q
+err_then (Ok x) f h = tt
+err_then (Err e) f h = f e h
+
+pub end_of : (items taken : List Item) → map (λ (x : Item). x) taken ≡ items → taken ≡ items
+end_of items taken h = sym (map_same taken) ∙ h
+
+pub done_of : {S T : Type 0} → (m : KeepMeaning S) (f : FolderMeaning T) (k1 k2 : S) (t1 t2 : T) (options_now options_later : Options) (writer : FileWriterState) (at place : List (List ℕ)) (summary summary_later : Summary)
+    (made : Made) → at ≡ place → f.tree t2 ≡ f.tree t1 → f.faults t2 ≡ f.faults t1 → options_later ≡ options_now → IsWriterFor options_now writer
+    → ImportsAs options_now (f.tree t1) at summary made summary_later (kept_in m k1 k2) → IsDone m f k1 k2 t1 t2 options_now options_later writer place summary summary_later made
+done_of m f k1 k2 t1 t2 options_now options_later writer at place summary summary_later made here same quiet options_are ready imports = record {
+  same = same;
+  quiet = quiet;
+  options_are = options_are;
+  ready = ready;
+  imports = subst (λ (p : List (List ℕ)). ImportsAs options_now (f.tree t1) p summary made summary_later (kept_in m k1 k2)) here imports;
+}
+
+-- the same, of values that are these
+pub done_as : {S T : Type 0} → (m : KeepMeaning S) (f : FolderMeaning T) (k1 k2 k : S) (t1 t2 t : T) (options_now : Options) (place : List (List ℕ)) (summary : Summary) (self2 self : Importer) (made2 made : Made)
+    → k ≡ k2 → t ≡ t2 → self ≡ self2 → made ≡ made2
+    → IsDone m f k1 k2 t1 t2 options_now self2.options self2.writer place summary self2.summary made2
+    → IsDone m f k1 k t1 t options_now self.options self.writer place summary self.summary made
+done_as m f k1 k2 k t1 t2 t options_now place summary self2 self made2 made a b c d done =
+    subst (λ (x : Made). IsDone m f k1 k t1 t options_now self.options self.writer place summary self.summary x) (sym d)
+    (subst (λ (x : Importer). IsDone m f k1 k t1 t options_now x.options x.writer place summary x.summary made2) (sym c)
+    (subst (λ x. IsDone m f k1 k t1 x options_now self2.options self2.writer place summary self2.summary made2) (sym b)
+    (subst (λ x. IsDone m f k1 x t1 t2 options_now self2.options self2.writer place summary self2.summary made2) (sym a) done)))
+
+pub writer_now : {S T : Type 0} → (m : KeepMeaning S) (f : FolderMeaning T) (k0 k1 : S) (t0 t1 : T) (options : Options) (path : List (List ℕ)) (counted : Summary) (options_now : Options) (writer : FileWriterState)
+    (summary : Summary) (taken : List Item) (entries : List NewEntry) → IsSoFar m f k0 k1 t0 t1 options path counted options_now writer summary taken entries → IsWriterFor options_now writer
+writer_now m f k0 k1 t0 t1 options path counted options_now writer summary taken entries so_far = subst (λ (o : Options). IsWriterFor o writer) (sym so_far.options_are) so_far.ready

@@ -1,0 +1,8 @@
+mod Causes
+mod DirectoryRoots
+mod FileCounts
+mod FoldersMade
+mod GoodNames
+mod Listings
+mod NamesInOrder
+mod SoFar

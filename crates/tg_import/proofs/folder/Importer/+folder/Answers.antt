@@ -1,0 +1,246 @@
+use Rattle.std.proofs.Common.{◌≡◌, ◌≢◌, ℕ, ◌-◌, ◌<◌, ◌++◌, ◌∷◌, [], List, length, refl, ap, sym, ◌∙◌, subst, arith}
+use Rattle.std.proofs.lemmas.Iterator.Adapters.{YieldsList-from_vec}
+use Rattle.std.proofs.lemmas.Iterator.Consumers.{YieldsList-end, YieldsList-so_far, YieldsList-turn}
+use Rattle.std.proofs.lemmas.Result.{err_from_is_err_and}
+use Rattle.tg_cid.specs.Spelling.{IsDigestSize}
+use Rattle.tg_dir.specs.Made.{MakesDirectory}
+use Rattle.tg_import.proofs.Causes.{IsDone, IsTurn, cause_behind, done_as, done_of, end_of, entries_cause, err_then, file_sort, folder_imports, folder_sort, item_refused, led_at, list_cause, memory_behind, memory_cause, ok_both, ok_then, plain_sort, turn_of, writer_now}
+use Rattle.tg_import.proofs.DirectoryRoots.{directory_codec}
+use Rattle.tg_import.proofs.SoFar.{IsSoFar, new_entries, so_far_next, so_far_none}
+use Rattle.tg_import.proofs.folder.Importer.+folder.Goals.{in-File+in_ok-made-in-File, in-Folder+in_ok-made-in-Folder}
+use Rattle.tg_import.proofs.folder.Importer.+folder.Goals as goal
+use Rattle.tg_import.specs.Refused.{HasFolderFault, IsFileFault}
+use Rattle.tg_import.specs.Steps.{AreNewEntries, IsEntriesCause, own_count_for}
+use Rattle.tg_import.specs.declared.fault.ImportFault.TheVariants as faults
+use Rattle.tg_import.specs.declared.fault.ImportFault.{ImportFault}
+use Rattle.tg_import.specs.Counting.{plus}
+use Rattle.tg_import.specs.declared.summary.Summary.{Summary}
+use Rattle.tg_model.specs.Stores.{kept_in}
+use Rattle.tg_model.specs.declared.kinds.NewEntry.{NewEntry}
+use Rattle.tg_tree.specs.declared.items.Item.{Item}
+use Rattle.tg_tree.specs.declared.items.Sort.TheVariants as sorts
+
+below_next : (levels t : ℕ) → levels ≡ t → levels ≢ 0 → levels - 1 < t
+below_next levels t e some = omega arith
+
+pub returns-in_err-copy_of-clause-cause : goal.returns-in_err-copy_of-clause-cause
+returns-in_err-copy_of-clause-cause g t c =
+    let p = err_from_is_err_and c.from_residual.result c.from_residual.ensures.1 in
+    rw (p.1, p.2)
+    (memory_cause g.K.Keep.keeper g.F.Folder.folder g.met.K.Keep.rests c.args.keep.now c.args.folder.now c.args.folder.now
+    (λ (fault : ImportFault). HasFolderFault c.args.levels c.args.self.now.options (g.F.Folder.folder.tree c.args.folder.now) c.args.path.now c.args.self.now.summary fault) refl)
+
+pub returns-in_err-items-clause-cause : goal.returns-in_err-items-clause-cause
+returns-in_err-items-clause-cause g t c =
+    let p = err_from_is_err_and c.from_residual-in_err-items.result c.from_residual-in_err-items.ensures.1 in
+    rw (p.1, p.2)
+    (list_cause g.K.Keep.keeper g.F.Folder.folder g.met.K.Keep.rests c.args.keep.now c.args.folder.now c.listed.new.folder c.args.levels c.args.self.now.options c.args.path.now c.args.self.now.summary
+    c.in_err-items.field-0.0 c.if-levels-eq0.false c.in_err-items.ensures.cause)
+
+pub loop-item-init : goal.loop-item-init
+loop-item-init g t c = (
+  tt,
+  tt,
+  so_far_none g.K.Keep.keeper g.F.Folder.folder g.met.K.Keep.rests c.args.keep.now c.args.folder.now c.listed.new.folder c.args.self.now.options c.args.path.now c.args.self.now.writer c.args.self.now.summary
+      c.new-entries.result c.in_ok-items.ensures.same c.in_ok-items.ensures.quiet c.requires.writer c.new-entries.ensures,
+)
+
+pub file-requires-clause-at : goal.file-requires-clause-at
+file-requires-clause-at g t c =
+    let all = YieldsList-from_vec {s = c.into_iter-item-iterator.result} c.in_ok-items.items (c.into_iter-item-iterator.ensures.into_iter_gives.0 ∙ c.into_vec-item-items.ensures)
+    (c.into_iter-item-iterator.ensures.into_iter_gives.1 ∙ c.into_vec-item-items.result.ok.0 ∙ ap length c.into_vec-item-items.ensures) in
+    let at = YieldsList-turn all c.loop-item.yielded c.loop-item.item-iterator c.loop-item.yielded_by c.next.result c.next.new.self c.in-Some.item c.in-Some.is c.next.ensures.steps in
+    let turn : IsTurn c.in_ok-items.items c.loop-item.yielded c.in-Some.item = turn_of c.in_ok-items.items c.loop-item.yielded c.in-Some.item at (YieldsList-so_far all c.loop-item.yielded c.loop-item.item-iterator c.loop-item.yielded_by) in
+    let lent : c.as_slice-in-File.result.now ≡ c.in_ok-at.at = c.as_slice-in-File.ensures in
+    let made : c.in_ok-at.at ≡ c.args.path.now ++ c.as_slice.result.now ∷ [] = c.in_ok-at.ensures in
+    let here : c.as_slice-in-File.result.now ≡ c.args.path.now ++ c.in-Some.item.name ∷ [] = lent ∙ made ∙ ap (λ (n : List ℕ). c.args.path.now ++ n ∷ []) c.as_slice.ensures in
+    led_at g.K.Keep.keeper g.F.Folder.folder c.args.keep.now c.loop-item.keep c.args.folder.now c.loop-item.folder c.args.self.now.options c.args.path.now c.as_slice-in-File.result.now c.args.self.now.summary
+    c.loop-item.self.options c.loop-item.self.writer c.loop-item.self.summary c.loop-item.yielded c.in_ok-items.items c.in-Some.item c.loop-item.entries sorts.File c.loop-item.invariant.2
+    c.in_ok-items.ensures.items turn here c.in-File.is
+
+pub returns-in_err-made-in-File-clause-cause : goal.returns-in_err-made-in-File-clause-cause
+returns-in_err-made-in-File-clause-cause g t c =
+    let all = YieldsList-from_vec {s = c.into_iter-item-iterator.result} c.in_ok-items.items (c.into_iter-item-iterator.ensures.into_iter_gives.0 ∙ c.into_vec-item-items.ensures)
+    (c.into_iter-item-iterator.ensures.into_iter_gives.1 ∙ c.into_vec-item-items.result.ok.0 ∙ ap length c.into_vec-item-items.ensures) in
+    let at = YieldsList-turn all c.loop-item.yielded c.loop-item.item-iterator c.loop-item.yielded_by c.next.result c.next.new.self c.in-Some.item c.in-Some.is c.next.ensures.steps in
+    let turn : IsTurn c.in_ok-items.items c.loop-item.yielded c.in-Some.item = turn_of c.in_ok-items.items c.loop-item.yielded c.in-Some.item at (YieldsList-so_far all c.loop-item.yielded c.loop-item.item-iterator c.loop-item.yielded_by) in
+    let lent : c.as_slice-in-File.result.now ≡ c.in_ok-at.at = c.as_slice-in-File.ensures in
+    let made : c.in_ok-at.at ≡ c.args.path.now ++ c.as_slice.result.now ∷ [] = c.in_ok-at.ensures in
+    let here : c.as_slice-in-File.result.now ≡ c.args.path.now ++ c.in-Some.item.name ∷ [] = lent ∙ made ∙ ap (λ (n : List ℕ). c.args.path.now ++ n ∷ []) c.as_slice.ensures in
+    let p = err_from_is_err_and c.from_residual-in_err-made-in-File.result c.from_residual-in_err-made-in-File.ensures.1 in
+    rw (p.1, p.2)
+    (cause_behind g.K.Keep.keeper g.F.Folder.folder g.met.K.Keep.joins c.kept_sections.ensures.joins c.args.keep.now c.loop-item.keep c.file.new.keep c.args.folder.now c.loop-item.folder c.file.new.folder
+    c.loop-item.invariant.2.sections c.loop-item.invariant.2.quiet c.loop-item.invariant.2.keeps (λ (fault : ImportFault). IsFileFault (g.F.Folder.folder.tree c.loop-item.folder) c.as_slice-in-File.result.now c.loop-item.self.summary fault) (λ (fault : ImportFault). HasFolderFault c.args.levels c.args.self.now.options (g.F.Folder.folder.tree c.args.folder.now) c.args.path.now c.args.self.now.summary fault) c.in_err-made-in-File.field-0.0
+    (λ h. item_refused g.K.Keep.keeper g.F.Folder.folder c.args.keep.now c.loop-item.keep c.args.folder.now c.loop-item.folder c.args.self.now.options c.args.path.now c.args.self.now.summary
+    c.loop-item.self.options c.loop-item.self.writer c.loop-item.self.summary c.loop-item.yielded c.in_ok-items.items c.in-Some.item c.loop-item.entries c.args.levels c.in_err-made-in-File.field-0.0
+    c.loop-item.invariant.2 c.if-levels-eq0.false c.in_ok-items.ensures.items c.in_ok-items.ensures.names turn.below turn.is turn.front
+    (file_sort (λ (path : List (List ℕ)) (counted : Summary) (fault : ImportFault). HasFolderFault (c.args.levels - 1) c.loop-item.self.options (g.F.Folder.folder.tree c.loop-item.folder) path counted fault) (g.F.Folder.folder.tree c.loop-item.folder) (c.args.path.now ++ c.in-Some.item.name ∷ []) c.as_slice-in-File.result.now c.loop-item.self.summary c.in-Some.item.sort
+    c.in_err-made-in-File.field-0.0 here c.in-File.is h))
+    c.in_err-made-in-File.ensures.cause)
+
+pub folder-requires : goal.folder-requires
+folder-requires g t c κs within =
+    let all = YieldsList-from_vec {s = c.into_iter-item-iterator.result} c.in_ok-items.items (c.into_iter-item-iterator.ensures.into_iter_gives.0 ∙ c.into_vec-item-items.ensures)
+    (c.into_iter-item-iterator.ensures.into_iter_gives.1 ∙ c.into_vec-item-items.result.ok.0 ∙ ap length c.into_vec-item-items.ensures) in
+    let at = YieldsList-turn all c.loop-item.yielded c.loop-item.item-iterator c.loop-item.yielded_by c.next.result c.next.new.self c.in-Some.item c.in-Some.is c.next.ensures.steps in
+    let turn : IsTurn c.in_ok-items.items c.loop-item.yielded c.in-Some.item = turn_of c.in_ok-items.items c.loop-item.yielded c.in-Some.item at (YieldsList-so_far all c.loop-item.yielded c.loop-item.item-iterator c.loop-item.yielded_by) in
+    let lent : c.as_slice-in-Folder.result.now ≡ c.in_ok-at.at = c.as_slice-in-Folder.ensures in
+    let made : c.in_ok-at.at ≡ c.args.path.now ++ c.as_slice.result.now ∷ [] = c.in_ok-at.ensures in
+    let here : c.as_slice-in-Folder.result.now ≡ c.args.path.now ++ c.in-Some.item.name ∷ [] = lent ∙ made ∙ ap (λ (n : List ℕ). c.args.path.now ++ n ∷ []) c.as_slice.ensures in
+    let so_far = c.loop-item.invariant.2 in (
+      below_next c.args.levels t c.decreases c.if-levels-eq0.false,
+      (
+        within.0,
+        (
+          within.1,
+          (
+            writer_now g.K.Keep.keeper g.F.Folder.folder c.args.keep.now c.loop-item.keep c.args.folder.now c.loop-item.folder c.args.self.now.options c.args.path.now c.args.self.now.summary
+                c.loop-item.self.options c.loop-item.self.writer c.loop-item.self.summary c.loop-item.yielded c.loop-item.entries so_far,
+            led_at g.K.Keep.keeper g.F.Folder.folder c.args.keep.now c.loop-item.keep c.args.folder.now c.loop-item.folder c.args.self.now.options c.args.path.now c.as_slice-in-Folder.result.now c.args.self.now.summary
+                c.loop-item.self.options c.loop-item.self.writer c.loop-item.self.summary c.loop-item.yielded c.in_ok-items.items c.in-Some.item c.loop-item.entries sorts.Folder c.loop-item.invariant.2
+                c.in_ok-items.ensures.items turn here c.in-Folder.is,
+          ),
+        ),
+      ),
+    )
+
+pub returns-in_err-made-in-Folder-clause-cause : goal.returns-in_err-made-in-Folder-clause-cause
+returns-in_err-made-in-Folder-clause-cause g t c =
+    let all = YieldsList-from_vec {s = c.into_iter-item-iterator.result} c.in_ok-items.items (c.into_iter-item-iterator.ensures.into_iter_gives.0 ∙ c.into_vec-item-items.ensures)
+    (c.into_iter-item-iterator.ensures.into_iter_gives.1 ∙ c.into_vec-item-items.result.ok.0 ∙ ap length c.into_vec-item-items.ensures) in
+    let at = YieldsList-turn all c.loop-item.yielded c.loop-item.item-iterator c.loop-item.yielded_by c.next.result c.next.new.self c.in-Some.item c.in-Some.is c.next.ensures.steps in
+    let turn : IsTurn c.in_ok-items.items c.loop-item.yielded c.in-Some.item = turn_of c.in_ok-items.items c.loop-item.yielded c.in-Some.item at (YieldsList-so_far all c.loop-item.yielded c.loop-item.item-iterator c.loop-item.yielded_by) in
+    let lent : c.as_slice-in-Folder.result.now ≡ c.in_ok-at.at = c.as_slice-in-Folder.ensures in
+    let made : c.in_ok-at.at ≡ c.args.path.now ++ c.as_slice.result.now ∷ [] = c.in_ok-at.ensures in
+    let here : c.as_slice-in-Folder.result.now ≡ c.args.path.now ++ c.in-Some.item.name ∷ [] = lent ∙ made ∙ ap (λ (n : List ℕ). c.args.path.now ++ n ∷ []) c.as_slice.ensures in
+    let p = err_from_is_err_and c.from_residual-in_err-made-in-Folder.result c.from_residual-in_err-made-in-Folder.ensures.1 in
+    rw (p.1, p.2)
+    (cause_behind g.K.Keep.keeper g.F.Folder.folder g.met.K.Keep.joins c.kept_sections.ensures.joins c.args.keep.now c.loop-item.keep c.folder.new.keep c.args.folder.now c.loop-item.folder c.folder.new.folder
+    c.loop-item.invariant.2.sections c.loop-item.invariant.2.quiet c.loop-item.invariant.2.keeps (λ (fault : ImportFault). HasFolderFault (c.args.levels - 1) c.loop-item.self.options (g.F.Folder.folder.tree c.loop-item.folder) c.as_slice-in-Folder.result.now c.loop-item.self.summary fault) (λ (fault : ImportFault). HasFolderFault c.args.levels c.args.self.now.options (g.F.Folder.folder.tree c.args.folder.now) c.args.path.now c.args.self.now.summary fault) c.in_err-made-in-Folder.field-0.0
+    (λ h. item_refused g.K.Keep.keeper g.F.Folder.folder c.args.keep.now c.loop-item.keep c.args.folder.now c.loop-item.folder c.args.self.now.options c.args.path.now c.args.self.now.summary
+    c.loop-item.self.options c.loop-item.self.writer c.loop-item.self.summary c.loop-item.yielded c.in_ok-items.items c.in-Some.item c.loop-item.entries c.args.levels c.in_err-made-in-Folder.field-0.0
+    c.loop-item.invariant.2 c.if-levels-eq0.false c.in_ok-items.ensures.items c.in_ok-items.ensures.names turn.below turn.is turn.front
+    (folder_sort (λ (path : List (List ℕ)) (counted : Summary) (fault : ImportFault). HasFolderFault (c.args.levels - 1) c.loop-item.self.options (g.F.Folder.folder.tree c.loop-item.folder) path counted fault) (g.F.Folder.folder.tree c.loop-item.folder) (c.args.path.now ++ c.in-Some.item.name ∷ []) c.as_slice-in-Folder.result.now c.loop-item.self.summary c.in-Some.item.sort
+    c.in_err-made-in-Folder.field-0.0 here c.in-Folder.is h))
+    c.in_err-made-in-Folder.ensures.cause)
+
+pub returns-in-Symlink-clause-cause : goal.returns-in-Symlink-clause-cause
+returns-in-Symlink-clause-cause g t c =
+    let all = YieldsList-from_vec {s = c.into_iter-item-iterator.result} c.in_ok-items.items (c.into_iter-item-iterator.ensures.into_iter_gives.0 ∙ c.into_vec-item-items.ensures)
+    (c.into_iter-item-iterator.ensures.into_iter_gives.1 ∙ c.into_vec-item-items.result.ok.0 ∙ ap length c.into_vec-item-items.ensures) in
+    let at = YieldsList-turn all c.loop-item.yielded c.loop-item.item-iterator c.loop-item.yielded_by c.next.result c.next.new.self c.in-Some.item c.in-Some.is c.next.ensures.steps in
+    let turn : IsTurn c.in_ok-items.items c.loop-item.yielded c.in-Some.item = turn_of c.in_ok-items.items c.loop-item.yielded c.in-Some.item at (YieldsList-so_far all c.loop-item.yielded c.loop-item.item-iterator c.loop-item.yielded_by) in
+    let made : c.in_ok-at.at ≡ c.args.path.now ++ c.as_slice.result.now ∷ [] = c.in_ok-at.ensures in
+    let here : c.in_ok-at.at ≡ c.args.path.now ++ c.in-Some.item.name ∷ [] = made ∙ ap (λ (n : List ℕ). c.args.path.now ++ n ∷ []) c.as_slice.ensures in (
+      c.loop-item.invariant.2.quiet,
+      (c.loop-item.invariant.2.sections, c.loop-item.invariant.2.keeps),
+      item_refused g.K.Keep.keeper g.F.Folder.folder c.args.keep.now c.loop-item.keep c.args.folder.now c.loop-item.folder c.args.self.now.options c.args.path.now c.args.self.now.summary
+          c.loop-item.self.options c.loop-item.self.writer c.loop-item.self.summary c.loop-item.yielded c.in_ok-items.items c.in-Some.item c.loop-item.entries c.args.levels (faults.NotPlain c.in_ok-at.at)
+          c.loop-item.invariant.2 c.if-levels-eq0.false c.in_ok-items.ensures.items c.in_ok-items.ensures.names turn.below turn.is turn.front
+          (plain_sort (λ (path : List (List ℕ)) (counted : Summary) (fault : ImportFault). HasFolderFault (c.args.levels - 1) c.loop-item.self.options (g.F.Folder.folder.tree c.loop-item.folder) path counted fault) (g.F.Folder.folder.tree c.loop-item.folder) (c.args.path.now ++ c.in-Some.item.name ∷ []) c.in_ok-at.at c.loop-item.self.summary c.in-Some.item.sort here c.in-Symlink.is),
+    )
+
+pub returns-in_err-push-clause-cause : goal.returns-in_err-push-clause-cause
+returns-in_err-push-clause-cause g t c =
+    let done : IsDone g.K.Keep.keeper g.F.Folder.folder c.loop-item.keep c.match-item.keep c.loop-item.folder c.match-item.folder c.loop-item.self.options c.match-item.self.options c.match-item.self.writer
+    (c.args.path.now ++ c.in-Some.item.name ∷ []) c.loop-item.self.summary c.match-item.self.summary c.match-item.made =
+    elim c.match-item.branch [
+      | in-File+in_ok-made-in-File w ↦ done_as g.K.Keep.keeper g.F.Folder.folder c.loop-item.keep w.file.new.keep c.match-item.keep c.loop-item.folder w.file.new.folder c.match-item.folder c.loop-item.self.options (c.args.path.now ++ c.in-Some.item.name ∷ []) c.loop-item.self.summary
+          w.file.new.self c.match-item.self _ c.match-item.made w.keep-is w.folder-is w.self-is w.made-is
+          (done_of g.K.Keep.keeper g.F.Folder.folder c.loop-item.keep w.file.new.keep c.loop-item.folder w.file.new.folder c.loop-item.self.options w.file.new.self.options w.file.new.self.writer w.as_slice-in-File.result.now
+          (c.args.path.now ++ c.in-Some.item.name ∷ []) c.loop-item.self.summary w.file.new.self.summary _
+          (w.as_slice-in-File.ensures ∙ c.in_ok-at.ensures ∙ ap (λ (n : List ℕ). c.args.path.now ++ n ∷ []) c.as_slice.ensures)
+          w.in_ok-made-in-File.ensures.same w.in_ok-made-in-File.ensures.quiet w.in_ok-made-in-File.ensures.options w.in_ok-made-in-File.ensures.writer w.in_ok-made-in-File.ensures.imported)
+      | in-Folder+in_ok-made-in-Folder w ↦ done_as g.K.Keep.keeper g.F.Folder.folder c.loop-item.keep w.folder.new.keep c.match-item.keep c.loop-item.folder w.folder.new.folder c.match-item.folder c.loop-item.self.options (c.args.path.now ++ c.in-Some.item.name ∷ []) c.loop-item.self.summary
+          w.folder.new.self c.match-item.self _ c.match-item.made w.keep-is w.folder-is w.self-is w.made-is
+          (done_of g.K.Keep.keeper g.F.Folder.folder c.loop-item.keep w.folder.new.keep c.loop-item.folder w.folder.new.folder c.loop-item.self.options w.folder.new.self.options w.folder.new.self.writer w.as_slice-in-Folder.result.now
+          (c.args.path.now ++ c.in-Some.item.name ∷ []) c.loop-item.self.summary w.folder.new.self.summary _
+          (w.as_slice-in-Folder.ensures ∙ c.in_ok-at.ensures ∙ ap (λ (n : List ℕ). c.args.path.now ++ n ∷ []) c.as_slice.ensures)
+          w.in_ok-made-in-Folder.ensures.same w.in_ok-made-in-Folder.ensures.quiet w.in_ok-made-in-Folder.ensures.options w.in_ok-made-in-Folder.ensures.writer w.in_ok-made-in-Folder.ensures.imported)
+    ] in
+    let p = err_from_is_err_and c.from_residual-in_err-push.result c.from_residual-in_err-push.ensures.1 in
+    rw (p.1, p.2)
+    (memory_behind g.K.Keep.keeper g.F.Folder.folder g.met.K.Keep.joins g.met.K.Keep.rests c.kept_sections.ensures.joins c.args.keep.now c.loop-item.keep c.match-item.keep c.args.folder.now c.loop-item.folder c.match-item.folder
+    c.args.self.now.options c.args.path.now (c.args.path.now ++ c.in-Some.item.name ∷ []) c.args.self.now.summary c.loop-item.self.options c.match-item.self.options c.loop-item.self.writer c.match-item.self.writer c.loop-item.self.summary c.match-item.self.summary
+    c.loop-item.yielded c.loop-item.entries c.match-item.made (λ (fault : ImportFault). HasFolderFault c.args.levels c.args.self.now.options (g.F.Folder.folder.tree c.args.folder.now) c.args.path.now c.args.self.now.summary fault) c.loop-item.invariant.2 done)
+
+pub loop-item-preserved : goal.loop-item-preserved
+loop-item-preserved g t c =
+    let done : IsDone g.K.Keep.keeper g.F.Folder.folder c.loop-item.keep c.match-item.keep c.loop-item.folder c.match-item.folder c.loop-item.self.options c.match-item.self.options c.match-item.self.writer
+    (c.args.path.now ++ c.in-Some.item.name ∷ []) c.loop-item.self.summary c.match-item.self.summary c.match-item.made =
+    elim c.match-item.branch [
+      | in-File+in_ok-made-in-File w ↦ done_as g.K.Keep.keeper g.F.Folder.folder c.loop-item.keep w.file.new.keep c.match-item.keep c.loop-item.folder w.file.new.folder c.match-item.folder c.loop-item.self.options (c.args.path.now ++ c.in-Some.item.name ∷ []) c.loop-item.self.summary
+          w.file.new.self c.match-item.self _ c.match-item.made w.keep-is w.folder-is w.self-is w.made-is
+          (done_of g.K.Keep.keeper g.F.Folder.folder c.loop-item.keep w.file.new.keep c.loop-item.folder w.file.new.folder c.loop-item.self.options w.file.new.self.options w.file.new.self.writer w.as_slice-in-File.result.now
+          (c.args.path.now ++ c.in-Some.item.name ∷ []) c.loop-item.self.summary w.file.new.self.summary _
+          (w.as_slice-in-File.ensures ∙ c.in_ok-at.ensures ∙ ap (λ (n : List ℕ). c.args.path.now ++ n ∷ []) c.as_slice.ensures)
+          w.in_ok-made-in-File.ensures.same w.in_ok-made-in-File.ensures.quiet w.in_ok-made-in-File.ensures.options w.in_ok-made-in-File.ensures.writer w.in_ok-made-in-File.ensures.imported)
+      | in-Folder+in_ok-made-in-Folder w ↦ done_as g.K.Keep.keeper g.F.Folder.folder c.loop-item.keep w.folder.new.keep c.match-item.keep c.loop-item.folder w.folder.new.folder c.match-item.folder c.loop-item.self.options (c.args.path.now ++ c.in-Some.item.name ∷ []) c.loop-item.self.summary
+          w.folder.new.self c.match-item.self _ c.match-item.made w.keep-is w.folder-is w.self-is w.made-is
+          (done_of g.K.Keep.keeper g.F.Folder.folder c.loop-item.keep w.folder.new.keep c.loop-item.folder w.folder.new.folder c.loop-item.self.options w.folder.new.self.options w.folder.new.self.writer w.as_slice-in-Folder.result.now
+          (c.args.path.now ++ c.in-Some.item.name ∷ []) c.loop-item.self.summary w.folder.new.self.summary _
+          (w.as_slice-in-Folder.ensures ∙ c.in_ok-at.ensures ∙ ap (λ (n : List ℕ). c.args.path.now ++ n ∷ []) c.as_slice.ensures)
+          w.in_ok-made-in-Folder.ensures.same w.in_ok-made-in-Folder.ensures.quiet w.in_ok-made-in-Folder.ensures.options w.in_ok-made-in-Folder.ensures.writer w.in_ok-made-in-Folder.ensures.imported)
+    ] in
+    let size : IsDigestSize c.match-item.made.cid.hash (length c.match-item.made.cid.digest) =
+    subst (λ (l : List ℕ). IsDigestSize c.match-item.made.cid.hash (length l)) c.digest.ensures.digest c.digest.ensures.size in (
+      tt,
+      tt,
+      so_far_next g.K.Keep.keeper g.F.Folder.folder g.met.K.Keep.joins c.kept_sections.ensures.joins c.args.keep.now c.loop-item.keep c.match-item.keep c.args.folder.now c.loop-item.folder c.match-item.folder
+          c.args.self.now.options c.args.path.now (c.args.path.now ++ c.in-Some.item.name ∷ []) c.args.self.now.summary c.loop-item.self.options c.match-item.self.options c.loop-item.self.writer c.match-item.self.writer c.loop-item.self.summary c.match-item.self.summary
+          c.loop-item.yielded c.in-Some.item c.loop-item.entries c.push.new.self c.match-item.made c.loop-item.invariant.2 done.imports size refl done.same done.quiet done.options_are done.ready c.in_ok-push.ensures.ok,
+    )
+
+pub directory-requires-clause-entries : goal.directory-requires-clause-entries
+directory-requires-clause-entries g t c =
+    let all = YieldsList-from_vec {s = c.into_iter-item-iterator.result} c.in_ok-items.items (c.into_iter-item-iterator.ensures.into_iter_gives.0 ∙ c.into_vec-item-items.ensures)
+    (c.into_iter-item-iterator.ensures.into_iter_gives.1 ∙ c.into_vec-item-items.result.ok.0 ∙ ap length c.into_vec-item-items.ensures) in
+    let end = YieldsList-end all c.loop-item.yielded c.loop-item.item-iterator c.loop-item.yielded_by c.next.result c.next.new.self c.in-None.is c.next.ensures.steps in
+    let whole = end_of c.in_ok-items.items c.loop-item.yielded end.0 in
+    let so_far = subst (λ (l : List Item). IsSoFar g.K.Keep.keeper g.F.Folder.folder c.args.keep.now c.loop-item.keep c.args.folder.now c.loop-item.folder c.args.self.now.options c.args.path.now c.args.self.now.summary
+    c.loop-item.self.options c.loop-item.self.writer c.loop-item.self.summary l c.loop-item.entries) whole c.loop-item.invariant.2 in
+    subst AreNewEntries (sym c.as_slice-2.ensures)
+    (new_entries c.args.self.now.options (g.F.Folder.folder.tree c.args.folder.now) c.args.path.now c.loop-item.entries c.in_ok-items.items so_far.children so_far.imported so_far.lead so_far.names
+    c.in_ok-items.ensures.names c.in_ok-items.ensures.few)
+
+pub returns-clause-imported : goal.returns-clause-imported
+returns-clause-imported g t c =
+    let all = YieldsList-from_vec {s = c.into_iter-item-iterator.result} c.in_ok-items.items (c.into_iter-item-iterator.ensures.into_iter_gives.0 ∙ c.into_vec-item-items.ensures)
+    (c.into_iter-item-iterator.ensures.into_iter_gives.1 ∙ c.into_vec-item-items.result.ok.0 ∙ ap length c.into_vec-item-items.ensures) in
+    let end = YieldsList-end all c.loop-item.yielded c.loop-item.item-iterator c.loop-item.yielded_by c.next.result c.next.new.self c.in-None.is c.next.ensures.steps in
+    let whole = end_of c.in_ok-items.items c.loop-item.yielded end.0 in
+    let so_far = subst (λ (l : List Item). IsSoFar g.K.Keep.keeper g.F.Folder.folder c.args.keep.now c.loop-item.keep c.args.folder.now c.loop-item.folder c.args.self.now.options c.args.path.now c.args.self.now.summary
+    c.loop-item.self.options c.loop-item.self.writer c.loop-item.self.summary l c.loop-item.entries) whole c.loop-item.invariant.2 in
+    ok_both c.directory.result
+    (λ made makes later. folder_imports g.K.Keep.keeper g.F.Folder.folder g.met.K.Keep.joins c.kept_sections.ensures.joins c.args.keep.now c.loop-item.keep c.directory.new.keep c.args.folder.now c.loop-item.folder
+    c.args.self.now.options c.args.path.now c.args.self.now.summary c.loop-item.self.options c.loop-item.self.writer c.loop-item.self.summary c.directory.new.self.summary c.in_ok-items.items c.loop-item.entries made so_far
+    c.requires.at c.in_ok-items.ensures.items
+    (subst (λ (l : List NewEntry). MakesDirectory c.loop-item.self.options.shard l made (kept_in g.K.Keep.keeper c.loop-item.keep c.directory.new.keep)) c.as_slice-2.ensures makes)
+    (subst (λ (l : List NewEntry). c.directory.new.self.summary ≡ plus c.loop-item.self.summary (own_count_for c.loop-item.self.options.shard l)) c.as_slice-2.ensures later)) c.directory.ensures.made c.directory.ensures.counted
+
+pub returns-clause-directory : goal.returns-clause-directory
+returns-clause-directory g t c =
+    let all = YieldsList-from_vec {s = c.into_iter-item-iterator.result} c.in_ok-items.items (c.into_iter-item-iterator.ensures.into_iter_gives.0 ∙ c.into_vec-item-items.ensures)
+    (c.into_iter-item-iterator.ensures.into_iter_gives.1 ∙ c.into_vec-item-items.result.ok.0 ∙ ap length c.into_vec-item-items.ensures) in
+    let end = YieldsList-end all c.loop-item.yielded c.loop-item.item-iterator c.loop-item.yielded_by c.next.result c.next.new.self c.in-None.is c.next.ensures.steps in
+    let whole = end_of c.in_ok-items.items c.loop-item.yielded end.0 in
+    let so_far = subst (λ (l : List Item). IsSoFar g.K.Keep.keeper g.F.Folder.folder c.args.keep.now c.loop-item.keep c.args.folder.now c.loop-item.folder c.args.self.now.options c.args.path.now c.args.self.now.summary
+    c.loop-item.self.options c.loop-item.self.writer c.loop-item.self.summary l c.loop-item.entries) whole c.loop-item.invariant.2 in
+    ok_then c.directory.result
+    (λ made makes. directory_codec c.args.self.now.options (g.F.Folder.folder.tree c.args.folder.now) c.args.path.now c.in_ok-items.items c.loop-item.entries so_far.children c.loop-item.self.options.shard made
+    (kept_in g.K.Keep.keeper c.loop-item.keep c.directory.new.keep) so_far.imported so_far.lead
+    (subst (λ (l : List NewEntry). MakesDirectory c.loop-item.self.options.shard l made (kept_in g.K.Keep.keeper c.loop-item.keep c.directory.new.keep)) c.as_slice-2.ensures makes)) c.directory.ensures.made
+
+pub returns-clause-cause : goal.returns-clause-cause
+returns-clause-cause g t c =
+    let all = YieldsList-from_vec {s = c.into_iter-item-iterator.result} c.in_ok-items.items (c.into_iter-item-iterator.ensures.into_iter_gives.0 ∙ c.into_vec-item-items.ensures)
+    (c.into_iter-item-iterator.ensures.into_iter_gives.1 ∙ c.into_vec-item-items.result.ok.0 ∙ ap length c.into_vec-item-items.ensures) in
+    let end = YieldsList-end all c.loop-item.yielded c.loop-item.item-iterator c.loop-item.yielded_by c.next.result c.next.new.self c.in-None.is c.next.ensures.steps in
+    let whole = end_of c.in_ok-items.items c.loop-item.yielded end.0 in
+    let so_far = subst (λ (l : List Item). IsSoFar g.K.Keep.keeper g.F.Folder.folder c.args.keep.now c.loop-item.keep c.args.folder.now c.loop-item.folder c.args.self.now.options c.args.path.now c.args.self.now.summary
+    c.loop-item.self.options c.loop-item.self.writer c.loop-item.self.summary l c.loop-item.entries) whole c.loop-item.invariant.2 in
+    err_then c.directory.result
+    (λ fault h. entries_cause g.K.Keep.keeper g.F.Folder.folder g.met.K.Keep.joins c.kept_sections.ensures.joins c.args.keep.now c.loop-item.keep c.directory.new.keep c.args.folder.now c.loop-item.folder
+    c.args.self.now.options c.args.path.now c.args.self.now.summary c.loop-item.self.options c.loop-item.self.writer c.loop-item.self.summary c.in_ok-items.items c.loop-item.entries c.args.levels fault so_far
+    c.if-levels-eq0.false c.in_ok-items.ensures.items c.in_ok-items.ensures.names
+    (subst (λ (l : List NewEntry). IsEntriesCause c.loop-item.self.options.shard c.args.path.now c.loop-item.self.summary l fault (kept_in g.K.Keep.keeper c.loop-item.keep c.directory.new.keep)) c.as_slice-2.ensures h)) c.directory.ensures.cause

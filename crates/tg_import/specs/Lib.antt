@@ -1,0 +1,4 @@
+pub mod Counting
+pub mod Imported
+pub mod Refused
+pub mod Steps
