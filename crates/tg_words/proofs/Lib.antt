@@ -8,4 +8,10 @@ mod Turns
 mod Walks
 mod Parses
 mod Matches
+mod Known
+mod Options
+mod LineParts
+mod TwoWords
+mod ExportAnswers
+mod ImportAnswers
 mod Lines

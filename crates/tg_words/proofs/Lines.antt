@@ -6,22 +6,22 @@ use Rattle.std.specs.Str.{bytes_eq}
 use Rattle.hex.specs.Hex.{decode_of}
 use Rattle.tg_cid.specs.Cid.{CidParts}
 use Rattle.tg_cid.specs.Spelling.{CidText, CidBytes}
-use Rattle.tg_words.specs.Words.{Names, Given, Item, positional, valued, flag, ItemsSpelling, options_of, StandOnce, WordsSpelling}
-use Rattle.tg_words.specs.CommandLine.{CommandLine, Line, OneCidLine, no_names, cid_names}
-use Rattle.tg_words.specs.Operands.{Answers, OneCid, texts_of}
+use Rattle.tg_words.specs.Words.{Given, StandOnce, WordsSpelling}
+use Rattle.tg_words.specs.CommandLine.{CommandLine, OneCidLine, no_names, cid_names}
+use Rattle.tg_words.specs.ExportLines.{ExportParts, export_names}
+use Rattle.tg_words.specs.ImportLines.{import_names}
+use Rattle.tg_words.specs.Operands.{Answers, ExportGiven, ImportGiven, OneCid, texts_of}
 use Rattle.tg_words.specs.declared.Command.{Command}
-use Rattle.tg_words.specs.declared.Command.TheVariants.{Check, Node, CidToHex, CidToText}
+use Rattle.tg_words.specs.declared.Command.TheVariants.{Check, Node, CidToHex, CidToText, Export, Import}
 use Rattle.tg_words.specs.declared.WordsFault.{WordsFault}
 use Rattle.tg_words.specs.declared.WordsFault.TheVariants.{Usage, OutOfMemory}
 use Rattle.tg_words.proofs.Readings.{one_spelling_of_words}
+use Rattle.tg_words.proofs.LineParts.{no_line, the_line}
+use Rattle.tg_words.proofs.TwoWords.{OnlyThese, one_of_two}
+use Rattle.tg_words.proofs.ExportAnswers.{export_line}
+use Rattle.tg_words.proofs.ImportAnswers.{import_line, one_import}
+use Rattle.tg_words.proofs.Known.{AreKnown, known}
 use Rattle.tg_words.proofs.Names.{are_by, none_of, at_first, later_too, first_or_later}
-
--- the operands of a line
-the_line : (name : List ℕ) (names : Names) (rest texts_in : List (List ℕ)) (options : List Given) → Line name names (name ∷ rest) texts_in options → WordsSpelling names rest texts_in options
-the_line name names rest texts_in options line =
-    let all : name ∷ rest ≡ name ∷ line.rest = line.begins in
-    let same : line.rest ≡ rest = cc in
-    subst (λ ws. WordsSpelling names ws texts_in options) same line.operands
 
 -- `check` and `node`
 abbrev pub IsOneCid : (CidParts → Command) → List (List ℕ) → Command → Type 0
@@ -29,15 +29,19 @@ IsOneCid make rest command = (cid : CidParts) × (command ≡ make cid) × OneCi
 
 pub check_line : (rest : List (List ℕ)) (command : Command) → CommandLine (codes "check" ∷ rest) command → IsOneCid Check rest command
 check_line rest (Check cid) line = (cid, refl, record { text = line.text; operands = the_line (codes "check") no_names rest (line.text ∷ []) [] line.line; text_is = line.text_is })
-check_line rest (Node cid) line = let all : codes "check" ∷ rest ≡ codes "node" ∷ line.line.rest = line.line.begins in absurd (cc)
-check_line rest (CidToHex cid) line = let all : codes "check" ∷ rest ≡ codes "cid" ∷ line.line.rest = line.line.begins in absurd (cc)
-check_line rest (CidToText cid) line = let all : codes "check" ∷ rest ≡ codes "cid" ∷ line.line.rest = line.line.begins in absurd (cc)
+check_line rest (Node cid) line = absurd (no_line (codes "check") (codes "node") rest line.line.rest refl line.line.begins)
+check_line rest (CidToHex cid) line = absurd (no_line (codes "check") (codes "cid") rest line.line.rest refl line.line.begins)
+check_line rest (CidToText cid) line = absurd (no_line (codes "check") (codes "cid") rest line.line.rest refl line.line.begins)
+check_line rest (Export parts) line = absurd (no_line (codes "check") (codes "export") rest line.line.rest refl line.line.begins)
+check_line rest (Import parts) line = absurd (no_line (codes "check") (codes "import") rest line.line.rest refl line.line.begins)
 
 pub node_line : (rest : List (List ℕ)) (command : Command) → CommandLine (codes "node" ∷ rest) command → IsOneCid Node rest command
-node_line rest (Check cid) line = let all : codes "node" ∷ rest ≡ codes "check" ∷ line.line.rest = line.line.begins in absurd (cc)
+node_line rest (Check cid) line = absurd (no_line (codes "node") (codes "check") rest line.line.rest refl line.line.begins)
 node_line rest (Node cid) line = (cid, refl, record { text = line.text; operands = the_line (codes "node") no_names rest (line.text ∷ []) [] line.line; text_is = line.text_is })
-node_line rest (CidToHex cid) line = let all : codes "node" ∷ rest ≡ codes "cid" ∷ line.line.rest = line.line.begins in absurd (cc)
-node_line rest (CidToText cid) line = let all : codes "node" ∷ rest ≡ codes "cid" ∷ line.line.rest = line.line.begins in absurd (cc)
+node_line rest (CidToHex cid) line = absurd (no_line (codes "node") (codes "cid") rest line.line.rest refl line.line.begins)
+node_line rest (CidToText cid) line = absurd (no_line (codes "node") (codes "cid") rest line.line.rest refl line.line.begins)
+node_line rest (Export parts) line = absurd (no_line (codes "node") (codes "export") rest line.line.rest refl line.line.begins)
+node_line rest (Import parts) line = absurd (no_line (codes "node") (codes "import") rest line.line.rest refl line.line.begins)
 
 abbrev pub ReadsOneCid : List ℕ → (CidParts → Command) → List (List ℕ) → Type 0
 ReadsOneCid name make rest = (command : Command) → CommandLine (name ∷ rest) command → IsOneCid make rest command
@@ -55,33 +59,6 @@ one_cid_ok name make rest cid reads line only = record {
   found = line;
   only = λ command other. let l = reads command other in ap make (only l.0 l.2) ∙ sym l.1;
 }
-
--- each option of a command has one of the command's names, and a value where that name is one with a value
-abbrev pub IsKnown : Names → List ℕ → Option (List ℕ) → Type 0
-IsKnown names name (Some value) = Contains names.valued name
-IsKnown names name None = Contains names.flags name
-
-abbrev pub AreKnown : Names → List Given → Type 0
-AreKnown names options = (o : Given) → Contains options o → IsKnown names o.0 o.1
-
-known_by : (names : Names) (items : List Item) (front : List (List ℕ)) → ItemsSpelling names items front → AreKnown names (options_of items)
-known_by names [] front spelled = λ o among. absurd (none_of o among)
-known_by names (positional word ∷ items) front spelled = known_by names items spelled.1 spelled.4
-known_by names (valued name value ∷ items) front spelled =
-    let later_ones = known_by names items spelled.1 spelled.4 in
-    λ o among. elim (first_or_later (name, Some value) o (options_of items) among) [
-      | inl is ↦ subst (λ (g : Given). IsKnown names g.0 g.1) is spelled.3.0
-      | inr later ↦ later_ones o later
-    ]
-known_by names (flag name ∷ items) front spelled =
-    let later_ones = known_by names items spelled.1 spelled.4 in
-    λ o among. elim (first_or_later (name, None) o (options_of items) among) [
-      | inl is ↦ subst (λ (g : Given). IsKnown names g.0 g.1) is spelled.3.0
-      | inr later ↦ later_ones o later
-    ]
-
-known : (names : Names) (words texts_in : List (List ℕ)) (options : List Given) → WordsSpelling names words texts_in options → AreKnown names options
-known names words texts_in options s = subst (AreKnown names) (sym s.options_are) (known_by names s.items s.front s.spelled)
 
 -- a command without options has none
 no_options_by : (options : List Given) → AreKnown no_names options → options ≡ []
@@ -133,11 +110,13 @@ IsToText rest command = (cid : CidParts) × (digits : List ℕ) × (bytes : List
     × WordsSpelling cid_names rest [] (hex_option digits ∷ []) × (decode_of digits ≡ Ok bytes) × CidBytes cid bytes
 
 pub cid_line : (rest : List (List ℕ)) (command : Command) → CommandLine (codes "cid" ∷ rest) command → IsToHex rest command ⊎ IsToText rest command
-cid_line rest (Check cid) line = let all : codes "cid" ∷ rest ≡ codes "check" ∷ line.line.rest = line.line.begins in absurd (cc)
-cid_line rest (Node cid) line = let all : codes "cid" ∷ rest ≡ codes "node" ∷ line.line.rest = line.line.begins in absurd (cc)
+cid_line rest (Check cid) line = absurd (no_line (codes "cid") (codes "check") rest line.line.rest refl line.line.begins)
+cid_line rest (Node cid) line = absurd (no_line (codes "cid") (codes "node") rest line.line.rest refl line.line.begins)
 cid_line rest (CidToHex cid) line = inl (cid, line.text, refl, the_line (codes "cid") cid_names rest (line.text ∷ []) [] line.line, line.text_is)
 cid_line rest (CidToText cid) line =
     inr (cid, line.digits, line.bytes, refl, the_line (codes "cid") cid_names rest [] (hex_option line.digits ∷ []) line.line, line.digits_are, line.bytes_are)
+cid_line rest (Export parts) line = absurd (no_line (codes "cid") (codes "export") rest line.line.rest refl line.line.begins)
+cid_line rest (Import parts) line = absurd (no_line (codes "cid") (codes "import") rest line.line.rest refl line.line.begins)
 
 -- the words are these operands, and no others
 pub record AreOperands (rest texts : List (List ℕ)) (options : List Given) : Type 0 where
@@ -253,14 +232,15 @@ one_of_cid words all more every others r s = one_spelling_of_words cid_names wor
 -- words spell at most one command
 pub one_line : ((a b : CidParts) (text : List ℕ) → CidText a text → CidText b text → a ≡ b)
     → ((a b : CidParts) (u v x y : List ℕ) → CidBytes a u → CidBytes b v → u ++ x ≡ v ++ y → (u ≡ v) × (a ≡ b))
+    → ((pack target : List ℕ) (options : List Given) (a b : ExportParts) → ExportGiven pack target options a → ExportGiven pack target options b → a ≡ b)
     → (words : List (List ℕ)) (a b : Command) → CommandLine words a → CommandLine words b → a ≡ b
-one_line one_cid no_front words (Check cid) b line other =
+one_line one_cid no_front one_export words (Check cid) b line other =
     let l = check_line line.line.rest b (subst (λ ws. CommandLine ws b) line.line.begins other) in
     ap Check (same_cid one_cid line.line.rest cid l.0 (record { text = line.text; operands = line.line.operands; text_is = line.text_is }) l.2) ∙ sym l.1
-one_line one_cid no_front words (Node cid) b line other =
+one_line one_cid no_front one_export words (Node cid) b line other =
     let l = node_line line.line.rest b (subst (λ ws. CommandLine ws b) line.line.begins other) in
     ap Node (same_cid one_cid line.line.rest cid l.0 (record { text = line.text; operands = line.line.operands; text_is = line.text_is }) l.2) ∙ sym l.1
-one_line one_cid no_front words (CidToHex cid) b line other =
+one_line one_cid no_front one_export words (CidToHex cid) b line other =
     elim (cid_line line.line.rest b (subst (λ ws. CommandLine ws b) line.line.begins other)) [
       | inl l ↦
           let both : line.text ∷ [] ≡ l.1 ∷ [] = (one_of_cid line.line.rest (line.text ∷ []) (l.1 ∷ []) [] [] line.line.operands l.3).0 in
@@ -268,7 +248,7 @@ one_line one_cid no_front words (CidToHex cid) b line other =
           ap CidToHex (one_cid cid l.0 line.text line.text_is (subst (λ t. CidText l.0 t) same l.4)) ∙ sym l.2
       | inr l ↦ absurd (no_digits l.1 (one_of_cid line.line.rest (line.text ∷ []) [] [] (hex_option l.1 ∷ []) line.line.operands l.4).1)
     ]
-one_line one_cid no_front words (CidToText cid) b line other =
+one_line one_cid no_front one_export words (CidToText cid) b line other =
     elim (cid_line line.line.rest b (subst (λ ws. CommandLine ws b) line.line.begins other)) [
       | inl l ↦ absurd (no_digits line.digits (sym (one_of_cid line.line.rest [] (l.1 ∷ []) (hex_option line.digits ∷ []) [] line.line.operands l.3).1))
       | inr l ↦
@@ -277,6 +257,14 @@ one_line one_cid no_front words (CidToText cid) b line other =
           let bytes : line.bytes ≡ l.2 = cc in
           ap CidToText (no_front cid l.0 line.bytes l.2 [] [] line.bytes_are l.6 (ap (λ bs. bs ++ []) bytes)).1 ∙ sym l.3
     ]
+one_line one_cid no_front one_export words (Export parts) b line other =
+    let begins = subst (λ ws. CommandLine ws b) line.line.begins other in
+    let own = export_line line.line.rest (Export parts) (subst (λ ws. CommandLine ws (Export parts)) line.line.begins line) in
+    one_of_two export_names Export ExportGiven line.line.rest (Export parts) b (are_by export_names refl) one_export own (export_line line.line.rest b begins)
+one_line one_cid no_front one_export words (Import parts) b line other =
+    let begins = subst (λ ws. CommandLine ws b) line.line.begins other in
+    let own = import_line line.line.rest (Import parts) (subst (λ ws. CommandLine ws (Import parts)) line.line.begins line) in
+    one_of_two import_names Import ImportGiven line.line.rest (Import parts) b (are_by import_names refl) one_import own (import_line line.line.rest b begins)
 
 -- what is no command is refused
 pub refused : (words : List (List ℕ)) (answer : Result Command WordsFault) → IfOk answer (λ command. CommandLine words command)
@@ -290,10 +278,6 @@ pub one_cid_line : (name : List ℕ) (rest : List (List ℕ)) (cid : CidParts) �
 one_cid_line name rest cid p = record { text = p.text; line = record { rest = rest; begins = refl; operands = p.operands }; text_is = p.text_is }
 
 -- the answer to the operands of one CID
-abbrev OnlyThese : Names → List (List ℕ) → List (List ℕ) → List Given → Type 0
-OnlyThese names rest texts options =
-    (texts_in : List (List ℕ)) (others : List Given) → WordsSpelling names rest texts_in others → (texts ≡ texts_in) × (options ≡ others)
-
 pub one_cid_none : (rest texts : List (List ℕ)) (options : List Given) → OnlyThese no_names rest texts options → ((text : List ℕ) → texts ≡ text ∷ [] → ⊥)
     → (cid : CidParts) → OneCid rest cid → ⊥
 one_cid_none rest texts options only none cid line = none line.text (only (line.text ∷ []) [] line.operands).0

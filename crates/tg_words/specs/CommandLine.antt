@@ -4,8 +4,10 @@ use Rattle.hex.specs.Hex.{decode_of}
 use Rattle.tg_cid.specs.Cid.{CidParts}
 use Rattle.tg_cid.specs.Spelling.{CidText, CidBytes}
 use Rattle.tg_words.specs.declared.Command.{Command}
-use Rattle.tg_words.specs.declared.Command.TheVariants.{Check, Node, CidToHex, CidToText}
-use Rattle.tg_words.specs.Words.{Names, Given, WordsSpelling}
+use Rattle.tg_words.specs.declared.Command.TheVariants.{Check, Node, CidToHex, CidToText, Export, Import}
+use Rattle.tg_words.specs.ExportLines.{ExportLine}
+use Rattle.tg_words.specs.ImportLines.{ImportLine}
+use Rattle.tg_words.specs.Words.{Names, Line}
 
 -- the options of each command
 abbrev pub no_names : Names
@@ -13,12 +15,6 @@ no_names = record { valued = []; flags = [] }
 
 abbrev pub cid_names : Names
 cid_names = record { valued = codes "hex" ∷ []; flags = [] }
-
--- the words are the command's name, and behind it these positional words and these options
-pub record Line (command : List ℕ) (names : Names) (words positional : List (List ℕ)) (options : List Given) : Type 0 where
-  pub rest : List (List ℕ)
-  pub begins : words ≡ command ∷ rest
-  pub operands : WordsSpelling names rest positional options
 
 -- `check CID` and `node CID`: the command of this name
 pub record OneCidLine (name : List ℕ) (words : List (List ℕ)) (cid : CidParts) : Type 0 where
@@ -46,3 +42,5 @@ CommandLine words (Check cid) = OneCidLine (codes "check") words cid
 CommandLine words (Node cid) = OneCidLine (codes "node") words cid
 CommandLine words (CidToHex cid) = CidLine words cid
 CommandLine words (CidToText cid) = CidHexLine words cid
+CommandLine words (Export parts) = ExportLine words parts
+CommandLine words (Import parts) = ImportLine words parts

@@ -1,5 +1,7 @@
 -- What the reader of a command's operands keeps and answers, and how faults of the crates below are faults of words.
-use Rattle.std.specs.Prelude.{◌≡◌, ℕ, List, [], ◌∷◌, map, option_map, Result, MatchResult, IfOk}
+use Rattle.std.specs.Prelude.{◌≡◌, ◌≢◌, ℕ, ◌≤◌, List, [], ◌∷◌, true, map, find, codes, Option, Some, None, option_map, option_and_then, Result, MatchResult, IfOk}
+use Rattle.std.specs.Option.{unwrap_or}
+use Rattle.std.specs.Str.{bytes_eq}
 use Rattle.hex.specs.declared.error.FromHexError.{FromHexError}
 use Rattle.hex.specs.declared.error.FromHexError.TheVariants as hex
 use Rattle.tg_cid.specs.declared.fault.CidFault.{CidFault}
@@ -12,6 +14,15 @@ use Rattle.tg_words.specs.declared.operands.OptionNames.{OptionNames}
 use Rattle.tg_cid.specs.Cid.{CidParts}
 use Rattle.tg_cid.specs.Spelling.{CidText}
 use Rattle.tg_words.specs.CommandLine.{CommandLine, no_names}
+use Rattle.tg_model.specs.Queries.{QueryParts}
+use Rattle.tg_model.specs.declared.queries.Form.TheVariants.{Car}
+use Rattle.tg_model.specs.declared.queries.Scope.{Scope}
+use Rattle.tg_path.specs.Spans.{SpanText}
+use Rattle.tg_path.specs.WordTexts.{WordText}
+use Rattle.tg_path.specs.declared.fault.QueryFault.{QueryFault}
+use Rattle.tg_path.specs.declared.fault.QueryFault.TheVariants as queries
+use Rattle.tg_words.specs.ExportLines.{ExportParts, ScopeText, scope_for}
+use Rattle.tg_words.specs.ImportLines.{ImportParts, NumberText}
 use Rattle.tg_words.specs.Words.{Names, Given, WordsSpelling}
 use denote.Ref.{Bor}
 
@@ -26,6 +37,55 @@ given option = (option.name.now, option_map (λ value. value.now) option.value)
 
 abbrev pub givens : List GivenOption → List Given
 givens = map given
+
+-- the value of the first option of this name, where one stands and has a value
+abbrev pub value_at : List Given → List ℕ → Option (List ℕ)
+value_at options name = option_and_then (λ option. option.1) (find (λ option. bytes_eq option.0 name) options)
+
+-- what is written by a value, where there is one, and nothing where there is none
+abbrev pub ValueGives : {A : Type 0} → (List ℕ → A → Type 0) → Option (List ℕ) → Option A → Type 0
+ValueGives IsWritten None asked = asked ≡ None
+ValueGives IsWritten (Some value) None = ⊥
+ValueGives IsWritten (Some value) (Some x) = IsWritten value x
+
+-- an answer is exact: what it should be, and where there is that, it or want of memory
+pub record Exact {A : Type 0} (Is : A → Type 0) (answer : Result A WordsFault) : Type 0 where
+  pub found : IfOk answer Is
+  pub only : (x : A) → Is x → MatchResult answer (λ found. found ≡ x) (λ e. e ≡ OutOfMemory)
+
+-- the query that a word ROOT/PATH and the values of `--scope` and `--bytes` ask
+pub record QueryGiven (target : List ℕ) (scope bytes : Option (List ℕ)) (query : QueryParts) : Type 0 where
+  pub word : WordText target query.root query.path
+  pub asked : Option Scope
+  pub asked_is : ValueGives ScopeText scope asked
+  pub span_is : ValueGives SpanText bytes query.span
+  pub scope_is : query.scope ≡ scope_for asked query.span
+  pub form : query.form ≡ Car
+  pub dups : query.dups ≡ true
+
+-- an export from this pack of what a word ROOT/PATH and these options ask
+pub record ExportGiven (pack target : List ℕ) (options : List Given) (parts : ExportParts) : Type 0 where
+  pub pack_is : parts.pack ≡ pack
+  pub named : pack ≢ []
+  pub query : QueryGiven target (value_at options (codes "scope")) (value_at options (codes "bytes")) parts.query
+
+-- the number that a value writes, or the default where there is none; it is from `low` to `high`
+pub record NumberGiven (value : Option (List ℕ)) (low high default number : ℕ) : Type 0 where
+  pub asked : Option ℕ
+  pub asked_is : ValueGives NumberText value asked
+  pub number_is : number ≡ unwrap_or asked default
+  pub least : low ≤ number
+  pub most : number ≤ high
+
+-- an import of this folder into this pack with these options
+pub record ImportGiven (folder pack : List ℕ) (options : List Given) (parts : ImportParts) : Type 0 where
+  pub folder_is : parts.folder ≡ folder
+  pub folder_named : folder ≢ []
+  pub pack_is : parts.pack ≡ pack
+  pub pack_named : pack ≢ []
+  pub chunk : NumberGiven (value_at options (codes "chunk")) 1 2097152 1048576 parts.chunk
+  pub width : NumberGiven (value_at options (codes "width")) 2 4096 1024 parts.width
+  pub shard : NumberGiven (value_at options (codes "shard")) 0 1048576 262144 parts.shard
 
 -- the words are one CID and no options
 pub record OneCid (words : List (List ℕ)) (cid : CidParts) : Type 0 where
@@ -55,3 +115,15 @@ fault_of_hex hex.OutOfMemory = OutOfMemory
 fault_of_hex (hex.InvalidHexCharacter c index) = Usage
 fault_of_hex hex.OddLength = Usage
 fault_of_hex hex.InvalidStringLength = Usage
+
+abbrev pub fault_of_query : QueryFault → WordsFault
+fault_of_query queries.OutOfMemory = OutOfMemory
+fault_of_query queries.BadPath = Usage
+fault_of_query (queries.BadCid inner) = Usage
+fault_of_query queries.NoFormat = Usage
+fault_of_query queries.BadFormat = Usage
+fault_of_query queries.BadScope = Usage
+fault_of_query queries.BadRange = Usage
+fault_of_query queries.Doubled = Usage
+fault_of_query queries.BadParam = Usage
+fault_of_query queries.RawPath = Usage

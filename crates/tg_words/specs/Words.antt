@@ -84,3 +84,14 @@ pub record WordsSpelling (names : Names) (words positional : List (List ℕ)) (o
   pub positional_is : positional ≡ positionals_of items ++ late
   pub options_are : options ≡ options_of items
   pub once : StandOnce options
+
+-- the words are the command's name, and behind it these positional words and these options
+pub record Line (command : List ℕ) (names : Names) (words positional : List (List ℕ)) (options : List Given) : Type 0 where
+  pub rest : List (List ℕ)
+  pub begins : words ≡ command ∷ rest
+  pub operands : WordsSpelling names rest positional options
+
+-- what an option gives: nothing where none of its name stands, else what is written by its value
+abbrev pub OptionGives : {A : Type 0} → (List ℕ → A → Type 0) → List Given → List ℕ → Option A → Type 0
+OptionGives IsWritten options name None = (option : Given) → Contains options option → option.0 ≢ name
+OptionGives IsWritten options name (Some x) = (value : List ℕ) × Contains options (name, Some value) × IsWritten value x

@@ -12,17 +12,24 @@ ghost use Rattle.tg_words.specs.Operands.{Answers, OneCid};
 ghost use Rattle.tg_words.specs.declared.Command.{Command};
 ghost use Rattle.tg_words.specs.declared.WordsFault.{WordsFault};
 
+mod exports;
+mod imports;
 mod operands;
 
 use clap::error::ErrorKind;
+pub use exports::Export;
+use exports::export_of;
 use hex::FromHexError;
+pub use imports::Import;
+use imports::import_of;
 use operands::{OptionNames, one_word, operands_of, value_of};
 use std::alloc::{AllocError, Global};
 use tg_cid::{Cid, CidFault, one_spelling};
+use tg_path::{QueryFault, roots_read, spans_read};
 use thiserror::Error;
 
 /// What the words ask for.
-#[derive(Clone, Copy, Debug, PartialEq, Eq)]
+#[derive(Debug, Drop)]
 pub enum Command {
     /// `check CID`: a block on input is written to out if the CID names it.
     Check(Cid),
@@ -32,6 +39,17 @@ pub enum Command {
     CidToHex(Cid),
     /// `cid --hex HEX`: the text of the CID with these bytes.
     CidToText(Cid),
+    /// `export PACK ROOT/PATH [--scope S] [--bytes R]`: a CAR of what is asked below a root of a pack.
+    ///
+    /// PACK isn't empty. S is `block`, `entity` or `all`; R is a range FROM:TO of a file's bytes, beside which the scope is
+    /// entity. Without either the scope is entity.
+    Export(Export),
+    /// `import FOLDER PACK [--chunk N] [--width N] [--shard N]`: a folder is written into a pack.
+    ///
+    /// FOLDER and PACK aren't empty. Each N is 1 to 20 decimal digits. A chunk has 1 to 2,097,152 bytes, or else 1,048,576; a
+    /// node of a file 2 to 4,096 links, or else 1,024; a directory is sharded above a weight of 0 to 1,048,576, or else
+    /// 262,144.
+    Import(Import),
 }
 
 /// Why words were not read as a command.
@@ -92,6 +110,28 @@ impl From<CidFault> for WordsFault {
     }
 }
 
+impl From<QueryFault> for WordsFault {
+    ghost use Rattle.std.specs.Prelude.{◌≡◌};
+    ghost use Rattle.tg_words.specs.Operands.{fault_of_query};
+
+    ghost from_gives = { λ fault given. given ≡ fault_of_query fault };
+
+    fn from(fault: QueryFault) -> WordsFault {
+        match fault {
+            QueryFault::OutOfMemory => WordsFault::OutOfMemory,
+            QueryFault::BadPath
+            | QueryFault::BadCid(_)
+            | QueryFault::NoFormat
+            | QueryFault::BadFormat
+            | QueryFault::BadScope
+            | QueryFault::BadRange
+            | QueryFault::Doubled
+            | QueryFault::BadParam
+            | QueryFault::RawPath => WordsFault::Usage,
+        }
+    }
+}
+
 impl From<FromHexError> for WordsFault {
     ghost use Rattle.std.specs.Prelude.{◌≡◌};
     ghost use Rattle.tg_words.specs.Operands.{fault_of_hex};
@@ -133,6 +173,8 @@ pub fn one_command()
     ensures { (words : List (List ℕ)) (a b : Command) → CommandLine words a → CommandLine words b → a ≡ b }
 {
     one_spelling();
+    roots_read();
+    spans_read();
 }
 
 /// The command of this name with these words behind it.
@@ -145,6 +187,10 @@ fn dispatch(alloc: Global, command: &str, words: &[String]) -> Result<Command, W
         node(alloc, words)
     } else if command == "cid" {
         cid(alloc, words)
+    } else if command == "export" {
+        export_of(alloc, words)
+    } else if command == "import" {
+        import_of(alloc, words)
     } else {
         Err(WordsFault::Usage)
     }

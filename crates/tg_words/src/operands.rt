@@ -1,11 +1,12 @@
 //! Words as positional words and options, for a command whose options have these names.
 
-ghost use Rattle.std.specs.Prelude.{◌≡◌, ◌≢◌, ℕ, List, [], ◌∷◌, map, string_bytes, option_map, option_and_then, IfOk, IfSome, IfNone, IsTrue, MatchResult, find};
+ghost use Rattle.std.specs.Prelude.{◌≡◌, ◌≢◌, ℕ, List, [], ◌∷◌, map, string_bytes, option_map, IfOk, IfErr, IfSome, IfNone, IsTrue, MatchResult, find};
 ghost use Rattle.std.specs.Str.{bytes_eq};
 ghost use Rattle.clap.specs.Words.{app_of, found_of, rows_of};
-ghost use Rattle.tg_words.specs.Operands.{given, givens, names_of, texts_of};
+ghost use Rattle.tg_words.specs.Operands.{given, givens, names_of, texts_of, value_at};
 ghost use Rattle.tg_words.specs.Parsing.{app_for, option_at, option_rule, options_in, positional_in, with_rules};
 ghost use Rattle.tg_words.specs.Words.{Given, WordsSpelling, are_names};
+ghost use Rattle.tg_words.specs.declared.WordsFault.{WordsFault};
 
 use crate::WordsFault;
 use clap::parser::ValueSource;
@@ -140,10 +141,29 @@ pub fn one_word<'a>(words: &[&'a str]) -> Option<&'a str>
     if rest.is_empty() { Some(*word) } else { None }
 }
 
+/// The two words that stand alone.
+pub fn two_words<'a>(words: &[&'a str]) -> Option<(&'a str, &'a str)>
+    ensures some { IfSome result (λ pair. texts_of words.now ≡ pair.0.now ∷ pair.1.now ∷ []) }
+    ensures none { IfNone result ((first second : List ℕ) → texts_of words.now ≢ first ∷ second ∷ []) }
+{
+    let (first, rest) = words.split_first()?;
+    Some((*first, one_word(rest)?))
+}
+
+/// A word as a string of its own, where it isn't empty.
+pub fn named(alloc: Global, word: &str) -> Result<String, WordsFault>
+    ensures found { IfOk result (λ name. (string_bytes name ≡ word.now) × (word.now ≢ [])) }
+    ensures only { word.now ≢ [] → IfErr result (λ e. e ≡ WordsFault.OutOfMemory) }
+{
+    if word.is_empty() {
+        return Err(WordsFault::Usage);
+    }
+    Ok(String::from_str(alloc, word)?)
+}
+
 /// The value of the first option of this name, where one stands and has a value.
 pub fn value_of<'a>(options: &[GivenOption<'a>], name: &str) -> Option<&'a str>
-    ensures { option_map (λ value. value.now) result
-        ≡ option_and_then (λ option. option.1) (find (λ option. bytes_eq option.0 name.now) (givens options.now)) }
+    ensures { option_map (λ value. value.now) result ≡ value_at (givens options.now) name.now }
 {
     find_option(options, name)?.value
 }

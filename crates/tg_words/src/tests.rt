@@ -2,6 +2,7 @@ use super::*;
 use operands::Operands;
 use std::alloc::AllocError;
 use std::test::Fail;
+use tg_model::{Query, Span};
 
 // The CIDv1 of raw bytes with the sha2-256 of "hello world".
 const TEXT: &str = "bafkreifzjut3te2nhyekklss27nh3k72ysco7y32koao5eei66wof36n5e";
@@ -45,13 +46,15 @@ enum Wanted {
     Usage,
 }
 
-fn answer(wanted: Wanted, cid: Cid) -> Result<Command, WordsFault> {
-    match wanted {
-        Wanted::Check => Ok(Command::Check(cid)),
-        Wanted::Node => Ok(Command::Node(cid)),
-        Wanted::CidToHex => Ok(Command::CidToHex(cid)),
-        Wanted::CidToText => Ok(Command::CidToText(cid)),
-        Wanted::Usage => Err(WordsFault::Usage),
+// Whether an answer is the wanted one, for this CID.
+fn is_wanted(answer: &Result<Command, WordsFault>, wanted: Wanted, cid: Cid) -> bool {
+    match (answer, wanted) {
+        (Ok(Command::Check(found)), Wanted::Check) => *found == cid,
+        (Ok(Command::Node(found)), Wanted::Node) => *found == cid,
+        (Ok(Command::CidToHex(found)), Wanted::CidToHex) => *found == cid,
+        (Ok(Command::CidToText(found)), Wanted::CidToText) => *found == cid,
+        (Err(fault), Wanted::Usage) => *fault == WordsFault::Usage,
+        _ => false,
     }
 }
 
@@ -75,7 +78,6 @@ const LINES: &[(&[&str], Wanted)] = &[
     (&[], Wanted::Usage),
     (&[""], Wanted::Usage),
     (&["help"], Wanted::Usage),
-    (&["import", "folder", "pack"], Wanted::Usage),
     (&["audit", "--seed", "1", "--files", "3"], Wanted::Usage),
     (&["fetch", "--raw", "a:1", TEXT], Wanted::Usage),
     (&["--help"], Wanted::Usage),
@@ -110,8 +112,232 @@ fn lines(rt: HostRuntime) -> Result<(), Fail> {
     let cid = Cid::from_bytes(&BYTES)?;
     for (line, wanted) in LINES {
         let words = words_of(rt.alloc(), line)?;
-        assert_eq!(rt; read(rt.alloc(), words.as_slice()), answer(*wanted, cid));
+        let answer = read(rt.alloc(), words.as_slice());
+        assert!(rt; is_wanted(&answer, *wanted, cid), "{line:?}: {answer:?}");
     }
+    Ok(())
+}
+
+// The words of a line, with the CID's text in the place of `@`.
+fn words_with(alloc: Global, line: &[&str]) -> Result<Vec<String>, AllocError> {
+    let mut words = Vec::new(alloc);
+    for shape in line {
+        let mut word = String::new(alloc);
+        for letter in shape.chars() {
+            if letter == '@' {
+                word.push_str(TEXT)?;
+            } else {
+                word.push(letter)?;
+            }
+        }
+        words.push(word)?;
+    }
+    Ok(words)
+}
+
+// The root, as `@` where it is the CID, and the segments of the path, each behind a `|`.
+fn shown_place(alloc: Global, query: &Query) -> Result<String, AllocError> {
+    let mut shown = String::new(alloc);
+    if query.root().to_text(alloc)?.as_slice() == TEXT.as_bytes() {
+        shown.push('@')?;
+    }
+    for name in query.path().as_slice() {
+        shown.push('|')?;
+        for byte in name.as_slice() {
+            shown.push(char::from(*byte))?;
+        }
+    }
+    Ok(shown)
+}
+
+fn shown_span(alloc: Global, span: Option<Span>) -> Result<String, AllocError> {
+    match span {
+        Some(span) => format!(in alloc; "{:?} {:?}", span.from(), span.to()),
+        None => String::from_str(alloc, "whole"),
+    }
+}
+
+// What is asked of an export or of an import, or the fault.
+fn shown(alloc: Global, answer: &Result<Command, WordsFault>) -> Result<String, AllocError> {
+    match answer {
+        Ok(Command::Export(export)) => {
+            let query = &export.query;
+            let place = shown_place(alloc, query)?;
+            let span = shown_span(alloc, query.span())?;
+            let (form, scope, dups) = (query.form(), query.scope(), query.dups());
+            format!(in alloc; "{} {place} {form:?} {scope:?} {span} {dups}", export.pack)
+        }
+        Ok(Command::Import(import)) => format!(in alloc;
+            "{} {} {} {} {}",
+            import.folder, import.pack, import.chunk, import.width, import.shard
+        ),
+        Ok(_) => String::from_str(alloc, "another command"),
+        Err(fault) => format!(in alloc; "{fault:?}"),
+    }
+}
+
+const EXPORTS: &[(&[&str], &str)] = &[
+    (&["export", "p", "@"], "p @ Car Entity whole true"),
+    (&["export", "a b", "@/"], "a b @ Car Entity whole true"),
+    (
+        &["export", "--scope", "all", "p", "/ipfs/@/a%20b//c"],
+        "p @|a b|c Car All whole true",
+    ),
+    (
+        &["export", "p", "@", "--scope=block"],
+        "p @ Car Block whole true",
+    ),
+    (
+        &["export", "p", "--scope=entity", "@"],
+        "p @ Car Entity whole true",
+    ),
+    (
+        &["export", "p", "@/a", "--bytes=-3:*"],
+        "p @|a Car Entity Last(3) None true",
+    ),
+    (
+        &["export", "--bytes", "3:8", "p", "@"],
+        "p @ Car Entity Start(3) Some(8) true",
+    ),
+    (
+        &["export", "--bytes=3:8", "--scope=all", "p", "@"],
+        "p @ Car Entity Start(3) Some(8) true",
+    ),
+    (
+        &["export", "--scope", "block", "p", "@", "--bytes", "0:*"],
+        "p @ Car Entity Start(0) None true",
+    ),
+    (&["export", "--", "p", "@"], "p @ Car Entity whole true"),
+    (&["export", "p", "--", "@"], "p @ Car Entity whole true"),
+    (&["export", "--", "-p", "@"], "-p @ Car Entity whole true"),
+    (&["export", "-", "@"], "- @ Car Entity whole true"),
+    (&["export"], "Usage"),
+    (&["export", "p"], "Usage"),
+    (&["export", "@"], "Usage"),
+    (&["export", "p", "@", "@"], "Usage"),
+    (&["export", "", "@"], "Usage"),
+    (&["export", "p", ""], "Usage"),
+    (&["export", "@", "p"], "Usage"),
+    (&["export", "p", "@@"], "Usage"),
+    (&["export", "p", "/@"], "Usage"),
+    (&["export", "p", "@/.."], "Usage"),
+    (&["export", "p", "@/a%2Fb"], "Usage"),
+    (&["export", "p", "@", "--scope", "x"], "Usage"),
+    (&["export", "p", "@", "--scope=x", "--bytes=3:8"], "Usage"),
+    (&["export", "p", "@", "--scope="], "Usage"),
+    (&["export", "p", "@", "--scope=ALL"], "Usage"),
+    (&["export", "p", "@", "--scope"], "Usage"),
+    (&["export", "p", "@", "--bytes", "5:3"], "Usage"),
+    (&["export", "p", "@", "--bytes", "-3:*"], "Usage"),
+    (&["export", "p", "@", "--bytes", "x"], "Usage"),
+    (&["export", "p", "@", "--bytes="], "Usage"),
+    (&["export", "p", "@", "--scope=all", "--scope=all"], "Usage"),
+    (
+        &["export", "p", "@", "--bytes=3:8", "--bytes", "3:8"],
+        "Usage",
+    ),
+    (&["export", "p", "@", "--dups", "y"], "Usage"),
+    (&["export", "p", "@", "--chunk", "1"], "Usage"),
+];
+
+const IMPORTS: &[(&[&str], &str)] = &[
+    (&["import", "f", "p"], "f p 1048576 1024 262144"),
+    (&["import", "--", "-f", "--p"], "-f --p 1048576 1024 262144"),
+    (&["import", "f", "p", "--chunk", "1"], "f p 1 1024 262144"),
+    (
+        &["import", "--chunk=2097152", "f", "p"],
+        "f p 2097152 1024 262144",
+    ),
+    (&["import", "f", "p", "--chunk", "0"], "Usage"),
+    (&["import", "f", "p", "--chunk", "2097153"], "Usage"),
+    (&["import", "f", "--width=2", "p"], "f p 1048576 2 262144"),
+    (
+        &["import", "f", "p", "--width", "4096"],
+        "f p 1048576 4096 262144",
+    ),
+    (&["import", "f", "p", "--width", "1"], "Usage"),
+    (&["import", "f", "p", "--width=4097"], "Usage"),
+    (&["import", "f", "p", "--shard=0"], "f p 1048576 1024 0"),
+    (
+        &["import", "f", "p", "--shard", "1048576"],
+        "f p 1048576 1024 1048576",
+    ),
+    (&["import", "f", "p", "--shard", "1048577"], "Usage"),
+    (
+        &["import", "--shard=3", "--chunk=5", "f", "--width", "4", "p"],
+        "f p 5 4 3",
+    ),
+    (
+        &["import", "f", "p", "--chunk=00000000000000000007"],
+        "f p 7 1024 262144",
+    ),
+    (
+        &["import", "f", "p", "--chunk=000000000000000000007"],
+        "Usage",
+    ),
+    (
+        &["import", "f", "p", "--shard=18446744073709551616"],
+        "Usage",
+    ),
+    (&["import", "f", "p", "--shard=4294967296"], "Usage"),
+    (&["import", "f", "p", "--chunk="], "Usage"),
+    (&["import", "f", "p", "--chunk"], "Usage"),
+    (&["import", "f", "p", "--chunk=-1"], "Usage"),
+    (&["import", "f", "p", "--chunk=+1"], "Usage"),
+    (&["import", "f", "p", "--chunk", "+1"], "Usage"),
+    (&["import", "f", "p", "--chunk=0x10"], "Usage"),
+    (&["import", "f", "p", "--chunk=1 "], "Usage"),
+    (&["import", "f", "p", "--chunk=1", "--chunk=1"], "Usage"),
+    (&["import", "f", "p", "--scope=all"], "Usage"),
+    (&["import"], "Usage"),
+    (&["import", "f"], "Usage"),
+    (&["import", "f", "p", "q"], "Usage"),
+    (&["import", "", "p"], "Usage"),
+    (&["import", "f", ""], "Usage"),
+];
+
+// What the words of a line ask.
+fn asked(alloc: Global, line: &[&str]) -> Result<String, AllocError> {
+    let words = words_with(alloc, line)?;
+    shown(alloc, &read(alloc, words.as_slice()))
+}
+
+#[test]
+fn exports_of_lines(rt: HostRuntime) -> Result<(), Fail> {
+    for (line, wanted) in EXPORTS {
+        let found = asked(rt.alloc(), line)?;
+        assert!(rt; found.as_str() == *wanted, "{line:?}: {found}");
+    }
+    Ok(())
+}
+
+#[test]
+fn imports_of_lines(rt: HostRuntime) -> Result<(), Fail> {
+    for (line, wanted) in IMPORTS {
+        let found = asked(rt.alloc(), line)?;
+        assert!(rt; found.as_str() == *wanted, "{line:?}: {found}");
+    }
+    Ok(())
+}
+
+// A path of so many segments is exported, or refused.
+fn many_segments(alloc: Global, count: usize) -> Result<bool, AllocError> {
+    let mut words = words_of(alloc, &["export", "p"])?;
+    let mut target = String::from_str(alloc, TEXT)?;
+    for _ in 0..count {
+        target.push_str("/a")?;
+    }
+    words.push(target)?;
+    match read(alloc, words.as_slice()) {
+        Ok(Command::Export(export)) => Ok(export.query.path().as_slice().len() == count),
+        _ => Ok(false),
+    }
+}
+
+#[test]
+fn segments_of_exports(rt: HostRuntime) -> Result<(), Fail> {
+    assert!(rt; many_segments(rt.alloc(), 128)?);
+    assert!(rt; !many_segments(rt.alloc(), 129)?);
     Ok(())
 }
 

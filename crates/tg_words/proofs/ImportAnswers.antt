@@ -1,0 +1,105 @@
+-- The answers to the lines of `import`.
+use Rattle.std.proofs.Common.{◌≡◌, ℕ, List, [], ◌∷◌, codes, Option, refl, sym, ap, ◌∙◌, subst}
+use Rattle.std.specs.Prelude.{Result}
+use Rattle.std.specs.Option.{unwrap_or}
+use Rattle.tg_words.specs.Words.{Given, StandOnce, WordsSpelling}
+use Rattle.tg_words.specs.CommandLine.{CommandLine}
+use Rattle.tg_words.specs.ImportLines.{ImportParts, NumberAsked, NumberText, import_names}
+use Rattle.tg_words.specs.Operands.{Exact, ImportGiven, NumberGiven, value_at}
+use Rattle.tg_words.specs.declared.WordsFault.{WordsFault}
+use Rattle.tg_words.specs.declared.Command.{Command}
+use Rattle.tg_words.specs.declared.Command.TheVariants.{Check, Node, CidToHex, CidToText, Export, Import}
+use Rattle.tg_words.proofs.Options.{HaveValues, gives_value, value_gives, one_given, have_values}
+use Rattle.tg_words.proofs.LineParts.{no_line, the_line}
+use Rattle.tg_words.proofs.TwoWords.{IsOfTwo}
+
+one_value : (value : Option (List ℕ)) (low high default a b : ℕ) → NumberGiven value low high default a → NumberGiven value low high default b → a ≡ b
+one_value value low high default a b p q =
+    p.number_is ∙ ap (λ asked. unwrap_or asked default) (one_given NumberText (λ text x y s t. s.number_is ∙ sym t.number_is) value p.asked q.asked p.asked_is q.asked_is) ∙ sym q.number_is
+
+-- the same of the value of an option
+pub number_at : (value other : Option (List ℕ)) (low high default : ℕ) (answer : Result ℕ WordsFault) → value ≡ other
+    → Exact (NumberGiven value low high default) answer → Exact (NumberGiven other low high default) answer
+number_at value other low high default answer is exact = subst (λ v. Exact (NumberGiven v low high default) answer) is exact
+
+same_import : (a b : ImportParts) → a.folder ≡ b.folder → a.pack ≡ b.pack → a.chunk ≡ b.chunk → a.width ≡ b.width → a.shard ≡ b.shard → a ≡ b
+same_import a b folder pack chunk width shard =
+    let s = subst (λ f. a ≡ record a { folder = f }) folder refl in
+    let t = subst (λ p. a ≡ record a { folder = b.folder; pack = p }) pack s in
+    let u = subst (λ c. a ≡ record a { folder = b.folder; pack = b.pack; chunk = c }) chunk t in
+    let v = subst (λ w. a ≡ record a { folder = b.folder; pack = b.pack; chunk = b.chunk; width = w }) width u in
+    subst (λ n. a ≡ record { folder = b.folder; pack = b.pack; chunk = b.chunk; width = b.width; shard = n }) shard v
+
+-- what words and options ask is one import
+pub one_import : (folder pack : List ℕ) (options : List Given) (a b : ImportParts) → ImportGiven folder pack options a → ImportGiven folder pack options b → a ≡ b
+one_import folder pack options a b p q =
+    same_import a b (p.folder_is ∙ sym q.folder_is) (p.pack_is ∙ sym q.pack_is)
+    (one_value (value_at options (codes "chunk")) 1 2097152 1048576 a.chunk b.chunk p.chunk q.chunk)
+    (one_value (value_at options (codes "width")) 2 4096 1024 a.width b.width p.width q.width)
+    (one_value (value_at options (codes "shard")) 0 1048576 262144 a.shard b.shard p.shard q.shard)
+
+asked_by : (options : List Given) (name : List ℕ) (low high default number : ℕ) → HaveValues options → NumberGiven (value_at options name) low high default number
+    → NumberAsked options name low high default number
+asked_by options name low high default number have is = record {
+  asked = is.asked;
+  asked_is = value_gives NumberText options name is.asked have is.asked_is;
+  number_is = is.number_is;
+  least = is.least;
+  most = is.most;
+}
+
+given_by : (options : List Given) (name : List ℕ) (low high default number : ℕ) → StandOnce options → NumberAsked options name low high default number
+    → NumberGiven (value_at options name) low high default number
+given_by options name low high default number once is = record {
+  asked = is.asked;
+  asked_is = gives_value NumberText options name is.asked once is.asked_is;
+  number_is = is.number_is;
+  least = is.least;
+  most = is.most;
+}
+
+-- a line by its operands, and the operands of a line
+pub import_by : (rest : List (List ℕ)) (folder pack : List ℕ) (options : List Given) (parts : ImportParts) → WordsSpelling import_names rest (folder ∷ pack ∷ []) options
+    → ImportGiven folder pack options parts → CommandLine (codes "import" ∷ rest) (Import parts)
+import_by rest folder pack options parts operands is =
+    let have = have_values import_names.valued rest (folder ∷ pack ∷ []) options operands in
+    record {
+      options = options;
+      line = record {
+        rest = rest;
+        begins = refl;
+        operands = subst (λ p. WordsSpelling import_names rest (parts.folder ∷ p ∷ []) options) (sym is.pack_is)
+            (subst (λ f. WordsSpelling import_names rest (f ∷ pack ∷ []) options) (sym is.folder_is) operands);
+      };
+      folder_named = λ none. is.folder_named (sym is.folder_is ∙ none);
+      pack_named = λ none. is.pack_named (sym is.pack_is ∙ none);
+      chunk = asked_by options (codes "chunk") 1 2097152 1048576 parts.chunk have is.chunk;
+      width = asked_by options (codes "width") 2 4096 1024 parts.width have is.width;
+      shard = asked_by options (codes "shard") 0 1048576 262144 parts.shard have is.shard;
+    }
+
+pub import_line : (rest : List (List ℕ)) (command : Command) → CommandLine (codes "import" ∷ rest) command → IsOfTwo import_names Import ImportGiven rest command
+import_line rest (Check cid) line = absurd (no_line (codes "import") (codes "check") rest line.line.rest refl line.line.begins)
+import_line rest (Node cid) line = absurd (no_line (codes "import") (codes "node") rest line.line.rest refl line.line.begins)
+import_line rest (CidToHex cid) line = absurd (no_line (codes "import") (codes "cid") rest line.line.rest refl line.line.begins)
+import_line rest (CidToText cid) line = absurd (no_line (codes "import") (codes "cid") rest line.line.rest refl line.line.begins)
+import_line rest (Export parts) line = absurd (no_line (codes "import") (codes "export") rest line.line.rest refl line.line.begins)
+import_line rest (Import parts) line =
+    let operands = the_line (codes "import") import_names rest (parts.folder ∷ parts.pack ∷ []) line.options line.line in
+    record {
+      parts = parts;
+      first = parts.folder;
+      second = parts.pack;
+      options = line.options;
+      is = refl;
+      operands = operands;
+      asked = record {
+        folder_is = refl;
+        folder_named = line.folder_named;
+        pack_is = refl;
+        pack_named = line.pack_named;
+        chunk = given_by line.options (codes "chunk") 1 2097152 1048576 parts.chunk operands.once line.chunk;
+        width = given_by line.options (codes "width") 2 4096 1024 parts.width operands.once line.width;
+        shard = given_by line.options (codes "shard") 0 1048576 262144 parts.shard operands.once line.shard;
+      };
+    }

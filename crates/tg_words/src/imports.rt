@@ -1,0 +1,119 @@
+//! The command `import`.
+
+ghost use Rattle.std.specs.Prelude.{◌≡◌, ℕ, ◌^◌, ◌≤◌, ◌∷◌, map, string_bytes, codes, option_map, IfOk, IfSome, IfNone};
+ghost use Rattle.tg_words.specs.ImportLines.{ImportParts, NumberText};
+ghost use Rattle.tg_words.specs.Operands.{Answers, Exact, ImportGiven, NumberGiven, givens};
+
+use crate::operands::{GivenOption, OptionNames, named, operands_of, two_words, value_of};
+use crate::{Command, WordsFault};
+use std::alloc::Global;
+use std::marker::Model;
+
+/// What is asked of an import: the paths of the folder and of the pack, and the numbers of the layout.
+#[derive(Debug, Drop)]
+pub struct Import {
+    /// The path of the folder, which isn't empty.
+    pub folder: String,
+    /// The path of the pack, which isn't empty.
+    pub pack: String,
+    /// How many bytes a chunk of a file has at most: 1 to 2,097,152.
+    pub chunk: u32,
+    /// How many links a node of a file has at most: 2 to 4,096.
+    pub width: u32,
+    /// The weight above which a directory is sharded: 0 to 1,048,576.
+    pub shard: u64,
+}
+
+impl Model for Import {
+    ghost use Rattle.std.specs.Prelude.{string_bytes};
+    ghost use Rattle.tg_words.specs.ImportLines.{ImportParts};
+
+    ghost Value = { ImportParts };
+
+    ghost view = { λ i. record { folder = string_bytes i.folder; pack = string_bytes i.pack; chunk = i.chunk; width = i.width; shard = i.shard } };
+}
+
+/// The least and the greatest number that an option may have, and the one where the option is absent.
+#[derive(Clone, Copy)]
+struct Setting {
+    low: u32,
+    high: u32,
+    default: u32,
+}
+
+const CHUNK: Setting = Setting {
+    low: 1,
+    high: 2_097_152,
+    default: 1_048_576,
+};
+
+const WIDTH: Setting = Setting {
+    low: 2,
+    high: 4_096,
+    default: 1_024,
+};
+
+const SHARD: Setting = Setting {
+    low: 0,
+    high: 1_048_576,
+    default: 262_144,
+};
+
+/// `import FOLDER PACK [--chunk N] [--width N] [--shard N]`.
+pub fn import_of(alloc: Global, words: &[String]) -> Result<Command, WordsFault>
+    ensures { Answers (codes "import" ∷ map string_bytes words.now) result }
+{
+    let names = OptionNames {
+        valued: &["chunk", "width", "shard"],
+        flags: &[],
+    };
+    let found = operands_of(alloc, words, names)?;
+    let Some((folder, pack)) = two_words(found.positional.as_slice()) else {
+        return Err(WordsFault::Usage);
+    };
+    let import = import_with(alloc, folder, pack, found.options.as_slice())?;
+    Ok(Command::Import(import))
+}
+
+/// The import of this folder into this pack with these options.
+fn import_with(
+    alloc: Global,
+    folder: &str,
+    pack: &str,
+    options: &[GivenOption],
+) -> Result<Import, WordsFault>
+    ensures { Exact (ImportGiven folder.now pack.now (givens options.now)) result }
+{
+    Ok(Import {
+        folder: named(alloc, folder)?,
+        pack: named(alloc, pack)?,
+        chunk: number_given(value_of(options, "chunk"), CHUNK)?,
+        width: number_given(value_of(options, "width"), WIDTH)?,
+        shard: u64::from(number_given(value_of(options, "shard"), SHARD)?),
+    })
+}
+
+/// The number that an option's value writes, or the default where there is none.
+fn number_given(value: Option<&str>, setting: Setting) -> Result<u32, WordsFault>
+    ensures { Exact (NumberGiven (option_map (λ text. text.now) value.entry) setting.low setting.high setting.default) result }
+{
+    let number = match value {
+        Some(text) => number_of(text).ok_or(WordsFault::Usage)?,
+        None => setting.default,
+    };
+    if number < setting.low || setting.high < number {
+        return Err(WordsFault::Usage);
+    }
+    Ok(number)
+}
+
+/// The number below 2^32 that 1 to 20 decimal digits write.
+fn number_of(text: &str) -> Option<u32>
+    ensures some { IfSome result (λ number. NumberText text.now number) }
+    ensures none { IfNone result ((number : ℕ) → NumberText text.now number → 2 ^ 32 ≤ number) }
+{
+    if text.len() > 20 || text.as_bytes().first() == Some(&b'+') {
+        return None;
+    }
+    text.parse::<u32>().ok()
+}
