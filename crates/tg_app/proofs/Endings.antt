@@ -1,5 +1,5 @@
 -- What each exit status says, from how the words end.
-use Rattle.std.proofs.Common.{◌≡◌, ◌≢◌, ℕ, ◌<◌, ◌≤◌, ◌⊎◌, inl, inr, List, [], ◌∷◌, ◌++◌, length, Option, Some, None, refl, sym, ap, ◌∙◌, subst, arith, append-nil, length-append}
+use Rattle.std.proofs.Common.{◌≡◌, ◌≢◌, ℕ, ◌<◌, ◌≤◌, ◌⊎◌, inl, inr, List, [], ◌∷◌, ◌++◌, length, Option, Some, None, Err, refl, sym, ap, ◌∙◌, subst, arith, append-nil, length-append}
 use Rattle.std.proofs.lemmas.Bool.Decides.{eqb_tells}
 use Rattle.tg_bytes.specs.Told.{after_front, IsNothing}
 use Rattle.tg_cid.specs.Cid.{CidParts}
@@ -8,48 +8,421 @@ use Rattle.tg_cid.specs.declared.cid.HashKind.{HashKind}
 use Rattle.tg_cid.specs.declared.cid.HashKind.TheVariants.{Sha256, Identity}
 use Rattle.tg_words.specs.CommandLine.{CommandLine}
 use Rattle.tg_words.specs.declared.Command.{Command}
-use Rattle.tg_words.specs.declared.Command.TheVariants.{Check, Node, CidToHex, CidToText}
-use Rattle.tg_streams.specs.Streams.{Input, Output, InputRose, OutputRose}
+use Rattle.tg_words.specs.declared.Command.TheVariants.{Check, Node, CidToHex, CidToText, Export, Import}
+use Rattle.tg_export.specs.Cars.{CarEnds}
+use Rattle.tg_export.specs.Packed.{ExportEnds, HasPackedCause, IsExportedElse}
+use Rattle.tg_export.specs.declared.fault.ExportFault.{ExportFault}
+use Rattle.tg_export.specs.declared.fault.ExportFault.TheVariants as exports
+use Rattle.tg_files.specs.Folders.{FolderRose}
+use Rattle.tg_files.specs.Packs.{PackRose, PackStep}
+use Rattle.tg_import.specs.declared.fault.ImportFault.{ImportFault}
+use Rattle.tg_import.specs.declared.fault.ImportFault.TheVariants as imports
+use Rattle.tg_import.specs.declared.summary.Options.{Options}
+use Rattle.tg_import_pack.specs.Packing.{IsPackingCause}
+use Rattle.tg_model.specs.Queries.{QueryParts}
+use Rattle.tg_model.specs.Stores.{Store}
+use Rattle.tg_model.specs.declared.stores.BlocksFault.TheVariants as stores
+use Rattle.tg_store.specs.declared.fault.PackFault.TheVariants as packs
+use Rattle.tg_walk.specs.declared.fault.ResolveFault.TheVariants as paths
+use Rattle.tg_walk.specs.declared.fault.WalkFault.TheVariants as walks
+use Rattle.tg_streams.specs.Streams.{Input, InputQuiet, Output, InputRose, OutputQuiet, OutputRose}
 use Rattle.tg_app.specs.Lines.{status_of, exit_status}
-use Rattle.tg_app.specs.Blocks.{Untouched, TookBlock, PassedLimit}
+use Rattle.tg_app.specs.Blocks.{OutputUntouched, PassedLimit, TookBlock, Untouched}
 use Rattle.tg_app.specs.Check.{Checked, CheckedOther, CheckEnds, CollisionPair, Agrees, CheckStatus}
 use Rattle.tg_app.specs.Node.{Noded, NodedOther, NodeEnds, HasText, HasNoText, NodeStatus}
-use Rattle.tg_app.specs.CidLines.{PutsLine, PrintEnds}
-use Rattle.tg_app.specs.Commands.{CommandEnds, Ends, TheCommand, WantsMemory}
+use Rattle.tg_app.specs.CidLines.{HexLine, PrintEnds, PutsLine, TextLine}
+use Rattle.tg_app.specs.Commands.{AllUntouched, CommandEnds, Ends, IsNoCommand, NoCommandEnds, ReadsBlock, UsesNoFiles, WantsMemory}
+use Rattle.tg_app.specs.Exports.{ExportAnswers, Exported, ExportedNothing, HasAnswer, IsExportRefusal, IsRisen, LeadsNowhere, TellsExport}
+use Rattle.tg_app.specs.Imports.{ImportAnswers, Imported, IsGoodFolder, IsImportRefusal, options_of, refusal_of_import}
+use Rattle.tg_app.specs.Objects.{Files, Objects, SameFiles}
 use Rattle.tg_app.specs.declared.refusal.Refusal.{Refusal}
 use Rattle.tg_app.specs.declared.refusal.Refusal.TheVariants.{Usage, BadDigest, BadBlock, BlockLimit, InputFault, SinkFault, OutOfMemory}
 
+-- ---- statuses
+
+not_zero : (refusal : Refusal) → status_of refusal ≡ 0 → ⊥
+not_zero Usage e = cc
+not_zero other e = cc
+
 -- ---- the command that the words spell
 
-memory_ends : (command : Command) (input : Input) (out : Output) → Untouched input out → CommandEnds command input out (Some OutOfMemory)
-memory_ends (Check cid) input out untouched = untouched
-memory_ends (Node cid) input out untouched = inl untouched
-memory_ends (CidToHex cid) input out untouched = (untouched.untaken, untouched.unput)
-memory_ends (CidToText cid) input out untouched = (untouched.untaken, untouched.unput)
+unbegun : (step : PackStep) (same : Type 0) (out : Output) (q : QueryParts) → same → OutputUntouched out → ExportAnswers q step same out (Some OutOfMemory)
+unbegun step same out q it unput = inr (inr (record { same = it; unput = unput; is = refl }))
 
-pub ends_of : (words : List (List ℕ)) (command : Command) (input : Input) (out : Output) (end : Option Refusal) → CommandLine words command
-    → Ends words input out end → CommandEnds command input out end
-ends_of words command input out end line (inl none) = absurd (none.none command line)
-ends_of words command input out end line (inr (inl memory)) = subst (CommandEnds command input out) (sym memory.end_is) (memory_ends command input out memory.untouched)
-ends_of words command input out end line (inr (inr did)) = subst (λ (k : Command). CommandEnds k input out end) (did.the.only command line) did.ends
+not_imported : (options : Options) (files : Files) (out : Output) → SameFiles files → OutputUntouched out → ImportAnswers options files out (Some OutOfMemory)
+not_imported options files out same unput =
+    inr (inr (record { same_folder = same.folder; same_pack = same.pack; unput = unput; is = refl }))
 
--- ---- want of memory
+memory_ends : (command : Command) (objects : Objects) → AllUntouched objects → CommandEnds command objects (Some OutOfMemory)
+memory_ends (Check cid) objects all = (all.files, all.streams)
+memory_ends (Node cid) objects all = (all.files, inl all.streams)
+memory_ends (CidToHex cid) objects all = (all.files, all.streams.untaken, all.streams.unput)
+memory_ends (CidToText cid) objects all = (all.files, all.streams.untaken, all.streams.unput)
+memory_ends (Export parts) objects all =
+    (all.files.folder, all.streams.untaken, unbegun objects.files.pack objects.files.same_pack objects.out parts.query all.files.pack all.streams.unput)
+memory_ends (Import parts) objects all = (all.streams.untaken, not_imported (options_of parts) objects.files objects.out all.files all.streams.unput)
 
-command_memory : (words : List (List ℕ)) (command : Command) (input : Input) (out : Output) (end : Option Refusal) → TheCommand words command → exit_status end ≡ 8
-    → CommandEnds command input out end → WantsMemory words input out
-command_memory words (Check cid) input out (Some OutOfMemory) the e ends = inl ends
-command_memory words (Node cid) input out (Some OutOfMemory) the e ends = elim ends [ inl untouched ↦ inl untouched | inr read ↦ inr (cid, the, read) ]
-command_memory words (CidToHex cid) input out (Some OutOfMemory) the e ends = inl (record { untaken = ends.0; unput = ends.1 })
-command_memory words (CidToText cid) input out (Some OutOfMemory) the e ends = inl (record { untaken = ends.0; unput = ends.1 })
-command_memory words command input out end the e ends = cc
+pub ends_of : (words : List (List ℕ)) (command : Command) (objects : Objects) (end : Option Refusal) → CommandLine words command
+    → Ends words objects end → CommandEnds command objects end
+ends_of words command objects end line (inl none) = absurd (none.none command line)
+ends_of words command objects end line (inr (inl memory)) = subst (CommandEnds command objects) (sym memory.end_is) (memory_ends command objects memory.untouched)
+ends_of words command objects end line (inr (inr did)) = subst (λ (k : Command). CommandEnds k objects end) (did.the.only command line) did.ends
+
+-- ---- ends by their status
+
+eight_is : (end : Option Refusal) → exit_status end ≡ 8 → end ≡ Some OutOfMemory
+eight_is (Some OutOfMemory) e = refl
+eight_is end e = cc
+
+two_is : (end : Option Refusal) → exit_status end ≡ 2 → end ≡ Some Usage
+two_is (Some Usage) e = refl
+two_is end e = cc
 
 usage_has_2 : (end : Option Refusal) → end ≡ Some Usage → exit_status end ≡ 8 → ⊥
 usage_has_2 end e eight = let two : exit_status (Some Usage) ≡ 8 = sym (ap exit_status e) ∙ eight in cc
 
-pub memory_of : (words : List (List ℕ)) (input : Input) (out : Output) (end : Option Refusal) → exit_status end ≡ 8 → Ends words input out end → WantsMemory words input out
-memory_of words input out end e (inl none) = absurd (usage_has_2 end none.end_is e)
-memory_of words input out end e (inr (inl memory)) = inl memory.untouched
-memory_of words input out end e (inr (inr did)) = command_memory words did.command input out end did.the e did.ends
+pub memory_of : (words : List (List ℕ)) (objects : Objects) (end : Option Refusal) → exit_status end ≡ 8 → Ends words objects end → WantsMemory words objects
+memory_of words objects end e (inl none) = absurd (usage_has_2 end none.end_is e)
+memory_of words objects end e (inr (inl memory)) = inl memory.untouched
+memory_of words objects end e (inr (inr did)) = inr (did.command, did.the, subst (CommandEnds did.command objects) (eight_is end e) did.ends)
+
+-- no command ends as one that is none
+no_export_tells : (fault : ExportFault) → TellsExport fault Usage → ⊥
+no_export_tells (exports.Pack (packs.NotCar at)) h = cc
+no_export_tells (exports.Pack (packs.BadDigest at)) h = cc
+no_export_tells (exports.Pack packs.Unfinished) h = cc
+no_export_tells (exports.Pack (packs.Truncated at)) h = cc
+no_export_tells (exports.Pack packs.Failed) h = cc
+no_export_tells (exports.Pack (packs.BlockLimit at)) h = cc
+no_export_tells (exports.Pack packs.OutOfMemory) h = cc
+no_export_tells (exports.Resolve paths.NoRoot) h = cc
+no_export_tells (exports.Resolve (paths.NotThere segment)) h = cc
+no_export_tells (exports.Resolve (paths.NotFolder segment)) h = cc
+no_export_tells (exports.Resolve (paths.BadBlock cid fault)) (text, is_text, h) = cc
+no_export_tells (exports.Resolve (paths.Gone cid)) (text, is_text, h) = cc
+no_export_tells (exports.Resolve (paths.Store (stores.Changed want got))) h = cc
+no_export_tells (exports.Resolve (paths.Store stores.Failed)) h = cc
+no_export_tells (exports.Resolve (paths.Store stores.OutOfMemory)) h = cc
+no_export_tells (exports.Resolve paths.OutOfMemory) h = cc
+no_export_tells (exports.Walk (walks.NotThere segment)) h = cc
+no_export_tells (exports.Walk (walks.NotFolder segment)) h = cc
+no_export_tells (exports.Walk (walks.BadBlock cid fault)) (text, is_text, h) = cc
+no_export_tells (exports.Walk (walks.Gone cid)) (text, is_text, h) = cc
+no_export_tells (exports.Walk walks.TooDeep) h = cc
+no_export_tells (exports.Walk (walks.Store (stores.Changed want got))) h = cc
+no_export_tells (exports.Walk (walks.Store stores.Failed)) h = cc
+no_export_tells (exports.Walk (walks.Store stores.OutOfMemory)) h = cc
+no_export_tells (exports.Walk walks.OutOfMemory) h = cc
+no_export_tells exports.SinkFault h = cc
+no_export_tells exports.OutOfMemory h = cc
+
+no_export_usage : (q : QueryParts) (step : PackStep) (same : Type 0) (out : Output) → ExportAnswers q step same out (Some Usage) → ⊥
+no_export_usage q step same out (inl refused) = elim refused.tells [ inl tells ↦ no_export_tells refused.fault tells | inr memory ↦ wrong memory.1 ]
+  where
+    wrong : Usage ≡ OutOfMemory → ⊥
+    wrong e = cc
+no_export_usage q step same out (inr (inl none)) = let e = none.is in cc
+no_export_usage q step same out (inr (inr unbegun)) = let e = unbegun.is in cc
+
+no_import_tells : (fault : ImportFault) → Usage ≡ refusal_of_import fault → ⊥
+no_import_tells imports.Folder h = cc
+no_import_tells imports.Keep h = cc
+no_import_tells (imports.TooDeep path) h = cc
+no_import_tells (imports.BadName path) h = cc
+no_import_tells (imports.LongName path) h = cc
+no_import_tells (imports.SameHash first second) h = cc
+no_import_tells (imports.NotPlain path) h = cc
+no_import_tells (imports.TooBig path) h = cc
+no_import_tells imports.OutOfMemory h = cc
+
+no_import_usage : (options : Options) (files : Files) (out : Output) → ImportAnswers options files out (Some Usage) → ⊥
+no_import_usage options files out (inl (inl refused)) = elim refused.is [ inl tells ↦ no_import_tells refused.fault tells | inr memory ↦ wrong memory.1 ]
+  where
+    wrong : Usage ≡ OutOfMemory → ⊥
+    wrong e = cc
+no_import_usage options files out (inr (inl none)) = let e = none.is in cc
+no_import_usage options files out (inl (inr (inl none))) = let e = none.is in cc
+no_import_usage options files out (inl (inr (inr (inl unput)))) = let e = unput.is in cc
+no_import_usage options files out (inl (inr (inr (inr unsaid)))) = let e = unsaid.is in cc
+no_import_usage options files out (inr (inr unbegun)) = let e = unbegun.is in cc
+
+no_usage : (command : Command) (objects : Objects) → CommandEnds command objects (Some Usage) → ⊥
+no_usage (Check cid) objects ends = absurd ends.1.0
+no_usage (Node cid) objects ends = absurd ends.1.0
+no_usage (CidToHex cid) objects ends = absurd ends.2
+no_usage (CidToText cid) objects ends = absurd ends.2
+no_usage (Export parts) objects ends = no_export_usage parts.query objects.files.pack objects.files.same_pack objects.out ends.2
+no_usage (Import parts) objects ends = no_import_usage (options_of parts) objects.files objects.out ends.1
+
+memory_isnt_2 : (end : Option Refusal) → end ≡ Some OutOfMemory → exit_status end ≡ 2 → ⊥
+memory_isnt_2 end e two = let eight : exit_status (Some OutOfMemory) ≡ 2 = sym (ap exit_status e) ∙ two in cc
+
+no_command_of : (words : List (List ℕ)) (objects : Objects) (end : Option Refusal) → exit_status end ≡ 2 → Ends words objects end → NoCommandEnds words objects end
+no_command_of words objects end e (inl none) = none
+no_command_of words objects end e (inr (inl memory)) = absurd (memory_isnt_2 end memory.end_is e)
+no_command_of words objects end e (inr (inr did)) = absurd (no_usage did.command objects (subst (CommandEnds did.command objects) (two_is end e) did.ends))
+
+pub usage_of : (words : List (List ℕ)) (objects : Objects) (end : Option Refusal) → exit_status end ≡ 2 → Ends words objects end → IsNoCommand words
+usage_of words objects end e ends = (no_command_of words objects end e ends).none
+
+pub untouched_of : (words : List (List ℕ)) (objects : Objects) (end : Option Refusal) → exit_status end ≡ 2 → Ends words objects end → AllUntouched objects
+untouched_of words objects end e ends = (no_command_of words objects end e ends).untouched
+
+pub refused_of : (words : List (List ℕ)) (objects : Objects) (end : Option Refusal) → IsNoCommand words → Ends words objects end → (exit_status end ≡ 2) ⊎ (exit_status end ≡ 8)
+refused_of words objects end never (inl none) = inl (ap exit_status none.end_is)
+refused_of words objects end never (inr (inl memory)) = inr (ap exit_status memory.end_is)
+refused_of words objects end never (inr (inr did)) = absurd (never did.command did.the.spelled)
+
+-- ---- commands over blocks
+
+pub kept_of : (command : Command) (objects : Objects) (end : Option Refusal) → UsesNoFiles command → CommandEnds command objects end → SameFiles objects.files
+kept_of (Check cid) objects end uses ends = ends.0
+kept_of (Node cid) objects end uses ends = ends.0
+kept_of (CidToHex cid) objects end uses ends = ends.0
+kept_of (CidToText cid) objects end uses ends = ends.0
+kept_of (Export parts) objects end uses ends = absurd uses
+kept_of (Import parts) objects end uses ends = absurd uses
+
+check_fault : (cid : CidParts) (input : Input) (out : Output) (end : Option Refusal) → exit_status end ≡ 6 → CheckEnds cid input out end → InputRose input ⊎ OutputRose out
+check_fault cid input out (Some InputFault) e ends = inl ends.0.rose
+check_fault cid input out (Some SinkFault) e ends = inr ends.front.rose
+check_fault cid input out (Some OutOfMemory) e ends = cc
+check_fault cid input out (Some BlockLimit) e ends = cc
+check_fault cid input out (Some (BadDigest text)) e ends = cc
+check_fault cid input out None e ends = cc
+check_fault cid input out (Some refusal) e ends = absurd ends.0
+
+node_fault : (cid : CidParts) (input : Input) (out : Output) (end : Option Refusal) → exit_status end ≡ 6 → NodeEnds cid input out end → InputRose input ⊎ OutputRose out
+node_fault cid input out (Some InputFault) e ends = inl ends.0.rose
+node_fault cid input out (Some SinkFault) e ends = inr ends.front.rose
+node_fault cid input out (Some OutOfMemory) e ends = cc
+node_fault cid input out (Some BlockLimit) e ends = cc
+node_fault cid input out (Some (BadDigest text)) e ends = cc
+node_fault cid input out (Some (BadBlock text fault)) e ends = cc
+node_fault cid input out None e ends = cc
+node_fault cid input out (Some refusal) e ends = absurd ends.0
+
+print_fault : (IsLine : List ℕ → Type 0) (out : Output) (end : Option Refusal) → exit_status end ≡ 6 → PrintEnds IsLine out end → OutputRose out
+print_fault IsLine out (Some SinkFault) e ends = ends.front.rose
+print_fault IsLine out (Some OutOfMemory) e ends = cc
+print_fault IsLine out None e ends = cc
+print_fault IsLine out (Some refusal) e ends = absurd ends
+
+pub fault_of : (command : Command) (objects : Objects) (end : Option Refusal) → UsesNoFiles command → exit_status end ≡ 6 → CommandEnds command objects end
+    → InputRose objects.input ⊎ OutputRose objects.out
+fault_of (Check cid) objects end uses e ends = check_fault cid objects.input objects.out end e ends.1
+fault_of (Node cid) objects end uses e ends = node_fault cid objects.input objects.out end e ends.1
+fault_of (CidToHex cid) objects end uses e ends = inr (print_fault (HexLine cid) objects.out end e ends.2)
+fault_of (CidToText cid) objects end uses e ends = inr (print_fault (TextLine cid) objects.out end e ends.2)
+fault_of (Export parts) objects end uses e ends = absurd uses
+fault_of (Import parts) objects end uses e ends = absurd uses
+
+check_passed : (cid : CidParts) (input : Input) (out : Output) (end : Option Refusal) → exit_status end ≡ 7 → CheckEnds cid input out end → PassedLimit input × OutputUntouched out
+check_passed cid input out (Some InputFault) e ends = cc
+check_passed cid input out (Some SinkFault) e ends = cc
+check_passed cid input out (Some OutOfMemory) e ends = cc
+check_passed cid input out (Some BlockLimit) e ends = (ends.0, ends.1)
+check_passed cid input out (Some (BadDigest text)) e ends = cc
+check_passed cid input out None e ends = cc
+check_passed cid input out (Some refusal) e ends = absurd ends.0
+
+node_passed : (cid : CidParts) (input : Input) (out : Output) (end : Option Refusal) → exit_status end ≡ 7 → NodeEnds cid input out end → PassedLimit input × OutputUntouched out
+node_passed cid input out (Some InputFault) e ends = cc
+node_passed cid input out (Some SinkFault) e ends = cc
+node_passed cid input out (Some OutOfMemory) e ends = cc
+node_passed cid input out (Some BlockLimit) e ends = (ends.0, ends.1)
+node_passed cid input out (Some (BadDigest text)) e ends = cc
+node_passed cid input out (Some (BadBlock text fault)) e ends = cc
+node_passed cid input out None e ends = cc
+node_passed cid input out (Some refusal) e ends = absurd ends.0
+
+pub passed_of : (command : Command) (objects : Objects) (end : Option Refusal) → ReadsBlock command → exit_status end ≡ 7 → CommandEnds command objects end
+    → PassedLimit objects.input × OutputUntouched objects.out
+passed_of (Check cid) objects end reads e ends = check_passed cid objects.input objects.out end e ends.1
+passed_of (Node cid) objects end reads e ends = node_passed cid objects.input objects.out end e ends.1
+passed_of (CidToHex cid) objects end reads e ends = absurd reads
+passed_of (CidToText cid) objects end reads e ends = absurd reads
+passed_of (Export parts) objects end reads e ends = absurd reads
+passed_of (Import parts) objects end reads e ends = absurd reads
+
+-- ---- faults that weren't counted
+
+-- neither stream counted a fault
+AreQuiet : Input → Output → Type 0
+AreQuiet input out = InputQuiet input × OutputQuiet out
+
+check_quiet : (cid : CidParts) (input : Input) (out : Output) (end : Option Refusal) → exit_status end ≢ 6 → CheckEnds cid input out end → InputQuiet input × OutputQuiet out
+check_quiet cid input out None ne ends = (ends.read.taken.quiet, ends.put.quiet)
+check_quiet cid input out (Some SinkFault) ne ends = absurd (ne refl)
+check_quiet cid input out (Some OutOfMemory) ne ends = (ends.untaken.quiet, ends.unput.quiet)
+check_quiet cid input out (Some InputFault) ne ends = absurd (ne refl)
+check_quiet cid input out (Some BlockLimit) ne ends = (ends.0.quiet, ends.1.quiet)
+check_quiet cid input out (Some (BadDigest text)) ne ends = (ends.0.1.taken.quiet, ends.1.quiet)
+check_quiet cid input out (Some refusal) ne ends = absurd ends.0
+
+node_quiet : (cid : CidParts) (input : Input) (out : Output) (end : Option Refusal) → exit_status end ≢ 6 → NodeEnds cid input out end → InputQuiet input × OutputQuiet out
+node_quiet cid input out None ne ends = (ends.read.taken.quiet, ends.put.quiet)
+node_quiet cid input out (Some SinkFault) ne ends = absurd (ne refl)
+node_quiet cid input out (Some OutOfMemory) ne ends =
+    elim ends [ inl untouched ↦ (untouched.untaken.quiet, untouched.unput.quiet) | inr read ↦ (read.read.taken.quiet, read.unput.quiet) ]
+node_quiet cid input out (Some InputFault) ne ends = absurd (ne refl)
+node_quiet cid input out (Some BlockLimit) ne ends = (ends.0.quiet, ends.1.quiet)
+node_quiet cid input out (Some (BadDigest text)) ne ends = (ends.0.1.taken.quiet, ends.1.quiet)
+node_quiet cid input out (Some (BadBlock text fault)) ne ends = (ends.1.read.taken.quiet, ends.1.unput.quiet)
+node_quiet cid input out (Some refusal) ne ends = absurd ends.0
+
+print_quiet : (IsLine : List ℕ → Type 0) (out : Output) (end : Option Refusal) → exit_status end ≢ 6 → PrintEnds IsLine out end → OutputQuiet out
+print_quiet IsLine out None ne ends = ends.put.quiet
+print_quiet IsLine out (Some SinkFault) ne ends = absurd (ne refl)
+print_quiet IsLine out (Some OutOfMemory) ne ends = ends.quiet
+print_quiet IsLine out (Some refusal) ne ends = absurd ends
+
+-- a CAR that doesn't end with a fault of out
+car_quiet : (q : QueryParts) (told : Option Store) (out : Output) (fault : ExportFault) → (fault ≡ exports.SinkFault → ⊥) → CarEnds q told out (Err fault) → OutputQuiet out
+car_quiet q told out (exports.Pack fault) never ends = absurd ends
+car_quiet q told out (exports.Resolve fault) never ends = ends.0.quiet
+car_quiet q told out (exports.Walk fault) never ends = ends.is_done.quiet
+car_quiet q told out exports.SinkFault never ends = absurd (never refl)
+car_quiet q told out exports.OutOfMemory never ends = elim ends [ inl nothing ↦ nothing.quiet | inr car ↦ car.is_done.quiet ]
+
+export_ends_quiet : (q : QueryParts) (step : PackStep) (out : Output) (fault : ExportFault) → (fault ≡ exports.SinkFault → ⊥) → ExportEnds q step out (Err fault) → OutputQuiet out
+export_ends_quiet q step out (exports.Pack fault) never ends = ends.1.quiet
+export_ends_quiet q step out (exports.Resolve fault) never ends = car_quiet q ends.told out (exports.Resolve fault) never ends.ends
+export_ends_quiet q step out (exports.Walk fault) never ends = car_quiet q ends.told out (exports.Walk fault) never ends.ends
+export_ends_quiet q step out exports.SinkFault never ends = absurd (never refl)
+export_ends_quiet q step out exports.OutOfMemory never ends =
+    elim ends [ inl nothing ↦ nothing.quiet | inr attached ↦ car_quiet q attached.told out exports.OutOfMemory never attached.ends ]
+
+-- a fault of out is refused with status 6
+sink_is_6 : (fault : ExportFault) (refusal : Refusal) → fault ≡ exports.SinkFault → IsExportRefusal fault refusal → status_of refusal ≡ 6
+sink_is_6 fault refusal e h = by (subst (λ (f : ExportFault). IsExportRefusal f refusal) e h)
+  where
+    by : IsExportRefusal exports.SinkFault refusal → status_of refusal ≡ 6
+    by (inl tells) = ap status_of tells
+    by (inr memory) = absurd memory.0
+
+export_quiet : (q : QueryParts) (step : PackStep) (same : Type 0) (out : Output) (end : Option Refusal) → exit_status end ≢ 6 → ExportAnswers q step same out end → OutputQuiet out
+export_quiet q step same out None ne ends = ends.ends.ends.is_done.quiet
+export_quiet q step same out (Some refusal) ne (inl refused) =
+    export_ends_quiet q step out refused.fault (λ sink. ne (sink_is_6 refused.fault refusal sink refused.tells)) refused.ends
+export_quiet q step same out (Some refusal) ne (inr (inl none)) = none.unput.quiet
+export_quiet q step same out (Some refusal) ne (inr (inr unbegun)) = unbegun.unput.quiet
+
+import_quiet : (options : Options) (files : Files) (out : Output) (end : Option Refusal) → exit_status end ≢ 6 → ImportAnswers options files out end → OutputQuiet out
+import_quiet options files out None ne ends = ends.is_said.is_put.quiet
+import_quiet options files out (Some refusal) ne (inl (inl refused)) = refused.unput.quiet
+import_quiet options files out (Some refusal) ne (inr (inl none)) = none.unput.quiet
+import_quiet options files out (Some refusal) ne (inl (inr (inl none))) = none.unput.quiet
+import_quiet options files out (Some refusal) ne (inl (inr (inr (inl unput)))) = absurd (ne (ap status_of unput.is))
+import_quiet options files out (Some refusal) ne (inl (inr (inr (inr unsaid)))) = unsaid.in_pack.is_said.quiet
+import_quiet options files out (Some refusal) ne (inr (inr unbegun)) = unbegun.unput.quiet
+
+command_quiet : (command : Command) (objects : Objects) (end : Option Refusal) → exit_status end ≢ 6 → CommandEnds command objects end
+    → InputQuiet objects.input × OutputQuiet objects.out
+command_quiet (Check cid) objects end ne ends = check_quiet cid objects.input objects.out end ne ends.1
+command_quiet (Node cid) objects end ne ends = node_quiet cid objects.input objects.out end ne ends.1
+command_quiet (CidToHex cid) objects end ne ends = (ends.1.quiet, print_quiet (HexLine cid) objects.out end ne ends.2)
+command_quiet (CidToText cid) objects end ne ends = (ends.1.quiet, print_quiet (TextLine cid) objects.out end ne ends.2)
+command_quiet (Export parts) objects end ne ends = (ends.1.quiet, export_quiet parts.query objects.files.pack objects.files.same_pack objects.out end ne ends.2)
+command_quiet (Import parts) objects end ne ends = (ends.0.quiet, import_quiet (options_of parts) objects.files objects.out end ne ends.1)
+
+pub quiet_of : (words : List (List ℕ)) (objects : Objects) (end : Option Refusal) → exit_status end ≢ 6 → Ends words objects end
+    → InputQuiet objects.input × OutputQuiet objects.out
+quiet_of words objects end ne (inl none) = (none.untouched.streams.untaken.quiet, none.untouched.streams.unput.quiet)
+quiet_of words objects end ne (inr (inl memory)) = (memory.untouched.streams.untaken.quiet, memory.untouched.streams.unput.quiet)
+quiet_of words objects end ne (inr (inr did)) = command_quiet did.command objects end ne did.ends
+
+-- ---- `export`
+
+pub exported_of : (q : QueryParts) (step : PackStep) (same : Type 0) (out : Output) (end : Option Refusal) → exit_status end ≡ 0 → ExportAnswers q step same out end → Exported q step out
+exported_of q step same out None e ends = ends
+exported_of q step same out (Some refusal) e ends = absurd (not_zero refusal e)
+
+tells_9 : (fault : ExportFault) (refusal : Refusal) → status_of refusal ≡ 9 → TellsExport fault refusal → LeadsNowhere fault
+tells_9 (exports.Pack (packs.NotCar at)) refusal e h = let k = sym (ap status_of h) ∙ e in cc
+tells_9 (exports.Pack (packs.BadDigest at)) refusal e h = let k = sym (ap status_of h) ∙ e in cc
+tells_9 (exports.Pack packs.Unfinished) refusal e h = let k = sym (ap status_of h) ∙ e in cc
+tells_9 (exports.Pack (packs.Truncated at)) refusal e h = let k = sym (ap status_of h) ∙ e in cc
+tells_9 (exports.Pack packs.Failed) refusal e h = let k = sym (ap status_of h) ∙ e in cc
+tells_9 (exports.Pack (packs.BlockLimit at)) refusal e h = let k = sym (ap status_of h) ∙ e in cc
+tells_9 (exports.Pack packs.OutOfMemory) refusal e h = let k = sym (ap status_of h) ∙ e in cc
+tells_9 (exports.Resolve (paths.Store (stores.Changed want got))) refusal e h = let k = sym (ap status_of h) ∙ e in cc
+tells_9 (exports.Resolve (paths.Store stores.Failed)) refusal e h = let k = sym (ap status_of h) ∙ e in cc
+tells_9 (exports.Resolve (paths.Store stores.OutOfMemory)) refusal e h = let k = sym (ap status_of h) ∙ e in cc
+tells_9 (exports.Resolve paths.OutOfMemory) refusal e h = let k = sym (ap status_of h) ∙ e in cc
+tells_9 (exports.Walk walks.TooDeep) refusal e h = let k = sym (ap status_of h) ∙ e in cc
+tells_9 (exports.Walk (walks.Store (stores.Changed want got))) refusal e h = let k = sym (ap status_of h) ∙ e in cc
+tells_9 (exports.Walk (walks.Store stores.Failed)) refusal e h = let k = sym (ap status_of h) ∙ e in cc
+tells_9 (exports.Walk (walks.Store stores.OutOfMemory)) refusal e h = let k = sym (ap status_of h) ∙ e in cc
+tells_9 (exports.Walk walks.OutOfMemory) refusal e h = let k = sym (ap status_of h) ∙ e in cc
+tells_9 exports.SinkFault refusal e h = let k = sym (ap status_of h) ∙ e in cc
+tells_9 exports.OutOfMemory refusal e h = let k = sym (ap status_of h) ∙ e in cc
+tells_9 (exports.Resolve (paths.BadBlock cid fault)) refusal e (text, is_text, h) = let k = sym (ap status_of h) ∙ e in cc
+tells_9 (exports.Resolve (paths.Gone cid)) refusal e (text, is_text, h) = let k = sym (ap status_of h) ∙ e in cc
+tells_9 (exports.Walk (walks.BadBlock cid fault)) refusal e (text, is_text, h) = let k = sym (ap status_of h) ∙ e in cc
+tells_9 (exports.Walk (walks.Gone cid)) refusal e (text, is_text, h) = let k = sym (ap status_of h) ∙ e in cc
+tells_9 (exports.Resolve paths.NoRoot) refusal e h = tt
+tells_9 (exports.Resolve (paths.NotThere segment)) refusal e h = tt
+tells_9 (exports.Resolve (paths.NotFolder segment)) refusal e h = tt
+tells_9 (exports.Walk (walks.NotThere segment)) refusal e h = tt
+tells_9 (exports.Walk (walks.NotFolder segment)) refusal e h = tt
+
+nine_refused : (fault : ExportFault) (refusal : Refusal) → status_of refusal ≡ 9 → IsExportRefusal fault refusal → LeadsNowhere fault
+nine_refused fault refusal e (inl tells) = tells_9 fault refusal e tells
+nine_refused fault refusal e (inr memory) = let k = sym (ap status_of memory.1) ∙ e in cc
+
+pub nowhere_of : (q : QueryParts) (step : PackStep) (same : Type 0) (out : Output) (end : Option Refusal) → exit_status end ≡ 9 → ExportAnswers q step same out end → ExportedNothing q step out
+nowhere_of q step same out None e ends = cc
+nowhere_of q step same out (Some refusal) e (inl refused) =
+    record { fault = refused.fault; nowhere = nine_refused refused.fault refusal e refused.tells; ends = refused.ends }
+nowhere_of q step same out (Some refusal) e (inr (inl none)) = let k = sym (ap status_of none.is) ∙ e in cc
+nowhere_of q step same out (Some refusal) e (inr (inr unbegun)) = let k = sym (ap status_of unbegun.is) ∙ e in cc
+
+-- want of memory alone is left
+else_8 : (q : QueryParts) (step : PackStep) (out : Output) (fault : ExportFault) (refusal : Refusal) → (IsRisen step → ⊥) → (OutputRose out → ⊥)
+    → IsExportedElse (Err fault) → IsExportRefusal fault refusal → ExportEnds q step out (Err fault) → HasPackedCause step (Err fault) → status_of refusal ≡ 8
+else_8 q step out (exports.Pack packs.Failed) refusal no_pack no_out k tells ends cause = absurd (no_pack ends.0.rose)
+else_8 q step out (exports.Resolve (paths.Store stores.Failed)) refusal no_pack no_out k tells ends cause = absurd (no_pack cause)
+else_8 q step out (exports.Walk (walks.Store stores.Failed)) refusal no_pack no_out k tells ends cause = absurd (no_pack cause)
+else_8 q step out exports.SinkFault refusal no_pack no_out k tells ends cause = absurd (no_out ends.ends.is_done.rose)
+else_8 q step out exports.OutOfMemory refusal no_pack no_out k (inl tells) ends cause = ap status_of tells
+else_8 q step out exports.OutOfMemory refusal no_pack no_out k (inr memory) ends cause = absurd memory.0
+else_8 q step out fault refusal no_pack no_out k tells ends cause = absurd k
+
+pub export_answered_of : (q : QueryParts) (step : PackStep) (same : Type 0) (out : Output) (end : Option Refusal) → HasAnswer q step.content_old
+    → (IsRisen step → ⊥) → (OutputRose out → ⊥) → ExportAnswers q step same out end → (exit_status end ≡ 8) ⊎ (exit_status end ≡ 0)
+export_answered_of q step same out None answer no_pack no_out ends = inr refl
+export_answered_of q step same out (Some refusal) answer no_pack no_out (inl refused) =
+    inl (else_8 q step out refused.fault refusal no_pack no_out (refused.else answer) refused.tells refused.ends refused.cause)
+export_answered_of q step same out (Some refusal) answer no_pack no_out (inr (inl none)) = absurd (no_pack none.rose.rose)
+export_answered_of q step same out (Some refusal) answer no_pack no_out (inr (inr unbegun)) = inl (ap status_of unbegun.is)
+
+-- ---- `import`
+
+pub imported_of : (options : Options) (files : Files) (out : Output) (end : Option Refusal) → exit_status end ≡ 0 → ImportAnswers options files out end → Imported options files out
+imported_of options files out None e ends = ends
+imported_of options files out (Some refusal) e ends = absurd (not_zero refusal e)
+
+good_8 : (options : Options) (files : Files) (fault : ImportFault) (refusal : Refusal) → IsGoodFolder options files.folder.tree_new
+    → (FolderRose files.folder → ⊥) → (PackRose files.pack → ⊥) → IsPackingCause options files.folder.tree_new fault files.folder files.pack
+    → IsImportRefusal fault refusal → status_of refusal ≡ 8
+good_8 options files imports.Folder refusal good no_folder no_pack cause is = absurd (no_folder cause.0)
+good_8 options files imports.Keep refusal good no_folder no_pack cause is = absurd (no_pack cause.1)
+good_8 options files imports.OutOfMemory refusal good no_folder no_pack cause (inl is) = ap status_of is
+good_8 options files imports.OutOfMemory refusal good no_folder no_pack cause (inr memory) = absurd memory.0
+good_8 options files fault refusal good no_folder no_pack cause is = absurd (good fault cause.2)
+
+pub import_answered_of : (options : Options) (files : Files) (out : Output) (end : Option Refusal) → IsGoodFolder options files.folder.tree_new
+    → (FolderRose files.folder → ⊥) → (PackRose files.pack → ⊥) → (OutputRose out → ⊥) → ImportAnswers options files out end
+    → (exit_status end ≡ 8) ⊎ (exit_status end ≡ 0)
+import_answered_of options files out None good no_folder no_pack no_out ends = inr refl
+import_answered_of options files out (Some refusal) good no_folder no_pack no_out (inl (inl refused)) =
+    inl (good_8 options files refused.fault refusal good no_folder no_pack refused.cause refused.is)
+import_answered_of options files out (Some refusal) good no_folder no_pack no_out (inr (inl none)) = absurd (no_folder none.rose)
+import_answered_of options files out (Some refusal) good no_folder no_pack no_out (inl (inr (inl none))) = absurd (no_pack none.rose)
+import_answered_of options files out (Some refusal) good no_folder no_pack no_out (inl (inr (inr (inl unput)))) = absurd (no_out unput.in_pack.is_said.is_put.rose)
+import_answered_of options files out (Some refusal) good no_folder no_pack no_out (inl (inr (inr (inr unsaid)))) = inl (ap status_of unsaid.is)
+import_answered_of options files out (Some refusal) good no_folder no_pack no_out (inr (inr unbegun)) = inl (ap status_of unbegun.is)
 
 -- ---- bytes that the input told
 
@@ -76,10 +449,6 @@ passed_limit : (bytes : List ℕ) (input : Input) → input.left_old ≡ Some by
 passed_limit bytes input told passed = longer passed.bytes bytes input.left_new (sym told ∙ passed.taken.left) passed.more
 
 -- ---- `check`
-
-not_zero : (refusal : Refusal) → status_of refusal ≡ 0 → ⊥
-not_zero Usage e = cc
-not_zero other e = cc
 
 pub checked_of : (cid : CidParts) (input : Input) (out : Output) (end : Option Refusal) → exit_status end ≡ 0 → CheckEnds cid input out end → Checked cid input out
 checked_of cid input out None e ends = ends
@@ -133,6 +502,7 @@ answered_of cid bytes input out (Some BlockLimit) told no_in no_out ends = inr (
 answered_of cid bytes input out (Some InputFault) told no_in no_out ends = absurd (no_in ends.0.rose)
 answered_of cid bytes input out (Some SinkFault) told no_in no_out ends = absurd (no_out ends.front.rose)
 answered_of cid bytes input out (Some OutOfMemory) told no_in no_out ends = inl refl
+answered_of cid bytes input out (Some refusal) told no_in no_out ends = absurd ends.0
 
 -- ---- `node`
 
@@ -165,6 +535,7 @@ node_answered_of cid bytes input out (Some BlockLimit) told no_in no_out ends = 
 node_answered_of cid bytes input out (Some InputFault) told no_in no_out ends = absurd (no_in ends.0.rose)
 node_answered_of cid bytes input out (Some SinkFault) told no_in no_out ends = absurd (no_out ends.front.rose)
 node_answered_of cid bytes input out (Some OutOfMemory) told no_in no_out ends = inl refl
+node_answered_of cid bytes input out (Some refusal) told no_in no_out ends = absurd ends.0
 
 -- ---- `cid`
 

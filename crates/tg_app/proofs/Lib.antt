@@ -1,1 +1,3 @@
 mod Endings
+mod ExportSteps
+mod ImportSteps

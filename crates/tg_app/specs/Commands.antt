@@ -1,24 +1,49 @@
 -- How words end: each command by its own relation.
-use Rattle.std.specs.Prelude.{◌≡◌, ℕ, ◌⊎◌, List, Option, Some}
-use Rattle.tg_cid.specs.Cid.{CidParts}
+use Rattle.std.specs.Prelude.{◌≡◌, ℕ, ◌⊎◌, ⊤, List, Option, Some}
 use Rattle.tg_words.specs.CommandLine.{CommandLine}
 use Rattle.tg_words.specs.declared.Command.{Command}
-use Rattle.tg_words.specs.declared.Command.TheVariants.{Check, Node, CidToHex, CidToText}
-use Rattle.tg_streams.specs.Streams.{Input, Output}
+use Rattle.tg_words.specs.declared.Command.TheVariants.{Check, Node, CidToHex, CidToText, Export, Import}
+use Rattle.tg_streams.specs.Streams.{Output}
 use Rattle.tg_app.specs.Lines.{exit_status, Says}
 use Rattle.tg_app.specs.Blocks.{InputUntouched, Untouched}
 use Rattle.tg_app.specs.Check.{CheckEnds}
-use Rattle.tg_app.specs.Node.{NodeEnds, NodedNothing}
+use Rattle.tg_app.specs.Node.{NodeEnds}
 use Rattle.tg_app.specs.CidLines.{HexLine, TextLine, PrintEnds}
+use Rattle.tg_app.specs.Exports.{ExportAnswers}
+use Rattle.tg_app.specs.Imports.{ImportAnswers, options_of}
+use Rattle.tg_app.specs.Objects.{Objects, SameFiles}
 use Rattle.tg_app.specs.declared.refusal.Refusal.{Refusal}
 use Rattle.tg_app.specs.declared.refusal.Refusal.TheVariants.{Usage, OutOfMemory}
 
 -- how a command ends
-abbrev pub CommandEnds : Command → Input → Output → Option Refusal → Type 0
-CommandEnds (Check cid) input out end = CheckEnds cid input out end
-CommandEnds (Node cid) input out end = NodeEnds cid input out end
-CommandEnds (CidToHex cid) input out end = InputUntouched input × PrintEnds (HexLine cid) out end
-CommandEnds (CidToText cid) input out end = InputUntouched input × PrintEnds (TextLine cid) out end
+abbrev pub CommandEnds : Command → Objects → Option Refusal → Type 0
+CommandEnds (Check cid) objects end = SameFiles objects.files × CheckEnds cid objects.input objects.out end
+CommandEnds (Node cid) objects end = SameFiles objects.files × NodeEnds cid objects.input objects.out end
+CommandEnds (CidToHex cid) objects end = SameFiles objects.files × InputUntouched objects.input × PrintEnds (HexLine cid) objects.out end
+CommandEnds (CidToText cid) objects end = SameFiles objects.files × InputUntouched objects.input × PrintEnds (TextLine cid) objects.out end
+CommandEnds (Export parts) objects end =
+    objects.files.same_folder × InputUntouched objects.input × ExportAnswers parts.query objects.files.pack objects.files.same_pack objects.out end
+CommandEnds (Import parts) objects end = InputUntouched objects.input × ImportAnswers (options_of parts) objects.files objects.out end
+
+-- a command that neither reads nor writes files
+abbrev pub UsesNoFiles : Command → Type 0
+UsesNoFiles (Check cid) = ⊤
+UsesNoFiles (Node cid) = ⊤
+UsesNoFiles (CidToHex cid) = ⊤
+UsesNoFiles (CidToText cid) = ⊤
+UsesNoFiles (Export parts) = ⊥
+UsesNoFiles (Import parts) = ⊥
+
+-- a command that reads a block from its input
+abbrev pub ReadsBlock : Command → Type 0
+ReadsBlock (Check cid) = ⊤
+ReadsBlock (Node cid) = ⊤
+ReadsBlock other = ⊥
+
+-- all of the objects are as they were
+pub record AllUntouched (objects : Objects) : Type 0 where
+  pub files : SameFiles objects.files
+  pub streams : Untouched objects.input objects.out
 
 -- the words spell this command and no other
 pub record TheCommand (words : List (List ℕ)) (command : Command) : Type 0 where
@@ -30,27 +55,28 @@ abbrev pub IsNoCommand : List (List ℕ) → Type 0
 IsNoCommand words = (command : Command) → CommandLine words command → ⊥
 
 -- the words are no command; or no memory was found for them; or they are a command, and it ended
-pub record NoCommandEnds (words : List (List ℕ)) (input : Input) (out : Output) (end : Option Refusal) : Type 0 where
+pub record NoCommandEnds (words : List (List ℕ)) (objects : Objects) (end : Option Refusal) : Type 0 where
   pub none : IsNoCommand words
   pub end_is : end ≡ Some Usage
-  pub untouched : Untouched input out
+  pub untouched : AllUntouched objects
 
-pub record NoMemoryEnds (input : Input) (out : Output) (end : Option Refusal) : Type 0 where
+pub record NoMemoryEnds (objects : Objects) (end : Option Refusal) : Type 0 where
   pub end_is : end ≡ Some OutOfMemory
-  pub untouched : Untouched input out
+  pub untouched : AllUntouched objects
 
-pub record TheCommandEnds (words : List (List ℕ)) (input : Input) (out : Output) (end : Option Refusal) : Type 0 where
+pub record TheCommandEnds (words : List (List ℕ)) (objects : Objects) (end : Option Refusal) : Type 0 where
   pub command : Command
   pub the : TheCommand words command
-  pub ends : CommandEnds command input out end
+  pub ends : CommandEnds command objects end
 
-abbrev pub Ends : List (List ℕ) → Input → Output → Option Refusal → Type 0
-Ends words input out end = NoCommandEnds words input out end ⊎ (NoMemoryEnds input out end ⊎ TheCommandEnds words input out end)
+abbrev pub Ends : List (List ℕ) → Objects → Option Refusal → Type 0
+Ends words objects end = NoCommandEnds words objects end ⊎ (NoMemoryEnds objects end ⊎ TheCommandEnds words objects end)
 
 -- the exit status and err say an end of which this holds
 abbrev pub Answers : (Option Refusal → Type 0) → ℕ → Output → Type 0
 Answers Holds status err = (end : Option Refusal) × (status ≡ exit_status end) × Holds end × Says end err
 
--- memory was wanted: before anything was taken or put, or by `node` for the text of a block that was read
-abbrev pub WantsMemory : List (List ℕ) → Input → Output → Type 0
-WantsMemory words input out = Untouched input out ⊎ ((cid : CidParts) × TheCommand words (Node cid) × NodedNothing cid input out)
+-- memory was wanted: before anything was done, or by the command, which says what it did before
+abbrev pub WantsMemory : List (List ℕ) → Objects → Type 0
+WantsMemory words objects =
+    AllUntouched objects ⊎ ((command : Command) × TheCommand words command × CommandEnds command objects (Some OutOfMemory))

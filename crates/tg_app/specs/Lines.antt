@@ -1,5 +1,5 @@
 -- How a command ends: done, or refused; its exit status, and its line on err.
-use Rattle.std.specs.Prelude.{ℕ, List, [], ◌∷◌, ◌++◌, codes, Option, Some, None, Result, Ok, Err}
+use Rattle.std.specs.Prelude.{ℕ, List, [], ◌∷◌, ◌++◌, codes, decimal, Option, Some, None, Result, Ok, Err}
 use Rattle.tg_ascii.specs.Ascii.{line_feed}
 use Rattle.tg_streams.specs.Streams.{Output, Put, PutFront, PutOrFront, OutputQuiet}
 use Rattle.tg_app.specs.Blocks.{OutputUntouched}
@@ -8,7 +8,9 @@ use Rattle.tg_words.specs.declared.WordsFault.TheVariants as words
 use Rattle.tg_node.specs.declared.fault.NodeFault.{NodeFault}
 use Rattle.tg_node.specs.declared.fault.NodeFault.TheVariants.{BadNode, BadLink, BadUnix}
 use Rattle.tg_app.specs.declared.refusal.Refusal.{Refusal}
-use Rattle.tg_app.specs.declared.refusal.Refusal.TheVariants.{Usage, BadDigest, BadBlock, BlockLimit, InputFault, SinkFault, OutOfMemory}
+use Rattle.tg_app.specs.declared.refusal.Refusal.TheVariants.{Usage, BadDigest, BadBlock, BlockLimit, InputFault, SinkFault, OutOfMemory, PackFault, FolderFault, NotCar, BadPack, Unfinished, TornPack, PackLimit, NoRoot, NotThere, NotFolder, BadStored, Gone, Changed, TooDeep, DeepFolder, BadName, LongName, SameHash, NotPlain, TooBig}
+use Rattle.tg_model.specs.declared.fault.BlockFault.{BlockFault}
+use Rattle.tg_model.specs.declared.fault.BlockFault.TheVariants as blocks
 
 abbrev pub refusal_of : WordsFault → Refusal
 refusal_of words.Usage = Usage
@@ -27,12 +29,61 @@ status_of BlockLimit = 7
 status_of InputFault = 6
 status_of SinkFault = 6
 status_of OutOfMemory = 8
+status_of PackFault = 6
+status_of FolderFault = 6
+status_of (NotCar at) = 6
+status_of (BadPack at) = 6
+status_of Unfinished = 6
+status_of (TornPack at) = 6
+status_of (PackLimit at) = 7
+status_of NoRoot = 9
+status_of (NotThere segment) = 9
+status_of (NotFolder segment) = 9
+status_of (BadStored cid fault) = 6
+status_of (Gone cid) = 6
+status_of Changed = 6
+status_of TooDeep = 7
+status_of (DeepFolder path) = 7
+status_of (BadName path) = 6
+status_of (LongName path) = 7
+status_of (SameHash names) = 6
+status_of (NotPlain path) = 6
+status_of (TooBig path) = 7
 
 -- what is at fault of a block, behind its CID
 abbrev pub cause_of : NodeFault → List ℕ
 cause_of BadNode = codes " BadNode"
 cause_of BadLink = codes " BadLink"
 cause_of BadUnix = codes " BadUnix"
+
+-- the number that the line of a refusal shows, and 0 where it shows none
+abbrev pub number_in : Refusal → ℕ
+number_in (NotCar at) = at
+number_in (BadPack at) = at
+number_in (TornPack at) = at
+number_in (PackLimit at) = at
+number_in (NotThere segment) = segment
+number_in (NotFolder segment) = segment
+number_in other = 0
+
+-- why a stored block has no kind or can't stand where it stands, behind its CID
+abbrev pub fault_word : BlockFault → List ℕ
+fault_word (blocks.BadNode fault) = codes " BadNode"
+fault_word (blocks.BadLink at) = codes " BadLink"
+fault_word blocks.NoUnix = codes " NoUnix"
+fault_word (blocks.BadUnix fault) = codes " BadUnix"
+fault_word (blocks.BadSizes links sizes) = codes " BadSizes"
+fault_word blocks.HugeSizes = codes " HugeSizes"
+fault_word (blocks.BadName at) = codes " BadName"
+fault_word (blocks.DoubledName at) = codes " DoubledName"
+fault_word (blocks.BadBits bits links) = codes " BadBits"
+fault_word (blocks.BadSlot at) = codes " BadSlot"
+fault_word blocks.BadShape = codes " BadShape"
+fault_word blocks.BelowEight = codes " BelowEight"
+fault_word (blocks.Misplaced at) = codes " Misplaced"
+fault_word blocks.NotShard = codes " NotShard"
+fault_word blocks.NotPart = codes " NotPart"
+fault_word blocks.OutOfMemory = codes " OutOfMemory"
 
 -- the refusal's word, and the detail behind it
 abbrev pub word_of : Refusal → List ℕ
@@ -43,6 +94,26 @@ word_of BlockLimit = codes "Limit Block 2097152"
 word_of InputFault = codes "InputFault"
 word_of SinkFault = codes "SinkFault"
 word_of OutOfMemory = codes "OutOfMemory"
+word_of PackFault = codes "PackFault"
+word_of FolderFault = codes "FolderFault"
+word_of (NotCar at) = codes "NotCar " ++ decimal at
+word_of (BadPack at) = codes "BadDigest " ++ decimal at
+word_of Unfinished = codes "Unfinished"
+word_of (TornPack at) = codes "Truncated " ++ decimal at
+word_of (PackLimit at) = codes "BlockLimit " ++ decimal at
+word_of NoRoot = codes "NoRoot"
+word_of (NotThere segment) = codes "NotThere " ++ decimal segment
+word_of (NotFolder segment) = codes "NotFolder " ++ decimal segment
+word_of (BadStored cid fault) = codes "BadBlock " ++ (cid ++ fault_word fault)
+word_of (Gone cid) = codes "Gone " ++ cid
+word_of Changed = codes "Changed"
+word_of TooDeep = codes "TooDeep"
+word_of (DeepFolder path) = codes "TooDeep " ++ path
+word_of (BadName path) = codes "BadName " ++ path
+word_of (LongName path) = codes "LongName " ++ path
+word_of (SameHash names) = codes "SameHash " ++ names
+word_of (NotPlain path) = codes "NotPlain " ++ path
+word_of (TooBig path) = codes "TooBig " ++ path
 
 -- the line: the program's name, the word with its detail, a line feed
 abbrev pub line_of : Refusal → List ℕ

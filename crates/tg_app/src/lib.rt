@@ -4,6 +4,8 @@
 mod blocks;
 mod check;
 mod cid;
+mod export;
+mod import;
 mod node;
 mod refusal;
 mod top;

@@ -1,11 +1,13 @@
 //! Why a command ends before it is done, with the status and the line on err that say so.
 ghost use Rattle.std.specs.Prelude.{◌≡◌, OnOk, OnErr};
 ghost use Rattle.tg_streams.specs.Streams.{Put, PutFront, into};
-ghost use Rattle.tg_app.specs.Lines.{PutEnds, cause_of, end_of};
+ghost use Rattle.tg_app.specs.Lines.{PutEnds, cause_of, end_of, fault_word};
 
+use itoa::Buffer;
 use std::alloc::AllocError;
 use tg_bytes::Bytes;
 use tg_faults::Failed;
+use tg_model::BlockFault;
 use tg_node::NodeFault;
 use tg_streams::{Sink, put_all, put_pieces};
 use tg_words::WordsFault;
@@ -35,6 +37,66 @@ pub enum Refusal {
     /// No memory was found.
     #[error("OutOfMemory")]
     OutOfMemory,
+    /// A fault of the pack was counted.
+    #[error("PackFault")]
+    PackFault,
+    /// A fault of the folder was counted.
+    #[error("FolderFault")]
+    FolderFault,
+    /// The pack holds no CAR: none goes on so inside the header or the section at this offset.
+    #[error("NotCar {at}")]
+    NotCar { at: u64 },
+    /// The CID of the pack's section at this offset doesn't name its block.
+    #[error("BadDigest {at}")]
+    BadPack { at: u64 },
+    /// The pack isn't finished.
+    #[error("Unfinished")]
+    Unfinished,
+    /// The pack ends inside the header or the section at this offset.
+    #[error("Truncated {at}")]
+    TornPack { at: u64 },
+    /// The pack's section at this offset declares a block above the limit.
+    #[error("BlockLimit {at}")]
+    PackLimit { at: u64 },
+    /// The root isn't stored.
+    #[error("NoRoot")]
+    NoRoot,
+    /// The directory has no entry with the segment's name. Segments count from 0.
+    #[error("NotThere {segment}")]
+    NotThere { segment: u32 },
+    /// The segment is looked for where there is no directory. Segments count from 0.
+    #[error("NotFolder {segment}")]
+    NotFolder { segment: u32 },
+    /// The stored block with this CID's text has no kind, or can't stand where it stands.
+    #[error("BadBlock")]
+    BadStored { cid: Bytes, fault: BlockFault },
+    /// No block is stored under the CID with this text.
+    #[error("Gone")]
+    Gone { cid: Bytes },
+    /// A stored block isn't any more what it was.
+    #[error("Changed")]
+    Changed,
+    /// The next block lies more than 512 blocks deep.
+    #[error("TooDeep")]
+    TooDeep,
+    /// The folder with this path, in percent-encoding, lies on level 33.
+    #[error("TooDeep")]
+    DeepFolder { path: Bytes },
+    /// The path, in percent-encoding, ends in a name that isn't good, or stands twice in its folder.
+    #[error("BadName")]
+    BadName { path: Bytes },
+    /// The path, in percent-encoding, ends in a name of more than 255 bytes.
+    #[error("LongName")]
+    LongName { path: Bytes },
+    /// These two names of a sharded directory, in percent-encoding with a space between them, have one hash.
+    #[error("SameHash")]
+    SameHash { names: Bytes },
+    /// What has the path, in percent-encoding, is neither a file nor a folder.
+    #[error("NotPlain")]
+    NotPlain { path: Bytes },
+    /// What has the path, in percent-encoding, passes a limit of the import.
+    #[error("TooBig")]
+    TooBig { path: Bytes },
 }
 
 impl From<AllocError> for Refusal {
@@ -63,7 +125,8 @@ impl From<WordsFault> for Refusal {
 }
 
 impl Refusal {
-    ghost use Rattle.tg_app.specs.Lines.{status_of, line_of};
+    ghost use Rattle.std.specs.Prelude.{◌++◌, decimal};
+    ghost use Rattle.tg_app.specs.Lines.{line_of, number_in, status_of, word_of};
 
     /// The exit status.
     pub fn status(&self) -> u8
@@ -72,9 +135,28 @@ impl Refusal {
         match self {
             Refusal::Usage => 2,
             Refusal::BadDigest { .. } | Refusal::BadBlock { .. } => 3,
-            Refusal::InputFault | Refusal::SinkFault => 6,
-            Refusal::BlockLimit => 7,
+            Refusal::InputFault
+            | Refusal::SinkFault
+            | Refusal::PackFault
+            | Refusal::FolderFault
+            | Refusal::NotCar { .. }
+            | Refusal::BadPack { .. }
+            | Refusal::Unfinished
+            | Refusal::TornPack { .. }
+            | Refusal::BadStored { .. }
+            | Refusal::Gone { .. }
+            | Refusal::Changed
+            | Refusal::BadName { .. }
+            | Refusal::SameHash { .. }
+            | Refusal::NotPlain { .. } => 6,
+            Refusal::BlockLimit
+            | Refusal::PackLimit { .. }
+            | Refusal::TooDeep
+            | Refusal::DeepFolder { .. }
+            | Refusal::LongName { .. }
+            | Refusal::TooBig { .. } => 7,
             Refusal::OutOfMemory => 8,
+            Refusal::NoRoot | Refusal::NotThere { .. } | Refusal::NotFolder { .. } => 9,
         }
     }
 
@@ -84,7 +166,32 @@ impl Refusal {
         ensures put { OnOk result (Put (line_of self.now) (into E.sink err.old err.new)) }
         ensures front { OnErr result (PutFront (line_of self.now) (into E.sink err.old err.new)) }
     {
-        let (word, cid, behind): (&[u8], &[u8], &[u8]) = match self {
+        let mut buffer = Buffer::new();
+        let digits = buffer.format(self.number());
+        let (word, detail, other) = self.parts(digits.as_bytes());
+        put_pieces(err, &[b"tgate: ", word, detail, other, b"\n"])
+    }
+
+    /// The number that the line shows: an offset or a segment; and 0 where it shows none.
+    fn number(&self) -> u64
+        ensures { result ≡ number_in self.now }
+    {
+        match self {
+            Refusal::NotCar { at }
+            | Refusal::BadPack { at }
+            | Refusal::TornPack { at }
+            | Refusal::PackLimit { at } => *at,
+            Refusal::NotThere { segment } | Refusal::NotFolder { segment } => u64::from(*segment),
+            _ => 0,
+        }
+    }
+
+    /// The word, and the details behind it, of which one may be the number's digits.
+    fn parts<'a>(&'a self, digits: &'a [u8]) -> (&'a [u8], &'a [u8], &'a [u8])
+        requires { digits.now ≡ decimal (number_in self.now) }
+        ensures { result.0.now ++ (result.1.now ++ result.2.now) ≡ word_of self.now }
+    {
+        match self {
             Refusal::Usage => (b"usage", b"", b""),
             Refusal::BadDigest { cid } => (b"BadDigest ", cid.as_slice(), b""),
             Refusal::BadBlock { cid, fault } => (b"BadBlock ", cid.as_slice(), cause(fault)),
@@ -92,8 +199,51 @@ impl Refusal {
             Refusal::InputFault => (b"InputFault", b"", b""),
             Refusal::SinkFault => (b"SinkFault", b"", b""),
             Refusal::OutOfMemory => (b"OutOfMemory", b"", b""),
-        };
-        put_pieces(err, &[b"tgate: ", word, cid, behind, b"\n"])
+            Refusal::PackFault => (b"PackFault", b"", b""),
+            Refusal::FolderFault => (b"FolderFault", b"", b""),
+            Refusal::NotCar { .. } => (b"NotCar ", digits, b""),
+            Refusal::BadPack { .. } => (b"BadDigest ", digits, b""),
+            Refusal::Unfinished => (b"Unfinished", b"", b""),
+            Refusal::TornPack { .. } => (b"Truncated ", digits, b""),
+            Refusal::PackLimit { .. } => (b"BlockLimit ", digits, b""),
+            Refusal::NoRoot => (b"NoRoot", b"", b""),
+            Refusal::NotThere { .. } => (b"NotThere ", digits, b""),
+            Refusal::NotFolder { .. } => (b"NotFolder ", digits, b""),
+            Refusal::BadStored { cid, fault } => (b"BadBlock ", cid.as_slice(), fault_word(fault)),
+            Refusal::Gone { cid } => (b"Gone ", cid.as_slice(), b""),
+            Refusal::Changed => (b"Changed", b"", b""),
+            Refusal::TooDeep => (b"TooDeep", b"", b""),
+            Refusal::DeepFolder { path } => (b"TooDeep ", path.as_slice(), b""),
+            Refusal::BadName { path } => (b"BadName ", path.as_slice(), b""),
+            Refusal::LongName { path } => (b"LongName ", path.as_slice(), b""),
+            Refusal::SameHash { names } => (b"SameHash ", names.as_slice(), b""),
+            Refusal::NotPlain { path } => (b"NotPlain ", path.as_slice(), b""),
+            Refusal::TooBig { path } => (b"TooBig ", path.as_slice(), b""),
+        }
+    }
+}
+
+/// What stands behind the CID on a line that says what is at fault of a stored block: a space and the word.
+fn fault_word(fault: &BlockFault) -> &[u8]
+    ensures { result.now ≡ fault_word fault.now }
+{
+    match fault {
+        BlockFault::BadNode(_) => b" BadNode",
+        BlockFault::BadLink { .. } => b" BadLink",
+        BlockFault::NoUnix => b" NoUnix",
+        BlockFault::BadUnix(_) => b" BadUnix",
+        BlockFault::BadSizes { .. } => b" BadSizes",
+        BlockFault::HugeSizes => b" HugeSizes",
+        BlockFault::BadName { .. } => b" BadName",
+        BlockFault::DoubledName { .. } => b" DoubledName",
+        BlockFault::BadBits { .. } => b" BadBits",
+        BlockFault::BadSlot { .. } => b" BadSlot",
+        BlockFault::BadShape => b" BadShape",
+        BlockFault::BelowEight => b" BelowEight",
+        BlockFault::Misplaced { .. } => b" Misplaced",
+        BlockFault::NotShard => b" NotShard",
+        BlockFault::NotPart => b" NotPart",
+        BlockFault::OutOfMemory => b" OutOfMemory",
     }
 }
 

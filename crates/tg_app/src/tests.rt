@@ -5,7 +5,9 @@ use super::*;
 use std::alloc::{AllocError, Global};
 use std::test::Fail;
 use tg_bytes::{Bytes, List};
+use tg_files::{MemFolder, MemPack};
 use tg_streams::{MemSink, MemSource};
+use tg_tree::{Sort, Tree};
 
 /// The raw CID of `hello world`, that of no bytes, and the dag-pb CID of the empty directory.
 const H: &str = "bafkreifzjut3te2nhyekklss27nh3k72ysco7y32koao5eei66wof36n5e";
@@ -67,6 +69,15 @@ struct Outcome {
 }
 
 impl Outcome {
+    /// No run, since the tree is no folder whose names differ; its status is none of the program's.
+    fn of_no_folder(alloc: Global) -> Outcome {
+        Outcome {
+            status: 255,
+            out: Vec::new(alloc),
+            err: Vec::new(alloc),
+        }
+    }
+
     /// Whether the run left just these.
     fn is(&self, status: u8, out: &[u8], err: &str) -> bool {
         self.status == status && self.out.as_slice() == out && self.err.as_slice() == err.as_bytes()
@@ -92,7 +103,21 @@ fn run_over(
     let mut input = MemSource::new(bytes, piece, numbers(alloc, input_fails)?);
     let mut out = MemSink::new(alloc, piece, numbers(alloc, out_fails)?);
     let mut err = MemSink::new(alloc, piece, numbers(alloc, err_fails)?);
-    let status = run(alloc, list.as_slice(), &mut input, &mut out, &mut err);
+    let tree = Tree::Folder(Vec::new(alloc));
+    if tree.sort() != Sort::Folder || !tree.names_differ() {
+        return Ok(Outcome::of_no_folder(alloc));
+    }
+    let mut folder = MemFolder::new(alloc, tree, List::new(alloc));
+    let mut pack = Some(MemPack::new(Bytes::new(alloc), List::new(alloc)));
+    let status = run(
+        alloc,
+        list.as_slice(),
+        &mut folder,
+        &mut pack,
+        &mut input,
+        &mut out,
+        &mut err,
+    );
     Ok(Outcome {
         status,
         out: Vec::from_slice(alloc, out.held())?,

@@ -1,0 +1,155 @@
+-- The lines of an import.
+use Rattle.std.proofs.Common.{◌≡◌, ◌≤◌, ◌⊎◌, ◌++◌, ◌∷◌, [], List, Option, Some, None, ℕ, inl, inr, codes, refl, sym, ap, ◌∙◌, subst}
+use Rattle.std.specs.Prelude.{IfSome, decimal}
+use Rattle.std.proofs.lemmas.List.{append_assoc}
+use Rattle.tg_app.specs.Blocks.{OutputUntouched}
+use Rattle.tg_app.specs.Imports.{AttachedAnswers, AttachedRefused, ImportAnswers, ImportLines, IsImportRefusal, IsInPack, LinesEnd, PutsLines, summary_line}
+use Rattle.tg_app.specs.Lines.{PutAll}
+use Rattle.tg_app.specs.Objects.{Files, files_between}
+use Rattle.tg_app.specs.declared.refusal.Refusal.{Refusal}
+use Rattle.tg_app.specs.declared.refusal.Refusal.TheVariants as refusals
+use Rattle.tg_bytes.specs.Told.{IsNothing}
+use Rattle.tg_faults.specs.Faults.{Rose}
+use Rattle.tg_files.specs.Folders.{FolderMeaning, FolderQuiet, FolderRose, TellsFolder, folder_step}
+use Rattle.tg_files.specs.Packs.{PackMeaning, PackRose, PackStep, emptied, pack_step}
+use Rattle.tg_import.specs.Counting.{nothing}
+use Rattle.tg_import.specs.Refused.{HasFolderFault, max_levels}
+use Rattle.tg_import.specs.declared.fault.ImportFault.{ImportFault}
+use Rattle.tg_import.specs.declared.fault.ImportFault.TheVariants as faults
+use Rattle.tg_import.specs.declared.summary.Options.{Options}
+use Rattle.tg_import_pack.specs.Packing.{IsPacked, IsPackingCause, IsUnfinished}
+use Rattle.tg_streams.specs.Streams.{Output, PutFront}
+use Rattle.tg_tree.specs.declared.tree.Tree.{Tree}
+use Rattle.tg_ascii.specs.Ascii.{line_feed}
+use Rattle.tg_cid.specs.Cid.{CidParts}
+use Rattle.tg_cid.specs.Spelling.{CidText}
+use Rattle.tg_import.specs.declared.summary.Summary.{Summary}
+
+-- the text of the CID, and behind it the summary's numbers with their words
+pub lines_are : (root : CidParts) (summary : Summary) (t a b c d text : List ℕ) → CidText (record root { version = 1 }) t
+    → a ≡ t ++ (codes "\nfiles " ++ decimal summary.files) → b ≡ a ++ (codes " folders " ++ decimal summary.folders)
+    → c ≡ b ++ (codes " shards " ++ decimal summary.shards) → d ≡ c ++ (codes " bytes " ++ decimal summary.bytes) → text ≡ d ++ line_feed ∷ []
+    → ImportLines root summary text
+lines_are root summary t a b c d text is_text e f g h k = record {
+  first = t ++ line_feed ∷ [];
+  first_is = record { text = t; text_is = is_text; line_is = refl };
+  whole = whole;
+}
+  where
+    whole : text ≡ (t ++ line_feed ∷ []) ++ summary_line summary
+    whole = rw (k, h, g, f, e) (simp (append_assoc) refl)
+
+-- ---- the import of an attached folder into an attached pack
+
+module _ {F P : Type 0} (fm : FolderMeaning F) (m : PackMeaning P) (f f' : F) (a b c : P) (options : Options)
+    (tells : TellsFolder (fm.tree f)) (same : fm.tree f' ≡ fm.tree f) (quiet : m.faults b ≡ m.faults a) where
+  files : Files
+  files = files_between fm m f f' (Some a) (Some c)
+
+  tells_new : TellsFolder (fm.tree f')
+  tells_new = subst TellsFolder (sym same) tells
+
+  rose_moved : PackRose (pack_step m b c) → PackRose (pack_step m a c)
+  rose_moved r = record {
+    rose = subst (λ (n : ℕ). Rose n (m.faults c)) quiet r.rose;
+    counted = subst (λ (n : ℕ). n ≤ m.faults c) quiet r.counted;
+  }
+
+  packed_moved : (root : CidParts) (summary : Summary) → IsPacked options (fm.tree f) root summary (pack_step m b c) → IsPacked options (fm.tree f') root summary (pack_step m a c)
+  packed_moved root summary packed =
+      let here = subst (λ (told : Option Tree). IsPacked options told root summary (pack_step m b c)) (sym same) packed in
+      record {
+        d = here.d;
+        imported = here.imported;
+        root_is = here.root_is;
+        counts = here.counts;
+        sections = here.sections;
+        all = here.all;
+        content = here.content;
+        quiet = here.quiet ∙ quiet;
+      }
+
+  in_pack : (said : CidParts → Summary → Type 0) (root : CidParts) (summary : Summary) → FolderQuiet (folder_step fm f f') → IsPacked options (fm.tree f) root summary (pack_step m b c)
+      → said root summary → IsInPack options (files_between fm m f f' (Some a) (Some c)) said
+  in_pack said root summary folder_quiet packed is_said = record {
+    root = root;
+    summary = summary;
+    tells = tells_new;
+    packed = packed_moved root summary packed;
+    quiet = folder_quiet;
+    is_said = is_said;
+  }
+
+  pub attached_ends : (root : CidParts) (summary : Summary) (out : Output) (end : Option Refusal) → FolderQuiet (folder_step fm f f')
+      → IsPacked options (fm.tree f) root summary (pack_step m b c) → LinesEnd root summary out end
+      → AttachedAnswers options (files_between fm m f f' (Some a) (Some c)) out end
+  attached_ends root summary out None folder_quiet packed ends = in_pack (λ root summary. PutsLines root summary (λ text. PutAll text out)) root summary folder_quiet packed ends
+  attached_ends root summary out (Some refusals.SinkFault) folder_quiet packed ends = inr (inr (inl (record {
+    in_pack = in_pack (λ root summary. PutsLines root summary (λ text. PutFront text out)) root summary folder_quiet packed ends;
+    is = refl;
+  })))
+  attached_ends root summary out (Some refusals.OutOfMemory) folder_quiet packed ends = inr (inr (inr (record {
+    in_pack = in_pack (λ root summary. OutputUntouched out) root summary folder_quiet packed ends;
+    is = refl;
+  })))
+  attached_ends root summary out (Some refusal) folder_quiet packed ends = absurd ends
+
+  cause_moved : (fault : ImportFault) → IsPackingCause options (fm.tree f) fault (folder_step fm f f') (pack_step m b c)
+      → IsPackingCause options (fm.tree f') fault (folder_step fm f f') (pack_step m a c)
+  cause_moved faults.Folder cause = (cause.0, cause.1 ∙ quiet)
+  cause_moved faults.Keep cause = (cause.0, rose_moved cause.1)
+  cause_moved faults.OutOfMemory cause = (cause.0, cause.1 ∙ quiet)
+  cause_moved fault cause =
+      (cause.0, cause.1 ∙ quiet, subst (λ (told : Option Tree). HasFolderFault max_levels options told [] nothing fault) (sym same) cause.2)
+
+  pub attached_refused : (fault : ImportFault) (refusal : Refusal) (out : Output) → IsImportRefusal fault refusal
+      → IsPackingCause options (fm.tree f) fault (folder_step fm f f') (pack_step m b c) → IfSome (m.content c) IsUnfinished → OutputUntouched out
+      → AttachedRefused options (files_between fm m f f' (Some a) (Some c)) out refusal
+  attached_refused fault refusal out is cause unfinished unput = inl (record {
+    fault = fault;
+    is = is;
+    tells = tells_new;
+    cause = cause_moved fault cause;
+    unfinished = unfinished;
+    unput = unput;
+  })
+
+-- the pack that is attached anew has no bytes, as far as it is told
+pub emptied_is_nothing : (content : Option (List ℕ)) → IsNothing (emptied content)
+emptied_is_nothing None = tt
+emptied_is_nothing (Some bytes) = refl
+
+-- ---- the folder attached before
+
+module _ {F P : Type 0} (fm : FolderMeaning F) (m : PackMeaning P) (f g h : F) (pack pack' : Option P) (options : Options) (quiet : fm.faults g ≡ fm.faults f) where
+  folder_rose : FolderRose (folder_step fm g h) → FolderRose (folder_step fm f h)
+  folder_rose r = record {
+    rose = subst (λ (n : ℕ). Rose n (fm.faults h)) quiet r.rose;
+    counted = subst (λ (n : ℕ). n ≤ fm.faults h) quiet r.counted;
+  }
+
+  in_pack_moved : (said : CidParts → Summary → Type 0) → IsInPack options (files_between fm m g h pack pack') said → IsInPack options (files_between fm m f h pack pack') said
+  in_pack_moved said i = record { root = i.root; summary = i.summary; tells = i.tells; packed = i.packed; quiet = i.quiet ∙ quiet; is_said = i.is_said }
+
+  packing_moved : (told : Option Tree) (fault : ImportFault) (step : PackStep) → IsPackingCause options told fault (folder_step fm g h) step → IsPackingCause options told fault (folder_step fm f h) step
+  packing_moved told faults.Folder step cause = (folder_rose cause.0, cause.1)
+  packing_moved told faults.Keep step cause = (cause.0 ∙ quiet, cause.1)
+  packing_moved told faults.OutOfMemory step cause = (cause.0 ∙ quiet, cause.1)
+  packing_moved told fault step cause = (cause.0 ∙ quiet, cause.1, cause.2)
+
+  pub folder_first : (out : Output) (end : Option Refusal) → AttachedAnswers options (files_between fm m g h pack pack') out end
+      → ImportAnswers options (files_between fm m f h pack pack') out end
+  folder_first out None ends = in_pack_moved (λ root summary. PutsLines root summary (λ text. PutAll text out)) ends
+  folder_first out (Some refusal) (inl refused) = inl (inl (record {
+    fault = refused.fault;
+    is = refused.is;
+    tells = refused.tells;
+    cause = packing_moved (fm.tree h) refused.fault _ refused.cause;
+    unfinished = refused.unfinished;
+    unput = refused.unput;
+  }))
+  folder_first out (Some refusal) (inr (inl none)) = inl (inr (inl (record { quiet = none.quiet ∙ quiet; same = none.same; rose = none.rose; unput = none.unput; is = none.is })))
+  folder_first out (Some refusal) (inr (inr (inl unput))) =
+      inl (inr (inr (inl (record { in_pack = in_pack_moved (λ root summary. PutsLines root summary (λ text. PutFront text out)) unput.in_pack; is = unput.is }))))
+  folder_first out (Some refusal) (inr (inr (inr unsaid))) =
+      inl (inr (inr (inr (record { in_pack = in_pack_moved (λ root summary. OutputUntouched out) unsaid.in_pack; is = unsaid.is }))))
