@@ -6,9 +6,15 @@ mod ChunkTexts
 mod CarTexts
 mod Paths
 mod Memory
+mod TextLines
 mod OneHead
 mod Writings
-mod SomeWriting
+mod RequestLines
+mod FirstHeads
+mod WrittenFor
 mod TwoRequests
+mod SpelledSections
+mod AskedQueries
+mod AskedReplies
 mod Readings
 mod Cutting

@@ -27,7 +27,7 @@ use Rattle.tg_reply.specs.Replies.{Reply, reply, reply_bytes}
 use Rattle.tg_reply.specs.Streams.{BeginsRequest, Replies, goes_on, waits}
 use Rattle.tg_reply.specs.declared.status.Status.TheVariants as statuses
 use Rattle.tg_reply.proofs.HeadLines.{all_from}
-use Rattle.tg_reply.proofs.SomeWriting.{some_text}
+use Rattle.tg_reply.proofs.FirstHeads.{some_text}
 
 abbrev host : Field
 host = record { name = codes "Host"; raw = codes " 127.0.0.1:8080"; end = crlf }

@@ -4,8 +4,11 @@ pub mod CarBytes
 pub mod Asked
 pub mod Replies
 pub mod Streams
+pub mod FirstHead
+pub mod Written
 pub mod Examples
 pub mod Laws
 pub mod Bodies
 pub mod Readings
+pub mod AskedReadings
 pub mod Cutting

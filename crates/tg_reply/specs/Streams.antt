@@ -33,7 +33,3 @@ pub data Replies (store : Store) : List ℕ → List ℕ → Type 0 where
 -- what is written for bytes is determined by them
 abbrev pub OneWriting : Type 0
 OneWriting = (store : Store) (bytes written other : List ℕ) → Replies store bytes written → Replies store bytes other → written ≡ other
-
--- and there are no bytes for which nothing can be said to be written
-abbrev pub SomeWriting : Type 0
-SomeWriting = (store : Store) (bytes : List ℕ) → ((written : List ℕ) → Replies store bytes written → ⊥) → ⊥

@@ -1,9 +1,10 @@
 //! Worked examples of replies.
-ghost use Rattle.std.specs.Prelude.{◌≡◌, ◌++◌, ◌∷◌, [], codes, length, true};
+ghost use Rattle.std.specs.Prelude.{◌≡◌, ◌++◌, ◌∷◌, [], codes, length, take, true};
 ghost use Rattle.tg_reply.specs.Asked.{asked};
-ghost use Rattle.tg_reply.specs.Examples.{bad_framing, bad_head, bad_method, bad_request, empty_car_header, empty_car_section, empty_chunks, empty_head, empty_head_plain, empty_head_raw, empty_root, first_bytes, first_target, folder_chunks, folder_head, folder_root, get, head_limit, hello_root, folder_alone, not_acceptable, not_found, open_reply, request, request_lines, second_bytes, second_target, server_error, three_roots, unreadable_root};
+ghost use Rattle.tg_reply.specs.Examples.{bad_framing, bad_head, bad_method, bad_request, empty_car_header, empty_car_section, empty_chunks, empty_head, empty_head_plain, empty_head_raw, empty_root, first_bytes, first_target, folder_chunks, folder_head, folder_root, get, head_limit, hello_root, folder_alone, not_acceptable, not_found, open_reply, request, request_lines, second_bytes, second_target, server_error, lines, three_roots, unreadable_root};
 ghost use Rattle.tg_reply.specs.Streams.{Replies};
-ghost use Rattle.tg_reply.specs.Replies.{refused_bytes, refused_request, reply};
+ghost use Rattle.tg_reply.specs.Replies.{refused_bytes, refused_request, reply, reply_bytes};
+ghost use Rattle.tg_reply.specs.Written.{replies_for};
 ghost use Rattle.tg_reply.specs.declared.refusal.Refusal.{Refusal};
 ghost use Rattle.tg_reply.specs.declared.status.Status.{Status};
 
@@ -59,4 +60,18 @@ pub fn two_replies()
     ensures { Replies three_roots (request_lines first_target ++ request_lines second_target) (first_bytes ++ second_bytes) }
 {
     tg_http::request_heads();
+}
+
+/// The same two replies, computed from the bytes; the first alone, where the second request isn't whole; and behind it that of
+/// `BadHead`, where the second is none.
+///
+/// RFC 9112, section 9.3.
+pub fn computed_replies()
+    ensures both { replies_for three_roots (request_lines first_target ++ request_lines second_target) ≡ first_bytes ++ second_bytes }
+    // Of the second request the first 40 bytes alone.
+    ensures waiting { replies_for three_roots (request_lines first_target ++ take 40 (request_lines second_target)) ≡ first_bytes }
+    // A second head text of one word.
+    ensures no_head { replies_for three_roots (request_lines first_target ++ lines (codes "GET" ∷ [])) ≡ first_bytes ++ reply_bytes bad_head }
+{
+    text_replies();
 }

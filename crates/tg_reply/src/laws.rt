@@ -6,6 +6,7 @@ ghost use Rattle.tg_http.specs.declared.request.RequestHead.{RequestHead};
 ghost use Rattle.tg_model.specs.Queries.{QueryParts};
 ghost use Rattle.tg_path.specs.declared.fault.QueryFault.{QueryFault};
 ghost use Rattle.tg_reply.specs.Asked.{asked};
+ghost use Rattle.tg_reply.specs.AskedReadings.{AskedRepliesRead, AskedSpells, SentSpelled, TargetsAreBytes};
 ghost use Rattle.tg_reply.specs.Bodies.{CarsInParts, CutGoesOn, WholeInChunks, WholeInLength, WholeUntilClose};
 ghost use Rattle.tg_reply.specs.Cutting.{CutsBeforeDeeper};
 ghost use Rattle.tg_reply.specs.Heads.{asked_path};
@@ -88,3 +89,43 @@ pub fn replies_read()
 pub fn cut_places()
     ensures { CutsBeforeDeeper }
 {}
+
+/// The target of a request is bytes, as it is UTF-8.
+///
+/// RFC 3629, section 3.
+pub fn request_targets()
+    ensures { TargetsAreBytes }
+{}
+
+/// A query that a target of bytes asks has a root that is spelled, and names of bytes.
+///
+/// Path Gateway and Trustless Gateway specifications.
+pub fn asked_queries()
+    ensures { AskedSpells }
+{
+    tg_query::targets_read();
+}
+
+/// The sections that a store of bytes gives for a query whose root is spelled are spelled: each is the root's, or its CID was read
+/// from a link, and its block is stored under it.
+///
+/// Trustless Gateway specification, dag-scope.
+pub fn sent_sections()
+    ensures { SentSpelled }
+{
+    tg_model::readings();
+}
+
+/// What a reader makes of the reply to `GET` for a query that is asked, over a store of bytes, where the head of the reply fits a
+/// head: at a terminal the block, or the CAR where it isn't cut; and the text of the refusal where the path leads to none.
+///
+/// RFC 9112, sections 4 to 7; CARv1 specification.
+pub fn asked_replies_read()
+    ensures { AskedRepliesRead }
+{
+    tg_model::readings();
+    replies_read();
+    request_targets();
+    asked_queries();
+    sent_sections();
+}

@@ -7,10 +7,11 @@ mod refusal;
 mod status;
 mod streams;
 
-pub use examples::{block_replies, text_replies, two_replies};
+pub use examples::{block_replies, computed_replies, text_replies, two_replies};
 pub use laws::{
-    car_bytes, cut_places, no_memory, replies_read, reply_bodies, reply_heads, told_paths,
+    asked_queries, asked_replies_read, car_bytes, cut_places, no_memory, replies_read,
+    reply_bodies, reply_heads, request_targets, sent_sections, told_paths,
 };
 pub use refusal::Refusal;
 pub use status::Status;
-pub use streams::one_writing;
+pub use streams::{first_heads, one_writing};

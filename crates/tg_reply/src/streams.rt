@@ -1,13 +1,25 @@
 //! Laws of the replies to a stream of bytes.
-ghost use Rattle.tg_reply.specs.Streams.{OneWriting, SomeWriting};
+ghost use Rattle.tg_reply.specs.FirstHead.{FirstHeads};
+ghost use Rattle.tg_reply.specs.Streams.{OneWriting};
+ghost use Rattle.tg_reply.specs.Written.{WritingComputes};
 
-/// What a gateway writes for bytes is determined by the bytes and by what its store has, and there are no bytes for which nothing
-/// is written.
+/// The request at the front of bytes can be computed: whether one is whole, within the limits and of the grammar, what is told of
+/// it, and what follows it.
+///
+/// RFC 9112, sections 2 to 6.
+pub fn first_heads()
+    ensures { FirstHeads }
+{
+    tg_http::line_laws();
+}
+
+/// What a gateway writes for bytes is determined by the bytes and by what its store has, and can be computed from them.
 ///
 /// RFC 9112, section 2.2.
 pub fn one_writing()
     ensures one { OneWriting }
-    ensures some { SomeWriting }
+    ensures computes { WritingComputes }
 {
     tg_http::line_laws();
+    first_heads();
 }
