@@ -8,10 +8,13 @@ use Rattle.tg_words.specs.ImportLines.{ImportParts, NumberAsked, NumberText, imp
 use Rattle.tg_words.specs.Operands.{Exact, ImportGiven, NumberGiven, value_at}
 use Rattle.tg_words.specs.declared.WordsFault.{WordsFault}
 use Rattle.tg_words.specs.declared.Command.{Command}
-use Rattle.tg_words.specs.declared.Command.TheVariants.{Check, Node, CidToHex, CidToText, Export, Import}
+use Rattle.tg_words.specs.declared.Command.TheVariants.{Check, Node, CidToHex, CidToText, Export, Import, Verify}
 use Rattle.tg_words.proofs.Options.{HaveValues, gives_value, value_gives, one_given, have_values}
 use Rattle.tg_words.proofs.LineParts.{no_line, the_line}
-use Rattle.tg_words.proofs.TwoWords.{IsOfTwo}
+use Rattle.tg_words.proofs.Positional.{Form, IsOf, two_words}
+
+abbrev pub import_form : Form (List ℕ × List ℕ) ImportParts
+import_form = record { name = codes "import"; names = import_names; writing = two_words; make = Import; asks = λ pair. ImportGiven pair.0 pair.1 }
 
 one_value : (value : Option (List ℕ)) (low high default a b : ℕ) → NumberGiven value low high default a → NumberGiven value low high default b → a ≡ b
 one_value value low high default a b p q =
@@ -31,8 +34,8 @@ same_import a b folder pack chunk width shard =
     subst (λ n. a ≡ record { folder = b.folder; pack = b.pack; chunk = b.chunk; width = b.width; shard = n }) shard v
 
 -- what words and options ask is one import
-pub one_import : (folder pack : List ℕ) (options : List Given) (a b : ImportParts) → ImportGiven folder pack options a → ImportGiven folder pack options b → a ≡ b
-one_import folder pack options a b p q =
+pub one_import : (pair : List ℕ × List ℕ) (options : List Given) (a b : ImportParts) → ImportGiven pair.0 pair.1 options a → ImportGiven pair.0 pair.1 options b → a ≡ b
+one_import pair options a b p q =
     same_import a b (p.folder_is ∙ sym q.folder_is) (p.pack_is ∙ sym q.pack_is)
     (one_value (value_at options (codes "chunk")) 1 2097152 1048576 a.chunk b.chunk p.chunk q.chunk)
     (one_value (value_at options (codes "width")) 2 4096 1024 a.width b.width p.width q.width)
@@ -78,7 +81,7 @@ import_by rest folder pack options parts operands is =
       shard = asked_by options (codes "shard") 0 1048576 262144 parts.shard have is.shard;
     }
 
-pub import_line : (rest : List (List ℕ)) (command : Command) → CommandLine (codes "import" ∷ rest) command → IsOfTwo import_names Import ImportGiven rest command
+pub import_line : (rest : List (List ℕ)) (command : Command) → CommandLine (codes "import" ∷ rest) command → IsOf import_form rest command
 import_line rest (Check cid) line = absurd (no_line (codes "import") (codes "check") rest line.line.rest refl line.line.begins)
 import_line rest (Node cid) line = absurd (no_line (codes "import") (codes "node") rest line.line.rest refl line.line.begins)
 import_line rest (CidToHex cid) line = absurd (no_line (codes "import") (codes "cid") rest line.line.rest refl line.line.begins)
@@ -88,8 +91,7 @@ import_line rest (Import parts) line =
     let operands = the_line (codes "import") import_names rest (parts.folder ∷ parts.pack ∷ []) line.options line.line in
     record {
       parts = parts;
-      first = parts.folder;
-      second = parts.pack;
+      words = (parts.folder, parts.pack);
       options = line.options;
       is = refl;
       operands = operands;
@@ -103,3 +105,4 @@ import_line rest (Import parts) line =
         shard = given_by line.options (codes "shard") 0 1048576 262144 parts.shard operands.once line.shard;
       };
     }
+import_line rest (Verify query) line = absurd (no_line (codes "import") (codes "verify") rest line.line.rest refl line.line.begins)

@@ -11,7 +11,9 @@ mod Matches
 mod Known
 mod Options
 mod LineParts
-mod TwoWords
+mod Positional
+mod QueryAnswers
 mod ExportAnswers
 mod ImportAnswers
+mod VerifyAnswers
 mod Lines

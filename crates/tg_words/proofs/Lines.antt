@@ -8,18 +8,20 @@ use Rattle.tg_cid.specs.Cid.{CidParts}
 use Rattle.tg_cid.specs.Spelling.{CidText, CidBytes}
 use Rattle.tg_words.specs.Words.{Given, StandOnce, WordsSpelling}
 use Rattle.tg_words.specs.CommandLine.{CommandLine, OneCidLine, no_names, cid_names}
-use Rattle.tg_words.specs.ExportLines.{ExportParts, export_names}
+use Rattle.tg_model.specs.Queries.{QueryParts}
 use Rattle.tg_words.specs.ImportLines.{import_names}
-use Rattle.tg_words.specs.Operands.{Answers, ExportGiven, ImportGiven, OneCid, texts_of}
+use Rattle.tg_words.specs.QueryWords.{query_names}
+use Rattle.tg_words.specs.Operands.{Answers, OneCid, QueryBy, texts_of}
 use Rattle.tg_words.specs.declared.Command.{Command}
-use Rattle.tg_words.specs.declared.Command.TheVariants.{Check, Node, CidToHex, CidToText, Export, Import}
+use Rattle.tg_words.specs.declared.Command.TheVariants.{Check, Node, CidToHex, CidToText, Export, Import, Verify}
 use Rattle.tg_words.specs.declared.WordsFault.{WordsFault}
 use Rattle.tg_words.specs.declared.WordsFault.TheVariants.{Usage, OutOfMemory}
 use Rattle.tg_words.proofs.Readings.{one_spelling_of_words}
 use Rattle.tg_words.proofs.LineParts.{no_line, the_line}
-use Rattle.tg_words.proofs.TwoWords.{OnlyThese, one_of_two}
-use Rattle.tg_words.proofs.ExportAnswers.{export_line}
-use Rattle.tg_words.proofs.ImportAnswers.{import_line, one_import}
+use Rattle.tg_words.proofs.Positional.{OnlyThese, one_of_form}
+use Rattle.tg_words.proofs.ExportAnswers.{export_form, export_line, one_export}
+use Rattle.tg_words.proofs.ImportAnswers.{import_form, import_line, one_import}
+use Rattle.tg_words.proofs.VerifyAnswers.{verify_form, verify_line}
 use Rattle.tg_words.proofs.Known.{AreKnown, known}
 use Rattle.tg_words.proofs.Names.{are_by, none_of, at_first, later_too, first_or_later}
 
@@ -34,6 +36,7 @@ check_line rest (CidToHex cid) line = absurd (no_line (codes "check") (codes "ci
 check_line rest (CidToText cid) line = absurd (no_line (codes "check") (codes "cid") rest line.line.rest refl line.line.begins)
 check_line rest (Export parts) line = absurd (no_line (codes "check") (codes "export") rest line.line.rest refl line.line.begins)
 check_line rest (Import parts) line = absurd (no_line (codes "check") (codes "import") rest line.line.rest refl line.line.begins)
+check_line rest (Verify query) line = absurd (no_line (codes "check") (codes "verify") rest line.line.rest refl line.line.begins)
 
 pub node_line : (rest : List (List ℕ)) (command : Command) → CommandLine (codes "node" ∷ rest) command → IsOneCid Node rest command
 node_line rest (Check cid) line = absurd (no_line (codes "node") (codes "check") rest line.line.rest refl line.line.begins)
@@ -42,6 +45,7 @@ node_line rest (CidToHex cid) line = absurd (no_line (codes "node") (codes "cid"
 node_line rest (CidToText cid) line = absurd (no_line (codes "node") (codes "cid") rest line.line.rest refl line.line.begins)
 node_line rest (Export parts) line = absurd (no_line (codes "node") (codes "export") rest line.line.rest refl line.line.begins)
 node_line rest (Import parts) line = absurd (no_line (codes "node") (codes "import") rest line.line.rest refl line.line.begins)
+node_line rest (Verify query) line = absurd (no_line (codes "node") (codes "verify") rest line.line.rest refl line.line.begins)
 
 abbrev pub ReadsOneCid : List ℕ → (CidParts → Command) → List (List ℕ) → Type 0
 ReadsOneCid name make rest = (command : Command) → CommandLine (name ∷ rest) command → IsOneCid make rest command
@@ -117,6 +121,7 @@ cid_line rest (CidToText cid) line =
     inr (cid, line.digits, line.bytes, refl, the_line (codes "cid") cid_names rest [] (hex_option line.digits ∷ []) line.line, line.digits_are, line.bytes_are)
 cid_line rest (Export parts) line = absurd (no_line (codes "cid") (codes "export") rest line.line.rest refl line.line.begins)
 cid_line rest (Import parts) line = absurd (no_line (codes "cid") (codes "import") rest line.line.rest refl line.line.begins)
+cid_line rest (Verify query) line = absurd (no_line (codes "cid") (codes "verify") rest line.line.rest refl line.line.begins)
 
 -- the words are these operands, and no others
 pub record AreOperands (rest texts : List (List ℕ)) (options : List Given) : Type 0 where
@@ -232,15 +237,15 @@ one_of_cid words all more every others r s = one_spelling_of_words cid_names wor
 -- words spell at most one command
 pub one_line : ((a b : CidParts) (text : List ℕ) → CidText a text → CidText b text → a ≡ b)
     → ((a b : CidParts) (u v x y : List ℕ) → CidBytes a u → CidBytes b v → u ++ x ≡ v ++ y → (u ≡ v) × (a ≡ b))
-    → ((pack target : List ℕ) (options : List Given) (a b : ExportParts) → ExportGiven pack target options a → ExportGiven pack target options b → a ≡ b)
+    → ((target : List ℕ) (options : List Given) (a b : QueryParts) → QueryBy target options a → QueryBy target options b → a ≡ b)
     → (words : List (List ℕ)) (a b : Command) → CommandLine words a → CommandLine words b → a ≡ b
-one_line one_cid no_front one_export words (Check cid) b line other =
+one_line one_cid no_front one_query words (Check cid) b line other =
     let l = check_line line.line.rest b (subst (λ ws. CommandLine ws b) line.line.begins other) in
     ap Check (same_cid one_cid line.line.rest cid l.0 (record { text = line.text; operands = line.line.operands; text_is = line.text_is }) l.2) ∙ sym l.1
-one_line one_cid no_front one_export words (Node cid) b line other =
+one_line one_cid no_front one_query words (Node cid) b line other =
     let l = node_line line.line.rest b (subst (λ ws. CommandLine ws b) line.line.begins other) in
     ap Node (same_cid one_cid line.line.rest cid l.0 (record { text = line.text; operands = line.line.operands; text_is = line.text_is }) l.2) ∙ sym l.1
-one_line one_cid no_front one_export words (CidToHex cid) b line other =
+one_line one_cid no_front one_query words (CidToHex cid) b line other =
     elim (cid_line line.line.rest b (subst (λ ws. CommandLine ws b) line.line.begins other)) [
       | inl l ↦
           let both : line.text ∷ [] ≡ l.1 ∷ [] = (one_of_cid line.line.rest (line.text ∷ []) (l.1 ∷ []) [] [] line.line.operands l.3).0 in
@@ -248,7 +253,7 @@ one_line one_cid no_front one_export words (CidToHex cid) b line other =
           ap CidToHex (one_cid cid l.0 line.text line.text_is (subst (λ t. CidText l.0 t) same l.4)) ∙ sym l.2
       | inr l ↦ absurd (no_digits l.1 (one_of_cid line.line.rest (line.text ∷ []) [] [] (hex_option l.1 ∷ []) line.line.operands l.4).1)
     ]
-one_line one_cid no_front one_export words (CidToText cid) b line other =
+one_line one_cid no_front one_query words (CidToText cid) b line other =
     elim (cid_line line.line.rest b (subst (λ ws. CommandLine ws b) line.line.begins other)) [
       | inl l ↦ absurd (no_digits line.digits (sym (one_of_cid line.line.rest [] (l.1 ∷ []) (hex_option line.digits ∷ []) [] line.line.operands l.3).1))
       | inr l ↦
@@ -257,14 +262,18 @@ one_line one_cid no_front one_export words (CidToText cid) b line other =
           let bytes : line.bytes ≡ l.2 = cc in
           ap CidToText (no_front cid l.0 line.bytes l.2 [] [] line.bytes_are l.6 (ap (λ bs. bs ++ []) bytes)).1 ∙ sym l.3
     ]
-one_line one_cid no_front one_export words (Export parts) b line other =
+one_line one_cid no_front one_query words (Export parts) b line other =
     let begins = subst (λ ws. CommandLine ws b) line.line.begins other in
     let own = export_line line.line.rest (Export parts) (subst (λ ws. CommandLine ws (Export parts)) line.line.begins line) in
-    one_of_two export_names Export ExportGiven line.line.rest (Export parts) b (are_by export_names refl) one_export own (export_line line.line.rest b begins)
-one_line one_cid no_front one_export words (Import parts) b line other =
+    one_of_form export_form line.line.rest (Export parts) b (are_by query_names refl) (one_export one_query) own (export_line line.line.rest b begins)
+one_line one_cid no_front one_query words (Import parts) b line other =
     let begins = subst (λ ws. CommandLine ws b) line.line.begins other in
     let own = import_line line.line.rest (Import parts) (subst (λ ws. CommandLine ws (Import parts)) line.line.begins line) in
-    one_of_two import_names Import ImportGiven line.line.rest (Import parts) b (are_by import_names refl) one_import own (import_line line.line.rest b begins)
+    one_of_form import_form line.line.rest (Import parts) b (are_by import_names refl) one_import own (import_line line.line.rest b begins)
+one_line one_cid no_front one_query words (Verify query) b line other =
+    let begins = subst (λ ws. CommandLine ws b) line.line.begins other in
+    let own = verify_line line.line.rest (Verify query) (subst (λ ws. CommandLine ws (Verify query)) line.line.begins line) in
+    one_of_form verify_form line.line.rest (Verify query) b (are_by query_names refl) one_query own (verify_line line.line.rest b begins)
 
 -- what is no command is refused
 pub refused : (words : List (List ℕ)) (answer : Result Command WordsFault) → IfOk answer (λ command. CommandLine words command)

@@ -4,9 +4,10 @@ use Rattle.hex.specs.Hex.{decode_of}
 use Rattle.tg_cid.specs.Cid.{CidParts}
 use Rattle.tg_cid.specs.Spelling.{CidText, CidBytes}
 use Rattle.tg_words.specs.declared.Command.{Command}
-use Rattle.tg_words.specs.declared.Command.TheVariants.{Check, Node, CidToHex, CidToText, Export, Import}
+use Rattle.tg_words.specs.declared.Command.TheVariants.{Check, Node, CidToHex, CidToText, Export, Import, Verify}
 use Rattle.tg_words.specs.ExportLines.{ExportLine}
 use Rattle.tg_words.specs.ImportLines.{ImportLine}
+use Rattle.tg_words.specs.VerifyLines.{VerifyLine}
 use Rattle.tg_words.specs.Words.{Names, Line}
 
 -- the options of each command
@@ -44,3 +45,4 @@ CommandLine words (CidToHex cid) = CidLine words cid
 CommandLine words (CidToText cid) = CidHexLine words cid
 CommandLine words (Export parts) = ExportLine words parts
 CommandLine words (Import parts) = ImportLine words parts
+CommandLine words (Verify query) = VerifyLine words query

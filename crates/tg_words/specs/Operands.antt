@@ -21,8 +21,9 @@ use Rattle.tg_path.specs.Spans.{SpanText}
 use Rattle.tg_path.specs.WordTexts.{WordText}
 use Rattle.tg_path.specs.declared.fault.QueryFault.{QueryFault}
 use Rattle.tg_path.specs.declared.fault.QueryFault.TheVariants as queries
-use Rattle.tg_words.specs.ExportLines.{ExportParts, ScopeText, scope_for}
+use Rattle.tg_words.specs.ExportLines.{ExportParts}
 use Rattle.tg_words.specs.ImportLines.{ImportParts, NumberText}
+use Rattle.tg_words.specs.QueryWords.{ScopeText, scope_for}
 use Rattle.tg_words.specs.Words.{Names, Given, WordsSpelling}
 use denote.Ref.{Bor}
 
@@ -63,11 +64,15 @@ pub record QueryGiven (target : List ℕ) (scope bytes : Option (List ℕ)) (que
   pub form : query.form ≡ Car
   pub dups : query.dups ≡ true
 
+-- the query that a word ROOT/PATH and these options ask
+abbrev pub QueryBy : List ℕ → List Given → QueryParts → Type 0
+QueryBy target options = QueryGiven target (value_at options (codes "scope")) (value_at options (codes "bytes"))
+
 -- an export from this pack of what a word ROOT/PATH and these options ask
 pub record ExportGiven (pack target : List ℕ) (options : List Given) (parts : ExportParts) : Type 0 where
   pub pack_is : parts.pack ≡ pack
   pub named : pack ≢ []
-  pub query : QueryGiven target (value_at options (codes "scope")) (value_at options (codes "bytes")) parts.query
+  pub query : QueryBy target options parts.query
 
 -- the number that a value writes, or the default where there is none; it is from `low` to `high`
 pub record NumberGiven (value : Option (List ℕ)) (low high default number : ℕ) : Type 0 where

@@ -15,6 +15,8 @@ ghost use Rattle.tg_words.specs.declared.WordsFault.{WordsFault};
 mod exports;
 mod imports;
 mod operands;
+mod queries;
+mod verifies;
 
 use clap::error::ErrorKind;
 pub use exports::Export;
@@ -25,8 +27,10 @@ use imports::import_of;
 use operands::{OptionNames, one_word, operands_of, value_of};
 use std::alloc::{AllocError, Global};
 use tg_cid::{Cid, CidFault, one_spelling};
+use tg_model::Query;
 use tg_path::{QueryFault, roots_read, spans_read};
 use thiserror::Error;
+use verifies::verify_of;
 
 /// What the words ask for.
 #[derive(Debug, Drop)]
@@ -50,6 +54,11 @@ pub enum Command {
     /// node of a file 2 to 4,096 links, or else 1,024; a directory is sharded above a weight of 0 to 1,048,576, or else
     /// 262,144.
     Import(Import),
+    /// `verify ROOT/PATH [--scope S] [--bytes R]`: a CAR on input is checked, block by block, to be what is asked below a root,
+    /// and what it says is written to out.
+    ///
+    /// S, R and the scope are as in `export`.
+    Verify(Query),
 }
 
 /// Why words were not read as a command.
@@ -191,6 +200,8 @@ fn dispatch(alloc: Global, command: &str, words: &[String]) -> Result<Command, W
         export_of(alloc, words)
     } else if command == "import" {
         import_of(alloc, words)
+    } else if command == "verify" {
+        verify_of(alloc, words)
     } else {
         Err(WordsFault::Usage)
     }

@@ -157,20 +157,25 @@ fn shown_span(alloc: Global, span: Option<Span>) -> Result<String, AllocError> {
     }
 }
 
-// What is asked of an export or of an import, or the fault.
+fn shown_query(alloc: Global, query: &Query) -> Result<String, AllocError> {
+    let place = shown_place(alloc, query)?;
+    let span = shown_span(alloc, query.span())?;
+    let (form, scope, dups) = (query.form(), query.scope(), query.dups());
+    format!(in alloc; "{place} {form:?} {scope:?} {span} {dups}")
+}
+
+// What is asked of an export, of an import or of a verification, or the fault.
 fn shown(alloc: Global, answer: &Result<Command, WordsFault>) -> Result<String, AllocError> {
     match answer {
         Ok(Command::Export(export)) => {
-            let query = &export.query;
-            let place = shown_place(alloc, query)?;
-            let span = shown_span(alloc, query.span())?;
-            let (form, scope, dups) = (query.form(), query.scope(), query.dups());
-            format!(in alloc; "{} {place} {form:?} {scope:?} {span} {dups}", export.pack)
+            let query = shown_query(alloc, &export.query)?;
+            format!(in alloc; "{} {query}", export.pack)
         }
         Ok(Command::Import(import)) => format!(in alloc;
             "{} {} {} {} {}",
             import.folder, import.pack, import.chunk, import.width, import.shard
         ),
+        Ok(Command::Verify(query)) => shown_query(alloc, query),
         Ok(_) => String::from_str(alloc, "another command"),
         Err(fault) => format!(in alloc; "{fault:?}"),
     }
@@ -296,6 +301,65 @@ const IMPORTS: &[(&[&str], &str)] = &[
     (&["import", "f", ""], "Usage"),
 ];
 
+const VERIFIES: &[(&[&str], &str)] = &[
+    (&["verify", "@"], "@ Car Entity whole true"),
+    (&["verify", "/ipfs/@"], "@ Car Entity whole true"),
+    (&["verify", "@/"], "@ Car Entity whole true"),
+    (&["verify", "@/a//b/"], "@|a|b Car Entity whole true"),
+    (
+        &["verify", "/ipfs/@/a%20b/%63"],
+        "@|a b|c Car Entity whole true",
+    ),
+    (
+        &["verify", "--scope", "block", "@"],
+        "@ Car Block whole true",
+    ),
+    (
+        &["verify", "@", "--scope=entity"],
+        "@ Car Entity whole true",
+    ),
+    (&["verify", "@", "--scope", "all"], "@ Car All whole true"),
+    (
+        &["verify", "@/a", "--bytes", "3:8"],
+        "@|a Car Entity Start(3) Some(8) true",
+    ),
+    (
+        &["verify", "--bytes=-3:*", "@"],
+        "@ Car Entity Last(3) None true",
+    ),
+    (
+        &["verify", "--bytes=0:*", "@", "--scope=all"],
+        "@ Car Entity Start(0) None true",
+    ),
+    (
+        &["verify", "--scope", "block", "--bytes=3:8", "@"],
+        "@ Car Entity Start(3) Some(8) true",
+    ),
+    (&["verify", "--", "@"], "@ Car Entity whole true"),
+    (&["verify", "@", "--"], "@ Car Entity whole true"),
+    (&["verify"], "Usage"),
+    (&["verify", "--"], "Usage"),
+    (&["verify", "@", "@"], "Usage"),
+    (&["verify", "p", "@"], "Usage"),
+    (&["verify", "--", "@", "--scope=all"], "Usage"),
+    (&["verify", ""], "Usage"),
+    (&["verify", "@@"], "Usage"),
+    (&["verify", "/@"], "Usage"),
+    (&["verify", "/ipfs/"], "Usage"),
+    (&["verify", "@/.."], "Usage"),
+    (&["verify", "@/a%2Fb"], "Usage"),
+    (&["verify", "@", "--scope", "x"], "Usage"),
+    (&["verify", "@", "--scope=x", "--bytes=3:8"], "Usage"),
+    (&["verify", "@", "--scope"], "Usage"),
+    (&["verify", "@", "--scope=all", "--scope", "all"], "Usage"),
+    (&["verify", "@", "--bytes=3:8", "--bytes=3:8"], "Usage"),
+    (&["verify", "@", "--bytes", "5:3"], "Usage"),
+    (&["verify", "@", "--bytes", "-3:*"], "Usage"),
+    (&["verify", "@", "--dups", "y"], "Usage"),
+    (&["verify", "@", "--dups=n"], "Usage"),
+    (&["verifies", "@"], "Usage"),
+];
+
 // What the words of a line ask.
 fn asked(alloc: Global, line: &[&str]) -> Result<String, AllocError> {
     let words = words_with(alloc, line)?;
@@ -314,6 +378,15 @@ fn exports_of_lines(rt: HostRuntime) -> Result<(), Fail> {
 #[test]
 fn imports_of_lines(rt: HostRuntime) -> Result<(), Fail> {
     for (line, wanted) in IMPORTS {
+        let found = asked(rt.alloc(), line)?;
+        assert!(rt; found.as_str() == *wanted, "{line:?}: {found}");
+    }
+    Ok(())
+}
+
+#[test]
+fn verifies_of_lines(rt: HostRuntime) -> Result<(), Fail> {
+    for (line, wanted) in VERIFIES {
         let found = asked(rt.alloc(), line)?;
         assert!(rt; found.as_str() == *wanted, "{line:?}: {found}");
     }

@@ -1,7 +1,7 @@
-use Rattle.tg_words.proofs.ExportAnswers.{one_export}
+use Rattle.tg_words.proofs.QueryAnswers.{one_query}
 use Rattle.tg_words.proofs.Lines.{one_line}
 use Rattle.tg_words.proofs.one_command.Goals as goal
 
 pub returns : goal.returns
 returns c =
-    one_line c.one_spelling.ensures.one_cid c.one_spelling.ensures.no_front (one_export c.roots_read.ensures.word c.spans_read.ensures.span)
+    one_line c.one_spelling.ensures.one_cid c.one_spelling.ensures.no_front (λ target options. one_query c.roots_read.ensures.word c.spans_read.ensures.span target _ _)

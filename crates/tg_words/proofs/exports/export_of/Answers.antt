@@ -1,31 +1,30 @@
-use Rattle.std.proofs.Common.{[], ◌∷◌, map, string_bytes, codes, Global, sym, ap, subst, ◌∙◌}
+use Rattle.std.proofs.Common.{[], ◌∷◌, map, string_bytes, Global, sym, ap, subst, ◌∙◌}
 use Rattle.std.proofs.lemmas.Result.{err_from_is_err_and}
-use Rattle.tg_words.specs.Operands.{ExportGiven, givens, texts_of}
+use Rattle.tg_words.specs.Operands.{givens, texts_of}
 use Rattle.tg_words.specs.Words.{WordsSpelling}
-use Rattle.tg_words.specs.ExportLines.{export_names}
-use Rattle.tg_words.specs.declared.Command.TheVariants.{Export}
-use Rattle.tg_words.proofs.ExportAnswers.{export_by, export_line}
-use Rattle.tg_words.proofs.TwoWords.{two_memory, two_none, two_err, two_ok}
+use Rattle.tg_words.specs.QueryWords.{query_names}
+use Rattle.tg_words.proofs.ExportAnswers.{export_by, export_form, export_line}
+use Rattle.tg_words.proofs.Positional.{no_memory, other_words, not_asked, is_asked}
 use Rattle.tg_words.proofs.exports.export_of.Goals as goal
 
 pub returns-in_err-found : goal.returns-in_err-found
 returns-in_err-found c =
     let p = err_from_is_err_and c.from_residual.result c.from_residual.ensures.1 in
     let rest = map (string_bytes {Z = Global}) c.args.words.now in
-    rw (p.1, p.2) (two_memory (codes "export") export_names Export ExportGiven rest _ (export_line rest) (λ texts options s. c.in_err-found.ensures.only texts options s))
+    rw (p.1, p.2) (no_memory export_form rest _ (export_line rest) (λ texts options s. c.in_err-found.ensures.only texts options s))
 
 pub returns-in_default : goal.returns-in_default
 returns-in_default c =
     let rest = map (string_bytes {Z = Global}) c.args.words.now in
-    two_none (codes "export") export_names Export ExportGiven rest (texts_of c.in_ok-found.found.positional.items) (givens c.in_ok-found.found.options.items) (export_line rest)
-    c.in_ok-found.ensures.only (λ first second are. c.in_default.ensures.none first second (ap texts_of c.as_slice.ensures.value ∙ are))
+    other_words export_form rest (texts_of c.in_ok-found.found.positional.items) (givens c.in_ok-found.found.options.items) (export_line rest)
+    c.in_ok-found.ensures.only (λ pair are. c.in_default.ensures.none pair.0 pair.1 (ap texts_of c.as_slice.ensures.value ∙ are))
 
 pub returns-in_err-export : goal.returns-in_err-export
 returns-in_err-export c =
     let p = err_from_is_err_and c.from_residual-in_err-export.result c.from_residual-in_err-export.ensures.1 in
     let rest = map (string_bytes {Z = Global}) c.args.words.now in
     rw (p.1, p.2)
-    (two_err (codes "export") export_names Export ExportGiven rest (texts_of c.in_ok-found.found.positional.items) (givens c.as_slice-2.result.now) c.in-Some.pack.now c.in-Some.target.now _
+    (not_asked export_form rest (texts_of c.in_ok-found.found.positional.items) (givens c.as_slice-2.result.now) (c.in-Some.pack.now, c.in-Some.target.now) _
     (export_line rest) (λ texts options s. let both = c.in_ok-found.ensures.only texts options s in (both.0, ap givens c.as_slice-2.ensures.value ∙ both.1))
     (ap texts_of (sym c.as_slice.ensures.value) ∙ c.in-Some.ensures.some) c.in_err-export.ensures)
 
@@ -33,8 +32,8 @@ pub returns : goal.returns
 returns c =
     let rest = map (string_bytes {Z = Global}) c.args.words.now in
     let are = ap texts_of (sym c.as_slice.ensures.value) ∙ c.in-Some.ensures.some in
-    let operands = subst (λ o. WordsSpelling export_names rest (c.in-Some.pack.now ∷ c.in-Some.target.now ∷ []) o) (ap givens (sym c.as_slice-2.ensures.value))
-    (subst (λ p. WordsSpelling export_names rest p (givens c.in_ok-found.found.options.items)) are c.in_ok-found.ensures.found) in
-    two_ok (codes "export") export_names Export ExportGiven rest (texts_of c.in_ok-found.found.positional.items) (givens c.as_slice-2.result.now) c.in-Some.pack.now c.in-Some.target.now
+    let operands = subst (λ o. WordsSpelling query_names rest (c.in-Some.pack.now ∷ c.in-Some.target.now ∷ []) o) (ap givens (sym c.as_slice-2.ensures.value))
+    (subst (λ p. WordsSpelling query_names rest p (givens c.in_ok-found.found.options.items)) are c.in_ok-found.ensures.found) in
+    is_asked export_form rest (texts_of c.in_ok-found.found.positional.items) (givens c.as_slice-2.result.now) (c.in-Some.pack.now, c.in-Some.target.now)
     c.in_ok-export.export (export_line rest) (λ texts options s. let both = c.in_ok-found.ensures.only texts options s in (both.0, ap givens c.as_slice-2.ensures.value ∙ both.1))
     are c.in_ok-export.ensures (export_by rest c.in-Some.pack.now c.in-Some.target.now (givens c.as_slice-2.result.now) c.in_ok-export.export operands c.in_ok-export.ensures.found)

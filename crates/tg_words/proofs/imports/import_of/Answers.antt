@@ -1,31 +1,30 @@
-use Rattle.std.proofs.Common.{[], ◌∷◌, map, string_bytes, codes, Global, sym, ap, subst, ◌∙◌}
+use Rattle.std.proofs.Common.{[], ◌∷◌, map, string_bytes, Global, sym, ap, subst, ◌∙◌}
 use Rattle.std.proofs.lemmas.Result.{err_from_is_err_and}
-use Rattle.tg_words.specs.Operands.{ImportGiven, givens, texts_of}
+use Rattle.tg_words.specs.Operands.{givens, texts_of}
 use Rattle.tg_words.specs.Words.{WordsSpelling}
 use Rattle.tg_words.specs.ImportLines.{import_names}
-use Rattle.tg_words.specs.declared.Command.TheVariants.{Import}
-use Rattle.tg_words.proofs.ImportAnswers.{import_by, import_line}
-use Rattle.tg_words.proofs.TwoWords.{two_memory, two_none, two_err, two_ok}
+use Rattle.tg_words.proofs.ImportAnswers.{import_by, import_form, import_line}
+use Rattle.tg_words.proofs.Positional.{no_memory, other_words, not_asked, is_asked}
 use Rattle.tg_words.proofs.imports.import_of.Goals as goal
 
 pub returns-in_err-found : goal.returns-in_err-found
 returns-in_err-found c =
     let p = err_from_is_err_and c.from_residual.result c.from_residual.ensures.1 in
     let rest = map (string_bytes {Z = Global}) c.args.words.now in
-    rw (p.1, p.2) (two_memory (codes "import") import_names Import ImportGiven rest _ (import_line rest) (λ texts options s. c.in_err-found.ensures.only texts options s))
+    rw (p.1, p.2) (no_memory import_form rest _ (import_line rest) (λ texts options s. c.in_err-found.ensures.only texts options s))
 
 pub returns-in_default : goal.returns-in_default
 returns-in_default c =
     let rest = map (string_bytes {Z = Global}) c.args.words.now in
-    two_none (codes "import") import_names Import ImportGiven rest (texts_of c.in_ok-found.found.positional.items) (givens c.in_ok-found.found.options.items) (import_line rest)
-    c.in_ok-found.ensures.only (λ first second are. c.in_default.ensures.none first second (ap texts_of c.as_slice.ensures.value ∙ are))
+    other_words import_form rest (texts_of c.in_ok-found.found.positional.items) (givens c.in_ok-found.found.options.items) (import_line rest)
+    c.in_ok-found.ensures.only (λ pair are. c.in_default.ensures.none pair.0 pair.1 (ap texts_of c.as_slice.ensures.value ∙ are))
 
 pub returns-in_err-import : goal.returns-in_err-import
 returns-in_err-import c =
     let p = err_from_is_err_and c.from_residual-in_err-import.result c.from_residual-in_err-import.ensures.1 in
     let rest = map (string_bytes {Z = Global}) c.args.words.now in
     rw (p.1, p.2)
-    (two_err (codes "import") import_names Import ImportGiven rest (texts_of c.in_ok-found.found.positional.items) (givens c.as_slice-2.result.now) c.in-Some.folder.now c.in-Some.pack.now _
+    (not_asked import_form rest (texts_of c.in_ok-found.found.positional.items) (givens c.as_slice-2.result.now) (c.in-Some.folder.now, c.in-Some.pack.now) _
     (import_line rest) (λ texts options s. let both = c.in_ok-found.ensures.only texts options s in (both.0, ap givens c.as_slice-2.ensures.value ∙ both.1))
     (ap texts_of (sym c.as_slice.ensures.value) ∙ c.in-Some.ensures.some) c.in_err-import.ensures)
 
@@ -35,6 +34,6 @@ returns c =
     let are = ap texts_of (sym c.as_slice.ensures.value) ∙ c.in-Some.ensures.some in
     let operands = subst (λ o. WordsSpelling import_names rest (c.in-Some.folder.now ∷ c.in-Some.pack.now ∷ []) o) (ap givens (sym c.as_slice-2.ensures.value))
     (subst (λ p. WordsSpelling import_names rest p (givens c.in_ok-found.found.options.items)) are c.in_ok-found.ensures.found) in
-    two_ok (codes "import") import_names Import ImportGiven rest (texts_of c.in_ok-found.found.positional.items) (givens c.as_slice-2.result.now) c.in-Some.folder.now c.in-Some.pack.now
+    is_asked import_form rest (texts_of c.in_ok-found.found.positional.items) (givens c.as_slice-2.result.now) (c.in-Some.folder.now, c.in-Some.pack.now)
     c.in_ok-import.import (import_line rest) (λ texts options s. let both = c.in_ok-found.ensures.only texts options s in (both.0, ap givens c.as_slice-2.ensures.value ∙ both.1))
     are c.in_ok-import.ensures (import_by rest c.in-Some.folder.now c.in-Some.pack.now (givens c.as_slice-2.result.now) c.in_ok-import.import operands c.in_ok-import.ensures.found)

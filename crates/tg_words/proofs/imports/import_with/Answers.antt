@@ -2,7 +2,7 @@ use Rattle.std.proofs.Common.{Err}
 use Rattle.std.proofs.lemmas.Result.{err_from_is_err_and}
 use Rattle.tg_words.specs.Operands.{ImportGiven, givens}
 use Rattle.tg_words.proofs.ImportAnswers.{number_at}
-use Rattle.tg_words.proofs.TwoWords.{exact_err}
+use Rattle.tg_words.proofs.Positional.{exact_err}
 use Rattle.tg_words.proofs.imports.import_with.Goals as goal
 
 pub returns-in_err-number_given : goal.returns-in_err-number_given

@@ -2,8 +2,8 @@ use Rattle.std.proofs.Common.{Ok, Err, subst}
 use Rattle.std.proofs.lemmas.Result.{err_from_is_err_and}
 use Rattle.tg_path.specs.Answers.{Gives}
 use Rattle.tg_path.specs.WordTexts.{Rooted, word_of}
-use Rattle.tg_words.proofs.ExportAnswers.{good_path, query_found, word_refused, word_taken}
-use Rattle.tg_words.proofs.exports.query_of.Goals as goal
+use Rattle.tg_words.proofs.QueryAnswers.{good_path, query_found, word_refused, word_taken}
+use Rattle.tg_words.proofs.queries.query_of.Goals as goal
 
 pub returns-in_err-root : goal.returns-in_err-root
 returns-in_err-root c =

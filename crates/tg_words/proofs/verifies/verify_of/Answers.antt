@@ -1,0 +1,39 @@
+use Rattle.std.proofs.Common.{[], ◌∷◌, map, string_bytes, Global, sym, ap, subst, ◌∙◌}
+use Rattle.std.proofs.lemmas.Result.{err_from_is_err_and}
+use Rattle.tg_words.specs.Operands.{givens, texts_of}
+use Rattle.tg_words.specs.Words.{WordsSpelling}
+use Rattle.tg_words.specs.QueryWords.{query_names}
+use Rattle.tg_words.proofs.VerifyAnswers.{verify_by, verify_form, verify_line}
+use Rattle.tg_words.proofs.Positional.{no_memory, other_words, not_asked, is_asked}
+use Rattle.tg_words.proofs.verifies.verify_of.Goals as goal
+
+pub returns-in_err-found : goal.returns-in_err-found
+returns-in_err-found c =
+    let p = err_from_is_err_and c.from_residual.result c.from_residual.ensures.1 in
+    let rest = map (string_bytes {Z = Global}) c.args.words.now in
+    rw (p.1, p.2) (no_memory verify_form rest _ (verify_line rest) (λ texts options s. c.in_err-found.ensures.only texts options s))
+
+pub returns-in_default : goal.returns-in_default
+returns-in_default c =
+    let rest = map (string_bytes {Z = Global}) c.args.words.now in
+    other_words verify_form rest (texts_of c.in_ok-found.found.positional.items) (givens c.in_ok-found.found.options.items) (verify_line rest)
+    c.in_ok-found.ensures.only (λ target is. c.in_default.ensures.none target (ap texts_of c.as_slice.ensures.value ∙ is))
+
+pub returns-in_err-query : goal.returns-in_err-query
+returns-in_err-query c =
+    let p = err_from_is_err_and c.from_residual-in_err-query.result c.from_residual-in_err-query.ensures.1 in
+    let rest = map (string_bytes {Z = Global}) c.args.words.now in
+    rw (p.1, p.2)
+    (not_asked verify_form rest (texts_of c.in_ok-found.found.positional.items) (givens c.as_slice-2.result.now) c.in-Some.target.now _
+    (verify_line rest) (λ texts options s. let both = c.in_ok-found.ensures.only texts options s in (both.0, ap givens c.as_slice-2.ensures.value ∙ both.1))
+    (ap texts_of (sym c.as_slice.ensures.value) ∙ c.in-Some.ensures.some) c.in_err-query.ensures)
+
+pub returns : goal.returns
+returns c =
+    let rest = map (string_bytes {Z = Global}) c.args.words.now in
+    let is = ap texts_of (sym c.as_slice.ensures.value) ∙ c.in-Some.ensures.some in
+    let operands = subst (λ o. WordsSpelling query_names rest (c.in-Some.target.now ∷ []) o) (ap givens (sym c.as_slice-2.ensures.value))
+    (subst (λ p. WordsSpelling query_names rest p (givens c.in_ok-found.found.options.items)) is c.in_ok-found.ensures.found) in
+    is_asked verify_form rest (texts_of c.in_ok-found.found.positional.items) (givens c.as_slice-2.result.now) c.in-Some.target.now
+    c.in_ok-query.query (verify_line rest) (λ texts options s. let both = c.in_ok-found.ensures.only texts options s in (both.0, ap givens c.as_slice-2.ensures.value ∙ both.1))
+    is c.in_ok-query.ensures (verify_by rest c.in-Some.target.now (givens c.as_slice-2.result.now) c.in_ok-query.query operands c.in_ok-query.ensures.found)
