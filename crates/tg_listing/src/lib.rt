@@ -1,0 +1,11 @@
+//! The listing of a directory, put into a sink.
+#![tactic(auto)]
+
+mod fault;
+mod listing;
+
+pub use fault::ListingFault;
+pub use listing::put_listing;
+
+#[cfg(test)]
+mod tests;
