@@ -1,0 +1,94 @@
+-- The checks of a block that is read at the wanted place.
+use Rattle.std.proofs.Common.{Err, List, None, Ok, Option, Result, Some, ap, inl, inr, refl, subst, sym, true, ℕ, ◌∙◌, ◌≡◌, ◌⊎◌}
+use Rattle.tg_cid.specs.Cid.{CidParts}
+use Rattle.tg_frames.specs.Left.{IsReadAs, LeftState, WantedAt, told_wanted}
+use Rattle.tg_frames.specs.PlaceTexts.{IsBlockHere, IsSizeFault}
+use Rattle.tg_frames.specs.declared.position.Wanted.{Wanted}
+use Rattle.tg_frames.specs.declared.text.SizeFault.{SizeFault}
+use Rattle.tg_model.specs.Computed.{read}
+use Rattle.tg_model.specs.LimitNumbers.{LimitNumbers}
+use Rattle.tg_model.specs.Placed.{StandsForKind}
+use Rattle.tg_model.specs.Queries.{QueryParts}
+use Rattle.tg_model.specs.declared.fault.BlockFault.{BlockFault}
+use Rattle.tg_model.specs.declared.fault.BlockFault.TheVariants as blocks
+use Rattle.tg_model.specs.declared.kinds.Kind.{Kind}
+use Rattle.tg_model.specs.declared.placed.PlacedKind.{PlacedKind}
+use Rattle.tg_traverse.specs.Tasks.{depth_of, fault_at, is_read_at, position_of}
+use Rattle.tg_verify.specs.Refusals.{HasSectionCause, IsReadBlock, IsWantedBlock, refusal_of_block}
+use Rattle.tg_verify.specs.Steps.{IsCheckedAt, section_with}
+use Rattle.tg_verify.specs.declared.fault.Refusal.{Refusal}
+use Rattle.tg_verify.specs.declared.fault.Refusal.TheVariants as refusals
+
+pub some_same : {A : Type 0} (x y : A) → Some x ≡ Some y → x ≡ y
+some_same x y e = cc
+
+-- what is said of a fault: it is want of memory, or told with the CID
+said : (cid : CidParts) (fault : BlockFault) → (refusal_of_block cid fault ≡ refusals.OutOfMemory) ⊎ (refusal_of_block cid fault ≡ refusals.BadBlock cid fault)
+said cid (blocks.BadNode fault) = inr refl
+said cid (blocks.BadLink at) = inr refl
+said cid blocks.NoUnix = inr refl
+said cid (blocks.BadUnix fault) = inr refl
+said cid (blocks.BadSizes links sizes) = inr refl
+said cid blocks.HugeSizes = inr refl
+said cid (blocks.BadName at) = inr refl
+said cid (blocks.DoubledName at) = inr refl
+said cid (blocks.BadBits bits links) = inr refl
+said cid (blocks.BadSlot at) = inr refl
+said cid blocks.BadShape = inr refl
+said cid blocks.BelowEight = inr refl
+said cid (blocks.Misplaced at) = inr refl
+said cid blocks.NotShard = inr refl
+said cid blocks.NotPart = inr refl
+said cid blocks.OutOfMemory = inl refl
+
+module _ (q : QueryParts) (limits : LimitNumbers) (at : WantedAt) (cid : CidParts) (block : List ℕ) (is_read : is_read_at q at.want ≡ true)
+    (wanted : IsWantedBlock limits at (section_with cid block)) where
+  -- under its own CID, which is the wanted one
+  own : (result : Result Kind BlockFault) → read at.cid block ≡ result → read cid block ≡ result
+  own result e = ap (λ (c : CidParts). read c block) wanted.same ∙ e
+
+  own_cause : (fault : BlockFault) → (read at.cid block ≡ Err fault) ⊎ ((kind : Kind) × (read at.cid block ≡ Ok kind) × (fault_at q at.want kind ≡ Some fault))
+      → (read cid block ≡ Err fault) ⊎ ((kind : Kind) × (read cid block ≡ Ok kind) × (fault_at q at.want kind ≡ Some fault))
+  own_cause fault (inl e) = inl (own (Err fault) e)
+  own_cause fault (inr (kind, e, f)) = inr (kind, own (Ok kind) e, f)
+
+  told : (fault : BlockFault) (cause : (read at.cid block ≡ Err fault) ⊎ ((kind : Kind) × (read at.cid block ≡ Ok kind) × (fault_at q at.want kind ≡ Some fault)))
+      → (refusal_of_block cid fault ≡ refusals.OutOfMemory) ⊎ (refusal_of_block cid fault ≡ refusals.BadBlock cid fault)
+      → HasSectionCause q limits at (section_with cid block) (refusal_of_block cid fault)
+  told fault cause (inl e) = subst (λ (r : Refusal). HasSectionCause q limits at (section_with cid block) r) (sym e) tt
+  told fault cause (inr e) =
+      subst (λ (r : Refusal). HasSectionCause q limits at (section_with cid block) r) (sym e)
+      (refl, record { wanted = wanted; is_read = is_read; cause = own_cause fault cause })
+
+  pub read_bad : (fault : BlockFault) → IsReadAs q at block (Err fault) → IsCheckedAt q limits at (section_with cid block) (Err (refusal_of_block cid fault))
+  read_bad fault (inl e) =
+      subst (λ (f : BlockFault). HasSectionCause q limits at (section_with cid block) (refusal_of_block cid f)) (sym e) tt
+  read_bad fault (inr cause) = told fault cause (said cid fault)
+
+  read_block : (kind : Kind) → read at.cid block ≡ Ok kind → fault_at q at.want kind ≡ None → IsReadBlock q limits at (section_with cid block) kind
+  read_block kind reads fits = record { wanted = wanted; is_read = is_read; reads = own (Ok kind) reads; fits = fits }
+
+  -- its sizes
+  module _ (state : LeftState) (same : state.query ≡ q) (at_is : state.wanted ≡ Some at) (found : PlacedKind) (reads : IsReadAs q at block (Ok found)) where
+    here : (kind : Kind) → fault_at q at.want kind ≡ None → StandsForKind block found kind → IsBlockHere state at (section_with cid block) kind found block
+    here kind fits stands = record {
+      wanted = at_is;
+      fits = subst (λ (p : QueryParts). fault_at p at.want kind ≡ None) (sym same) fits;
+      block_at = record { block_is = refl; stands = stands };
+    }
+
+    pub read_good : ((kind : Kind) → IsBlockHere state at (section_with cid block) kind found block → IsSizeFault (position_of at.want) (section_with cid block) kind None)
+        → IsCheckedAt q limits at (section_with cid block) (Ok (Some found))
+    read_good sized =
+        (Some reads.0, record { passes = (read_block reads.0 reads.1 reads.2, sized reads.0 (here reads.0 reads.2 reads.3)); stands = reads.3 })
+
+    pub read_missized : (fault : SizeFault)
+        → ((kind : Kind) → IsBlockHere state at (section_with cid block) kind found block → IsSizeFault (position_of at.want) (section_with cid block) kind (Some fault))
+        → IsCheckedAt q limits at (section_with cid block) (Err (refusals.BadSize fault.declared fault.actual))
+    read_missized fault sized =
+        record { kind = reads.0; block = read_block reads.0 reads.1 reads.2; size = sized reads.0 (here reads.0 reads.2 reads.3) }
+
+-- a place that is told is wanted
+pub told_at : (w : Option WantedAt) (x : Wanted) → told_wanted w ≡ Some x → (at : WantedAt) × (w ≡ Some at) × (x ≡ record { cid = at.cid; depth = depth_of at.want })
+told_at None x e = absurd (cc e)
+told_at (Some at) x e = (at, refl, sym (some_same _ _ e))

@@ -1,0 +1,175 @@
+-- The sections of a list, one by one.
+use Rattle.std.proofs.Common.{Err, List, None, Ok, Option, Some, [], ap, append-nil, inr, refl, subst, sym, true, ℕ, ◌++◌, ◌∙◌, ◌∷◌, ◌≡◌}
+use Rattle.std.specs.Prelude.{MatchResult, Result}
+use Rattle.tg_cid.specs.Cid.{CidParts}
+use Rattle.tg_faults.specs.Faults.{Rose}
+use Rattle.tg_frames.specs.Left.{WantedAt, tasks_left, wanted_tasks}
+use Rattle.tg_model.specs.Dag.{Section}
+use Rattle.tg_model.specs.LimitNumbers.{LimitNumbers}
+use Rattle.tg_model.specs.Queries.{QueryParts}
+use Rattle.tg_streams.specs.Joining.{SinkJoins, put_nothing, put_put}
+use Rattle.tg_streams.specs.Streams.{Output, OutputQuiet, SinkMeaning, into}
+use Rattle.tg_traverse.specs.Stages.{nothing_given}
+use Rattle.tg_traverse.specs.Tasks.{Task, start}
+use Rattle.tg_traverse.specs.Verified.{VerifiedLaws}
+use Rattle.tg_verify.proofs.Opened.{going_through, going_up_to}
+use Rattle.tg_verify.proofs.Sections.{is_going}
+use Rattle.tg_verify.specs.History.{AllEnd, HasPut, HasPutCause, HasWritten, StandsBy, StandsFor}
+use Rattle.tg_verify.specs.Refusals.{HasRefused}
+use Rattle.tg_verify.specs.State.{VerifierState, cid_wanted, next_cid}
+use Rattle.tg_verify.specs.Taken.{IsFrontWritten, IsGoing, IsThrough, IsUpTo, IsWrittenAt, most_text}
+use Rattle.tg_verify.specs.declared.fault.Refusal.{Refusal}
+use Rattle.tg_verify.specs.declared.fault.Refusal.TheVariants as refusals
+use Rattle.tg_verify.specs.declared.verifier.Progress.{Progress}
+
+-- the verifier took these sections
+pub record AreTaken (q : QueryParts) (limits : LimitNumbers) (state : VerifierState) (sections : List Section) (out : Output) : Type 0 where
+  pub query : state.left.query ≡ q
+  pub limits_are : state.limits ≡ limits
+  pub fresh : state.refused ≡ None
+  pub quiet : OutputQuiet out
+  pub stands : q.dups ≡ true → HasPut out (λ text. IsGoing state sections text)
+
+-- what `section` says
+pub record SectionSays (old : VerifierState) (section : Section) (out : Output) (new : VerifierState) (result : Result Progress Refusal) : Type 0 where
+  pub query : new.left.query ≡ old.left.query
+  pub limits_are : new.limits ≡ old.limits
+  pub stands : (sections : List Section) (written : List ℕ) → old.refused ≡ None → StandsFor old sections written → HasWritten new (sections ++ section ∷ []) written out result
+  pub cause : old.refused ≡ None → HasPutCause result out
+  pub refused : MatchResult result (λ _. new.refused ≡ None) (λ fault. new.refused ≡ Some fault)
+
+stands_going : (state : VerifierState) (sections : List Section) (written : List ℕ) → state.refused ≡ None → IsGoing state sections written → StandsFor state sections written
+stands_going state sections written e h = subst (λ (r : Option Refusal). StandsBy r state sections written) (sym e) h
+
+-- ---- a front of the list, and want of memory behind it
+
+going_front_by : (state : VerifierState) (sections : List Section) (written : List ℕ) (h : IsGoing state sections written) (wanted : Option WantedAt) → IsWrittenAt state h.given written wanted
+    → most_text state.left.query h.given (wanted_tasks wanted ++ state.left.later) ≡ written
+going_front_by state sections written h (Some at) (text, names) = sym text
+going_front_by state sections written h None (later, text) =
+    ap (λ (tasks : List (Task CidParts)). most_text state.left.query h.given tasks) later ∙ sym text
+
+going_front : (state : VerifierState) (sections : List Section) (written : List ℕ) → IsGoing state sections written → IsFrontWritten state.left.query sections written
+going_front state sections written h = record {
+  repeats = h.repeats;
+  given = h.given;
+  tasks = tasks_left state.left;
+  verified = h.verified;
+  rest = [];
+  text = going_front_by state sections written h state.left.wanted h.writes ∙ sym (append-nil written);
+}
+
+-- before the first
+pub wants_at_start : (v : VerifiedLaws) {S : Type 0} (m : SinkMeaning S) (a : S) (q : QueryParts) (limits : LimitNumbers) (all : List Section) → m.wrote a a [] → q.dups ≡ true
+    → AllEnd q limits all (into m a a) (Err refusals.OutOfMemory)
+wants_at_start v {S} m a q limits all rests dups = (
+  record {
+    text = [];
+    put = put_nothing S m a rests;
+    is_so = record {
+      front = [];
+      rest = all;
+      whole = refl;
+      refused = inr (record { repeats = dups; given = nothing_given; tasks = start q q.root; verified = v.start q; rest = []; text = refl });
+    };
+  },
+  refl,
+)
+
+module _ (q : QueryParts) (limits : LimitNumbers) where
+  pub wants_behind : (state : VerifierState) (front rest all : List Section) (out : Output) → q.dups ≡ true → all ≡ front ++ rest → AreTaken q limits state front out
+      → AllEnd q limits all out (Err refusals.OutOfMemory)
+  wants_behind state front rest all out dups whole h =
+      let p = h.stands dups in (
+        record {
+          text = p.text;
+          put = p.put;
+          is_so = record { front = front; rest = rest; whole = whole; refused = inr (subst (λ (q : QueryParts). IsFrontWritten q front p.text) h.query (going_front state front p.text p.is_so)) };
+        },
+        h.quiet,
+      )
+
+  -- ---- the end of the list
+
+  ends_by : (state : VerifierState) (all : List Section) (out : Output) (wanted : Option WantedAt) → state.left.wanted ≡ wanted → q.dups ≡ true → AreTaken q limits state all out
+      → AllEnd q limits all out (Ok (cid_wanted wanted))
+  ends_by state all out None e dups h =
+      let p = h.stands dups in
+      (record { text = p.text; put = p.put; is_so = subst (λ (q : QueryParts). IsThrough q all p.text) h.query (going_through state all p.text p.is_so e) }, h.quiet)
+  ends_by state all out (Some at) e dups h =
+      let p = h.stands dups in
+      (record { text = p.text; put = p.put; is_so = (at, refl, subst (λ (q : QueryParts). IsUpTo q all p.text at) h.query (going_up_to state all p.text p.is_so at e)) }, h.quiet)
+
+  pub ends_all : (state : VerifierState) (all : List Section) (out : Output) (want : Option CidParts) → want ≡ next_cid state.refused state.left.wanted → q.dups ≡ true → AreTaken q limits state all out
+      → AllEnd q limits all out (Ok want)
+  ends_all state all out want e dups h =
+      let is_next : want ≡ cid_wanted state.left.wanted = e ∙ ap (λ (r : Option Refusal). next_cid r state.left.wanted) h.fresh in
+      subst (λ (w : Option CidParts). AllEnd q limits all out (Ok w)) (sym is_next) (ends_by state all out state.left.wanted refl dups h)
+
+  -- ---- a section
+
+  module _ {S : Type 0} (m : SinkMeaning S) (joins : SinkJoins S m) (a b c : S) (old new : VerifierState) (front : List Section) (section : Section) (h : AreTaken q limits old front (into m a b)) where
+    written_more : (result : Result Progress Refusal) → SectionSays old section (into m b c) new result → (p : HasPut (into m a b) (λ text. IsGoing old front text))
+        → HasWritten new (front ++ section ∷ []) p.text (into m b c) result
+    written_more result says p = says.stands front p.text h.fresh (stands_going old front p.text h.fresh p.is_so)
+
+    pub takes_one : (progress : Progress) → SectionSays old section (into m b c) new (Ok progress) → AreTaken q limits new (front ++ section ∷ []) (into m a c)
+    takes_one progress says = record {
+      query = says.query ∙ h.query;
+      limits_are = says.limits_are ∙ h.limits_are;
+      fresh = says.refused;
+      quiet = says.cause h.fresh ∙ h.quiet;
+      stands = λ dups.
+          let p = h.stands dups in
+          let w = written_more (Ok progress) says p in
+          record { text = p.text ++ w.text; put = put_put S m a b c p.text w.text joins p.put w.put; is_so = is_going new (front ++ section ∷ []) (p.text ++ w.text) says.refused w.stands };
+    }
+
+    later_quiet : OutputQuiet (into m b c) → OutputQuiet (into m a c)
+    later_quiet quiet = quiet ∙ h.quiet
+
+    later_cause : (fault : Refusal) → HasPutCause (Err fault) (into m b c) → HasPutCause (Err fault) (into m a c)
+    later_cause refusals.SinkFault rose = subst (λ (n : ℕ). Rose n (m.faults c)) h.quiet rose
+    later_cause (refusals.Truncated want number) none = none
+    later_cause (refusals.Extra number) quiet = later_quiet quiet
+    later_cause (refusals.Limit kind number) quiet = later_quiet quiet
+    later_cause (refusals.BadDigest cid) quiet = later_quiet quiet
+    later_cause (refusals.WrongBlock want got) quiet = later_quiet quiet
+    later_cause (refusals.BadBlock cid fault) quiet = later_quiet quiet
+    later_cause (refusals.BadSize declared actual) quiet = later_quiet quiet
+    later_cause (refusals.NotFolder segment) quiet = later_quiet quiet
+    later_cause (refusals.NotThere segment) quiet = later_quiet quiet
+    later_cause refusals.OutOfMemory quiet = later_quiet quiet
+
+    pub stops_at : (fault : Refusal) (rest all : List Section) → all ≡ (front ++ section ∷ []) ++ rest → q.dups ≡ true → SectionSays old section (into m b c) new (Err fault)
+        → AllEnd q limits all (into m a c) (Err fault)
+    stops_at fault rest all whole dups says =
+        let p = h.stands dups in
+        let w = written_more (Err fault) says p in
+        let text = p.text ++ w.text in
+        let refused : HasRefused new.left.query new.limits (front ++ section ∷ []) text fault =
+        subst (λ (r : Option Refusal). StandsBy r new (front ++ section ∷ []) text) says.refused w.stands in (
+          record {
+            text = text;
+            put = put_put S m a b c p.text w.text joins p.put w.put;
+            is_so = record {
+              front = front ++ section ∷ [];
+              rest = rest;
+              whole = whole;
+              refused = subst (λ (q : QueryParts). HasRefused q limits (front ++ section ∷ []) text fault) (says.query ∙ h.query)
+                  (subst (λ (l : LimitNumbers). HasRefused new.left.query l (front ++ section ∷ []) text fault) (says.limits_are ∙ h.limits_are) refused);
+            };
+          },
+          later_cause fault (says.cause h.fresh),
+        )
+
+-- before the first of them
+pub none_yet : (q : QueryParts) (limits : LimitNumbers) (state : VerifierState) {S : Type 0} (m : SinkMeaning S) (a : S) → m.wrote a a [] → state.left.query ≡ q → state.limits ≡ limits
+    → state.refused ≡ None → (q.dups ≡ true → StandsFor state [] []) → AreTaken q limits state [] (into m a a)
+none_yet q limits state {S} m a rests query limits_are fresh stands = record {
+  query = query;
+  limits_are = limits_are;
+  fresh = fresh;
+  quiet = refl;
+  stands = λ dups. record { text = []; put = put_nothing S m a rests; is_so = is_going state [] [] fresh (stands dups) };
+}

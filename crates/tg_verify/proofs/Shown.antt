@@ -1,0 +1,185 @@
+-- What was taken of a query's sections, what is written for them, and both beside a sound DAG.
+use Rattle.std.proofs.Common.{◌≡◌, ◌⊎◌, ◌++◌, ◌∷◌, ℕ, List, [], Some, inl, inr, ⊎_elim, refl, sym, true, ap, ◌∙◌, subst}
+use Rattle.tg_cid.specs.Cid.{CidParts}
+use Rattle.tg_frames.specs.Left.{WantedAt}
+use Rattle.tg_laws.specs.PartialDags.{WriteFronts}
+use Rattle.tg_model.specs.Answer.{answer}
+use Rattle.tg_model.specs.Dag.{Dag, Section, blocks, root_cid}
+use Rattle.tg_model.specs.Ends.{StopsAlike}
+use Rattle.tg_model.specs.Fits.{CollisionPair, Fits, IsFrontOfAnswer, IsInProgress, IsOpenedFor, output_so_far}
+use Rattle.tg_model.specs.Lookup.{LookupEnd, lookup_path}
+use Rattle.tg_model.specs.Lookup as lookups
+use Rattle.tg_model.specs.PathWalk.{Spot, not_folder, not_there, stopped}
+use Rattle.tg_model.specs.Queries.{QueryParts}
+use Rattle.tg_model.specs.Sound.{IsSound}
+use Rattle.tg_model.specs.Traversal.{ListedEntry, Traversal, block_list, traversal}
+use Rattle.tg_traverse.specs.Stages.{Given, up_to_next}
+use Rattle.tg_traverse.specs.Tasks.{Miss, Task, give_entries, give_text, no_directory, no_entry, open_block, spot_of, stop_at, tasks_then, text_now}
+use Rattle.tg_traverse.specs.Verified.{GoesOn, IsAccepted, LeadsNowhere, Verified, VerifiedLaws, listing_at_end, written_whole}
+use Rattle.tg_verify.proofs.Fronts.{front_of_front, is_once, sent_all, whole_is_front}
+use Rattle.tg_verify.specs.Laws.{IsFitOf, IsNowhereOf, IsProgressOf}
+use Rattle.tg_verify.specs.Sound.{IsItsAnswer, IsItsFront}
+use Rattle.tg_verify.specs.Taken.{IsFrontWritten, IsNowhere, IsThrough, IsUpTo, most_text}
+
+-- of sections against every peer
+pub record PeerLaws : Type 0 where
+  pub accepted : (q : QueryParts) (d s : Dag) (sections : List Section) (out : List ℕ) → IsSound d → root_cid d ≡ q.root → Fits s q sections out
+      → ((sections ≡ block_list q d) × (answer q d ≡ Some out)) ⊎ CollisionPair sections d
+  pub written : WriteFronts
+  pub meanwhile : (q : QueryParts) (d s : Dag) (sections : List Section) (wanted : Spot) → IsSound d → root_cid d ≡ q.root → IsInProgress s q sections wanted
+      → IsFrontOfAnswer (output_so_far q s) (answer q d) ⊎ CollisionPair sections d
+  pub absent : (q : QueryParts) (d s : Dag) (i : ℕ) → IsSound d → root_cid d ≡ q.root → IsOpenedFor s q → (traversal q s).end ≡ stopped (not_there i)
+      → StopsAlike (not_there i) (lookup_path q.path d) ⊎ CollisionPair (blocks s) d
+  pub not_folder : (q : QueryParts) (d s : Dag) (i : ℕ) → IsSound d → root_cid d ≡ q.root → IsOpenedFor s q → (traversal q s).end ≡ stopped (not_folder i)
+      → StopsAlike (not_folder i) (lookup_path q.path d) ⊎ CollisionPair (blocks s) d
+
+-- ---- how tasks go on
+
+data Then (tasks : List (Task CidParts)) : Type 0 where
+  then_none : tasks_then tasks ≡ [] → Then tasks
+  then_block : (at : WantedAt) (more : List (Task CidParts)) → tasks_then tasks ≡ open_block at.want at.cid ∷ more → Then tasks
+  then_stop : (miss : Miss) (more : List (Task CidParts)) → tasks_then tasks ≡ stop_at miss ∷ more → Then tasks
+
+then_text : (text : List ℕ) (tasks : List (Task CidParts)) → Then tasks → Then (give_text text ∷ tasks)
+then_text text tasks (then_none e) = then_none e
+then_text text tasks (then_block at more e) = then_block at more e
+then_text text tasks (then_stop miss more e) = then_stop miss more e
+
+then_entries : (met : List ListedEntry) (tasks : List (Task CidParts)) → Then tasks → Then (give_entries met ∷ tasks)
+then_entries met tasks (then_none e) = then_none e
+then_entries met tasks (then_block at more e) = then_block at more e
+then_entries met tasks (then_stop miss more e) = then_stop miss more e
+
+how_then : (tasks : List (Task CidParts)) → Then tasks
+how_then [] = then_none refl
+how_then (open_block w cid ∷ tasks) = then_block (record { want = w; cid = cid }) tasks refl
+how_then (give_text text ∷ tasks) = then_text text tasks (how_then tasks)
+how_then (give_entries met ∷ tasks) = then_entries met tasks (how_then tasks)
+how_then (stop_at miss ∷ tasks) = then_stop miss tasks refl
+
+module _ (v : VerifiedLaws) where
+  -- ---- what the sections are
+
+  pub up_to_progress : (q : QueryParts) (sections : List Section) (written : List ℕ) (at : WantedAt) → IsUpTo q sections written at → IsProgressOf q sections written (spot_of at.want at.cid)
+  up_to_progress q sections written at h =
+      let goes : GoesOn q sections h.given (spot_of at.want at.cid) = v.goes q sections h.given at.want at.cid h.later (is_once q.dups _ h.repeats) h.verified in
+      record { s = goes.s; progress = goes.progress; output = goes.output ∙ sym h.text }
+
+  pub through_fits : (q : QueryParts) (sections : List Section) (written : List ℕ) → IsThrough q sections written → IsFitOf q sections written
+  through_fits q sections written h =
+      let accepted : IsAccepted q sections h.given = v.fits q sections h.given h.verified in
+      record { s = accepted.s; fits = subst (Fits accepted.s q sections) (sym h.text) accepted.fits }
+
+  pub nowhere_leads : (q : QueryParts) (sections : List Section) (written : List ℕ) (miss : Miss) → IsNowhere q sections written miss → IsNowhereOf q sections written miss
+  nowhere_leads q sections written miss h =
+      let leads : LeadsNowhere q sections h.given miss = v.misses q sections h.given miss h.later h.verified in
+      record { s = leads.s; opened = leads.right; list = leads.list; end = ap (λ (t : Traversal). t.end) leads.gives; output = leads.output ∙ sym h.text }
+
+  -- ---- beside a sound DAG
+
+  module _ (p : PeerLaws) (q : QueryParts) (d : Dag) (sound : IsSound d) (root : root_cid d ≡ q.root) (sections : List Section) where
+    pub up_to_sound : (written : List ℕ) (at : WantedAt) → IsUpTo q sections written at → IsItsFront q d sections written
+    up_to_sound written at h =
+        let progress : IsProgressOf q sections written (spot_of at.want at.cid) = up_to_progress q sections written at h in
+        subst (λ (out : List ℕ). IsItsFront q d sections out) progress.output (p.meanwhile q d progress.s sections (spot_of at.want at.cid) sound root progress.progress)
+
+    pub through_sound : (written : List ℕ) → IsThrough q sections written → IsItsAnswer q d sections written
+    through_sound written h =
+        let fit : IsFitOf q sections written = through_fits q sections written h in
+        ⊎_elim (λ both. inl both.1) (λ pair. inr pair) (p.accepted q d fit.s sections written sound root fit.fits)
+
+    pub answer_front : (written : List ℕ) → IsItsAnswer q d sections written → IsItsFront q d sections written
+    answer_front written (inl e) = inl (whole_is_front (answer q d) written e)
+    answer_front written (inr pair) = inr pair
+
+    -- where a segment leads nowhere
+
+    module _ (written : List ℕ) (miss : Miss) (h : IsNowhere q sections written miss) where
+      leads : IsNowhereOf q sections written miss
+      leads = nowhere_leads q sections written miss h
+
+      -- the blocks are those sections
+      of_sections : CollisionPair (blocks leads.s) d → CollisionPair sections d
+      of_sections pair =
+          subst (λ (some : List Section). CollisionPair some d) (leads.opened.opened ∙ sym (sent_all q h.repeats (traversal q leads.s).places) ∙ leads.list) pair
+
+      pub nowhere_front : IsItsFront q d sections written
+      nowhere_front = ⊎_elim
+          (λ front. inl (subst (λ (out : List ℕ). IsFrontOfAnswer out (answer q d)) leads.output front))
+          (λ pair. inr (of_sections pair))
+          (p.written q d leads.s sound root leads.opened)
+
+    not_there_alike : (i : ℕ) (end : LookupEnd) → StopsAlike (not_there i) end → end ≡ lookups.not_there i
+    not_there_alike i (lookups.found t) h = absurd h
+    not_there_alike i (lookups.not_there j) h = ap lookups.not_there (sym h)
+    not_there_alike i (lookups.not_folder j) h = absurd h
+
+    not_folder_alike : (i : ℕ) (end : LookupEnd) → StopsAlike (not_folder i) end → end ≡ lookups.not_folder i
+    not_folder_alike i (lookups.found t) h = absurd h
+    not_folder_alike i (lookups.not_there j) h = absurd h
+    not_folder_alike i (lookups.not_folder j) h = ap lookups.not_folder (sym h)
+
+    pub no_entry_says : (written : List ℕ) (i : ℕ) → IsNowhere q sections written (no_entry i) → (lookup_path q.path d ≡ lookups.not_there i) ⊎ CollisionPair sections d
+    no_entry_says written i h =
+        let led : IsNowhereOf q sections written (no_entry i) = leads written (no_entry i) h in
+        ⊎_elim
+        (λ alike. inl (not_there_alike i (lookup_path q.path d) alike))
+        (λ pair. inr (of_sections written (no_entry i) h pair))
+        (p.absent q d led.s i sound root led.opened led.end)
+
+    pub no_directory_says : (written : List ℕ) (i : ℕ) → IsNowhere q sections written (no_directory i) → (lookup_path q.path d ≡ lookups.not_folder i) ⊎ CollisionPair sections d
+    no_directory_says written i h =
+        let led : IsNowhereOf q sections written (no_directory i) = leads written (no_directory i) h in
+        ⊎_elim
+        (λ alike. inl (not_folder_alike i (lookup_path q.path d) alike))
+        (λ pair. inr (of_sections written (no_directory i) h pair))
+        (p.not_folder q d led.s i sound root led.opened led.end)
+
+    -- ---- a front of what the sections say
+
+    shorter : (out written rest : List ℕ) → out ≡ written ++ rest → IsItsFront q d sections out → IsItsFront q d sections written
+    shorter out written rest e (inl front) = inl (front_of_front (answer q d) out written rest e front)
+    shorter out written rest e (inr pair) = inr pair
+
+    -- by what comes next
+
+    front_by : (repeats : q.dups ≡ true) (given : Given) (tasks : List (Task CidParts)) → Verified q sections (up_to_next tasks given) (tasks_then tasks) → Then tasks
+        → IsItsFront q d sections (given.text ++ text_now tasks)
+    front_by repeats given tasks verified (then_none e) =
+        let next = up_to_next tasks given in
+        let through : IsThrough q sections (written_whole q next) = record {
+          repeats = repeats;
+          given = next;
+          verified = subst (λ (xs : List (Task CidParts)). Verified q sections next xs) e verified;
+          text = refl;
+        } in
+        shorter (written_whole q next) (given.text ++ text_now tasks) (listing_at_end q.scope next.met) refl
+        (answer_front (written_whole q next) (through_sound (written_whole q next) through))
+    front_by repeats given tasks verified (then_block at more e) =
+        let next = up_to_next tasks given in
+        up_to_sound (given.text ++ text_now tasks) at (record {
+          repeats = repeats;
+          given = next;
+          later = more;
+          verified = subst (λ (xs : List (Task CidParts)). Verified q sections next xs) e verified;
+          text = refl;
+        })
+    front_by repeats given tasks verified (then_stop miss more e) =
+        let next = up_to_next tasks given in
+        nowhere_front (given.text ++ text_now tasks) miss (record {
+          repeats = repeats;
+          given = next;
+          later = more;
+          verified = subst (λ (xs : List (Task CidParts)). Verified q sections next xs) e verified;
+          text = refl;
+        })
+
+    most_by : (repeats : q.dups ≡ true) (given : Given) (tasks : List (Task CidParts)) → Verified q sections given tasks → IsItsFront q d sections (most_text q given tasks)
+    most_by repeats given [] verified =
+        answer_front (written_whole q given) (through_sound (written_whole q given) (record { repeats = repeats; given = given; verified = verified; text = refl }))
+    most_by repeats given (task ∷ tasks) verified =
+        let all = task ∷ tasks in
+        shorter (given.text ++ text_now all) given.text (text_now all) refl (front_by repeats given all (v.up_to_next q sections given all verified) (how_then all))
+
+    pub written_front : (written : List ℕ) → IsFrontWritten q sections written → IsItsFront q d sections written
+    written_front written h = shorter (most_text q h.given h.tasks) written h.rest h.text (most_by h.repeats h.given h.tasks h.verified)

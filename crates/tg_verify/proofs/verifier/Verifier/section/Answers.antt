@@ -1,0 +1,28 @@
+use Rattle.std.proofs.Common.{[], subst, sym, ◌++◌, ◌∷◌}
+use Rattle.tg_streams.specs.Streams.{into}
+use Rattle.tg_verify.proofs.Sections.{is_going, own_fault, written_of}
+use Rattle.tg_verify.specs.History.{HasWritten}
+use Rattle.tg_verify.specs.State.{VerifierState}
+use Rattle.tg_verify.specs.Steps.{section_with}
+use Rattle.tg_verify.proofs.verifier.Verifier.section.Goals as goal
+
+pub returns-clause-stands : goal.returns-clause-stands
+returns-clause-stands g c sections written none h =
+    let all = sections ++ section_with c.args.cid c.args.block ∷ [] in
+    let out = into g.S.Sink.sink c.args.out.now c.take-end.new.out in
+    subst (λ (v : VerifierState). HasWritten (record v { refused = c.refusal_of-self-inside.result }) all written out c.take-end.result) (sym c.self-2.view_is)
+    (written_of c.verified_answers.ensures c.take-end.new.self c.refusal_of-self-inside.result all written out c.take-end.result c.refusal_of-self-inside.ensures c.take-end.ensures.progress
+    (c.take-end.ensures.stands sections written (is_going c.args.self.now sections written none h)))
+
+pub returns-clause-fitting : goal.returns-clause-fitting
+returns-clause-fitting g c d sections rest written text none h fits within =
+    own_fault c.args.self.now.left.query c.args.self.now.limits c.take-end.new.self (sections ++ section_with c.args.cid c.args.block ∷ []) written (into g.S.Sink.sink c.args.out.now c.take-end.new.out)
+    c.take-end.result c.take-end.ensures.query c.take-end.ensures.limits (c.take-end.ensures.stands sections written (is_going c.args.self.now sections written none h))
+    (λ put fault refused. c.verified_answers.ensures.fit_taken c.args.self.now.left.query c.args.self.now.limits d sections rest (section_with c.args.cid c.args.block) put text fault fits within refused)
+
+pub returns-clause-in_progress : goal.returns-clause-in_progress
+returns-clause-in_progress g c d sections rest written wanted none h progress within =
+    own_fault c.args.self.now.left.query c.args.self.now.limits c.take-end.new.self (sections ++ section_with c.args.cid c.args.block ∷ []) written (into g.S.Sink.sink c.args.out.now c.take-end.new.out)
+    c.take-end.result c.take-end.ensures.query c.take-end.ensures.limits (c.take-end.ensures.stands sections written (is_going c.args.self.now sections written none h))
+    (λ put fault refused. c.verified_answers.ensures.progress_taken c.args.self.now.left.query c.args.self.now.limits d sections rest (section_with c.args.cid c.args.block) put wanted fault progress within
+    refused)

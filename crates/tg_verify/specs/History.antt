@@ -1,0 +1,98 @@
+-- What a verifier stands for: the sections that it received and what it wrote for them.
+use Rattle.std.specs.Prelude.{Err, List, None, Ok, Option, Result, Some, [], ⊤, ℕ, ◌++◌, ◌≡◌, ◌≢◌}
+use Rattle.tg_cid.specs.Cid.{CidParts}
+use Rattle.tg_frames.specs.Left.{WantedAt}
+use Rattle.tg_model.specs.Dag.{Section}
+use Rattle.tg_model.specs.LimitNumbers.{LimitNumbers}
+use Rattle.tg_model.specs.Queries.{QueryParts}
+use Rattle.tg_streams.specs.Streams.{Output, OutputQuiet, OutputRose, Put}
+use Rattle.tg_traverse.specs.Tasks.{no_directory, no_entry, spot_of}
+use Rattle.tg_verify.specs.Laws.{IsFitOf, IsNowhereOf, IsProgressOf}
+use Rattle.tg_verify.specs.Refusals.{HasRefused}
+use Rattle.tg_verify.specs.Sound.{AnswersFor, ForEachSound}
+use Rattle.tg_verify.specs.State.{VerifierState}
+use Rattle.tg_verify.specs.Taken.{IsGoing, IsThrough, IsUpTo}
+use Rattle.tg_verify.specs.declared.fault.Refusal.{Refusal}
+use Rattle.tg_verify.specs.declared.fault.Refusal.TheVariants as refusals
+use Rattle.tg_verify.specs.declared.verifier.Progress.{Progress}
+use Rattle.tg_verify.specs.declared.verifier.Progress.TheVariants as progresses
+
+-- the verifier received these sections, the refused one with them, and wrote this; it goes on or was refused
+abbrev pub StandsBy : Option Refusal → VerifierState → List Section → List ℕ → Type 0
+StandsBy None state sections written = IsGoing state sections written
+StandsBy (Some fault) state sections written = HasRefused state.left.query state.limits sections written fault
+
+abbrev pub StandsFor : VerifierState → List Section → List ℕ → Type 0
+StandsFor state sections written = StandsBy state.refused state sections written
+
+-- a block is wanted exactly as long as there is more to come
+abbrev pub IsProgress : Progress → VerifierState → Type 0
+IsProgress progresses.More state = state.left.wanted ≢ None
+IsProgress progresses.Done state = state.left.wanted ≡ None
+
+-- a fault of out comes where one was counted, and nowhere else; and nobody says to `section` that no more come
+abbrev pub HasPutCause : Result Progress Refusal → Output → Type 0
+HasPutCause (Ok progress) out = OutputQuiet out
+HasPutCause (Err refusals.SinkFault) out = OutputRose out
+HasPutCause (Err (refusals.Truncated want number)) out = ⊥
+HasPutCause (Err other) out = OutputQuiet out
+
+-- a refusal puts nothing, but that out may fail, or memory be wanted, in what the section says
+abbrev pub PutsFor : Result Progress Refusal → List ℕ → Type 0
+PutsFor (Ok progress) text = ⊤
+PutsFor (Err refusals.SinkFault) text = ⊤
+PutsFor (Err refusals.OutOfMemory) text = ⊤
+PutsFor (Err other) text = text ≡ []
+
+-- what the sections are: in progress up to the wanted spot, or what fits; or they show that the path leads nowhere
+abbrev pub ShowsFor : QueryParts → Option WantedAt → List Section → List ℕ → Result Progress Refusal → Type 0
+ShowsFor q wanted sections written (Ok progresses.More) =
+    (at : WantedAt) × (wanted ≡ Some at) × IsProgressOf q sections written (spot_of at.want at.cid)
+ShowsFor q wanted sections written (Ok progresses.Done) = IsFitOf q sections written
+ShowsFor q wanted sections written (Err (refusals.NotThere segment)) = IsNowhereOf q sections written (no_entry segment)
+ShowsFor q wanted sections written (Err (refusals.NotFolder segment)) = IsNowhereOf q sections written (no_directory segment)
+ShowsFor q wanted sections written (Err other) = ⊤
+
+-- a text was put, and with it the verifier stands for these sections; what they are; and what that says of each sound DAG of the root
+pub record HasWritten (state : VerifierState) (sections : List Section) (written : List ℕ) (out : Output) (result : Result Progress Refusal) : Type 0 where
+  pub text : List ℕ
+  pub put : Put text out
+  pub puts : PutsFor result text
+  pub stands : StandsFor state sections (written ++ text)
+  pub shows : ShowsFor state.left.query state.left.wanted sections (written ++ text) result
+  pub sound : ForEachSound state.left.query (λ d. AnswersFor state.left.query d sections (written ++ text) result)
+
+-- the same of a step that keeps no refusal
+abbrev pub StandsAfter : Result Progress Refusal → VerifierState → List Section → List ℕ → Type 0
+StandsAfter (Ok progress) state sections written = IsGoing state sections written
+StandsAfter (Err fault) state sections written = HasRefused state.left.query state.limits sections written fault
+
+pub record HasTaken (state : VerifierState) (sections : List Section) (written : List ℕ) (out : Output) (result : Result Progress Refusal) : Type 0 where
+  pub text : List ℕ
+  pub put : Put text out
+  pub puts : PutsFor result text
+  pub stands : StandsAfter result state sections (written ++ text)
+
+-- ---- sections in a list
+
+abbrev pub section_of_pair : CidParts × List ℕ → Section
+section_of_pair pair = record { cid = pair.0; block = pair.1 }
+
+-- a text was put for the sections, of which this holds
+pub record HasPut (out : Output) (holds : List ℕ → Type 0) : Type 0 where
+  pub text : List ℕ
+  pub put : Put text out
+  pub is_so : holds text
+
+-- of the sections these were received
+pub record HasRefusedFront (q : QueryParts) (limits : LimitNumbers) (sections : List Section) (written : List ℕ) (fault : Refusal) : Type 0 where
+  pub front : List Section
+  pub rest : List Section
+  pub whole : sections ≡ front ++ rest
+  pub refused : HasRefused q limits front written fault
+
+-- how a list of sections ends: all came; or a block is wanted behind them; or one of them was refused
+abbrev pub AllEnd : QueryParts → LimitNumbers → List Section → Output → Result (Option CidParts) Refusal → Type 0
+AllEnd q limits sections out (Ok None) = HasPut out (λ text. IsThrough q sections text) × OutputQuiet out
+AllEnd q limits sections out (Ok (Some want)) = HasPut out (λ text. (at : WantedAt) × (want ≡ at.cid) × IsUpTo q sections text at) × OutputQuiet out
+AllEnd q limits sections out (Err fault) = HasPut out (λ text. HasRefusedFront q limits sections text fault) × HasPutCause (Err fault) out

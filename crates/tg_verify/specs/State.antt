@@ -1,0 +1,40 @@
+-- What contracts see of a verifier.
+use Rattle.std.specs.Prelude.{List, None, Option, Some, [], length, map, min, ℕ, ◌-◌, ◌^◌}
+use Rattle.tg_cid.specs.Cid.{CidParts}
+use Rattle.tg_frames.specs.Left.{LeftState, WantedAt}
+use Rattle.tg_model.specs.Dag.{Section}
+use Rattle.tg_model.specs.LimitNumbers.{LimitNumbers}
+use Rattle.tg_model.specs.Texts.{Named}
+use Rattle.tg_model.specs.Traversal.{ListedEntry, named_met}
+use Rattle.tg_model.specs.declared.kinds.Entry.{Entry}
+use Rattle.tg_model.specs.declared.queries.Scope.TheVariants as scopes
+use Rattle.tg_model.specs.declared.queries.Scope.{Scope}
+use Rattle.tg_verify.specs.declared.fault.Refusal.{Refusal}
+
+-- what is left of the query's traversal; the limits; the entries of the directory that is listed, so far; how many sections were taken;
+-- and the refusal after which nothing is taken
+pub record VerifierState : Type 0 where
+  pub left : LeftState
+  pub limits : LimitNumbers
+  pub entries : List Entry
+  pub taken : ℕ
+  pub refused : Option Refusal
+
+-- how many sections there are, as a verifier shows it: the number stands still at 2 ^ 64 - 1
+abbrev pub count_of : List Section → ℕ
+count_of sections = min (length sections) (2 ^ 64 - 1)
+
+-- the CID of the block that must come next: none once all came, and none after a refusal
+abbrev pub cid_wanted : Option WantedAt → Option CidParts
+cid_wanted None = None
+cid_wanted (Some at) = Some at.cid
+
+abbrev pub next_cid : Option Refusal → Option WantedAt → Option CidParts
+next_cid None wanted = cid_wanted wanted
+next_cid (Some refusal) wanted = None
+
+-- of the entries that were met a verifier keeps those of a listing
+abbrev pub listed_of : Scope → List ListedEntry → List Named
+listed_of scopes.Block met = []
+listed_of scopes.Entity met = map named_met met
+listed_of scopes.All met = []

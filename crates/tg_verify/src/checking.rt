@@ -1,0 +1,94 @@
+//! The checks of a section.
+ghost use Rattle.std.specs.Prelude.{◌≡◌, ◌<◌, All, Err, None, Some, true};
+ghost use Rattle.tg_frames.specs.Left.{WantedAt};
+ghost use Rattle.tg_traverse.specs.Tasks.{is_read_at};
+ghost use Rattle.tg_verify.specs.Refusals.{IsWantedBlock, refusal_of_block};
+ghost use Rattle.tg_verify.specs.Steps.{IsCheckedAt, section_with};
+
+use crate::fault::Refusal;
+use crate::verifier::Verifier;
+use tg_cid::Cid;
+use tg_model::{BlockFault, LimitKind, PlacedKind};
+
+impl Verifier {
+    /// What the section's block is read as at the wanted place, where it passes there; and none where it isn't read, since the query asks
+    /// for the block alone. The block is hashed once.
+    ///
+    /// Errors: those of `section` up to `BadSize`, in their order.
+    pub(crate) fn checked(&self, cid: &Cid, block: &[u8]) -> Result<Option<PlacedKind>, Refusal>
+        ensures surplus { self.now.left.wanted ≡ None → result ≡ Err (Refusal.Extra self.now.taken) }
+        ensures checked { (at : WantedAt) → self.now.left.wanted ≡ Some at
+            → IsCheckedAt self.now.left.query self.now.limits at (section_with cid.now block.now) result }
+    {
+        let Some(wanted) = self.frames.wanted() else {
+            return Err(Refusal::Extra {
+                sections: self.taken,
+            });
+        };
+        let most = self.limits.number(LimitKind::Block);
+        if block.len() as u64 > most {
+            return Err(limit(LimitKind::Block, most));
+        }
+        if !cid.holds(block) {
+            return Err(Refusal::BadDigest { cid: *cid });
+        }
+        if *cid != wanted.cid {
+            return Err(Refusal::WrongBlock {
+                want: wanted.cid,
+                got: *cid,
+            });
+        }
+        let deepest = self.limits.number(LimitKind::Depth);
+        if wanted.depth > deepest {
+            return Err(limit(LimitKind::Depth, deepest));
+        }
+        if !self.frames.is_read() {
+            return Ok(None);
+        }
+        self.read(cid, block)
+    }
+
+    /// What the block of the wanted CID is read as, where a block of its kind may stand there and its sizes are those that are told.
+    ///
+    /// Errors: `BadBlock`, `BadSize`, and `OutOfMemory`.
+    fn read(&self, cid: &Cid, block: &[u8]) -> Result<Option<PlacedKind>, Refusal>
+        requires { (at : WantedAt) × (self.now.left.wanted ≡ Some at) }
+        ensures { (at : WantedAt) → self.now.left.wanted ≡ Some at → is_read_at self.now.left.query at.want ≡ true
+            → IsWantedBlock self.now.limits at (section_with cid.now block.now)
+            → IsCheckedAt self.now.left.query self.now.limits at (section_with cid.now block.now) result }
+    {
+        let found = match self.frames.read(self.alloc, block) {
+            Ok(found) => found,
+            Err(fault) => return Err(refusal_of_block(*cid, fault)),
+        };
+        if let Some(fault) = self.frames.size_fault(&found, block) {
+            return Err(Refusal::BadSize {
+                declared: fault.declared,
+                actual: fault.actual,
+            });
+        }
+        Ok(Some(found))
+    }
+}
+
+/// These are bytes.
+pub(crate) fn are_bytes(_bytes: &[u8])
+    ensures { All (λ b. b < 256) _bytes.now }
+{}
+
+/// The refusal at a limit.
+fn limit(kind: LimitKind, number: u64) -> Refusal
+    ensures { result ≡ Refusal.Limit kind number }
+{
+    Refusal::Limit { kind, number }
+}
+
+/// The refusal at a block with this fault; want of memory is the verifier's own.
+fn refusal_of_block(cid: Cid, fault: BlockFault) -> Refusal
+    ensures { result ≡ refusal_of_block cid fault }
+{
+    match fault {
+        BlockFault::OutOfMemory => Refusal::OutOfMemory,
+        fault => Refusal::BadBlock { cid, fault },
+    }
+}

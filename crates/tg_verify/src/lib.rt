@@ -1,0 +1,14 @@
+//! The verifier of a query's sections: it takes them one by one, each as the next block that the query asks for, and writes what they say.
+#![tactic(auto)]
+
+mod all;
+mod checking;
+mod fault;
+mod laws;
+mod settling;
+mod verifier;
+
+pub use all::verify_all;
+pub use fault::Refusal;
+pub use laws::{own_sections_taken, verified_answers};
+pub use verifier::{Progress, Verifier};
