@@ -157,6 +157,7 @@ impl Verifier {
             → ForEachSound self.new.left.query (λ d. EndsFor self.new.left.query d sections written result) }
         // Ok exactly where nothing was refused and no block is wanted.
         ensures done { OnOk result ((self.old.refused ≡ None) × (self.old.left.wanted ≡ None) × (self.new ≡ self.old)) }
+        ensures through { self.old.refused ≡ None → self.old.left.wanted ≡ None → result ≡ Ok tt }
         ensures cut { (at : WantedAt) → self.old.refused ≡ None → self.old.left.wanted ≡ Some at → result ≡ Err (Refusal.Truncated at.cid self.old.taken) }
         ensures again { (fault : Refusal) → self.old.refused ≡ Some fault → (result ≡ Err fault) × (self.new ≡ self.old) }
         ensures refused { MatchResult result (λ _. self.new.refused ≡ None) (λ fault. self.new.refused ≡ Some fault) }
