@@ -1,0 +1,165 @@
+-- How a body is refused: by the reader of the CAR, or by the verifier.
+use Rattle.std.proofs.Common.{◌≡◌, ℕ, ◌<◌, ◌≤◌, List, [], ◌∷◌, ◌++◌, length, All, Err, refl, ap, sym, subst, ◌∙◌, inl, inr, append_assoc, arith}
+use Rattle.std.proofs.lemmas.List.{length-append}
+use Rattle.std.proofs.lemmas.List.Elements.{All-head, All-tail}
+use Rattle.tg_car.specs.Faults.{Brings, PassesLimit}
+use Rattle.tg_car.specs.History.{IsAmongSections}
+use Rattle.tg_car.specs.declared.event.Event.{Event}
+use Rattle.tg_car.specs.declared.fault.CarFault.{CarFault}
+use Rattle.tg_car.specs.declared.fault.CarFault.TheVariants as cars
+use Rattle.tg_frames.specs.Left.{WantedAt}
+use Rattle.tg_model.specs.Dag.{Dag, Section}
+use Rattle.tg_model.specs.LimitNumbers.{LimitNumbers}
+use Rattle.tg_model.specs.Queries.{QueryParts}
+use Rattle.tg_model.specs.declared.limits.LimitKind.TheVariants as kinds
+use Rattle.tg_streams.specs.Streams.{Output, Put}
+use Rattle.tg_verify.specs.History.{HasPutCause}
+use Rattle.tg_verify.specs.Laws.{AnswerLaws}
+use Rattle.tg_verify.specs.Refusals.{HasRefused}
+use Rattle.tg_verify.specs.Sound.{AnswersFor, ForEachSound}
+use Rattle.tg_verify.specs.State.{count_of}
+use Rattle.tg_verify.specs.Taken.{IsThrough, IsUpTo}
+use Rattle.tg_verify.specs.declared.fault.Refusal.{Refusal}
+use Rattle.tg_verify.specs.declared.fault.Refusal.TheVariants as refusals
+use Rattle.tg_client.specs.Body.{IsAfterWanted, IsLastWanted, IsStopped, unknown}
+use Rattle.tg_client.specs.Ends.{EndsBy, IsBrokenBy, SaysFor, fault_of_car, fault_of_refusal}
+use Rattle.tg_client.specs.Received.{HasReceived, sections_given}
+use Rattle.tg_client.specs.ReceivedLaws.{ReceivedLaws}
+use Rattle.tg_client.specs.declared.fault.ClientFault.{ClientFault}
+use Rattle.tg_client.specs.declared.fault.ClientFault.TheVariants as faults
+use Rattle.tg_client.proofs.Going.{held_front, is_front, surplus_of}
+
+-- ---- by the reader
+
+module _ (q : QueryParts) (limits : LimitNumbers) (heard : List ℕ) (last : ℕ) (more : List ℕ) (sections : List Section) (text : List ℕ) (at : WantedAt) (up_to : IsUpTo q sections text at) where
+  broken : (why : List ℕ → Type 0) → why (heard ++ last ∷ []) → IsBrokenBy q heard (last ∷ more) sections text why
+  broken why brings = record { at = at; up_to = up_to; last = last; more = more; unheard_is = refl; brings = brings }
+
+  pub car_ends : (fault : CarFault) → Brings limits.block (heard ++ last ∷ []) fault → EndsBy q limits unknown heard (last ∷ more) sections text (Err (fault_of_car fault))
+  car_ends (cars.BadHeader place) brings = (tt, broken (λ bytes. Brings limits.block bytes (cars.BadHeader place)) brings)
+  car_ends (cars.BadSection place) brings = (tt, broken (λ bytes. Brings limits.block bytes (cars.BadSection place)) brings)
+  car_ends (cars.BlockLimit place number) brings = (brings.0, broken (λ bytes. (place : ℕ) × PassesLimit limits.block bytes place) (brings.1, brings.3))
+  car_ends (cars.Torn place) brings = absurd brings
+  car_ends cars.OutOfMemory brings = inr (inl (at, up_to))
+
+  pub car_says : AnswerLaws → (fault : CarFault) → Brings limits.block (heard ++ last ∷ []) fault → ForEachSound q (λ d. SaysFor q d sections text (Err (fault_of_car fault)))
+  car_says laws (cars.BadHeader place) brings d sound root = held_front laws q sections text (inl (at, up_to)) d sound root
+  car_says laws (cars.BadSection place) brings d sound root = held_front laws q sections text (inl (at, up_to)) d sound root
+  car_says laws (cars.BlockLimit place number) brings d sound root = (held_front laws q sections text (inl (at, up_to)) d sound root, tt)
+  car_says laws (cars.Torn place) brings d sound root = absurd brings
+  car_says laws cars.OutOfMemory brings d sound root = held_front laws q sections text (inl (at, up_to)) d sound root
+
+pub car_wants : (q : QueryParts) (sections : List Section) (fault : CarFault) → IsAfterWanted q sections (fault_of_car fault)
+car_wants q sections (cars.BadHeader place) = tt
+car_wants q sections (cars.BadSection place) = tt
+car_wants q sections (cars.BlockLimit place number) = tt
+car_wants q sections (cars.Torn place) = tt
+car_wants q sections cars.OutOfMemory = tt
+
+-- ---- by the verifier
+
+pub last_same : (a b : List Section) (s t : Section) → a ++ s ∷ [] ≡ b ++ t ∷ [] → (a ≡ b) × (s ≡ t)
+last_same [] [] s t e = (refl, cc e)
+last_same [] (y ∷ []) s t e = absurd (cc e)
+last_same [] (y ∷ (z ∷ b)) s t e = absurd (cc e)
+last_same (x ∷ []) [] s t e = absurd (cc e)
+last_same (x ∷ (z ∷ a)) [] s t e = absurd (cc e)
+last_same (x ∷ a) (y ∷ b) s t e =
+    let heads : x ≡ y = cc e in
+    let tails : a ++ s ∷ [] ≡ b ++ t ∷ [] = cc e in
+    let (rest, last) = last_same a b s t tails in
+    (cc (heads, rest), last)
+
+all_last : (P : Section → Type 0) (a : List Section) (s : Section) → All P (a ++ s ∷ []) → P s
+all_last P [] s all = All-head P s [] all
+all_last P (x ∷ a) s all = all_last P a s (All-tail P x (a ++ s ∷ []) all)
+
+-- what is said of a refusal
+pub refusal_says : (q : QueryParts) (d : Dag) (sections : List Section) (text : List ℕ) (fault : Refusal) → AnswersFor q d sections text (Err fault)
+    → SaysFor q d sections text (Err (fault_of_refusal fault))
+refusal_says q d sections text (refusals.Extra number) h = h
+refusal_says q d sections text (refusals.Limit kind number) h = h
+refusal_says q d sections text (refusals.BadDigest cid) h = h
+refusal_says q d sections text (refusals.WrongBlock want got) h = h
+refusal_says q d sections text (refusals.BadBlock cid fault) h = h
+refusal_says q d sections text (refusals.BadSize declared actual) h = h
+refusal_says q d sections text (refusals.NotFolder segment) h = h
+refusal_says q d sections text (refusals.NotThere segment) h = h
+refusal_says q d sections text refusals.SinkFault h = h
+refusal_says q d sections text (refusals.Truncated want number) h = h
+refusal_says q d sections text refusals.OutOfMemory h = h.0
+
+module _ (laws : AnswerLaws) (received : ReceivedLaws) (q : QueryParts) (limits : LimitNumbers) (heard part rest : List ℕ) (given : List Event) (sections : List Section) (section : Section)
+    (before : HasReceived limits.block heard sections) (after : HasReceived limits.block (heard ++ part) (sections ++ section ∷ []))
+    (past : (bytes : List ℕ) × IsAmongSections limits.block heard given bytes) (are : sections_given given ≡ sections) (some : 0 < length (part ++ rest)) (written text : List ℕ) (out : Output) (put : Put text out) (at : WantedAt) (up_to : IsUpTo q sections written at) where
+  abbrev pub IsNow : ClientFault → Type 0
+  IsNow fault = IsStopped q limits (heard ++ (part ++ rest)) written out fault
+
+  at_section : (fault : ClientFault) → EndsBy q limits unknown (heard ++ part) rest (sections ++ section ∷ []) (written ++ text) (Err fault)
+      → ForEachSound q (λ d. SaysFor q d (sections ++ section ∷ []) (written ++ text) (Err fault)) → IsAfterWanted q (sections ++ section ∷ []) fault → IsNow fault
+  at_section fault ends sound wanted = record {
+    heard = heard ++ part;
+    unheard = rest;
+    whole = sym (append_assoc heard part rest);
+    sections = sections ++ section ∷ [];
+    received = after;
+    text = text;
+    put = put;
+    ends = ends;
+    sound = sound;
+    wanted = wanted;
+  }
+
+  -- no block that was received is above the limit
+  last_wanted : IsLastWanted q (sections ++ section ∷ [])
+  last_wanted = record { taken = sections; section = section; sections_are = refl; text = written; at = at; up_to = up_to }
+
+  none_large : (number : ℕ) → HasRefused q limits (sections ++ section ∷ []) (written ++ text) (refusals.Limit kinds.Block number) → ⊥
+  none_large number h =
+      let all = received.within limits.block (heard ++ part) (sections ++ section ∷ []) after in
+      let small : length h.section.block ≤ limits.block =
+      all_last (λ (s : Section). length s.block ≤ limits.block) h.taken h.section (subst (λ (l : List Section). All (λ (s : Section). length s.block ≤ limits.block) l) h.received all) in
+      let is : number ≡ limits.block = h.cause.number_is in
+      let large : number < length h.section.block = h.cause.large in
+      absurd (omega (arith, small, is, large))
+
+  extra_ends : (number : ℕ) → HasRefused q limits (sections ++ section ∷ []) (written ++ text) (refusals.Extra number) → IsNow (faults.Refused (refusals.Extra number))
+  extra_ends number h =
+      let (same, _) = last_same sections h.taken section h.section h.received in
+      let through : IsThrough q sections (written ++ text) = subst (λ (l : List Section). IsThrough q l (written ++ text)) (sym same) h.through in
+      let number_is = h.number_is ∙ ap (λ (l : List Section). count_of l) (sym same) in
+      let more : 0 < length (past.0 ++ (part ++ rest)) = omega (arith, some, length-append past.0 (part ++ rest)) in
+      record {
+        heard = heard;
+        unheard = part ++ rest;
+        whole = refl;
+        sections = sections;
+        received = before;
+        text = text;
+        put = put;
+        ends = surplus_of q limits.block heard (part ++ rest) given sections (written ++ text) number past are more through number_is;
+        sound = λ d sound root. (is_front q d sections (written ++ text) (laws.sound_through q d sections (written ++ text) sound root through), tt);
+        wanted = tt;
+      }
+
+  pub refused_now : (fault : Refusal) → HasRefused q limits (sections ++ section ∷ []) (written ++ text) fault → HasPutCause (Err fault) out
+      → ForEachSound q (λ d. AnswersFor q d (sections ++ section ∷ []) (written ++ text) (Err fault)) → IsNow (fault_of_refusal fault)
+  refused_now (refusals.Extra number) h cause sound = extra_ends number h
+  refused_now (refusals.Limit kinds.Block number) h cause sound = absurd (none_large number h)
+  refused_now (refusals.Limit kinds.Received number) h cause sound = absurd h.cause
+  refused_now (refusals.Truncated want number) h cause sound = absurd cause
+  refused_now refusals.OutOfMemory h cause sound = at_section faults.OutOfMemory (inl h) (λ d s root. (sound d s root).0) tt
+  refused_now (refusals.Limit kinds.Depth number) h cause sound = at_section (faults.Refused (refusals.Limit kinds.Depth number)) h sound tt
+  refused_now (refusals.Limit kinds.Entries number) h cause sound = at_section (faults.Refused (refusals.Limit kinds.Entries number)) h sound tt
+  refused_now (refusals.Limit kinds.Names number) h cause sound = at_section (faults.Refused (refusals.Limit kinds.Names number)) h sound tt
+  refused_now (refusals.Limit kinds.Output number) h cause sound = at_section (faults.Refused (refusals.Limit kinds.Output number)) h sound tt
+  refused_now (refusals.Limit kinds.SeenBlocks number) h cause sound = at_section (faults.Refused (refusals.Limit kinds.SeenBlocks number)) h sound tt
+  refused_now (refusals.Limit kinds.SeenBytes number) h cause sound = at_section (faults.Refused (refusals.Limit kinds.SeenBytes number)) h sound tt
+  refused_now (refusals.Limit kinds.Reused number) h cause sound = at_section (faults.Refused (refusals.Limit kinds.Reused number)) h sound tt
+  refused_now (refusals.BadDigest cid) h cause sound = at_section (faults.Refused (refusals.BadDigest cid)) h sound tt
+  refused_now (refusals.WrongBlock want got) h cause sound = at_section (faults.Refused (refusals.WrongBlock want got)) h sound tt
+  refused_now (refusals.BadBlock cid fault) h cause sound = at_section (faults.Refused (refusals.BadBlock cid fault)) h sound tt
+  refused_now (refusals.BadSize declared actual) h cause sound = at_section (faults.Refused (refusals.BadSize declared actual)) h sound tt
+  refused_now (refusals.NotFolder segment) h cause sound = at_section (faults.Refused (refusals.NotFolder segment)) h sound last_wanted
+  refused_now (refusals.NotThere segment) h cause sound = at_section (faults.Refused (refusals.NotThere segment)) h sound last_wanted
+  refused_now refusals.SinkFault h cause sound = at_section (faults.Refused refusals.SinkFault) h sound tt

@@ -1,0 +1,37 @@
+-- A whole piece, step by step.
+use Rattle.std.proofs.Common.{◌≡◌, ℕ, List, ◌++◌, Err, subst, append_assoc}
+use Rattle.tg_model.specs.LimitNumbers.{LimitNumbers}
+use Rattle.tg_model.specs.Queries.{QueryParts}
+use Rattle.tg_streams.specs.Joining.{SinkJoins, put_put}
+use Rattle.tg_streams.specs.Streams.{Put, SinkMeaning, into}
+use Rattle.tg_verify.specs.Sound.{ForEachSound}
+use Rattle.tg_client.specs.Body.{IsBody, IsStopped, WentOn, unknown}
+use Rattle.tg_client.specs.Ends.{EndsBy, SaysFor}
+use Rattle.tg_client.specs.declared.body.Body.{Body}
+use Rattle.tg_client.specs.declared.fault.ClientFault.{ClientFault}
+
+module _ {S : Type 0} (m : SinkMeaning S) (joins : SinkJoins S m) (a b c : S) (written text : List ℕ) (put : Put text (into m a b)) where
+  pub stopped_on : (q : QueryParts) (limits : LimitNumbers) (bytes : List ℕ) (fault : ClientFault) → IsStopped q limits bytes (written ++ text) (into m b c) fault
+      → IsStopped q limits bytes written (into m a c) fault
+  stopped_on q limits bytes fault s =
+      let same : (written ++ text) ++ s.text ≡ written ++ (text ++ s.text) = append_assoc written text s.text in
+      record {
+        heard = s.heard;
+        unheard = s.unheard;
+        whole = s.whole;
+        sections = s.sections;
+        received = s.received;
+        text = text ++ s.text;
+        put = put_put S m a b c text s.text joins put s.put;
+        ends = subst (λ (t : List ℕ). EndsBy q limits unknown s.heard s.unheard s.sections t (Err fault)) same s.ends;
+        sound = subst (λ (t : List ℕ). ForEachSound q (λ d. SaysFor q d s.sections t (Err fault))) same s.sound;
+        wanted = s.wanted;
+      }
+
+  pub went_further : (body : Body) (heard : List ℕ) → WentOn body heard (written ++ text) (into m b c) → WentOn body heard written (into m a c)
+  went_further body heard w = record {
+    sections = w.sections;
+    text = text ++ w.text;
+    put = put_put S m a b c text w.text joins put w.put;
+    is_body = subst (λ (t : List ℕ). IsBody body heard w.sections t) (append_assoc written text w.text) w.is_body;
+  }

@@ -1,0 +1,147 @@
+-- A body that goes on: what it holds, and what that says of each sound DAG.
+use Rattle.std.proofs.Common.{◌≡◌, ℕ, ◌<◌, List, [], ◌∷◌, ◌++◌, length, map, Option, Some, None, Err, refl, ap, sym, subst, ◌∙◌, inl, inr, append-nil, append_assoc, arith}
+use Rattle.tg_car.specs.CarText.{SectionsText}
+use Rattle.tg_car.specs.History.{GoesOn, IsAmongSections}
+use Rattle.tg_car.specs.declared.event.Event.{Event}
+use Rattle.tg_car.specs.declared.event.Event.TheVariants as events
+use Rattle.tg_car.specs.declared.section.Section.{Section as CarSection}
+use Rattle.tg_cid.specs.Cid.{CidParts}
+use Rattle.tg_frames.specs.Left.{WantedAt, wanted_tasks}
+use Rattle.tg_model.specs.Answer.{answer}
+use Rattle.tg_model.specs.Dag.{Dag, Section}
+use Rattle.tg_model.specs.Fits.{IsFrontOfAnswer}
+use Rattle.tg_model.specs.LimitNumbers.{LimitNumbers}
+use Rattle.tg_model.specs.Queries.{QueryParts}
+use Rattle.tg_streams.specs.Streams.{Output, Put}
+use Rattle.tg_traverse.specs.Tasks.{Task}
+use Rattle.tg_traverse.specs.Verified.{Verified}
+use Rattle.tg_verify.specs.Laws.{AnswerLaws}
+use Rattle.tg_verify.specs.Sound.{ForEachSound, IsItsAnswer, IsItsFront}
+use Rattle.tg_verify.specs.State.{VerifierState, count_of}
+use Rattle.tg_verify.specs.Taken.{IsGoing, IsThrough, IsUpTo, IsWrittenAt}
+use Rattle.tg_client.specs.Body.{IsAfterWanted, IsBody, IsStopped, unknown}
+use Rattle.tg_client.specs.Ends.{EndsBy, HasSurplus, IsHeld, SaysFor}
+use Rattle.tg_client.specs.Received.{HasReceived, in_car, out_of_car, sections_given}
+use Rattle.tg_client.specs.declared.body.Body.{Body}
+use Rattle.tg_client.specs.declared.fault.ClientFault.{ClientFault}
+use Rattle.tg_client.proofs.Sections.{among_sections}
+
+-- ---- a verifier that goes on, by whether a block is wanted
+
+module _ (state : VerifierState) (sections : List Section) (written : List ℕ) (h : IsGoing state sections written) where
+  pub going_up_to : (at : WantedAt) → state.left.wanted ≡ Some at → IsUpTo state.left.query sections written at
+  going_up_to at e =
+      let writes = subst (λ (w : Option WantedAt). IsWrittenAt state h.given written w) e h.writes in
+      record {
+        repeats = h.repeats;
+        given = h.given;
+        later = state.left.later;
+        verified = subst (λ (w : Option WantedAt). Verified state.left.query sections h.given (wanted_tasks w ++ state.left.later)) e h.verified;
+        text = writes.0;
+      }
+
+  pub going_through : state.left.wanted ≡ None → IsThrough state.left.query sections written
+  going_through e =
+      let writes = subst (λ (w : Option WantedAt). IsWrittenAt state h.given written w) e h.writes in
+      let verified = subst (λ (w : Option WantedAt). Verified state.left.query sections h.given (wanted_tasks w ++ state.left.later)) e h.verified in
+      record {
+        repeats = h.repeats;
+        given = h.given;
+        verified = subst (λ (tasks : List (Task CidParts)). Verified state.left.query sections h.given tasks) writes.0 verified;
+        text = writes.1;
+      }
+
+  held_by : (wanted : Option WantedAt) → state.left.wanted ≡ wanted → IsHeld state.left.query sections written
+  held_by (Some at) e = inl (at, going_up_to at e)
+  held_by None e = inr (going_through e)
+
+  pub is_held : IsHeld state.left.query sections written
+  is_held = held_by state.left.wanted refl
+
+pub is_received : (body : Body) (heard : List ℕ) (sections : List Section) (written : List ℕ) → IsBody body heard sections written
+    → HasReceived body.verifier.limits.block heard sections
+is_received body heard sections written h = record {
+  given = h.given;
+  goes_on = subst (λ (limit : ℕ). GoesOn limit heard h.given) h.limit h.reads.exact.goes_on;
+  sections_are = h.sections_are;
+}
+
+-- ---- of each sound DAG
+
+answer_front : (written : List ℕ) (told : Option (List ℕ)) → told ≡ Some written → IsFrontOfAnswer written told
+answer_front written told e = subst (λ (o : Option (List ℕ)). IsFrontOfAnswer written o) (sym e) ([], sym (append-nil written))
+
+pub is_front : (q : QueryParts) (d : Dag) (sections : List Section) (written : List ℕ) → IsItsAnswer q d sections written → IsItsFront q d sections written
+is_front q d sections written (inl e) = inl (answer_front written (answer q d) e)
+is_front q d sections written (inr pair) = inr pair
+
+pub held_front : AnswerLaws → (q : QueryParts) (sections : List Section) (written : List ℕ) → IsHeld q sections written → ForEachSound q (λ d. IsItsFront q d sections written)
+held_front laws q sections written (inl (at, up_to)) d sound root = laws.sound_up_to q d sections written at sound root up_to
+held_front laws q sections written (inr through) d sound root = is_front q d sections written (laws.sound_through q d sections written sound root through)
+
+-- ---- a refusal with which nothing more is put
+
+pub stopped_here : (q : QueryParts) (limits : LimitNumbers) (bytes heard unheard : List ℕ) (sections : List Section) (written : List ℕ) (out : Output) (fault : ClientFault) → bytes ≡ heard ++ unheard
+    → HasReceived limits.block heard sections → Put [] out → EndsBy q limits unknown heard unheard sections written (Err fault)
+    → ForEachSound q (λ d. SaysFor q d sections written (Err fault)) → IsAfterWanted q sections fault → IsStopped q limits bytes written out fault
+stopped_here q limits bytes heard unheard sections written out fault whole received put ends sound wanted = record {
+  heard = heard;
+  unheard = unheard;
+  whole = whole;
+  sections = sections;
+  received = received;
+  text = [];
+  put = put;
+  ends = subst (λ (text : List ℕ). EndsBy q limits unknown heard unheard sections text (Err fault)) (sym (append-nil written)) ends;
+  sound = subst (λ (text : List ℕ). ForEachSound q (λ d. SaysFor q d sections text (Err fault))) (sym (append-nil written)) sound;
+  wanted = wanted;
+}
+
+-- ---- bytes behind the last wanted section
+
+pub back_in : (sections : List CarSection) → map in_car (map out_of_car sections) ≡ sections
+back_in [] = refl
+back_in (s ∷ sections) = ap (λ (l : List CarSection). s ∷ l) (back_in sections)
+
+-- where some section was given the header is whole
+pub past_header : (limit : ℕ) (heard : List ℕ) (given : List Event) → GoesOn limit heard given → 0 < length (sections_given given)
+    → (rest : List ℕ) × IsAmongSections limit heard given rest
+past_header limit heard given (inl b) some =
+    let none : length (sections_given given) ≡ 0 = ap (λ (l : List Event). length (sections_given l)) b.nothing_given in absurd (omega (arith, none, some))
+past_header limit heard given (inr a) some = a
+
+-- and where a section is given next
+pub past_header_then : (limit other : ℕ) (heard more : List ℕ) (given : List Event) (at size : ℕ) (section : CarSection) → GoesOn limit heard given
+    → GoesOn other more (given ++ events.Section at size section ∷ []) → (rest : List ℕ) × IsAmongSections limit heard given rest
+past_header_then limit other heard more given at size section (inr a) next = a
+past_header_then limit other heard more [] at size section (inl b) (inl c) = absurd (cc c.nothing_given)
+past_header_then limit other heard more (e ∷ given) at size section (inl b) next = absurd (cc b.nothing_given)
+past_header_then limit other heard more [] at size section (inl b) (inr a) =
+    let both : events.Section at size section ∷ [] ≡ events.Header a.1.reaches.header ∷ a.1.placed = a.1.given_is in absurd (cc both)
+
+pub surplus_of : (q : QueryParts) (limit : ℕ) (heard piece : List ℕ) (given : List Event) (sections : List Section) (written : List ℕ) (number : ℕ)
+    → (a : (rest : List ℕ) × IsAmongSections limit heard given rest) → sections_given given ≡ sections → 0 < length (a.0 ++ piece)
+    → IsThrough q sections written → number ≡ count_of sections → HasSurplus q (heard ++ piece) sections written number
+surplus_of q limit heard piece given sections written number (rest, a) are some through number_is =
+    let own = a.reaches in
+    let same : map in_car sections ≡ a.sections = ap (map in_car) (sym are ∙ among_sections limit heard given rest a) ∙ back_in a.sections in
+    record {
+      through = through;
+      number_is = number_is;
+      car = own.header ++ own.done;
+      more = rest ++ piece;
+      whole = ap (λ (l : List ℕ). l ++ piece) own.whole
+          ∙ (append_assoc own.header (own.done ++ rest) piece
+          ∙ (ap (λ (l : List ℕ). own.header ++ l) (append_assoc own.done rest piece) ∙ sym (append_assoc own.header own.done (rest ++ piece))));
+      some = some;
+      is_car = (
+        own.roots,
+        record {
+          header = own.header;
+          rest = own.done;
+          whole = refl;
+          header_is = own.header_is;
+          sections_are = subst (λ (l : List CarSection). SectionsText l own.done) (sym same) own.sections_are;
+        },
+      );
+    }

@@ -1,0 +1,243 @@
+-- What was heard of an input when a CAR on it ends, or is refused.
+use Rattle.std.proofs.Common.{◌≡◌, ℕ, ◌^◌, ◌<◌, List, [], ◌++◌, length, Ok, Err, refl, sym, subst, ◌∙◌, inl, inr, append-nil, arith, true}
+use Rattle.std.specs.Prelude.{Result, ⊤}
+use Rattle.std.proofs.lemmas.List.{length-append}
+use Rattle.std.proofs.lemmas.List.Elements.{All-nil}
+use Rattle.tg_car.specs.CarText.{IsRoot, header_map}
+use Rattle.tg_car.specs.Fronts.{IsInHeader}
+use Rattle.tg_faults.specs.Faults.{Rose}
+use Rattle.tg_frames.specs.Left.{WantedAt}
+use Rattle.tg_model.specs.Dag.{Section}
+use Rattle.tg_model.specs.LimitNumbers.{LimitNumbers}
+use Rattle.tg_model.specs.Queries.{QueryParts}
+use Rattle.tg_model.specs.declared.limits.LimitKind.TheVariants as kinds
+use Rattle.tg_streams.specs.Streams.{Ended, Input, Output, OutputQuiet, Put, SinkMeaning, Took, into}
+use Rattle.tg_traverse.specs.Stages.{nothing_given}
+use Rattle.tg_traverse.specs.Tasks.{path_want}
+use Rattle.tg_traverse.specs.Verified.{VerifiedLaws}
+use Rattle.tg_varint.specs.Computed.{varint}
+use Rattle.tg_varint.specs.Laws.{SpellingLaws}
+use Rattle.tg_verify.specs.Laws.{AnswerLaws}
+use Rattle.tg_verify.specs.Taken.{IsUpTo}
+use Rattle.tg_verify.specs.declared.fault.Refusal.TheVariants as refusals
+use Rattle.tg_client.specs.Body.{EndsAt, HasEnded, HasOutCause, IsAfterWanted, IsEndFault, IsStopped, IsVerified, unknown}
+use Rattle.tg_client.specs.Ends.{EndsBy, HasStreamCause, HasSurplus, IsHeld, Verifies}
+use Rattle.tg_client.specs.Received.{HasReceived}
+use Rattle.tg_client.specs.declared.body.Body.{Body}
+use Rattle.tg_client.specs.declared.fault.ClientFault.{ClientFault}
+use Rattle.tg_client.specs.declared.fault.ClientFault.TheVariants as faults
+use Rattle.tg_client.proofs.Coming.{HasCome}
+use Rattle.tg_client.proofs.Going.{held_front, is_held, is_received}
+
+-- with nothing more to say
+as_verified : (q : QueryParts) (limits : LimitNumbers) (input : Input) (out : Output) (fault : ClientFault) → ((sections : List Section) → IsAfterWanted q sections fault)
+    → Verifies q limits input out (Err fault) → IsVerified q limits input out (Err fault)
+as_verified q limits input out fault any v = record { verifies = v; wanted = λ other e. subst (λ (f : ClientFault). IsAfterWanted q v.sections f) (cc e) (any v.sections) }
+
+-- ---- before the first byte
+
+in_header : SpellingLaws → IsInHeader []
+in_header varints =
+    let below : length (header_map []) < 2 ^ 63 = omega arith in
+    record {
+      roots = [];
+      more = varint (length (header_map [])) ++ header_map [];
+      not_whole = omega (arith, length-append (varint (length (header_map []))) (header_map []));
+      text = record {
+        few = omega arith;
+        each = All-nil (λ (root : List ℕ). IsRoot root);
+        size = varint (length (header_map []));
+        size_is = varints.computed (length (header_map [])) below;
+        whole = refl;
+      };
+    }
+
+module _ (varints : SpellingLaws) (verified : VerifiedLaws) (laws : AnswerLaws) (q : QueryParts) (limits : LimitNumbers) (dups : q.dups ≡ true) where
+  at_start : WantedAt
+  at_start = record { want = path_want 0 q.path 1; cid = q.root }
+
+  starts : IsUpTo q [] [] at_start
+  unfolding at_start
+  starts = record { repeats = dups; given = nothing_given; later = []; verified = verified.start q; text = refl }
+
+  -- no memory was found before the first byte
+  pub none_heard : (input : Input) (out : Output) → Took [] input → Put [] out → IsVerified q limits input out (Err faults.OutOfMemory)
+  none_heard input out took put = as_verified q limits input out faults.OutOfMemory (λ sections. tt) (record {
+    heard = [];
+    unheard = [];
+    took = took;
+    sections = [];
+    received = record { given = []; goes_on = inl (record { nothing_given = refl; inside = in_header varints }); sections_are = refl };
+    text = [];
+    put = put;
+    ends = inr (inl (at_start, starts));
+    sound = λ d sound root. held_front laws q [] [] (inl (at_start, starts)) d sound root;
+  })
+
+-- ---- the input fails, or ends
+
+pub fault_heard : AnswerLaws → (limits : LimitNumbers) (q : QueryParts) (body : Body) (input : Input) (out : Output) → body.verifier.left.query ≡ q → body.verifier.limits ≡ limits → HasCome body input out
+    → IsVerified q limits input out (Err faults.InputFault)
+fault_heard laws limits q body input out query same come =
+    let w = come.went in
+    let held = subst (λ (q : QueryParts). IsHeld q w.sections w.text) query (is_held body.verifier w.sections w.text w.is_body.going) in
+    as_verified q limits input out faults.InputFault (λ sections. tt) (record {
+      heard = come.heard;
+      unheard = [];
+      took = subst (λ (l : List ℕ). Took l input) (sym (append-nil come.heard)) come.took;
+      sections = w.sections;
+      received = subst (λ (l : LimitNumbers). HasReceived l.block come.heard w.sections) same (is_received body come.heard w.sections w.text w.is_body);
+      text = w.text;
+      put = w.put;
+      ends = (refl, held);
+      sound = λ d sound root. held_front laws q w.sections w.text held d sound root;
+    })
+
+ends_there : (q : QueryParts) (limits : LimitNumbers) (input : Input) (heard : List ℕ) (sections : List Section) (text : List ℕ) (result : Result ⊤ ClientFault) → Ended input
+    → EndsAt q limits heard sections text result → EndsBy q limits input heard [] sections text result
+ends_there q limits input heard sections text (Ok done) ended h = (record { all = refl; ended = ended }, h)
+ends_there q limits input heard sections text (Err (faults.Refused (refusals.Truncated want number))) ended h = (record { all = refl; ended = ended }, h)
+ends_there q limits input heard sections text (Err (faults.Refused (refusals.Extra number))) ended h =
+    subst (λ (l : List ℕ). HasSurplus q l sections text number) (sym (append-nil heard)) h
+ends_there q limits input heard sections text (Err (faults.Refused (refusals.Limit kind number))) ended h = absurd h
+ends_there q limits input heard sections text (Err (faults.Refused (refusals.BadDigest cid))) ended h = absurd h
+ends_there q limits input heard sections text (Err (faults.Refused (refusals.WrongBlock want got))) ended h = absurd h
+ends_there q limits input heard sections text (Err (faults.Refused (refusals.BadBlock cid fault))) ended h = absurd h
+ends_there q limits input heard sections text (Err (faults.Refused (refusals.BadSize declared actual))) ended h = absurd h
+ends_there q limits input heard sections text (Err (faults.Refused (refusals.NotFolder segment))) ended h = absurd h
+ends_there q limits input heard sections text (Err (faults.Refused (refusals.NotThere segment))) ended h = absurd h
+ends_there q limits input heard sections text (Err (faults.Refused refusals.SinkFault)) ended h = absurd h
+ends_there q limits input heard sections text (Err (faults.Refused refusals.OutOfMemory)) ended h = absurd h
+ends_there q limits input heard sections text (Err (faults.BadCar car)) ended h = absurd h
+ends_there q limits input heard sections text (Err faults.InputFault) ended h = absurd h
+ends_there q limits input heard sections text (Err faults.OutOfMemory) ended h = absurd h
+
+end_verified : (q : QueryParts) (limits : LimitNumbers) (heard : List ℕ) (sections : List Section) (text : List ℕ) (input : Input) (out : Output) (result : Result ⊤ ClientFault)
+    → EndsAt q limits heard sections text result → Verifies q limits input out result → IsVerified q limits input out result
+end_verified q limits heard sections text input out (Ok done) h v = record { verifies = v; wanted = λ fault e. absurd (cc e) }
+end_verified q limits heard sections text input out (Err (faults.Refused (refusals.Truncated want number))) h v = as_verified q limits input out _ (λ s. tt) v
+end_verified q limits heard sections text input out (Err (faults.Refused (refusals.Extra number))) h v = as_verified q limits input out _ (λ s. tt) v
+end_verified q limits heard sections text input out (Err (faults.Refused (refusals.Limit kind number))) h v = absurd h
+end_verified q limits heard sections text input out (Err (faults.Refused (refusals.BadDigest cid))) h v = absurd h
+end_verified q limits heard sections text input out (Err (faults.Refused (refusals.WrongBlock want got))) h v = absurd h
+end_verified q limits heard sections text input out (Err (faults.Refused (refusals.BadBlock cid fault))) h v = absurd h
+end_verified q limits heard sections text input out (Err (faults.Refused (refusals.BadSize declared actual))) h v = absurd h
+end_verified q limits heard sections text input out (Err (faults.Refused (refusals.NotFolder segment))) h v = absurd h
+end_verified q limits heard sections text input out (Err (faults.Refused (refusals.NotThere segment))) h v = absurd h
+end_verified q limits heard sections text input out (Err (faults.Refused refusals.SinkFault)) h v = absurd h
+end_verified q limits heard sections text input out (Err (faults.Refused refusals.OutOfMemory)) h v = absurd h
+end_verified q limits heard sections text input out (Err (faults.BadCar car)) h v = absurd h
+end_verified q limits heard sections text input out (Err faults.InputFault) h v = absurd h
+end_verified q limits heard sections text input out (Err faults.OutOfMemory) h v = absurd h
+
+pub end_heard : (limits : LimitNumbers) (q : QueryParts) (input : Input) (out : Output) (heard : List ℕ) (sections : List Section) (text : List ℕ) (result : Result ⊤ ClientFault) → Took heard input → Ended input
+    → Put text out → HasEnded q limits heard sections text result → IsVerified q limits input out result
+end_heard limits q input out heard sections text result took ended put h = end_verified q limits heard sections text input out result h.ends (record {
+  heard = heard;
+  unheard = [];
+  took = subst (λ (l : List ℕ). Took l input) (sym (append-nil heard)) took;
+  sections = sections;
+  received = h.received;
+  text = text;
+  put = put;
+  ends = ends_there q limits input heard sections text result ended h.ends;
+  sound = h.sound;
+})
+
+-- ---- a refusal before the end of a piece
+
+known : (q : QueryParts) (limits : LimitNumbers) (input : Input) (heard unheard : List ℕ) (sections : List Section) (text : List ℕ) (fault : ClientFault)
+    → EndsBy q limits unknown heard unheard sections text (Err fault) → EndsBy q limits input heard unheard sections text (Err fault)
+known q limits input heard unheard sections text (faults.Refused (refusals.Truncated want number)) h = absurd h.0.ended.ended
+known q limits input heard unheard sections text (faults.Refused (refusals.Extra number)) h = h
+known q limits input heard unheard sections text (faults.Refused (refusals.Limit kinds.Block number)) h = h
+known q limits input heard unheard sections text (faults.Refused (refusals.Limit kinds.Depth number)) h = h
+known q limits input heard unheard sections text (faults.Refused (refusals.Limit kinds.Entries number)) h = h
+known q limits input heard unheard sections text (faults.Refused (refusals.Limit kinds.Names number)) h = h
+known q limits input heard unheard sections text (faults.Refused (refusals.Limit kinds.Received number)) h = h
+known q limits input heard unheard sections text (faults.Refused (refusals.Limit kinds.Output number)) h = h
+known q limits input heard unheard sections text (faults.Refused (refusals.Limit kinds.SeenBlocks number)) h = h
+known q limits input heard unheard sections text (faults.Refused (refusals.Limit kinds.SeenBytes number)) h = h
+known q limits input heard unheard sections text (faults.Refused (refusals.Limit kinds.Reused number)) h = h
+known q limits input heard unheard sections text (faults.Refused (refusals.BadDigest cid)) h = h
+known q limits input heard unheard sections text (faults.Refused (refusals.WrongBlock want got)) h = h
+known q limits input heard unheard sections text (faults.Refused (refusals.BadBlock cid fault)) h = h
+known q limits input heard unheard sections text (faults.Refused (refusals.BadSize declared actual)) h = h
+known q limits input heard unheard sections text (faults.Refused (refusals.NotFolder segment)) h = h
+known q limits input heard unheard sections text (faults.Refused (refusals.NotThere segment)) h = h
+known q limits input heard unheard sections text (faults.Refused refusals.SinkFault) h = h
+known q limits input heard unheard sections text (faults.Refused refusals.OutOfMemory) h = h
+known q limits input heard unheard sections text (faults.BadCar car) h = h
+known q limits input heard unheard sections text faults.InputFault h = h
+known q limits input heard unheard sections text faults.OutOfMemory h = h
+
+pub stop_heard : (limits : LimitNumbers) (q : QueryParts) (input : Input) (out : Output) (bytes : List ℕ) (fault : ClientFault) → Took bytes input → IsStopped q limits bytes [] out fault
+    → IsVerified q limits input out (Err fault)
+stop_heard limits q input out bytes fault took s = record { verifies = stop_verifies; wanted = λ other e. subst (λ (f : ClientFault). IsAfterWanted q s.sections f) (cc e) s.wanted }
+  where
+    stop_verifies : Verifies q limits input out (Err fault)
+    stop_verifies = record {
+      heard = s.heard;
+      unheard = s.unheard;
+      took = subst (λ (l : List ℕ). Took l input) s.whole took;
+      sections = s.sections;
+      received = s.received;
+      text = s.text;
+      put = s.put;
+      ends = known q limits input s.heard s.unheard s.sections s.text fault s.ends;
+      sound = s.sound;
+    }
+
+-- ---- whose faults were counted
+
+pub end_cause : (input : Input) (out : Output) (result : Result ⊤ ClientFault) → input.faults_new ≡ input.faults_old → OutputQuiet out → ((fault : ClientFault) → result ≡ Err fault → IsEndFault fault)
+    → HasStreamCause input out result
+end_cause input out (Ok done) heard put is = (heard, put)
+end_cause input out (Err (faults.Refused (refusals.Truncated want number))) heard put is = (heard, put)
+end_cause input out (Err (faults.Refused (refusals.Extra number))) heard put is = (heard, put)
+end_cause input out (Err (faults.Refused (refusals.Limit kind number))) heard put is = (heard, put)
+end_cause input out (Err (faults.Refused (refusals.BadDigest cid))) heard put is = (heard, put)
+end_cause input out (Err (faults.Refused (refusals.WrongBlock want got))) heard put is = (heard, put)
+end_cause input out (Err (faults.Refused (refusals.BadBlock cid fault))) heard put is = (heard, put)
+end_cause input out (Err (faults.Refused (refusals.BadSize declared actual))) heard put is = (heard, put)
+end_cause input out (Err (faults.Refused (refusals.NotFolder segment))) heard put is = (heard, put)
+end_cause input out (Err (faults.Refused (refusals.NotThere segment))) heard put is = (heard, put)
+end_cause input out (Err (faults.Refused refusals.SinkFault)) heard put is = absurd (is _ refl)
+end_cause input out (Err (faults.Refused refusals.OutOfMemory)) heard put is = (heard, put)
+end_cause input out (Err (faults.BadCar car)) heard put is = (heard, put)
+end_cause input out (Err faults.InputFault) heard put is = absurd (is _ refl)
+end_cause input out (Err faults.OutOfMemory) heard put is = (heard, put)
+
+pub stop_cause : (input : Input) (out : Output) (fault : ClientFault) → input.faults_new ≡ input.faults_old → HasOutCause out fault → HasStreamCause input out (Err fault)
+stop_cause input out (faults.Refused (refusals.Truncated want number)) heard h = (heard, h)
+stop_cause input out (faults.Refused (refusals.Extra number)) heard h = (heard, h)
+stop_cause input out (faults.Refused (refusals.Limit kind number)) heard h = (heard, h)
+stop_cause input out (faults.Refused (refusals.BadDigest cid)) heard h = (heard, h)
+stop_cause input out (faults.Refused (refusals.WrongBlock want got)) heard h = (heard, h)
+stop_cause input out (faults.Refused (refusals.BadBlock cid fault)) heard h = (heard, h)
+stop_cause input out (faults.Refused (refusals.BadSize declared actual)) heard h = (heard, h)
+stop_cause input out (faults.Refused (refusals.NotFolder segment)) heard h = (heard, h)
+stop_cause input out (faults.Refused (refusals.NotThere segment)) heard h = (heard, h)
+stop_cause input out (faults.Refused refusals.SinkFault) heard h = (heard, h)
+stop_cause input out (faults.Refused refusals.OutOfMemory) heard h = (heard, h)
+stop_cause input out (faults.BadCar car) heard h = (heard, h)
+stop_cause input out faults.InputFault heard h = absurd h
+stop_cause input out faults.OutOfMemory heard h = (heard, h)
+
+-- quiet before
+module _ {S : Type 0} (m : SinkMeaning S) (a b c : S) (quiet : OutputQuiet (into m a b)) where
+  pub out_cause_from : (fault : ClientFault) → HasOutCause (into m b c) fault → HasOutCause (into m a c) fault
+  out_cause_from (faults.Refused (refusals.Truncated want number)) h = h ∙ quiet
+  out_cause_from (faults.Refused (refusals.Extra number)) h = h ∙ quiet
+  out_cause_from (faults.Refused (refusals.Limit kind number)) h = h ∙ quiet
+  out_cause_from (faults.Refused (refusals.BadDigest cid)) h = h ∙ quiet
+  out_cause_from (faults.Refused (refusals.WrongBlock want got)) h = h ∙ quiet
+  out_cause_from (faults.Refused (refusals.BadBlock cid fault)) h = h ∙ quiet
+  out_cause_from (faults.Refused (refusals.BadSize declared actual)) h = h ∙ quiet
+  out_cause_from (faults.Refused (refusals.NotFolder segment)) h = h ∙ quiet
+  out_cause_from (faults.Refused (refusals.NotThere segment)) h = h ∙ quiet
+  out_cause_from (faults.Refused refusals.SinkFault) h = subst (λ (n : ℕ). Rose n (m.faults c)) quiet h
+  out_cause_from (faults.Refused refusals.OutOfMemory) h = h ∙ quiet
+  out_cause_from (faults.BadCar car) h = h ∙ quiet
+  out_cause_from faults.InputFault h = absurd h
+  out_cause_from faults.OutOfMemory h = h ∙ quiet

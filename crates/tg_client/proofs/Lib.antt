@@ -1,0 +1,14 @@
+mod Sections
+mod Fronts
+mod Whole
+mod Refusals
+mod Coming
+mod Going
+mod Breaking
+mod Stepping
+mod Closing
+mod Feeding
+mod Hearing
+mod Told
+mod Accepting
+mod Surplus

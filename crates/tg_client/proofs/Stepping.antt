@@ -1,0 +1,204 @@
+-- One step of a body.
+use Rattle.std.proofs.Common.{◌≡◌, ℕ, ◌+◌, ◌<◌, ◌≤◌, List, [], ◌∷◌, ◌++◌, length, take, drop, Option, Some, None, Ok, Err, refl, ap, sym, subst, ◌∙◌, append-nil, append_assoc, arith}
+use Rattle.std.proofs.lemmas.List.{length-append, length-take, length-take-le, take-append-drop, take-take}
+use Rattle.tg_car.specs.History.{GoesOn, StopsAt, given_by, with_feed}
+use Rattle.tg_car.specs.State.{ReaderState, StandsFor}
+use Rattle.tg_car.specs.declared.event.Event.{Event}
+use Rattle.tg_car.specs.declared.event.Event.TheVariants as events
+use Rattle.tg_car.specs.declared.fault.CarFault.{CarFault}
+use Rattle.tg_car.specs.declared.section.Section.{Section as CarSection}
+use Rattle.tg_cid.specs.Cid.{CidParts}
+use Rattle.tg_frames.specs.Left.{WantedAt}
+use Rattle.tg_model.specs.Dag.{Section}
+use Rattle.tg_model.specs.LimitNumbers.{LimitNumbers}
+use Rattle.tg_model.specs.Queries.{QueryParts}
+use Rattle.tg_model.specs.declared.limits.LimitKind.TheVariants as kinds
+use Rattle.tg_streams.specs.Streams.{Output, Put}
+use Rattle.tg_verify.specs.History.{HasPutCause, HasWritten, StandsBy, StandsFor as VerifierStands}
+use Rattle.tg_verify.specs.Laws.{AnswerLaws}
+use Rattle.tg_verify.specs.Refusals.{HasRefused}
+use Rattle.tg_verify.specs.Sound.{AnswersFor, ForEachSound}
+use Rattle.tg_verify.specs.State.{VerifierState, next_cid}
+use Rattle.tg_verify.specs.Taken.{IsGoing}
+use Rattle.tg_verify.specs.declared.fault.Refusal.{Refusal}
+use Rattle.tg_verify.specs.declared.fault.Refusal.TheVariants as refusals
+use Rattle.tg_verify.specs.declared.verifier.Progress.{Progress}
+use Rattle.tg_client.specs.Body.{IsBody, IsStopped, WentOn, going_on}
+use Rattle.tg_client.specs.Ends.{fault_of_car, fault_of_refusal}
+use Rattle.tg_client.specs.Received.{HasReceived, out_of_car, sections_given}
+use Rattle.tg_client.specs.ReceivedLaws.{ReceivedLaws}
+use Rattle.tg_client.specs.declared.body.Body.{Body}
+use Rattle.tg_client.specs.declared.fault.ClientFault.TheVariants as faults
+use Rattle.tg_client.proofs.Breaking.{car_ends, car_says, car_wants, refused_now}
+use Rattle.tg_client.proofs.Going.{going_through, going_up_to, held_front, is_front, is_held, is_received, past_header, past_header_then, stopped_here, surplus_of}
+
+-- ---- whether a block is wanted
+
+pub wants_none : (refused : Option Refusal) (wanted : Option WantedAt) → refused ≡ None → next_cid refused wanted ≡ None → wanted ≡ None
+wants_none None None e n = refl
+wants_none None (Some at) e n = absurd (cc n)
+wants_none (Some fault) wanted e n = absurd (cc e)
+
+pub wants_some : (refused : Option Refusal) (wanted : Option WantedAt) (cid : CidParts) → next_cid refused wanted ≡ Some cid → (at : WantedAt) × (wanted ≡ Some at)
+wants_some None None cid s = absurd (cc s)
+wants_some None (Some at) cid s = (at, refl)
+wants_some (Some fault) wanted cid s = absurd (cc s)
+
+pub some_of : {A : Type 0} → (o : Option A) → (o ≡ None → ⊥) → (a : A) × (o ≡ Some a)
+some_of None none = absurd (none refl)
+some_of (Some a) none = (a, refl)
+
+pub stands_going : (state : VerifierState) (sections : List Section) (written : List ℕ) → state.refused ≡ None → IsGoing state sections written → VerifierStands state sections written
+stands_going state sections written e h = subst (λ (r : Option Refusal). StandsBy r state sections written) (sym e) h
+
+pub no_section : (event : Event) → ((at size : ℕ) (section : CarSection) → event ≡ events.Section at size section → ⊥) → sections_given (given_by event) ≡ []
+no_section events.Need none = refl
+no_section (events.Header header) none = refl
+no_section (events.Section at size section) none = absurd (none at size section refl)
+
+-- what a reader was fed of the first bytes of a piece
+pub reads_on : (reader : ReaderState) (heard piece : List ℕ) (given : List Event) (room taken : ℕ) (event other : Event) → StandsFor reader (with_feed (going_on heard given) (take room piece) (Ok (taken, event)))
+    → taken ≤ length (take room piece) → event ≡ other → StandsFor reader (going_on (heard ++ take taken piece) (given ++ given_by other))
+reads_on reader heard piece given room taken event other stands within e =
+    let below : taken ≤ room = omega (arith, within, length-take room piece) in
+    subst (λ (event : Event). StandsFor reader (going_on (heard ++ take taken piece) (given ++ given_by event))) e
+    (subst (λ (l : List ℕ). StandsFor reader (going_on (heard ++ l) (given ++ given_by event))) (take-take taken room piece below) stands)
+
+pub within_piece : (piece : List ℕ) (room taken : ℕ) → taken ≤ length (take room piece) → (taken ≤ room) × (taken ≤ length piece)
+within_piece piece room taken within = (omega (arith, within, length-take room piece), omega (arith, within, length-take room piece))
+
+module _ (laws : AnswerLaws) (body : Body) (heard : List ℕ) (sections : List Section) (written : List ℕ) (h : IsBody body heard sections written) where
+  -- ---- before a byte is looked at
+
+  pub past_received : (piece : List ℕ) (out : Output) → body.most ≤ body.heard → 0 < length piece → Put [] out
+      → IsStopped body.verifier.left.query body.verifier.limits (heard ++ piece) written out (faults.Refused (refusals.Limit kinds.Received body.most))
+  past_received piece out full some put =
+      let all : length heard ≡ body.most = omega (arith, full, h.within, h.count) in
+      stopped_here body.verifier.left.query body.verifier.limits (heard ++ piece) heard piece sections written out (faults.Refused (refusals.Limit kinds.Received body.most)) refl
+      (is_received body heard sections written h) put
+      (record { number_is = h.most; heard_is = all; some = some; held = is_held body.verifier sections written h.going })
+      (λ d sound root. (held_front laws body.verifier.left.query sections written (is_held body.verifier sections written h.going) d sound root, tt)) tt
+
+  pub behind_last : (piece : List ℕ) (out : Output) → body.verifier.left.wanted ≡ None → 0 < length piece → Put [] out
+      → IsStopped body.verifier.left.query body.verifier.limits (heard ++ piece) written out (faults.Refused (refusals.Extra body.verifier.taken))
+  behind_last piece out none some put =
+      let through = going_through body.verifier sections written h.going none in
+      let given : 0 < length (sections_given h.given) = subst (λ (l : List Section). 0 < length l) (sym h.sections_are) (h.some none) in
+      let past = past_header body.reader.limit heard h.given h.reads.exact.goes_on given in
+      let more : 0 < length (past.0 ++ piece) = omega (arith, some, length-append past.0 piece) in
+      stopped_here body.verifier.left.query body.verifier.limits (heard ++ piece) heard piece sections written out (faults.Refused (refusals.Extra body.verifier.taken)) refl
+      (is_received body heard sections written h) put
+      (surplus_of body.verifier.left.query body.reader.limit heard piece h.given sections written body.verifier.taken past h.sections_are more through h.going.count)
+      (λ d sound root. (is_front body.verifier.left.query d sections written (laws.sound_through body.verifier.left.query d sections written sound root through), tt)) tt
+
+  -- ---- the reader refuses
+
+  split_at : (piece front more : List ℕ) (last room : ℕ) → take room piece ≡ front ++ last ∷ more → heard ++ piece ≡ (heard ++ front) ++ last ∷ (more ++ drop room piece)
+  split_at piece front more last room e =
+      ap (λ (l : List ℕ). heard ++ l)
+      (sym (take-append-drop room piece) ∙ (ap (λ (l : List ℕ). l ++ drop room piece) e ∙ append_assoc front (last ∷ more) (drop room piece)))
+      ∙ sym (append_assoc heard front (last ∷ (more ++ drop room piece)))
+
+  pub reader_stops : (reader : ReaderState) (piece : List ℕ) (room : ℕ) (out : Output) (fault : CarFault) (at : WantedAt) → body.verifier.left.wanted ≡ Some at
+      → StandsFor reader (with_feed (going_on heard h.given) (take room piece) (Err fault)) → reader.limit ≡ body.reader.limit → Put [] out
+      → IsStopped body.verifier.left.query body.verifier.limits (heard ++ piece) written out (fault_of_car fault)
+  reader_stops reader piece room out fault at wanted stands limit put =
+      let same : reader.limit ≡ body.verifier.limits.block = limit ∙ h.limit in
+      let stop : StopsAt body.verifier.limits.block heard h.given (take room piece) fault = subst (λ (n : ℕ). StopsAt n heard h.given (take room piece) fault) same stands.exact.stopped in
+      let up_to = going_up_to body.verifier sections written h.going at wanted in
+      let rest : List ℕ = stop.more ++ drop room piece in
+      stopped_here body.verifier.left.query body.verifier.limits (heard ++ piece) (heard ++ stop.front) (stop.last ∷ rest) sections written out (fault_of_car fault)
+      (split_at piece stop.front stop.more stop.last room stop.whole)
+      (record { given = h.given; goes_on = stop.went_on; sections_are = h.sections_are }) put
+      (car_ends body.verifier.left.query body.verifier.limits (heard ++ stop.front) stop.last rest sections written at up_to fault stop.brings)
+      (car_says body.verifier.left.query body.verifier.limits (heard ++ stop.front) stop.last rest sections written at up_to laws fault stop.brings)
+      (car_wants body.verifier.left.query sections fault)
+
+  -- ---- it goes on
+
+  given_more : (given : List Event) (event : Event) → sections_given (given ++ given_by event) ≡ sections_given given ++ sections_given (given_by event)
+  given_more [] event = refl
+  given_more (events.Need ∷ given) event = given_more given event
+  given_more (events.Header header ∷ given) event = given_more given event
+  given_more (events.Section at size section ∷ given) event = ap (λ (l : List Section). out_of_car section ∷ l) (given_more given event)
+
+  -- with a section, as the verifier takes it
+  module _ (received : ReceivedLaws) (reader : ReaderState) (verifier : VerifierState) (piece : List ℕ) (taken at size : ℕ) (section : CarSection) (out : Output)
+      (reads : StandsFor reader (going_on (heard ++ take taken piece) (h.given ++ events.Section at size section ∷ []))) (limit : reader.limit ≡ body.reader.limit)
+      (same_query : verifier.left.query ≡ body.verifier.left.query) (same_limits : verifier.limits ≡ body.verifier.limits) where
+    block_limit : reader.limit ≡ verifier.limits.block
+    block_limit = limit ∙ (h.limit ∙ ap (λ (l : LimitNumbers). l.block) (sym same_limits))
+
+    sections_then : sections_given (h.given ++ events.Section at size section ∷ []) ≡ sections ++ out_of_car section ∷ []
+    sections_then = given_more h.given (events.Section at size section) ∙ ap (λ (l : List Section). l ++ out_of_car section ∷ []) h.sections_are
+
+    pub section_taken : (progress : Progress) (count : ℕ) → HasWritten verifier (sections ++ out_of_car section ∷ []) written out (Ok progress) → verifier.refused ≡ None
+        → taken ≤ length piece → count ≡ body.heard + taken → count ≤ body.most
+        → WentOn (record { reader = reader; verifier = verifier; most = body.most; heard = count }) (heard ++ take taken piece) written out
+    section_taken progress count w fresh within count_is most = record {
+      sections = sections ++ out_of_car section ∷ [];
+      text = w.text;
+      put = w.put;
+      is_body = record {
+        given = h.given ++ events.Section at size section ∷ [];
+        reads = reads;
+        sections_are = sections_then;
+        limit = block_limit;
+        most = h.most ∙ ap (λ (l : LimitNumbers). l.received) (sym same_limits);
+        fresh = fresh;
+        going = subst (λ (r : Option Refusal). StandsBy r verifier (sections ++ out_of_car section ∷ []) (written ++ w.text)) fresh w.stands;
+        some = λ none. omega (arith, length-append sections (out_of_car section ∷ []));
+        count = omega (arith, count_is, h.count, length-append heard (take taken piece), length-take-le taken piece within);
+        within = omega (arith, most, count_is, h.count, length-append heard (take taken piece), length-take-le taken piece within);
+      };
+    }
+
+    pub section_refused : (wanted_at : WantedAt) → body.verifier.left.wanted ≡ Some wanted_at → (fault : Refusal) → HasWritten verifier (sections ++ out_of_car section ∷ []) written out (Err fault) → verifier.refused ≡ Some fault
+        → HasPutCause (Err fault) out → 0 < length piece
+        → IsStopped body.verifier.left.query body.verifier.limits (heard ++ piece) written out (fault_of_refusal fault)
+    section_refused wanted_at wanted fault w is cause some =
+        let all : List Section = sections ++ out_of_car section ∷ [] in
+        let refused : HasRefused verifier.left.query verifier.limits all (written ++ w.text) fault =
+        subst (λ (r : Option Refusal). StandsBy r verifier all (written ++ w.text)) is w.stands in
+        let refused_here : HasRefused body.verifier.left.query body.verifier.limits all (written ++ w.text) fault =
+        subst (λ (l : LimitNumbers). HasRefused body.verifier.left.query l all (written ++ w.text) fault) same_limits
+        (subst (λ (q : QueryParts). HasRefused q verifier.limits all (written ++ w.text) fault) same_query refused) in
+        let sound : ForEachSound body.verifier.left.query (λ d. AnswersFor body.verifier.left.query d all (written ++ w.text) (Err fault)) =
+        subst (λ (q : QueryParts). ForEachSound q (λ d. AnswersFor q d all (written ++ w.text) (Err fault))) same_query w.sound in
+        let on : GoesOn body.verifier.limits.block heard h.given = subst (λ (n : ℕ). GoesOn n heard h.given) h.limit h.reads.exact.goes_on in
+        let after : HasReceived body.verifier.limits.block (heard ++ take taken piece) all =
+        record {
+          given = h.given ++ events.Section at size section ∷ [];
+          goes_on = subst (λ (n : ℕ). GoesOn n (heard ++ take taken piece) (h.given ++ events.Section at size section ∷ [])) (limit ∙ h.limit) reads.exact.goes_on;
+          sections_are = sections_then;
+        } in
+        let whole : take taken piece ++ drop taken piece ≡ piece = take-append-drop taken piece in
+        let some_left : 0 < length (take taken piece ++ drop taken piece) = subst (λ (l : List ℕ). 0 < length l) (sym whole) some in
+        subst (λ (l : List ℕ). IsStopped body.verifier.left.query body.verifier.limits (heard ++ l) written out (fault_of_refusal fault)) whole
+        (refused_now laws received body.verifier.left.query body.verifier.limits heard (take taken piece) (drop taken piece) h.given sections (out_of_car section)
+        (is_received body heard sections written h) after
+        (past_header_then body.verifier.limits.block body.verifier.limits.block heard (heard ++ take taken piece) h.given at size section on after.goes_on)
+        h.sections_are some_left written w.text out w.put wanted_at (going_up_to body.verifier sections written h.going wanted_at wanted) fault refused_here cause sound)
+
+  -- with no section
+  pub step_taken : (reader : ReaderState) (piece : List ℕ) (taken count : ℕ) (event : Event) (out : Output) → sections_given (given_by event) ≡ []
+      → StandsFor reader (going_on (heard ++ take taken piece) (h.given ++ given_by event)) → reader.limit ≡ body.reader.limit → Put [] out
+      → taken ≤ length piece → count ≡ body.heard + taken → count ≤ body.most
+      → WentOn (record { reader = reader; verifier = body.verifier; most = body.most; heard = count }) (heard ++ take taken piece) written out
+  step_taken reader piece taken count event out none reads limit put within count_is most = record {
+    sections = sections;
+    text = [];
+    put = put;
+    is_body = record {
+      given = h.given ++ given_by event;
+      reads = reads;
+      sections_are = given_more h.given event ∙ (ap (λ (l : List Section). sections_given h.given ++ l) none ∙ (append-nil (sections_given h.given) ∙ h.sections_are));
+      limit = limit ∙ h.limit;
+      most = h.most;
+      fresh = h.fresh;
+      going = subst (λ (text : List ℕ). IsGoing body.verifier sections text) (sym (append-nil written)) h.going;
+      some = h.some;
+      count = omega (arith, count_is, h.count, length-append heard (take taken piece), length-take-le taken piece within);
+      within = omega (arith, most, count_is, h.count, length-append heard (take taken piece), length-take-le taken piece within);
+    };
+  }

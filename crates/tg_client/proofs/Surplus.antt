@@ -1,0 +1,217 @@
+-- An input that goes on behind a CAR of sections that fit.
+use Rattle.std.proofs.Common.{◌≡◌, ◌≢◌, ℕ, ◌<◌, ◌≤◌, Bool, Contains, List, [], ◌∷◌, ◌++◌, length, Some, Ok, Err, refl, ap, sym, subst, ◌∙◌, inl, inr, append-nil, append_assoc, arith, true}
+use Rattle.std.specs.Prelude.{Result, ⊤, ◌⊎◌}
+use Rattle.std.proofs.lemmas.List.{append_cancel_left, length-append}
+use Rattle.tg_car.specs.Laws.{CarLaws}
+use Rattle.tg_frames.specs.Left.{WantedAt}
+use Rattle.tg_laws.specs.Fronts.{FitsByFronts, IsNew, ProgressByFronts}
+use Rattle.tg_model.specs.Dag.{Dag, Section}
+use Rattle.tg_model.specs.Fits.{Fits, IfOnce, IsInProgress}
+use Rattle.tg_model.specs.LimitNumbers.{LimitNumbers}
+use Rattle.tg_model.specs.PathWalk.{Spot}
+use Rattle.tg_model.specs.Queries.{QueryParts}
+use Rattle.tg_model.specs.declared.limits.LimitKind.TheVariants as kinds
+use Rattle.tg_streams.specs.Streams.{Input, Output}
+use Rattle.tg_traverse.specs.Tasks.{Miss, no_directory, no_entry, stop_at}
+use Rattle.tg_traverse.specs.Verified.{VerifiedLaws}
+use Rattle.tg_verify.specs.Laws.{AnswerLaws, IsOwnFault, IsWithinLimits}
+use Rattle.tg_verify.specs.Refusals.{HasRefused, IsRefusedAt}
+use Rattle.tg_verify.specs.State.{count_of}
+use Rattle.tg_verify.specs.Taken.{IsNowhere, IsThrough, IsUpTo}
+use Rattle.tg_verify.specs.declared.fault.Refusal.{Refusal}
+use Rattle.tg_verify.specs.declared.fault.Refusal.TheVariants as refusals
+use Rattle.tg_client.specs.Body.{IsAfterWanted, IsLastWanted, IsVerified}
+use Rattle.tg_client.specs.Ends.{EndsBy, IsOwnEnd, IsRefusedElse}
+use Rattle.tg_client.specs.Received.{HasReceived, IsCarOf}
+use Rattle.tg_client.specs.ReceivedLaws.{ReceivedLaws}
+use Rattle.tg_client.specs.declared.fault.ClientFault.{ClientFault}
+use Rattle.tg_client.specs.declared.fault.ClientFault.TheVariants as faults
+use Rattle.tg_client.proofs.Accepting.{fitting_done, fitting_nowhere, never_next, none_next, refused_at, wants_fitting}
+use Rattle.tg_client.proofs.Told.{IsLeft, all_heard, car_once, left_of}
+
+-- ---- fronts of lists
+
+-- of two fronts of a list the one goes on behind the other
+compare : (a b c e : List ℕ) → a ++ b ≡ c ++ e → ((z : List ℕ) × (a ≡ c ++ z)) ⊎ ((y : ℕ) × (z : List ℕ) × (c ≡ a ++ y ∷ z))
+compare a b [] e same = inl (a, refl)
+compare [] b (y ∷ c) e same = inr (y, c, refl)
+compare (x ∷ a) b (y ∷ c) e same = on (compare a b c e (cc same))
+  where
+    first : x ≡ y
+    first = cc same
+
+    on : ((z : List ℕ) × (a ≡ c ++ z)) ⊎ ((w : ℕ) × (z : List ℕ) × (c ≡ a ++ w ∷ z)) → ((z : List ℕ) × (x ∷ a ≡ y ∷ (c ++ z))) ⊎ ((w : ℕ) × (z : List ℕ) × (y ∷ c ≡ x ∷ (a ++ w ∷ z)))
+    on (inl (z, e)) = inl (z, cc (first, e))
+    on (inr (w, z, e)) = inr (w, z, cc (first, e))
+
+before_last : (all rest taken : List Section) (next section : Section) → all ++ next ∷ rest ≡ taken ++ section ∷ [] → (some : List Section) × (taken ≡ all ++ some)
+before_last [] rest taken next section e = (taken, refl)
+before_last (s ∷ all) rest [] next section e =
+    let none : all ++ next ∷ rest ≡ [] = cc e in
+    let size : length (all ++ next ∷ rest) ≡ 0 = ap length none in
+    absurd (omega (arith, size, length-append all (next ∷ rest)))
+before_last (s ∷ all) rest (t ∷ taken) next section e =
+    let (some, is) = before_last all rest taken next section (cc e) in
+    let first : t ≡ s = cc e in
+    (some, cc (first, is))
+
+-- ---- nothing is taken behind sections that fit
+
+module _ (laws : AnswerLaws) (verified : VerifiedLaws) (fronts : FitsByFronts) (progresses : ProgressByFronts) (q : QueryParts) (d : Dag) (all : List Section) (answer : List ℕ) (dups : q.dups ≡ true)
+    (either : (sections : List Section) (a b : Dag) (x : List ℕ) (w : Spot) → Fits a q sections x → IsInProgress b q sections w → ⊥) (fits : Fits d q all answer) where
+  new : (next : Section) → IsNew q all next
+  new next = subst (λ (b : Bool). IfOnce b ((section : Section) → Contains all section → section.cid ≢ next.cid)) (sym dups) tt
+
+  pub up_to_behind : (rest : List Section) (text : List ℕ) (at : WantedAt) → IsUpTo q (all ++ rest) text at → ⊥
+  up_to_behind [] text at h = fitting_done verified q d all answer dups fits text at (subst (λ (l : List Section). IsUpTo q l text at) (append-nil all) h)
+  up_to_behind (next ∷ rest) text at h =
+      let p = laws.up_to q (all ++ next ∷ rest) text at h in
+      let f = progresses q p.s all rest next _ p.progress (new next) in
+      either all d f.partial answer f.spot fits f.progress
+
+  pub through_behind : (rest : List Section) (next : Section) (text : List ℕ) → IsThrough q (all ++ next ∷ rest) text → ⊥
+  through_behind rest next text h =
+      let p = laws.through q (all ++ next ∷ rest) text h in
+      let f = fronts q p.s all rest next text p.fits (new next) in
+      either all d f.partial answer f.spot fits f.progress
+
+  pub last_behind : (rest : List Section) (next : Section) → IsLastWanted q (all ++ next ∷ rest) → ⊥
+  last_behind rest next h =
+      let (some, is) = before_last all rest h.taken next h.section h.sections_are in
+      up_to_behind some h.text h.at (subst (λ (l : List Section). IsUpTo q l h.text h.at) is h.up_to)
+
+  -- ---- by what was heard
+
+  module _ (cars : CarLaws) (received : ReceivedLaws) (limits : LimitNumbers) (within : IsWithinLimits q limits d) (input : Input) (car more : List ℕ) (is_car : IsCarOf car all) (whole : HasReceived limits.block car all)
+      (some : 0 < length more) (short : length (car ++ more) ≤ limits.received) (heard unheard : List ℕ) (sections : List Section) (text : List ℕ) (l : IsLeft (car ++ more) heard unheard input)
+      (got : HasReceived limits.block heard sections) where
+    taken : (front rest : List Section) (section : Section) (fault : Refusal) → all ≡ front ++ section ∷ rest → HasRefused q limits (front ++ section ∷ []) text fault → IsOwnFault fault
+    taken front rest section fault e refused = laws.fit_taken q limits d front rest section text answer fault (subst (λ (s : List Section). Fits d q s answer) e fits) within refused
+
+    -- the sections go on behind these, or these behind them
+    data Order : Type 0 where
+      past : (rest : List Section) → sections ≡ all ++ rest → Order
+      before : (y : ℕ) (z : List ℕ) (rest : List Section) → car ≡ heard ++ y ∷ z → all ≡ sections ++ rest → Order
+
+    order : Order
+    order = by (compare heard (unheard ++ l.left) car more (sym l.whole))
+      where
+        by : ((z : List ℕ) × (heard ≡ car ++ z)) ⊎ ((y : ℕ) × (z : List ℕ) × (car ≡ heard ++ y ∷ z)) → Order
+        by (inl (z, e)) =
+            let (rest, is) = received.behind limits.block car z all sections is_car (subst (λ (b : List ℕ). HasReceived limits.block b sections) e got) in past rest is
+        by (inr (y, z, e)) =
+            let (rest, is) = received.front limits.block heard (y ∷ z) sections all got (subst (λ (b : List ℕ). HasReceived limits.block b all) e whole) in before y z rest e is
+
+    -- all was heard
+    past_end : heard ≡ car ++ more → (rest : List Section) × (sections ≡ all ++ rest)
+    past_end e = received.behind limits.block car more all sections is_car (subst (λ (b : List ℕ). HasReceived limits.block b sections) e got)
+
+    through_over : (rest : List Section) → sections ≡ all ++ rest → IsThrough q sections text → sections ≡ all
+    through_over [] e h = e ∙ append-nil all
+    through_over (next ∷ rest) e h = absurd (through_behind rest next text (subst (λ (s : List Section). IsThrough q s text) e h))
+
+    through_under : (rest : List Section) → all ≡ sections ++ rest → IsThrough q sections text → sections ≡ all
+    through_under [] e h = sym (e ∙ append-nil sections)
+    through_under (next ∷ rest) e h =
+        let wants = wants_fitting verified q d all answer dups fits in absurd (none_next q next (wants.next sections rest next h.given [] e h.verified))
+
+    through_here : Order → IsThrough q sections text → sections ≡ all
+    through_here (past rest e) h = through_over rest e h
+    through_here (before y z rest e is) h = through_under rest is h
+
+    waits_over : (rest : List Section) (w : List ℕ) (at : WantedAt) → sections ≡ all ++ rest → IsUpTo q sections w at → ⊥
+    waits_over rest w at e h = up_to_behind rest w at (subst (λ (s : List Section). IsUpTo q s w at) e h)
+
+    nowhere_under : (rest : List Section) → all ≡ sections ++ rest → (miss : Miss) → IsNowhere q sections text miss → ⊥
+    nowhere_under [] e miss h = fitting_nowhere verified q d all answer dups fits text miss (subst (λ (s : List Section). IsNowhere q s text miss) (sym (e ∙ append-nil sections)) h)
+    nowhere_under (next ∷ rest) e miss h =
+        let wants = wants_fitting verified q d all answer dups fits in never_next q miss h.later next (wants.next sections rest next h.given (stop_at miss ∷ h.later) e h.verified)
+
+    nowhere_here : Order → (miss : Miss) → IsNowhere q sections text miss → IsLastWanted q sections → ⊥
+    nowhere_here (past [] e) miss h last = nowhere_under [] (sym (e ∙ append-nil all) ∙ sym (append-nil sections)) miss h
+    nowhere_here (past (next ∷ rest) e) miss h last = last_behind rest next (subst (λ (s : List Section). IsLastWanted q s) e last)
+    nowhere_here (before y z rest e is) miss h last = nowhere_under rest is miss h
+
+    refused_here : Order → (why : WantedAt → Section → Type 0) (fault : Refusal) → IsRefusedAt q sections text why → HasRefused q limits sections text fault → IsOwnFault fault
+    refused_here (before y z rest e is) why fault h r = refused_at q limits all sections rest text is taken why fault h r
+    refused_here (past [] e) why fault h r = refused_at q limits all sections [] text (sym (e ∙ append-nil all) ∙ sym (append-nil sections)) taken why fault h r
+    refused_here (past (next ∷ rest) e) why fault h r =
+        absurd (last_behind rest next (record { taken = h.taken; section = h.section; sections_are = sym e ∙ h.received; text = text; at = h.at; up_to = h.up_to }))
+
+    -- a byte of the CAR breaks none
+    next_is : (y : ℕ) (z : List ℕ) (last : ℕ) (after : List ℕ) → car ≡ heard ++ y ∷ z → unheard ≡ last ∷ after → last ≡ y
+    next_is y z last after e is =
+        let there : heard ++ (unheard ++ l.left) ≡ heard ++ (y ∷ (z ++ more)) = sym l.whole ∙ (ap (λ (b : List ℕ). b ++ more) e ∙ append_assoc heard (y ∷ z) more) in
+        let behind : unheard ++ l.left ≡ y ∷ (z ++ more) = append_cancel_left heard (unheard ++ l.left) (y ∷ (z ++ more)) there in
+        let both : last ∷ (after ++ l.left) ≡ y ∷ (z ++ more) = sym (ap (λ (u : List ℕ). u ++ l.left) is) ∙ behind in
+        cc both
+
+    whole_at : (y : ℕ) (z : List ℕ) (last : ℕ) → car ≡ heard ++ y ∷ z → last ≡ y → HasReceived limits.block (heard ++ last ∷ z) all
+    whole_at y z last e is = subst (λ (b : List ℕ). HasReceived limits.block b all) (e ∙ ap (λ (b : ℕ). heard ++ b ∷ z) (sym is)) whole
+
+    pub over : (fault : ClientFault) → EndsBy q limits input heard unheard sections text (Err fault) → IsAfterWanted q sections fault
+        → (fault ≡ faults.Refused (refusals.Extra (count_of all))) ⊎ IsOwnEnd fault
+    over (faults.Refused (refusals.Extra number)) h w =
+        let same = through_here order h.through in
+        let counted : number ≡ count_of all = h.number_is ∙ ap (λ (s : List Section). count_of s) same in
+        inl (cc counted)
+    over (faults.Refused (refusals.Truncated want number)) (end, (at, is, cut)) w =
+        let (rest, e) = past_end (all_heard (car ++ more) heard unheard input l end.all end.ended) in absurd (waits_over rest text at e cut.up_to)
+    over (faults.Refused refusals.SinkFault) h w = inr tt
+    over (faults.Refused refusals.OutOfMemory) h w = absurd h
+    over (faults.Refused (refusals.NotFolder segment)) h w = absurd (nowhere_here order (no_directory segment) h w)
+    over (faults.Refused (refusals.NotThere segment)) h w = absurd (nowhere_here order (no_entry segment) h w)
+    over (faults.Refused (refusals.BadDigest cid)) h w = absurd (refused_here order _ (refusals.BadDigest cid) h h)
+    over (faults.Refused (refusals.WrongBlock want got)) h w = absurd (refused_here order _ (refusals.WrongBlock want got) h h)
+    over (faults.Refused (refusals.BadBlock cid fault)) h w = absurd (refused_here order _ (refusals.BadBlock cid fault) h h)
+    over (faults.Refused (refusals.BadSize declared actual)) h w = absurd (refused_here order _ (refusals.BadSize declared actual) h h)
+    over (faults.Refused (refusals.Limit kinds.Received number)) h w =
+        let size : length (car ++ more) ≡ length (heard ++ (unheard ++ l.left)) = ap length l.whole in
+        let there : length heard ≡ limits.received = h.heard_is ∙ h.number_is in
+        let some_more : 0 < length unheard = h.some in
+        absurd (omega (arith, size, there, some_more, short, length-append heard (unheard ++ l.left), length-append unheard l.left))
+    over (faults.Refused (refusals.Limit kinds.Block number)) (is, h) w = absurd (passes order)
+      where
+        passes : Order → ⊥
+        passes (past rest e) = waits_over rest text h.at e h.up_to
+        passes (before y z rest e is) =
+            received.unpassed limits.block heard z h.last h.brings.0 all (whole_at y z h.last e (next_is y z h.last h.more e h.unheard_is)) h.brings.1
+    over (faults.Refused (refusals.Limit kinds.Depth number)) h w = absurd (refused_here order _ (refusals.Limit kinds.Depth number) h h)
+    over (faults.Refused (refusals.Limit kinds.Entries number)) h w = absurd h.cause
+    over (faults.Refused (refusals.Limit kinds.Names number)) h w = absurd h.cause
+    over (faults.Refused (refusals.Limit kinds.Output number)) h w = absurd h.cause
+    over (faults.Refused (refusals.Limit kinds.SeenBlocks number)) h w = absurd h.cause
+    over (faults.Refused (refusals.Limit kinds.SeenBytes number)) h w = absurd h.cause
+    over (faults.Refused (refusals.Limit kinds.Reused number)) h w = absurd h.cause
+    over (faults.BadCar fault) (no_car, h) w = absurd (breaks order)
+      where
+        breaks : Order → ⊥
+        breaks (past rest e) = waits_over rest text h.at e h.up_to
+        breaks (before y z rest e is) = received.unbroken limits.block heard z h.last all fault (whole_at y z h.last e (next_is y z h.last h.more e h.unheard_is)) no_car h.brings
+    over faults.InputFault h w = inr tt
+    over faults.OutOfMemory h w = inr tt
+
+    -- it isn't accepted
+    pub not_accepted : heard ≡ car ++ more → IsCarOf heard sections → IsThrough q sections text → ⊥
+    not_accepted e heard_is through =
+        let (rest, is) = past_end e in
+        let same = through_over rest is through in
+        car_once cars all heard car more (subst (λ (s : List Section). IsCarOf heard s) same heard_is) is_car e some
+
+-- ---- the answer
+
+module _ (laws : AnswerLaws) (verified : VerifiedLaws) (fronts : FitsByFronts) (progresses : ProgressByFronts) (q : QueryParts) (d : Dag) (all : List Section) (answer : List ℕ) (dups : q.dups ≡ true)
+    (either : (sections : List Section) (a b : Dag) (x : List ℕ) (w : Spot) → Fits a q sections x → IsInProgress b q sections w → ⊥) (fits : Fits d q all answer)
+    (cars : CarLaws) (received : ReceivedLaws) (limits : LimitNumbers) (within : IsWithinLimits q limits d) (input : Input) (out : Output) (car more : List ℕ) (is_car : IsCarOf car all)
+    (whole : HasReceived limits.block car all) (some : 0 < length more) (short : length (car ++ more) ≤ limits.received) (told : input.left_old ≡ Some (car ++ more)) where
+  pub goes_over : (result : Result ⊤ ClientFault) → IsVerified q limits input out result → IsRefusedElse (refusals.Extra (count_of all)) result
+  goes_over (Ok end) v =
+      let h = v.verifies in
+      let l = left_of (car ++ more) h.heard h.unheard input told h.took in
+      not_accepted laws verified fronts progresses q d all answer dups either fits cars received limits within input car more is_car whole some short h.heard h.unheard h.sections h.text l h.received
+      (all_heard (car ++ more) h.heard h.unheard input l h.ends.0.all h.ends.0.ended) h.ends.1.is_car h.ends.1.through
+  goes_over (Err fault) v =
+      let h = v.verifies in
+      let l = left_of (car ++ more) h.heard h.unheard input told h.took in
+      over laws verified fronts progresses q d all answer dups either fits cars received limits within input car more is_car whole some short h.heard h.unheard h.sections h.text l h.received
+      fault h.ends (v.wanted fault refl)

@@ -1,0 +1,65 @@
+use Rattle.std.proofs.Common.{◌≡◌, ◌+◌, ◌-◌, ◌++◌, ℕ, List, ap, sym, subst, ◌∙◌, take, drop, length, append_assoc, arith}
+use Rattle.std.proofs.lemmas.List.{length-drop, length-take, take_rest, take-append-drop, take_all}
+use Rattle.std.proofs.lemmas.Result.{err_from_is_err_and}
+use Rattle.std.proofs.Math.Seq.{take-add}
+use Rattle.tg_model.specs.LimitNumbers.{LimitNumbers}
+use Rattle.tg_model.specs.Queries.{QueryParts}
+use Rattle.tg_streams.specs.Streams.{into}
+use Rattle.tg_client.specs.Body.{IsStopped, WentOn}
+use Rattle.tg_client.proofs.Feeding.{stopped_on, went_further}
+use Rattle.tg_client.proofs.body.Body.feed.Goals as goal
+
+pub returns-in_err-at-clause-stands : goal.returns-in_err-at-clause-stands
+returns-in_err-at-clause-stands g c heard sections written h =
+    let p = err_from_is_err_and c.from_residual.result c.from_residual.ensures.1 in
+    let w = c.loop-at.invariant.stands heard sections written h in
+    let piece : List ℕ = c.args.piece.now in
+    let at : ℕ = c.loop-at.at in
+    let rest : List ℕ = take (length piece - at) (drop at piece) in
+    let all : (heard ++ take at piece) ++ rest ≡ heard ++ piece =
+    ap (λ (l : List ℕ). (heard ++ take at piece) ++ l) (take_rest piece at)
+    ∙ (append_assoc heard (take at piece) (drop at piece) ∙ ap (λ (l : List ℕ). heard ++ l) (take-append-drop at piece)) in
+    let out = into g.S.Sink.sink c.loop-at.out c.take.new.out in
+    let fault = c.in_err-at.field-0.0 in
+    let stopped = c.in_err-at.ensures.stands (heard ++ take at piece) w.sections (written ++ w.text) w.is_body in
+    rw (p.1, p.2)
+    (stopped_on g.S.Sink.sink g.met.S.Sink.joins c.args.out.now c.loop-at.out c.take.new.out written w.text w.put c.args.self.now.verifier.left.query c.args.self.now.verifier.limits (heard ++ piece) fault
+    (subst (λ (l : List ℕ). IsStopped c.args.self.now.verifier.left.query c.args.self.now.verifier.limits l (written ++ w.text) out fault) all
+    (subst (λ (n : LimitNumbers). IsStopped c.args.self.now.verifier.left.query n ((heard ++ take at piece) ++ rest) (written ++ w.text) out fault) c.loop-at.invariant.limits
+    (subst (λ (q : QueryParts). IsStopped q c.loop-at.self.verifier.limits ((heard ++ take at piece) ++ rest) (written ++ w.text) out fault) c.loop-at.invariant.query stopped))))
+
+pub loop-at-preserved : goal.loop-at-preserved
+loop-at-preserved g c =
+    let inv = c.loop-at.invariant in
+    let piece : List ℕ = c.args.piece.now in
+    let at : ℕ = c.loop-at.at in
+    let n : ℕ = c.in_ok-at.field-0 in
+    let bounds = c.in_ok-at.ensures.taken in
+    record {
+      query = c.take.ensures.query ∙ inv.query;
+      limits = c.take.ensures.limits ∙ inv.limits;
+      most = c.take.ensures.most ∙ inv.most;
+      within = omega (arith, bounds.1, length-drop at piece, length-take (length piece - at) (drop at piece));
+      heard = λ e.
+          let before = inv.heard e in
+          let after = c.in_ok-at.ensures.heard in
+          (omega (arith, before.0, after.0), after.1);
+      cause = λ e.
+          let before = inv.cause e in
+          let after = c.in_ok-at.ensures.cause before.0 in
+          (after.0, after.1 ∙ before.1);
+      stands = λ heard sections written h.
+          let w = inv.stands heard sections written h in
+          let rest : List ℕ = take (length piece - at) (drop at piece) in
+          let all : (heard ++ take at piece) ++ take n rest ≡ heard ++ take (at + n) piece =
+          ap (λ (l : List ℕ). (heard ++ take at piece) ++ take n l) (take_rest piece at)
+          ∙ (append_assoc heard (take at piece) (take n (drop at piece)) ∙ ap (λ (l : List ℕ). heard ++ l) (sym (take-add at n piece))) in
+          let on = c.in_ok-at.ensures.stands (heard ++ take at piece) w.sections (written ++ w.text) w.is_body in
+          subst (λ (l : List ℕ). WentOn c.take.new.self l written (into g.S.Sink.sink c.args.out.now c.take.new.out)) all
+          (went_further g.S.Sink.sink g.met.S.Sink.joins c.args.out.now c.loop-at.out c.take.new.out written w.text w.put c.take.new.self ((heard ++ take at piece) ++ take n rest) on);
+    }
+
+pub returns-clause-stands : goal.returns-clause-stands
+returns-clause-stands g c heard sections written h =
+    let all : take c.loop-at.at c.args.piece.now ≡ c.args.piece.now = take_all c.loop-at.at c.args.piece.now c.loop-at-test.false in
+    subst (λ (l : List ℕ). WentOn c.loop-at.self (heard ++ l) written (into g.S.Sink.sink c.args.out.now c.loop-at.out)) all (c.loop-at.invariant.stands heard sections written h)

@@ -1,0 +1,21 @@
+-- what was taken of the piece so far
+use Rattle.std.proofs.Common.{◌≡◌, ◌≤◌, ◌+◌, ◌++◌, ◌-◌, ℕ, List, None, length, take}
+use Rattle.tg_client.specs.Body.{IsBody, WentOn}
+use Rattle.tg_model.specs.Dag.{Section}
+use Rattle.tg_streams.specs.Streams.{OutputQuiet, into}
+use Rattle.tg_client.proofs.body.Body.feed.Given as goal
+
+abbrev pub invariant-loop-at : goal.invariant-loop-at
+invariant-loop-at g l = record {
+  query : l.self.verifier.left.query ≡ l.fn.self.verifier.left.query;
+  limits : l.self.verifier.limits ≡ l.fn.self.verifier.limits;
+  most : l.self.most ≡ l.fn.self.most;
+  within : l.at ≤ length l.piece;
+  heard : l.fn.self.heard ≤ l.fn.self.most → (l.self.heard ≡ l.fn.self.heard + l.at) × (l.self.heard ≤ l.self.most);
+  cause : l.fn.self.verifier.refused ≡ None → (l.self.verifier.refused ≡ None) × OutputQuiet (into g.S.Sink.sink l.fn.out l.out);
+  stands : (heard : List ℕ) (sections : List Section) (written : List ℕ) → IsBody l.fn.self heard sections written
+      → WentOn l.self (heard ++ take l.at l.piece) written (into g.S.Sink.sink l.fn.out l.out);
+}
+
+abbrev pub decreases-loop-at : goal.decreases-loop-at
+decreases-loop-at g l = length l.piece - l.at

@@ -1,0 +1,105 @@
+-- What the body of an answer stands for: the bytes that it heard, the sections that it took, and what is written for them.
+use Rattle.std.specs.Prelude.{Err, List, None, Ok, Result, [], length, ⊤, ℕ, ◌++◌, ◌<◌, ◌∷◌, ◌≡◌, ◌≤◌}
+use Rattle.tg_car.specs.History.{History}
+use Rattle.tg_car.specs.State.{StandsFor}
+use Rattle.tg_car.specs.declared.event.Event.{Event}
+use Rattle.tg_client.specs.Ends.{EndsBy, HasSurplus, IsAccepted, SaysFor, Verifies}
+use Rattle.tg_client.specs.Received.{HasReceived, sections_given}
+use Rattle.tg_client.specs.declared.body.Body.{Body}
+use Rattle.tg_client.specs.declared.fault.ClientFault.{ClientFault}
+use Rattle.tg_client.specs.declared.fault.ClientFault.TheVariants as faults
+use Rattle.tg_frames.specs.Left.{WantedAt}
+use Rattle.tg_model.specs.Dag.{Section}
+use Rattle.tg_model.specs.LimitNumbers.{LimitNumbers}
+use Rattle.tg_model.specs.Queries.{QueryParts}
+use Rattle.tg_streams.specs.Streams.{Input, Output, OutputQuiet, OutputRose, Put}
+use Rattle.tg_verify.specs.Refusals.{IsCutShort}
+use Rattle.tg_verify.specs.Sound.{ForEachSound}
+use Rattle.tg_verify.specs.Taken.{IsGoing, IsUpTo}
+use Rattle.tg_verify.specs.declared.fault.Refusal.TheVariants as refusals
+
+-- a reader's history before a refusal
+abbrev pub going_on : List ℕ → List Event → History
+going_on bytes given = record { fed = bytes; given = given; stop = None }
+
+-- nothing was refused: these bytes were heard, these sections stand whole in them and were taken, and this is written for them
+pub record IsBody (body : Body) (heard : List ℕ) (sections : List Section) (written : List ℕ) : Type 0 where
+  pub given : List Event
+  pub reads : StandsFor body.reader (going_on heard given)
+  pub sections_are : sections_given given ≡ sections
+  pub limit : body.reader.limit ≡ body.verifier.limits.block
+  pub most : body.most ≡ body.verifier.limits.received
+  pub fresh : body.verifier.refused ≡ None
+  pub going : IsGoing body.verifier sections written
+  -- the first block is always wanted
+  pub some : body.verifier.left.wanted ≡ None → 0 < length sections
+  pub count : body.heard ≡ length heard
+  pub within : length heard ≤ body.most
+
+-- a text was put, and nothing was refused
+pub record WentOn (body : Body) (heard written : List ℕ) (out : Output) : Type 0 where
+  pub sections : List Section
+  pub text : List ℕ
+  pub put : Put text out
+  pub is_body : IsBody body heard sections (written ++ text)
+
+-- the last of them was wanted
+pub record IsLastWanted (q : QueryParts) (sections : List Section) : Type 0 where
+  pub taken : List Section
+  pub section : Section
+  pub sections_are : sections ≡ taken ++ section ∷ []
+  pub text : List ℕ
+  pub at : WantedAt
+  pub up_to : IsUpTo q taken text at
+
+-- nothing is taken behind the last wanted section
+abbrev pub IsAfterWanted : QueryParts → List Section → ClientFault → Type 0
+IsAfterWanted q sections (faults.Refused (refusals.NotFolder segment)) = IsLastWanted q sections
+IsAfterWanted q sections (faults.Refused (refusals.NotThere segment)) = IsLastWanted q sections
+IsAfterWanted q sections other = ⊤
+
+-- an input of which nothing is known
+abbrev pub unknown : Input
+unknown = record { took = λ _. ⊥; ended = ⊥; left_old = None; left_new = None; faults_old = 0; faults_new = 0 }
+
+-- in these bytes there was a refusal, and a text was put before
+pub record IsStopped (q : QueryParts) (limits : LimitNumbers) (bytes written : List ℕ) (out : Output) (fault : ClientFault) : Type 0 where
+  pub heard : List ℕ
+  pub unheard : List ℕ
+  pub whole : bytes ≡ heard ++ unheard
+  pub sections : List Section
+  pub received : HasReceived limits.block heard sections
+  pub text : List ℕ
+  pub put : Put text out
+  pub ends : EndsBy q limits unknown heard unheard sections (written ++ text) (Err fault)
+  pub sound : ForEachSound q (λ d. SaysFor q d sections (written ++ text) (Err fault))
+  pub wanted : IsAfterWanted q sections fault
+
+-- how the verification of a CAR ends, and nothing was taken behind the last wanted section
+pub record IsVerified (q : QueryParts) (limits : LimitNumbers) (input : Input) (out : Output) (result : Result ⊤ ClientFault) : Type 0 where
+  pub verifies : Verifies q limits input out result
+  pub wanted : (fault : ClientFault) → result ≡ Err fault → IsAfterWanted q verifies.sections fault
+
+-- how it ends where no more bytes come
+abbrev pub EndsAt : QueryParts → LimitNumbers → List ℕ → List Section → List ℕ → Result ⊤ ClientFault → Type 0
+EndsAt q limits heard sections text (Ok done) = IsAccepted q limits heard sections text
+EndsAt q limits heard sections text (Err (faults.Refused (refusals.Truncated want number))) = (at : WantedAt) × (want ≡ at.cid) × IsCutShort q sections text at number
+EndsAt q limits heard sections text (Err (faults.Refused (refusals.Extra number))) = HasSurplus q heard sections text number
+EndsAt q limits heard sections text (Err other) = ⊥
+
+pub record HasEnded (q : QueryParts) (limits : LimitNumbers) (heard : List ℕ) (sections : List Section) (text : List ℕ) (result : Result ⊤ ClientFault) : Type 0 where
+  pub received : HasReceived limits.block heard sections
+  pub ends : EndsAt q limits heard sections text result
+  pub sound : ForEachSound q (λ d. SaysFor q d sections text result)
+
+-- a fault of out comes where one was counted, and nowhere else; and none is of the input
+abbrev pub HasOutCause : Output → ClientFault → Type 0
+HasOutCause out faults.InputFault = ⊥
+HasOutCause out (faults.Refused refusals.SinkFault) = OutputRose out
+HasOutCause out other = OutputQuiet out
+
+-- a refusal where no more bytes come
+abbrev pub IsEndFault : ClientFault → Type 0
+IsEndFault (faults.Refused (refusals.Truncated want number)) = ⊤
+IsEndFault (faults.Refused (refusals.Extra number)) = ⊤
+IsEndFault other = ⊥

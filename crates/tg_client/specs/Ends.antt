@@ -1,0 +1,139 @@
+-- How the verification of a CAR on an input ends.
+use Rattle.std.specs.Prelude.{Err, List, Ok, Result, [], length, ⊤, ℕ, ◌++◌, ◌<◌, ◌∷◌, ◌≡◌, ◌≤◌, ◌⊎◌}
+use Rattle.tg_car.specs.Faults.{Brings, PassesLimit}
+use Rattle.tg_car.specs.declared.fault.CarFault.{CarFault}
+use Rattle.tg_car.specs.declared.fault.CarFault.TheVariants as cars
+use Rattle.tg_client.specs.Received.{HasReceived, IsCarOf}
+use Rattle.tg_client.specs.ReceivedLaws.{IsNoCar}
+use Rattle.tg_client.specs.declared.fault.ClientFault.{ClientFault}
+use Rattle.tg_client.specs.declared.fault.ClientFault.TheVariants as faults
+use Rattle.tg_frames.specs.Left.{WantedAt}
+use Rattle.tg_model.specs.Dag.{Dag, Section}
+use Rattle.tg_model.specs.LimitNumbers.{LimitNumbers}
+use Rattle.tg_model.specs.Queries.{QueryParts}
+use Rattle.tg_model.specs.declared.limits.LimitKind.TheVariants as kinds
+use Rattle.tg_streams.specs.Streams.{Ended, Input, InputQuiet, InputRose, Output, OutputQuiet, OutputRose, Put, Took}
+use Rattle.tg_verify.specs.Refusals.{HasRefused, IsCutShort}
+use Rattle.tg_verify.specs.Sound.{ForEachSound, IsItsAnswer, IsItsFront, SaysOfDag}
+use Rattle.tg_verify.specs.State.{count_of}
+use Rattle.tg_verify.specs.Taken.{IsThrough, IsUpTo}
+use Rattle.tg_verify.specs.declared.fault.Refusal.{Refusal}
+use Rattle.tg_verify.specs.declared.fault.Refusal.TheVariants as refusals
+
+-- ---- what was heard
+
+-- the sections were taken, and nothing was refused: a block is wanted, or all came
+abbrev pub IsHeld : QueryParts → List Section → List ℕ → Type 0
+IsHeld q sections text = ((at : WantedAt) × IsUpTo q sections text at) ⊎ IsThrough q sections text
+
+-- all sections came, and bytes behind them
+pub record HasSurplus (q : QueryParts) (bytes : List ℕ) (sections : List Section) (text : List ℕ) (number : ℕ) : Type 0 where
+  pub through : IsThrough q sections text
+  pub number_is : number ≡ count_of sections
+  pub car : List ℕ
+  pub more : List ℕ
+  pub whole : bytes ≡ car ++ more
+  pub some : 0 < length more
+  pub is_car : IsCarOf car sections
+
+-- so many bytes were heard as may be, and a further one came
+pub record IsPastReceived (q : QueryParts) (limits : LimitNumbers) (heard unheard : List ℕ) (sections : List Section) (text : List ℕ) (number : ℕ) : Type 0 where
+  pub number_is : number ≡ limits.received
+  pub heard_is : length heard ≡ number
+  pub some : 0 < length unheard
+  pub held : IsHeld q sections text
+
+-- a block is wanted, and with the next byte this holds of what was heard
+pub record IsBrokenBy (q : QueryParts) (heard unheard : List ℕ) (sections : List Section) (text : List ℕ) (why : List ℕ → Type 0) : Type 0 where
+  pub at : WantedAt
+  pub up_to : IsUpTo q sections text at
+  pub last : ℕ
+  pub more : List ℕ
+  pub unheard_is : unheard ≡ last ∷ more
+  pub brings : why (heard ++ last ∷ [])
+
+-- the input has ended, and all of it was heard
+pub record IsAllHeard (unheard : List ℕ) (input : Input) : Type 0 where
+  pub all : unheard ≡ []
+  pub ended : Ended input
+
+-- ---- how each answer comes
+
+-- accepted: the input is a CAR of all sections that the query asks for, and their text is what was put
+pub record IsAccepted (q : QueryParts) (limits : LimitNumbers) (heard : List ℕ) (sections : List Section) (text : List ℕ) : Type 0 where
+  pub is_car : IsCarOf heard sections
+  pub through : IsThrough q sections text
+  pub within : length heard ≤ limits.received
+
+abbrev pub EndsBy : QueryParts → LimitNumbers → Input → List ℕ → List ℕ → List Section → List ℕ → Result ⊤ ClientFault → Type 0
+EndsBy q limits input heard unheard sections text (Ok done) = IsAllHeard unheard input × IsAccepted q limits heard sections text
+EndsBy q limits input heard unheard sections text (Err (faults.Refused (refusals.Extra number))) = (HasSurplus q (heard ++ unheard) sections text number)
+EndsBy q limits input heard unheard sections text (Err (faults.Refused (refusals.Limit kinds.Received number))) =
+    (IsPastReceived q limits heard unheard sections text number)
+EndsBy q limits input heard unheard sections text (Err (faults.Refused (refusals.Limit kinds.Block number))) =
+    ((number ≡ limits.block) × IsBrokenBy q heard unheard sections text (λ bytes. (place : ℕ) × PassesLimit limits.block bytes place))
+EndsBy q limits input heard unheard sections text (Err (faults.Refused (refusals.Truncated want number))) =
+    IsAllHeard unheard input × ((at : WantedAt) × (want ≡ at.cid) × IsCutShort q sections text at number)
+EndsBy q limits input heard unheard sections text (Err (faults.Refused refusals.OutOfMemory)) = ⊥
+EndsBy q limits input heard unheard sections text (Err (faults.Refused fault)) = (HasRefused q limits sections text fault)
+EndsBy q limits input heard unheard sections text (Err (faults.BadCar fault)) =
+    (IsNoCar fault × IsBrokenBy q heard unheard sections text (λ bytes. Brings limits.block bytes fault))
+EndsBy q limits input heard unheard sections text (Err faults.InputFault) = ((unheard ≡ []) × IsHeld q sections text)
+EndsBy q limits input heard unheard sections text (Err faults.OutOfMemory) = (HasRefused q limits sections text refusals.OutOfMemory ⊎ IsHeld q sections text)
+
+-- what an answer says of a sound DAG: its answer, or a front of it; and what a refusal says of it
+abbrev pub SaysFor : QueryParts → Dag → List Section → List ℕ → Result ⊤ ClientFault → Type 0
+SaysFor q d sections text (Ok done) = IsItsAnswer q d sections text
+SaysFor q d sections text (Err (faults.Refused fault)) = IsItsFront q d sections text × SaysOfDag q d sections fault
+SaysFor q d sections text (Err other) = IsItsFront q d sections text
+
+-- the bytes that were heard, and those of the last piece behind them; the sections that stand whole in what was heard; the text that was
+-- put; how it ended; and what that says of each sound DAG with the query's root
+pub record Verifies (q : QueryParts) (limits : LimitNumbers) (input : Input) (out : Output) (result : Result ⊤ ClientFault) : Type 0 where
+  pub heard : List ℕ
+  pub unheard : List ℕ
+  pub took : Took (heard ++ unheard) input
+  pub sections : List Section
+  pub received : HasReceived limits.block heard sections
+  pub text : List ℕ
+  pub put : Put text out
+  pub ends : EndsBy q limits input heard unheard sections text result
+  pub sound : ForEachSound q (λ d. SaysFor q d sections text result)
+
+-- faults of the input and of out come where one was counted, and nowhere else
+abbrev pub HasStreamCause : Input → Output → Result ⊤ ClientFault → Type 0
+HasStreamCause input out (Err faults.InputFault) = InputRose input × OutputQuiet out
+HasStreamCause input out (Err (faults.Refused refusals.SinkFault)) = InputQuiet input × OutputRose out
+HasStreamCause input out result = InputQuiet input × OutputQuiet out
+
+-- ---- of an input that tells its bytes
+
+-- a counted fault, or want of memory
+abbrev pub IsOwnEnd : ClientFault → Type 0
+IsOwnEnd faults.InputFault = ⊤
+IsOwnEnd faults.OutOfMemory = ⊤
+IsOwnEnd (faults.Refused refusals.SinkFault) = ⊤
+IsOwnEnd other = ⊥
+
+-- accepted, but for those
+abbrev pub IsAcceptedElse : Result ⊤ ClientFault → Type 0
+IsAcceptedElse (Ok done) = ⊤
+IsAcceptedElse (Err fault) = IsOwnEnd fault
+
+-- refused for this, but for those
+abbrev pub IsRefusedElse : Refusal → Result ⊤ ClientFault → Type 0
+IsRefusedElse refusal (Ok done) = ⊥
+IsRefusedElse refusal (Err fault) = (fault ≡ faults.Refused refusal) ⊎ IsOwnEnd fault
+
+-- ---- faults from below
+
+-- a refusal of the verifier; its want of memory is the client's own
+abbrev pub fault_of_refusal : Refusal → ClientFault
+fault_of_refusal refusals.OutOfMemory = faults.OutOfMemory
+fault_of_refusal refusal = faults.Refused refusal
+
+-- a fault of the CAR; a section that declares too large a block is a limit's refusal, and want of memory is the client's own
+abbrev pub fault_of_car : CarFault → ClientFault
+fault_of_car (cars.BlockLimit at number) = faults.Refused (refusals.Limit kinds.Block number)
+fault_of_car cars.OutOfMemory = faults.OutOfMemory
+fault_of_car car = faults.BadCar car

@@ -1,0 +1,4 @@
+pub mod Received
+pub mod ReceivedLaws
+pub mod Ends
+pub mod Body

@@ -1,0 +1,126 @@
+//! The bytes of a CAR, verified while they come.
+ghost use Rattle.std.specs.Prelude.{◌≡◌, ◌++◌, ◌+◌, ◌<◌, ◌≤◌, [], ℕ, List as Items, None, IfErr, IfOk, MatchResult, length, take, true};
+ghost use Rattle.tg_client.specs.Body.{HasEnded, HasOutCause, IsBody, IsEndFault, IsStopped, WentOn};
+ghost use Rattle.tg_model.specs.Dag.{Section};
+ghost use Rattle.tg_streams.specs.Streams.{OutputQuiet, into};
+ghost use Rattle.tg_verify.specs.State.{next_cid};
+
+use crate::fault::ClientFault;
+use crate::laws::received_sections;
+use std::alloc::{AllocError, Global};
+use tg_car::{CarReader, Event, car_laws};
+use tg_model::{LimitKind, Limits, Query};
+use tg_streams::Sink;
+use tg_verify::{Refusal, Verifier, verified_answers};
+
+/// The body of an answer to a query: a CAR, of which each section is verified as soon as its last byte came. No byte of it is kept but
+/// those of the section at hand.
+#[derive(Drop)]
+pub(crate) struct Body {
+    reader: CarReader,
+    verifier: Verifier,
+    most: u64,
+    heard: u64,
+}
+
+impl Body {
+    /// The body before its first byte. The error is want of memory.
+    pub(crate) fn new(alloc: Global, query: &Query, limits: Limits) -> Result<Body, AllocError>
+        ensures query { IfOk result (λ body. body.verifier.left.query ≡ query.now) }
+        ensures limits { IfOk result (λ body. body.verifier.limits ≡ limits) }
+        ensures fresh { IfOk result (λ body. body.verifier.refused ≡ None) }
+        ensures heard { IfOk result (λ body. body.heard ≡ 0) }
+        ensures stands { IfOk result (λ body. query.now.dups ≡ true → IsBody body [] [] []) }
+    {
+        Ok(Body {
+            reader: CarReader::new(alloc, limits.number(LimitKind::Block)),
+            verifier: Verifier::new(alloc, query, limits)?,
+            most: limits.number(LimitKind::Received),
+            heard: 0,
+        })
+    }
+
+    /// Takes all of a piece.
+    ///
+    /// Errors, at the first byte where one holds: `Refused` with a `Limit` of kind `Received` where more bytes came than may; with `Extra`
+    /// behind the last wanted section; with a `Limit` of kind `Block` where a section declares too large a block; with a refusal of the
+    /// verifier at the last byte of a section; `BadCar` where no CAR goes on so; and `OutOfMemory`.
+    pub(crate) fn feed<S: Sink>(&mut self, piece: &[u8], out: &mut S) -> Result<(), ClientFault>
+        ensures query { self.new.verifier.left.query ≡ self.old.verifier.left.query }
+        ensures limits { self.new.verifier.limits ≡ self.old.verifier.limits }
+        ensures most { self.new.most ≡ self.old.most }
+        ensures heard { self.old.heard ≤ self.old.most → IfOk result (λ _. (self.new.heard ≡ self.old.heard + length piece.now) × (self.new.heard ≤ self.new.most)) }
+        ensures cause { self.old.verifier.refused ≡ None → MatchResult result
+            (λ _. (self.new.verifier.refused ≡ None) × OutputQuiet (into S.sink out.old out.new))
+            (λ fault. HasOutCause (into S.sink out.old out.new) fault) }
+        ensures stands { (heard : Items ℕ) (sections : Items Section) (written : Items ℕ) → IsBody self.old heard sections written → MatchResult result
+            (λ _. WentOn self.new (heard ++ piece.now) written (into S.sink out.old out.new))
+            (λ fault. IsStopped self.old.verifier.left.query self.old.verifier.limits (heard ++ piece.now) written (into S.sink out.old out.new) fault) }
+    {
+        let mut at = 0;
+        while at < piece.len() {
+            at += self.take(&piece[at..], out)?;
+        }
+        Ok(())
+    }
+
+    /// Says that no more bytes come. Errors: `Refused` with `Truncated` where a block is wanted.
+    pub(crate) fn end(&mut self) -> Result<(), ClientFault>
+        ensures cause { self.old.verifier.refused ≡ None → IfErr result IsEndFault }
+        ensures stands { (heard : Items ℕ) (sections : Items Section) (written : Items ℕ) → IsBody self.old heard sections written
+            → HasEnded self.old.verifier.left.query self.old.verifier.limits heard sections written result }
+    {
+        car_laws();
+        verified_answers();
+        self.verifier.finish()?;
+        match self.reader.end() {
+            Ok(()) => Ok(()),
+            Err(_) => Err(self.surplus()),
+        }
+    }
+
+    /// Takes bytes of a piece that has some, up to the end of the header or of a section, and says how many. A byte that is one too many
+    /// isn't looked at.
+    fn take<S: Sink>(&mut self, piece: &[u8], out: &mut S) -> Result<usize, ClientFault>
+        requires { 0 < length piece.now }
+        ensures query { self.new.verifier.left.query ≡ self.old.verifier.left.query }
+        ensures limits { self.new.verifier.limits ≡ self.old.verifier.limits }
+        ensures most { self.new.most ≡ self.old.most }
+        ensures taken { IfOk result (λ n. (0 < n) × (n ≤ length piece.now)) }
+        ensures heard { IfOk result (λ n. (self.new.heard ≡ self.old.heard + n) × (self.new.heard ≤ self.new.most)) }
+        ensures cause { self.old.verifier.refused ≡ None → MatchResult result
+            (λ _. (self.new.verifier.refused ≡ None) × OutputQuiet (into S.sink out.old out.new))
+            (λ fault. HasOutCause (into S.sink out.old out.new) fault) }
+        ensures stands { (heard : Items ℕ) (sections : Items Section) (written : Items ℕ) → IsBody self.old heard sections written → MatchResult result
+            (λ n. WentOn self.new (heard ++ take n piece.now) written (into S.sink out.old out.new))
+            (λ fault. IsStopped self.old.verifier.left.query self.old.verifier.limits (heard ++ piece.now) written (into S.sink out.old out.new) fault) }
+    {
+        verified_answers();
+        received_sections();
+        if self.heard >= self.most {
+            return Err(ClientFault::Refused(Refusal::Limit {
+                kind: LimitKind::Received,
+                number: self.most,
+            }));
+        }
+        if self.verifier.want().is_none() {
+            return Err(self.surplus());
+        }
+        let room = (self.most - self.heard).min(piece.len() as u64) as usize;
+        let (taken, event) = self.reader.feed(&piece[..room])?;
+        self.heard += taken as u64;
+        if let Event::Section { section, .. } = event {
+            self.verifier.section(section.cid, section.block, out)?;
+        }
+        Ok(taken)
+    }
+
+    /// The refusal of bytes behind the last wanted section.
+    fn surplus(&self) -> ClientFault
+        ensures { result ≡ ClientFault.Refused (Refusal.Extra self.now.verifier.taken) }
+    {
+        ClientFault::Refused(Refusal::Extra {
+            sections: self.verifier.sections(),
+        })
+    }
+}

@@ -1,0 +1,113 @@
+//! A CAR on an input, verified.
+ghost use Rattle.std.specs.Prelude.{◌≡◌, ◌++◌, ◌<◌, ◌≤◌, ℕ, List as Items, Some, IfOk, length, true};
+ghost use Rattle.tg_client.specs.Body.{IsVerified};
+ghost use Rattle.tg_client.specs.Ends.{HasStreamCause, IsAcceptedElse, IsRefusedElse, Verifies};
+ghost use Rattle.tg_client.specs.Received.{HasReceived, IsCarOf};
+ghost use Rattle.tg_model.specs.Answer.{answer};
+ghost use Rattle.tg_model.specs.Dag.{Dag, Section, root_cid};
+ghost use Rattle.tg_model.specs.Fits.{Fits, IsInProgress};
+ghost use Rattle.tg_model.specs.PathWalk.{Spot};
+ghost use Rattle.tg_model.specs.Sound.{IsSound};
+ghost use Rattle.tg_model.specs.Traversal.{block_list};
+ghost use Rattle.tg_streams.specs.Streams.{into, through};
+ghost use Rattle.tg_verify.specs.Laws.{IsWithinLimits};
+ghost use Rattle.tg_verify.specs.State.{count_of};
+
+use crate::body::Body;
+use crate::fault::ClientFault;
+use crate::laws::received_sections;
+use std::alloc::{AllocError, Global};
+use tg_car::car_laws;
+use tg_laws::{front_sections, one_fit, own_sections};
+use tg_model::{Limits, Query};
+use tg_streams::{Sink, Source, take_piece};
+use tg_traverse::verified_sections;
+use tg_varint::spelling_laws;
+use tg_verify::{Refusal, own_sections_taken, verified_answers};
+
+/// How many bytes are taken from the input at once, at most.
+const PIECE_LEN: usize = 65_536;
+
+/// Verifies that the input is a CAR of what a query with repeats asks for, and puts what it says. The query's root alone is trusted: the
+/// roots in the CAR's header aren't looked at, and each section is checked, and what it says is put, as soon as its last byte came. No
+/// byte of the input is kept but those of a piece and of the section at hand. Ok says that the input was read to its end.
+///
+/// CARv1 specification; Trustless Gateway specification, CAR responses, dag-scope and entity-bytes. Errors, at the first byte where one
+/// holds: `Refused` with a refusal of the verifier at a section's last byte, with a `Limit` of kind `Received` where more bytes come than
+/// may, with `Extra` behind the last wanted section, with a `Limit` of kind `Block` where a section declares too large a block, and with
+/// `Truncated` where the input ends and a block is wanted; `BadCar` where no CAR goes on so; `InputFault`; and `OutOfMemory`. What was
+/// put before stays.
+pub fn verify_car<I: Source, S: Sink>(
+    alloc: Global,
+    query: &Query,
+    limits: Limits,
+    input: &mut I,
+    out: &mut S,
+) -> Result<(), ClientFault>
+    // What was heard and put, how it ended, and what that says of each sound DAG with the query's root.
+    ensures verifies { query.now.dups ≡ true → Verifies query.now limits (through I.source input.old input.new) (into S.sink out.old out.new) result }
+    ensures cause { HasStreamCause (through I.source input.old input.new) (into S.sink out.old out.new) result }
+
+    // Of an input that tells its bytes, but for counted faults and want of memory: the CAR of a sound DAG's own traversal is accepted, and
+    // so is one whose sections fit.
+    ensures own { (d : Dag) (bytes text : Items ℕ) → query.now.dups ≡ true → I.source.left input.old ≡ Some bytes
+        → IsSound d → root_cid d ≡ query.now.root → answer query.now d ≡ Some text → IsCarOf bytes (block_list query.now d)
+        → IsWithinLimits query.now limits d → length bytes ≤ limits.received → IsAcceptedElse result }
+    ensures fitting { (d : Dag) (sections : Items Section) (bytes text : Items ℕ) → query.now.dups ≡ true → I.source.left input.old ≡ Some bytes
+        → Fits d query.now sections text → IsCarOf bytes sections
+        → IsWithinLimits query.now limits d → length bytes ≤ limits.received → IsAcceptedElse result }
+    // One that ends before the last section is truncated; one that goes on behind it has something extra.
+    ensures cut { (d : Dag) (sections : Items Section) (bytes : Items ℕ) (wanted : Spot) → query.now.dups ≡ true → I.source.left input.old ≡ Some bytes
+        → IsInProgress d query.now sections wanted → HasReceived limits.block bytes sections
+        → IsWithinLimits query.now limits d → length bytes ≤ limits.received
+        → IsRefusedElse (Refusal.Truncated wanted.cid (count_of sections)) result }
+    ensures surplus { (d : Dag) (sections : Items Section) (car more text : Items ℕ) → query.now.dups ≡ true → I.source.left input.old ≡ Some (car ++ more)
+        → Fits d query.now sections text → IsCarOf car sections → 0 < length more
+        → IsWithinLimits query.now limits d → length (car ++ more) ≤ limits.received
+        → IsRefusedElse (Refusal.Extra (count_of sections)) result }
+{
+    car_laws();
+    one_fit();
+    front_sections();
+    own_sections();
+    verified_sections();
+    verified_answers();
+    own_sections_taken();
+    received_sections();
+    hear(alloc, query, limits, input, out)
+}
+
+/// Does so piece by piece; and nothing is taken behind the last wanted section.
+fn hear<I: Source, S: Sink>(
+    alloc: Global,
+    query: &Query,
+    limits: Limits,
+    input: &mut I,
+    out: &mut S,
+) -> Result<(), ClientFault>
+    ensures verifies { query.now.dups ≡ true → IsVerified query.now limits (through I.source input.old input.new) (into S.sink out.old out.new) result }
+    ensures cause { HasStreamCause (through I.source input.old input.new) (into S.sink out.old out.new) result }
+{
+    spelling_laws();
+    verified_sections();
+    verified_answers();
+    let mut room = zeros(alloc, PIECE_LEN)?;
+    let buffer = room.as_mut_slice();
+    let mut body = Body::new(alloc, query, limits)?;
+    loop {
+        let Ok(filled) = take_piece(input, buffer) else {
+            return Err(ClientFault::InputFault);
+        };
+        if filled == 0 {
+            return body.end();
+        }
+        body.feed(&buffer[..filled], out)?;
+    }
+}
+
+/// So many zero bytes.
+fn zeros(alloc: Global, size: usize) -> Result<Vec<u8>, AllocError>
+    ensures { IfOk result (λ room. length room.items ≡ size) }
+{
+    vec![in alloc; 0u8; size]
+}

@@ -1,0 +1,11 @@
+//! The client, which trusts no server: a query's CAR is verified while it comes.
+#![tactic(auto)]
+
+mod body;
+mod cars;
+mod fault;
+mod laws;
+
+pub use cars::verify_car;
+pub use fault::ClientFault;
+pub use laws::received_sections;
