@@ -8,7 +8,7 @@ use Rattle.tg_cid.specs.declared.cid.HashKind.{HashKind}
 use Rattle.tg_cid.specs.declared.cid.HashKind.TheVariants.{Sha256, Identity}
 use Rattle.tg_words.specs.CommandLine.{CommandLine}
 use Rattle.tg_words.specs.declared.Command.{Command}
-use Rattle.tg_words.specs.declared.Command.TheVariants.{Check, Node, CidToHex, CidToText, Export, Import}
+use Rattle.tg_words.specs.declared.Command.TheVariants.{Check, Node, CidToHex, CidToText, Export, Import, Verify}
 use Rattle.tg_export.specs.Cars.{CarEnds}
 use Rattle.tg_export.specs.Packed.{ExportEnds, HasPackedCause, IsExportedElse}
 use Rattle.tg_export.specs.declared.fault.ExportFault.{ExportFault}
@@ -37,12 +37,9 @@ use Rattle.tg_app.specs.Imports.{ImportAnswers, Imported, IsGoodFolder, IsImport
 use Rattle.tg_app.specs.Objects.{Files, Objects, SameFiles}
 use Rattle.tg_app.specs.declared.refusal.Refusal.{Refusal}
 use Rattle.tg_app.specs.declared.refusal.Refusal.TheVariants.{Usage, BadDigest, BadBlock, BlockLimit, InputFault, SinkFault, OutOfMemory}
-
--- ---- statuses
-
-not_zero : (refusal : Refusal) → status_of refusal ≡ 0 → ⊥
-not_zero Usage e = cc
-not_zero other e = cc
+use Rattle.tg_app.proofs.Statuses.{not_zero}
+use Rattle.tg_app.proofs.VerifyEndings.{no_verify_usage, unverified, verify_fault, verify_quiet}
+use Rattle.tg_traverse.specs.Verified.{VerifiedStarts}
 
 -- ---- the command that the words spell
 
@@ -53,20 +50,23 @@ not_imported : (options : Options) (files : Files) (out : Output) → SameFiles 
 not_imported options files out same unput =
     inr (inr (record { same_folder = same.folder; same_pack = same.pack; unput = unput; is = refl }))
 
-memory_ends : (command : Command) (objects : Objects) → AllUntouched objects → CommandEnds command objects (Some OutOfMemory)
-memory_ends (Check cid) objects all = (all.files, all.streams)
-memory_ends (Node cid) objects all = (all.files, inl all.streams)
-memory_ends (CidToHex cid) objects all = (all.files, all.streams.untaken, all.streams.unput)
-memory_ends (CidToText cid) objects all = (all.files, all.streams.untaken, all.streams.unput)
-memory_ends (Export parts) objects all =
+memory_ends : (words : List (List ℕ)) (command : Command) (objects : Objects) → VerifiedStarts → CommandLine words command → AllUntouched objects
+    → CommandEnds command objects (Some OutOfMemory)
+memory_ends words (Check cid) objects starts line all = (all.files, all.streams)
+memory_ends words (Node cid) objects starts line all = (all.files, inl all.streams)
+memory_ends words (CidToHex cid) objects starts line all = (all.files, all.streams.untaken, all.streams.unput)
+memory_ends words (CidToText cid) objects starts line all = (all.files, all.streams.untaken, all.streams.unput)
+memory_ends words (Export parts) objects starts line all =
     (all.files.folder, all.streams.untaken, unbegun objects.files.pack objects.files.same_pack objects.out parts.query all.files.pack all.streams.unput)
-memory_ends (Import parts) objects all = (all.streams.untaken, not_imported (options_of parts) objects.files objects.out all.files all.streams.unput)
+memory_ends words (Import parts) objects starts line all = (all.streams.untaken, not_imported (options_of parts) objects.files objects.out all.files all.streams.unput)
+memory_ends words (Verify q) objects starts line all = (all.files, unverified q objects.input objects.out starts line.asked.dups all.streams)
 
-pub ends_of : (words : List (List ℕ)) (command : Command) (objects : Objects) (end : Option Refusal) → CommandLine words command
+pub ends_of : VerifiedStarts → (words : List (List ℕ)) (command : Command) (objects : Objects) (end : Option Refusal) → CommandLine words command
     → Ends words objects end → CommandEnds command objects end
-ends_of words command objects end line (inl none) = absurd (none.none command line)
-ends_of words command objects end line (inr (inl memory)) = subst (CommandEnds command objects) (sym memory.end_is) (memory_ends command objects memory.untouched)
-ends_of words command objects end line (inr (inr did)) = subst (λ (k : Command). CommandEnds k objects end) (did.the.only command line) did.ends
+ends_of starts words command objects end line (inl none) = absurd (none.none command line)
+ends_of starts words command objects end line (inr (inl memory)) =
+    subst (CommandEnds command objects) (sym memory.end_is) (memory_ends words command objects starts line memory.untouched)
+ends_of starts words command objects end line (inr (inr did)) = subst (λ (k : Command). CommandEnds k objects end) (did.the.only command line) did.ends
 
 -- ---- ends by their status
 
@@ -153,6 +153,7 @@ no_usage (CidToHex cid) objects ends = absurd ends.2
 no_usage (CidToText cid) objects ends = absurd ends.2
 no_usage (Export parts) objects ends = no_export_usage parts.query objects.files.pack objects.files.same_pack objects.out ends.2
 no_usage (Import parts) objects ends = no_import_usage (options_of parts) objects.files objects.out ends.1
+no_usage (Verify q) objects ends = no_verify_usage q objects.input objects.out ends.1
 
 memory_isnt_2 : (end : Option Refusal) → end ≡ Some OutOfMemory → exit_status end ≡ 2 → ⊥
 memory_isnt_2 end e two = let eight : exit_status (Some OutOfMemory) ≡ 2 = sym (ap exit_status e) ∙ two in cc
@@ -180,6 +181,7 @@ kept_of (Check cid) objects end uses ends = ends.0
 kept_of (Node cid) objects end uses ends = ends.0
 kept_of (CidToHex cid) objects end uses ends = ends.0
 kept_of (CidToText cid) objects end uses ends = ends.0
+kept_of (Verify q) objects end uses ends = ends.0
 kept_of (Export parts) objects end uses ends = absurd uses
 kept_of (Import parts) objects end uses ends = absurd uses
 
@@ -214,6 +216,7 @@ fault_of (Check cid) objects end uses e ends = check_fault cid objects.input obj
 fault_of (Node cid) objects end uses e ends = node_fault cid objects.input objects.out end e ends.1
 fault_of (CidToHex cid) objects end uses e ends = inr (print_fault (HexLine cid) objects.out end e ends.2)
 fault_of (CidToText cid) objects end uses e ends = inr (print_fault (TextLine cid) objects.out end e ends.2)
+fault_of (Verify q) objects end uses e ends = verify_fault q objects.input objects.out end e ends.1
 fault_of (Export parts) objects end uses e ends = absurd uses
 fault_of (Import parts) objects end uses e ends = absurd uses
 
@@ -244,6 +247,7 @@ passed_of (CidToHex cid) objects end reads e ends = absurd reads
 passed_of (CidToText cid) objects end reads e ends = absurd reads
 passed_of (Export parts) objects end reads e ends = absurd reads
 passed_of (Import parts) objects end reads e ends = absurd reads
+passed_of (Verify q) objects end reads e ends = absurd reads
 
 -- ---- faults that weren't counted
 
@@ -325,6 +329,7 @@ command_quiet (CidToHex cid) objects end ne ends = (ends.1.quiet, print_quiet (H
 command_quiet (CidToText cid) objects end ne ends = (ends.1.quiet, print_quiet (TextLine cid) objects.out end ne ends.2)
 command_quiet (Export parts) objects end ne ends = (ends.1.quiet, export_quiet parts.query objects.files.pack objects.files.same_pack objects.out end ne ends.2)
 command_quiet (Import parts) objects end ne ends = (ends.0.quiet, import_quiet (options_of parts) objects.files objects.out end ne ends.1)
+command_quiet (Verify q) objects end ne ends = verify_quiet q objects.input objects.out end ne ends.1
 
 pub quiet_of : (words : List (List ℕ)) (objects : Objects) (end : Option Refusal) → exit_status end ≢ 6 → Ends words objects end
     → InputQuiet objects.input × OutputQuiet objects.out
@@ -456,8 +461,12 @@ checked_of cid input out (Some refusal) e ends = absurd (not_zero refusal e)
 
 pub other_of : (cid : CidParts) (input : Input) (out : Output) (end : Option Refusal) → exit_status end ≡ 3 → CheckEnds cid input out end → CheckedOther cid input out
 other_of cid input out (Some (BadDigest text)) e ends = record { read = ends.0.1; unput = ends.1 }
-other_of cid input out (Some (BadBlock text fault)) e ends = absurd ends.0
-other_of cid input out end e ends = cc
+other_of cid input out (Some InputFault) e ends = cc
+other_of cid input out (Some SinkFault) e ends = cc
+other_of cid input out (Some OutOfMemory) e ends = cc
+other_of cid input out (Some BlockLimit) e ends = cc
+other_of cid input out None e ends = cc
+other_of cid input out (Some refusal) e ends = absurd ends.0
 
 -- lists of numbers are equal or not
 dec_cons : (x y : ℕ) (xs ys : List ℕ) → ((x ≡ y) ⊎ (x ≢ y)) → ((xs ≡ ys) ⊎ (xs ≢ ys)) → ((x ∷ xs) ≡ (y ∷ ys)) ⊎ ((x ∷ xs) ≢ (y ∷ ys))
@@ -513,7 +522,12 @@ noded_of cid input out (Some refusal) e ends = absurd (not_zero refusal e)
 pub node_other_of : (cid : CidParts) (input : Input) (out : Output) (end : Option Refusal) → exit_status end ≡ 3 → NodeEnds cid input out end → NodedOther cid input out
 node_other_of cid input out (Some (BadDigest text)) e ends = inl (record { read = ends.0.1; unput = ends.1 })
 node_other_of cid input out (Some (BadBlock text fault)) e ends = inr (fault, ends.1)
-node_other_of cid input out end e ends = cc
+node_other_of cid input out (Some InputFault) e ends = cc
+node_other_of cid input out (Some SinkFault) e ends = cc
+node_other_of cid input out (Some OutOfMemory) e ends = cc
+node_other_of cid input out (Some BlockLimit) e ends = cc
+node_other_of cid input out None e ends = cc
+node_other_of cid input out (Some refusal) e ends = absurd ends.0
 
 no_text : (cid : CidParts) (bytes block : List ℕ) → block ≡ bytes → length block ≤ 2097152 → HasNoText cid block → NodeStatus cid bytes 3
 no_text cid bytes block same within none = inr (inl (refl, subst (λ (b : List ℕ). length b ≤ 2097152) same within, subst (HasNoText cid) same none))

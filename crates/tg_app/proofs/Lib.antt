@@ -1,3 +1,6 @@
+mod Statuses
 mod Endings
 mod ExportSteps
 mod ImportSteps
+mod VerifyEndings
+mod VerifySteps

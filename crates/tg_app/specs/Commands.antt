@@ -2,7 +2,7 @@
 use Rattle.std.specs.Prelude.{◌≡◌, ℕ, ◌⊎◌, ⊤, List, Option, Some}
 use Rattle.tg_words.specs.CommandLine.{CommandLine}
 use Rattle.tg_words.specs.declared.Command.{Command}
-use Rattle.tg_words.specs.declared.Command.TheVariants.{Check, Node, CidToHex, CidToText, Export, Import}
+use Rattle.tg_words.specs.declared.Command.TheVariants.{Check, Node, CidToHex, CidToText, Export, Import, Verify}
 use Rattle.tg_streams.specs.Streams.{Output}
 use Rattle.tg_app.specs.Lines.{exit_status, Says}
 use Rattle.tg_app.specs.Blocks.{InputUntouched, Untouched}
@@ -12,6 +12,7 @@ use Rattle.tg_app.specs.CidLines.{HexLine, TextLine, PrintEnds}
 use Rattle.tg_app.specs.Exports.{ExportAnswers}
 use Rattle.tg_app.specs.Imports.{ImportAnswers, options_of}
 use Rattle.tg_app.specs.Objects.{Objects, SameFiles}
+use Rattle.tg_app.specs.Verify.{VerifyEnds}
 use Rattle.tg_app.specs.declared.refusal.Refusal.{Refusal}
 use Rattle.tg_app.specs.declared.refusal.Refusal.TheVariants.{Usage, OutOfMemory}
 
@@ -23,6 +24,7 @@ CommandEnds (CidToHex cid) objects end = SameFiles objects.files × InputUntouch
 CommandEnds (CidToText cid) objects end = SameFiles objects.files × InputUntouched objects.input × PrintEnds (TextLine cid) objects.out end
 CommandEnds (Export parts) objects end =
     objects.files.same_folder × InputUntouched objects.input × ExportAnswers parts.query objects.files.pack objects.files.same_pack objects.out end
+CommandEnds (Verify q) objects end = SameFiles objects.files × VerifyEnds q objects.input objects.out end
 CommandEnds (Import parts) objects end = InputUntouched objects.input × ImportAnswers (options_of parts) objects.files objects.out end
 
 -- a command that neither reads nor writes files
@@ -31,6 +33,7 @@ UsesNoFiles (Check cid) = ⊤
 UsesNoFiles (Node cid) = ⊤
 UsesNoFiles (CidToHex cid) = ⊤
 UsesNoFiles (CidToText cid) = ⊤
+UsesNoFiles (Verify q) = ⊤
 UsesNoFiles (Export parts) = ⊥
 UsesNoFiles (Import parts) = ⊥
 

@@ -1,6 +1,6 @@
 -- How a command ends: done, or refused; its exit status, and its line on err.
 use Rattle.std.specs.Prelude.{ℕ, List, [], ◌∷◌, ◌++◌, codes, decimal, Option, Some, None, Result, Ok, Err}
-use Rattle.tg_ascii.specs.Ascii.{line_feed}
+use Rattle.tg_ascii.specs.Ascii.{line_feed, space}
 use Rattle.tg_streams.specs.Streams.{Output, Put, PutFront, PutOrFront, OutputQuiet}
 use Rattle.tg_app.specs.Blocks.{OutputUntouched}
 use Rattle.tg_words.specs.declared.WordsFault.{WordsFault}
@@ -8,9 +8,11 @@ use Rattle.tg_words.specs.declared.WordsFault.TheVariants as words
 use Rattle.tg_node.specs.declared.fault.NodeFault.{NodeFault}
 use Rattle.tg_node.specs.declared.fault.NodeFault.TheVariants.{BadNode, BadLink, BadUnix}
 use Rattle.tg_app.specs.declared.refusal.Refusal.{Refusal}
-use Rattle.tg_app.specs.declared.refusal.Refusal.TheVariants.{Usage, BadDigest, BadBlock, BlockLimit, InputFault, SinkFault, OutOfMemory, PackFault, FolderFault, NotCar, BadPack, Unfinished, TornPack, PackLimit, NoRoot, NotThere, NotFolder, BadStored, Gone, Changed, TooDeep, DeepFolder, BadName, LongName, SameHash, NotPlain, TooBig}
+use Rattle.tg_app.specs.declared.refusal.Refusal.TheVariants.{Usage, BadDigest, BadBlock, BlockLimit, InputFault, SinkFault, OutOfMemory, PackFault, FolderFault, NotCar, BadPack, Unfinished, TornPack, PackLimit, WrongBlock, BadReceived, BadSize, Truncated, Extra, BadCar, Limit, NoRoot, NotThere, NotFolder, BadStored, Gone, Changed, TooDeep, DeepFolder, BadName, LongName, SameHash, NotPlain, TooBig}
 use Rattle.tg_model.specs.declared.fault.BlockFault.{BlockFault}
 use Rattle.tg_model.specs.declared.fault.BlockFault.TheVariants as blocks
+use Rattle.tg_model.specs.declared.limits.LimitKind.{LimitKind}
+use Rattle.tg_model.specs.declared.limits.LimitKind.TheVariants as kinds
 
 abbrev pub refusal_of : WordsFault → Refusal
 refusal_of words.Usage = Usage
@@ -25,6 +27,13 @@ abbrev pub status_of : Refusal → ℕ
 status_of Usage = 2
 status_of (BadDigest cid) = 3
 status_of (BadBlock cid fault) = 3
+status_of (WrongBlock want got) = 3
+status_of (BadReceived cid fault) = 3
+status_of (BadSize declared actual) = 3
+status_of (Truncated want sections) = 3
+status_of (Extra sections) = 3
+status_of BadCar = 3
+status_of (Limit kind number) = 7
 status_of BlockLimit = 7
 status_of InputFault = 6
 status_of SinkFault = 6
@@ -56,15 +65,31 @@ cause_of BadNode = codes " BadNode"
 cause_of BadLink = codes " BadLink"
 cause_of BadUnix = codes " BadUnix"
 
--- the number that the line of a refusal shows, and 0 where it shows none
-abbrev pub number_in : Refusal → ℕ
-number_in (NotCar at) = at
-number_in (BadPack at) = at
-number_in (TornPack at) = at
-number_in (PackLimit at) = at
-number_in (NotThere segment) = segment
-number_in (NotFolder segment) = segment
-number_in other = 0
+-- the numbers that the line of a refusal shows, and 0 where it shows none
+abbrev pub numbers_in : Refusal → ℕ × ℕ
+numbers_in (NotCar at) = (at, 0)
+numbers_in (BadPack at) = (at, 0)
+numbers_in (TornPack at) = (at, 0)
+numbers_in (PackLimit at) = (at, 0)
+numbers_in (NotThere segment) = (segment, 0)
+numbers_in (NotFolder segment) = (segment, 0)
+numbers_in (Truncated want sections) = (sections, 0)
+numbers_in (Extra sections) = (sections, 0)
+numbers_in (Limit kind number) = (number, 0)
+numbers_in (BadSize declared actual) = (declared, actual)
+numbers_in other = (0, 0)
+
+-- the name of a kind of limit
+abbrev pub kind_word : LimitKind → List ℕ
+kind_word kinds.Block = codes "Block"
+kind_word kinds.Depth = codes "Depth"
+kind_word kinds.Entries = codes "Entries"
+kind_word kinds.Names = codes "Names"
+kind_word kinds.Received = codes "Received"
+kind_word kinds.Output = codes "Output"
+kind_word kinds.SeenBlocks = codes "SeenBlocks"
+kind_word kinds.SeenBytes = codes "SeenBytes"
+kind_word kinds.Reused = codes "Reused"
 
 -- why a stored block has no kind or can't stand where it stands, behind its CID
 abbrev pub fault_word : BlockFault → List ℕ
@@ -101,6 +126,13 @@ word_of (BadPack at) = codes "BadDigest " ++ decimal at
 word_of Unfinished = codes "Unfinished"
 word_of (TornPack at) = codes "Truncated " ++ decimal at
 word_of (PackLimit at) = codes "BlockLimit " ++ decimal at
+word_of (WrongBlock want got) = codes "WrongBlock " ++ (want ++ space ∷ got)
+word_of (BadReceived cid fault) = codes "BadBlock " ++ (cid ++ fault_word fault)
+word_of (BadSize declared actual) = codes "BadSize " ++ (decimal declared ++ space ∷ decimal actual)
+word_of (Truncated want sections) = codes "Truncated " ++ (want ++ space ∷ decimal sections)
+word_of (Extra sections) = codes "Extra " ++ decimal sections
+word_of BadCar = codes "BadCar"
+word_of (Limit kind number) = codes "Limit " ++ (kind_word kind ++ space ∷ decimal number)
 word_of NoRoot = codes "NoRoot"
 word_of (NotThere segment) = codes "NotThere " ++ decimal segment
 word_of (NotFolder segment) = codes "NotFolder " ++ decimal segment

@@ -9,6 +9,7 @@ mod import;
 mod node;
 mod refusal;
 mod top;
+mod verify;
 
 pub use refusal::Refusal;
 pub use top::{out_of_memory, run};

@@ -1,13 +1,13 @@
 //! Why a command ends before it is done, with the status and the line on err that say so.
 ghost use Rattle.std.specs.Prelude.{◌≡◌, OnOk, OnErr};
 ghost use Rattle.tg_streams.specs.Streams.{Put, PutFront, into};
-ghost use Rattle.tg_app.specs.Lines.{PutEnds, cause_of, end_of, fault_word};
+ghost use Rattle.tg_app.specs.Lines.{PutEnds, cause_of, end_of, fault_word, kind_word};
 
 use itoa::Buffer;
 use std::alloc::AllocError;
 use tg_bytes::Bytes;
 use tg_faults::Failed;
-use tg_model::BlockFault;
+use tg_model::{BlockFault, LimitKind};
 use tg_node::NodeFault;
 use tg_streams::{Sink, put_all, put_pieces};
 use tg_words::WordsFault;
@@ -58,6 +58,27 @@ pub enum Refusal {
     /// The pack's section at this offset declares a block above the limit.
     #[error("BlockLimit {at}")]
     PackLimit { at: u64 },
+    /// Another block came than the one that is wanted; these are the texts of their CIDs.
+    #[error("WrongBlock")]
+    WrongBlock { want: Bytes, got: Bytes },
+    /// The block that came under the CID with this text has no kind, or can't stand where it is wanted.
+    #[error("BadBlock")]
+    BadReceived { cid: Bytes, fault: BlockFault },
+    /// The size that is declared for a part by its parent, or by a file for itself, isn't its own.
+    #[error("BadSize {declared} {actual}")]
+    BadSize { declared: u64, actual: u64 },
+    /// The input ends, and the block under the CID with this text is wanted; so many sections were taken.
+    #[error("Truncated")]
+    Truncated { want: Bytes, sections: u64 },
+    /// Bytes came behind the last wanted section; so many sections were taken.
+    #[error("Extra {sections}")]
+    Extra { sections: u64 },
+    /// The input is no CAR.
+    #[error("BadCar")]
+    BadCar,
+    /// What a limit of this kind counts would be greater than its number.
+    #[error("Limit {kind:?} {number}")]
+    Limit { kind: LimitKind, number: u64 },
     /// The root isn't stored.
     #[error("NoRoot")]
     NoRoot,
@@ -126,7 +147,7 @@ impl From<WordsFault> for Refusal {
 
 impl Refusal {
     ghost use Rattle.std.specs.Prelude.{◌++◌, decimal};
-    ghost use Rattle.tg_app.specs.Lines.{line_of, number_in, status_of, word_of};
+    ghost use Rattle.tg_app.specs.Lines.{line_of, numbers_in, status_of, word_of};
 
     /// The exit status.
     pub fn status(&self) -> u8
@@ -134,7 +155,14 @@ impl Refusal {
     {
         match self {
             Refusal::Usage => 2,
-            Refusal::BadDigest { .. } | Refusal::BadBlock { .. } => 3,
+            Refusal::BadDigest { .. }
+            | Refusal::BadBlock { .. }
+            | Refusal::WrongBlock { .. }
+            | Refusal::BadReceived { .. }
+            | Refusal::BadSize { .. }
+            | Refusal::Truncated { .. }
+            | Refusal::Extra { .. }
+            | Refusal::BadCar => 3,
             Refusal::InputFault
             | Refusal::SinkFault
             | Refusal::PackFault
@@ -150,6 +178,7 @@ impl Refusal {
             | Refusal::SameHash { .. }
             | Refusal::NotPlain { .. } => 6,
             Refusal::BlockLimit
+            | Refusal::Limit { .. }
             | Refusal::PackLimit { .. }
             | Refusal::TooDeep
             | Refusal::DeepFolder { .. }
@@ -166,60 +195,103 @@ impl Refusal {
         ensures put { OnOk result (Put (line_of self.now) (into E.sink err.old err.new)) }
         ensures front { OnErr result (PutFront (line_of self.now) (into E.sink err.old err.new)) }
     {
-        let mut buffer = Buffer::new();
-        let digits = buffer.format(self.number());
-        let (word, detail, other) = self.parts(digits.as_bytes());
-        put_pieces(err, &[b"tgate: ", word, detail, other, b"\n"])
+        let (first, second) = self.numbers();
+        let mut one = Buffer::new();
+        let mut two = Buffer::new();
+        let first = one.format(first);
+        let second = two.format(second);
+        let (word, detail, space, other) = self.parts(first.as_bytes(), second.as_bytes());
+        put_pieces(err, &[b"tgate: ", word, detail, space, other, b"\n"])
     }
 
-    /// The number that the line shows: an offset or a segment; and 0 where it shows none.
-    fn number(&self) -> u64
-        ensures { result ≡ number_in self.now }
+    /// The numbers that the line shows: an offset, a segment, a count or a limit, or two sizes; and 0 where it shows none.
+    fn numbers(&self) -> (u64, u64)
+        ensures { result ≡ numbers_in self.now }
     {
         match self {
             Refusal::NotCar { at }
             | Refusal::BadPack { at }
             | Refusal::TornPack { at }
-            | Refusal::PackLimit { at } => *at,
-            Refusal::NotThere { segment } | Refusal::NotFolder { segment } => u64::from(*segment),
-            _ => 0,
+            | Refusal::PackLimit { at } => (*at, 0),
+            Refusal::NotThere { segment } | Refusal::NotFolder { segment } => {
+                (u64::from(*segment), 0)
+            }
+            Refusal::Truncated { sections, .. } | Refusal::Extra { sections } => (*sections, 0),
+            Refusal::Limit { number, .. } => (*number, 0),
+            Refusal::BadSize { declared, actual } => (*declared, *actual),
+            _ => (0, 0),
         }
     }
 
-    /// The word, and the details behind it, of which one may be the number's digits.
-    fn parts<'a>(&'a self, digits: &'a [u8]) -> (&'a [u8], &'a [u8], &'a [u8])
-        requires { digits.now ≡ decimal (number_in self.now) }
-        ensures { result.0.now ++ (result.1.now ++ result.2.now) ≡ word_of self.now }
+    /// The word, and the details behind it, of which some may be the digits of the numbers.
+    fn parts<'a>(
+        &'a self,
+        first: &'a [u8],
+        second: &'a [u8],
+    ) -> (&'a [u8], &'a [u8], &'a [u8], &'a [u8])
+        requires first { first.now ≡ decimal (numbers_in self.now).0 }
+        requires second { second.now ≡ decimal (numbers_in self.now).1 }
+        ensures { result.0.now ++ (result.1.now ++ (result.2.now ++ result.3.now)) ≡ word_of self.now }
     {
         match self {
-            Refusal::Usage => (b"usage", b"", b""),
-            Refusal::BadDigest { cid } => (b"BadDigest ", cid.as_slice(), b""),
-            Refusal::BadBlock { cid, fault } => (b"BadBlock ", cid.as_slice(), cause(fault)),
-            Refusal::BlockLimit => (b"Limit Block 2097152", b"", b""),
-            Refusal::InputFault => (b"InputFault", b"", b""),
-            Refusal::SinkFault => (b"SinkFault", b"", b""),
-            Refusal::OutOfMemory => (b"OutOfMemory", b"", b""),
-            Refusal::PackFault => (b"PackFault", b"", b""),
-            Refusal::FolderFault => (b"FolderFault", b"", b""),
-            Refusal::NotCar { .. } => (b"NotCar ", digits, b""),
-            Refusal::BadPack { .. } => (b"BadDigest ", digits, b""),
-            Refusal::Unfinished => (b"Unfinished", b"", b""),
-            Refusal::TornPack { .. } => (b"Truncated ", digits, b""),
-            Refusal::PackLimit { .. } => (b"BlockLimit ", digits, b""),
-            Refusal::NoRoot => (b"NoRoot", b"", b""),
-            Refusal::NotThere { .. } => (b"NotThere ", digits, b""),
-            Refusal::NotFolder { .. } => (b"NotFolder ", digits, b""),
-            Refusal::BadStored { cid, fault } => (b"BadBlock ", cid.as_slice(), fault_word(fault)),
-            Refusal::Gone { cid } => (b"Gone ", cid.as_slice(), b""),
-            Refusal::Changed => (b"Changed", b"", b""),
-            Refusal::TooDeep => (b"TooDeep", b"", b""),
-            Refusal::DeepFolder { path } => (b"TooDeep ", path.as_slice(), b""),
-            Refusal::BadName { path } => (b"BadName ", path.as_slice(), b""),
-            Refusal::LongName { path } => (b"LongName ", path.as_slice(), b""),
-            Refusal::SameHash { names } => (b"SameHash ", names.as_slice(), b""),
-            Refusal::NotPlain { path } => (b"NotPlain ", path.as_slice(), b""),
-            Refusal::TooBig { path } => (b"TooBig ", path.as_slice(), b""),
+            Refusal::Usage => (b"usage", b"", b"", b""),
+            Refusal::BadDigest { cid } => (b"BadDigest ", cid.as_slice(), b"", b""),
+            Refusal::BadBlock { cid, fault } => (b"BadBlock ", cid.as_slice(), b"", cause(fault)),
+            Refusal::BlockLimit => (b"Limit Block 2097152", b"", b"", b""),
+            Refusal::InputFault => (b"InputFault", b"", b"", b""),
+            Refusal::SinkFault => (b"SinkFault", b"", b"", b""),
+            Refusal::OutOfMemory => (b"OutOfMemory", b"", b"", b""),
+            Refusal::PackFault => (b"PackFault", b"", b"", b""),
+            Refusal::FolderFault => (b"FolderFault", b"", b"", b""),
+            Refusal::NotCar { .. } => (b"NotCar ", first, b"", b""),
+            Refusal::BadPack { .. } => (b"BadDigest ", first, b"", b""),
+            Refusal::Unfinished => (b"Unfinished", b"", b"", b""),
+            Refusal::TornPack { .. } => (b"Truncated ", first, b"", b""),
+            Refusal::PackLimit { .. } => (b"BlockLimit ", first, b"", b""),
+            Refusal::WrongBlock { want, got } => {
+                (b"WrongBlock ", want.as_slice(), b" ", got.as_slice())
+            }
+            Refusal::BadReceived { cid, fault } => {
+                (b"BadBlock ", cid.as_slice(), b"", fault_word(fault))
+            }
+            Refusal::BadSize { .. } => (b"BadSize ", first, b" ", second),
+            Refusal::Truncated { want, .. } => (b"Truncated ", want.as_slice(), b" ", first),
+            Refusal::Extra { .. } => (b"Extra ", first, b"", b""),
+            Refusal::BadCar => (b"BadCar", b"", b"", b""),
+            Refusal::Limit { kind, .. } => (b"Limit ", kind_word(*kind), b" ", first),
+            Refusal::NoRoot => (b"NoRoot", b"", b"", b""),
+            Refusal::NotThere { .. } => (b"NotThere ", first, b"", b""),
+            Refusal::NotFolder { .. } => (b"NotFolder ", first, b"", b""),
+            Refusal::BadStored { cid, fault } => {
+                (b"BadBlock ", cid.as_slice(), b"", fault_word(fault))
+            }
+            Refusal::Gone { cid } => (b"Gone ", cid.as_slice(), b"", b""),
+            Refusal::Changed => (b"Changed", b"", b"", b""),
+            Refusal::TooDeep => (b"TooDeep", b"", b"", b""),
+            Refusal::DeepFolder { path } => (b"TooDeep ", path.as_slice(), b"", b""),
+            Refusal::BadName { path } => (b"BadName ", path.as_slice(), b"", b""),
+            Refusal::LongName { path } => (b"LongName ", path.as_slice(), b"", b""),
+            Refusal::SameHash { names } => (b"SameHash ", names.as_slice(), b"", b""),
+            Refusal::NotPlain { path } => (b"NotPlain ", path.as_slice(), b"", b""),
+            Refusal::TooBig { path } => (b"TooBig ", path.as_slice(), b"", b""),
         }
+    }
+}
+
+/// The name of a kind of limit.
+fn kind_word(kind: LimitKind) -> &'static [u8]
+    ensures { result.now ≡ kind_word kind }
+{
+    match kind {
+        LimitKind::Block => b"Block",
+        LimitKind::Depth => b"Depth",
+        LimitKind::Entries => b"Entries",
+        LimitKind::Names => b"Names",
+        LimitKind::Received => b"Received",
+        LimitKind::Output => b"Output",
+        LimitKind::SeenBlocks => b"SeenBlocks",
+        LimitKind::SeenBytes => b"SeenBytes",
+        LimitKind::Reused => b"Reused",
     }
 }
 

@@ -6,7 +6,7 @@ ghost use Rattle.tg_words.specs.CommandLine.{CommandLine};
 ghost use Rattle.tg_words.specs.ExportLines.{ExportParts};
 ghost use Rattle.tg_words.specs.ImportLines.{ImportParts};
 ghost use Rattle.tg_words.specs.declared.Command.{Command};
-ghost use Rattle.tg_words.specs.declared.Command.TheVariants.{Check, Node, CidToHex, CidToText, Export, Import};
+ghost use Rattle.tg_words.specs.declared.Command.TheVariants.{Check, Node, CidToHex, CidToText, Export, Import, Verify};
 ghost use Rattle.tg_files.specs.Folders.{FolderRose, folder_step};
 ghost use Rattle.tg_files.specs.Packs.{PackRose};
 ghost use Rattle.tg_streams.specs.Streams.{InputQuiet, InputRose, OutputQuiet, OutputRose, into, through};
@@ -19,6 +19,10 @@ ghost use Rattle.tg_app.specs.Commands.{AllUntouched, Answers, CommandEnds, Ends
 ghost use Rattle.tg_app.specs.Exports.{Exported, ExportedNothing, HasAnswer, IsRisen};
 ghost use Rattle.tg_app.specs.Imports.{Imported, IsGoodFolder, options_of};
 ghost use Rattle.tg_app.specs.Objects.{files_between, given_back, objects_between};
+ghost use Rattle.tg_app.specs.Verify.{IsGoodCar, VerifiedInput, Vouched};
+ghost use Rattle.tg_model.specs.Dag.{Dag, root_cid};
+ghost use Rattle.tg_model.specs.Queries.{QueryParts};
+ghost use Rattle.tg_model.specs.Sound.{IsSound};
 ghost use Rattle.tg_app.specs.declared.refusal.Refusal.{Refusal};
 
 use crate::check::check;
@@ -27,17 +31,20 @@ use crate::export::export;
 use crate::import::import;
 use crate::node::node;
 use crate::refusal::Refusal;
+use crate::verify::verify;
 use std::alloc::Global;
 use tg_files::{Folder, Pack};
 use tg_streams::{Sink, Source};
+use tg_traverse::verified_sections;
+use tg_verify::verified_answers;
 use tg_words::Command;
 
 /// Does what the words ask for, the words being those after the program's name, and answers the exit status.
 ///
-/// 0 the command is done; 2 the words are no command; 3 the block on input isn't the CID's, or `node` finds a fault in it;
-/// 6 a fault of the folder, of the pack, of the input or of out was counted, or the pack's or the folder's content is refused;
-/// 7 a limit is passed: a block of more than 2,097,152 bytes, a block more than 512 deep, a folder on level 33, a name of more
-/// than 255 bytes, a file or a folder that is too large; 8 want of memory; 9 the path of an export leads nowhere. A status
+/// 0 the command is done; 2 the words are no command; 3 the block on input isn't the CID's, or `node` finds a fault in it, or the CAR on
+/// input isn't what `verify` asks for; 6 a fault of the folder, of the pack, of the input or of out was counted, or the pack's or the folder's content is refused;
+/// 7 a limit is passed: a block of more than 2,097,152 bytes, a block more than 512 deep, an input of more than 2^40 bytes, a folder on level 33, a name of more
+/// than 255 bytes, a file or a folder that is too large; 8 want of memory; 9 the path of an `export` or of a `verify` leads nowhere. A status
 /// other than 6 says that no fault of the input or of out was counted. A status other than 0 puts one line on err, and a fault
 /// of err changes nothing else.
 pub fn run<F: Folder, P: Pack, I: Source, O: Sink, E: Sink>(
@@ -153,7 +160,26 @@ pub fn run<F: Folder, P: Pack, I: Source, O: Sink, E: Sink>(
         → IsGoodFolder (options_of parts) (F.folder.tree folder.new)
         → (FolderRose (folder_step F.folder folder.old folder.new) → ⊥) → (PackRose (given_back P.pack pack.old pack.new) → ⊥)
         → (OutputRose (into O.sink out.old out.new) → ⊥) → (result ≡ 8) ⊎ (result ≡ 0) }
+
+    // `verify`: how it ends. At 0 the whole input is a CAR of sections that fit the query, and out grew by their text. A good CAR, where no
+    // fault is counted and memory is found, is accepted.
+    ensures verify { (q : QueryParts) → CommandLine (map string_bytes words.now) (Verify q)
+        → Answers (CommandEnds (Verify q)
+        (objects_between F.folder P.pack I.source O.sink folder.old folder.new pack.old pack.new input.old input.new out.old out.new))
+        result (into E.sink err.old err.new) }
+    ensures verified { (q : QueryParts) → CommandLine (map string_bytes words.now) (Verify q)
+        → result ≡ 0 → VerifiedInput q (through I.source input.old input.new) (into O.sink out.old out.new) }
+    ensures verify_answered { (q : QueryParts) (bytes : List ℕ) → CommandLine (map string_bytes words.now) (Verify q)
+        → I.source.left input.old ≡ Some bytes → IsGoodCar q bytes
+        → (InputRose (through I.source input.old input.new) → ⊥) → (OutputRose (into O.sink out.old out.new) → ⊥)
+        → (result ≡ 8) ⊎ (result ≡ 0) }
+    // For every sound DAG with the query's root, whatever the input: at 0 out grew by the DAG's answer, and else by a front of it, or a
+    // received block and one of the DAG are different bytes with one SHA-256.
+    ensures vouched_answer { (q : QueryParts) (d : Dag) → CommandLine (map string_bytes words.now) (Verify q) → IsSound d → root_cid d ≡ q.root
+        → Vouched q d (through I.source input.old input.new) (into O.sink out.old out.new) result }
 {
+    verified_answers();
+    verified_sections();
     let end = command(alloc, words, folder, pack, input, out);
     tell(&end, err)
 }
@@ -180,6 +206,7 @@ fn command<F: Folder, P: Pack, I: Source, O: Sink>(
         Command::CidToText(cid) => cid_to_text(alloc, &cid, out),
         Command::Export(asked) => export(alloc, &asked, pack, out),
         Command::Import(asked) => import(alloc, &asked, folder, pack, out),
+        Command::Verify(query) => verify(alloc, &query, input, out),
     }
 }
 

@@ -1,0 +1,286 @@
+-- What each exit status says of `verify`.
+use Rattle.std.proofs.Common.{◌≡◌, ◌≢◌, ℕ, ◌⊎◌, inl, inr, List, [], ◌∷◌, ◌++◌, Option, Some, None, Err, refl, sym, ap, ◌∙◌, subst, append-nil, arith, rules}
+use Rattle.std.specs.Prelude.{true}
+use Rattle.tg_app.specs.Blocks.{Untouched}
+use Rattle.tg_app.specs.Lines.{exit_status, status_of}
+use Rattle.tg_app.specs.Verify.{IsGoodCar, IsNoAnswer, IsVerifyRefusal, NotAccepted, ShowsSome, TellsVerify, VerifiedInput, VerifyEnds, Vouched}
+use Rattle.tg_app.specs.declared.refusal.Refusal.{Refusal}
+use Rattle.tg_app.specs.declared.refusal.Refusal.TheVariants.{OutOfMemory, Usage}
+use Rattle.tg_app.proofs.Statuses.{not_zero}
+use Rattle.tg_bytes.specs.Told.{after_front, grown}
+use Rattle.tg_car.specs.CarText.{header_map}
+use Rattle.tg_car.specs.Fronts.{IsInHeader}
+use Rattle.tg_client.specs.Ends.{HasStreamCause, IsOwnEnd, SaysFor}
+use Rattle.tg_client.specs.declared.fault.ClientFault.{ClientFault}
+use Rattle.tg_client.specs.declared.fault.ClientFault.TheVariants as clients
+use Rattle.tg_frames.specs.Left.{WantedAt}
+use Rattle.tg_model.specs.Answer.{answer}
+use Rattle.tg_model.specs.Dag.{Dag, Section, root_cid}
+use Rattle.tg_model.specs.Fits.{CollisionPair, IsFrontOfAnswer}
+use Rattle.tg_model.specs.Queries.{QueryParts}
+use Rattle.tg_model.specs.Sound.{IsSound}
+use Rattle.tg_streams.specs.Streams.{Input, InputQuiet, InputRose, Output, OutputQuiet, OutputRose, Took}
+use Rattle.tg_traverse.specs.Stages.{nothing_given}
+use Rattle.tg_traverse.specs.Tasks.{path_want}
+use Rattle.tg_traverse.specs.Verified.{VerifiedStarts}
+use Rattle.tg_verify.specs.Laws.{ThroughFits}
+use Rattle.tg_verify.specs.Sound.{IsItsAnswer, IsItsFront}
+use Rattle.tg_verify.specs.Taken.{IsUpTo}
+use Rattle.tg_verify.specs.declared.fault.Refusal.TheVariants as verifiers
+
+-- ---- the status of each fault
+
+-- where memory is found for its line
+abbrev status_for : ClientFault → ℕ
+status_for (clients.Refused (verifiers.Limit kind number)) = 7
+status_for (clients.Refused (verifiers.NotFolder segment)) = 9
+status_for (clients.Refused (verifiers.NotThere segment)) = 9
+status_for (clients.Refused verifiers.SinkFault) = 6
+status_for (clients.Refused verifiers.OutOfMemory) = 8
+status_for (clients.Refused fault) = 3
+status_for (clients.BadCar fault) = 3
+status_for clients.InputFault = 6
+status_for clients.OutOfMemory = 8
+
+tells_status : (fault : ClientFault) (refusal : Refusal) → TellsVerify fault refusal → status_of refusal ≡ status_for fault
+tells_status (clients.Refused (verifiers.Extra sections)) refusal h = ap status_of h
+tells_status (clients.Refused (verifiers.Limit kind number)) refusal h = ap status_of h
+tells_status (clients.Refused (verifiers.BadDigest cid)) refusal (text, is_text, h) = ap status_of h
+tells_status (clients.Refused (verifiers.WrongBlock want got)) refusal (a, b, is_a, is_b, h) = ap status_of h
+tells_status (clients.Refused (verifiers.BadBlock cid fault)) refusal (text, is_text, h) = ap status_of h
+tells_status (clients.Refused (verifiers.BadSize declared actual)) refusal h = ap status_of h
+tells_status (clients.Refused (verifiers.NotFolder segment)) refusal h = ap status_of h
+tells_status (clients.Refused (verifiers.NotThere segment)) refusal h = ap status_of h
+tells_status (clients.Refused verifiers.SinkFault) refusal h = ap status_of h
+tells_status (clients.Refused (verifiers.Truncated want sections)) refusal (text, is_text, h) = ap status_of h
+tells_status (clients.Refused verifiers.OutOfMemory) refusal h = ap status_of h
+tells_status (clients.BadCar fault) refusal h = ap status_of h
+tells_status clients.InputFault refusal h = ap status_of h
+tells_status clients.OutOfMemory refusal h = ap status_of h
+
+-- the refusal has the status of its fault, or memory was wanted for its line
+abbrev HasStatus : ClientFault → Refusal → Type 0
+HasStatus fault refusal = (status_of refusal ≡ status_for fault) ⊎ (ShowsSome fault × (status_of refusal ≡ 8))
+
+has_status : (fault : ClientFault) (refusal : Refusal) → IsVerifyRefusal fault refusal → HasStatus fault refusal
+has_status fault refusal (inl tells) = inl (tells_status fault refusal tells)
+has_status fault refusal (inr memory) = inr (memory.0, ap status_of memory.1)
+
+-- ---- status 2
+
+never_2 : (fault : ClientFault) → status_for fault ≡ 2 → ⊥
+never_2 (clients.Refused (verifiers.Extra sections)) e = cc
+never_2 (clients.Refused fault) e = cc
+never_2 fault e = cc
+
+no_usage : (fault : ClientFault) → HasStatus fault Usage → ⊥
+no_usage fault (inl e) = never_2 fault (sym e)
+no_usage fault (inr e) = let k = e.1 in cc
+
+pub no_verify_usage : (q : QueryParts) (input : Input) (out : Output) → VerifyEnds q input out (Some Usage) → ⊥
+no_verify_usage q input out ends = no_usage ends.fault (has_status ends.fault Usage ends.tells)
+
+-- ---- status 6
+
+rose_at_6 : (input : Input) (out : Output) (fault : ClientFault) → status_for fault ≡ 6 → HasStreamCause input out (Err fault) → InputRose input ⊎ OutputRose out
+rose_at_6 input out clients.InputFault e cause = inl cause.0
+rose_at_6 input out (clients.Refused verifiers.SinkFault) e cause = inr cause.1
+rose_at_6 input out (clients.Refused fault) e cause = cc
+rose_at_6 input out fault e cause = cc
+
+rose_of : (input : Input) (out : Output) (fault : ClientFault) (refusal : Refusal) → status_of refusal ≡ 6 → HasStatus fault refusal
+    → HasStreamCause input out (Err fault) → InputRose input ⊎ OutputRose out
+rose_of input out fault refusal e (inl h) cause = rose_at_6 input out fault (sym h ∙ e) cause
+rose_of input out fault refusal e (inr h) cause = let k = sym h.1 ∙ e in cc
+
+pub verify_fault : (q : QueryParts) (input : Input) (out : Output) (end : Option Refusal) → exit_status end ≡ 6 → VerifyEnds q input out end → InputRose input ⊎ OutputRose out
+verify_fault q input out None e ends = cc
+verify_fault q input out (Some refusal) e ends = rose_of input out ends.fault refusal e (has_status ends.fault refusal ends.tells) ends.cause
+
+quiet_else : (input : Input) (out : Output) (fault : ClientFault) → (status_for fault ≡ 6 → ⊥) → HasStreamCause input out (Err fault) → InputQuiet input × OutputQuiet out
+quiet_else input out clients.InputFault ne cause = absurd (ne refl)
+quiet_else input out (clients.Refused verifiers.SinkFault) ne cause = absurd (ne refl)
+quiet_else input out (clients.Refused fault) ne cause = cause
+quiet_else input out fault ne cause = cause
+
+some_shown : (fault : ClientFault) → ShowsSome fault → status_for fault ≡ 6 → ⊥
+some_shown clients.InputFault some e = absurd some
+some_shown (clients.Refused verifiers.SinkFault) some e = absurd some
+some_shown (clients.Refused fault) some e = cc
+some_shown fault some e = cc
+
+quiet_for : (input : Input) (out : Output) (fault : ClientFault) (refusal : Refusal) → status_of refusal ≢ 6 → HasStatus fault refusal
+    → HasStreamCause input out (Err fault) → InputQuiet input × OutputQuiet out
+quiet_for input out fault refusal ne (inl h) cause = quiet_else input out fault (λ six. ne (h ∙ six)) cause
+quiet_for input out fault refusal ne (inr h) cause = quiet_else input out fault (some_shown fault h.0) cause
+
+pub verify_quiet : (q : QueryParts) (input : Input) (out : Output) (end : Option Refusal) → exit_status end ≢ 6 → VerifyEnds q input out end → InputQuiet input × OutputQuiet out
+verify_quiet q input out None ne ends = ends.cause
+verify_quiet q input out (Some refusal) ne ends = quiet_for input out ends.fault refusal ne (has_status ends.fault refusal ends.tells) ends.cause
+
+-- ---- status 0
+
+all_heard : (heard unheard : List ℕ) → unheard ≡ [] → heard ++ unheard ≡ heard
+all_heard heard unheard e = ap (λ xs. heard ++ xs) e ∙ append-nil heard
+
+pub verified_of : (q : QueryParts) (input : Input) (out : Output) (end : Option Refusal) → ThroughFits → exit_status end ≡ 0 → VerifyEnds q input out end → VerifiedInput q input out
+verified_of q input out None law e ends =
+    let did = ends.verifies in
+    record {
+      bytes = did.heard;
+      took = record { taken = subst (λ (bytes : List ℕ). Took bytes input) (all_heard did.heard did.unheard did.ends.0.all) did.took; ended = did.ends.0.ended };
+      quiet = ends.cause.0;
+      sections = did.sections;
+      is_car = did.ends.1.is_car;
+      text = did.text;
+      fits = law q did.sections did.text did.ends.1.through;
+      put = did.put;
+      no_fault = ends.cause.1;
+      sound = did.sound;
+    }
+verified_of q input out (Some refusal) law e ends = absurd (not_zero refusal e)
+
+-- ---- a good CAR
+
+-- a counted fault or want of memory is left
+own_8 : (input : Input) (out : Output) (fault : ClientFault) (refusal : Refusal) → (InputRose input → ⊥) → (OutputRose out → ⊥) → IsOwnEnd fault
+    → IsVerifyRefusal fault refusal → HasStreamCause input out (Err fault) → status_of refusal ≡ 8
+own_8 input out clients.InputFault refusal no_in no_out own tells cause = absurd (no_in cause.0)
+own_8 input out (clients.Refused verifiers.SinkFault) refusal no_in no_out own tells cause = absurd (no_out cause.1)
+own_8 input out clients.OutOfMemory refusal no_in no_out own (inl tells) cause = ap status_of tells
+own_8 input out clients.OutOfMemory refusal no_in no_out own (inr memory) cause = ap status_of memory.1
+own_8 input out (clients.Refused fault) refusal no_in no_out own tells cause = absurd own
+own_8 input out fault refusal no_in no_out own tells cause = absurd own
+
+pub verify_answered_of : (q : QueryParts) (bytes : List ℕ) (input : Input) (out : Output) (end : Option Refusal) → input.left_old ≡ Some bytes → IsGoodCar q bytes
+    → (InputRose input → ⊥) → (OutputRose out → ⊥) → VerifyEnds q input out end → (exit_status end ≡ 8) ⊎ (exit_status end ≡ 0)
+verify_answered_of q bytes input out None told good no_in no_out ends = inr refl
+verify_answered_of q bytes input out (Some refusal) told good no_in no_out ends =
+    inl (own_8 input out ends.fault refusal no_in no_out (ends.else bytes told good) ends.tells ends.cause)
+
+-- ---- beside a sound DAG
+
+-- an answer is a front of itself
+front_of_itself : (found : Option (List ℕ)) (text : List ℕ) → found ≡ Some text → IsFrontOfAnswer text found
+front_of_itself None text e = cc
+front_of_itself (Some all) text e = let same : all ≡ text = cc in ([], same ∙ sym (append-nil text))
+
+answer_is_front : (q : QueryParts) (d : Dag) (sections : List Section) (text : List ℕ) → IsItsAnswer q d sections text → IsItsFront q d sections text
+answer_is_front q d sections text (inl is) = inl (front_of_itself (answer q d) text is)
+answer_is_front q d sections text (inr pair) = inr pair
+
+front_at_fault : (q : QueryParts) (d : Dag) (sections : List Section) (text : List ℕ) (fault : ClientFault) → SaysFor q d sections text (Err fault) → IsItsFront q d sections text
+front_at_fault q d sections text (clients.Refused fault) says = says.0
+front_at_fault q d sections text fault says = says
+
+nowhere_at_9 : (q : QueryParts) (d : Dag) (sections : List Section) (text : List ℕ) (fault : ClientFault) → status_for fault ≡ 9 → SaysFor q d sections text (Err fault)
+    → IsNoAnswer q d ⊎ CollisionPair sections d
+nowhere_at_9 q d sections text (clients.Refused (verifiers.NotThere segment)) e says = elim says.1 [ inl leads ↦ inl (inl (segment, leads)) | inr pair ↦ inr pair ]
+nowhere_at_9 q d sections text (clients.Refused (verifiers.NotFolder segment)) e says = elim says.1 [ inl leads ↦ inl (inr (segment, leads)) | inr pair ↦ inr pair ]
+nowhere_at_9 q d sections text (clients.Refused fault) e says = cc
+nowhere_at_9 q d sections text fault e says = cc
+
+nowhere_for : (q : QueryParts) (d : Dag) (sections : List Section) (text : List ℕ) (fault : ClientFault) (refusal : Refusal) → status_of refusal ≡ 9 → HasStatus fault refusal
+    → SaysFor q d sections text (Err fault) → IsNoAnswer q d ⊎ CollisionPair sections d
+nowhere_for q d sections text fault refusal e (inl h) says = nowhere_at_9 q d sections text fault (sym h ∙ e) says
+nowhere_for q d sections text fault refusal e (inr h) says = let k = sym h.1 ∙ e in cc
+
+vouched_by : (q : QueryParts) (d : Dag) (input : Input) (out : Output) (end : Option Refusal) → IsSound d → root_cid d ≡ q.root → VerifyEnds q input out end
+    → Vouched q d input out (exit_status end)
+vouched_by q d input out None sound root ends =
+    let did = ends.verifies in
+    record {
+      heard = did.heard;
+      unheard = did.unheard;
+      took = did.took;
+      sections = did.sections;
+      received = did.received;
+      text = did.text;
+      put = did.put;
+      accepted = λ e. did.sound d sound root;
+      front = answer_is_front q d did.sections did.text (did.sound d sound root);
+      nowhere = λ e. cc;
+    }
+vouched_by q d input out (Some refusal) sound root ends =
+    let did = ends.verifies in
+    record {
+      heard = did.heard;
+      unheard = did.unheard;
+      took = did.took;
+      sections = did.sections;
+      received = did.received;
+      text = did.text;
+      put = did.put;
+      accepted = λ e. absurd (not_zero refusal e);
+      front = front_at_fault q d did.sections did.text ends.fault (did.sound d sound root);
+      nowhere = λ e. nowhere_for q d did.sections did.text ends.fault refusal e (has_status ends.fault refusal ends.tells) (did.sound d sound root);
+    }
+
+pub vouched_of : (q : QueryParts) (d : Dag) (input : Input) (out : Output) (end : Option Refusal) (status : ℕ) → status ≡ exit_status end → IsSound d → root_cid d ≡ q.root
+    → VerifyEnds q input out end → Vouched q d input out status
+vouched_of q d input out end status e sound root ends = subst (Vouched q d input out) (sym e) (vouched_by q d input out end sound root ends)
+
+-- ---- nothing was done for want of memory
+
+untaken_is : (old new : Option (List ℕ)) → new ≡ old → old ≡ after_front [] new
+untaken_is old None e = sym e
+untaken_is old (Some rest) e = sym e
+
+unput_is : (old new : Option (List ℕ)) → new ≡ old → new ≡ grown old []
+unput_is None new e = e
+unput_is (Some held) new e = e ∙ ap Some (sym (append-nil held))
+
+-- of a header no byte came
+before_header : IsInHeader []
+before_header = record {
+  roots = [];
+  more = 17 ∷ header_map [];
+  not_whole = omega arith;
+  text = record {
+    few = omega arith;
+    each = search rules;
+    size = 17 ∷ [];
+    size_is = record {
+      front = [];
+      last = 17;
+      whole = refl;
+      are_bytes = search rules;
+      goes_on = search rules;
+      ends = omega arith;
+      shortest = λ some. omega arith;
+      at_most_nine = omega arith;
+      spells = refl;
+    };
+    whole = refl;
+  };
+}
+
+-- the root is wanted first
+abbrev first_wanted : QueryParts → WantedAt
+first_wanted q = record { want = path_want 0 q.path 1; cid = q.root }
+
+wants_root : (q : QueryParts) → VerifiedStarts → q.dups ≡ true → IsUpTo q [] [] (first_wanted q)
+wants_root q starts repeats = record { repeats = repeats; given = nothing_given; later = []; verified = starts q; text = refl }
+
+front_of_any : (found : Option (List ℕ)) → IsFrontOfAnswer [] found
+front_of_any None = refl
+front_of_any (Some text) = (text, refl)
+
+pub unverified : (q : QueryParts) (input : Input) (out : Output) → VerifiedStarts → q.dups ≡ true → Untouched input out → NotAccepted q input out OutOfMemory
+unverified q input out starts repeats none = record {
+  fault = clients.OutOfMemory;
+  tells = inl refl;
+  verifies = record {
+    heard = [];
+    unheard = [];
+    took = record { moved = none.untaken.untaken.moved; left = untaken_is input.left_old input.left_new none.untaken.untaken.left };
+    sections = [];
+    received = record { given = []; goes_on = inl (record { nothing_given = refl; inside = before_header }); sections_are = refl };
+    text = [];
+    put = record { moved = none.unput.unput.moved; held = unput_is out.held_old out.held_new none.unput.unput.held };
+    ends = inr (inl (first_wanted q, wants_root q starts repeats));
+    sound = λ d sound root. inl (front_of_any (answer q d));
+  };
+  cause = (none.untaken.quiet, none.unput.quiet);
+  else = λ bytes told good. tt;
+}

@@ -1,0 +1,111 @@
+//! `verify`.
+ghost use Rattle.std.specs.Prelude.{◌≡◌, ◌⊎◌, true, IfOk};
+ghost use Rattle.tg_app.specs.Blocks.{IsTextOf};
+ghost use Rattle.tg_app.specs.Exports.{ShowsOrWants};
+ghost use Rattle.tg_app.specs.Lines.{end_of};
+ghost use Rattle.tg_app.specs.Verify.{IsVerifyRefusal, ShowsCids, VerifyEnds};
+ghost use Rattle.tg_client.specs.declared.fault.ClientFault.{ClientFault};
+ghost use Rattle.tg_streams.specs.Streams.{into, through};
+
+use crate::refusal::Refusal;
+use std::alloc::{AllocError, Global};
+use tg_bytes::Bytes;
+use tg_cid::Cid;
+use tg_client::{ClientFault, verify_car};
+use tg_model::{BlockFault, Limits, Query};
+use tg_streams::{Sink, Source};
+use tg_verify::Refusal as VerifierRefusal;
+
+/// `verify`: the input is verified to be a CAR of what a query with repeats asks for, and what it says goes to out.
+pub fn verify<I: Source, O: Sink>(
+    alloc: Global,
+    query: &Query,
+    input: &mut I,
+    out: &mut O,
+) -> Result<(), Refusal>
+    requires { query.now.dups ≡ true }
+    ensures { VerifyEnds query.now (through I.source input.old input.new) (into O.sink out.old out.new) (end_of result) }
+{
+    match verify_car(alloc, query, Limits::standard(), input, out) {
+        Ok(()) => Ok(()),
+        Err(fault) => Err(refusal_of(alloc, fault)),
+    }
+}
+
+/// The refusal for a CAR that isn't accepted.
+fn refusal_of(alloc: Global, fault: ClientFault) -> Refusal
+    ensures { IsVerifyRefusal fault result }
+{
+    match fault {
+        ClientFault::Refused(fault) => refusal_of_verifier(alloc, fault),
+        ClientFault::BadCar(_) => Refusal::BadCar,
+        ClientFault::InputFault => Refusal::InputFault,
+        ClientFault::OutOfMemory => Refusal::OutOfMemory,
+    }
+}
+
+/// The refusal for one of the verifier.
+fn refusal_of_verifier(alloc: Global, fault: VerifierRefusal) -> Refusal
+    ensures { IsVerifyRefusal (ClientFault.Refused fault) result }
+{
+    match fault {
+        VerifierRefusal::Extra { sections } => Refusal::Extra { sections },
+        VerifierRefusal::Limit { kind, number } => Refusal::Limit { kind, number },
+        VerifierRefusal::BadDigest { cid } => bad_digest(alloc, &cid),
+        VerifierRefusal::WrongBlock { want, got } => wrong_block(alloc, &want, &got),
+        VerifierRefusal::BadBlock { cid, fault } => bad_received(alloc, &cid, fault),
+        VerifierRefusal::BadSize { declared, actual } => Refusal::BadSize { declared, actual },
+        VerifierRefusal::NotFolder { segment } => Refusal::NotFolder { segment },
+        VerifierRefusal::NotThere { segment } => Refusal::NotThere { segment },
+        VerifierRefusal::SinkFault => Refusal::SinkFault,
+        VerifierRefusal::Truncated { want, sections } => truncated(alloc, &want, sections),
+        VerifierRefusal::OutOfMemory => Refusal::OutOfMemory,
+    }
+}
+
+/// The refusal for a block that its CID doesn't name, or for want of memory for the CID's text.
+fn bad_digest(alloc: Global, cid: &Cid) -> Refusal
+    ensures { ShowsOrWants Refusal.BadDigest cid.now result }
+{
+    match cid.to_text(alloc) {
+        Ok(cid) => Refusal::BadDigest { cid },
+        Err(_) => Refusal::OutOfMemory,
+    }
+}
+
+/// The refusal for another block than the wanted one, or for want of memory for a CID's text.
+fn wrong_block(alloc: Global, want: &Cid, got: &Cid) -> Refusal
+    ensures { ShowsCids Refusal.WrongBlock want.now got.now result ⊎ (result ≡ Refusal.OutOfMemory) }
+{
+    match shown(alloc, want, got) {
+        Ok((want, got)) => Refusal::WrongBlock { want, got },
+        Err(_) => Refusal::OutOfMemory,
+    }
+}
+
+/// The texts of two CIDs in version 1. The error is want of memory.
+fn shown(alloc: Global, first: &Cid, second: &Cid) -> Result<(Bytes, Bytes), AllocError>
+    ensures { IfOk result (λ texts. IsTextOf first.now texts.0 × IsTextOf second.now texts.1) }
+{
+    Ok((first.to_text(alloc)?, second.to_text(alloc)?))
+}
+
+/// The refusal for a block without a kind, or for want of memory for its CID's text.
+fn bad_received(alloc: Global, cid: &Cid, fault: BlockFault) -> Refusal
+    ensures { ShowsOrWants (λ text. Refusal.BadReceived text fault) cid.now result }
+{
+    match cid.to_text(alloc) {
+        Ok(cid) => Refusal::BadReceived { cid, fault },
+        Err(_) => Refusal::OutOfMemory,
+    }
+}
+
+/// The refusal for a CAR that ends before the last section, or for want of memory for the text of the wanted CID.
+fn truncated(alloc: Global, want: &Cid, sections: u64) -> Refusal
+    ensures { ShowsOrWants (λ text. Refusal.Truncated text sections) want.now result }
+{
+    match want.to_text(alloc) {
+        Ok(want) => Refusal::Truncated { want, sections },
+        Err(_) => Refusal::OutOfMemory,
+    }
+}
