@@ -34,13 +34,13 @@ number_then number (byte ∷ bytes) =
     ∙ ap (λ n. number * n + big_endian (byte ∷ bytes)) (sym (pow_byte (length bytes)))
 
 -- the first byte stands above the number of the others
-first_byte : (byte : ℕ) (bytes : List ℕ) → big_endian (byte ∷ bytes) ≡ byte * 2 ^ (8 * length bytes) + big_endian bytes
+pub first_byte : (byte : ℕ) (bytes : List ℕ) → big_endian (byte ∷ bytes) ≡ byte * 2 ^ (8 * length bytes) + big_endian bytes
 first_byte byte bytes =
     number_then (0 * 256 + byte) bytes
     ∙ (let e : 0 * 256 + byte ≡ byte = omega arith in ap (λ n. n * 2 ^ (8 * length bytes) + big_endian bytes) e)
 
 -- the number of so many bytes is below that power
-big_endian_below : (bytes : List ℕ) → ((k : ℕ) → get_or bytes k 0 < 256) → big_endian bytes < 2 ^ (8 * length bytes)
+pub big_endian_below : (bytes : List ℕ) → ((k : ℕ) → get_or bytes k 0 < 256) → big_endian bytes < 2 ^ (8 * length bytes)
 big_endian_below [] are = omega arith
 big_endian_below (byte ∷ bytes) are =
     let one : byte < 256 = are 0 in

@@ -2,7 +2,6 @@
 use Rattle.tg_model.specs.declared.queries.Scope.TheVariants as scopes
 use Rattle.std.specs.Prelude.{Option, Some, None, ◌++◌, ◌||◌, Bool, Contains, List, [], false, true, ℕ, ⊤, ◌≡◌, ◌≢◌}
 use Rattle.sha2.specs.Sha256.{sha256}
-use Rattle.tg_cid.specs.Cid.{CidParts}
 use Rattle.tg_model.specs.Answer.{is_listed, node_text}
 use Rattle.tg_model.specs.Dag.{Dag, Section, bare, blocks, node, root_cid, unopened}
 use Rattle.tg_model.specs.PathWalk.{PathEnd, Spot, TraversalEnd, gone, not_reached, path_walk, stopped, terminal, whole}

@@ -1,9 +1,9 @@
 //! Laws of reading, each the contract of a function that does nothing.
-ghost use Rattle.std.specs.Prelude.{◌≡◌, ◌↔◌, ◌<◌, ℕ, List, All, Ok, Err};
+ghost use Rattle.std.specs.Prelude.{◌≡◌, ◌↔◌, ◌<◌, ◌+◌, ◌*◌, ◌^◌, ◌∷◌, ℕ, List, All, Ok, Err, get_or, length};
 ghost use Rattle.tg_cid.specs.Cid.{CidParts};
 ghost use Rattle.tg_model.specs.Computed.{read};
 ghost use Rattle.tg_model.specs.InnerFaults.{IsNoWantOfMemory};
-ghost use Rattle.tg_model.specs.Reading.{Reads};
+ghost use Rattle.tg_model.specs.Reading.{Reads, big_endian};
 ghost use Rattle.tg_model.specs.declared.fault.BlockFault.{BlockFault};
 ghost use Rattle.tg_model.specs.declared.kinds.Kind.{Kind};
 
@@ -25,3 +25,12 @@ pub fn readings()
     tg_cid::one_spelling();
     tg_cid::computes();
 }
+
+/// The bits of a shard are one number, of which the first byte is the most significant: that byte stands above the number of the others,
+/// and the number of so many bytes is below that power of 2.
+///
+/// UnixFS specification, HAMT Directories.
+pub fn big_endians()
+    ensures first { (byte : ℕ) (bytes : List ℕ) → big_endian (byte ∷ bytes) ≡ byte * 2 ^ (8 * length bytes) + big_endian bytes }
+    ensures below { (bytes : List ℕ) → ((k : ℕ) → get_or bytes k 0 < 256) → big_endian bytes < 2 ^ (8 * length bytes) }
+{}
