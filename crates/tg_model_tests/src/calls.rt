@@ -1,10 +1,10 @@
 //! The block model's calls for ranges, and queries that are none. What `step`, `check_shard`, `window`, `resolve_span` and the readers
 //! answer is said by equations of their contracts; here stand values from outside.
-use crate::shelf::raw_cid;
 use std::alloc::Global;
 use tg_cid::Cid;
 use tg_model::{Part, Scope, SpanFrom, resolve_span, window};
 use tg_oracle::{QueryFault, bounds, scoped_query, span_of};
+use tg_test_dags::raw_cid;
 
 /// A range of a file, the file's size, the bounds, and the run of parts that they meet.
 type RangeRow = (SpanFrom, Option<u64>, u64, (u64, u64), (usize, usize));

@@ -1,19 +1,13 @@
 //! Directories, shards and symbolic links: paths, listings and bundles.
-use crate::shelf::{
-    CHILD_SHARD, HELLO_SHARD, PARENT_SHARD, PathEnd, RangeRow, Row, Shelf, expect_below,
-    expect_ranges, expect_rows, hello_file, hello_root, raw_cid, text_of,
-};
+use crate::expected::{PathEnd, RangeRow, Row, expect_below, expect_ranges, expect_rows};
 use std::alloc::Global;
 use std::test::Fail;
 use tg_cid::Cid;
 use tg_model::{Scope, SpanFrom};
 use tg_oracle::{End, Sent, car_size, evaluate, scoped_query};
-
-/// Stores the file `hello world` in chunks, of five blocks, and behind them a directory with the entry `h` for it.
-fn hello_folder(shelf: &mut Shelf) -> Result<Cid, Fail> {
-    let file = hello_file(shelf)?;
-    shelf.node(&[("h", file, 155)], b"\x08\x01")
-}
+use tg_test_dags::{
+    Shelf, child_shard, hello_folder, hello_root, hello_shard, parent_shard, raw_cid, text_of,
+};
 
 const LISTING: &[u8] = b"bafybeighmzuokpuzyho2ninhgybpych6atkhbn2o57c3hlyer2hntezxly h\n";
 
@@ -182,26 +176,9 @@ const SHARD_RANGE: &[RangeRow<'static>] = &[(
 #[test]
 fn a_shard_of_one_entry(rt: HostRuntime) -> Result<(), Fail> {
     let mut shelf = Shelf::new(rt.alloc());
-    let hello = shelf.raw(b"hello world")?;
-    let shard = shelf.node(&[("CBhello", hello, 11)], HELLO_SHARD)?;
+    let shard = hello_shard(&mut shelf)?;
     expect_rows(&rt, &shelf, shard, ONE_ENTRY)?;
     expect_ranges(&rt, &shelf, shard, &[], SHARD_RANGE)
-}
-
-/// Stores a shard with a child behind it: in its slot 91 is the entry `m`, and in its slot BC a child with `q` in the slot 3E
-/// and `g` in 5D, by a Python model of the hash. The blocks are the files `1`, `2` and `3` of `m`, `q` and `g`, and the shard.
-fn parent_shard(shelf: &mut Shelf, child: Cid) -> Result<Cid, Fail> {
-    shelf.raw(b"1")?;
-    shelf.raw(b"2")?;
-    shelf.raw(b"3")?;
-    let links = [("91m", raw_cid(b"1"), 1), ("BC", child, 119)];
-    shelf.node(&links, PARENT_SHARD)
-}
-
-/// Stores that child.
-fn child_shard(shelf: &mut Shelf) -> Result<Cid, Fail> {
-    let links = [("3Eq", raw_cid(b"2"), 1), ("5Dg", raw_cid(b"3"), 1)];
-    shelf.node(&links, CHILD_SHARD)
 }
 
 const TWO_LEVELS_LISTING: &[u8] = b"bafkreicoa5aikyv63ofwbtqfyhpm7y5nc23semewpxqb6zalpzdstne7zy g\n\

@@ -1,8 +1,5 @@
 //! Blocks without a kind, and blocks that can't stand where they stand.
-use crate::shelf::{
-    CHILD_SHARD, HELLO_SHARD, PARENT_SHARD, PathEnd, Row, Shelf, expect_below, expect_rows,
-    node_block, raw_cid,
-};
+use crate::expected::{PathEnd, Row, expect_below, expect_rows};
 use std::alloc::Global;
 use std::process::Abort;
 use std::test::Fail;
@@ -12,6 +9,7 @@ use tg_dagpb::{Link, Node};
 use tg_model::{BlockFault, Kind, Scope, check_shard, reads};
 use tg_oracle::{End, evaluate, scoped_query};
 use tg_pbtable::PbFault;
+use tg_test_dags::{CHILD_SHARD, HELLO_SHARD, PARENT_SHARD, Shelf, node_block, raw_cid};
 use tg_unixfs::UnixFault;
 
 // The CID of the raw block `hell`, by Python's hashlib.

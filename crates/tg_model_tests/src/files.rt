@@ -1,11 +1,9 @@
 //! Files, their parts and byte ranges.
-use crate::shelf::{
-    PathEnd, RangeRow, Row, Shelf, expect, expect_below, expect_ranges, expect_rows, hello_file,
-    hello_root, raw_cid, text_of,
-};
+use crate::expected::{PathEnd, RangeRow, Row, expect, expect_below, expect_ranges, expect_rows};
 use std::test::Fail;
 use tg_model::{Scope, SpanFrom};
 use tg_oracle::{End, car_size, evaluate, ranged_query, scoped_query};
+use tg_test_dags::{Shelf, hello_file, hello_root, raw_cid, text_of};
 
 const HELLO: &[Row<'static>] = &[
     (

@@ -7,11 +7,11 @@ mod calls;
 #[cfg(test)]
 mod directories;
 #[cfg(test)]
+mod expected;
+#[cfg(test)]
 mod faults;
 #[cfg(test)]
 mod files;
-#[cfg(test)]
-mod shelf;
 #[cfg(test)]
 mod stores;
 #[cfg(test)]

@@ -1,5 +1,4 @@
 //! Walks over a store, beside the evaluator.
-use crate::shelf::Shelf;
 use std::process::Abort;
 use std::rt::HostRuntime;
 use std::test::Fail;
@@ -8,6 +7,7 @@ use tg_frames::copied_path;
 use tg_model::{Keep, Query, Scope};
 use tg_oracle::{End, Evaluation, evaluate, scoped_query};
 use tg_store::MemStore;
+use tg_test_dags::{Shelf, chain};
 use tg_walk::{ResolveFault, Walk, WalkFault, resolve};
 
 /// A store that holds the blocks, or none where a CID doesn't name its block.
@@ -95,15 +95,6 @@ fn refusal_at(end: &End) -> Option<ResolveFault> {
 /// The number of a segment.
 fn segment_at(at: u64) -> u32 {
     u32::try_from(at).unwrap_or(u32::MAX)
-}
-
-/// Stores a file of one byte whose only leaf lies so many blocks below the root, the root counted.
-fn chain(shelf: &mut Shelf, nodes: u32) -> Result<Cid, Fail> {
-    let mut below = shelf.raw(b"x")?;
-    for _ in 0..nodes {
-        below = shelf.node(&[("", below, 1)], b"\x08\x02\x18\x01\x20\x01")?;
-    }
-    Ok(below)
 }
 
 /// How many blocks the walk over a chain gives, and how it ends.

@@ -1,114 +1,11 @@
-//! Blocks that tests make, and what they expect of a query over them.
+//! What tests expect of a query over stored blocks.
 use crate::walks::expect_walk;
-use std::alloc::Global;
 use std::process::Abort;
 use std::test::Fail;
-use tg_bytes::{Bytes, List};
-use tg_cid::{Cid, Codec};
-use tg_dagpb::{Link, Node};
+use tg_cid::Cid;
 use tg_model::{Query, Scope, SpanFrom, Step, reads, step};
-use tg_oracle::{
-    End, EvaluationFault, StoredBlock, car_size, evaluate, ranged_query, scoped_query,
-};
-
-/// A link of a node: its name, where it leads, and its Tsize.
-pub type Linked<'a> = (&'a str, Cid, u64);
-
-/// Blocks that are stored.
-#[derive(Drop)]
-pub struct Shelf {
-    alloc: Global,
-    /// The blocks, in order.
-    pub blocks: List<StoredBlock>,
-}
-
-impl Shelf {
-    /// The allocator.
-    pub fn alloc(&self) -> Global {
-        self.alloc
-    }
-
-    /// No blocks.
-    pub fn new(alloc: Global) -> Shelf {
-        Shelf {
-            alloc,
-            blocks: List::new(alloc),
-        }
-    }
-
-    /// Stores a block.
-    pub fn put(&mut self, codec: Codec, block: &[u8]) -> Result<Cid, Fail> {
-        let cid = Cid::of_block(codec, block);
-        self.put_under(cid, block)?;
-        Ok(cid)
-    }
-
-    /// Stores a block under a CID that needn't name it.
-    pub fn put_under(&mut self, cid: Cid, block: &[u8]) -> Result<(), Fail> {
-        let block = Bytes::of(self.alloc, block)?;
-        self.blocks.push(StoredBlock { cid, block })?;
-        Ok(())
-    }
-
-    /// Stores a raw block.
-    pub fn raw(&mut self, block: &[u8]) -> Result<Cid, Fail> {
-        self.put(Codec::Raw, block)
-    }
-
-    /// Stores a node with this data.
-    pub fn node(&mut self, links: &[Linked<'_>], payload: &[u8]) -> Result<Cid, Fail> {
-        let block = node_block(self.alloc, links, payload)?;
-        self.put(Codec::DagPb, block.as_slice())
-    }
-}
-
-/// The block of a node with this data.
-pub fn node_block(alloc: Global, links: &[Linked<'_>], payload: &[u8]) -> Result<Bytes, Fail> {
-    let mut list = List::new(alloc);
-    for (name, cid, tsize) in links {
-        list.push(Link {
-            hash: cid.to_bytes(alloc)?,
-            name: Some(Bytes::of(alloc, name.as_bytes())?),
-            tsize: Some(*tsize),
-        })?;
-    }
-    let payload = Some(Bytes::of(alloc, payload)?);
-    let node = Node {
-        links: list,
-        payload,
-    };
-    Ok(tg_dagpb::encode(alloc, &node)?)
-}
-
-/// The CID of a raw block.
-pub fn raw_cid(block: &[u8]) -> Cid {
-    Cid::of_block(Codec::Raw, block)
-}
-
-/// Stores the root of the file `hello world` in chunks of 4 bytes, of which the leaves are `hell`, `o wo` and `rld`.
-pub fn hello_root(shelf: &mut Shelf) -> Result<Cid, Fail> {
-    let links = [
-        ("", raw_cid(b"hell"), 4),
-        ("", raw_cid(b"o wo"), 4),
-        ("", raw_cid(b"rld"), 3),
-    ];
-    shelf.node(&links, b"\x08\x02\x18\x0b\x20\x04\x20\x04\x20\x03")
-}
-
-/// Stores that root and its leaves in order.
-pub fn hello_file(shelf: &mut Shelf) -> Result<Cid, Fail> {
-    let root = hello_root(shelf)?;
-    shelf.raw(b"hell")?;
-    shelf.raw(b"o wo")?;
-    shelf.raw(b"rld")?;
-    Ok(root)
-}
-
-/// The text of a CID.
-pub fn text_of(alloc: Global, cid: Cid) -> Result<String, Fail> {
-    let text = cid.to_text(alloc)?;
-    Ok(String::from_utf8_lossy(alloc, text.as_slice())?)
-}
+use tg_oracle::{End, EvaluationFault, car_size, evaluate, ranged_query, scoped_query};
+use tg_test_dags::Shelf;
 
 /// Expects that a query sends the stored blocks with these indexes, ends so and gives this text. It gives back the size of the
 /// CAR.
@@ -120,7 +17,7 @@ pub fn expect(
     end: &End,
     text: &[u8],
 ) -> Result<u64, Fail> {
-    let found = evaluate(shelf.alloc, shelf.blocks.as_slice(), query)?;
+    let found = evaluate(shelf.alloc(), shelf.blocks.as_slice(), query)?;
     let sent = found.sent.as_slice();
     assert_eq!(rt; &found.end, end, "{query:?}");
     assert_eq!(rt; found.text.as_slice(), text, "{query:?}");
@@ -147,7 +44,7 @@ pub fn expect_below(
     end: &End,
     text: &[u8],
 ) -> Result<u64, Fail> {
-    let query = scoped_query(shelf.alloc, root, asked.0, asked.1)?;
+    let query = scoped_query(shelf.alloc(), root, asked.0, asked.1)?;
     expect(rt, shelf, &query, indexes, end, text)
 }
 
@@ -190,7 +87,7 @@ fn end_by_steps(
     if depth == 0 || level > 7 {
         return Err(Fail::from(EvaluationFault::TooDeep));
     }
-    let kind = reads(shelf.alloc, &cid, block)?;
+    let kind = reads(shelf.alloc(), &cid, block)?;
     match step(&kind, level, name.as_bytes()) {
         Step::Found(entry) => {
             end_by_steps(shelf, depth - 1, entry, 0, at.saturating_add(1), rest)
@@ -242,19 +139,9 @@ pub fn expect_ranges(
     rows: &[RangeRow<'_>],
 ) -> Result<(), Fail> {
     for (from, to, indexes, size, text) in rows {
-        let query = ranged_query(shelf.alloc, root, path, *from, *to)?;
+        let query = ranged_query(shelf.alloc(), root, path, *from, *to)?;
         let found = expect(rt, shelf, &query, indexes, &End::Whole, text)?;
         assert_eq!(rt; found, *size, "{query:?}");
     }
     Ok(())
 }
-
-/// The data of a shard with the slot CB, that of one with the slots 91 and BC, and that of one with 3E and 5D. Slot `i` is the
-/// bit `i` of the number that the bytes behind `\x12` and the length are.
-pub const HELLO_SHARD: &[u8] =
-    b"\x08\x05\x12\x1a\x08\0\0\0\0\0\0\0\0\0\0\0\0\0\0\0\0\0\0\0\0\0\0\0\0\0\x28\x22\x30\x80\x02";
-
-pub const PARENT_SHARD: &[u8] =
-    b"\x08\x05\x12\x18\x10\0\0\0\0\x02\0\0\0\0\0\0\0\0\0\0\0\0\0\0\0\0\0\0\x28\x22\x30\x80\x02";
-
-pub const CHILD_SHARD: &[u8] = b"\x08\x05\x12\x0c\x20\0\0\0\x40\0\0\0\0\0\0\0\x28\x22\x30\x80\x02";
