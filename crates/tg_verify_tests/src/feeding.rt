@@ -1,0 +1,73 @@
+//! Sections that are fed to a verifier, and how it ends.
+use std::alloc::{AllocError, Global};
+use tg_bytes::{Bytes, List};
+use tg_cid::Cid;
+use tg_model::{Limits, Query};
+use tg_oracle::Sent;
+use tg_streams::MemSink;
+use tg_test_dags::Shelf;
+use tg_verify::{Refusal, verify_all};
+
+/// The CID that is wanted at the end, or none where all came; or why a section was refused.
+pub type VerifyEnd = Result<Option<Cid>, Refusal>;
+
+/// How a verifier ended over sections, and what it put.
+#[derive(Debug, Drop)]
+pub struct Verified {
+    pub end: VerifyEnd,
+    pub text: Vec<u8>,
+}
+
+impl Verified {
+    /// Whether it ended so, and put just this.
+    pub fn is(&self, end: &VerifyEnd, text: &[u8]) -> bool {
+        self.end == *end && self.text.as_slice() == text
+    }
+}
+
+/// Feeds the sections to a verifier of the query, whose puts with these numbers fail.
+pub fn feed(
+    alloc: Global,
+    query: &Query,
+    sections: &List<(Cid, Bytes)>,
+    fails: &[u64],
+) -> Result<Verified, AllocError> {
+    let fails = List::from(Vec::from_slice(alloc, fails)?);
+    let mut out = MemSink::new(alloc, 4, fails);
+    let end = verify_all(alloc, query, Limits::standard(), sections, &mut out);
+    let text = Vec::from_slice(alloc, out.held())?;
+    Ok(Verified { end, text })
+}
+
+/// The first sections that the evaluator sends, so many.
+pub fn front_of(
+    alloc: Global,
+    shelf: &Shelf,
+    sent: &[Sent],
+    count: usize,
+) -> Result<List<(Cid, Bytes)>, AllocError> {
+    let mut sections = List::new(alloc);
+    for section in sent.iter().take(count) {
+        if let Some(stored) = shelf.blocks.as_slice().get(section.index) {
+            let block = Bytes::of(alloc, stored.block.as_slice())?;
+            sections.push((section.cid, block))?;
+        }
+    }
+    Ok(sections)
+}
+
+/// The stored blocks with these numbers as sections.
+pub fn stored_sections(
+    alloc: Global,
+    shelf: &Shelf,
+    indexes: &[usize],
+) -> Result<List<(Cid, Bytes)>, AllocError> {
+    let mut sections = List::new(alloc);
+    for index in indexes {
+        if let Some(stored) = shelf.blocks.as_slice().get(*index) {
+            let block = Bytes::of(alloc, stored.block.as_slice())?;
+            sections.push((stored.cid, block))?;
+        }
+    }
+    Ok(sections)
+}

@@ -1,0 +1,15 @@
+//! Tests of the verifier, most of them beside the evaluator of queries.
+#![tactic(auto)]
+
+#[cfg(test)]
+mod changes;
+#[cfg(test)]
+mod dags;
+#[cfg(test)]
+mod evaluated;
+#[cfg(test)]
+mod feeding;
+#[cfg(test)]
+mod refusals;
+#[cfg(test)]
+mod steps;
