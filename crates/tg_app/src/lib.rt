@@ -13,6 +13,3 @@ mod verify;
 
 pub use refusal::Refusal;
 pub use top::{out_of_memory, run};
-
-#[cfg(test)]
-mod tests;

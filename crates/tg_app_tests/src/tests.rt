@@ -2,11 +2,9 @@
 use std::alloc::{AllocError, Global};
 use std::rt::HostRuntime;
 use std::test::Fail;
-use tg_app::run;
-use tg_bytes::{Bytes, List};
-use tg_files::{MemFolder, MemPack};
-use tg_streams::{MemSink, MemSource};
-use tg_tree::{Sort, Tree};
+use tg_bytes::Bytes;
+use tg_runs::{Failing, NONE, Outcome, run_over_files};
+use tg_tree::Tree;
 
 /// The empty directory, the folder with the file `h` of `hello world` in chunks of 4, that file, and raw CIDs of no bytes.
 const E: &str = "bafybeiczsscdsbs7ffqz55asqdf3smv6klcw3gofszvwlyarci47bgf354";
@@ -54,90 +52,6 @@ const E_FLIPPED: &[u8] =
 const NEW_HEADER: &[u8] =
     b"\x3a\xa2\x65roots\x81\xd8\x2a\x58\x25\x00\x01\x55\x12\x20\x00\x00\x00\x00\x00\x00\x00\x00\x00\x00\x00\x00\x00\x00\x00\x00\
     \x00\x00\x00\x00\x00\x00\x00\x00\x00\x00\x00\x00\x00\x00\x00\x00\x67version\x01";
-
-/// What a run left.
-#[derive(Debug, Drop)]
-struct Outcome {
-    status: u8,
-    out: Vec<u8>,
-    err: Vec<u8>,
-    pack: Vec<u8>,
-}
-
-impl Outcome {
-    /// No run, since the tree is no folder whose names differ; its status is none of the program's.
-    fn of_no_folder(alloc: Global) -> Outcome {
-        Outcome {
-            status: 255,
-            out: Vec::new(alloc),
-            err: Vec::new(alloc),
-            pack: Vec::new(alloc),
-        }
-    }
-
-    /// Whether the run ended so.
-    fn is(&self, status: u8, out: &[u8], err: &str) -> bool {
-        self.status == status && self.out.as_slice() == out && self.err.as_slice() == err.as_bytes()
-    }
-}
-
-/// The numbers of the calls that fail, of the folder, of the pack and of out.
-type Failing = [&'static [u64]; 3];
-
-const NONE: Failing = [&[], &[], &[]];
-
-/// A list of call numbers.
-fn numbers(alloc: Global, calls: &[u64]) -> Result<List<u64>, AllocError> {
-    Ok(List::from(Vec::from_slice(alloc, calls)?))
-}
-
-/// What a pack holds, and nothing where there is none or it isn't told.
-fn content_of(pack: &Option<MemPack>) -> &[u8] {
-    match pack {
-        Some(pack) => pack.content().unwrap_or(&[]),
-        None => &[],
-    }
-}
-
-/// Runs the words over a folder and a pack in memory.
-fn run_over(
-    rt: &HostRuntime,
-    words: &[&str],
-    tree: Tree,
-    content: &[u8],
-    failing: Failing,
-) -> Result<Outcome, Fail> {
-    let alloc = rt.alloc();
-    let mut list = Vec::new(alloc);
-    for word in words {
-        list.push(String::from_str(alloc, word)?)?;
-    }
-    let [folder_fails, pack_fails, out_fails] = failing;
-    if tree.sort() != Sort::Folder || !tree.names_differ() {
-        return Ok(Outcome::of_no_folder(alloc));
-    }
-    let mut folder = MemFolder::new(alloc, tree, numbers(alloc, folder_fails)?);
-    let bytes = Bytes::of(alloc, content)?;
-    let mut pack = Some(MemPack::new(bytes, numbers(alloc, pack_fails)?));
-    let mut input = MemSource::new(Bytes::new(alloc), 1, List::new(alloc));
-    let mut out = MemSink::new(alloc, 4096, numbers(alloc, out_fails)?);
-    let mut err = MemSink::new(alloc, 4096, List::new(alloc));
-    let status = run(
-        alloc,
-        list.as_slice(),
-        &mut folder,
-        &mut pack,
-        &mut input,
-        &mut out,
-        &mut err,
-    );
-    Ok(Outcome {
-        status,
-        out: Vec::from_slice(alloc, out.held())?,
-        err: Vec::from_slice(alloc, err.held())?,
-        pack: Vec::from_slice(alloc, content_of(&pack))?,
-    })
-}
 
 /// The first `n` bytes, or all where there are fewer.
 fn front(bytes: &[u8], n: usize) -> &[u8] {
@@ -264,10 +178,10 @@ fn run_with(
     words: &[&str],
     shape: Shape,
     content: &[u8],
-    failing: Failing,
+    failing: Failing<'_>,
 ) -> Result<Outcome, Fail> {
     let tree = folder_with(rt.alloc(), shape)?;
-    run_over(rt, words, tree, content, failing)
+    Ok(run_over_files(rt.alloc(), words, tree, content, failing)?)
 }
 
 /// The pack that an import with these words makes of a folder of this shape.
@@ -432,7 +346,7 @@ fn what_cannot_go_into_a_pack_is_refused(rt: HostRuntime) -> Result<(), Fail> {
 }
 
 /// The words over the folder with the file `h` and over a pack, the calls that fail, the status and the line.
-type Fault = (&'static [&'static str], Failing, u8, &'static str);
+type Fault = (&'static [&'static str], Failing<'static>, u8, &'static str);
 
 const FAULTS: &[Fault] = &[
     (IN_FOURS, [&[0], &[], &[]], 6, "tgate: FolderFault\n"),

@@ -1,13 +1,10 @@
-//! The program's commands over streams in memory.
+//! `check`, `cid` and `node` over streams in memory.
 ghost use Rattle.std.specs.Prelude.{◌≡◌, IfOk, vec_len};
 
-use super::*;
 use std::alloc::{AllocError, Global};
+use std::rt::HostRuntime;
 use std::test::Fail;
-use tg_bytes::{Bytes, List};
-use tg_files::{MemFolder, MemPack};
-use tg_streams::{MemSink, MemSource};
-use tg_tree::{Sort, Tree};
+use tg_runs::{Failing, NONE, run_over_streams};
 
 /// The raw CID of `hello world`, that of no bytes, and the dag-pb CID of the empty directory.
 const H: &str = "bafkreifzjut3te2nhyekklss27nh3k72ysco7y32koao5eei66wof36n5e";
@@ -49,81 +46,6 @@ const SPEC_LINE: &[u8] = b"bafybeigdyrzt5sfp7udm7hu76uh7y26nf3efuylqabf3oclgtqy5
 
 const SPEC_HEX_LINE: &[u8] =
     b"01701220c3c4733ec8affd06cf9e9ff50ffc6bcd2ec85a6170004bb709669c31de94391a\n";
-
-/// The numbers of the calls that fail, of the input, of out and of err.
-type Failing = [&'static [u64]; 3];
-
-const NONE: Failing = [&[], &[], &[]];
-
-/// A list of call numbers.
-fn numbers(alloc: Global, calls: &[u64]) -> Result<List<u64>, AllocError> {
-    Ok(List::from(Vec::from_slice(alloc, calls)?))
-}
-
-/// What a run left.
-#[derive(Debug, Drop)]
-struct Outcome {
-    status: u8,
-    out: Vec<u8>,
-    err: Vec<u8>,
-}
-
-impl Outcome {
-    /// No run, since the tree is no folder whose names differ; its status is none of the program's.
-    fn of_no_folder(alloc: Global) -> Outcome {
-        Outcome {
-            status: 255,
-            out: Vec::new(alloc),
-            err: Vec::new(alloc),
-        }
-    }
-
-    /// Whether the run left just these.
-    fn is(&self, status: u8, out: &[u8], err: &str) -> bool {
-        self.status == status && self.out.as_slice() == out && self.err.as_slice() == err.as_bytes()
-    }
-}
-
-/// Runs the words over an input in memory, by pieces of this size.
-fn run_over(
-    rt: &HostRuntime,
-    words: &[&str],
-    input: &[u8],
-    piece: usize,
-    failing: Failing,
-) -> Result<Outcome, Fail> {
-    let piece = piece.max(1);
-    let alloc = rt.alloc();
-    let mut list = Vec::new(alloc);
-    for word in words {
-        list.push(String::from_str(alloc, word)?)?;
-    }
-    let [input_fails, out_fails, err_fails] = failing;
-    let bytes = Bytes::of(alloc, input)?;
-    let mut input = MemSource::new(bytes, piece, numbers(alloc, input_fails)?);
-    let mut out = MemSink::new(alloc, piece, numbers(alloc, out_fails)?);
-    let mut err = MemSink::new(alloc, piece, numbers(alloc, err_fails)?);
-    let tree = Tree::Folder(Vec::new(alloc));
-    if tree.sort() != Sort::Folder || !tree.names_differ() {
-        return Ok(Outcome::of_no_folder(alloc));
-    }
-    let mut folder = MemFolder::new(alloc, tree, List::new(alloc));
-    let mut pack = Some(MemPack::new(Bytes::new(alloc), List::new(alloc)));
-    let status = run(
-        alloc,
-        list.as_slice(),
-        &mut folder,
-        &mut pack,
-        &mut input,
-        &mut out,
-        &mut err,
-    );
-    Ok(Outcome {
-        status,
-        out: Vec::from_slice(alloc, out.held())?,
-        err: Vec::from_slice(alloc, err.held())?,
-    })
-}
 
 /// The dag-pb CID of the file `hello world` in chunks of 4 bytes, and of a block that is no node.
 const F: &str = "bafybeighmzuokpuzyho2ninhgybpych6atkhbn2o57c3hlyer2hntezxly";
@@ -188,7 +110,7 @@ const ANSWERS: &[Row<'static>] = &[
 fn commands_answer(rt: HostRuntime) -> Result<(), Fail> {
     for (words, input, status, out, err) in ANSWERS {
         for piece in [1, 7, 65_536] {
-            let run = run_over(&rt, words, input, piece, NONE)?;
+            let run = run_over_streams(rt.alloc(), words, input, piece, NONE)?;
             assert!(rt;
                 run.is(*status, out, err),
                 "{words:?} in pieces of {piece}: {run:?}"
@@ -210,12 +132,12 @@ fn blocks_are_limited(rt: HostRuntime) -> Result<(), Fail> {
     let one_more = zeros(rt.alloc(), 2_097_153)?;
     let largest = zeros(rt.alloc(), 2_097_152)?;
     for command in ["check", "node"] {
-        let over = run_over(&rt, &[command, H], one_more.as_slice(), 65_536, NONE)?;
+        let over = run_over_streams(rt.alloc(), &[command, H], one_more.as_slice(), 65_536, NONE)?;
         assert!(rt;
             over.is(7, b"", "tgate: Limit Block 2097152\n"),
             "{command}: {over:?}"
         );
-        let exact = run_over(&rt, &[command, H], largest.as_slice(), 65_536, NONE)?;
+        let exact = run_over_streams(rt.alloc(), &[command, H], largest.as_slice(), 65_536, NONE)?;
         assert!(rt;
             exact.status == 3 && exact.out.is_empty(),
             "{command}: {exact:?}"
@@ -258,7 +180,7 @@ const OTHER_WORDS: &[&[&str]] = &[
 #[test]
 fn other_words_are_refused(rt: HostRuntime) -> Result<(), Fail> {
     for words in OTHER_WORDS {
-        let run = run_over(&rt, words, b"hello world", 7, NONE)?;
+        let run = run_over_streams(rt.alloc(), words, b"hello world", 7, NONE)?;
         assert!(rt; run.is(2, b"", "tgate: usage\n"), "{words:?}: {run:?}");
     }
     Ok(())
@@ -271,7 +193,14 @@ const INPUT_FAULT: &str = "tgate: InputFault\n";
 const SINK_FAULT: &str = "tgate: SinkFault\n";
 
 /// Words, the input, the calls that fail, the status, and what stands on out and on err.
-type FaultRow<'a> = (&'a [&'a str], &'a [u8], Failing, u8, &'a [u8], &'a str);
+type FaultRow<'a> = (
+    &'a [&'a str],
+    &'a [u8],
+    Failing<'static>,
+    u8,
+    &'a [u8],
+    &'a str,
+);
 
 const FAULTS: &[FaultRow<'static>] = &[
     // The input fails at its first call, at a later one, and behind the last that is needed.
@@ -344,7 +273,7 @@ const FAULTS: &[FaultRow<'static>] = &[
 #[test]
 fn faults_of_the_streams_are_told(rt: HostRuntime) -> Result<(), Fail> {
     for (words, input, failing, status, out, err) in FAULTS {
-        let run = run_over(&rt, words, input, 4, *failing)?;
+        let run = run_over_streams(rt.alloc(), words, input, 4, *failing)?;
         assert!(rt; run.is(*status, out, err), "{words:?} {failing:?}: {run:?}");
     }
     Ok(())
