@@ -1,0 +1,251 @@
+//! `verify` over the CAR of the file `hello world` in chunks of 4 bytes, of which bytes are cut, changed or added, and over streams that fail.
+use crate::cars::car_of;
+use std::alloc::{AllocError, Global};
+use std::rt::HostRuntime;
+use std::test::Fail;
+use tg_bytes::Bytes;
+use tg_runs::{Failing, NONE, run_over_streams};
+use tg_test_dags::{Shelf, hello_file, raw_cid};
+
+const F: &str = "bafybeighmzuokpuzyho2ninhgybpych6atkhbn2o57c3hlyer2hntezxly";
+
+const HELLO: &[u8] = b"hello world";
+
+/// The file's CAR of 363 bytes: a header of 59, then sections up to 241, 282, 323 and 363.
+fn hello_car(alloc: Global) -> Result<Bytes, AllocError> {
+    let mut shelf = Shelf::new(alloc);
+    let root = hello_file(&mut shelf)?;
+    car_of(alloc, &root, &shelf, &[0, 1, 2, 3])
+}
+
+/// What is done to the CAR.
+#[derive(Clone, Copy, Debug)]
+enum Changed {
+    /// Only so many bytes are left.
+    Cut(usize),
+    /// The byte with this number is another.
+    Byte(usize, u8),
+    /// These bytes come behind it.
+    Longer(&'static [u8]),
+    /// These bytes come behind the first ones, so many, and then those from the other number on.
+    Between(usize, &'static [u8], usize),
+    /// Its header names another root.
+    OtherRoot,
+}
+
+/// The bytes from one number on up to another.
+fn part(bytes: &[u8], from: usize, to: usize) -> &[u8] {
+    bytes.get(from..to).unwrap_or(b"")
+}
+
+/// The CAR with the change.
+fn changed_car(alloc: Global, change: Changed) -> Result<Bytes, AllocError> {
+    let whole = hello_car(alloc)?;
+    let car = whole.as_slice();
+    match change {
+        Changed::Cut(size) => Bytes::of(alloc, part(car, 0, size)),
+        Changed::Byte(at, byte) => {
+            joined(
+                alloc,
+                part(car, 0, at),
+                &[byte],
+                part(car, at.saturating_add(1), car.len()),
+            )
+        }
+        Changed::Longer(bytes) => joined(alloc, car, bytes, b""),
+        Changed::Between(from, bytes, to) => {
+            joined(alloc, part(car, 0, from), bytes, part(car, to, car.len()))
+        }
+        Changed::OtherRoot => {
+            let other = car_of(alloc, &raw_cid(b""), &Shelf::new(alloc), &[])?;
+            joined(alloc, other.as_slice(), part(car, 59, car.len()), b"")
+        }
+    }
+}
+
+fn joined(alloc: Global, first: &[u8], next: &[u8], last: &[u8]) -> Result<Bytes, AllocError> {
+    let mut bytes = Bytes::of(alloc, first)?;
+    bytes.push_all(next)?;
+    bytes.push_all(last)?;
+    Ok(bytes)
+}
+
+/// The change, the status, what goes to out, and what stands on err.
+type Row = (Changed, u8, &'static [u8], &'static str);
+
+const ROWS: &[Row] = &[
+    (Changed::Cut(363), 0, HELLO, ""),
+    (
+        Changed::Cut(300),
+        3,
+        b"hell",
+        "tgate: Truncated bafkreiek7dtgfi5skhxqfuxnqv2fkniinl3xvinmmospl6aa6ua4rzoqsm 2\n",
+    ),
+    (
+        Changed::Cut(282),
+        3,
+        b"hell",
+        "tgate: Truncated bafkreiek7dtgfi5skhxqfuxnqv2fkniinl3xvinmmospl6aa6ua4rzoqsm 2\n",
+    ),
+    (
+        Changed::Cut(0),
+        3,
+        b"",
+        "tgate: Truncated bafybeighmzuokpuzyho2ninhgybpych6atkhbn2o57c3hlyer2hntezxly 0\n",
+    ),
+    (Changed::OtherRoot, 0, HELLO, ""),
+    (Changed::Longer(b"\x01"), 3, HELLO, "tgate: Extra 4\n"),
+    // The last byte of the first leaf, and the first of its length.
+    (
+        Changed::Byte(281, b'L'),
+        3,
+        b"",
+        "tgate: BadDigest bafkreiaoxxbtc63vqopwim4h26bvgww4gygkahzty5pxyhttoow42z24bm\n",
+    ),
+    (Changed::Byte(241, 0), 3, b"", "tgate: BadCar\n"),
+    (Changed::Byte(0, 0), 3, b"", "tgate: BadCar\n"),
+    // A first section of 2,097,153 bytes, of which no byte of the block need come.
+    (
+        Changed::Between(59, b"\xa5\x80\x80\x01", 61),
+        7,
+        b"",
+        "tgate: Limit Block 2097152\n",
+    ),
+];
+
+/// Whether `verify` over the bytes ends so, in pieces of this length.
+fn ends_so(
+    alloc: Global,
+    car: &[u8],
+    piece: usize,
+    row: (u8, &[u8], &str),
+) -> Result<bool, AllocError> {
+    let (status, out, err) = row;
+    let done = run_over_streams(alloc, &["verify", F], car, piece, NONE)?;
+    Ok(done.is(status, out, err))
+}
+
+#[test]
+fn changed_cars_end_so(rt: HostRuntime) -> Result<(), Fail> {
+    for (change, status, out, err) in ROWS {
+        let car = changed_car(rt.alloc(), *change)?;
+        for piece in [1, 7, 64] {
+            let row = (*status, *out, *err);
+            assert!(rt;
+                ends_so(rt.alloc(), car.as_slice(), piece, row)?,
+                "{change:?} {piece}"
+            );
+        }
+    }
+    Ok(())
+}
+
+/// The lengths from one to another to which the CAR is cut, what goes to out, and the CID that is wanted with the number of sections.
+type Cut = (usize, usize, &'static [u8], &'static str);
+
+const CUTS: &[Cut] = &[
+    (
+        0,
+        240,
+        b"",
+        "tgate: Truncated bafybeighmzuokpuzyho2ninhgybpych6atkhbn2o57c3hlyer2hntezxly 0\n",
+    ),
+    (
+        241,
+        281,
+        b"",
+        "tgate: Truncated bafkreiaoxxbtc63vqopwim4h26bvgww4gygkahzty5pxyhttoow42z24bm 1\n",
+    ),
+    (
+        282,
+        322,
+        b"hell",
+        "tgate: Truncated bafkreiek7dtgfi5skhxqfuxnqv2fkniinl3xvinmmospl6aa6ua4rzoqsm 2\n",
+    ),
+    (
+        323,
+        362,
+        b"hello wo",
+        "tgate: Truncated bafkreiefy5w4vyrjturdlr4t7y2clpmig5xvyrzbz7o4dsnjyrjmedc5gm 3\n",
+    ),
+];
+
+/// Whether each cut of a row ends so.
+fn cuts_end_so(alloc: Global, car: &[u8], cut: &Cut) -> Result<bool, AllocError> {
+    let (from, to, out, err) = *cut;
+    for size in from..=to {
+        if !ends_so(alloc, part(car, 0, size), 64, (3, out, err))? {
+            return Ok(false);
+        }
+    }
+    Ok(true)
+}
+
+#[test]
+fn each_cut_ends_so(rt: HostRuntime) -> Result<(), Fail> {
+    let car = hello_car(rt.alloc())?;
+    for cut in CUTS {
+        assert!(rt; cuts_end_so(rt.alloc(), car.as_slice(), cut)?, "{cut:?}");
+    }
+    Ok(())
+}
+
+/// Whether a run whose call fails is told so with a front of the answer.
+fn fails_so(
+    alloc: Global,
+    car: &[u8],
+    failing: Failing<'_>,
+    line: &str,
+) -> Result<bool, AllocError> {
+    let done = run_over_streams(alloc, &["verify", F], car, 16, failing)?;
+    Ok(
+        done.status == 6
+            && done.err.as_slice() == line.as_bytes()
+            && HELLO.starts_with(done.out.as_slice()),
+    )
+}
+
+// 23 takes of 16 bytes at most give the CAR, and the one behind them its end; three puts give the answer.
+#[test]
+fn each_take_fails_in_turn(rt: HostRuntime) -> Result<(), Fail> {
+    let car = hello_car(rt.alloc())?;
+    for call in 0..24u64 {
+        let calls = [call];
+        let failing: Failing<'_> = [&calls, &[], &[]];
+        assert!(rt;
+            fails_so(rt.alloc(), car.as_slice(), failing, "tgate: InputFault\n")?,
+            "{call}"
+        );
+    }
+    let done = run_over_streams(
+        rt.alloc(),
+        &["verify", F],
+        car.as_slice(),
+        16,
+        [&[24], &[], &[]],
+    )?;
+    assert!(rt; done.is(0, HELLO, ""));
+    Ok(())
+}
+
+#[test]
+fn each_put_fails_in_turn(rt: HostRuntime) -> Result<(), Fail> {
+    let car = hello_car(rt.alloc())?;
+    for call in 0..3u64 {
+        let calls = [call];
+        let failing: Failing<'_> = [&[], &calls, &[]];
+        assert!(rt;
+            fails_so(rt.alloc(), car.as_slice(), failing, "tgate: SinkFault\n")?,
+            "{call}"
+        );
+    }
+    let done = run_over_streams(
+        rt.alloc(),
+        &["verify", F],
+        car.as_slice(),
+        16,
+        [&[], &[3], &[]],
+    )?;
+    assert!(rt; done.is(0, HELLO, ""));
+    Ok(())
+}
