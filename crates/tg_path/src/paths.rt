@@ -1,7 +1,6 @@
 //! Paths in targets and words.
-ghost use Rattle.std.specs.Prelude.{◌≡◌, if◌then◌else◌, option_copied};
+ghost use Rattle.std.specs.Prelude.{option_copied};
 ghost use Rattle.percent_encoding.specs.Percent.{percent_decode};
-ghost use Rattle.tg_model.specs.Computed.{is_good_name};
 ghost use Rattle.tg_path.specs.Answers.{Gives};
 ghost use Rattle.tg_path.specs.Paths.{name_of, path_of, path_behind};
 
@@ -10,7 +9,7 @@ use percent_encoding::percent_decode;
 use std::alloc::Global;
 use tg_ascii::SLASH;
 use tg_bytes::{Bytes, List};
-use tg_model::Path;
+use tg_model::{Path, is_good_name};
 
 /// How many segments a path has at most.
 pub const MAX_SEGMENTS: usize = 128;
@@ -58,14 +57,4 @@ fn name_of(alloc: Global, segment: &[u8]) -> Result<Bytes, QueryFault>
         return Err(QueryFault::BadPath);
     }
     Ok(Bytes::from(name))
-}
-
-/// Whether a name may be an entry's.
-fn is_good_name(name: &[u8]) -> bool
-    ensures { result ≡ is_good_name name.now }
-{
-    if name.is_empty() || name == b".".as_slice() || name == b"..".as_slice() {
-        return false;
-    }
-    name.iter().all(|b| *b != SLASH && *b != 0)
 }
