@@ -1,61 +1,34 @@
 -- The bits of a shard as one big-endian number.
 use Rattle.std.proofs.Common.{◌≡◌, ℕ, zero, suc, ◌+◌, ◌-◌, ◌*◌, ◌/◌, ◌%◌, ◌^◌, ◌<◌, ◌≤◌, Bool, true, false, nat_eq, List, [], ◌∷◌, ◌++◌, length, get_or, set, drop, refl, ap, sym, ◌∙◌, subst, ⊎_elim, arith, add-one}
-use Rattle.std.specs.Prelude.{filter, fold}
+use Rattle.std.specs.Prelude.{filter}
 use Rattle.std.proofs.Math.Nat.{add-div_right, add-mul-div_left, add-mul-mod_self_left, div-eq_of_lt, eq-or-lt_of_le, lt_of_mul-lt-mul_right}
 use Rattle.std.proofs.lemmas.Bool.{cases_lt, cond-true, cond-false}
 use Rattle.std.proofs.lemmas.List.{append-nil, drop_more, get_or-drop, length-set}
 use Rattle.std.proofs.lemmas.List.Elements.{filter-append}
-use Rattle.std.proofs.lemmas.Nat.{pow-add, pow_below, pow_pos, mul-add-lt}
+use Rattle.std.proofs.lemmas.Nat.{pow-add, pow_below, pow_pos}
 use Rattle.tg_model.specs.Reading.{below, big_endian, used_slots}
 
+-- the first byte stands above the number of the others, and the number of so many bytes is below that power
+abbrev pub IsAboveOthers : Type 0
+IsAboveOthers = (byte : ℕ) (bytes : List ℕ) → big_endian (byte ∷ bytes) ≡ byte * 2 ^ (8 * length bytes) + big_endian bytes
+
+abbrev pub IsBelowPower : Type 0
+IsBelowPower = (bytes : List ℕ) → ((k : ℕ) → get_or bytes k 0 < 256) → big_endian bytes < 2 ^ (8 * length bytes)
+
 -- ---- the number that bytes are
-
--- a byte read behind a number
-abbrev then_byte : ℕ → ℕ → ℕ
-then_byte number byte = number * 256 + byte
-
--- eight more bits
-pow_byte : (n : ℕ) → 2 ^ (8 * suc n) ≡ 2 ^ (8 * n) * 256
-pow_byte n = let e : 8 * suc n ≡ 8 * n + 8 = omega arith in ap (λ k. 2 ^ k) e ∙ pow-add 2 (8 * n) 8
-
-regroup : (number byte p rest : ℕ) → (number * 256 + byte) * p + rest ≡ number * (p * 256) + ((0 * 256 + byte) * p + rest)
-regroup number byte p rest = grind arith
-
--- bytes behind a number stand below it
-number_then : (number : ℕ) (bytes : List ℕ) → fold then_byte number bytes ≡ number * 2 ^ (8 * length bytes) + big_endian bytes
-number_then number [] = omega arith
-number_then number (byte ∷ bytes) =
-    let power = 2 ^ (8 * length bytes) in
-    let whole : fold then_byte (number * 256 + byte) bytes ≡ (number * 256 + byte) * power + big_endian bytes = number_then (number * 256 + byte) bytes in
-    let part : fold then_byte (0 * 256 + byte) bytes ≡ (0 * 256 + byte) * power + big_endian bytes = number_then (0 * 256 + byte) bytes in
-    whole ∙ regroup number byte power (big_endian bytes) ∙ ap (λ n. number * (power * 256) + n) (sym part)
-    ∙ ap (λ n. number * n + big_endian (byte ∷ bytes)) (sym (pow_byte (length bytes)))
-
-first_byte : (byte : ℕ) (bytes : List ℕ) → big_endian (byte ∷ bytes) ≡ byte * 2 ^ (8 * length bytes) + big_endian bytes
-first_byte byte bytes =
-    number_then (0 * 256 + byte) bytes
-    ∙ (let e : 0 * 256 + byte ≡ byte = omega arith in ap (λ n. n * 2 ^ (8 * length bytes) + big_endian bytes) e)
-
--- the number of so many bytes is below that power
-big_endian_below : (bytes : List ℕ) → ((k : ℕ) → get_or bytes k 0 < 256) → big_endian bytes < 2 ^ (8 * length bytes)
-big_endian_below [] are = omega arith
-big_endian_below (byte ∷ bytes) are =
-    let one : byte < 256 = are 0 in
-    rw (first_byte byte bytes, pow_byte (length bytes))
-    (mul-add-lt byte (2 ^ (8 * length bytes)) (big_endian bytes) 256 one (big_endian_below bytes (λ k. are (suc k))))
 
 more_there : (byte more p rest : ℕ) → (byte + more) * p + rest ≡ (byte * p + rest) + more * p
 more_there byte more p rest = grind arith
 
 -- a byte that is raised raises the number, by as much as it counts there
-pub raised : (bytes : List ℕ) (i j more : ℕ) → i + j + 1 ≡ length bytes → big_endian (set bytes i (get_or bytes i 0 + more)) ≡ big_endian bytes + more * 2 ^ (8 * j)
-raised [] i j more e = absurd (omega arith)
-raised (byte ∷ bytes) zero j more e =
+pub raised : IsAboveOthers → (bytes : List ℕ) (i j more : ℕ) → i + j + 1 ≡ length bytes → big_endian (set bytes i (get_or bytes i 0 + more)) ≡ big_endian bytes + more * 2 ^ (8 * j)
+raised first_byte [] i j more e = absurd (omega arith)
+raised first_byte (byte ∷ bytes) zero j more e =
     let count : length bytes ≡ j = omega arith in
     first_byte (byte + more) bytes ∙ more_there byte more (2 ^ (8 * length bytes)) (big_endian bytes)
     ∙ ap (λ n. n + more * 2 ^ (8 * length bytes)) (sym (first_byte byte bytes)) ∙ ap (λ k. big_endian (byte ∷ bytes) + more * 2 ^ (8 * k)) count
-raised (byte ∷ bytes) (suc i) j more e =
-    let rest = raised bytes i j more (omega arith) in
+raised first_byte (byte ∷ bytes) (suc i) j more e =
+    let rest = raised first_byte bytes i j more (omega arith) in
     let same = length-set bytes i (get_or bytes i 0 + more) in
     let high = 2 ^ (8 * length bytes) in
     let new = big_endian (set bytes i (get_or bytes i 0 + more)) in
@@ -64,14 +37,14 @@ raised (byte ∷ bytes) (suc i) j more e =
     ∙ ap (λ n. n + more * 2 ^ (8 * j)) (sym (first_byte byte bytes))
 
 -- a byte counts as much as the number has at most
-pub counts : (bytes : List ℕ) (i j : ℕ) → i + j + 1 ≡ length bytes → get_or bytes i 0 * 2 ^ (8 * j) ≤ big_endian bytes
-counts [] i j e = absurd (omega arith)
-counts (byte ∷ bytes) zero j e =
+pub counts : IsAboveOthers → (bytes : List ℕ) (i j : ℕ) → i + j + 1 ≡ length bytes → get_or bytes i 0 * 2 ^ (8 * j) ≤ big_endian bytes
+counts first_byte [] i j e = absurd (omega arith)
+counts first_byte (byte ∷ bytes) zero j e =
     let count : length bytes ≡ j = omega arith in
     let is = first_byte byte bytes ∙ ap (λ k. byte * 2 ^ (8 * k) + big_endian bytes) count in
     omega (arith, is)
-counts (byte ∷ bytes) (suc i) j e =
-    let rest = counts bytes i j (omega arith) in
+counts first_byte (byte ∷ bytes) (suc i) j e =
+    let rest = counts first_byte bytes i j (omega arith) in
     let is = first_byte byte bytes in
     omega (arith, is, rest)
 
@@ -159,28 +132,28 @@ pub slot_power : (s j r : ℕ) → s ≡ 8 * j + r → 2 ^ s ≡ 2 ^ r * 2 ^ (8 
 slot_power s j r e = let f : s ≡ r + 8 * j = omega arith in ap (λ k. 2 ^ k) f ∙ pow-add 2 r (8 * j)
 
 -- a byte whose bits from r on aren't set is below that power
-pub byte_low : (bytes : List ℕ) (i j s r : ℕ) → i + j + 1 ≡ length bytes → s ≡ 8 * j + r → big_endian bytes < 2 ^ s → get_or bytes i 0 < 2 ^ r
-byte_low bytes i j s r e at low =
-    let most = counts bytes i j e in
+pub byte_low : IsAboveOthers → (bytes : List ℕ) (i j s r : ℕ) → i + j + 1 ≡ length bytes → s ≡ 8 * j + r → big_endian bytes < 2 ^ s → get_or bytes i 0 < 2 ^ r
+byte_low first_byte bytes i j s r e at low =
+    let most = counts first_byte bytes i j e in
     let power = slot_power s j r at in
     lt_of_mul-lt-mul_right (2 ^ (8 * j)) {m = get_or bytes i 0} {n = 2 ^ r} (omega (arith, most, power, low))
 
-pub raised_number : (bytes : List ℕ) (i j s r : ℕ) → i + j + 1 ≡ length bytes → s ≡ 8 * j + r
+pub raised_number : IsAboveOthers → (bytes : List ℕ) (i j s r : ℕ) → i + j + 1 ≡ length bytes → s ≡ 8 * j + r
     → big_endian (set bytes i (get_or bytes i 0 + 2 ^ r)) ≡ big_endian bytes + 2 ^ s
-raised_number bytes i j s r e at = raised bytes i j (2 ^ r) e ∙ ap (λ n. big_endian bytes + n) (sym (slot_power s j r at))
+raised_number first_byte bytes i j s r e at = raised first_byte bytes i j (2 ^ r) e ∙ ap (λ n. big_endian bytes + n) (sym (slot_power s j r at))
 
-pub raised_used : (bytes : List ℕ) (i j s r : ℕ) → i + j + 1 ≡ length bytes → s ≡ 8 * j + r → r < 8 → big_endian bytes < 2 ^ s
+pub raised_used : IsAboveOthers → (bytes : List ℕ) (i j s r : ℕ) → i + j + 1 ≡ length bytes → s ≡ 8 * j + r → r < 8 → big_endian bytes < 2 ^ s
     → used_slots (set bytes i (get_or bytes i 0 + 2 ^ r)) ≡ used_slots bytes ++ s ∷ []
-raised_used bytes i j s r e at small low =
+raised_used first_byte bytes i j s r e at small low =
     let new = set bytes i (get_or bytes i 0 + 2 ^ r) in
     let inside : s < 8 * length bytes = omega arith in
-    ap (λ n. filter (is_set n) (below (8 * length new))) (raised_number bytes i j s r e at)
+    ap (λ n. filter (is_set n) (below (8 * length new))) (raised_number first_byte bytes i j s r e at)
     ∙ ap (λ k. filter (is_set (big_endian bytes + 2 ^ s)) (below (8 * k))) (length-set bytes i (get_or bytes i 0 + 2 ^ r))
     ∙ one_more (big_endian bytes) s (8 * length bytes) low inside
 
 -- a leading zero byte sets no bit
-pub leading_zero : (bytes : List ℕ) → ((k : ℕ) → get_or bytes k 0 < 256) → used_slots (0 ∷ bytes) ≡ used_slots bytes
-leading_zero bytes are =
+pub leading_zero : IsAboveOthers → IsBelowPower → (bytes : List ℕ) → ((k : ℕ) → get_or bytes k 0 < 256) → used_slots (0 ∷ bytes) ≡ used_slots bytes
+leading_zero first_byte big_endian_below bytes are =
     let e : big_endian (0 ∷ bytes) ≡ big_endian bytes = first_byte 0 bytes ∙ (let f : 0 * 2 ^ (8 * length bytes) + big_endian bytes ≡ big_endian bytes = omega arith in f) in
     ap (λ n. filter (is_set n) (below (8 * suc (length bytes)))) e
     ∙ no_more (is_set (big_endian bytes)) (8 * length bytes) (8 * suc (length bytes))
@@ -191,9 +164,9 @@ pub raised_fits : (b r : ℕ) → r < 8 → b < 2 ^ r → b + 2 ^ r < 256
 raised_fits b r small low = at_least (b + 2 ^ r) (r + 1) 8 (doubled b r low) (omega arith)
 
 -- one byte on, where it is zero
-pub zero_passed : (bytes : List ℕ) (i : ℕ) → i < length bytes → get_or bytes i 0 ≡ 0 → ((k : ℕ) → get_or bytes k 0 < 256)
+pub zero_passed : IsAboveOthers → IsBelowPower → (bytes : List ℕ) (i : ℕ) → i < length bytes → get_or bytes i 0 ≡ 0 → ((k : ℕ) → get_or bytes k 0 < 256)
     → used_slots (drop (i + 1) bytes) ≡ used_slots (drop i bytes)
-zero_passed bytes i lt zero_there are =
-    sym (leading_zero (drop (i + 1) bytes) (λ k. rw (get_or-drop (i + 1) bytes k 0) (are (i + 1 + k))))
+zero_passed first_byte big_endian_below bytes i lt zero_there are =
+    sym (leading_zero first_byte big_endian_below (drop (i + 1) bytes) (λ k. rw (get_or-drop (i + 1) bytes k 0) (are (i + 1 + k))))
     ∙ ap (λ b. used_slots (b ∷ drop (i + 1) bytes)) (sym zero_there)
     ∙ ap used_slots (sym (drop_more bytes i 0 lt))

@@ -21,17 +21,17 @@ overflow_add-bits c =
     let bits = c.args.bits.now in
     let s = c.args.slot in
     let at = place bits s c.told-bits c.ranges.slot.fits in
-    rw (added s) (record { fits = raised_fits (get_or bits (31 - s / 8) 0) (s % 8) (omega arith) (byte_low bits (31 - s / 8) (s / 8) s (s % 8) at (omega arith) c.requires) })
+    rw (added s) (record { fits = raised_fits (get_or bits (31 - s / 8) 0) (s % 8) (omega arith) (byte_low c.big_endians.ensures.first bits (31 - s / 8) (s / 8) s (s % 8) at (omega arith) c.requires) })
 
 pub returns-clause-used : goal.returns-clause-used
 returns-clause-used c =
     let bits = c.args.bits.now in
     let s = c.args.slot in
-    rw (added s) (raised_used bits (31 - s / 8) (s / 8) s (s % 8) (place bits s c.told-bits c.ranges.slot.fits) (omega arith) (omega arith) c.requires)
+    rw (added s) (raised_used c.big_endians.ensures.first bits (31 - s / 8) (s / 8) s (s % 8) (place bits s c.told-bits c.ranges.slot.fits) (omega arith) (omega arith) c.requires)
 
 pub returns-clause-below : goal.returns-clause-below
 returns-clause-below c =
     let bits = c.args.bits.now in
     let s = c.args.slot in
     rw (added s)
-    (rw (raised_number bits (31 - s / 8) (s / 8) s (s % 8) (place bits s c.told-bits c.ranges.slot.fits) (omega arith)) (doubled (big_endian bits) s c.requires))
+    (rw (raised_number c.big_endians.ensures.first bits (31 - s / 8) (s / 8) s (s % 8) (place bits s c.told-bits c.ranges.slot.fits) (omega arith)) (doubled (big_endian bits) s c.requires))
