@@ -3,17 +3,10 @@ use Rattle.std.proofs.Common.{sym, subst, ◌∙◌, ◌≡◌, ◌≢◌, ℕ, 
 use Rattle.std.specs.Bool.{Decides}
 use Rattle.std.specs.List.{list_all}
 use Rattle.std.specs.Prelude.{bytes_eq, ◌&&◌, ◌==◌}
-use Rattle.std.proofs.Math.Bool.{and-true}
 use Rattle.std.proofs.lemmas.Bool.Decides.{Decides-and, Decides-by_and, Decides-eqb, Decides-like, Decides-not}
 use Rattle.std.proofs.lemmas.Slice.Eq.{bytes_eq-Decides}
 use Rattle.tg_model.specs.Computed.{is_good_name}
 use Rattle.tg_model.specs.EntryNames.{IsGoodName}
-
--- a name that isn't empty, a dot or two dots is good exactly where its bytes are
-pub good_from_bytes : (name : List ℕ) → length name == 0 ≡ false → bytes_eq name (46 ∷ []) ≡ false → bytes_eq name (46 ∷ 46 ∷ []) ≡ false
-    → list_all (λ b. not (b == 47) && not (b == 0)) name ≡ is_good_name name
-good_from_bytes [] full one two = absurd cc
-good_from_bytes (b ∷ name) full one two = simp (one, two, and-true)
 
 -- no byte of a name is a slash or zero
 abbrev IsInner : ℕ → Type 0

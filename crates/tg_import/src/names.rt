@@ -4,14 +4,13 @@ ghost use Rattle.tg_files.specs.Folders.{FolderQuiet, SameTree, folder_step};
 ghost use Rattle.tg_import.specs.Imported.{AreEntryNames, AreItemsOf};
 ghost use Rattle.tg_import.specs.Refused.{entry_limit, item_names};
 ghost use Rattle.tg_import.specs.Steps.{IsListCause, IsNamesCause, StandsBefore};
-ghost use Rattle.tg_model.specs.Computed.{is_good_name};
 ghost use Rattle.tg_tree.specs.Tree.{HasFolderAt, NamesRise};
 
 use crate::fault::ImportFault;
 use std::alloc::{AllocError, Global};
 use tg_bytes::{Bytes, List};
 use tg_files::{Folder, FolderFault};
-use tg_model::Path;
+use tg_model::{Path, is_good_name};
 use tg_tree::{Item, path_of_entry, sort_by_name};
 
 /// How many bytes a name in a directory has at most.
@@ -79,16 +78,6 @@ fn stands_before(items: &[Item], i: usize) -> bool
     ensures { IsTrue result ↔ StandsBefore items.now i }
 {
     i > 0 && items[i - 1].name == items[i].name
-}
-
-/// Whether a name may be an entry's.
-fn is_good_name(name: &[u8]) -> bool
-    ensures { result ≡ is_good_name name.now }
-{
-    if name.is_empty() || name == b".".as_slice() || name == b"..".as_slice() {
-        return false;
-    }
-    name.iter().all(|b| *b != b'/' && *b != 0)
 }
 
 /// A copy of the path. The error is want of memory.
