@@ -126,22 +126,6 @@ named_link : (name : Option (List ℕ)) (b : ℕ) (rest : List ℕ) → unwrap_o
 named_link None b rest e = absurd (let f : 0 ≡ suc (length rest) = ap length e in omega arith)
 named_link (Some name) b rest e = ap (λ (n : List ℕ). Some n) e
 
-first_of : List (List ℕ) → List ℕ
-first_of [] = []
-first_of (x ∷ xs) = x
-
-rest_of : List (List ℕ) → List (List ℕ)
-rest_of [] = []
-rest_of (x ∷ xs) = xs
-
-head_is : {x y : List ℕ} {xs ys : List (List ℕ)} → x ∷ xs ≡ y ∷ ys → x ≡ y
-unfolding first_of
-head_is e = ap first_of e
-
-tail_is : {x y : List ℕ} {xs ys : List (List ℕ)} → x ∷ xs ≡ y ∷ ys → xs ≡ ys
-unfolding rest_of
-tail_is e = ap rest_of e
-
 All-unappend : {X : Type 0} → (P : X → Type 0) (xs ys : List X) → All P (xs ++ ys) → All P xs × All P ys
 All-unappend P [] ys h = (All-nil P, h)
 All-unappend P (x ∷ xs) ys h =
@@ -263,13 +247,15 @@ module _ (es : List NewEntry) (dags : ℕ → Dag) (above : List ℕ) where
   all_read [] (link ∷ links) h e = absurd (let f : suc (length (map name_of links)) ≡ 0 = ap length e in omega arith)
   all_read (m ∷ ms) [] h e = absurd (let f : 0 ≡ suc (length (map link_name (slots_in ms))) = ap length e in omega arith)
   all_read (m ∷ ms) (link ∷ links) h e =
-      let g = All-head Good m ms h in (
+      let g = All-head Good m ms h in
+      let head : name_of link ≡ link_name m.slot = cc e in
+      let tail : map name_of links ≡ map link_name (slots_in ms) = cc e in (
         record {
           suffix = unwrap_or m.slot.name [];
-          begins = named_link link.name _ _ (head_is e);
+          begins = named_link link.name _ _ head;
           name_is = g.name_is;
           number_is = refl;
           cid_is = refl;
         },
-        all_read ms links (All-tail Good m ms h) (tail_is e),
+        all_read ms links (All-tail Good m ms h) tail,
       )

@@ -87,6 +87,23 @@ pub record IsStep (es : List NewEntry) (order : List Hashed) (level start end nu
   pub run : IsRun order start end level
   pub number_is : (d : Hashed) → number ≡ slot_in (get_or order start d) level
 
+-- what it knows, by the run at hand and the slot of its first entry
+pub step_at : (es : List NewEntry) (order : List Hashed) (level start end number : ℕ) → HashesFit → ((name : List ℕ) (level : ℕ) → level < 8 → slot_of name level < 256)
+    → All IsGoodEntry es → IsOrder es order → (above : List ℕ) × (length above ≡ level) × IsPassed above order → level < 8 → IsRun order start end level → start < length order
+    → (d : Hashed) → number ≡ slot_in (get_or order start d) level → IsStep es order level start end number
+step_at es order level start end number fits slots_fit good is_order passed low run inside d is = record {
+  fits = fits;
+  slots_fit = slots_fit;
+  good = good;
+  is_order = is_order;
+  above = passed.0;
+  deep = passed.1;
+  passed = passed.2;
+  low = low;
+  run = run;
+  number_is = λ e. is ∙ ap (λ (x : Hashed). slot_in x level) (get_or_default order start d e inside);
+}
+
 -- one slot more is so far made
 so_far_more : (es : List NewEntry) (dags : ℕ → Dag) (above : List ℕ) (order : List Hashed) (start end : ℕ) (links : List NewEntry) (bits : List ℕ) (sections : List Section)
     → (m : MadeSlot) (new_links : List NewEntry) (new_bits : List ℕ) → IsSoFar es dags above order start links bits sections → IsMadeSlot es dags above m

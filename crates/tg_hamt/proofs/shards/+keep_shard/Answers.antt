@@ -1,12 +1,10 @@
-use Rattle.std.proofs.Common.{◌≡◌, ◌≢◌, Result, Ok, Err, ℕ, List, [], ◌-◌, ◌^◌, ◌<◌, ◌≤◌, length, ap, sym, ◌∙◌, subst, arith}
+use Rattle.std.proofs.Common.{◌≡◌, ◌≢◌, ℕ, List, [], ◌-◌, ◌^◌, ◌<◌, ◌≤◌, length, ap, sym, subst, arith}
 use Rattle.std.proofs.lemmas.List.{get_or_default}
-use Rattle.std.proofs.lemmas.Result.{err_from_is_err_and}
-use Rattle.std.specs.Prelude.{IfErr, IfOk, OnErr}
+use Rattle.std.proofs.lemmas.Result.{IfErr-weaker, IfOk-weaker, err_from_is_err_and, on_err_weaker}
 use Rattle.tg_hamt.proofs.Finished.{NodeLaws, finished, finished_light, room_left}
 use Rattle.tg_writing.specs.KeepingSteps.{same_stops}
-use Rattle.tg_hamt.proofs.Making.{IsStep, child_few, child_level, child_next, child_order, child_passed, child_tsizes, entry_next, making_none, stops_behind_child, stops_child, stops_here}
+use Rattle.tg_hamt.proofs.Making.{child_few, child_level, child_next, child_order, child_passed, child_tsizes, entry_next, making_none, step_at, stops_behind_child, stops_child, stops_here}
 use Rattle.tg_hamt.proofs.shards.+keep_shard.Goals as goal
-use Rattle.tg_hamt.specs.Order.{slot_in}
 use Rattle.tg_hamt.specs.declared.order.Hashed.{Hashed}
 use Rattle.tg_model.specs.Reading.{big_endian}
 use Rattle.tg_model.specs.Stores.{kept_in}
@@ -24,19 +22,6 @@ two_or_more start end begins other = omega arith
 -- fewer entries are left behind a run
 fewer_left : (len start end : ℕ) → start < end → start < len → len - end < len - start
 fewer_left len start end begins inside = omega arith
-
--- what follows of an answer
-ok_then : {T E : Type 0} {P Q : T → Type 0} → (r : Result T E) → ((x : T) → P x → Q x) → IfOk r P → IfOk r Q
-ok_then (Ok x) f h = f x h
-ok_then (Err e) f h = tt
-
-err_then : {T E : Type 0} {P Q : E → Type 0} → (r : Result T E) → ((e : E) → P e → Q e) → IfErr r P → IfErr r Q
-err_then (Ok x) f h = tt
-err_then (Err e) f h = f e h
-
-on_err_then : {T E P Q : Type 0} → (r : Result T E) → (P → Q) → OnErr r P → OnErr r Q
-on_err_then (Ok x) f h = tt
-on_err_then (Err e) f h = f h
 
 pub loop-start-init : goal.loop-start-init
 loop-start-init g t c =
@@ -79,18 +64,8 @@ returns-in_err-add_entry-clause-err_counted g t c =
 
 pub keep_shard-requires : goal.keep_shard-requires
 keep_shard-requires g t c = λ κs sub.
-    let s : IsStep c.args.entries.now c.args.order.now c.args.level c.loop-start.start c.run_end-end.result c.slot-number.result = record {
-      fits = c.slots_are_bytes.ensures.hash;
-      slots_fit = c.slots_are_bytes.ensures.slot;
-      good = c.requires.good;
-      is_order = c.requires.order;
-      above = c.requires.passed.0;
-      deep = c.requires.passed.1;
-      passed = c.requires.passed.2;
-      low = c.requires.level;
-      run = c.run_end-end.ensures;
-      number_is = λ d. c.slot-number.ensures ∙ ap (λ (x : Hashed). slot_in x c.args.level) (get_or_default c.args.order.now c.loop-start.start _ d c.loop-start-test.true);
-    } in
+    let s = step_at c.args.entries.now c.args.order.now c.args.level c.loop-start.start c.run_end-end.result c.slot-number.result c.slots_are_bytes.ensures.hash c.slots_are_bytes.ensures.slot
+    c.requires.good c.requires.order c.requires.passed c.requires.level c.run_end-end.ensures c.loop-start-test.true _ c.slot-number.ensures in
     let many : 2 ≤ c.run_end-end.result - c.loop-start.start = two_or_more c.loop-start.start c.run_end-end.result c.run_end-end.ensures.begins c.if-end-start-eq1.false in (
       omega (arith, c.decreases, c.requires.level),
       (
@@ -117,18 +92,8 @@ keep_shard-requires g t c = λ κs sub.
 pub returns-in_err-child-clause-stops : goal.returns-in_err-child-clause-stops
 returns-in_err-child-clause-stops g t c =
     let p = err_from_is_err_and c.from_residual-in_err-child.result c.from_residual-in_err-child.ensures.1 in
-    let s : IsStep c.args.entries.now c.args.order.now c.args.level c.loop-start.start c.run_end-end.result c.slot-number.result = record {
-      fits = c.slots_are_bytes.ensures.hash;
-      slots_fit = c.slots_are_bytes.ensures.slot;
-      good = c.requires.good;
-      is_order = c.requires.order;
-      above = c.requires.passed.0;
-      deep = c.requires.passed.1;
-      passed = c.requires.passed.2;
-      low = c.requires.level;
-      run = c.run_end-end.ensures;
-      number_is = λ d. c.slot-number.ensures ∙ ap (λ (x : Hashed). slot_in x c.args.level) (get_or_default c.args.order.now c.loop-start.start _ d c.loop-start-test.true);
-    } in
+    let s = step_at c.args.entries.now c.args.order.now c.args.level c.loop-start.start c.run_end-end.result c.slot-number.result c.slots_are_bytes.ensures.hash c.slots_are_bytes.ensures.slot
+    c.requires.good c.requires.order c.requires.passed c.requires.level c.run_end-end.ensures c.loop-start-test.true _ c.slot-number.ensures in
     rw (p.1, p.2)
     (stops_child g.K.Keep.keeper g.met.K.Keep.joins c.kept_sections.ensures.joins c.args.keep.now c.loop-start.keep c.keep_shard.new.keep c.args.entries.now c.args.order.now c.args.level
     c.loop-start.start c.run_end-end.result c.slot-number.result c.loop-start.shard.links.items c.loop-start.shard.bits c.in_err-child.field-0.0 c.loop-start.invariant s
@@ -143,18 +108,8 @@ returns-in_err-child-clause-err_counted g t c =
 pub returns-in_err-add_child-clause-stops : goal.returns-in_err-add_child-clause-stops
 returns-in_err-add_child-clause-stops g t c =
     let p = err_from_is_err_and c.from_residual-in_err-add_child.result c.from_residual-in_err-add_child.ensures.1 in
-    let s : IsStep c.args.entries.now c.args.order.now c.args.level c.loop-start.start c.run_end-end.result c.slot-number.result = record {
-      fits = c.slots_are_bytes.ensures.hash;
-      slots_fit = c.slots_are_bytes.ensures.slot;
-      good = c.requires.good;
-      is_order = c.requires.order;
-      above = c.requires.passed.0;
-      deep = c.requires.passed.1;
-      passed = c.requires.passed.2;
-      low = c.requires.level;
-      run = c.run_end-end.ensures;
-      number_is = λ d. c.slot-number.ensures ∙ ap (λ (x : Hashed). slot_in x c.args.level) (get_or_default c.args.order.now c.loop-start.start _ d c.loop-start-test.true);
-    } in
+    let s = step_at c.args.entries.now c.args.order.now c.args.level c.loop-start.start c.run_end-end.result c.slot-number.result c.slots_are_bytes.ensures.hash c.slots_are_bytes.ensures.slot
+    c.requires.good c.requires.order c.requires.passed c.requires.level c.run_end-end.ensures c.loop-start-test.true _ c.slot-number.ensures in
     rw (p.1, p.2)
     (stops_behind_child g.K.Keep.keeper g.met.K.Keep.rests g.met.K.Keep.joins c.kept_sections.ensures.joins c.args.keep.now c.loop-start.keep c.keep_shard.new.keep c.args.entries.now
     c.args.order.now c.args.level c.loop-start.start c.run_end-end.result c.slot-number.result c.loop-start.shard.links.items c.loop-start.shard.bits c.in_ok-child.child
@@ -169,18 +124,8 @@ returns-in_err-add_child-clause-err_counted g t c =
 
 pub loop-start-preserved-in_ok-add_entry : goal.loop-start-preserved-in_ok-add_entry
 loop-start-preserved-in_ok-add_entry g t c =
-    let s : IsStep c.args.entries.now c.args.order.now c.args.level c.loop-start.start c.run_end-end.result c.slot-number.result = record {
-      fits = c.slots_are_bytes.ensures.hash;
-      slots_fit = c.slots_are_bytes.ensures.slot;
-      good = c.requires.good;
-      is_order = c.requires.order;
-      above = c.requires.passed.0;
-      deep = c.requires.passed.1;
-      passed = c.requires.passed.2;
-      low = c.requires.level;
-      run = c.run_end-end.ensures;
-      number_is = λ d. c.slot-number.ensures ∙ ap (λ (x : Hashed). slot_in x c.args.level) (get_or_default c.args.order.now c.loop-start.start _ d c.loop-start-test.true);
-    } in
+    let s = step_at c.args.entries.now c.args.order.now c.args.level c.loop-start.start c.run_end-end.result c.slot-number.result c.slots_are_bytes.ensures.hash c.slots_are_bytes.ensures.slot
+    c.requires.good c.requires.order c.requires.passed c.requires.level c.run_end-end.ensures c.loop-start-test.true _ c.slot-number.ensures in
     entry_next g.K.Keep.keeper c.args.keep.now c.loop-start.keep c.args.entries.now c.args.order.now c.args.level c.loop-start.start c.run_end-end.result c.slot-number.result
     _ c.loop-start.shard.links.items c.add_entry.new.shard.links.items c.loop-start.shard.bits c.add_entry.new.shard.bits c.index-entries-order.result
     c.loop-start.invariant s c.if-end-start-eq1.true
@@ -189,18 +134,8 @@ loop-start-preserved-in_ok-add_entry g t c =
 
 pub loop-start-preserved : goal.loop-start-preserved
 loop-start-preserved g t c =
-    let s : IsStep c.args.entries.now c.args.order.now c.args.level c.loop-start.start c.run_end-end.result c.slot-number.result = record {
-      fits = c.slots_are_bytes.ensures.hash;
-      slots_fit = c.slots_are_bytes.ensures.slot;
-      good = c.requires.good;
-      is_order = c.requires.order;
-      above = c.requires.passed.0;
-      deep = c.requires.passed.1;
-      passed = c.requires.passed.2;
-      low = c.requires.level;
-      run = c.run_end-end.ensures;
-      number_is = λ d. c.slot-number.ensures ∙ ap (λ (x : Hashed). slot_in x c.args.level) (get_or_default c.args.order.now c.loop-start.start _ d c.loop-start-test.true);
-    } in
+    let s = step_at c.args.entries.now c.args.order.now c.args.level c.loop-start.start c.run_end-end.result c.slot-number.result c.slots_are_bytes.ensures.hash c.slots_are_bytes.ensures.slot
+    c.requires.good c.requires.order c.requires.passed c.requires.level c.run_end-end.ensures c.loop-start-test.true _ c.slot-number.ensures in
     let many : 2 ≤ c.run_end-end.result - c.loop-start.start = two_or_more c.loop-start.start c.run_end-end.result c.run_end-end.ensures.begins c.if-end-start-eq1.false in
     child_next g.K.Keep.keeper g.met.K.Keep.joins c.kept_sections.ensures.joins c.args.keep.now c.loop-start.keep c.keep_shard.new.keep c.args.entries.now c.args.order.now c.args.level
     c.loop-start.start c.run_end-end.result c.slot-number.result c.loop-start.shard.links.items c.add_child.new.shard.links.items c.loop-start.shard.bits c.add_child.new.shard.bits
@@ -216,22 +151,22 @@ loop-start-smaller-in_ok-add_entry g t c = fewer_left (length c.args.order.now) 
 pub returns-clause-made : goal.returns-clause-made
 returns-clause-made g t c =
     let laws : NodeLaws = record { written = c.written_nodes.ensures.written; unix_node = c.written_nodes.ensures.unix_node } in
-    ok_then c.keep_links.result
+    IfOk-weaker c.keep_links.result _ _
     (λ made h. finished g.K.Keep.keeper g.met.K.Keep.joins c.kept_sections.ensures.joins laws c.placed_shards.ensures c.args.keep.now c.loop-start.keep c.keep_links.new.keep c.args.entries.now
     c.args.order.now c.args.level c.loop-start.start c.loop-start.shard.links.items c.loop-start.shard.bits made c.loop-start.invariant c.requires.order.each c.loop-start-test.false c.requires.level h) c.keep_links.ensures.made
 
 pub returns-clause-light : goal.returns-clause-light
 returns-clause-light g t c =
-    ok_then c.keep_links.result
+    IfOk-weaker c.keep_links.result _ _
     (λ made h. finished_light g.K.Keep.keeper c.args.keep.now c.loop-start.keep c.keep_links.new.keep c.args.entries.now c.args.order.now c.args.level c.loop-start.start
     c.loop-start.shard.links.items c.loop-start.shard.bits made c.loop-start.invariant c.loop-start-test.false h) c.keep_links.ensures.made
 
 pub returns-clause-stops : goal.returns-clause-stops
 returns-clause-stops g t c =
-    err_then c.keep_links.result
+    IfErr-weaker c.keep_links.result _ _
     (λ fault h. stops_here g.K.Keep.keeper g.met.K.Keep.joins c.kept_sections.ensures.joins c.args.keep.now c.loop-start.keep c.keep_links.new.keep c.args.entries.now c.args.order.now c.args.level
     c.loop-start.start c.loop-start.shard.links.items c.loop-start.shard.bits fault c.loop-start.invariant h) c.keep_links.ensures.stops
 
 pub returns-clause-err_counted : goal.returns-clause-err_counted
 returns-clause-err_counted g t c =
-    on_err_then c.keep_links.result (λ h. subst (λ (n : ℕ). n ≤ g.K.Keep.keeper.faults c.keep_links.new.keep) c.loop-start.invariant.keeps.quiet h) c.keep_links.ensures.err_counted
+    on_err_weaker c.keep_links.result (λ h. subst (λ (n : ℕ). n ≤ g.K.Keep.keeper.faults c.keep_links.new.keep) c.loop-start.invariant.keeps.quiet h) c.keep_links.ensures.err_counted
