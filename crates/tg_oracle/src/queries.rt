@@ -1,11 +1,11 @@
 //! Queries that are made of parts which may be wrong.
-ghost use Rattle.std.specs.Prelude.{◌^◌, ◌<◌, ◌≤◌, length, All, IfOk, IfSome, IsTrue};
+ghost use Rattle.std.specs.Prelude.{◌^◌, ◌<◌, ◌≤◌, length, All, IfOk, IfSome};
 ghost use Rattle.tg_model.specs.EntryNames.{IsGoodName};
 
 use std::alloc::{AllocError, Global};
 use tg_bytes::{Bytes, List};
 use tg_cid::Cid;
-use tg_model::{Path, Query, Scope, Span, SpanFrom};
+use tg_model::{Path, Query, Scope, Span, SpanFrom, is_good_name};
 use thiserror::Error;
 
 /// Why no query is made.
@@ -109,14 +109,4 @@ fn good_name(alloc: Global, name: &[u8]) -> Result<Bytes, QueryFault>
         return Err(QueryFault::BadPath);
     }
     Ok(Bytes::of(alloc, name)?)
-}
-
-/// Whether a name may be an entry's.
-fn is_good_name(name: &[u8]) -> bool
-    ensures { IsTrue result → IsGoodName name.now }
-{
-    match name {
-        b"" | b"." | b".." => false,
-        _ => name.iter().all(|b| *b != b'/' && *b != 0),
-    }
 }
