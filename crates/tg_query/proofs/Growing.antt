@@ -32,6 +32,3 @@ two_put old a b x y p q = q ∙ grow a old x y p
 
 pub three_put : (old a b c x y z : List ℕ) → a ≡ old ++ x → b ≡ a ++ y → c ≡ b ++ z → c ≡ old ++ (x ++ (y ++ z))
 three_put old a b c x y z p q r = r ∙ grow b a y z q ∙ grow a old x (y ++ z) p
-
-pub only_put : (new old bytes : List ℕ) → new ≡ old ++ bytes → old ≡ [] → new ≡ bytes
-only_put new old bytes p q = p ∙ ap (λ (l : List ℕ). l ++ bytes) q

@@ -1,7 +1,6 @@
 mod Roads
 mod Firsts
 mod Pieces
-mod Escapes
 mod RootTexts
 mod Growing
 mod GoodTargets

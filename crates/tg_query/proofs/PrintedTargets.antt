@@ -1,9 +1,9 @@
 -- The target of a printed request is read as the query's root, path, format, scope and range.
-use Rattle.std.proofs.Common.{◌≡◌, ◌≢◌, ℕ, zero, suc, ◌+◌, ◌^◌, ◌<◌, ◌≤◌, Bool, true, false, All, List, [], ◌∷◌, ◌++◌, Option, Some, None, Result, Ok, Err, cond, length, map, not, refl, sym, ap, ap₂, subst, ◌∙◌, arith, append_assoc}
-use Rattle.percent_encoding.specs.AsciiSet.{contains}
-use Rattle.percent_encoding.specs.Percent.{percent_decode, percent_encode}
-use Rattle.percent_encoding.proofs.PercentLemmas.{percent_decode-nil, percent_decode_not_percent, percent_encode_nonempty, round_trip}
+use Rattle.std.proofs.Common.{◌≡◌, ◌≢◌, ℕ, zero, suc, ◌+◌, ◌/◌, ◌%◌, ◌^◌, ◌<◌, ◌≤◌, Bool, true, false, All, List, [], ◌∷◌, ◌++◌, Option, Some, None, Result, Ok, Err, cond, length, map, not, refl, sym, ap, ap₂, subst, ◌∙◌, arith, append_assoc}
+use Rattle.percent_encoding.specs.Percent.{percent_decode, percent_encode_byte}
+use Rattle.percent_encoding.proofs.PercentLemmas.{percent_decode-nil, percent_decode-percent_encode_byte, percent_decode_not_percent}
 use Rattle.std.specs.Char.{digit_value}
+use Rattle.std.specs.Fmt.{digit_glyph}
 use Rattle.std.specs.List.{filter, onto_first, slice_split}
 use Rattle.std.specs.Prelude.{IfSome, codes, decimal, ◌==◌, ◌↔◌}
 use Rattle.std.specs.Str.Parse.{AllDigits}
@@ -18,7 +18,7 @@ use Rattle.tg_cid.specs.Computed.{cid_text}
 use Rattle.tg_cid.specs.Spelling.{CidText}
 use Rattle.tg_model.specs.EntryNames.{IsGoodName}
 use Rattle.tg_model.specs.Queries.{IsFrom, IsSpan, IsUpTo, SpanParts}
-use Rattle.tg_model.specs.Texts.{escaped}
+use Rattle.tg_model.specs.Texts.{escaped, escaped_byte, is_unreserved}
 use Rattle.tg_model.specs.declared.queries.Form.{Form}
 use Rattle.tg_model.specs.declared.queries.Form.TheVariants as forms
 use Rattle.tg_model.specs.declared.queries.Scope.{Scope}
@@ -33,9 +33,7 @@ use Rattle.tg_path.specs.WordTexts.{RootedText, rooted_of}
 use Rattle.tg_path.specs.declared.fault.QueryFault.{QueryFault}
 use Rattle.tg_query.specs.Requests.{from_text, params_text, path_text, span_param, span_text, to_text}
 use Rattle.tg_query.specs.Targets.{asked_of, nothing, scope_word, with_piece, with_pieces, with_span}
-use Rattle.tg_query.specs.declared.requests.TheConstants.{ESCAPED}
 use Rattle.tg_query.specs.declared.targets.Asked.{Asked}
-use Rattle.tg_query.proofs.Escapes.{escapes}
 use Rattle.tg_query.proofs.Visible.{Plain, Visible, all_from, decimal_plain, escaped_plain, is_plain, is_visible, letters_plain, plain_is_visible, plain_without}
 
 abbrev pub AreBytes : List ℕ → Type 0
@@ -43,14 +41,31 @@ AreBytes bytes = All (λ (b : ℕ). b < 256) bytes
 
 -- ---- paths
 
-set_has_percent : contains ESCAPED 37 ≡ true
-set_has_percent = refl
+not_percent : (b : ℕ) → is_unreserved b ≡ true → b ≢ 37
+not_percent b own e = let same : is_unreserved 37 ≡ true = subst (λ (n : ℕ). is_unreserved n ≡ true) e own in absurd cc
+
+-- what a byte is escaped as is decoded as the byte
+byte_again : (b : ℕ) (rest : List ℕ) → b < 256 → percent_decode (escaped_byte b ++ rest) ≡ b ∷ percent_decode rest
+unfolding percent_encode_byte
+byte_again b rest h =
+    cond_both (is_unreserved b) (b ∷ []) (37 ∷ digit_glyph true (b / 16) ∷ digit_glyph true (b % 16) ∷ [])
+    (λ (l : List ℕ). percent_decode (l ++ rest) ≡ b ∷ percent_decode rest)
+    (λ own. percent_decode_not_percent b rest (not_percent b own))
+    (λ other.
+    let same : b / 16 ≡ b / 16 % 16 = omega (arith, h) in
+    ap (λ (n : ℕ). percent_decode (37 ∷ digit_glyph true n ∷ digit_glyph true (b % 16) ∷ rest)) same ∙ percent_decode-percent_encode_byte b rest h)
 
 decoded_again : (name : List ℕ) → AreBytes name → percent_decode (escaped name) ≡ name
-decoded_again name are = ap percent_decode (sym (escapes name are)) ∙ round_trip ESCAPED name set_has_percent are
+decoded_again [] are = percent_decode-nil
+decoded_again (b ∷ name) are =
+    byte_again b (escaped name) (All-head (λ (b : ℕ). b < 256) b name are)
+    ∙ ap (λ (l : List ℕ). b ∷ l) (decoded_again name (All-tail (λ (b : ℕ). b < 256) b name are))
 
-escaped_some : (name : List ℕ) → AreBytes name → 0 < length name → 0 < length (escaped name)
-escaped_some name are some = subst (λ (l : List ℕ). 0 < length l) (escapes name are) (percent_encode_nonempty ESCAPED name some)
+escaped_some : (name : List ℕ) → 0 < length name → 0 < length (escaped name)
+escaped_some [] some = absurd (omega arith)
+escaped_some (b ∷ name) some =
+    cond_both (is_unreserved b) (b ∷ []) (37 ∷ digit_glyph true (b / 16) ∷ digit_glyph true (b % 16) ∷ [])
+    (λ (l : List ℕ). 0 < length (l ++ escaped name)) (λ own. omega arith) (λ other. omega arith)
 
 -- the segments behind the first slash
 abbrev pub rest_of : List (List ℕ) → Option (List ℕ)
@@ -86,7 +101,7 @@ full_true part some = ap not (ne_eqb (length part) 0 (λ e. omega (arith, some, 
 full_names : (names : List (List ℕ)) → NamesOfBytes names → All IsGoodName names → filter is_full (map escaped names) ≡ map escaped names
 full_names [] are good = refl
 full_names (name ∷ names) are good =
-    let own = escaped_some name (All-head (λ (name : List ℕ). AreBytes name) name names are) (All-head IsGoodName name names good).not_empty in
+    let own = escaped_some name (All-head IsGoodName name names good).not_empty in
     cond-true (is_full (escaped name)) (escaped name ∷ filter is_full (map escaped names)) (filter is_full (map escaped names)) (full_true (escaped name) own)
     ∙ ap (λ (l : List (List ℕ)). escaped name ∷ l)
     (full_names names (All-tail (λ (name : List ℕ). AreBytes name) name names are) (All-tail IsGoodName name names good))

@@ -1,23 +1,17 @@
 -- Bytes of printed requests: visible ones, and those that are none of the marks that cut a target.
-use Rattle.std.proofs.Common.{◌≡◌, ◌≢◌, ◌⊎◌, ℕ, zero, suc, ◌+◌, ◌^◌, ◌<◌, ◌≤◌, Bool, true, false, All, List, [], ◌∷◌, ◌++◌, get_or, length, refl, sym, ap, subst, ◌∙◌, inl, inr, arith, zero-add}
+use Rattle.std.proofs.Common.{◌≡◌, ◌≢◌, ◌⊎◌, ℕ, zero, suc, ◌+◌, ◌^◌, ◌<◌, ◌≤◌, Bool, true, false, All, List, [], ◌∷◌, ◌++◌, get_or, length, refl, sym, subst, ◌∙◌, inl, inr, arith, zero-add}
 use Rattle.std.specs.Char.{digit_value}
 use Rattle.std.specs.List.{flat_map, list_all, range_with_len}
 use Rattle.std.specs.Prelude.{codes, decimal, nat_le, nat_lt, not, ◌&&◌, ◌||◌, ◌==◌}
 use Rattle.std.specs.Str.Parse.{AllDigits}
 use Rattle.httparse.specs.Grammar.{is_uri_byte, is_value_byte}
-use Rattle.percent_encoding.specs.AsciiSet.{should_percent_encode}
-use Rattle.percent_encoding.specs.Percent.{percent_encode}
-use Rattle.percent_encoding.proofs.AsciiSetLemmas.{ascii_from_kept}
-use Rattle.percent_encoding.proofs.PercentLemmas.{All-percent_encode, IsEscapeByte}
 use Rattle.std.proofs.lemmas.Bool.Decides.{nat_tests}
 use Rattle.std.proofs.lemmas.Bool.{and_from, and_parts, le-leb, leb-true, lt-ltb, ltb-true}
 use Rattle.std.proofs.lemmas.Fmt.{decimal_is_IsNumeral}
-use Rattle.std.proofs.lemmas.List.Elements.{All-append, All-cons, All-nil, All-weaker}
+use Rattle.std.proofs.lemmas.List.Elements.{All-append, All-cons, All-head, All-nil, All-tail, All-weaker}
 use Rattle.std.proofs.lemmas.List.FromFn.{get_or-range_with_len, length-range_with_len}
 use Rattle.tg_base32.specs.Base32.{IsLetter}
-use Rattle.tg_model.specs.Texts.{escaped}
-use Rattle.tg_query.specs.declared.requests.TheConstants.{ESCAPED}
-use Rattle.tg_query.proofs.Escapes.{escapes}
+use Rattle.tg_model.specs.Texts.{escaped, escaped_byte}
 
 -- ---- tests over all bytes of ASCII
 
@@ -34,10 +28,6 @@ by_table test size t b h =
 implied : (x y : Bool) → (not x || y) ≡ true → x ≡ true → y ≡ true
 implied true y e h = e
 implied false y e h = absurd cc
-
-either : (x y : Bool) → (x || y) ≡ true → x ≡ false → y ≡ true
-either true y e h = absurd cc
-either false y e h = e
 
 -- ---- the classes
 
@@ -105,23 +95,14 @@ letter_plain b (inr h) = between 50 55 b refl h.0 h.1 (omega arith)
 pub letters_plain : (text : List ℕ) → All IsLetter text → Plain text
 letters_plain text = All-weaker IsLetter (λ (b : ℕ). is_plain b ≡ true) letter_plain text
 
-escape_plain : (b : ℕ) → IsEscapeByte b → is_plain b ≡ true
-escape_plain b (inl e) = ap is_plain e
-escape_plain b (inr (inl h)) = between 48 57 b refl h.0 h.1 (omega arith)
-escape_plain b (inr (inr h)) = between 65 70 b refl h.0 h.1 (omega arith)
-
-kept_table : list_all (λ b. should_percent_encode ESCAPED b || is_plain b) (range_with_len 0 128) ≡ true
-unfolding should_percent_encode
-kept_table = refl
-
-kept_plain : (b : ℕ) → should_percent_encode ESCAPED b ≡ false → is_plain b ≡ true
-kept_plain b kept =
-    either (should_percent_encode ESCAPED b) (is_plain b)
-    (by_table (λ b. should_percent_encode ESCAPED b || is_plain b) 128 kept_table b (ascii_from_kept ESCAPED b kept)) kept
+escaped_byte_plain : (b : ℕ) → b < 256 → Plain (escaped_byte b)
+escaped_byte_plain b h = all_from is_plain (escaped_byte b) (by_table (λ b. list_all is_plain (escaped_byte b)) 256 refl b h)
 
 pub escaped_plain : (name : List ℕ) → All (λ (b : ℕ). b < 256) name → Plain (escaped name)
-escaped_plain name are =
-    subst Plain (escapes name are) (All-percent_encode (λ (b : ℕ). is_plain b ≡ true) ESCAPED name kept_plain escape_plain)
+escaped_plain [] are = All-nil (λ (b : ℕ). is_plain b ≡ true)
+escaped_plain (b ∷ name) are =
+    All-append (λ (b : ℕ). is_plain b ≡ true) (escaped_byte b) (escaped name) (escaped_byte_plain b (All-head (λ (b : ℕ). b < 256) b name are))
+    (escaped_plain name (All-tail (λ (b : ℕ). b < 256) b name are))
 
 -- a digit
 abbrev digit_test : ℕ → Bool

@@ -10,6 +10,6 @@ mod targets;
 pub use accepts::{Accepted, CarChoice, parse_accept};
 pub use joins::join;
 pub use laws::{printed_requests, targets_read};
-pub use requests::{ESCAPED, print_request};
+pub use requests::print_request;
 pub use targets::{Target, parse_target};
 pub use tg_path::{QueryFault, parse_span, parse_word};

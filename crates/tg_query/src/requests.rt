@@ -2,26 +2,15 @@
 ghost use Rattle.std.specs.Prelude.{◌≡◌, ◌++◌, ◌∷◌, IfOk, OnOk, decimal};
 ghost use Rattle.tg_cid.specs.Computed.{cid_text};
 ghost use Rattle.tg_model.specs.Queries.{IsSpan};
-ghost use Rattle.tg_model.specs.Texts.{escaped};
 ghost use Rattle.tg_query.specs.Requests.{IsAddr, accept_text, car_params, car_with_dups, dups_word, from_text, params_text, path_text, request_text, span_param, span_text, target_text, to_text};
 ghost use Rattle.tg_query.specs.Targets.{scope_word};
 
 use itoa::Buffer;
-use percent_encoding::{AsciiSet, NON_ALPHANUMERIC, ascii_set, percent_encode};
 use std::alloc::{AllocError, Global};
 use tg_bytes::Bytes;
 use tg_cid::{Cid, computes, one_spelling};
+use tg_escape::push_escaped;
 use tg_model::{Form, Query, Scope, Span, SpanFrom};
-
-/// The bytes of ASCII that are escaped: all but the unreserved characters of RFC 3986, section 2.3. Bytes outside of ASCII
-/// are escaped besides.
-pub const ESCAPED: AsciiSet = ascii_set!(
-    NON_ALPHANUMERIC
-        .remove(b'-')
-        .remove(b'.')
-        .remove(b'_')
-        .remove(b'~')
-);
 
 /// The request for a query to a gateway at `addr`, which has the form HOST:PORT. The root stands as a CIDv1. The error is
 /// want of memory.
@@ -71,18 +60,8 @@ fn push_path(text: &mut Bytes, alloc: Global, path: &[Bytes]) -> Result<(), Allo
 {
     for name in path {
         text.push_all(b"/")?;
-        push_name(text, alloc, name.as_slice())?;
+        push_escaped(text, alloc, name.as_slice())?;
     }
-    Ok(())
-}
-
-/// Adds an escaped name.
-fn push_name(text: &mut Bytes, alloc: Global, name: &[u8]) -> Result<(), AllocError>
-    ensures { OnOk result (text.new ≡ text.old ++ escaped name.now) }
-{
-    let mut shown = String::new(alloc);
-    percent_encode(name, ESCAPED).append_to(&mut shown)?;
-    text.push_all(shown.as_bytes())?;
     Ok(())
 }
 
