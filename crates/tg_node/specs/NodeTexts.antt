@@ -1,7 +1,6 @@
 -- What `node` writes of a block, and why there is nothing to write.
 use Rattle.std.specs.Prelude.{◌≡◌, ℕ, List, [], ◌∷◌, ◌++◌, length, codes, decimal, Option, Some, None, Result, Err, IfOk, IfErr, MatchResult, ◌⊎◌, Contains, All, ⊤}
 use Rattle.std.specs.List.{flat_map}
-use Rattle.percent_encoding.specs.Percent.{percent_encode}
 use Rattle.tg_cid.specs.Cid.{CidParts}
 use Rattle.tg_cid.specs.Spelling.{CidBytes, CidText}
 use Rattle.tg_cid.specs.declared.cid.Codec.{Codec}
@@ -17,7 +16,7 @@ use Rattle.tg_unixfs.specs.declared.UnixFault.{UnixFault}
 use Rattle.tg_unixfs.specs.declared.UnixFault.TheVariants as unixfs
 use Rattle.tg_unixfs.specs.Unix.{UnixText}
 use Rattle.tg_unixfs.specs.Faults.{HasUnixCause}
-use Rattle.tg_node.specs.declared.text.TheConstants.{ESCAPED}
+use Rattle.tg_model.specs.Texts.{escaped}
 use Rattle.tg_node.specs.declared.fault.NodeFault.{NodeFault}
 use Rattle.tg_node.specs.declared.fault.NodeFault.TheVariants.{BadNode, BadLink, BadUnix}
 use Rattle.tg_node.specs.declared.fault.TextFault.{TextFault}
@@ -30,7 +29,7 @@ number_text (Some number) = decimal number
 
 abbrev pub name_text : Option (List ℕ) → List ℕ
 name_text None = codes "-"
-name_text (Some name) = codes "=" ++ percent_encode ESCAPED name
+name_text (Some name) = codes "=" ++ escaped name
 
 -- words and the number behind them; and a line of them
 abbrev pub labelled : List ℕ → Option ℕ → List ℕ

@@ -5,7 +5,7 @@ mod fault;
 mod text;
 
 pub use fault::{NodeFault, TextFault};
-pub use text::{ESCAPED, node_text, one_node_text};
+pub use text::{node_text, one_node_text};
 
 #[cfg(test)]
 mod tests;

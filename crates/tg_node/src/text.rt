@@ -6,22 +6,12 @@ ghost use Rattle.tg_node.specs.NodeTexts.{Exact, IsNodeTextOf, HasNodeTextCause,
 
 use crate::fault::{NodeFault, TextFault};
 use itoa::Buffer;
-use percent_encoding::{AsciiSet, NON_ALPHANUMERIC, ascii_set, percent_encode};
 use std::alloc::{AllocError, Global};
 use tg_bytes::Bytes;
 use tg_cid::{Cid, Codec, one_spelling};
 use tg_dagpb::{Link, Node};
+use tg_escape::push_escaped;
 use tg_unixfs::Unix;
-
-/// The ASCII bytes of a name that are escaped: all but letters, digits, `-`, `.`, `_` and `~`, which are the unreserved
-/// characters of RFC 3986, section 2.3. Bytes outside of ASCII are escaped besides.
-pub const ESCAPED: AsciiSet = ascii_set!(
-    NON_ALPHANUMERIC
-        .remove(b'-')
-        .remove(b'.')
-        .remove(b'_')
-        .remove(b'~')
-);
 
 /// What `node` writes of a block that the CID names.
 ///
@@ -127,10 +117,8 @@ fn push_name(text: &mut Bytes, alloc: Global, name: &Option<Bytes>) -> Result<()
     let Some(name) = name else {
         return text.push_all(b"-");
     };
-    let mut shown = String::new(alloc);
-    percent_encode(name.as_slice(), ESCAPED).append_to(&mut shown)?;
     text.push_all(b"=")?;
-    text.push_all(shown.as_bytes())
+    push_escaped(text, alloc, name.as_slice())
 }
 
 /// Adds the lines of a node's data.
