@@ -1,9 +1,9 @@
 -- Lists of which all but the last are one number.
-use Rattle.std.proofs.Common.{◌≡◌, ◌+◌, ◌<◌, ◌≤◌, ℕ, zero, suc, List, Some, [], ◌∷◌, ◌++◌, length, refl, sym, ◌∙◌, arith}
+use Rattle.std.proofs.Common.{◌≡◌, ◌+◌, ◌<◌, ◌≤◌, ℕ, zero, suc, List, Some, [], ◌∷◌, ◌++◌, length, refl, sym, ◌∙◌, subst, arith}
 use Rattle.std.specs.Prelude.{All, Option, map, slice_get}
 use Rattle.std.proofs.lemmas.List.Elements.{All-cons, All-head, All-nil, All-tail}
-use Rattle.tg_filedag.specs.Chunks.{AreChunks, joined}
-use Rattle.std.proofs.lemmas.List.{length-append}
+use Rattle.tg_filedag.specs.Chunks.{AllFull, AreChunks, FullAreChunks, LastIsChunk, joined}
+use Rattle.std.proofs.lemmas.List.{append-nil, length-append}
 use Rattle.tg_model.specs.ImportLayout.{AreFull, HasBytes}
 
 the_same : (a b : ℕ) → ◌≡◌ {A = Option ℕ} (Some a) (Some b) → a ≡ b
@@ -68,3 +68,37 @@ pub chunks_longer : (size : ℕ) (chunks : List (List ℕ)) → AreChunks size c
 chunks_longer size [] are two = absurd (omega arith)
 chunks_longer size (a ∷ []) are two = absurd (omega arith)
 chunks_longer size (a ∷ b ∷ chunks) are two = several_longer size a b chunks are.full are.not_empty
+
+-- full chunks before these
+full_before : (size : ℕ) (chunks more : List (List ℕ)) → AllFull size chunks → AreFull size (map length more) → AreFull size (map length (chunks ++ more))
+full_before size [] more all full = full
+full_before size (x ∷ xs) more all full =
+    let P = λ (c : List ℕ). length c ≡ size in
+    full_cons size (length x) (map length (xs ++ more)) (All-head P x xs all) (full_before size xs more (All-tail P x xs all) full)
+
+-- none but the only one is empty
+some_before : (size : ℕ) (chunks more : List (List ℕ)) → 1 ≤ size → AllFull size chunks → All (λ c. 0 < length c) more → All (λ c. 0 < length c) (chunks ++ more)
+some_before size [] more one all some = some
+some_before size (x ∷ xs) more one all some =
+    let P = λ (c : List ℕ). length c ≡ size in
+    let first : length x ≡ size = All-head P x xs all in
+    All-cons (λ (c : List ℕ). 0 < length c) x (xs ++ more) (omega arith) (some_before size xs more one (All-tail P x xs all) some)
+
+has_bytes : (chunks : List (List ℕ)) → All (λ c. 0 < length c) chunks → HasBytes chunks
+has_bytes [] all = tt
+has_bytes (x ∷ []) all = tt
+has_bytes (x ∷ y ∷ more) all = all
+
+-- the chunks of a file: all full, or a last one behind them
+pub full_are_chunks : FullAreChunks
+full_are_chunks size chunks one all = subst (AreChunks size) (append-nil chunks) (record {
+  full = full_before size chunks [] all (full_nil size);
+  not_empty = has_bytes (chunks ++ []) (some_before size chunks [] one all (All-nil (λ (c : List ℕ). 0 < length c)));
+})
+
+pub last_is_chunk : LastIsChunk
+last_is_chunk size chunks last one all most some = record {
+  full = full_before size chunks (last ∷ []) all (full_one size (length last) most);
+  not_empty = has_bytes (chunks ++ last ∷ [])
+      (some_before size chunks (last ∷ []) one all (All-cons (λ (c : List ℕ). 0 < length c) last [] some (All-nil (λ (c : List ℕ). 0 < length c))));
+}

@@ -1,5 +1,5 @@
 -- How the bytes of a file are cut into chunks (this project's own profile of UnixFS).
-use Rattle.std.specs.Prelude.{List, [], length, map, take, ℕ, ◌++◌, ◌-◌, ◌∷◌, ◌≡◌}
+use Rattle.std.specs.Prelude.{All, List, [], length, map, take, ℕ, ◌++◌, ◌-◌, ◌<◌, ◌≤◌, ◌∷◌, ◌≡◌}
 use Rattle.tg_model.specs.ImportLayout.{AreFull, HasBytes}
 
 -- the chunks one behind another
@@ -11,6 +11,18 @@ joined (chunk ∷ chunks) = chunk ++ joined chunks
 pub record AreChunks (size : ℕ) (chunks : List (List ℕ)) : Type 0 where
   pub full : AreFull size (map length chunks)
   pub not_empty : HasBytes chunks
+
+-- all chunks have this size
+abbrev pub AllFull : ℕ → List (List ℕ) → Type 0
+AllFull size chunks = All (λ (chunk : List ℕ). length chunk ≡ size) chunks
+
+-- they are chunks of the size, also with a last one behind them that has a byte and at most this size
+abbrev pub FullAreChunks : Type 0
+FullAreChunks = (size : ℕ) (chunks : List (List ℕ)) → 1 ≤ size → AllFull size chunks → AreChunks size chunks
+
+abbrev pub LastIsChunk : Type 0
+LastIsChunk = (size : ℕ) (chunks : List (List ℕ)) (last : List ℕ) → 1 ≤ size → AllFull size chunks → length last ≤ size → 0 < length last
+    → AreChunks size (chunks ++ last ∷ [])
 
 -- what a contract sees of a chunker: how many bytes a chunk has, and the bytes of the chunk at hand
 pub record ChunkerState : Type 0 where

@@ -1,8 +1,15 @@
 //! What follows from the definitions, for the proofs of those who call this crate.
-ghost use Rattle.tg_filedag.specs.Chunks.{KeepsBytes};
+ghost use Rattle.tg_filedag.specs.Chunks.{FullAreChunks, KeepsBytes, LastIsChunk};
 
 /// Over any calls of a chunker, the chunks that it was cleared of, with the one at hand behind them, are the bytes that it took. It
 /// does nothing.
 pub fn kept_bytes()
     ensures { KeepsBytes }
+{}
+
+/// Chunks that all have one size, a byte at least, are chunks of that size, and so are they with a last one behind them that has a byte
+/// and at most that size. It does nothing.
+pub fn cut_chunks()
+    ensures full { FullAreChunks }
+    ensures last { LastIsChunk }
 {}

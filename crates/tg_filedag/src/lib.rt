@@ -10,4 +10,4 @@ mod subtree;
 
 pub use balanced::Balanced;
 pub use chunker::Chunker;
-pub use laws::kept_bytes;
+pub use laws::{cut_chunks, kept_bytes};

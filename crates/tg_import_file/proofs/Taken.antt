@@ -4,9 +4,9 @@ use Rattle.std.specs.Prelude.{min}
 use Rattle.std.proofs.lemmas.Bool.{cases_lt}
 use Rattle.std.proofs.lemmas.List.{append-nil, length-append, length-take}
 use Rattle.std.proofs.lemmas.List.Elements.{All-nil}
-use Rattle.tg_filedag.specs.Chunks.{AreChunks, ChunkerState, cleared, fed_with, joined, taken_of}
+use Rattle.tg_filedag.specs.Chunks.{ChunkerState, FullAreChunks, LastIsChunk, cleared, fed_with, joined, taken_of}
 use Rattle.tg_filedag.specs.State.{BalancedState, StandsFor}
-use Rattle.tg_import_file.proofs.Cuts.{chunks_full, chunks_last, full_count, full_push, joined_push}
+use Rattle.tg_import_file.proofs.Cuts.{full_count, full_push, joined_push}
 use Rattle.tg_writing.specs.KeepingSteps.{Joins, keeps_both, keeps_nothing}
 use Rattle.tg_import_file.specs.Files.{max_file_len}
 use Rattle.tg_import_file.specs.Taking.{HasLinked, HasTaken, LinksLast, MayTake, TakesPiece}
@@ -134,23 +134,23 @@ leaf_fits c b more chunk may most some =
 
 -- ---- the last chunk
 
-pub links_none : {S : Type 0} → (m : KeepMeaning S) → ((s : S) → m.kept s s []) → (s : S) (c : ChunkerState) (b : BalancedState) → c.bytes ≡ []
+pub links_none : FullAreChunks → {S : Type 0} → (m : KeepMeaning S) → ((s : S) → m.kept s s []) → (s : S) (c : ChunkerState) (b : BalancedState) → c.bytes ≡ []
     → LinksLast c b b (kept_in m s s)
-links_none m rests s c b none bytes kept h =
+links_none full m rests s c b none bytes kept h =
     let room = h.room in (
       [],
       keeps_nothing m rests s,
       subst (HasLinked c.size b bytes) (sym (append-nil kept)) (record {
         chunks = h.chunks;
         stands = h.stands;
-        are = subst (AreChunks c.size) (append-nil h.chunks) (chunks_full c.size h.chunks (omega arith) h.full);
+        are = full c.size h.chunks (omega arith) h.full;
         bytes_are = sym (append-nil (joined h.chunks)) ∙ ap (λ (t : List ℕ). joined h.chunks ++ t) (sym none) ∙ h.bytes_are;
       }),
     )
 
-pub links_last : (c : ChunkerState) (b b' : BalancedState) (chunk : List ℕ) (keeping : Keeping) → chunk ≡ c.bytes → 0 < length chunk
+pub links_last : LastIsChunk → (c : ChunkerState) (b b' : BalancedState) (chunk : List ℕ) (keeping : Keeping) → chunk ≡ c.bytes → 0 < length chunk
     → LeafStands b b' chunk keeping → LinksLast c b b' keeping
-links_last c b b' chunk keeping is some stands bytes kept h =
+links_last last c b b' chunk keeping is some stands bytes kept h =
     let leaf = stands h.chunks kept h.stands in
     let room = h.room in
     let long : length chunk ≡ length c.bytes = ap length is in (
@@ -159,7 +159,7 @@ links_last c b b' chunk keeping is some stands bytes kept h =
       record {
         chunks = h.chunks ++ chunk ∷ [];
         stands = leaf.2;
-        are = chunks_last c.size h.chunks chunk (omega arith) h.full (omega arith) some;
+        are = last c.size h.chunks chunk (omega arith) h.full (omega arith) some;
         bytes_are = joined_push h.chunks chunk ∙ ap (λ (t : List ℕ). joined h.chunks ++ t) is ∙ h.bytes_are;
       },
     )

@@ -10,7 +10,7 @@ ghost use Rattle.tg_tree.specs.Tree.{HasFileAt, bytes_of, tree_at};
 
 use crate::fault::FileFault;
 use tg_bytes::Bytes;
-use tg_filedag::{Balanced, Chunker};
+use tg_filedag::{Balanced, Chunker, cut_chunks};
 use tg_files::Folder;
 use tg_laws::kept_sections;
 use tg_model::{Keep, KeepFault, Made};
@@ -151,6 +151,7 @@ fn link_last<K: Keep>(
     ensures stops { IfErr result (λ fault. Stops fault (kept_in K.keeper keep.old keep.new)) }
     ensures err_counted { OnErr result (K.keeper.faults keep.old ≤ K.keeper.faults keep.new) }
 {
+    cut_chunks();
     if chunker.chunk().is_empty() {
         return Ok(());
     }

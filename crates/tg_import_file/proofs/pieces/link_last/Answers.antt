@@ -7,7 +7,7 @@ use Rattle.tg_model.specs.Stores.{kept_in}
 
 pub returns-then-is_empty-clause-linked : goal.returns-then-is_empty-clause-linked
 returns-then-is_empty-clause-linked g c =
-    links_none g.K.Keep.keeper g.met.K.Keep.rests c.args.keep.now c.args.chunker.now c.args.balanced.now
+    links_none c.cut_chunks.ensures.full g.K.Keep.keeper g.met.K.Keep.rests c.args.keep.now c.args.chunker.now c.args.balanced.now
     (sym c.chunk.ensures.bytes ∙ are_none c.chunk.result.now (sym c.if-is_empty.ensures))
 
 pub leaf-requires-clause-leaves : goal.leaf-requires-clause-leaves
@@ -28,5 +28,5 @@ returns-clause-linked g c =
     let long : length c.chunk-2.result.now ≡ length c.args.chunker.now.bytes = ap length c.chunk-2.ensures.bytes in
     let first : length c.chunk.result.now ≡ length c.args.chunker.now.bytes = ap length c.chunk.ensures.bytes in
     let some = are_some c.chunk.result.now (sym c.if-is_empty.ensures) in
-    links_last c.args.chunker.now c.args.balanced.now c.leaf.new.self c.chunk-2.result.now (kept_in g.K.Keep.keeper c.args.keep.now c.leaf.new.keep)
+    links_last c.cut_chunks.ensures.last c.args.chunker.now c.args.balanced.now c.leaf.new.self c.chunk-2.result.now (kept_in g.K.Keep.keeper c.args.keep.now c.leaf.new.keep)
     c.chunk-2.ensures.bytes (omega arith) c.in_ok-leaf.ensures.stands
