@@ -36,24 +36,34 @@ nothing_stands width refused subtrees low high none e =
     record { forest = forest; levels = levels; leaves_are = refl; bytes_are = refl; unrefused = none }
 
 -- there is room for a leaf more
-pub leaf_room : (state : BalancedState) (chunk : List ℕ) (chunks : List (List ℕ)) (kept : List Section) → StandsFor state chunks kept
-    → state.bytes + length chunk ≤ 1099511627776 → state.leaves + 1 ≤ 1099511627776 → HasRoom chunks chunk
-leaf_room state chunk chunks kept h bytes leaves =
+pub record HasLeafRoom (state : BalancedState) (chunk : List ℕ) : Type 0 where
+  pub bytes : state.bytes + length chunk ≤ 1099511627776
+  pub leaves : state.leaves + 1 ≤ 1099511627776
+
+-- seen from inside
+pub inside_room : (view state : BalancedState) (chunk : List ℕ) → view ≡ state → state.bytes + length chunk ≤ 1099511627776 → state.leaves + 1 ≤ 1099511627776
+    → HasLeafRoom view chunk
+inside_room view state chunk e bytes leaves = subst (λ (s : BalancedState). HasLeafRoom s chunk) (sym e) (record { bytes = bytes; leaves = leaves })
+
+pub leaf_room : (state : BalancedState) (chunk : List ℕ) (chunks : List (List ℕ)) (kept : List Section) → StandsFor state chunks kept → HasLeafRoom state chunk
+    → HasRoom chunks chunk
+leaf_room state chunk chunks kept h room =
+    let leaves = room.leaves in
+    let bytes = room.bytes in
     let leaves_are = h.leaves_are in
     let bytes_are = h.bytes_are in
     (omega arith, omega arith)
 
 -- a leaf more
 pub leaf_stands : (state : BalancedState) (new : List Subtree) (chunk : List ℕ) (keeping : Keeping) → TakesLeaf state.width state.subtrees new chunk keeping
-    → state.bytes + length chunk ≤ 1099511627776 → state.leaves + 1 ≤ 1099511627776 → (chunks : List (List ℕ)) (kept : List Section) → StandsFor state chunks kept
+    → HasLeafRoom state chunk → (chunks : List (List ℕ)) (kept : List Section) → StandsFor state chunks kept
     → (sections : List Section) × Keeps sections keeping
     × StandsFor (record { width = state.width; leaves = state.leaves + 1; bytes = state.bytes + length chunk; refused = state.refused; subtrees = new })
     (chunks ++ chunk ∷ []) (kept ++ sections)
-leaf_stands state new chunk keeping takes bytes leaves chunks kept h =
+leaf_stands state new chunk keeping takes room chunks kept h =
     let leaves_are = h.leaves_are in
     let bytes_are = h.bytes_are in
-    let room = leaf_room state chunk chunks kept h bytes leaves in
-    let step = takes chunks kept h.forest room in
+    let step = takes chunks kept h.forest (leaf_room state chunk chunks kept h room) in
     let more = length-append chunks (chunk ∷ []) in
     let more_bytes : length (joined (chunks ++ chunk ∷ [])) ≡ length (joined chunks) + length chunk =
     ap length (joined_append chunks (chunk ∷ [])) ∙ length-append (joined chunks) (chunk ++ []) ∙ ap (λ (t : List ℕ). length (joined chunks) + length t) (append-nil chunk) in (

@@ -1,5 +1,5 @@
 -- What calls give, in the words of the steps.
-use Rattle.std.proofs.Common.{◌≡◌, ◌≢◌, ◌+◌, ◌-◌, ◌<◌, ◌≤◌, ℕ, true, List, [], ◌∷◌, length, get_or, sym, ap, ◌∙◌, subst, inl, inr, arith}
+use Rattle.std.proofs.Common.{◌≡◌, ◌≢◌, ◌+◌, ◌-◌, ◌<◌, ◌≤◌, ℕ, true, List, [], ◌∷◌, length, get_or, refl, sym, ap, ◌∙◌, subst, inl, inr, arith}
 use Rattle.std.specs.Prelude.{slice_index, ◌==◌}
 use Rattle.std.specs.List.{sum_by}
 use Rattle.std.proofs.lemmas.Bool.{cases_eq, cases_lt, ne_eqb}
@@ -7,7 +7,7 @@ use Rattle.tg_cid.specs.Cid.{CidParts}
 use Rattle.tg_cid.specs.declared.cid.Codec.TheVariants.{DagPb}
 use Rattle.tg_filedag.proofs.Closings.{BeginsAt}
 use Rattle.tg_filedag.proofs.Steps.{height_at}
-use Rattle.tg_filedag.specs.Linking.{IsKeptNode}
+use Rattle.tg_filedag.specs.Linking.{HasFullLevel, IsKeptNode}
 use Rattle.tg_filedag.specs.State.{heights}
 use Rattle.tg_filedag.specs.Trees.{IsFileBlock, content_in, node_made, section_of, tsize_in}
 use Rattle.tg_filedag.specs.declared.subtree.Subtree.{Subtree}
@@ -65,3 +65,18 @@ begins view ss start height e some is before found =
     begins_at ss start height some is
     (subst (λ (t : List Subtree). (i : ℕ) → i < start → slice_index (heights t) i ≢ height) e before)
     (subst (λ (t : List Subtree). start < length t → slice_index (heights t) start ≡ height) e found)
+
+-- the lowest level, whose height is the last subtree's
+pub lowest : (view ss : List Subtree) (start last : ℕ) (s : Subtree) → view ≡ ss → last + 1 ≡ length ss → s ≡ get_or ss last s
+    → ((i : ℕ) → i < start → slice_index (heights view) i ≢ s.height) → (start < length view → slice_index (heights view) start ≡ s.height)
+    → BeginsAt ss start × (s.height ≡ slice_index (heights ss) (length ss - 1))
+lowest view ss start last s e at is before found =
+    let height = read_height ss last (length ss - 1) s (omega arith) (omega arith) is in
+    (begins view ss start s.height e (omega arith) height before found, height)
+
+-- the height of a full level
+pub level_read : (width len : ℕ) (ss : List Subtree) (s : Subtree) → HasFullLevel width ss → 2 ≤ width → len ≡ length ss → s ≡ get_or ss (len - width) s
+    → s.height ≡ slice_index (heights ss) (len - width)
+level_read width len ss s full low e is =
+    let enough = full.enough in
+    read_height ss (len - width) (len - width) s refl (omega arith) is

@@ -1,6 +1,6 @@
 use Rattle.std.proofs.Common.{◌-◌, ◌≤◌, ℕ, length, sym, subst, arith}
 use Rattle.std.proofs.lemmas.Result.{err_from_is_err_and}
-use Rattle.tg_filedag.proofs.Calls.{begins, read_height}
+use Rattle.tg_filedag.proofs.Calls.{lowest}
 use Rattle.tg_filedag.proofs.Parts.{NodeLaws}
 use Rattle.tg_filedag.proofs.Runs.{close_done, close_init, close_needs, close_next, close_smaller, close_stops}
 use Rattle.tg_filedag.proofs.linking.close_all.Goals as goal
@@ -17,11 +17,9 @@ overflow_add-lowest g c =
     let ss = c.loop-alloc.subtrees.items in
     let req = c.requires.growing in
     let r = c.loop-alloc.invariant req.0 req.1 req.2 in
-    let s = c.index.result.now in
-    let is = read_height ss (c.len-in-loop-alloc.result - 1) (length ss - 1) s (omega arith) (omega arith) c.index.ensures in
-    let at = begins c.as_slice.result.now ss c.first_of_height-start.result s.height c.as_slice.ensures.value (omega arith) is
-    c.first_of_height-start.ensures.before c.first_of_height-start.ensures.found in
-    let needs = close_needs g.K.Keep.keeper c.args.keep.now c.loop-alloc.keep c.args.width c.first_of_height-start.result s.height ss req.0 req.1 r at (omega arith) is in
+    let low = lowest c.as_slice.result.now ss c.first_of_height-start.result (c.len-in-loop-alloc.result - 1) c.index.result.now c.as_slice.ensures.value (omega arith)
+    c.index.ensures c.first_of_height-start.ensures.before c.first_of_height-start.ensures.found in
+    let needs = close_needs g.K.Keep.keeper c.args.keep.now c.loop-alloc.keep c.args.width c.first_of_height-start.result c.index.result.now.height ss req.0 req.1 r low.0 (omega arith) low.1 in
     omega (arith, needs.0)
 
 pub close-requires : goal.close-requires
@@ -29,13 +27,11 @@ close-requires g c =
     let ss = c.loop-alloc.subtrees.items in
     let req = c.requires.growing in
     let r = c.loop-alloc.invariant req.0 req.1 req.2 in
-    let s = c.index.result.now in
-    let is = read_height ss (c.len-in-loop-alloc.result - 1) (length ss - 1) s (omega arith) (omega arith) c.index.ensures in
-    let at = begins c.as_slice.result.now ss c.first_of_height-start.result s.height c.as_slice.ensures.value (omega arith) is
-    c.first_of_height-start.ensures.before c.first_of_height-start.ensures.found in
-    let needs = close_needs g.K.Keep.keeper c.args.keep.now c.loop-alloc.keep c.args.width c.first_of_height-start.result s.height ss req.0 req.1 r at (omega arith) is in
+    let low = lowest c.as_slice.result.now ss c.first_of_height-start.result (c.len-in-loop-alloc.result - 1) c.index.result.now c.as_slice.ensures.value (omega arith)
+    c.index.ensures c.first_of_height-start.ensures.before c.first_of_height-start.ensures.found in
+    let needs = close_needs g.K.Keep.keeper c.args.keep.now c.loop-alloc.keep c.args.width c.first_of_height-start.result c.index.result.now.height ss req.0 req.1 r low.0 (omega arith) low.1 in
     record {
-      start = at.inside;
+      start = low.0.inside;
       few = needs.1.few;
       plain = needs.1.plain;
       content = needs.1.content;
@@ -47,24 +43,20 @@ loop-alloc-smaller g c =
     let ss = c.loop-alloc.subtrees.items in
     let req = c.requires.growing in
     let r = c.loop-alloc.invariant req.0 req.1 req.2 in
-    let s = c.index.result.now in
-    let is = read_height ss (c.len-in-loop-alloc.result - 1) (length ss - 1) s (omega arith) (omega arith) c.index.ensures in
-    let at = begins c.as_slice.result.now ss c.first_of_height-start.result s.height c.as_slice.ensures.value (omega arith) is
-    c.first_of_height-start.ensures.before c.first_of_height-start.ensures.found in
-    close_smaller c.args.width c.first_of_height-start.result s.height ss c.close.new.subtrees.items req.0 _ (kept_in g.K.Keep.keeper c.loop-alloc.keep c.close.new.keep)
-    r.forest.forest at (omega arith) is c.in_ok-close.ensures.closes
+    let low = lowest c.as_slice.result.now ss c.first_of_height-start.result (c.len-in-loop-alloc.result - 1) c.index.result.now c.as_slice.ensures.value (omega arith)
+    c.index.ensures c.first_of_height-start.ensures.before c.first_of_height-start.ensures.found in
+    close_smaller c.args.width c.first_of_height-start.result c.index.result.now.height ss c.close.new.subtrees.items req.0 _ (kept_in g.K.Keep.keeper c.loop-alloc.keep c.close.new.keep)
+    r.forest.forest low.0 (omega arith) low.1 c.in_ok-close.ensures.closes
 
 pub loop-alloc-preserved : goal.loop-alloc-preserved
 loop-alloc-preserved g c = λ chunks kept f.
     let ss = c.loop-alloc.subtrees.items in
     let r = c.loop-alloc.invariant chunks kept f in
     let laws : NodeLaws = record { written = c.written_nodes.ensures.written; reads = c.file_nodes.ensures } in
-    let s = c.index.result.now in
-    let is = read_height ss (c.len-in-loop-alloc.result - 1) (length ss - 1) s (omega arith) (omega arith) c.index.ensures in
-    let at = begins c.as_slice.result.now ss c.first_of_height-start.result s.height c.as_slice.ensures.value (omega arith) is
-    c.first_of_height-start.ensures.before c.first_of_height-start.ensures.found in
+    let low = lowest c.as_slice.result.now ss c.first_of_height-start.result (c.len-in-loop-alloc.result - 1) c.index.result.now c.as_slice.ensures.value (omega arith)
+    c.index.ensures c.first_of_height-start.ensures.before c.first_of_height-start.ensures.found in
     close_next laws g.K.Keep.keeper g.met.K.Keep.joins c.kept_sections.ensures.joins c.args.keep.now c.loop-alloc.keep c.close.new.keep c.args.width
-    c.first_of_height-start.result s.height ss c.close.new.subtrees.items chunks kept r at (omega arith) is c.in_ok-close.ensures.closes
+    c.first_of_height-start.result c.index.result.now.height ss c.close.new.subtrees.items chunks kept r low.0 (omega arith) low.1 c.in_ok-close.ensures.closes
 
 pub returns-in_err-close-clause-stops : goal.returns-in_err-close-clause-stops
 returns-in_err-close-clause-stops g c =

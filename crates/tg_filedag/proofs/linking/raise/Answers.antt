@@ -1,6 +1,6 @@
-use Rattle.std.proofs.Common.{◌-◌, ◌≤◌, ℕ, refl, sym, subst, arith}
+use Rattle.std.proofs.Common.{◌-◌, ◌≤◌, ℕ, sym, subst, arith}
 use Rattle.std.proofs.lemmas.Result.{err_from_is_err_and}
-use Rattle.tg_filedag.proofs.Calls.{read_height}
+use Rattle.tg_filedag.proofs.Calls.{level_read}
 use Rattle.tg_filedag.proofs.Parts.{NodeLaws}
 use Rattle.tg_filedag.proofs.Runs.{raise_done, raise_needs, raise_next, raise_stops}
 use Rattle.tg_filedag.proofs.linking.raise.Goals as goal
@@ -11,11 +11,9 @@ overflow_add-height g c =
     let ss = c.loop-alloc.subtrees.items in
     let full = subst (HasFullLevel c.args.width) c.as_slice.ensures.value (c.has_full_level.ensures.0 c.loop-alloc-test.true) in
     let r = c.loop-alloc.invariant c.requires.0 c.requires.1 c.requires.2 in
-    let low = r.forest.low in
-    let enough = full.enough in
-    let start : ℕ = c.len.result - c.args.width in
-    let needs = raise_needs g.K.Keep.keeper c.args.keep.now c.loop-alloc.keep c.args.width start c.index.result.now.height ss c.requires.0 c.requires.1 r full (omega arith)
-    (read_height ss start start c.index.result.now refl (omega arith) c.index.ensures) in
+    let is = level_read c.args.width c.len.result ss c.index.result.now full r.forest.low (omega arith) c.index.ensures in
+    let needs = raise_needs g.K.Keep.keeper c.args.keep.now c.loop-alloc.keep c.args.width (c.len.result - c.args.width) c.index.result.now.height ss c.requires.0
+    c.requires.1 r full (omega arith) is in
     omega (arith, needs.0)
 
 pub close-requires : goal.close-requires
@@ -23,11 +21,11 @@ close-requires g c =
     let ss = c.loop-alloc.subtrees.items in
     let full = subst (HasFullLevel c.args.width) c.as_slice.ensures.value (c.has_full_level.ensures.0 c.loop-alloc-test.true) in
     let r = c.loop-alloc.invariant c.requires.0 c.requires.1 c.requires.2 in
+    let is = level_read c.args.width c.len.result ss c.index.result.now full r.forest.low (omega arith) c.index.ensures in
+    let needs = raise_needs g.K.Keep.keeper c.args.keep.now c.loop-alloc.keep c.args.width (c.len.result - c.args.width) c.index.result.now.height ss c.requires.0
+    c.requires.1 r full (omega arith) is in
     let low = r.forest.low in
     let enough = full.enough in
-    let start : ℕ = c.len.result - c.args.width in
-    let needs = raise_needs g.K.Keep.keeper c.args.keep.now c.loop-alloc.keep c.args.width start c.index.result.now.height ss c.requires.0 c.requires.1 r full (omega arith)
-    (read_height ss start start c.index.result.now refl (omega arith) c.index.ensures) in
     record {
       start = omega arith;
       few = needs.1.few;
@@ -42,12 +40,10 @@ loop-alloc-preserved g c = λ chunks kept f.
     let full = subst (HasFullLevel c.args.width) c.as_slice.ensures.value (c.has_full_level.ensures.0 c.loop-alloc-test.true) in
     let laws : NodeLaws = record { written = c.written_nodes.ensures.written; reads = c.file_nodes.ensures } in
     let r = c.loop-alloc.invariant chunks kept f in
-    let low = r.forest.low in
-    let enough = full.enough in
-    let start : ℕ = c.len.result - c.args.width in
-    raise_next laws g.K.Keep.keeper g.met.K.Keep.joins c.kept_sections.ensures.joins c.args.keep.now c.loop-alloc.keep c.close.new.keep c.args.width start
-    c.index.result.now.height ss c.close.new.subtrees.items chunks kept r full (omega arith)
-    (read_height ss start start c.index.result.now refl (omega arith) c.index.ensures) c.in_ok-close.ensures.closes
+    let is = level_read c.args.width c.len.result ss c.index.result.now full r.forest.low (omega arith) c.index.ensures in
+    raise_next laws g.K.Keep.keeper g.met.K.Keep.joins c.kept_sections.ensures.joins c.args.keep.now c.loop-alloc.keep c.close.new.keep c.args.width
+    (c.len.result - c.args.width) c.index.result.now.height ss c.close.new.subtrees.items chunks kept r full (omega arith) is
+    c.in_ok-close.ensures.closes
 
 pub returns-clause-raised : goal.returns-clause-raised
 returns-clause-raised g c = λ chunks kept f.
