@@ -29,22 +29,6 @@ pub record NodeLaws : Type 0 where
   pub unix_node : (entries : List NewEntry) (unix : Unix) (block : List ℕ) → IsNodeOf entries unix block
       → (links : List Link) × IsUnixNode block links (map (λ e. e.cid) entries) unix × (map name_of links ≡ map (λ e. e.name) entries)
 
-first_of : List (List ℕ) → List ℕ
-first_of [] = []
-first_of (x ∷ xs) = x
-
-rest_of : List (List ℕ) → List (List ℕ)
-rest_of [] = []
-rest_of (x ∷ xs) = xs
-
-head_is : {x y : List ℕ} {xs ys : List (List ℕ)} → x ∷ xs ≡ y ∷ ys → x ≡ y
-unfolding first_of
-head_is e = ap first_of e
-
-tail_is : {x y : List ℕ} {xs ys : List (List ℕ)} → x ∷ xs ≡ y ∷ ys → xs ≡ ys
-unfolding rest_of
-tail_is e = ap rest_of e
-
 -- the links are read as the entries
 read_entries : (links : List Link) (es : List NewEntry) → map name_of links ≡ map (λ (e : NewEntry). e.name) es
     → map basic_entry es ≡ entries_of links (map (λ (e : NewEntry). e.cid) es)
@@ -52,7 +36,9 @@ read_entries [] [] same = refl
 read_entries [] (e ∷ es) same = absurd (let f : 0 ≡ suc (length (map (λ (e : NewEntry). e.name) es)) = ap length same in omega arith)
 read_entries (link ∷ links) [] same = absurd (let f : suc (length (map name_of links)) ≡ 0 = ap length same in omega arith)
 read_entries (link ∷ links) (e ∷ es) same =
-    ap₂ (λ (name : List ℕ) (rest : List Entry). record { name = name; cid = e.cid } ∷ rest) (sym (head_is same)) (read_entries links es (tail_is same))
+    let head : e.name ≡ name_of link = cc same in
+    let tail : map name_of links ≡ map (λ (x : NewEntry). x.name) es = cc same in
+    ap₂ (λ (name : List ℕ) (rest : List Entry). record { name = name; cid = e.cid } ∷ rest) head (read_entries links es tail)
 
 pub reads_basic : NodeLaws → (es : List NewEntry) (block : List ℕ) → IsNodeOf es basic_unix block
     → All IsGoodName (map (λ (e : NewEntry). e.name) es) → IsDistinct bytes_eq (map (λ (e : NewEntry). e.name) es) → ReadsNode block (Basic (map basic_entry es))
