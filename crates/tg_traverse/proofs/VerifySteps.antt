@@ -26,7 +26,7 @@ use Rattle.tg_traverse.specs.Verified.{GoesOn, IsAccepted, LeadsNowhere, Verifie
 sends_all : (q : QueryParts) → q.dups ≡ true → (places : List Place) → sent_places q places ≡ places
 sends_all q e places = refl
 
-sent_all : (q : QueryParts) → q.dups ≡ true → (places : List Place) → map (λ (p : Place). p.section) (sent_places q places) ≡ map (λ p. p.section) places
+pub sent_all : (q : QueryParts) → q.dups ≡ true → (places : List Place) → map (λ (p : Place). p.section) (sent_places q places) ≡ map (λ p. p.section) places
 sent_all q e places = ap (map (λ (p : Place). p.section)) (sends_all q e places)
 
 starts_sent : (q : QueryParts) → map (λ (p : Place). p.section) (sent_places q []) ≡ []
@@ -41,7 +41,7 @@ none_each true = tt
 none_each false = λ a b (k, less, is) in_b e. absurd (omega (arith, less))
 
 -- a pair of some sections is one of all that hold them
-pair_of : (some sections : List Section) (d : Dag) → ((section : Section) → Contains some section → Contains sections section) → CollisionPair some d → CollisionPair sections d
+pub pair_of : (some sections : List Section) (d : Dag) → ((section : Section) → Contains some section → Contains sections section) → CollisionPair some d → CollisionPair sections d
 pair_of some sections d h p = record {
   received = p.received;
   held = p.held;

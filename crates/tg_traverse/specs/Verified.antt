@@ -11,7 +11,7 @@ use Rattle.tg_model.specs.PathWalk.{Spot, gone, stopped, whole}
 use Rattle.tg_model.specs.Queries.{QueryParts}
 use Rattle.tg_model.specs.Sound.{IsChecked, IsSound}
 use Rattle.tg_model.specs.Texts.{listing}
-use Rattle.tg_model.specs.Traversal.{ListedEntry, block_list, named_met, opened_list, sent_places, traversal}
+use Rattle.tg_model.specs.Traversal.{ListedEntry, Place, block_list, named_met, opened_list, sent_places, traversal}
 use Rattle.tg_model.specs.declared.kinds.Kind.{Kind}
 use Rattle.tg_model.specs.declared.queries.Scope.{Scope}
 use Rattle.tg_traverse.specs.BesideSound.{IsBeside, Passes}
@@ -143,6 +143,16 @@ abbrev pub InProgressEnds : Type 0
 InProgressEnds = (q : QueryParts) (d : Dag) (sections : List Section) (wanted : Spot) (given : Given) (tasks : List (Task CidParts)) → q.dups ≡ true
     → IsInProgress d q sections wanted → Verified q sections given tasks → WantsAt tasks wanted × (output_so_far q d ≡ (up_to_next tasks given).text)
 
+-- ---- of lists of sections
+
+-- where repeats are sent, the section of each place is
+abbrev pub RepeatsAreSent : Type 0
+RepeatsAreSent = (q : QueryParts) → q.dups ≡ true → (places : List Place) → map (λ (p : Place). p.section) (sent_places q places) ≡ map (λ p. p.section) places
+
+-- a collision pair of some sections is one of all that hold them
+abbrev pub PairOfSome : Type 0
+PairOfSome = (some sections : List Section) (d : Dag) → ((section : Section) → Contains some section → Contains sections section) → CollisionPair some d → CollisionPair sections d
+
 -- all of these
 pub record VerifiedLaws : Type 0 where
   pub start : VerifiedStarts
@@ -158,3 +168,5 @@ pub record VerifiedLaws : Type 0 where
   pub in_progress : InProgressPasses
   pub fitting_ends : FittingEnds
   pub in_progress_ends : InProgressEnds
+  pub repeats_sent : RepeatsAreSent
+  pub pair_of_some : PairOfSome

@@ -1,23 +1,10 @@
--- Fronts of sections and of texts, the greatest of numbers, and pairs of longer lists.
-use Rattle.std.proofs.Common.{◌≡◌, ◌⊎◌, ◌≤◌, ◌++◌, ◌∷◌, ℕ, Bool, true, false, Contains, List, [], None, Option, Some, inl, inr, map, refl, sym, ap, ap₂, ◌∙◌, append-nil, append_assoc, subst, arith}
+-- Fronts of texts, the last of a list, the greatest of numbers, and pairs of longer lists.
+use Rattle.std.proofs.Common.{◌≡◌, ◌⊎◌, ◌≤◌, ◌++◌, ◌∷◌, ℕ, List, [], None, Option, Some, inl, inr, map, refl, sym, ap, ap₂, ◌∙◌, append-nil, append_assoc, subst, arith}
 use Rattle.std.proofs.lemmas.List.Elements.{Contains-append_left}
 use Rattle.tg_model.specs.Counts.{greatest}
 use Rattle.tg_model.specs.Dag.{Dag, Section}
-use Rattle.tg_model.specs.Fits.{CollisionPair, IfOnce, IsFrontOfAnswer}
-use Rattle.tg_model.specs.Queries.{QueryParts}
-use Rattle.tg_model.specs.Traversal.{Place, sent_places}
-
--- ---- sections where repeats are sent
-
-sends_all : (q : QueryParts) → q.dups ≡ true → (places : List Place) → sent_places q places ≡ places
-sends_all q e places = refl
-
-pub sent_all : (q : QueryParts) → q.dups ≡ true → (places : List Place) → map (λ (p : Place). p.section) (sent_places q places) ≡ map (λ p. p.section) places
-sent_all q e places = ap (map (λ (p : Place). p.section)) (sends_all q e places)
-
-pub is_once : (dups : Bool) (P : Type 0) → dups ≡ true → IfOnce dups P
-is_once true P e = tt
-is_once false P e = absurd (cc e)
+use Rattle.tg_model.specs.Fits.{CollisionPair, IsFrontOfAnswer}
+use Rattle.tg_traverse.specs.Verified.{PairOfSome}
 
 -- ---- the last of a list, and those before it
 
@@ -53,22 +40,11 @@ whole_is_front all out e = subst (IsFrontOfAnswer out) (sym e) ([], sym (append-
 
 -- ---- a pair of some sections is one of all that hold them
 
-pair_of : (some sections : List Section) (d : Dag) → ((section : Section) → Contains some section → Contains sections section) → CollisionPair some d → CollisionPair sections d
-pair_of some sections d h p = record {
-  received = p.received;
-  held = p.held;
-  is_received = h p.received p.is_received;
-  is_held = p.is_held;
-  same_cid = p.same_cid;
-  differ = p.differ;
-  same_hash = p.same_hash;
-}
-
 -- of the first, of all
-pub pair_more : (some sections more : List Section) (d : Dag) → sections ≡ some ++ more → CollisionPair some d → CollisionPair sections d
-pair_more some sections more d e p = subst (λ (all : List Section). CollisionPair all d) (sym e) (pair_of some (some ++ more) d (Contains-append_left some more) p)
+pub pair_more : PairOfSome → (some sections more : List Section) (d : Dag) → sections ≡ some ++ more → CollisionPair some d → CollisionPair sections d
+pair_more law some sections more d e p = subst (λ (all : List Section). CollisionPair all d) (sym e) (law some (some ++ more) d (Contains-append_left some more) p)
 
 -- or something holds that isn't of them
-pub or_pair_more : (P : Type 0) (some sections more : List Section) (d : Dag) → sections ≡ some ++ more → P ⊎ CollisionPair some d → P ⊎ CollisionPair sections d
-or_pair_more P some sections more d e (inl h) = inl h
-or_pair_more P some sections more d e (inr pair) = inr (pair_more some sections more d e pair)
+pub or_pair_more : PairOfSome → (P : Type 0) (some sections more : List Section) (d : Dag) → sections ≡ some ++ more → P ⊎ CollisionPair some d → P ⊎ CollisionPair sections d
+or_pair_more law P some sections more d e (inl h) = inl h
+or_pair_more law P some sections more d e (inr pair) = inr (pair_more law some sections more d e pair)

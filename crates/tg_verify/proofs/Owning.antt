@@ -1,5 +1,5 @@
 -- The sections of a sound DAG's own traversal are taken, and give its answer.
-use Rattle.std.proofs.Common.{◌≡◌, ℕ, List, Some, refl, subst, true}
+use Rattle.std.proofs.Common.{◌≡◌, ℕ, Bool, List, Some, refl, subst, sym, true}
 use Rattle.tg_cid.specs.Cid.{CidParts}
 use Rattle.tg_model.specs.Answer.{answer, answer_at}
 use Rattle.tg_model.specs.Dag.{Dag, Section, root_cid}
@@ -17,7 +17,6 @@ use Rattle.tg_traverse.specs.Stages.{Given}
 use Rattle.tg_traverse.specs.Tasks.{Task}
 use Rattle.tg_traverse.specs.Verified.{Verified, VerifiedLaws, WantsNext}
 use Rattle.tg_verify.proofs.Endings.{fit_ends, not_whole}
-use Rattle.tg_verify.proofs.Fronts.{is_once}
 use Rattle.tg_verify.proofs.Misread.{Computes}
 use Rattle.tg_verify.proofs.Passing.{is_own_fault}
 use Rattle.tg_verify.specs.Own.{OwnIsTaken, OwnIsThrough, OwnLaws}
@@ -43,7 +42,7 @@ module _ (laws : SoundLaws) (q : QueryParts) (d : Dag) (text : List ℕ) (sound 
 
   -- and where repeats are sent its sections fit
   own_fits : q.dups ≡ true → (s : Dag) × Fits s q (block_list q d) text
-  own_fits dups = laws.own q d text sound root (is_once q.dups _ dups) is
+  own_fits dups = laws.own q d text sound root (subst (λ (repeats : Bool). IfOnce repeats (HasOneBlockEach (opened_list q d))) (sym dups) tt) is
 
 module _ (v : VerifiedLaws) (b : BesideLaws) (computes : Computes) (laws : SoundLaws) where
   own_taken : OwnIsTaken
@@ -51,7 +50,7 @@ module _ (v : VerifiedLaws) (b : BesideLaws) (computes : Computes) (laws : Sound
       let wants : (given : Given) (tasks : List (Task CidParts)) → q.dups ≡ true → Verified q sections given tasks → WantsNext q tasks section = λ given tasks dups verified.
       let (s, fits) = own_fits laws q d text sound root is dups in
       v.fitting q s sections rest section text given tasks dups (subst (λ (all : List Section). Fits s q all text) list fits) verified in
-      is_own_fault b computes q limits d sections rest section sound.checked root list (not_whole _ (own_whole laws q d text sound root is)) wants within written fault refused
+      is_own_fault v.repeats_sent b computes q limits d sections rest section sound.checked root list (not_whole _ (own_whole laws q d text sound root is)) wants within written fault refused
 
   own_through : OwnIsThrough
   own_through state d written text sound root is h =

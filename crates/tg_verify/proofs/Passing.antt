@@ -16,8 +16,8 @@ use Rattle.tg_traverse.specs.BesideSound.{BesideLaws, IsBeside, Passes, PassesIf
 use Rattle.tg_traverse.specs.Openings.{IsReadAt, opened_by}
 use Rattle.tg_traverse.specs.Stages.{Given, place_of, tasks_give, with_place}
 use Rattle.tg_traverse.specs.Tasks.{Miss, Task, Want, depth_of, is_read_at, no_directory, no_entry, open_block, position_of, stop_of}
-use Rattle.tg_traverse.specs.Verified.{Verified, WantsNext}
-use Rattle.tg_verify.proofs.Fronts.{greatest_at, same_front, sent_all}
+use Rattle.tg_traverse.specs.Verified.{RepeatsAreSent, Verified, WantsNext}
+use Rattle.tg_verify.proofs.Fronts.{greatest_at, same_front}
 use Rattle.tg_verify.proofs.Misread.{Computes, bad_isnt_read, missized_isnt_read}
 use Rattle.tg_verify.specs.Laws.{IsOwnFault, IsWithinLimits}
 use Rattle.tg_verify.specs.Refusals.{HasRefused, IsBadBlock, IsMissized, IsRefusedAt}
@@ -70,8 +70,8 @@ refused_next q sections section written why h =
 
 -- ---- of a checked DAG with the query's root, of which these are the sections
 
-module _ (b : BesideLaws) (computes : Computes) (q : QueryParts) (limits : LimitNumbers) (d : Dag) (sections rest : List Section) (section : Section) (checked : IsChecked d) (root : root_cid d ≡ q.root)
-    (list : block_list q d ≡ sections ++ section ∷ rest) (comes : (miss : Miss) → (traversal q d).end ≡ stopped (stop_of miss) → ⊥)
+module _ (sent : RepeatsAreSent) (b : BesideLaws) (computes : Computes) (q : QueryParts) (limits : LimitNumbers) (d : Dag) (sections rest : List Section) (section : Section) (checked : IsChecked d)
+    (root : root_cid d ≡ q.root) (list : block_list q d ≡ sections ++ section ∷ rest) (comes : (miss : Miss) → (traversal q d).end ≡ stopped (stop_of miss) → ⊥)
     (wants : (given : Given) (tasks : List (Task CidParts)) → q.dups ≡ true → Verified q sections given tasks → WantsNext q tasks section) (within : IsWithinLimits q limits d) where
   next_at : (written : List ℕ) (at : WantedAt) → IsUpTo q sections written at → IsWantedNext q at section
   next_at written at h = wants_next q at h.later section (wants h.given (open_block at.want at.cid ∷ h.later) h.repeats h.verified)
@@ -89,7 +89,7 @@ module _ (b : BesideLaws) (computes : Computes) (q : QueryParts) (limits : Limit
   goes_on : (front more : List Section) (given : Given) (tasks : List (Task CidParts)) → q.dups ≡ true → sections ++ section ∷ rest ≡ front ++ more → Verified q front given tasks
       → opened_list q d ≡ opened_by given ++ more
   goes_on front more given tasks dups e verified =
-      sym (sent_all q dups (traversal q d).places) ∙ list ∙ e ∙ ap (λ (some : List Section). some ++ more) (sym verified.sent ∙ sent_all q dups given.places)
+      sym (sent q dups (traversal q d).places) ∙ list ∙ e ∙ ap (λ (some : List Section). some ++ more) (sym verified.sent ∙ sent q dups given.places)
 
   -- with the section taken at its place
   record IsTakenThere (given : Given) (w : Want) : Type 0 where

@@ -34,7 +34,7 @@ module _ (v : VerifiedLaws) (p : PeerLaws) (b : BesideLaws) (q : QueryParts) (li
     -- what is written was written for those before it
     refused_front : IsItsFront q d sections written
     refused_front =
-        or_pair_more (IsFrontOfAnswer written (answer q d)) h.taken sections (h.section ∷ []) d h.received (up_to_sound v p q d sound root h.taken written h.at h.up_to)
+        or_pair_more v.pair_of_some (IsFrontOfAnswer written (answer q d)) h.taken sections (h.section ∷ []) d h.received (up_to_sound v p q d sound root h.taken written h.at h.up_to)
 
     -- a block of the wanted CID that isn't read there
     misread : Names h.section.cid h.section.block → h.section.cid ≡ h.at.cid → ((kind : Kind) → IsReadAt (position_of h.at.want) h.section kind → ⊥) → CollisionPair sections d
@@ -57,7 +57,7 @@ module _ (v : VerifiedLaws) (p : PeerLaws) (b : BesideLaws) (q : QueryParts) (li
         ap (λ (places : List Place). greatest (map (λ (p : Place). p.depth) places)) next.next in
         let less : number < greatest (map (λ (p : Place). p.depth) (traversal q d).places) = omega (arith, deep, here, most) in
         inl less)
-        (λ pair. inr (pair_more h.taken sections (h.section ∷ []) d h.received pair))
+        (λ pair. inr (pair_more v.pair_of_some h.taken sections (h.section ∷ []) d h.received pair))
         (v.beside q d h.taken given (open_block h.at.want h.at.cid ∷ h.up_to.later) sound root h.up_to.verified)
 
   -- ---- each refusal
@@ -65,7 +65,7 @@ module _ (v : VerifiedLaws) (p : PeerLaws) (b : BesideLaws) (q : QueryParts) (li
   module _ (computes : Computes) where
     pub refused_sound : (fault : Refusal) → HasRefused q limits sections written fault → IsItsFront q d sections written × SaysOfDag q d sections fault
     refused_sound (refusals.Extra number) h = (
-      or_pair_more (IsFrontOfAnswer written (answer q d)) h.taken sections (h.section ∷ []) d h.received
+      or_pair_more v.pair_of_some (IsFrontOfAnswer written (answer q d)) h.taken sections (h.section ∷ []) d h.received
           (answer_front v p q d sound root h.taken written (through_sound v p q d sound root h.taken written h.through)),
       tt,
     )

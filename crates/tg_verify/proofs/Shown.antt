@@ -1,12 +1,12 @@
 -- What was taken of a query's sections, what is written for them, and both beside a sound DAG.
-use Rattle.std.proofs.Common.{◌≡◌, ◌⊎◌, ◌++◌, ◌∷◌, ℕ, List, [], Some, inl, inr, ⊎_elim, refl, sym, true, ap, ◌∙◌, subst}
+use Rattle.std.proofs.Common.{◌≡◌, ◌≢◌, ◌⊎◌, ◌++◌, ◌∷◌, ℕ, Bool, Contains, List, [], Some, inl, inr, ⊎_elim, refl, sym, true, ap, ◌∙◌, subst}
 use Rattle.tg_cid.specs.Cid.{CidParts}
 use Rattle.tg_frames.specs.Left.{WantedAt}
 use Rattle.tg_laws.specs.PartialDags.{WriteFronts}
 use Rattle.tg_model.specs.Answer.{answer}
 use Rattle.tg_model.specs.Dag.{Dag, Section, blocks, root_cid}
 use Rattle.tg_model.specs.Ends.{StopsAlike}
-use Rattle.tg_model.specs.Fits.{CollisionPair, Fits, IsFrontOfAnswer, IsInProgress, IsOpenedFor, output_so_far}
+use Rattle.tg_model.specs.Fits.{CollisionPair, Fits, IfOnce, IsFrontOfAnswer, IsInProgress, IsOpenedFor, output_so_far}
 use Rattle.tg_model.specs.Lookup.{LookupEnd, lookup_path}
 use Rattle.tg_model.specs.Lookup as lookups
 use Rattle.tg_model.specs.PathWalk.{Spot, not_folder, not_there, stopped}
@@ -16,7 +16,7 @@ use Rattle.tg_model.specs.Traversal.{ListedEntry, Traversal, block_list, travers
 use Rattle.tg_traverse.specs.Stages.{Given, up_to_next}
 use Rattle.tg_traverse.specs.Tasks.{Miss, Task, give_entries, give_text, no_directory, no_entry, open_block, spot_of, stop_at, tasks_then, text_now}
 use Rattle.tg_traverse.specs.Verified.{GoesOn, IsAccepted, LeadsNowhere, Verified, VerifiedLaws, listing_at_end, written_whole}
-use Rattle.tg_verify.proofs.Fronts.{front_of_front, is_once, sent_all, whole_is_front}
+use Rattle.tg_verify.proofs.Fronts.{front_of_front, whole_is_front}
 use Rattle.tg_verify.specs.Laws.{IsFitOf, IsNowhereOf, IsProgressOf}
 use Rattle.tg_verify.specs.Sound.{IsItsAnswer, IsItsFront}
 use Rattle.tg_verify.specs.Taken.{IsFrontWritten, IsNowhere, IsThrough, IsUpTo, most_text}
@@ -62,7 +62,9 @@ module _ (v : VerifiedLaws) where
 
   pub up_to_progress : (q : QueryParts) (sections : List Section) (written : List ℕ) (at : WantedAt) → IsUpTo q sections written at → IsProgressOf q sections written (spot_of at.want at.cid)
   up_to_progress q sections written at h =
-      let goes : GoesOn q sections h.given (spot_of at.want at.cid) = v.goes q sections h.given at.want at.cid h.later (is_once q.dups _ h.repeats) h.verified in
+      let once : IfOnce q.dups ((section : Section) → Contains sections section → section.cid ≢ at.cid) =
+      subst (λ (repeats : Bool). IfOnce repeats ((section : Section) → Contains sections section → section.cid ≢ at.cid)) (sym h.repeats) tt in
+      let goes : GoesOn q sections h.given (spot_of at.want at.cid) = v.goes q sections h.given at.want at.cid h.later once h.verified in
       record { s = goes.s; progress = goes.progress; output = goes.output ∙ sym h.text }
 
   pub through_fits : (q : QueryParts) (sections : List Section) (written : List ℕ) → IsThrough q sections written → IsFitOf q sections written
@@ -101,7 +103,7 @@ module _ (v : VerifiedLaws) where
       -- the blocks are those sections
       of_sections : CollisionPair (blocks leads.s) d → CollisionPair sections d
       of_sections pair =
-          subst (λ (some : List Section). CollisionPair some d) (leads.opened.opened ∙ sym (sent_all q h.repeats (traversal q leads.s).places) ∙ leads.list) pair
+          subst (λ (some : List Section). CollisionPair some d) (leads.opened.opened ∙ sym (v.repeats_sent q h.repeats (traversal q leads.s).places) ∙ leads.list) pair
 
       pub nowhere_front : IsItsFront q d sections written
       nowhere_front = ⊎_elim

@@ -24,10 +24,10 @@ returns c =
       sound_through = λ q d sections written sound root h. through_sound v p q d sound root sections written h;
       sound_refused = λ q limits d sections written fault sound root h. refused_sound v p b q limits d sound root sections written computes fault h;
       fit_taken = λ q limits d sections rest section written text fault h within refused.
-          is_own_fault b computes q limits d sections rest section h.right.checked h.right.root h.list (not_whole _ h.end)
+          is_own_fault v.repeats_sent b computes q limits d sections rest section h.right.checked h.right.root h.list (not_whole _ h.end)
           (λ given tasks dups verified. v.fitting q d sections rest section text given tasks dups h verified) within written fault refused;
       progress_taken = λ q limits d sections rest section written wanted fault h within refused.
-          is_own_fault b computes q limits d sections rest section h.right.checked h.right.root h.list (not_gone _ wanted h.end)
+          is_own_fault v.repeats_sent b computes q limits d sections rest section h.right.checked h.right.root h.list (not_gone _ wanted h.end)
           (λ given tasks dups verified. v.in_progress q d sections rest section wanted given tasks dups h verified) within written fault refused;
       fit_through = λ state d sections written text fits h. fit_ends v state d sections written h text fits;
       progress_up_to = λ state d sections written wanted progress h. progress_waits v state d sections written h wanted progress;
