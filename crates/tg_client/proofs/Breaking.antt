@@ -27,7 +27,7 @@ use Rattle.tg_client.specs.Received.{HasReceived, sections_given}
 use Rattle.tg_client.specs.ReceivedLaws.{ReceivedLaws}
 use Rattle.tg_client.specs.declared.fault.ClientFault.{ClientFault}
 use Rattle.tg_client.specs.declared.fault.ClientFault.TheVariants as faults
-use Rattle.tg_client.proofs.Going.{held_front, is_front, surplus_of}
+use Rattle.tg_client.proofs.Going.{held_front, surplus_of}
 
 -- ---- by the reader
 
@@ -138,7 +138,7 @@ module _ (laws : AnswerLaws) (received : ReceivedLaws) (q : QueryParts) (limits 
         text = text;
         put = put;
         ends = surplus_of q limits.block heard (part ++ rest) given sections (written ++ text) number past are more through number_is;
-        sound = λ d sound root. (is_front q d sections (written ++ text) (laws.sound_through q d sections (written ++ text) sound root through), tt);
+        sound = λ d sound root. (laws.answer_front q d sections (written ++ text) (laws.sound_through q d sections (written ++ text) sound root through), tt);
         wanted = tt;
       }
 

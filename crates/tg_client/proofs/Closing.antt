@@ -22,7 +22,7 @@ use Rattle.tg_client.specs.Received.{in_car, out_of_car, sections_given}
 use Rattle.tg_client.specs.declared.body.Body.{Body}
 use Rattle.tg_client.specs.declared.fault.ClientFault.TheVariants as faults
 use Rattle.tg_client.proofs.Fronts.{none_in_header, none_in_section}
-use Rattle.tg_client.proofs.Going.{back_in, going_through, going_up_to, held_front, is_front, is_received, past_header, surplus_of}
+use Rattle.tg_client.proofs.Going.{back_in, held_front, is_received, past_header, surplus_of}
 use Rattle.tg_client.proofs.Sections.{placed_sections}
 
 -- bytes that end inside a section are no texts of sections
@@ -63,7 +63,7 @@ module _ (laws : AnswerLaws) (body : Body) (heard : List ℕ) (sections : List S
   pub cut_short : (at : WantedAt) → body.verifier.left.wanted ≡ Some at
       → HasEnded body.verifier.left.query body.verifier.limits heard sections written (Err (faults.Refused (refusals.Truncated at.cid body.verifier.taken)))
   cut_short at wanted =
-      let up_to = going_up_to body.verifier sections written h.going at wanted in
+      let up_to = laws.going_up_to body.verifier sections written h.going at wanted in
       record {
         received = is_received body heard sections written h;
         ends = (at, refl, record { up_to = up_to; number_is = h.going.count });
@@ -72,7 +72,7 @@ module _ (laws : AnswerLaws) (body : Body) (heard : List ℕ) (sections : List S
 
   pub accepted : body.verifier.left.wanted ≡ None → IsGivenOf heard h.given → HasEnded body.verifier.left.query body.verifier.limits heard sections written (Ok tt)
   accepted none g =
-      let through = going_through body.verifier sections written h.going none in
+      let through = laws.going_through body.verifier sections written h.going none in
       let given : sections_given h.given ≡ map out_of_car g.sections = ap sections_given g.given_is ∙ placed_sections (length g.text.header) g.sections g.text.rest g.placed g.placed_are in
       let same : map in_car sections ≡ g.sections = ap (map in_car) (sym h.sections_are ∙ given) ∙ back_in g.sections in
       let most : body.most ≡ body.verifier.limits.received = h.most in
@@ -89,7 +89,7 @@ module _ (laws : AnswerLaws) (body : Body) (heard : List ℕ) (sections : List S
   pub torn : (cars : CarLaws) (reader : ReaderState) (fault : CarFault) → body.verifier.left.wanted ≡ None → StandsFor reader (with_end {A = ⊤} (going_on heard h.given) (Err fault))
       → HasEnded body.verifier.left.query body.verifier.limits heard sections written (Err (faults.Refused (refusals.Extra body.verifier.taken)))
   torn cars reader fault none stands =
-      let through = going_through body.verifier sections written h.going none in
+      let through = laws.going_through body.verifier sections written h.going none in
       let given : 0 < length (sections_given h.given) = subst (λ (l : List Section). 0 < length l) (sym h.sections_are) (h.some none) in
       let past = past_header body.reader.limit heard h.given h.reads.exact.goes_on given in
       let some : 0 < length past.0 = torn_rest cars body.reader.limit reader.limit heard fault h.given past.0 past.1 stands.exact.stopped in
@@ -98,5 +98,5 @@ module _ (laws : AnswerLaws) (body : Body) (heard : List ℕ) (sections : List S
         received = is_received body heard sections written h;
         ends = subst (λ (l : List ℕ). HasSurplus body.verifier.left.query l sections written body.verifier.taken) (append-nil heard)
             (surplus_of body.verifier.left.query body.reader.limit heard [] h.given sections written body.verifier.taken past h.sections_are more through h.going.count);
-        sound = λ d sound root. (is_front body.verifier.left.query d sections written (laws.sound_through body.verifier.left.query d sections written sound root through), tt);
+        sound = λ d sound root. (laws.answer_front body.verifier.left.query d sections written (laws.sound_through body.verifier.left.query d sections written sound root through), tt);
       }

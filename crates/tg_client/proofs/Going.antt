@@ -5,20 +5,15 @@ use Rattle.tg_car.specs.History.{GoesOn, IsAmongSections}
 use Rattle.tg_car.specs.declared.event.Event.{Event}
 use Rattle.tg_car.specs.declared.event.Event.TheVariants as events
 use Rattle.tg_car.specs.declared.section.Section.{Section as CarSection}
-use Rattle.tg_cid.specs.Cid.{CidParts}
-use Rattle.tg_frames.specs.Left.{WantedAt, wanted_tasks}
-use Rattle.tg_model.specs.Answer.{answer}
-use Rattle.tg_model.specs.Dag.{Dag, Section}
-use Rattle.tg_model.specs.Fits.{IsFrontOfAnswer}
+use Rattle.tg_frames.specs.Left.{WantedAt}
+use Rattle.tg_model.specs.Dag.{Section}
 use Rattle.tg_model.specs.LimitNumbers.{LimitNumbers}
 use Rattle.tg_model.specs.Queries.{QueryParts}
 use Rattle.tg_streams.specs.Streams.{Output, Put}
-use Rattle.tg_traverse.specs.Tasks.{Task}
-use Rattle.tg_traverse.specs.Verified.{Verified}
 use Rattle.tg_verify.specs.Laws.{AnswerLaws}
-use Rattle.tg_verify.specs.Sound.{ForEachSound, IsItsAnswer, IsItsFront}
+use Rattle.tg_verify.specs.Sound.{ForEachSound, IsItsFront}
 use Rattle.tg_verify.specs.State.{VerifierState, count_of}
-use Rattle.tg_verify.specs.Taken.{IsGoing, IsThrough, IsUpTo, IsWrittenAt}
+use Rattle.tg_verify.specs.Taken.{IsGoing, IsThrough}
 use Rattle.tg_client.specs.Body.{IsAfterWanted, IsBody, IsStopped, unknown}
 use Rattle.tg_client.specs.Ends.{EndsBy, HasSurplus, IsHeld, SaysFor}
 use Rattle.tg_client.specs.Received.{HasReceived, in_car, out_of_car, sections_given}
@@ -28,32 +23,10 @@ use Rattle.tg_client.proofs.Sections.{among_sections}
 
 -- ---- a verifier that goes on, by whether a block is wanted
 
-module _ (state : VerifierState) (sections : List Section) (written : List ℕ) (h : IsGoing state sections written) where
-  pub going_up_to : (at : WantedAt) → state.left.wanted ≡ Some at → IsUpTo state.left.query sections written at
-  going_up_to at e =
-      let writes = subst (λ (w : Option WantedAt). IsWrittenAt state h.given written w) e h.writes in
-      record {
-        repeats = h.repeats;
-        given = h.given;
-        later = state.left.later;
-        verified = subst (λ (w : Option WantedAt). Verified state.left.query sections h.given (wanted_tasks w ++ state.left.later)) e h.verified;
-        text = writes.0;
-      }
-
-  pub going_through : state.left.wanted ≡ None → IsThrough state.left.query sections written
-  going_through e =
-      let writes = subst (λ (w : Option WantedAt). IsWrittenAt state h.given written w) e h.writes in
-      let verified = subst (λ (w : Option WantedAt). Verified state.left.query sections h.given (wanted_tasks w ++ state.left.later)) e h.verified in
-      record {
-        repeats = h.repeats;
-        given = h.given;
-        verified = subst (λ (tasks : List (Task CidParts)). Verified state.left.query sections h.given tasks) writes.0 verified;
-        text = writes.1;
-      }
-
+module _ (laws : AnswerLaws) (state : VerifierState) (sections : List Section) (written : List ℕ) (h : IsGoing state sections written) where
   held_by : (wanted : Option WantedAt) → state.left.wanted ≡ wanted → IsHeld state.left.query sections written
-  held_by (Some at) e = inl (at, going_up_to at e)
-  held_by None e = inr (going_through e)
+  held_by (Some at) e = inl (at, laws.going_up_to state sections written h at e)
+  held_by None e = inr (laws.going_through state sections written h e)
 
   pub is_held : IsHeld state.left.query sections written
   is_held = held_by state.left.wanted refl
@@ -68,16 +41,9 @@ is_received body heard sections written h = record {
 
 -- ---- of each sound DAG
 
-answer_front : (written : List ℕ) (told : Option (List ℕ)) → told ≡ Some written → IsFrontOfAnswer written told
-answer_front written told e = subst (λ (o : Option (List ℕ)). IsFrontOfAnswer written o) (sym e) ([], sym (append-nil written))
-
-pub is_front : (q : QueryParts) (d : Dag) (sections : List Section) (written : List ℕ) → IsItsAnswer q d sections written → IsItsFront q d sections written
-is_front q d sections written (inl e) = inl (answer_front written (answer q d) e)
-is_front q d sections written (inr pair) = inr pair
-
 pub held_front : AnswerLaws → (q : QueryParts) (sections : List Section) (written : List ℕ) → IsHeld q sections written → ForEachSound q (λ d. IsItsFront q d sections written)
 held_front laws q sections written (inl (at, up_to)) d sound root = laws.sound_up_to q d sections written at sound root up_to
-held_front laws q sections written (inr through) d sound root = is_front q d sections written (laws.sound_through q d sections written sound root through)
+held_front laws q sections written (inr through) d sound root = laws.answer_front q d sections written (laws.sound_through q d sections written sound root through)
 
 -- ---- a refusal with which nothing more is put
 

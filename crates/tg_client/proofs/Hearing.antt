@@ -80,7 +80,7 @@ pub fault_heard : AnswerLaws → (limits : LimitNumbers) (q : QueryParts) (body 
     → IsVerified q limits input out (Err faults.InputFault)
 fault_heard laws limits q body input out query same come =
     let w = come.went in
-    let held = subst (λ (q : QueryParts). IsHeld q w.sections w.text) query (is_held body.verifier w.sections w.text w.is_body.going) in
+    let held = subst (λ (q : QueryParts). IsHeld q w.sections w.text) query (is_held laws body.verifier w.sections w.text w.is_body.going) in
     as_verified q limits input out faults.InputFault (λ sections. tt) (record {
       heard = come.heard;
       unheard = [];

@@ -30,7 +30,7 @@ use Rattle.tg_client.specs.ReceivedLaws.{ReceivedLaws}
 use Rattle.tg_client.specs.declared.body.Body.{Body}
 use Rattle.tg_client.specs.declared.fault.ClientFault.TheVariants as faults
 use Rattle.tg_client.proofs.Breaking.{car_ends, car_says, car_wants, refused_now}
-use Rattle.tg_client.proofs.Going.{going_through, going_up_to, held_front, is_front, is_held, is_received, past_header, past_header_then, stopped_here, surplus_of}
+use Rattle.tg_client.proofs.Going.{held_front, is_held, is_received, past_header, past_header_then, stopped_here, surplus_of}
 
 -- ---- whether a block is wanted
 
@@ -76,20 +76,20 @@ module _ (laws : AnswerLaws) (body : Body) (heard : List ℕ) (sections : List S
       let all : length heard ≡ body.most = omega (arith, full, h.within, h.count) in
       stopped_here body.verifier.left.query body.verifier.limits (heard ++ piece) heard piece sections written out (faults.Refused (refusals.Limit kinds.Received body.most)) refl
       (is_received body heard sections written h) put
-      (record { number_is = h.most; heard_is = all; some = some; held = is_held body.verifier sections written h.going })
-      (λ d sound root. (held_front laws body.verifier.left.query sections written (is_held body.verifier sections written h.going) d sound root, tt)) tt
+      (record { number_is = h.most; heard_is = all; some = some; held = is_held laws body.verifier sections written h.going })
+      (λ d sound root. (held_front laws body.verifier.left.query sections written (is_held laws body.verifier sections written h.going) d sound root, tt)) tt
 
   pub behind_last : (piece : List ℕ) (out : Output) → body.verifier.left.wanted ≡ None → 0 < length piece → Put [] out
       → IsStopped body.verifier.left.query body.verifier.limits (heard ++ piece) written out (faults.Refused (refusals.Extra body.verifier.taken))
   behind_last piece out none some put =
-      let through = going_through body.verifier sections written h.going none in
+      let through = laws.going_through body.verifier sections written h.going none in
       let given : 0 < length (sections_given h.given) = subst (λ (l : List Section). 0 < length l) (sym h.sections_are) (h.some none) in
       let past = past_header body.reader.limit heard h.given h.reads.exact.goes_on given in
       let more : 0 < length (past.0 ++ piece) = omega (arith, some, length-append past.0 piece) in
       stopped_here body.verifier.left.query body.verifier.limits (heard ++ piece) heard piece sections written out (faults.Refused (refusals.Extra body.verifier.taken)) refl
       (is_received body heard sections written h) put
       (surplus_of body.verifier.left.query body.reader.limit heard piece h.given sections written body.verifier.taken past h.sections_are more through h.going.count)
-      (λ d sound root. (is_front body.verifier.left.query d sections written (laws.sound_through body.verifier.left.query d sections written sound root through), tt)) tt
+      (λ d sound root. (laws.answer_front body.verifier.left.query d sections written (laws.sound_through body.verifier.left.query d sections written sound root through), tt)) tt
 
   -- ---- the reader refuses
 
@@ -105,7 +105,7 @@ module _ (laws : AnswerLaws) (body : Body) (heard : List ℕ) (sections : List S
   reader_stops reader piece room out fault at wanted stands limit put =
       let same : reader.limit ≡ body.verifier.limits.block = limit ∙ h.limit in
       let stop : StopsAt body.verifier.limits.block heard h.given (take room piece) fault = subst (λ (n : ℕ). StopsAt n heard h.given (take room piece) fault) same stands.exact.stopped in
-      let up_to = going_up_to body.verifier sections written h.going at wanted in
+      let up_to = laws.going_up_to body.verifier sections written h.going at wanted in
       let rest : List ℕ = stop.more ++ drop room piece in
       stopped_here body.verifier.left.query body.verifier.limits (heard ++ piece) (heard ++ stop.front) (stop.last ∷ rest) sections written out (fault_of_car fault)
       (split_at piece stop.front stop.more stop.last room stop.whole)
@@ -178,7 +178,7 @@ module _ (laws : AnswerLaws) (body : Body) (heard : List ℕ) (sections : List S
         (refused_now laws received body.verifier.left.query body.verifier.limits heard (take taken piece) (drop taken piece) h.given sections (out_of_car section)
         (is_received body heard sections written h) after
         (past_header_then body.verifier.limits.block body.verifier.limits.block heard (heard ++ take taken piece) h.given at size section on after.goes_on)
-        h.sections_are some_left written w.text out w.put wanted_at (going_up_to body.verifier sections written h.going wanted_at wanted) fault refused_here cause sound)
+        h.sections_are some_left written w.text out w.put wanted_at (laws.going_up_to body.verifier sections written h.going wanted_at wanted) fault refused_here cause sound)
 
   -- with no section
   pub step_taken : (reader : ReaderState) (piece : List ℕ) (taken count : ℕ) (event : Event) (out : Output) → sections_given (given_by event) ≡ []

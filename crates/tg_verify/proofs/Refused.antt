@@ -66,7 +66,7 @@ module _ (v : VerifiedLaws) (p : PeerLaws) (b : BesideLaws) (q : QueryParts) (li
     pub refused_sound : (fault : Refusal) → HasRefused q limits sections written fault → IsItsFront q d sections written × SaysOfDag q d sections fault
     refused_sound (refusals.Extra number) h = (
       or_pair_more v.pair_of_some (IsFrontOfAnswer written (answer q d)) h.taken sections (h.section ∷ []) d h.received
-          (answer_front v p q d sound root h.taken written (through_sound v p q d sound root h.taken written h.through)),
+          (answer_front q d h.taken written (through_sound v p q d sound root h.taken written h.through)),
       tt,
     )
     refused_sound (refusals.Limit kinds.Block number) h = (refused_front _ h, tt)

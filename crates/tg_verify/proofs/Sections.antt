@@ -54,7 +54,7 @@ module _ (laws : AnswerLaws) (state : VerifierState) (sections : List Section) (
   sound_of (Err fault) h progress d sound root = laws.sound_refused state.left.query state.limits d sections written fault sound root h
 
   -- with the refusal kept
-  stands_by : (refused : Option Refusal) (result : Result Progress Refusal) → MatchResult result (λ _. refused ≡ None) (λ fault. refused ≡ Some fault)
+  pub stands_by : (refused : Option Refusal) (result : Result Progress Refusal) → MatchResult result (λ _. refused ≡ None) (λ fault. refused ≡ Some fault)
       → StandsAfter result state sections written → StandsFor (record state { refused = refused }) sections written
   stands_by refused (Ok progress) e h =
       subst (λ (r : Option Refusal). StandsBy r (record state { refused = refused }) sections written) (sym e)

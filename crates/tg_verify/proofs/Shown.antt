@@ -33,6 +33,12 @@ pub record PeerLaws : Type 0 where
   pub not_folder : (q : QueryParts) (d s : Dag) (i : ℕ) → IsSound d → root_cid d ≡ q.root → IsOpenedFor s q → (traversal q s).end ≡ stopped (not_folder i)
       → StopsAlike (not_folder i) (lookup_path q.path d) ⊎ CollisionPair (blocks s) d
 
+-- ---- an answer is a front of itself
+
+pub answer_front : (q : QueryParts) (d : Dag) (sections : List Section) (written : List ℕ) → IsItsAnswer q d sections written → IsItsFront q d sections written
+answer_front q d sections written (inl e) = inl (whole_is_front (answer q d) written e)
+answer_front q d sections written (inr pair) = inr pair
+
 -- ---- how tasks go on
 
 data Then (tasks : List (Task CidParts)) : Type 0 where
@@ -89,10 +95,6 @@ module _ (v : VerifiedLaws) where
     through_sound written h =
         let fit : IsFitOf q sections written = through_fits q sections written h in
         ⊎_elim (λ both. inl both.1) (λ pair. inr pair) (p.accepted q d fit.s sections written sound root fit.fits)
-
-    pub answer_front : (written : List ℕ) → IsItsAnswer q d sections written → IsItsFront q d sections written
-    answer_front written (inl e) = inl (whole_is_front (answer q d) written e)
-    answer_front written (inr pair) = inr pair
 
     -- where a segment leads nowhere
 
@@ -156,7 +158,7 @@ module _ (v : VerifiedLaws) where
           text = refl;
         } in
         shorter (written_whole q next) (given.text ++ text_now tasks) (listing_at_end q.scope next.met) refl
-        (answer_front (written_whole q next) (through_sound (written_whole q next) through))
+        (answer_front q d sections (written_whole q next) (through_sound (written_whole q next) through))
     front_by repeats given tasks verified (then_block at more e) =
         let next = up_to_next tasks given in
         up_to_sound (given.text ++ text_now tasks) at (record {
@@ -178,7 +180,7 @@ module _ (v : VerifiedLaws) where
 
     most_by : (repeats : q.dups ≡ true) (given : Given) (tasks : List (Task CidParts)) → Verified q sections given tasks → IsItsFront q d sections (most_text q given tasks)
     most_by repeats given [] verified =
-        answer_front (written_whole q given) (through_sound (written_whole q given) (record { repeats = repeats; given = given; verified = verified; text = refl }))
+        answer_front q d sections (written_whole q given) (through_sound (written_whole q given) (record { repeats = repeats; given = given; verified = verified; text = refl }))
     most_by repeats given (task ∷ tasks) verified =
         let all = task ∷ tasks in
         shorter (given.text ++ text_now all) given.text (text_now all) refl (front_by repeats given all (v.up_to_next q sections given all verified) (how_then all))

@@ -47,7 +47,21 @@ ThroughFits = (q : QueryParts) (sections : List Section) (written : List ℕ) �
 abbrev pub NowhereLeads : Type 0
 NowhereLeads = (q : QueryParts) (sections : List Section) (written : List ℕ) (miss : Miss) → IsNowhere q sections written miss → IsNowhereOf q sections written miss
 
+-- ---- a verifier that goes on, by whether a block is wanted
+
+abbrev pub GoingUpTo : Type 0
+GoingUpTo = (state : VerifierState) (sections : List Section) (written : List ℕ) → IsGoing state sections written → (at : WantedAt) → state.left.wanted ≡ Some at
+    → IsUpTo state.left.query sections written at
+
+abbrev pub GoingThrough : Type 0
+GoingThrough = (state : VerifierState) (sections : List Section) (written : List ℕ) → IsGoing state sections written → state.left.wanted ≡ None
+    → IsThrough state.left.query sections written
+
 -- ---- beside each sound DAG of the query's root
+
+-- an answer is a front of itself
+abbrev pub AnswerIsFront : Type 0
+AnswerIsFront = (q : QueryParts) (d : Dag) (sections : List Section) (written : List ℕ) → IsItsAnswer q d sections written → IsItsFront q d sections written
 
 abbrev pub UpToSound : Type 0
 UpToSound = (q : QueryParts) (d : Dag) (sections : List Section) (written : List ℕ) (at : WantedAt) → IsSound d → root_cid d ≡ q.root
@@ -105,3 +119,6 @@ pub record AnswerLaws : Type 0 where
   pub progress_taken : ProgressIsTaken
   pub fit_through : FitIsThrough
   pub progress_up_to : ProgressIsUpTo
+  pub going_up_to : GoingUpTo
+  pub going_through : GoingThrough
+  pub answer_front : AnswerIsFront

@@ -8,7 +8,8 @@ use tg_traverse::{beside_dags, verified_sections};
 
 /// What follows from what a verifier stands for: the sections are in progress, or fit, and their text is written; beside each sound DAG
 /// with the query's root it is the DAG's answer, or a front of it, or a received block and one of the DAG are different bytes with one
-/// SHA-256; and sections that fit, or are in progress, are taken.
+/// SHA-256; and sections that fit, or are in progress, are taken. A verifier that goes on is up to the wanted block, or through where
+/// none is wanted; and an answer is a front of itself.
 ///
 /// Trustless Gateway specification, dag-scope and entity-bytes.
 pub fn verified_answers()

@@ -1,7 +1,8 @@
 use Rattle.tg_verify.proofs.Endings.{fit_ends, not_gone, not_whole, progress_waits}
+use Rattle.tg_verify.proofs.Opened.{going_through, going_up_to}
 use Rattle.tg_verify.proofs.Passing.{is_own_fault}
 use Rattle.tg_verify.proofs.Refused.{refused_sound}
-use Rattle.tg_verify.proofs.Shown.{PeerLaws, nowhere_leads, through_fits, through_sound, up_to_progress, up_to_sound}
+use Rattle.tg_verify.proofs.Shown.{PeerLaws, answer_front, nowhere_leads, through_fits, through_sound, up_to_progress, up_to_sound}
 use Rattle.tg_verify.proofs.laws.verified_answers.Goals as goal
 
 pub returns : goal.returns
@@ -31,4 +32,7 @@ returns c =
           (λ given tasks dups verified. v.in_progress q d sections rest section wanted given tasks dups h verified) within written fault refused;
       fit_through = λ state d sections written text fits h. fit_ends v state d sections written h text fits;
       progress_up_to = λ state d sections written wanted progress h. progress_waits v state d sections written h wanted progress;
+      going_up_to = going_up_to;
+      going_through = going_through;
+      answer_front = answer_front;
     }
