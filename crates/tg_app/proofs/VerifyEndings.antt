@@ -1,6 +1,6 @@
 -- What each exit status says of `verify`.
 use Rattle.std.proofs.Common.{◌≡◌, ◌≢◌, ℕ, ◌⊎◌, inl, inr, List, [], ◌∷◌, ◌++◌, Option, Some, None, Err, refl, sym, ap, ◌∙◌, subst, append-nil, arith, rules}
-use Rattle.std.specs.Prelude.{true}
+use Rattle.std.specs.Prelude.{Ok, Result, true, ⊤}
 use Rattle.tg_app.specs.Blocks.{Untouched}
 use Rattle.tg_app.specs.Lines.{exit_status, status_of}
 use Rattle.tg_app.specs.Verify.{IsGoodCar, IsNoAnswer, IsVerifyRefusal, NotAccepted, ShowsSome, TellsVerify, VerifiedInput, VerifyEnds, Vouched}
@@ -10,20 +10,21 @@ use Rattle.tg_app.proofs.Statuses.{not_zero}
 use Rattle.tg_bytes.specs.Told.{after_front, grown}
 use Rattle.tg_car.specs.CarText.{header_map}
 use Rattle.tg_car.specs.Fronts.{IsInHeader}
-use Rattle.tg_client.specs.Ends.{HasStreamCause, IsOwnEnd, SaysFor}
+use Rattle.tg_client.specs.Ends.{HasStreamCause, IsOwnEnd, SaysFor, Verifies}
 use Rattle.tg_client.specs.declared.fault.ClientFault.{ClientFault}
 use Rattle.tg_client.specs.declared.fault.ClientFault.TheVariants as clients
 use Rattle.tg_frames.specs.Left.{WantedAt}
 use Rattle.tg_model.specs.Answer.{answer}
 use Rattle.tg_model.specs.Dag.{Dag, Section, root_cid}
 use Rattle.tg_model.specs.Fits.{CollisionPair, IsFrontOfAnswer}
+use Rattle.tg_model.specs.LimitNumbers.{standard}
 use Rattle.tg_model.specs.Queries.{QueryParts}
 use Rattle.tg_model.specs.Sound.{IsSound}
 use Rattle.tg_streams.specs.Streams.{Input, InputQuiet, InputRose, Output, OutputQuiet, OutputRose, Took}
 use Rattle.tg_traverse.specs.Stages.{nothing_given}
 use Rattle.tg_traverse.specs.Tasks.{path_want}
 use Rattle.tg_traverse.specs.Verified.{VerifiedStarts}
-use Rattle.tg_verify.specs.Laws.{ThroughFits}
+use Rattle.tg_verify.specs.Laws.{AnswerIsFront, ThroughFits}
 use Rattle.tg_verify.specs.Sound.{IsItsAnswer, IsItsFront}
 use Rattle.tg_verify.specs.Taken.{IsUpTo}
 use Rattle.tg_verify.specs.declared.fault.Refusal.TheVariants as verifiers
@@ -160,15 +161,6 @@ verify_answered_of q bytes input out (Some refusal) told good no_in no_out ends 
 
 -- ---- beside a sound DAG
 
--- an answer is a front of itself
-front_of_itself : (found : Option (List ℕ)) (text : List ℕ) → found ≡ Some text → IsFrontOfAnswer text found
-front_of_itself None text e = cc
-front_of_itself (Some all) text e = let same : all ≡ text = cc in ([], same ∙ sym (append-nil text))
-
-answer_is_front : (q : QueryParts) (d : Dag) (sections : List Section) (text : List ℕ) → IsItsAnswer q d sections text → IsItsFront q d sections text
-answer_is_front q d sections text (inl is) = inl (front_of_itself (answer q d) text is)
-answer_is_front q d sections text (inr pair) = inr pair
-
 front_at_fault : (q : QueryParts) (d : Dag) (sections : List Section) (text : List ℕ) (fault : ClientFault) → SaysFor q d sections text (Err fault) → IsItsFront q d sections text
 front_at_fault q d sections text (clients.Refused fault) says = says.0
 front_at_fault q d sections text fault says = says
@@ -185,40 +177,37 @@ nowhere_for : (q : QueryParts) (d : Dag) (sections : List Section) (text : List 
 nowhere_for q d sections text fault refusal e (inl h) says = nowhere_at_9 q d sections text fault (sym h ∙ e) says
 nowhere_for q d sections text fault refusal e (inr h) says = let k = sym h.1 ∙ e in cc
 
-vouched_by : (q : QueryParts) (d : Dag) (input : Input) (out : Output) (end : Option Refusal) → IsSound d → root_cid d ≡ q.root → VerifyEnds q input out end
-    → Vouched q d input out (exit_status end)
-vouched_by q d input out None sound root ends =
-    let did = ends.verifies in
-    record {
-      heard = did.heard;
-      unheard = did.unheard;
-      took = did.took;
-      sections = did.sections;
-      received = did.received;
-      text = did.text;
-      put = did.put;
-      accepted = λ e. did.sound d sound root;
-      front = answer_is_front q d did.sections did.text (did.sound d sound root);
-      nowhere = λ e. cc;
-    }
-vouched_by q d input out (Some refusal) sound root ends =
-    let did = ends.verifies in
-    record {
-      heard = did.heard;
-      unheard = did.unheard;
-      took = did.took;
-      sections = did.sections;
-      received = did.received;
-      text = did.text;
-      put = did.put;
-      accepted = λ e. absurd (not_zero refusal e);
-      front = front_at_fault q d did.sections did.text ends.fault (did.sound d sound root);
-      nowhere = λ e. nowhere_for q d did.sections did.text ends.fault refusal e (has_status ends.fault refusal ends.tells) (did.sound d sound root);
-    }
+vouched_at : (q : QueryParts) (d : Dag) (input : Input) (out : Output) (result : Result ⊤ ClientFault) (status : ℕ) → (did : Verifies q standard input out result)
+    → (status ≡ 0 → IsItsAnswer q d did.sections did.text) → IsItsFront q d did.sections did.text → (status ≡ 9 → IsNoAnswer q d ⊎ CollisionPair did.sections d)
+    → Vouched q d input out status
+vouched_at q d input out result status did accepted front nowhere = record {
+  heard = did.heard;
+  unheard = did.unheard;
+  took = did.took;
+  sections = did.sections;
+  received = did.received;
+  text = did.text;
+  put = did.put;
+  accepted = accepted;
+  front = front;
+  nowhere = nowhere;
+}
 
-pub vouched_of : (q : QueryParts) (d : Dag) (input : Input) (out : Output) (end : Option Refusal) (status : ℕ) → status ≡ exit_status end → IsSound d → root_cid d ≡ q.root
+vouched_by : AnswerIsFront → (q : QueryParts) (d : Dag) (input : Input) (out : Output) (end : Option Refusal) → IsSound d → root_cid d ≡ q.root → VerifyEnds q input out end
+    → Vouched q d input out (exit_status end)
+vouched_by law q d input out None sound root ends =
+    let did = ends.verifies in
+    let is = did.sound d sound root in
+    vouched_at q d input out (Ok ends.done) 0 did (λ e. is) (law q d did.sections did.text is) (λ e. cc)
+vouched_by law q d input out (Some refusal) sound root ends =
+    let did = ends.verifies in
+    let says = did.sound d sound root in
+    vouched_at q d input out (Err ends.fault) (status_of refusal) did (λ e. absurd (not_zero refusal e)) (front_at_fault q d did.sections did.text ends.fault says)
+    (λ e. nowhere_for q d did.sections did.text ends.fault refusal e (has_status ends.fault refusal ends.tells) says)
+
+pub vouched_of : AnswerIsFront → (q : QueryParts) (d : Dag) (input : Input) (out : Output) (end : Option Refusal) (status : ℕ) → status ≡ exit_status end → IsSound d → root_cid d ≡ q.root
     → VerifyEnds q input out end → Vouched q d input out status
-vouched_of q d input out end status e sound root ends = subst (Vouched q d input out) (sym e) (vouched_by q d input out end sound root ends)
+vouched_of law q d input out end status e sound root ends = subst (Vouched q d input out) (sym e) (vouched_by law q d input out end sound root ends)
 
 -- ---- nothing was done for want of memory
 

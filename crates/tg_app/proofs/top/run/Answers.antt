@@ -138,4 +138,4 @@ returns-clause-verify_answered g c = λ q bytes line told good no_in no_out.
 
 pub returns-clause-vouched_answer : goal.returns-clause-vouched_answer
 returns-clause-vouched_answer g c = λ q d line sound root.
-    vouched_of q d _ _ _ _ c.tell.ensures.status sound root (ends_of c.verified_sections.ensures.start _ (Verify q) _ _ line c.command-end.ensures.ends).1
+    vouched_of c.verified_answers.ensures.answer_front q d _ _ _ _ c.tell.ensures.status sound root (ends_of c.verified_sections.ensures.start _ (Verify q) _ _ line c.command-end.ensures.ends).1
