@@ -10,14 +10,13 @@ use Rattle.std.proofs.lemmas.Map.Keys.{IsDistinct-IsPermutation}
 use Rattle.std.specs.Cmp.Lexicographic.{nat_list_eq_equiv}
 use Rattle.tg_bytes.specs.Order.{bytes_cmp}
 use Rattle.tg_cid.specs.Computed.{v1_bytes}
-use Rattle.tg_dir.proofs.OneBlock.{NodeLaws, all_listed, all_tsizes, basic_dag, basic_laid, basic_sound}
+use Rattle.tg_dir.proofs.OneBlock.{all_listed, all_tsizes, basic_dag, basic_laid, basic_sound}
 use Rattle.tg_dir.proofs.Orders.{entries_sorted}
 use Rattle.tg_dir.proofs.Pairs.{EntryDag, IsInOrder, IsLed, all_laid, all_led, block_in, children_are, children_in, entries_are, entries_in, in_order, listed, listed_are, of_pair, pairs_of}
 use Rattle.tg_dir.specs.Basic.{MakesBasic}
 use Rattle.tg_dir.specs.Made.{IsMadeBy, MakesDirectory}
 use Rattle.tg_dir.specs.Weights.{weight_for, weight_in}
 use Rattle.tg_hamt.specs.Directories.{AreGoodEntries, AreSound, IsMadeDirectory, MakesSharded, listed_for}
-use Rattle.tg_hamt.specs.Links.{section_of}
 use Rattle.tg_hamt.specs.Order.{IsGoodEntry}
 use Rattle.tg_model.specs.Content.{DirEntry, entries}
 use Rattle.tg_model.specs.Dag.{Children, blocks_of_children, no_child, root_cid, with_child}
@@ -27,7 +26,9 @@ use Rattle.tg_model.specs.Sound.{top}
 use Rattle.tg_model.specs.Stores.{Keeping}
 use Rattle.tg_model.specs.declared.kinds.Made.{Made}
 use Rattle.tg_model.specs.declared.kinds.NewEntry.{NewEntry}
-use Rattle.tg_writing.specs.Nodes.{IsNodeOf, LeadTo}
+use Rattle.tg_writing.specs.Nodes.{IsNodeOf, LeadTo, NodeLaws}
+use Rattle.tg_writing.specs.Keeping.{section_of}
+use Rattle.tg_cid.specs.declared.cid.Codec.TheVariants.{DagPb}
 
 -- ---- weights
 
@@ -100,31 +101,31 @@ module _ (laws : NodeLaws) (threshold : ℕ) (new : List NewEntry) (children : C
   lists = subst (λ (l : List DirEntry). IsPermutation l (entries (basic_dag o.moved m.kept.block))) (listed_are new children)
       (subst (IsPermutation (map listed (pairs_of new children))) (sym (all_listed o.moved)) (IsPermutation-map listed (pairs_of new children) o.moved o.permutation))
 
-  pub directory_basic : IsMadeDirectory new children made (section_of m.kept.block ∷ []) (basic_dag o.moved m.kept.block)
+  pub directory_basic : IsMadeDirectory new children made (section_of DagPb m.kept.block ∷ []) (basic_dag o.moved m.kept.block)
   directory_basic = record {
     sound = basic_sound laws o.moved m.kept.block written led
         (names_good (entries_in o.moved) (All-permutation IsGoodEntry new (entries_in o.moved) permuted good.each)) differ;
     lists = lists;
     blocks_are = λ b has. ⊎_elim
-        (λ (here : Contains (section_of m.kept.block ∷ []) b). inl here)
+        (λ (here : Contains (section_of DagPb m.kept.block ∷ []) b). inl here)
         (λ (there : Contains (blocks_of_children (children_in o.moved)) b).
         let found = of_pair o.moved b there in
         let among = Contains-permutation o.moved (pairs_of new children) found.pair (IsPermutation-sym (pairs_of new children) o.moved o.permutation) found.among in
         inr (subst (λ (c : Children). Contains (blocks_of_children c) b) (children_are new children lead) (block_in (pairs_of new children) found.pair b among found.has)))
-        (Contains-append_cases (section_of m.kept.block ∷ []) (blocks_of_children (children_in o.moved)) b has);
-    own_blocks = λ b has. Contains-append_left (section_of m.kept.block ∷ []) (blocks_of_children (children_in o.moved)) b has;
-    plain = All-cons HasPlainCid (section_of m.kept.block) [] (refl, refl) (All-nil HasPlainCid);
+        (Contains-append_cases (section_of DagPb m.kept.block ∷ []) (blocks_of_children (children_in o.moved)) b has);
+    own_blocks = λ b has. Contains-append_left (section_of DagPb m.kept.block ∷ []) (blocks_of_children (children_in o.moved)) b has;
+    plain = All-cons HasPlainCid (section_of DagPb m.kept.block) [] (refl, refl) (All-nil HasPlainCid);
     cid = m.kept.cid_is;
     content_is = m.kept.content_is;
     tsize = m.kept.tsize_is
         ∙ ap (λ (n : ℕ). length m.kept.block + n) (ap (λ (l : List NewEntry). sum_by (λ (e : NewEntry). e.tsize) l) (sym o.entries) ∙ all_tsizes o.moved led);
   }
 
-  pub made_basic : IsMadeBy threshold new children made (section_of m.kept.block ∷ []) (basic_dag o.moved m.kept.block)
+  pub made_basic : IsMadeBy threshold new children made (section_of DagPb m.kept.block ∷ []) (basic_dag o.moved m.kept.block)
   made_basic = record {
     directory = directory_basic;
     sharded = λ heavy. absurd (omega (arith, heavy, light));
-    basic = λ h. (section_of m.kept.block, _, children_in o.moved, refl);
+    basic = λ h. (section_of DagPb m.kept.block, _, children_in o.moved, refl);
     laid = λ options is laid.
         let weight = weight_is new children (entries (basic_dag o.moved m.kept.block)) lead lists in
         basic_laid laws options o.moved m.kept.block written led
@@ -136,7 +137,7 @@ module _ (laws : NodeLaws) (threshold : ℕ) (new : List NewEntry) (children : C
 pub basic_made : NodeLaws → (threshold : ℕ) (new : List NewEntry) (made : Made) (keeping : Keeping) → AreGoodEntries new → weight_for new ≤ threshold → MakesBasic new made keeping
     → MakesDirectory threshold new made keeping
 basic_made laws threshold new made keeping good light m = record {
-  sections = section_of m.kept.block ∷ [];
+  sections = section_of DagPb m.kept.block ∷ [];
   keeps = m.kept.keeps;
   directory = λ children lead sound.
       let o = in_order (pairs_of new children) m.sorted (subst (λ (l : List NewEntry). IsPermutation l m.sorted) (sym (entries_are new children lead)) m.permutation) in

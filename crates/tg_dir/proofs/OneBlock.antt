@@ -8,26 +8,18 @@ use Rattle.tg_cid.specs.Cid.{CidParts}
 use Rattle.tg_dagpb.specs.declared.Link.{Link}
 use Rattle.tg_dir.proofs.Orders.{basic_entry}
 use Rattle.tg_dir.proofs.Pairs.{EntryDag, IsLed, children_in, entries_in, listed}
-use Rattle.tg_hamt.specs.Links.{section_of}
 use Rattle.tg_model.specs.Content.{DirEntry, entries, named_children}
 use Rattle.tg_model.specs.Dag.{AreWhole, Dag, node, root_cids}
 use Rattle.tg_model.specs.EntryNames.{IsGoodName}
 use Rattle.tg_model.specs.ImportLayout.{AreLaidAt, AreSorted, IsLaidAt, IsWritten, LayoutOptions, basic_unix, tsizes_of, weight_of}
-use Rattle.tg_model.specs.Reading.{IsUnixNode, ReadsNode, entries_of, name_of}
+use Rattle.tg_model.specs.Reading.{ReadsNode, entries_of, name_of}
 use Rattle.tg_model.specs.Sound.{AreCheckedAt, IsSound, top}
 use Rattle.tg_model.specs.declared.kinds.Entry.{Entry}
 use Rattle.tg_model.specs.declared.kinds.Kind.TheVariants.{Basic}
 use Rattle.tg_model.specs.declared.kinds.NewEntry.{NewEntry}
-use Rattle.tg_unixfs.specs.declared.Unix.{Unix}
-use Rattle.tg_writing.specs.Nodes.{IsNodeOf, LeadTo}
-use Rattle.tg_model.specs.Dag.{Children}
-
--- what is known of a written node
-pub record NodeLaws : Type 0 where
-  pub written : (entries : List NewEntry) (unix : Unix) (block : List ℕ) (children : Children) → IsNodeOf entries unix block → LeadTo entries children
-      → IsWritten block (map (λ e. e.name) entries) children unix
-  pub unix_node : (entries : List NewEntry) (unix : Unix) (block : List ℕ) → IsNodeOf entries unix block
-      → (links : List Link) × IsUnixNode block links (map (λ e. e.cid) entries) unix × (map name_of links ≡ map (λ e. e.name) entries)
+use Rattle.tg_writing.specs.Nodes.{IsNodeOf, LeadTo, NodeLaws}
+use Rattle.tg_writing.specs.Keeping.{section_of}
+use Rattle.tg_cid.specs.declared.cid.Codec.TheVariants.{DagPb}
 
 -- the links are read as the entries
 read_entries : (links : List Link) (es : List NewEntry) → map name_of links ≡ map (λ (e : NewEntry). e.name) es
@@ -98,7 +90,7 @@ all_laid_at options (pair ∷ pairs) h = (
 -- ---- the directory
 
 abbrev pub basic_dag : List EntryDag → List ℕ → Dag
-basic_dag pairs block = node (section_of block) (Basic (map basic_entry (entries_in pairs))) (children_in pairs)
+basic_dag pairs block = node (section_of DagPb block) (Basic (map basic_entry (entries_in pairs))) (children_in pairs)
 
 pub basic_sound : NodeLaws → (pairs : List EntryDag) (block : List ℕ) → IsNodeOf (entries_in pairs) basic_unix block → All IsLed pairs
     → All IsGoodName (map (λ (e : NewEntry). e.name) (entries_in pairs)) → IsDistinct bytes_eq (map (λ (e : NewEntry). e.name) (entries_in pairs)) → IsSound (basic_dag pairs block)

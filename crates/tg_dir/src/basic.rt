@@ -14,11 +14,11 @@ ghost use Rattle.tg_writing.specs.Nodes.{IsNodeOf, IsOfSha256};
 
 use std::alloc::{AllocError, Global};
 use tg_bytes::{Bytes, List};
-use tg_cid::{Cid, Codec, digest_laws};
+use tg_cid::{Codec, digest_laws};
 use tg_hamt::HamtFault;
 use tg_model::{Keep, KeepFault, Made, NewEntry};
 use tg_unixfs::Unix;
-use tg_writing::{node_block, written_nodes};
+use tg_writing::{keep_block, node_block, written_nodes};
 
 /// The UnixFS type of a directory in one block.
 const DIRECTORY: u64 = 1;
@@ -92,13 +92,7 @@ fn keep_sorted<K: Keep>(
     let Ok(block) = basic_block(alloc, entries) else {
         return Err(KeepFault::OutOfMemory);
     };
-    let cid = Cid::of_block(Codec::DagPb, block.as_slice());
-    keep.keep(cid, block.as_slice())?;
-    Ok(Made {
-        cid,
-        content: 0,
-        tsize: block.as_slice().len() as u64 + total(entries),
-    })
+    keep_block(Codec::DagPb, block.as_slice(), 0, total(entries), keep)
 }
 
 /// The block of the directory with these entries, its links in their order. The error is want of memory.

@@ -3,17 +3,19 @@ use Rattle.std.proofs.Common.{◌≡◌, ◌≢◌, ◌+◌, ◌-◌, ◌<◌, �
 use Rattle.std.specs.Prelude.{slice_index, ◌==◌}
 use Rattle.std.specs.List.{sum_by}
 use Rattle.std.proofs.lemmas.Bool.{cases_eq, cases_lt, ne_eqb}
-use Rattle.tg_cid.specs.Cid.{CidParts}
-use Rattle.tg_cid.specs.declared.cid.Codec.TheVariants.{DagPb}
+use Rattle.tg_cid.specs.declared.cid.Codec.TheVariants.{DagPb, Raw}
 use Rattle.tg_filedag.proofs.Closings.{BeginsAt}
 use Rattle.tg_filedag.proofs.Steps.{height_at}
 use Rattle.tg_filedag.specs.Linking.{HasFullLevel, IsKeptNode}
 use Rattle.tg_filedag.specs.State.{heights}
-use Rattle.tg_filedag.specs.Trees.{IsFileBlock, content_in, node_made, section_of, tsize_in}
+use Rattle.tg_filedag.specs.Trees.{IsFileBlock, content_in, leaf_made, tsize_in}
 use Rattle.tg_filedag.specs.declared.subtree.Subtree.{Subtree}
-use Rattle.tg_model.specs.Dag.{Section}
-use Rattle.tg_model.specs.Stores.{Keeping, KeepingQuiet, Kept}
+use Rattle.tg_model.specs.Stores.{Keeping}
 use Rattle.tg_model.specs.declared.kinds.Made.{Made}
+use Rattle.tg_writing.specs.Keeping.{Keeps, KeepsBlock, section_of}
+
+abbrev leaf_of_size : List ℕ → ℕ → Made
+leaf_of_size chunk n = record { cid = (section_of Raw chunk).cid; content = length chunk; tsize = n }
 
 pub zero_of : (n : ℕ) → (n == 0) ≡ true → n ≡ 0
 zero_of n e = elim (cases_eq n 0) [
@@ -21,25 +23,16 @@ zero_of n e = elim (cases_eq n 0) [
   | inr ne ↦ let f = ne_eqb n 0 ne in absurd (cc)
 ]
 
+-- the leaf that is kept
+pub leaf_kept : (chunk : List ℕ) (made : Made) (keeping : Keeping) → KeepsBlock Raw chunk (length chunk) 0 made keeping → (made ≡ leaf_made chunk) × Keeps (section_of Raw chunk ∷ []) keeping
+leaf_kept chunk made keeping h =
+    let none : length chunk + 0 ≡ length chunk = omega arith in
+    (h.made_is ∙ ap (λ (n : ℕ). leaf_of_size chunk n) none, h.keeps)
+
 -- the node that is kept
-node_is : (links : List Subtree) (block : List ℕ) (cid : CidParts) (content tsize : ℕ) → cid ≡ (section_of DagPb block).cid → content ≡ sum_by content_in links
-    → tsize ≡ length block + sum_by tsize_in links → ◌≡◌ {A = Made} (record { cid = cid; content = content; tsize = tsize }) (node_made links block)
-node_is links block cid content tsize p q r = λ i. record { cid = p i; content = q i; tsize = r i }
-
-section_is : (cid : CidParts) (text block : List ℕ) → cid ≡ (section_of DagPb block).cid → text ≡ block
-    → ◌≡◌ {A = Section} (record { cid = cid; block = text }) (section_of DagPb block)
-section_is cid text block p q = λ i. record { cid = p i; block = q i }
-
-pub node_kept : (links : List Subtree) (block text : List ℕ) (cid : CidParts) (content tsize : ℕ) (keeping : Keeping) → IsFileBlock links block → length block ≤ 524288
-    → cid ≡ (section_of DagPb block).cid → text ≡ block → content ≡ sum_by content_in links → tsize ≡ length block + sum_by tsize_in links
-    → Kept (record { cid = cid; block = text } ∷ []) keeping → KeepingQuiet keeping → IsKeptNode links (record { cid = cid; content = content; tsize = tsize }) keeping
-node_kept links block text cid content tsize keeping written small p q r s kept quiet = record {
-  block = block;
-  written = written;
-  small = small;
-  made_is = node_is links block cid content tsize p r s;
-  keeps = record { kept = subst (λ (x : Section). Kept (x ∷ []) keeping) (section_is cid text block p q) kept; quiet = quiet };
-}
+pub node_kept : (links : List Subtree) (block : List ℕ) (made : Made) (keeping : Keeping) → IsFileBlock links block → length block ≤ 524288
+    → KeepsBlock DagPb block (sum_by content_in links) (sum_by tsize_in links) made keeping → IsKeptNode links made keeping
+node_kept links block made keeping written small h = record { block = block; written = written; small = small; made_is = h.made_is; keeps = h.keeps }
 
 -- the height of a subtree that is read
 pub read_height : (ss : List Subtree) (i j : ℕ) (s : Subtree) → i ≡ j → j < length ss → s ≡ get_or ss i s → s.height ≡ slice_index (heights ss) j

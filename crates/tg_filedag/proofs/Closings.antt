@@ -16,13 +16,14 @@ use Rattle.tg_filedag.specs.Heights.{HasFew, IsFalling}
 use Rattle.tg_filedag.specs.Linking.{Closes, HasFullLevel}
 use Rattle.tg_filedag.specs.MadeFile.{IsMadeFile}
 use Rattle.tg_filedag.specs.State.{HasNoFullLevel, IsClosing, IsGrowing, heights}
-use Rattle.tg_filedag.specs.Trees.{AreTrees, IsFilePart, IsLastSubtree, IsPlain, IsSubtree, bottom_up, bottom_up_of_children, content_in, node_made, part_for, section_of, tsize_in}
+use Rattle.tg_filedag.specs.Trees.{AreTrees, IsFilePart, IsLastSubtree, IsPlain, IsSubtree, bottom_up, bottom_up_of_children, content_in, node_made, part_for, tsize_in}
 use Rattle.tg_filedag.specs.declared.subtree.Subtree.{Subtree}
 use Rattle.tg_model.specs.Dag.{Children, Dag, Section, bare, no_child, node, root_cids, unopened, with_child}
 use Rattle.tg_model.specs.ImportLayout.{HasLeavesAt, IsLeaf, leaves, leaves_of_children, level_widths}
 use Rattle.tg_model.specs.Stores.{Keeping}
 use Rattle.tg_model.specs.declared.kinds.Kind.TheVariants.{Basic, File, Raw, Shard, Symlink}
 use Rattle.tg_model.specs.declared.kinds.Made.{Made}
+use Rattle.tg_writing.specs.Keeping.{section_of}
 
 -- a growing forest is one whose last may not be full
 pub growing_closing : (width : ℕ) (ss : List Subtree) (chunks : List (List ℕ)) (kept : List Section) → IsGrowing width ss chunks kept → IsClosing width ss chunks kept

@@ -9,7 +9,7 @@ use Rattle.tg_cid.specs.Cid.{CidParts}
 use Rattle.tg_cid.specs.declared.cid.Codec.TheVariants.{DagPb}
 use Rattle.tg_cid.specs.declared.cid.HashKind.TheVariants.{Sha256}
 use Rattle.tg_filedag.specs.Chunks.{joined}
-use Rattle.tg_filedag.specs.Trees.{IsFileBlock, IsFilePart, IsMadeOf, IsPlain, content_in, entry_for, file_kind, leaf_made, leaf_of, node_made, part_for, section_of, tsize_in}
+use Rattle.tg_filedag.specs.Trees.{IsFileBlock, IsFilePart, IsMadeOf, IsPlain, content_in, entry_for, file_kind, leaf_made, leaf_of, node_made, part_for, tsize_in}
 use Rattle.tg_filedag.specs.declared.subtree.Subtree.{Subtree}
 use Rattle.tg_model.specs.Content.{content, content_at, content_of_children}
 use Rattle.tg_model.specs.Dag.{AreWhole, Children, Dag, Section, bare, blocks, blocks_of_children, no_child, node, root_cid, root_cids, total_of, unopened, with_child}
@@ -23,6 +23,7 @@ use Rattle.tg_model.specs.declared.kinds.NewEntry.{NewEntry}
 use Rattle.tg_model.specs.declared.kinds.Part.{Part}
 use Rattle.tg_unixfs.specs.declared.Unix.{Unix}
 use Rattle.tg_writing.specs.Nodes.{IsNodeOf, LeadTo}
+use Rattle.tg_writing.specs.Keeping.{section_of}
 
 -- ---- lists of chunks
 

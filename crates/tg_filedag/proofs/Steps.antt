@@ -11,10 +11,11 @@ use Rattle.tg_filedag.specs.Chunks.{joined}
 use Rattle.tg_filedag.specs.Heights.{HasFew, IsFalling}
 use Rattle.tg_filedag.specs.Linking.{HasRoom}
 use Rattle.tg_filedag.specs.State.{HasNoFullLevel, IsForest, IsGrowing, heights}
-use Rattle.tg_filedag.specs.Trees.{IsSubtree, bottom_up, bottom_up_of_children, leaf_made, leaf_of, node_made, section_of}
+use Rattle.tg_filedag.specs.Trees.{IsSubtree, bottom_up, bottom_up_of_children, leaf_made, leaf_of, node_made}
 use Rattle.tg_filedag.specs.declared.subtree.Subtree.{Subtree}
 use Rattle.tg_model.specs.Dag.{Dag, Section, no_child, with_child}
 use Rattle.tg_model.specs.ImportLayout.{leaves_of_children}
+use Rattle.tg_writing.specs.Keeping.{section_of}
 
 -- ---- heights
 

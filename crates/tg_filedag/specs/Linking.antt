@@ -2,10 +2,10 @@
 use Rattle.std.specs.Prelude.{List, [], length, slice_index, take, drop, ℕ, ◌++◌, ◌+◌, ◌-◌, ◌∷◌, ◌≡◌, ◌≤◌}
 use Rattle.tg_cid.specs.declared.cid.Codec.TheVariants.{DagPb}
 use Rattle.tg_filedag.specs.Chunks.{joined}
-use Rattle.tg_writing.specs.Keeping.{Keeps, StopsAfter}
+use Rattle.tg_writing.specs.Keeping.{Keeps, StopsAfter, section_of}
 use Rattle.tg_filedag.specs.MadeFile.{IsMadeFile}
 use Rattle.tg_filedag.specs.State.{HasNoFullLevel, IsFrontFor, IsGrowing, heights}
-use Rattle.tg_filedag.specs.Trees.{IsFileBlock, bottom_up, node_made, section_of}
+use Rattle.tg_filedag.specs.Trees.{IsFileBlock, bottom_up, node_made}
 use Rattle.tg_filedag.specs.declared.subtree.Subtree.{Subtree}
 use Rattle.tg_model.specs.Dag.{Dag, Section}
 use Rattle.tg_model.specs.Stores.{Keeping}

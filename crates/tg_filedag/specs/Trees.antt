@@ -1,8 +1,6 @@
 -- The DAG of a file as it grows (UnixFS specification, File; the balanced layout is this project's own profile).
 use Rattle.std.specs.List.{sum_by}
 use Rattle.std.specs.Prelude.{All, List, Some, [], length, map, ℕ, ⊤, ◌*◌, ◌++◌, ◌+◌, ◌<◌, ◌∷◌, ◌≡◌, ◌≤◌}
-use Rattle.sha2.specs.Sha256.{sha256}
-use Rattle.tg_cid.specs.declared.cid.Codec.{Codec}
 use Rattle.tg_cid.specs.declared.cid.Codec.TheVariants as codecs
 use Rattle.tg_cid.specs.declared.cid.HashKind.TheVariants.{Sha256}
 use Rattle.tg_filedag.specs.Chunks.{joined}
@@ -16,13 +14,10 @@ use Rattle.tg_model.specs.declared.kinds.Kind.TheVariants.{File, Raw}
 use Rattle.tg_model.specs.declared.kinds.Made.{Made}
 use Rattle.tg_model.specs.declared.kinds.NewEntry.{NewEntry}
 use Rattle.tg_model.specs.declared.kinds.Part.{Part}
+use Rattle.tg_writing.specs.Keeping.{section_of}
 use Rattle.tg_writing.specs.Nodes.{IsNodeOf}
 
 -- ---- blocks
-
--- a block under its CIDv1 of sha2-256
-abbrev pub section_of : Codec → List ℕ → Section
-section_of codec block = record { cid = record { version = 1; codec = codec; hash = Sha256; digest = sha256 block }; block = block }
 
 -- a chunk as a raw leaf, and what is told of it
 abbrev pub leaf_of : List ℕ → Dag

@@ -2,19 +2,19 @@
 ghost use Rattle.std.specs.Prelude.{◌≡◌, ◌≤◌, [], ◌∷◌, All, IfOk, IfErr, OnErr, length, map};
 ghost use Rattle.std.specs.List.{sum_by};
 ghost use Rattle.tg_cid.specs.Limits.{max_block_len};
-ghost use Rattle.tg_writing.specs.Keeping.{Keeps, StopsAfter};
+ghost use Rattle.tg_writing.specs.Keeping.{Keeps, StopsAfter, section_of};
 ghost use Rattle.tg_filedag.specs.Linking.{IsKeptNode};
-ghost use Rattle.tg_filedag.specs.Trees.{IsFileBlock, IsPlain, content_in, entry_for, leaf_made, section_of, tsize_in};
+ghost use Rattle.tg_filedag.specs.Trees.{IsFileBlock, IsPlain, content_in, entry_for, leaf_made, tsize_in};
 ghost use Rattle.tg_cid.specs.declared.cid.Codec.TheVariants.{Raw};
 ghost use Rattle.tg_model.specs.Stores.{kept_in};
 
 use crate::subtree::Subtree;
 use std::alloc::{AllocError, Global};
 use tg_bytes::{Bytes, List};
-use tg_cid::{Cid, Codec};
+use tg_cid::Codec;
 use tg_model::{Keep, KeepFault, Made, NewEntry};
 use tg_unixfs::Unix;
-use tg_writing::{node_block, written_nodes};
+use tg_writing::{keep_block, node_block, written_nodes};
 
 /// The UnixFS type of a file.
 const FILE: u64 = 2;
@@ -27,14 +27,7 @@ pub(crate) fn keep_leaf<K: Keep>(chunk: &[u8], keep: &mut K) -> Result<Made, Kee
     ensures stops { IfErr result (λ fault. StopsAfter [] fault (kept_in K.keeper keep.old keep.new)) }
     ensures err_counted { OnErr result (K.keeper.faults keep.old ≤ K.keeper.faults keep.new) }
 {
-    let cid = Cid::of_block(Codec::Raw, chunk);
-    keep.keep(cid, chunk)?;
-    let size = chunk.len() as u64;
-    Ok(Made {
-        cid,
-        content: size,
-        tsize: size,
-    })
+    keep_block(Codec::Raw, chunk, chunk.len() as u64, 0, keep)
 }
 
 /// Keeps the node over these links, of which there are at most 4,096. Errors: those of the store, and want of memory.
@@ -58,13 +51,7 @@ pub(crate) fn keep_node<K: Keep>(
     let Ok(block) = file_block(alloc, links, content) else {
         return Err(KeepFault::OutOfMemory);
     };
-    let cid = Cid::of_block(Codec::DagPb, block.as_slice());
-    keep.keep(cid, block.as_slice())?;
-    Ok(Made {
-        cid,
-        content,
-        tsize: block.as_slice().len() as u64 + tsizes,
-    })
+    keep_block(Codec::DagPb, block.as_slice(), content, tsizes, keep)
 }
 
 /// How many bytes of content the links have together, and the sum of their Tsizes.

@@ -7,33 +7,26 @@ use Rattle.std.proofs.Math.Seq.{take-length}
 use Rattle.std.proofs.lemmas.List.Elements.{All-push, Contains-append_cases, Contains-append_left, Contains-append_right}
 use Rattle.std.proofs.lemmas.List.Sums.{sum_by-take-le}
 use Rattle.tg_cid.specs.Cid.{CidParts}
-use Rattle.tg_dagpb.specs.declared.Link.{Link}
 use Rattle.tg_writing.specs.KeepingSteps.{Joins, keeps_both}
 use Rattle.tg_hamt.proofs.MadeSlots.{MadeSlot, all_checked, all_blocks, all_cids, all_laid, all_listed, all_named, all_own, all_own_blocks, all_plain, all_read, all_stand, all_tsizes, all_whole, children_in, links_lead, links_of, numbers_in, own_in, roots_are, runs_in, slots_in}
 use Rattle.tg_hamt.proofs.Making.{IsMaking, IsSoFar}
-use Rattle.tg_hamt.specs.Links.{IsKeptShard, section_of, tsize_in}
+use Rattle.tg_hamt.specs.Links.{IsKeptShard, tsize_in}
 use Rattle.tg_hamt.specs.Order.{IsHashed, entry_at, tsizes_in}
 use Rattle.tg_hamt.specs.Shards.{AreLaidIn, IsBelow, IsMadeShard, MakesShard, listed_as, shard_room}
 use Rattle.tg_hamt.specs.declared.order.Hashed.{Hashed}
 use Rattle.tg_laws.specs.Places.{IsFaultlessShard}
 use Rattle.tg_laws.specs.Stores.{KeepingJoins}
-use Rattle.tg_model.specs.Dag.{Children, Dag, Section, blocks_of_children}
+use Rattle.tg_model.specs.Dag.{Dag, Section, blocks_of_children}
 use Rattle.tg_model.specs.ImportLayout.{HasPlainCid, IsShardWritten, IsWritten, shard_unix}
-use Rattle.tg_model.specs.Reading.{AreSlots, IsUnixNode, ReadsNode, name_of}
+use Rattle.tg_model.specs.Reading.{AreSlots, ReadsNode}
 use Rattle.tg_model.specs.Stores.{KeepMeaning, Keeping, kept_in}
 use Rattle.tg_model.specs.declared.kinds.Kind.TheVariants.{Shard}
 use Rattle.tg_model.specs.declared.kinds.Made.{Made}
 use Rattle.tg_model.specs.declared.kinds.NewEntry.{NewEntry}
 use Rattle.tg_model.specs.declared.kinds.Slot.{Slot}
-use Rattle.tg_unixfs.specs.declared.Unix.{Unix}
-use Rattle.tg_writing.specs.Nodes.{IsNodeOf, LeadTo}
-
--- what is known of a written node
-pub record NodeLaws : Type 0 where
-  pub written : (entries : List NewEntry) (unix : Unix) (block : List ℕ) (children : Children) → IsNodeOf entries unix block → LeadTo entries children
-      → IsWritten block (map (λ e. e.name) entries) children unix
-  pub unix_node : (entries : List NewEntry) (unix : Unix) (block : List ℕ) → IsNodeOf entries unix block
-      → (links : List Link) × IsUnixNode block links (map (λ e. e.cid) entries) unix × (map name_of links ≡ map (λ e. e.name) entries)
+use Rattle.tg_writing.specs.Nodes.{LeadTo, NodeLaws}
+use Rattle.tg_cid.specs.declared.cid.Codec.TheVariants.{DagPb}
+use Rattle.tg_writing.specs.Keeping.{section_of}
 
 numbers_of_slots : (ms : List MadeSlot) → numbers_in ms ≡ map (λ (s : Slot). s.slot) (slots_in ms)
 numbers_of_slots [] = refl
@@ -80,10 +73,10 @@ module _ (laws : NodeLaws) (es : List NewEntry) (dags : ℕ → Dag) (above : Li
   runs_all : runs_in f.slots ≡ order
   runs_all = f.runs_are ∙ take-length order
 
-  pub shard_made : All (IsHashed es) order → IsFaultlessShard → length above ≤ 7 → IsMadeShard es dags order above made (sections ++ section_of k.block ∷ [])
+  pub shard_made : All (IsHashed es) order → IsFaultlessShard → length above ≤ 7 → IsMadeShard es dags order above made (sections ++ section_of DagPb k.block ∷ [])
   shard_made among faultless few = record {
     among = among;
-    section = section_of k.block;
+    section = section_of DagPb k.block;
     slots = slots_in f.slots;
     children = children_in f.slots;
     cid_is = k.cid_is;
@@ -100,22 +93,22 @@ module _ (laws : NodeLaws) (es : List NewEntry) (dags : ℕ → Dag) (above : Li
     };
     checked = all_checked es dags above f.slots f.each;
     listed = all_listed es dags above f.slots f.each ∙ ap (λ (l : List Hashed). map (listed_as es dags) l) runs_all;
-    sections_are = ap (λ (l : List Section). l ++ section_of k.block ∷ []) (all_own es dags above f.slots f.each ∙ f.own_are);
+    sections_are = ap (λ (l : List Section). l ++ section_of DagPb k.block ∷ []) (all_own es dags above f.slots f.each ∙ f.own_are);
     blocks_are = λ b has. ⊎_elim
-        (λ (here : Contains (section_of k.block ∷ []) b). inl (Contains-append_right sections (section_of k.block ∷ []) b here))
+        (λ (here : Contains (section_of DagPb k.block ∷ []) b). inl (Contains-append_right sections (section_of DagPb k.block ∷ []) b here))
         (λ (there : Contains (blocks_of_children (children_in f.slots)) b).
         ⊎_elim
-        (λ (own : Contains (own_in f.slots) b). inl (Contains-append_left sections (section_of k.block ∷ []) b (subst (λ (l : List Section). Contains l b) f.own_are own)))
+        (λ (own : Contains (own_in f.slots) b). inl (Contains-append_left sections (section_of DagPb k.block ∷ []) b (subst (λ (l : List Section). Contains l b) f.own_are own)))
         (λ (below : IsBelow dags (runs_in f.slots) b). inr (subst (λ (l : List Hashed). IsBelow dags l b) runs_all below))
         (all_blocks es dags above f.slots f.each b there))
-        (Contains-append_cases (section_of k.block ∷ []) (blocks_of_children (children_in f.slots)) b has);
+        (Contains-append_cases (section_of DagPb k.block ∷ []) (blocks_of_children (children_in f.slots)) b has);
     own_blocks = λ b has. ⊎_elim
         (λ (there : Contains sections b).
-        Contains-append_right (section_of k.block ∷ []) (blocks_of_children (children_in f.slots)) b
+        Contains-append_right (section_of DagPb k.block ∷ []) (blocks_of_children (children_in f.slots)) b
         (all_own_blocks es dags above f.slots f.each b (subst (λ (l : List Section). Contains l b) (sym f.own_are) there)))
-        (λ (here : Contains (section_of k.block ∷ []) b). Contains-append_left (section_of k.block ∷ []) (blocks_of_children (children_in f.slots)) b here)
-        (Contains-append_cases sections (section_of k.block ∷ []) b has);
-    plain = All-push HasPlainCid sections (section_of k.block) (subst (All HasPlainCid) f.own_are (all_plain es dags above f.slots f.each)) (refl, refl);
+        (λ (here : Contains (section_of DagPb k.block ∷ []) b). Contains-append_left (section_of DagPb k.block ∷ []) (blocks_of_children (children_in f.slots)) b here)
+        (Contains-append_cases sections (section_of DagPb k.block ∷ []) b has);
+    plain = All-push HasPlainCid sections (section_of DagPb k.block) (subst (All HasPlainCid) f.own_are (all_plain es dags above f.slots f.each)) (refl, refl);
     written = written;
     laid = λ options laid. all_laid es dags above options f.slots f.each (subst (AreLaidIn options dags) (sym runs_all) laid);
   }
@@ -126,8 +119,8 @@ pub finished : {S : Type 0} → (m : KeepMeaning S) → Joins m → KeepingJoins
 finished m joins stores laws faultless before now after es order level start links bits made h among done low k =
     let same : start ≡ length order = omega (arith, h.inside, done) in
     record {
-      sections = h.sections ++ section_of k.block ∷ [];
-      keeps = keeps_both m joins stores before now after h.sections (section_of k.block ∷ []) h.keeps k.keeps;
+      sections = h.sections ++ section_of DagPb k.block ∷ [];
+      keeps = keeps_both m joins stores before now after h.sections (section_of DagPb k.block ∷ []) h.keeps k.keeps;
       shard = λ dags above leads deep passed.
           shard_made laws es dags above order links bits h.sections made (kept_in m now after)
           (subst (λ (s : ℕ). IsSoFar es dags above order s links bits h.sections) same (h.so_far dags above leads deep passed)) k among faultless (omega (arith, deep, low));

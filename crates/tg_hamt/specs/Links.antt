@@ -1,16 +1,14 @@
 -- The links of a shard, and its block (UnixFS specification, HAMTDirectory).
-use Rattle.sha2.specs.Sha256.{sha256}
 use Rattle.std.specs.List.{sum_by}
 use Rattle.std.specs.Prelude.{List, [], length, ℕ, ◌++◌, ◌+◌, ◌∷◌, ◌≡◌, ◌≤◌}
 use Rattle.tg_cid.specs.declared.cid.Codec.TheVariants.{DagPb}
 use Rattle.tg_cid.specs.declared.cid.HashKind.TheVariants.{Sha256}
-use Rattle.tg_model.specs.Dag.{Section}
 use Rattle.tg_model.specs.ImportLayout.{HasNoLeadingZero, shard_unix}
 use Rattle.tg_model.specs.Reading.{slot_digits, used_slots}
 use Rattle.tg_model.specs.Stores.{Keeping}
 use Rattle.tg_model.specs.declared.kinds.Made.{Made}
 use Rattle.tg_model.specs.declared.kinds.NewEntry.{NewEntry}
-use Rattle.tg_writing.specs.Keeping.{Keeps}
+use Rattle.tg_writing.specs.Keeping.{Keeps, section_of}
 use Rattle.tg_writing.specs.Nodes.{IsNodeOf}
 
 -- the link of a slot that holds an entry, and of one that holds a child shard
@@ -25,10 +23,7 @@ pub record IsShardLink (link : NewEntry) : Type 0 where
   pub short : length link.name ≤ 257
   pub plain : link.cid.hash ≡ Sha256
 
--- a block under its CIDv1 of sha2-256
-abbrev pub section_of : List ℕ → Section
-section_of block = record { cid = record { version = 1; codec = DagPb; hash = Sha256; digest = sha256 block }; block = block }
-
+-- the Tsize of a link
 abbrev pub tsize_in : NewEntry → ℕ
 tsize_in link = link.tsize
 
@@ -41,7 +36,7 @@ pub record IsKeptShard (links : List NewEntry) (bits : List ℕ) (made : Made) (
   pub block : List ℕ
   pub written : IsNodeOf links (shard_unix shortest) block
   pub small : length block ≤ 131072
-  pub cid_is : made.cid ≡ (section_of block).cid
+  pub cid_is : made.cid ≡ (section_of DagPb block).cid
   pub content_is : made.content ≡ 0
   pub tsize_is : made.tsize ≡ length block + sum_by tsize_in links
-  pub keeps : Keeps (section_of block ∷ []) keeping
+  pub keeps : Keeps (section_of DagPb block ∷ []) keeping

@@ -13,10 +13,10 @@ ghost use Rattle.tg_writing.specs.Keeping.{StopsAfter};
 use crate::bits::{set_slot, shortest};
 use std::alloc::{AllocError, Global};
 use tg_bytes::{Bytes, List};
-use tg_cid::{Cid, Codec};
+use tg_cid::Codec;
 use tg_model::{Keep, KeepFault, Made, NewEntry};
 use tg_unixfs::Unix;
-use tg_writing::{node_block, written_nodes};
+use tg_writing::{keep_block, node_block, written_nodes};
 
 /// The UnixFS type of a shard.
 const SHARD: u64 = 5;
@@ -156,13 +156,7 @@ pub(crate) fn keep_links<K: Keep>(
     let Ok(block) = shard_block(alloc, links, shortest(&shard.bits)) else {
         return Err(KeepFault::OutOfMemory);
     };
-    let cid = Cid::of_block(Codec::DagPb, block.as_slice());
-    keep.keep(cid, block.as_slice())?;
-    Ok(Made {
-        cid,
-        content: 0,
-        tsize: block.as_slice().len() as u64 + total(links),
-    })
+    keep_block(Codec::DagPb, block.as_slice(), 0, total(links), keep)
 }
 
 /// The block of the shard with these links and this bit field. The error is want of memory.

@@ -1,9 +1,11 @@
 -- Steps of a store that keeps blocks, one behind another: what was kept in both, and what a fault leaves.
 use Rattle.std.proofs.Common.{◌≡◌, ◌≤◌, ℕ, List, Option, None, Some, Result, Err, [], ◌++◌, refl, ◌∙◌, subst}
-use Rattle.tg_writing.specs.Keeping.{IsCountedBy, Keeps, StopsAfter}
+use Rattle.tg_cid.specs.declared.cid.Codec.{Codec}
+use Rattle.tg_writing.specs.Keeping.{IsCountedBy, Keeps, KeepsBlock, StopsAfter}
 use Rattle.tg_laws.specs.Stores.{KeepingJoins}
 use Rattle.tg_model.specs.Dag.{Section}
 use Rattle.tg_model.specs.Stores.{AreKeptAs, KeepMeaning, Keeping, KeepingQuiet, KeepingRose, KeptNothing, KeptSame, Store, kept_in}
+use Rattle.tg_model.specs.declared.kinds.Made.{Made}
 use Rattle.tg_model.specs.declared.stores.KeepFault.{KeepFault}
 use Rattle.tg_model.specs.declared.stores.KeepFault.TheVariants as faults
 
@@ -60,3 +62,10 @@ call_stops keeping faults.OutOfMemory failed memory nothing = let h = memory ref
 
 pub same_stops : {S : Type 0} → (m : KeepMeaning S) → ((s : S) → m.kept s s []) → (s : S) → StopsAfter [] faults.OutOfMemory (kept_in m s s)
 same_stops m rests s = memory_stops (kept_in m s s) (record { moved = rests s; stored = refl }) refl
+
+-- a block that was kept, under equal numbers
+pub keeps_as : (codec : Codec) (made : Made) (keeping : Keeping) (text block : List ℕ) (content content' tsizes tsizes' : ℕ) → text ≡ block → content ≡ content' → tsizes ≡ tsizes'
+    → KeepsBlock codec text content tsizes made keeping → KeepsBlock codec block content' tsizes' made keeping
+keeps_as codec made keeping text block content content' tsizes tsizes' p q r h =
+    subst (λ (t : List ℕ). KeepsBlock codec t content' tsizes' made keeping) p
+    (subst (λ (n : ℕ). KeepsBlock codec text n tsizes' made keeping) q (subst (λ (n : ℕ). KeepsBlock codec text content n made keeping) r h))

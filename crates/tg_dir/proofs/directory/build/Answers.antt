@@ -1,9 +1,9 @@
 use Rattle.std.proofs.Common.{Err, Ok, Result, arith}
 use Rattle.std.specs.Prelude.{IfOk}
 use Rattle.tg_dir.proofs.ByWeight.{basic_made, sharded_made}
-use Rattle.tg_dir.proofs.OneBlock.{NodeLaws}
 use Rattle.tg_dir.proofs.directory.build.Goals as goal
 use Rattle.tg_model.specs.Stores.{kept_in}
+use Rattle.tg_writing.specs.Nodes.{NodeLaws}
 
 ok_then : {T E : Type 0} {P Q : T → Type 0} → (r : Result T E) → ((x : T) → P x → Q x) → IfOk r P → IfOk r Q
 ok_then (Ok x) f h = f x h

@@ -1,10 +1,8 @@
-use Rattle.std.proofs.lemmas.Result.{err_from_is_err_and}
-use Rattle.tg_writing.specs.KeepingSteps.{call_stops}
+use Rattle.std.proofs.lemmas.Result.{IfOk-weaker}
+use Rattle.tg_filedag.proofs.Calls.{leaf_kept}
 use Rattle.tg_filedag.proofs.keeping.keep_leaf.Goals as goal
 use Rattle.tg_model.specs.Stores.{kept_in}
 
-pub returns-in_err-keep-clause-stops : goal.returns-in_err-keep-clause-stops
-returns-in_err-keep-clause-stops g c =
-    let p = err_from_is_err_and c.from_residual.result c.from_residual.ensures.1 in
-    rw (p.1, p.2)
-    (call_stops (kept_in g.K.Keep.keeper c.args.keep.now c.keep.new.self) c.in_err-keep.field-0.0 c.in_err-keep.ensures.failed c.in_err-keep.ensures.memory c.in_err-keep.ensures.err_kept)
+pub returns-clause-made : goal.returns-clause-made
+returns-clause-made g c =
+    IfOk-weaker c.keep_block.result _ _ (λ made h. leaf_kept c.args.chunk.now made (kept_in g.K.Keep.keeper c.args.keep.now c.keep_block.new.keep) h) c.keep_block.ensures.made

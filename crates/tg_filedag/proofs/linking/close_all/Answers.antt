@@ -1,4 +1,4 @@
-use Rattle.std.proofs.Common.{◌-◌, ◌≤◌, ℕ, length, sym, subst, arith}
+use Rattle.std.proofs.Common.{◌-◌, ◌≤◌, ℕ, sym, subst, arith}
 use Rattle.std.proofs.lemmas.Result.{err_from_is_err_and}
 use Rattle.tg_filedag.proofs.Calls.{lowest}
 use Rattle.tg_filedag.proofs.Parts.{NodeLaws}

@@ -6,11 +6,12 @@ use Rattle.tg_filedag.proofs.Runs.{at_once, leaf_stops, leaf_taken}
 use Rattle.tg_filedag.proofs.Steps.{leaf_pushed}
 use Rattle.tg_filedag.proofs.linking.link_leaf.Goals as goal
 use Rattle.tg_filedag.specs.State.{IsGrowing}
-use Rattle.tg_filedag.specs.Trees.{bottom_up, leaf_made, leaf_of, section_of}
+use Rattle.tg_filedag.specs.Trees.{bottom_up, leaf_made, leaf_of}
 use Rattle.tg_filedag.specs.declared.subtree.Subtree.{Subtree}
 use Rattle.tg_model.specs.Dag.{Section}
 use Rattle.tg_model.specs.declared.kinds.Made.{Made}
 use Rattle.tg_model.specs.declared.stores.KeepFault.TheVariants.{OutOfMemory}
+use Rattle.tg_writing.specs.Keeping.{section_of}
 
 pub returns-in_err-made-clause-stops : goal.returns-in_err-made-clause-stops
 returns-in_err-made-clause-stops g c =
