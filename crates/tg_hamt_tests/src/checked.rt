@@ -3,14 +3,13 @@ ghost use Rattle.std.specs.Prelude.{◌≡◌, ◌<◌, ◌≤◌, ◌^◌, ℕ,
 ghost use Rattle.std.specs.List.{IsDistinct, sum_by};
 ghost use Rattle.tg_hamt.specs.Directories.{AreGoodEntries};
 ghost use Rattle.tg_hamt.specs.Order.{IsGoodEntry};
-ghost use Rattle.tg_model.specs.EntryNames.{IsGoodName};
 ghost use Rattle.tg_model.specs.declared.kinds.NewEntry.{NewEntry as Entries};
 
 use std::alloc::Global;
 use tg_bytes::Bytes;
 use tg_cid::HashKind;
 use tg_hamt::{HamtFault, build};
-use tg_model::{Keep, Made, NewEntry};
+use tg_model::{Keep, Made, NewEntry, is_good_name};
 use thiserror::Error;
 
 /// Why a directory isn't made.
@@ -94,21 +93,6 @@ fn is_good(entry: &NewEntry) -> bool
 {
     let name = entry.name.as_slice();
     is_good_name(name) && name.len() <= 255 && entry.cid.hash_kind() == HashKind::Sha256
-}
-
-/// Whether the bytes are the name of an entry.
-fn is_good_name(name: &[u8]) -> bool
-    ensures { IsTrue result → IsGoodName name.now }
-{
-    if name.is_empty() || name == b".".as_slice() || name == b"..".as_slice() {
-        return false;
-    }
-    for b in name {
-        if *b == b'/' || *b == 0 {
-            return false;
-        }
-    }
-    true
 }
 
 /// Whether the entries' names differ.
