@@ -4,7 +4,6 @@ mod Cuts
 mod Unique
 mod Grammar
 mod Values
-mod Digits
 mod Answering
 mod Hex
 mod Longer

@@ -1,8 +1,7 @@
 -- The fields of a head by their names, which are compared without regard to case (RFC 9110, section 5.1).
-use Rattle.std.specs.Prelude.{◌≡◌, ℕ, ◌<◌, ◌≤◌, ◌==◌, List, [], ◌∷◌, Bool, not, Option, Some, None, length, find, codes, if◌then◌else◌}
+use Rattle.std.specs.Prelude.{◌≡◌, ℕ, ◌<◌, ◌==◌, List, [], ◌∷◌, Bool, not, Option, Some, None, length, find, codes, if◌then◌else◌}
 use Rattle.std.specs.List.{filter_map, list_any, slice_split}
 use Rattle.std.specs.Str.{str_eq_ignore_ascii_case}
-use Rattle.std.specs.Str.Parse.{IsNumeral, digits_value}
 use Rattle.httparse.specs.Grammar.{trim_ows}
 use Rattle.tg_http.specs.declared.fields.FieldValue.{FieldValue}
 use Rattle.tg_http.specs.declared.fields.FieldValue.TheVariants.{Absent, Single, Repeated}
@@ -43,9 +42,3 @@ abbrev pub AreValues : List (List ℕ) → FieldValue → Type 0
 AreValues found Absent = found ≡ []
 AreValues found (Single value) = found ≡ value.now ∷ []
 AreValues found Repeated = 1 < length found
-
--- a value of 1 to 19 digits, which write this number
-pub record IsLengthText (value : List ℕ) (number : ℕ) : Type 0 where
-  pub digits : IsNumeral 10 value
-  pub few : length value ≤ 19
-  pub number_is : number ≡ digits_value 10 value

@@ -3,7 +3,8 @@ use Rattle.std.specs.Prelude.{◌≡◌, ℕ, ◌^◌, ◌<◌, ◌⊎◌, List,
 use Rattle.std.specs.Str.{str_eq_ignore_ascii_case}
 use Rattle.tg_http.specs.declared.framing.Framing.{Framing}
 use Rattle.tg_http.specs.declared.framing.Framing.TheVariants.{Length, Chunked, UntilClose, Broken}
-use Rattle.tg_http.specs.Fields.{values, IsLengthText}
+use Rattle.tg_digits.specs.Digits.{IsDigits}
+use Rattle.tg_http.specs.Fields.{values}
 
 abbrev pub codings : List (List ℕ × List ℕ) → List (List ℕ)
 codings fields = values (codes "transfer-encoding") fields
@@ -15,7 +16,7 @@ lengths fields = values (codes "content-length") fields
 -- else has none of these framings.
 abbrev pub HasFraming : List (List ℕ × List ℕ) → Framing → Type 0
 HasFraming fields (Length number) =
-    (codings fields ≡ []) × (value : List ℕ) × (lengths fields ≡ value ∷ []) × IsLengthText value number × (number < 2 ^ 63)
+    (codings fields ≡ []) × (value : List ℕ) × (lengths fields ≡ value ∷ []) × IsDigits value number × (number < 2 ^ 63)
 HasFraming fields Chunked =
     (lengths fields ≡ []) × (value : List ℕ) × (codings fields ≡ value ∷ []) × IsTrue (str_eq_ignore_ascii_case value (codes "chunked"))
 HasFraming fields UntilClose = (codings fields ≡ []) × (lengths fields ≡ [])
@@ -28,4 +29,4 @@ IsFramingOf fields framing = HasFraming fields framing ⊎ ((framing ≡ Broken)
 -- a request has no body where it has no `Transfer-Encoding`, and no `Content-Length` but one of 1 to 19 digits of value 0
 pub record HasNoBody (fields : List (List ℕ × List ℕ)) : Type 0 where
   pub no_coding : codings fields ≡ []
-  pub no_length : (lengths fields ≡ []) ⊎ ((value : List ℕ) × (lengths fields ≡ value ∷ []) × IsLengthText value 0)
+  pub no_length : (lengths fields ≡ []) ⊎ ((value : List ℕ) × (lengths fields ≡ value ∷ []) × IsDigits value 0)

@@ -1,12 +1,12 @@
 //! How a body is framed.
-ghost use Rattle.std.specs.Prelude.{◌≡◌, ◌↔◌, ℕ, ◌⊎◌, ◌<◌, ◌≤◌, List, [], ◌∷◌, map, length, All, MatchOption, IsFalse, codes};
-ghost use Rattle.std.specs.Char.{digit_value};
+ghost use Rattle.std.specs.Prelude.{◌≡◌, ◌↔◌, ℕ, ◌⊎◌, List, [], ◌∷◌, map, length, All, IsFalse};
 ghost use Rattle.httparse.specs.Spans.{IsHeaderWithin, header_bytes};
-ghost use Rattle.tg_http.specs.Fields.{values, AreValues, IsLengthText};
+ghost use Rattle.tg_http.specs.Fields.{values, AreValues};
 ghost use Rattle.tg_http.specs.Framing.{codings, lengths, IsFramingOf, HasNoBody};
 
 use crate::fields::{FieldValue, value_of};
 use httparse::spans::HeaderSpan;
+use tg_digits::number_of;
 
 /// How a body is framed.
 ///
@@ -52,7 +52,7 @@ fn stated_framing(coding: FieldValue<'_>, length: FieldValue<'_>) -> Framing
 fn stated_length(value: &[u8]) -> Framing
     ensures { (fields : List (List ℕ × List ℕ)) → codings fields ≡ [] → lengths fields ≡ value.now ∷ [] → IsFramingOf fields result }
 {
-    match length_text(value) {
+    match number_of(value) {
         Some(number) if number < 1 << 63 => Framing::Length(number),
         _ => Framing::Broken,
     }
@@ -76,32 +76,7 @@ fn has_length(length: FieldValue<'_>) -> bool
 {
     match length {
         FieldValue::Absent => false,
-        FieldValue::Single(value) => length_text(value) != Some(0),
+        FieldValue::Single(value) => number_of(value) != Some(0),
         FieldValue::Repeated => true,
-    }
-}
-
-/// The number that 1 to 19 digits write.
-fn length_text(value: &[u8]) -> Option<u64>
-    ensures { MatchOption result ((number : ℕ) → IsLengthText value.now number → ⊥) (IsLengthText value.now) }
-{
-    if value.is_empty() || value.len() > 19 {
-        return None;
-    }
-    let mut number: u64 = 0;
-    for byte in value {
-        let digit = digit_of(*byte)?;
-        number = number * 10 + digit;
-    }
-    Some(number)
-}
-
-/// The value of a decimal digit.
-fn digit_of(byte: u8) -> Option<u64>
-    ensures { MatchOption result (10 ≤ digit_value byte) (λ digit. (digit ≡ digit_value byte) × (digit < 10)) }
-{
-    match byte {
-        b'0'..=b'9' => Some((byte - b'0') as u64),
-        _ => None,
     }
 }

@@ -1,26 +1,14 @@
 -- The digits of a number.
-use Rattle.std.proofs.Common.{◌≡◌, ◌⊎◌, Bool, true, false, ap, ap₂, inl, inr, refl, subst, sym, ◌∙◌, ℕ, zero, suc, ◌+◌, ◌*◌, ◌^◌, ◌<◌, ◌≤◌, List, [], ◌∷◌, length, get_or, arith, pow-add}
-use Rattle.std.proofs.Math.Nat.{pow-le-pow_right}
+use Rattle.std.proofs.Common.{◌≡◌, Bool, true, false, ap, refl, subst, sym, ◌∙◌, ℕ, ◌^◌, ◌<◌, ◌≤◌, List, [], ◌∷◌, length}
 use Rattle.std.specs.Bool.{Decides, then_some}
 use Rattle.std.specs.Char.{digit_value, is_digit}
 use Rattle.std.specs.List.{list_all}
 use Rattle.std.proofs.lemmas.Bool.{and_from, and_parts, cond-false, cond-true, cond_both, eqb-true, le-leb, leb-true, lt-ltb, ltb-true}
 use Rattle.std.proofs.lemmas.Bool.Decides.{Decides-and, Decides-like, Decides-ltb}
 use Rattle.std.specs.Prelude.{None, Option, Some, nat_le, nat_lt, ◌&&◌}
-use Rattle.std.specs.Str.Parse.{AllDigits, IsNumeral, digits_value}
+use Rattle.std.specs.Str.Parse.{AllDigits, digits_value}
+use Rattle.tg_digits.specs.Digits.{IsDigits}
 use Rattle.tg_path.specs.Spans.{NumberText, is_number, number_of}
-
-pub digit_at : (bytes : List ℕ) (i : ℕ) → AllDigits 10 bytes → i < length bytes → digit_value (get_or bytes i 0) < 10
-digit_at [] i all inside = absurd (omega arith)
-digit_at (b ∷ bytes) zero all inside = all.0
-digit_at (b ∷ bytes) (suc i) all inside = digit_at bytes i all.1 (omega arith)
-
--- one more digit stays below the next power
-pub digit_more : (number digit at : ℕ) → number < 10 ^ at → digit < 10 → number * 10 + digit < 10 ^ (at + 1)
-digit_more number digit at below small = omega (arith, pow-add 10 at 1)
-
-pub below_top : (at : ℕ) → at < 19 → 10 ^ (at + 1) ≤ 10 ^ 19
-below_top at h = pow-le-pow_right {n = 10} (omega arith) {j = 19} (omega arith)
 
 -- numbers of 1 to 19 digits: the test says what the relation says
 pub digits_decide : (text : List ℕ) → Decides (list_all (λ (b : ℕ). is_digit b 10) text) (AllDigits 10 text)
@@ -54,7 +42,8 @@ number_some text p = cond-true (is_number text) (Some (digits_value 10 text)) No
 -- the number of a text is what the relation says
 pub number_found : (text : List ℕ) (n : ℕ) → NumberText text n → number_of text ≡ Some n
 number_found text n h =
-    number_some text (h.digits.0, (h.few, (h.digits.1, subst (λ (k : ℕ). k < 2 ^ 63) h.number_is h.small))) ∙ ap (λ (k : ℕ). Some k) (sym h.number_is)
+    let is = h.written.number_is in
+    number_some text (h.written.digits.0, (h.written.few, (h.written.digits.1, subst (λ (k : ℕ). k < 2 ^ 63) is h.small))) ∙ ap (λ (k : ℕ). Some k) (sym is)
 
 pub number_told : (text : List ℕ) (n : ℕ) → number_of text ≡ Some n → NumberText text n
 unfolding number_of
@@ -63,28 +52,22 @@ number_told text n =
     (λ t e.
     let p = (number_decides text).0 t in
     let same : digits_value 10 text ≡ n = cc in
-    record { digits = (p.0, p.1.1.0); few = p.1.0; number_is = sym same; small = subst (λ (k : ℕ). k < 2 ^ 63) same p.1.1.1 })
+    record { written = record { digits = (p.0, p.1.1.0); few = p.1.0; number_is = sym same }; small = subst (λ (k : ℕ). k < 2 ^ 63) same p.1.1.1 })
     (λ f e. absurd cc)
 
--- ---- what the loop over digits has found
+-- ---- what was read of the digits
 
-pub none_short : (text : List ℕ) → (length text ≡ 0) ⊎ (19 < length text) → None ≡ number_of text
-none_short text (inl e) = sym (number_none text (λ p. omega (arith, p.0, e)))
-none_short text (inr more) = sym (number_none text (λ p. omega (arith, p.1.0, more)))
-
-pub none_here : (text : List ℕ) (at : ℕ) → at < length text → 10 ≤ digit_value (get_or text at 0) → None ≡ number_of text
-none_here text at inside high = sym (number_none text (λ p. omega (arith, digit_at text at p.1.1.0 inside, high)))
+pub none_read : (text : List ℕ) → ((n : ℕ) → IsDigits text n → ⊥) → None ≡ number_of text
+none_read text never =
+    sym (number_none text (λ p. never (digits_value 10 text) (record { digits = (p.0, p.1.1.0); few = p.1.0; number_is = refl })))
 
 by_test : (b : Bool) (n : ℕ) (o : Option ℕ) → (b ≡ true → Some n ≡ o) → (b ≡ false → None ≡ o) → then_some b n ≡ o
 by_test true n o hit miss = hit refl
 by_test false n o hit miss = miss refl
 
-pub number_end : (text : List ℕ) (number : ℕ) → 0 < length text → length text ≤ 19 → AllDigits 10 text → number ≡ digits_value 10 text
-    → then_some (nat_lt number (2 ^ 63)) number ≡ number_of text
-number_end text number some few all is =
+pub number_read : (text : List ℕ) (number : ℕ) → IsDigits text number → then_some (nat_lt number (2 ^ 63)) number ≡ number_of text
+number_read text number h =
+    let is = h.number_is in
     by_test (nat_lt number (2 ^ 63)) number (number_of text)
-    (λ t.
-    sym
-    (number_some text (some, (few, (all, subst (λ (k : ℕ). k < 2 ^ 63) is (ltb-true number (2 ^ 63) t))))
-    ∙ ap (λ (k : ℕ). Some k) (sym is)))
+    (λ t. sym (number_found text number (record { written = h; small = ltb-true number (2 ^ 63) t })))
     (λ f. sym (number_none text (λ p. let t : nat_lt number (2 ^ 63) ≡ true = lt-ltb number (2 ^ 63) (subst (λ (k : ℕ). k < 2 ^ 63) (sym is) p.1.1.1) in absurd cc)))

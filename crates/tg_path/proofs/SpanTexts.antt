@@ -32,10 +32,10 @@ all_not other high [] all = All-nil (λ (b : ℕ). b ≢ other)
 all_not other high (b ∷ text) all = All-cons (λ (b : ℕ). b ≢ other) b text (not_digit b other all.0 high) (all_not other high text all.1)
 
 pub no_colon : (text : List ℕ) (from : SpanFrom) → FromText text from → All (λ (b : ℕ). b ≢ 58) text
-no_colon text (Start start) h = all_not 58 (omega arith) text h.digits.1
+no_colon text (Start start) h = all_not 58 (omega arith) text h.written.digits.1
 no_colon text (Last count) h =
     subst (λ (l : List ℕ). All (λ (b : ℕ). b ≢ 58) l) (sym h.1)
-    (All-cons (λ (b : ℕ). b ≢ 58) 45 h.0 (λ e. omega (arith, e)) (all_not 58 (omega arith) h.0 h.2.digits.1))
+    (All-cons (λ (b : ℕ). b ≢ 58) 45 h.0 (λ e. omega (arith, e)) (all_not 58 (omega arith) h.0 h.2.written.digits.1))
 
 no_minus : (text : List ℕ) → 0 < length text → AllDigits 10 text → behind_front (45 ∷ []) text ≡ None
 no_minus [] some all = absurd (omega arith)
@@ -43,7 +43,7 @@ no_minus (b ∷ text) some all = cond-false (b == 45) (Some text) None (ne_eqb b
 
 pub from_found : (text : List ℕ) (from : SpanFrom) → FromText text from → from_of text ≡ Some from
 from_found text (Start start) h =
-    ap (from_by text) (no_minus text h.digits.0 h.digits.1) ∙ ap (option_map (λ (n : ℕ). Start n)) (number_found text start h)
+    ap (from_by text) (no_minus text h.written.digits.0 h.written.digits.1) ∙ ap (option_map (λ (n : ℕ). Start n)) (number_found text start h)
 from_found text (Last count) h =
     ap from_of h.1 ∙ ap (option_map (λ (n : ℕ). Last n)) (number_found h.0 count h.2)
 
@@ -69,7 +69,7 @@ no_star text n h = cond_cases (bytes_eq text (42 ∷ [])) refl
     cond_cases : (b : Bool) → bytes_eq text (42 ∷ []) ≡ b → bytes_eq text (42 ∷ []) ≡ false
     cond_cases true e =
         let same : text ≡ 42 ∷ [] = (bytes_eq-Decides text (42 ∷ [])).0 e in
-        let all : AllDigits 10 (42 ∷ []) = subst (AllDigits 10) same h.digits.1 in
+        let all : AllDigits 10 (42 ∷ []) = subst (AllDigits 10) same h.written.digits.1 in
         absurd (omega (arith, all.0))
     cond_cases false e = e
 

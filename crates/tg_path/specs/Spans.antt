@@ -1,8 +1,9 @@
 -- Ranges FROM:TO of a file's bytes (Trustless Gateway specification, entity-bytes; the limits of digits are this project's own).
 use Rattle.std.specs.Char.{is_digit}
 use Rattle.std.specs.List.{list_all}
-use Rattle.std.specs.Prelude.{Bool, Err, List, None, Ok, Option, Result, Some, [], bytes_eq, if◌then◌else◌, length, nat_le, nat_lt, option_map, true, ℕ, ◌&&◌, ◌++◌, ◌<◌, ◌^◌, ◌∷◌, ◌≡◌, ◌≤◌}
-use Rattle.std.specs.Str.Parse.{IsNumeral, digits_value}
+use Rattle.std.specs.Prelude.{Bool, Err, List, None, Ok, Option, Result, Some, [], bytes_eq, if◌then◌else◌, length, nat_le, nat_lt, option_map, true, ℕ, ◌&&◌, ◌++◌, ◌<◌, ◌^◌, ◌∷◌, ◌≡◌}
+use Rattle.std.specs.Str.Parse.{digits_value}
+use Rattle.tg_digits.specs.Digits.{IsDigits}
 use Rattle.tg_model.specs.Queries.{IsSpan, SpanParts}
 use Rattle.tg_model.specs.declared.queries.SpanFrom.{SpanFrom}
 use Rattle.tg_model.specs.declared.queries.SpanFrom.TheVariants.{Last, Start}
@@ -12,9 +13,7 @@ use Rattle.tg_path.specs.declared.fault.QueryFault.TheVariants.{BadRange}
 
 -- 1 to 19 digits that write a number below 2 ^ 63
 pub record NumberText (text : List ℕ) (number : ℕ) : Type 0 where
-  pub digits : IsNumeral 10 text
-  pub few : length text ≤ 19
-  pub number_is : number ≡ digits_value 10 text
+  pub written : IsDigits text number
   pub small : number < 2 ^ 63
 
 -- digits, or `-` and digits

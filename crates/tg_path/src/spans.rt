@@ -1,6 +1,5 @@
 //! Ranges of a file's bytes.
-ghost use Rattle.std.specs.Prelude.{◌≡◌, ◌<◌, ◌≤◌, ◌^◌, ◌∷◌, [], IfSome, MatchOption, option_copied};
-ghost use Rattle.std.specs.Char.{digit_value, is_digit};
+ghost use Rattle.std.specs.Prelude.{◌≡◌, ◌<◌, ◌≤◌, ◌^◌, ◌∷◌, [], IfSome, option_copied};
 ghost use Rattle.tg_model.specs.Queries.{IsFrom};
 ghost use Rattle.tg_path.specs.Cuts.{behind_front};
 ghost use Rattle.tg_path.specs.Spans.{from_of, number_of, span_of, span_with, to_of};
@@ -73,23 +72,6 @@ fn number_of(text: &[u8]) -> Option<u64>
     ensures number { result ≡ number_of text.now }
     ensures small { IfSome result (λ number. number < 2 ^ 63) }
 {
-    if text.is_empty() || text.len() > 19 {
-        return None;
-    }
-    let mut number: u64 = 0;
-    for byte in text {
-        let digit = digit_of(*byte)?;
-        number = number * 10 + digit;
-    }
+    let number = tg_digits::number_of(text)?;
     (number < 1 << 63).then_some(number)
-}
-
-/// The value of a decimal digit.
-fn digit_of(byte: u8) -> Option<u64>
-    ensures { MatchOption result (10 ≤ digit_value byte) (λ digit. (digit ≡ digit_value byte) × (digit < 10)) }
-{
-    match byte {
-        b'0'..=b'9' => Some((byte - b'0') as u64),
-        _ => None,
-    }
 }

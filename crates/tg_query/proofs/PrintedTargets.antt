@@ -149,7 +149,10 @@ wide n h = omega arith
 number_again : (n : ℕ) → n < 2 ^ 63 → NumberText (decimal n) n
 number_again n h =
     let told = decimal_is_IsNumeral n (wide n h) in
-    record { digits = told.0; few = length-decimal-le 19 n (omega arith) (omega arith) (wide n h); number_is = sym told.1; small = h }
+    record {
+      written = record { digits = told.0; few = length-decimal-le 19 n (omega arith) (omega arith) (wide n h); number_is = sym told.1 };
+      small = h;
+    }
 
 from_again : (from : SpanFrom) → IsFrom from → FromText (from_text from) from
 from_again (Start start) h = number_again start h

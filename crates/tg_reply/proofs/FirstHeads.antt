@@ -12,7 +12,7 @@ use Rattle.std.proofs.lemmas.Bool.Decides.{Decides-and, Decides-by_and, Decides-
 use Rattle.std.proofs.lemmas.List.{append-nil, drop_at, length-append}
 use Rattle.std.proofs.lemmas.Slice.Eq.{bytes_eq-Decides}
 use Rattle.std.proofs.lemmas.Str.{IsUtf8-from_is_utf8, is_utf8-from_IsUtf8}
-use Rattle.tg_http.specs.Fields.{IsLengthText}
+use Rattle.tg_digits.specs.Digits.{IsDigits}
 use Rattle.tg_http.specs.Framing.{HasNoBody, codings, lengths}
 use Rattle.tg_http.specs.HeadText.{BeginsHead, HeadText, joined}
 use Rattle.tg_http.specs.Heads.{IsNoRequest, TellsRequest}
@@ -76,7 +76,7 @@ digits_decide : (bytes : List ℕ) → Decides (list_all (λ b. is_digit b 10) b
 digits_decide [] = (λ e. tt, λ a. refl)
 digits_decide (b ∷ bytes) = Decides-and _ _ (Decides-ltb (digit_value b) 10) (digits_decide bytes)
 
-zero_decides : (value : List ℕ) → Decides (is_zero_text value) (IsLengthText value 0)
+zero_decides : (value : List ℕ) → Decides (is_zero_text value) (IsDigits value 0)
 zero_decides value =
     let all = Decides-and _ _ (Decides-ltb 0 (length value)) (Decides-and _ _ (digits_decide value) (Decides-and _ _ (le_decides (length value) 19) (Decides-eqb 0 (digits_value 10 value)))) in (
       λ e.
@@ -86,7 +86,7 @@ zero_decides value =
     )
 
 abbrev NoLength : List (List ℕ) → Type 0
-NoLength found = (found ≡ []) ⊎ ((value : List ℕ) × (found ≡ value ∷ []) × IsLengthText value 0)
+NoLength found = (found ≡ []) ⊎ ((value : List ℕ) × (found ≡ value ∷ []) × IsDigits value 0)
 
 length_told : (found : List (List ℕ)) → IsFalse (states_length found) ↔ NoLength found
 length_told [] = (λ e. inl refl, λ h. refl)
@@ -103,7 +103,7 @@ length_told (value ∷ []) = (by_test (is_zero_text value) refl, back)
     back (inl e) = absurd (cc e)
     back (inr h) =
         let same : value ≡ h.0 = cc h.1 in
-        rw ((zero_decides value).1 (subst (λ (v : List ℕ). IsLengthText v 0) (sym same) h.2)) refl
+        rw ((zero_decides value).1 (subst (λ (v : List ℕ). IsDigits v 0) (sym same) h.2)) refl
 length_told (value ∷ other ∷ more) = (λ f. absurd (clash f), λ h. absurd (two h))
   where
     clash : IsFalse true → ⊥

@@ -9,7 +9,8 @@ use Rattle.std.specs.Str.Parse.{AllDigits, digits_value}
 use Rattle.std.proofs.lemmas.Bool.{ne_eqb}
 use Rattle.std.proofs.lemmas.Fmt.{decimal_is_IsNumeral, length-decimal-le}
 use Rattle.std.proofs.lemmas.List.Elements.{All-cons, All-head, All-nil}
-use Rattle.tg_http.specs.Fields.{IsLengthText, coding_of, first, values}
+use Rattle.tg_digits.specs.Digits.{IsDigits}
+use Rattle.tg_http.specs.Fields.{coding_of, first, values}
 use Rattle.tg_http.specs.Framing.{HasFraming, IsFramingOf}
 use Rattle.tg_http.specs.declared.framing.Framing.{Framing}
 use Rattle.tg_http.specs.declared.framing.Framing.TheVariants as framings
@@ -90,10 +91,10 @@ wide n h = omega arith
 pub decimal_shown : (n : ℕ) → n < 2 ^ 63 → trim_ows (32 ∷ decimal n) ≡ decimal n
 decimal_shown n h = shown_inside (decimal n) (digits_inside (decimal n) (decimal_is_IsNumeral n (wide n h)).0.1)
 
-pub length_value : (n : ℕ) → n < 2 ^ 63 → IsLengthText (trim_ows (32 ∷ decimal n)) n
+pub length_value : (n : ℕ) → n < 2 ^ 63 → IsDigits (trim_ows (32 ∷ decimal n)) n
 length_value n h =
     let told = decimal_is_IsNumeral n (wide n h) in
-    subst (λ (v : List ℕ). IsLengthText v n) (sym (decimal_shown n h))
+    subst (λ (v : List ℕ). IsDigits v n) (sym (decimal_shown n h))
     (record { digits = told.0; few = length-decimal-le 19 n (omega arith) (omega arith) (wide n h); number_is = sym told.1 })
 
 -- ---- any head of such fields

@@ -1,6 +1,0 @@
-use Rattle.std.proofs.Common.{◌≡◌, ◌^◌, ◌<◌, take}
-use Rattle.std.specs.Str.Parse.{digits_value, AllDigits}
-use Rattle.tg_http.proofs.framing.length_text.Given as goal
-
-abbrev pub invariant-loop-byte : goal.invariant-loop-byte
-invariant-loop-byte l = (l.number ≡ digits_value 10 (take l.byte-index l.value)) × AllDigits 10 (take l.byte-index l.value) × (l.number < 10 ^ l.byte-index)
