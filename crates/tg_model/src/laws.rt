@@ -1,7 +1,9 @@
 //! Laws of reading, each the contract of a function that does nothing.
 ghost use Rattle.std.specs.Prelude.{◌≡◌, ◌↔◌, ◌<◌, ◌+◌, ◌*◌, ◌^◌, ◌∷◌, ℕ, List, All, Ok, Err, get_or, length};
+ghost use Rattle.std.specs.Bool.{Decides};
 ghost use Rattle.tg_cid.specs.Cid.{CidParts};
-ghost use Rattle.tg_model.specs.Computed.{read};
+ghost use Rattle.tg_model.specs.Computed.{is_good_name, read};
+ghost use Rattle.tg_model.specs.EntryNames.{IsGoodName};
 ghost use Rattle.tg_model.specs.InnerFaults.{IsNoWantOfMemory};
 ghost use Rattle.tg_model.specs.Reading.{Reads, big_endian};
 ghost use Rattle.tg_model.specs.declared.fault.BlockFault.{BlockFault};
@@ -33,4 +35,11 @@ pub fn readings()
 pub fn big_endians()
     ensures first { (byte : ℕ) (bytes : List ℕ) → big_endian (byte ∷ bytes) ≡ byte * 2 ^ (8 * length bytes) + big_endian bytes }
     ensures below { (bytes : List ℕ) → ((k : ℕ) → get_or bytes k 0 < 256) → big_endian bytes < 2 ^ (8 * length bytes) }
+{}
+
+/// The test of a name says whether it is good for an entry.
+///
+/// UnixFS specification, Directory; Path Gateway specification, path segments.
+pub fn good_names()
+    ensures { (name : List ℕ) → Decides (is_good_name name) (IsGoodName name) }
 {}
