@@ -1,17 +1,29 @@
 -- What is told of bytes by the head text at their front.
-use Rattle.std.proofs.Common.{◌≡◌, ℕ, ◌≤◌, ◌⊎◌, List, [], length, Ok, Err, Result, refl, sym, ◌∙◌, subst, inl, inr, arith}
+use Rattle.std.proofs.Common.{◌≡◌, ℕ, ◌≤◌, ◌⊎◌, List, [], length, Ok, Err, Result, ap, refl, sym, ◌∙◌, subst, inl, inr, arith}
+use Rattle.std.specs.Prelude.{IsErrAnd, MatchResult}
+use Rattle.std.proofs.lemmas.Result.{err_from_is_err_and}
 use Rattle.httparse.specs.Grammar.{RequestHead as RequestTree, ResponseHead as ReplyTree, ReadsRequest, ReadsResponse}
-use Rattle.httparse.specs.Outcome.{IsCompleteAnd}
-use Rattle.httparse.specs.declared.Status.{Status}
-use Rattle.httparse.specs.declared.Status.TheVariants.{Complete, Partial}
 use Rattle.httparse.proofs.GrammarLemmas.{request_unique, response_unique}
 use Rattle.tg_http.specs.declared.fault.HttpFault.{HttpFault}
 use Rattle.tg_http.specs.declared.fault.HttpFault.TheVariants as faults
 use Rattle.tg_http.specs.declared.request.RequestHead.{RequestHead}
 use Rattle.tg_http.specs.declared.reply.ReplyHead.{ReplyHead}
-use Rattle.tg_http.specs.HeadText.{BeginsHead}
+use Rattle.tg_http.specs.HeadText.{BeginsHead, HeadText}
 use Rattle.tg_http.specs.Heads.{IsWaiting, PassesLimit, HasHeadCause, IsRequest, IsReply, IsNoRequest, IsNoReply, TellsParts, TellsReplyParts, TellsRequest, TellsReply}
+use Rattle.tg_http.proofs.Grammar.{whole_request, whole_reply}
 use Rattle.tg_http.proofs.Unique.{one_beginning}
+
+-- the bytes begin with this head text, of at most 64 fields
+abbrev pub Here : List ℕ → List ℕ → Type 0
+Here bytes text = (count : ℕ) × BeginsHead bytes text count × (count ≤ 64)
+
+-- what a refusal of a whole head text says
+abbrev pub Refuses : HttpFault → Type 0 → Type 0 → Type 0
+Refuses told R N = ((told ≡ faults.OutOfMemory) × R) ⊎ ((told ≡ faults.BadHead) × N)
+
+-- a refusal that is handed on
+pub handed_on : {T : Type 0} {told fault : HttpFault} (r : Result T HttpFault) → IsErrAnd r (λ y. y ≡ told) → told ≡ fault → r ≡ Err fault
+handed_on r is same = let p = err_from_is_err_and r is in p.1 ∙ ap Err (p.2 ∙ same)
 
 pub limit_only : (bytes text : List ℕ) (count : ℕ) → PassesLimit bytes → BeginsHead bytes text count → count ≤ 64 → ⊥
 limit_only bytes text count (inl none) b few = none.1 text count b
@@ -43,39 +55,24 @@ module _ (none : List ℕ → Type 0) where
   whole_given bytes text count faults.BadFraming b few h = absurd h
   whole_given bytes text count faults.OutOfMemory b few h = absurd h
 
-pub same_request : (bytes text other : List ℕ) (count : ℕ) (tree asked : RequestTree) → BeginsHead bytes text count → ReadsRequest text tree [] → IsRequest bytes other asked
-    → (text ≡ other) × (tree ≡ asked)
-same_request bytes text other count tree asked b r i =
-    let same = one_beginning bytes text other count i.count b i.begins in
-    (same.0, (request_unique other tree asked [] [] (subst (λ (s : List ℕ). ReadsRequest s tree []) same.0 r) i.reads).0)
+  -- the answers where the limits are passed, where a whole head text is refused, and where it is read
+  pub limit_answer : {T : Type 0} {told : HttpFault} (bytes : List ℕ) (fault : HttpFault) (r : Result T HttpFault) → IsErrAnd r (λ y. y ≡ told)
+      → (told ≡ faults.HeadLimit) × PassesLimit bytes → HasHeadCause none bytes fault → r ≡ Err fault
+  limit_answer bytes fault r is l h = handed_on r is (l.0 ∙ sym (limit_given bytes fault l.1 h))
 
-pub request_only : (bytes text other : List ℕ) (count : ℕ) (tree asked : RequestTree) (head : RequestHead) → BeginsHead bytes text count → ReadsRequest text tree []
-    → TellsRequest tree (length text) head → IsRequest bytes other asked → TellsRequest asked (length other) head
-request_only bytes text other count tree asked head b r t i =
-    let same = same_request bytes text other count tree asked b r i in
-    subst (λ (s : List ℕ). TellsRequest asked (length s) head) same.0 (subst (λ (h : RequestTree). TellsRequest h (length text) head) same.1 t)
+  pub refused_answer : {T R : Type 0} {told : HttpFault} (bytes text : List ℕ) (fault : HttpFault) (r : Result T HttpFault) → Here bytes text
+      → (none text → R → ⊥) → IsErrAnd r (λ y. y ≡ told) → Refuses told R (none text) → HasHeadCause none bytes fault → r ≡ Err fault
+  refused_answer {R = R} {told = told} bytes text fault r here never is cause h = by_cause cause
+    where
+      given : (fault ≡ faults.BadHead) × none text
+      given = whole_given bytes text here.0 fault here.1 here.2 h
 
-pub request_read : (bytes text other : List ℕ) (count : ℕ) (asked : RequestTree) → BeginsHead bytes text count → IsRequest bytes other asked → IsNoRequest text → ⊥
-request_read bytes text other count asked b i none =
-    let same = one_beginning bytes text other count i.count b i.begins in
-    none asked (subst (λ (s : List ℕ). ReadsRequest s asked []) (sym same.0) i.reads)
+      by_cause : Refuses told R (none text) → r ≡ Err fault
+      by_cause (inl memory) = absurd (never given.1 memory.1)
+      by_cause (inr bad) = handed_on r is (bad.0 ∙ sym given.0)
 
-pub same_reply : (bytes text other : List ℕ) (count : ℕ) (tree asked : ReplyTree) → BeginsHead bytes text count → ReadsResponse text tree [] → IsReply bytes other asked
-    → (text ≡ other) × (tree ≡ asked)
-same_reply bytes text other count tree asked b r i =
-    let same = one_beginning bytes text other count i.count b i.begins in
-    (same.0, (response_unique other tree asked [] [] (subst (λ (s : List ℕ). ReadsResponse s tree []) same.0 r) i.reads).0)
-
-pub reply_only : (bytes text other : List ℕ) (count : ℕ) (tree asked : ReplyTree) (head : ReplyHead) → BeginsHead bytes text count → ReadsResponse text tree []
-    → TellsReply tree (length text) head → IsReply bytes other asked → TellsReply asked (length other) head
-reply_only bytes text other count tree asked head b r t i =
-    let same = same_reply bytes text other count tree asked b r i in
-    subst (λ (s : List ℕ). TellsReply asked (length s) head) same.0 (subst (λ (h : ReplyTree). TellsReply h (length text) head) same.1 t)
-
-pub reply_read : (bytes text other : List ℕ) (count : ℕ) (asked : ReplyTree) → BeginsHead bytes text count → IsReply bytes other asked → IsNoReply text → ⊥
-reply_read bytes text other count asked b i none =
-    let same = one_beginning bytes text other count i.count b i.begins in
-    none asked (subst (λ (s : List ℕ). ReadsResponse s asked []) (sym same.0) i.reads)
+  pub read_given : (bytes text : List ℕ) (fault : HttpFault) → Here bytes text → (none text → ⊥) → HasHeadCause none bytes fault → ⊥
+  read_given bytes text fault here never h = never (whole_given bytes text here.0 fault here.1 here.2 h).1
 
 -- the same parts
 pub same_parts : (used : ℕ) (m m' t t' : List ℕ) (v v' : ℕ) (fs fs' : List (List ℕ × List ℕ)) (head : RequestHead)
@@ -91,18 +88,68 @@ pub same_reply_parts : (used n n' : ℕ) (fs fs' : List (List ℕ × List ℕ)) 
 same_reply_parts used n n' fs fs' head en ef p =
     subst (λ (k : ℕ). TellsReplyParts used k fs' head) en (subst (λ (s : List (List ℕ × List ℕ)). TellsReplyParts used n s head) ef p)
 
--- an answer that isn't complete
-pub not_complete : {A E : Type 0} (r : Result (Status A) E) (P : A → Type 0) → ((a : A) → r ≡ Ok (Complete a) → ⊥) → IsCompleteAnd r P → ⊥
-not_complete (Ok (Complete a)) P none is = none a refl
-not_complete (Ok Partial) P none is = is
-not_complete (Err e) P none is = is
+pub here_not_waiting : {bytes text : List ℕ} → Here bytes text → IsWaiting bytes → ⊥
+here_not_waiting {text = text} here w = w.none text here.0 here.1
+
+-- a grammar of heads, in which a text is at most one head, and what is told of a head
+module _ {Tree Head : Type 0} (Reads : List ℕ → Tree → Type 0) (unique : (text : List ℕ) (tree other : Tree) → Reads text tree → Reads text other → tree ≡ other)
+    (Tells : Tree → ℕ → Head → Type 0) where
+  head_only : (bytes text other : List ℕ) (asked : Tree) (head : Head) (number : ℕ) → Here bytes text
+      → (tree : Tree) × Reads text tree × Tells tree (length text) head → BeginsHead bytes other number → Reads other asked → Tells asked (length other) head
+  head_only bytes text other asked head number here read begins reads =
+      let same = (one_beginning bytes text other here.0 number here.1 begins).0 in
+      let tree_same = unique other read.0 asked (subst (λ (s : List ℕ). Reads s read.0) same read.1) reads in
+      subst (λ (s : List ℕ). Tells asked (length s) head) same (subst (λ (t : Tree). Tells t (length text) head) tree_same read.2)
+
+  head_read : (bytes text other : List ℕ) (asked : Tree) (number : ℕ) → Here bytes text → BeginsHead bytes other number → Reads other asked
+      → ((tree : Tree) → Reads text tree → ⊥) → ⊥
+  head_read bytes text other asked number here begins reads none =
+      none asked (subst (λ (s : List ℕ). Reads s asked) (sym (one_beginning bytes text other here.0 number here.1 begins).0) reads)
+
+abbrev RequestReads : List ℕ → RequestTree → Type 0
+RequestReads text tree = ReadsRequest text tree []
+
+one_request : (text : List ℕ) (tree other : RequestTree) → RequestReads text tree → RequestReads text other → tree ≡ other
+one_request text tree other r i = (request_unique text tree other [] [] r i).0
+
+pub request_only : (bytes text other : List ℕ) (asked : RequestTree) (head : RequestHead) → Here bytes text
+    → (tree : RequestTree) × ReadsRequest text tree [] × TellsRequest tree (length text) head → IsRequest bytes other asked → TellsRequest asked (length other) head
+request_only bytes text other asked head here read i = head_only RequestReads one_request TellsRequest bytes text other asked head i.count here read i.begins i.reads
+
+pub request_read : (bytes text other : List ℕ) (asked : RequestTree) → Here bytes text → IsRequest bytes other asked → IsNoRequest text → ⊥
+request_read bytes text other asked here i none = head_read RequestReads one_request TellsRequest bytes text other asked i.count here i.begins i.reads none
+
+abbrev ReplyReads : List ℕ → ReplyTree → Type 0
+ReplyReads text tree = ReadsResponse text tree []
+
+one_reply : (text : List ℕ) (tree other : ReplyTree) → ReplyReads text tree → ReplyReads text other → tree ≡ other
+one_reply text tree other r i = (response_unique text tree other [] [] r i).0
+
+pub reply_only : (bytes text other : List ℕ) (asked : ReplyTree) (head : ReplyHead) → Here bytes text
+    → (tree : ReplyTree) × ReadsResponse text tree [] × TellsReply tree (length text) head → IsReply bytes other asked → TellsReply asked (length other) head
+reply_only bytes text other asked head here read i = head_only ReplyReads one_reply TellsReply bytes text other asked head i.count here read i.begins i.reads
+
+pub reply_read : (bytes text other : List ℕ) (asked : ReplyTree) → Here bytes text → IsReply bytes other asked → IsNoReply text → ⊥
+reply_read bytes text other asked here i none = head_read ReplyReads one_reply TellsReply bytes text other asked i.count here i.begins i.reads none
 
 -- what a refusal of a whole head text is, where the text is a head or isn't one
-pub by_cause : {fault told : HttpFault} {R N : Type 0} → (N → ⊥) → fault ≡ told → ((told ≡ faults.OutOfMemory) × R) ⊎ ((told ≡ faults.BadHead) × N) → fault ≡ faults.OutOfMemory
-by_cause read same (inl memory) = same ∙ memory.0
-by_cause read same (inr bad) = absurd (read bad.1)
+pub only_refused : {T R N : Type 0} {told : HttpFault} (P : T → Type 0) (r : Result T HttpFault) → IsErrAnd r (λ y. y ≡ told) → Refuses told R N
+    → (N → ⊥) → MatchResult r P (λ fault. fault ≡ faults.OutOfMemory)
+only_refused P (Ok x) is cause read = absurd is
+only_refused P (Err y) is (inl memory) read = is ∙ memory.0
+only_refused P (Err y) is (inr bad) read = absurd (read bad.1)
 
-pub by_none : {T : Type 0} {R : T → Type 0} {told : HttpFault} {N : Type 0} → ((t : T) → R t → ⊥)
-    → ((told ≡ faults.OutOfMemory) × ((t : T) × R t)) ⊎ ((told ≡ faults.BadHead) × N) → told ≡ faults.BadHead
-by_none none (inl memory) = absurd (none memory.1.0 memory.1.1)
-by_none none (inr bad) = bad.0
+-- a head text is no head where the parser, which has room for 64 fields, finds none at its front
+module _ {Tree : Type 0} (Reads : List ℕ → Tree → List ℕ → Type 0) (fields : Tree → ℕ)
+    (whole : (text rest : List ℕ) (tree : Tree) (count : ℕ) → HeadText text count → Reads text tree rest → Reads text tree [] × (fields tree ≡ count)) where
+  unread : (text : List ℕ) → (count : ℕ) × HeadText text count × (count ≤ 64) → ((tree : Tree) (rest : List ℕ) → Reads text tree rest → fields tree ≤ 64 → ⊥)
+      → (tree : Tree) → Reads text tree [] → ⊥
+  unread text is never tree r = never tree [] r (omega (arith, (whole text [] tree is.0 is.1 r).1, is.2))
+
+pub no_request : (text : List ℕ) → (count : ℕ) × HeadText text count × (count ≤ 64)
+    → ((tree : RequestTree) (rest : List ℕ) → ReadsRequest text tree rest → length tree.fields ≤ 64 → ⊥) → IsNoRequest text
+no_request = unread ReadsRequest (λ tree. length tree.fields) whole_request
+
+pub no_reply : (text : List ℕ) → (count : ℕ) × HeadText text count × (count ≤ 64)
+    → ((tree : ReplyTree) (rest : List ℕ) → ReadsResponse text tree rest → length tree.fields ≤ 64 → ⊥) → IsNoReply text
+no_reply = unread ReadsResponse (λ tree. length tree.fields) whole_reply

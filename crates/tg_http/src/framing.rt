@@ -1,5 +1,5 @@
 //! How a body is framed.
-ghost use Rattle.std.specs.Prelude.{◌≡◌, ◌↔◌, ℕ, ◌⊎◌, List, [], ◌∷◌, map, length, All, IsFalse};
+ghost use Rattle.std.specs.Prelude.{◌≡◌, ◌↔◌, ℕ, List, [], ◌∷◌, map, length, All, IsFalse};
 ghost use Rattle.httparse.specs.Spans.{IsHeaderWithin, header_bytes};
 ghost use Rattle.tg_http.specs.Fields.{values, AreValues};
 ghost use Rattle.tg_http.specs.Framing.{codings, lengths, IsFramingOf, HasNoBody};

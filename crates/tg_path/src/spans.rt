@@ -1,5 +1,5 @@
 //! Ranges of a file's bytes.
-ghost use Rattle.std.specs.Prelude.{◌≡◌, ◌<◌, ◌≤◌, ◌^◌, ◌∷◌, [], IfSome, option_copied};
+ghost use Rattle.std.specs.Prelude.{◌≡◌, ◌<◌, ◌^◌, ◌∷◌, [], IfSome, option_copied};
 ghost use Rattle.tg_model.specs.Queries.{IsFrom};
 ghost use Rattle.tg_path.specs.Cuts.{behind_front};
 ghost use Rattle.tg_path.specs.Spans.{from_of, number_of, span_of, span_with, to_of};

@@ -1,8 +1,6 @@
-use Rattle.std.proofs.Common.{ℕ, ◌≤◌, Err, sym, ap, ◌∙◌}
-use Rattle.std.proofs.lemmas.Result.{err_from_is_err_and}
-use Rattle.tg_http.specs.HeadText.{BeginsHead}
-use Rattle.tg_http.specs.Heads.{IsWaiting, IsNoReply}
-use Rattle.tg_http.proofs.Answering.{limit_only, limit_not_waiting, limit_given, waiting_given, whole_given, by_cause, by_none, reply_only, reply_read}
+use Rattle.std.proofs.lemmas.Option.{MatchOption-at_none, MatchOption-at_some}
+use Rattle.tg_http.specs.Heads.{IsNoReply}
+use Rattle.tg_http.proofs.Answering.{here_not_waiting, limit_answer, limit_not_waiting, limit_only, only_refused, read_given, refused_answer, reply_only, reply_read, waiting_given}
 use Rattle.tg_http.proofs.reply.read_reply.Goals as goal
 
 pub returns-in_err-text-clause-only : goal.returns-in_err-text-clause-only
@@ -12,51 +10,40 @@ pub returns-in_err-text-clause-waiting : goal.returns-in_err-text-clause-waiting
 returns-in_err-text-clause-waiting c w = absurd (limit_not_waiting c.args.bytes.now c.in_err-text.ensures.1 w)
 
 pub returns-in_err-text-clause-given : goal.returns-in_err-text-clause-given
-returns-in_err-text-clause-given c fault h =
-    let p = err_from_is_err_and c.from_residual.result c.from_residual.ensures.1 in
-    let same = limit_given IsNoReply c.args.bytes.now fault c.in_err-text.ensures.1 h in
-    p.1 ∙ ap Err (p.2 ∙ c.in_err-text.ensures.0 ∙ sym same)
+returns-in_err-text-clause-given c fault h = limit_answer IsNoReply c.args.bytes.now fault c.from_residual.result c.from_residual.ensures.1 c.in_err-text.ensures h
 
 pub returns-in_default-clause-only : goal.returns-in_default-clause-only
-returns-in_default-clause-only c text tree i =
-    let w : IsWaiting c.args.bytes.now = (rw c.in_default.is at c.in_ok-text.ensures) in absurd (w.none text i.count i.begins)
+returns-in_default-clause-only c text tree i = absurd ((MatchOption-at_none _ _ c.in_default.is c.in_ok-text.ensures).none text i.count i.begins)
 
 pub returns-in_default-clause-given : goal.returns-in_default-clause-given
 returns-in_default-clause-given c fault h =
-    let w : IsWaiting c.args.bytes.now = (rw c.in_default.is at c.in_ok-text.ensures) in absurd (waiting_given IsNoReply c.args.bytes.now fault w h)
+    absurd (waiting_given IsNoReply c.args.bytes.now fault (MatchOption-at_none _ _ c.in_default.is c.in_ok-text.ensures) h)
 
 pub returns-in_err-whole_reply-clause-only : goal.returns-in_err-whole_reply-clause-only
 returns-in_err-whole_reply-clause-only c text tree i =
-    let here : (count : ℕ) × BeginsHead c.args.bytes.now c.in-Some.text.now count × (count ≤ 64) = (rw c.in-Some.is at c.in_ok-text.ensures) in
-    let p = err_from_is_err_and c.from_residual-in_err-whole_reply.result c.from_residual-in_err-whole_reply.ensures.1 in
-    rw p.1 (by_cause (reply_read c.args.bytes.now c.in-Some.text.now text here.0 tree here.1 i) (p.2) c.in_err-whole_reply.ensures)
+    let here = MatchOption-at_some _ _ _ c.in-Some.is c.in_ok-text.ensures in
+    only_refused _ c.from_residual-in_err-whole_reply.result c.from_residual-in_err-whole_reply.ensures.1 c.in_err-whole_reply.ensures
+    (reply_read c.args.bytes.now c.in-Some.text.now text tree here i)
 
 pub returns-in_err-whole_reply-clause-waiting : goal.returns-in_err-whole_reply-clause-waiting
-returns-in_err-whole_reply-clause-waiting c w =
-    let here : (count : ℕ) × BeginsHead c.args.bytes.now c.in-Some.text.now count × (count ≤ 64) = (rw c.in-Some.is at c.in_ok-text.ensures) in
-    absurd (w.none c.in-Some.text.now here.0 here.1)
+returns-in_err-whole_reply-clause-waiting c w = absurd (here_not_waiting (MatchOption-at_some _ _ _ c.in-Some.is c.in_ok-text.ensures) w)
 
 pub returns-in_err-whole_reply-clause-given : goal.returns-in_err-whole_reply-clause-given
 returns-in_err-whole_reply-clause-given c fault h =
-    let here : (count : ℕ) × BeginsHead c.args.bytes.now c.in-Some.text.now count × (count ≤ 64) = (rw c.in-Some.is at c.in_ok-text.ensures) in
-    let p = err_from_is_err_and c.from_residual-in_err-whole_reply.result c.from_residual-in_err-whole_reply.ensures.1 in
-    let given = whole_given IsNoReply c.args.bytes.now c.in-Some.text.now here.0 fault here.1 here.2 h in
-    p.1 ∙ ap Err (p.2 ∙ by_none given.1 c.in_err-whole_reply.ensures ∙ sym given.0)
+    let here = MatchOption-at_some _ _ _ c.in-Some.is c.in_ok-text.ensures in
+    refused_answer IsNoReply c.args.bytes.now c.in-Some.text.now fault c.from_residual-in_err-whole_reply.result here (λ none r. none r.0 r.1)
+    c.from_residual-in_err-whole_reply.ensures.1 c.in_err-whole_reply.ensures h
 
 pub returns-clause-only : goal.returns-clause-only
 returns-clause-only c text tree i =
-    let here : (count : ℕ) × BeginsHead c.args.bytes.now c.in-Some.text.now count × (count ≤ 64) = (rw c.in-Some.is at c.in_ok-text.ensures) in
-    let read = c.in_ok-whole_reply.ensures in
-    reply_only c.args.bytes.now c.in-Some.text.now text here.0 read.0 tree c.in_ok-whole_reply.field-0 here.1 read.1 read.2 i
+    let here = MatchOption-at_some _ _ _ c.in-Some.is c.in_ok-text.ensures in
+    reply_only c.args.bytes.now c.in-Some.text.now text tree c.in_ok-whole_reply.field-0 here c.in_ok-whole_reply.ensures i
 
 pub returns-clause-waiting : goal.returns-clause-waiting
-returns-clause-waiting c w =
-    let here : (count : ℕ) × BeginsHead c.args.bytes.now c.in-Some.text.now count × (count ≤ 64) = (rw c.in-Some.is at c.in_ok-text.ensures) in
-    absurd (w.none c.in-Some.text.now here.0 here.1)
+returns-clause-waiting c w = absurd (here_not_waiting (MatchOption-at_some _ _ _ c.in-Some.is c.in_ok-text.ensures) w)
 
 pub returns-clause-given : goal.returns-clause-given
 returns-clause-given c fault h =
-    let here : (count : ℕ) × BeginsHead c.args.bytes.now c.in-Some.text.now count × (count ≤ 64) = (rw c.in-Some.is at c.in_ok-text.ensures) in
-    let given = whole_given IsNoReply c.args.bytes.now c.in-Some.text.now here.0 fault here.1 here.2 h in
+    let here = MatchOption-at_some _ _ _ c.in-Some.is c.in_ok-text.ensures in
     let read = c.in_ok-whole_reply.ensures in
-    absurd (given.1 read.0 read.1)
+    absurd (read_given IsNoReply c.args.bytes.now c.in-Some.text.now fault here (λ none. none read.0 read.1) h)

@@ -1,7 +1,7 @@
-use Rattle.std.proofs.Common.{[], length, inl, inr, refl, arith}
+use Rattle.std.proofs.Common.{length, inl, inr, refl}
 use Rattle.std.proofs.lemmas.Result.{err_from_is_err_and}
 use Rattle.tg_http.proofs.Grammar.{whole_reply}
-use Rattle.tg_http.proofs.Answering.{same_reply_parts}
+use Rattle.tg_http.proofs.Answering.{no_reply, same_reply_parts}
 use Rattle.tg_http.proofs.reply.whole_reply.Goals as goal
 
 pub returns-in_err-told-in-Ok-Complete : goal.returns-in_err-told-in-Ok-Complete
@@ -18,20 +18,7 @@ returns-in_ok-told-in-Ok-Complete c =
     (at.0, whole.0, same_reply_parts (length c.args.text.now) _ _ _ _ c.in_ok-told-in-Ok-Complete.field-0 at.1.code at.1.fields c.in_ok-told-in-Ok-Complete.ensures)
 
 pub returns-in-Ok-Partial : goal.returns-in-Ok-Partial
-returns-in-Ok-Partial c =
-    inr (
-      refl,
-      λ tree r.
-          let whole = whole_reply c.args.text.now [] tree c.requires.0 c.requires.1 r in
-          let found = (rw c.in-Ok-Partial.field-0-is at c.in-Ok-Partial.ensures.found) in
-          found tree [] r (omega (arith, whole.1, c.requires.2)),
-    )
+returns-in-Ok-Partial c = inr (refl, no_reply c.args.text.now c.requires (rw c.in-Ok-Partial.field-0-is at c.in-Ok-Partial.ensures.found))
 
 pub returns-in-Err : goal.returns-in-Err
-returns-in-Err c =
-    inr (
-      refl,
-      λ tree r.
-          let whole = whole_reply c.args.text.now [] tree c.requires.0 c.requires.1 r in
-          c.in-Err.ensures.found tree [] r (omega (arith, whole.1, c.requires.2)),
-    )
+returns-in-Err c = inr (refl, no_reply c.args.text.now c.requires c.in-Err.ensures.found)
