@@ -4,13 +4,16 @@ use Rattle.std.specs.Prelude.{slice_index, ◌==◌}
 use Rattle.std.specs.List.{sum_by}
 use Rattle.std.proofs.lemmas.Bool.{cases_eq, cases_lt, ne_eqb}
 use Rattle.tg_cid.specs.declared.cid.Codec.TheVariants.{DagPb, Raw}
-use Rattle.tg_filedag.proofs.Closings.{BeginsAt}
+use Rattle.tg_filedag.proofs.Closings.{BeginsAt, MayClose}
+use Rattle.tg_filedag.proofs.Meanwhile.{Closed, Raised}
+use Rattle.tg_filedag.proofs.Runs.{close_needs, raise_needs}
 use Rattle.tg_filedag.proofs.Steps.{height_at}
 use Rattle.tg_filedag.specs.Linking.{HasFullLevel, IsKeptNode}
 use Rattle.tg_filedag.specs.State.{heights}
 use Rattle.tg_filedag.specs.Trees.{IsFileBlock, content_in, leaf_made, tsize_in}
 use Rattle.tg_filedag.specs.declared.subtree.Subtree.{Subtree}
-use Rattle.tg_model.specs.Stores.{Keeping}
+use Rattle.tg_model.specs.Dag.{Section}
+use Rattle.tg_model.specs.Stores.{KeepMeaning, Keeping}
 use Rattle.tg_model.specs.declared.kinds.Made.{Made}
 use Rattle.tg_writing.specs.Keeping.{Keeps, KeepsBlock, section_of}
 
@@ -73,3 +76,22 @@ pub level_read : (width len : ℕ) (ss : List Subtree) (s : Subtree) → HasFull
 level_read width len ss s full low e is =
     let enough = full.enough in
     read_height ss (len - width) (len - width) s refl (omega arith) is
+
+-- what the lowest level and a full level need to be closed
+pub close_at : {S : Type 0} → (m : KeepMeaning S) (a b : S) (width : ℕ) (view ss : List Subtree) (start last : ℕ) (s : Subtree) (chunks : List (List ℕ)) (kept : List Section)
+    → Closed m a b width ss chunks kept → view ≡ ss → last + 1 ≡ length ss → 1 < length ss → s ≡ get_or ss last s
+    → ((i : ℕ) → i < start → slice_index (heights view) i ≢ s.height) → (start < length view → slice_index (heights view) start ≡ s.height)
+    → BeginsAt ss start × (s.height < 1099511627776) × MayClose ss start
+close_at m a b width view ss start last s chunks kept r e at many is before found =
+    let low = lowest view ss start last s e at is before found in
+    let needs = close_needs m a b width start s.height ss chunks kept r low.0 many low.1 in
+    (low.0, needs.0, needs.1)
+
+pub raise_at : {S : Type 0} → (m : KeepMeaning S) (a b : S) (width : ℕ) (ss : List Subtree) (len : ℕ) (s : Subtree) (chunks : List (List ℕ)) (kept : List Section)
+    → Raised m a b width ss chunks kept → HasFullLevel width ss → len ≡ length ss → s ≡ get_or ss (len - width) s
+    → (len - width < length ss) × (s.height < 1099511627776) × MayClose ss (len - width)
+raise_at m a b width ss len s chunks kept r full e is =
+    let enough = full.enough in
+    let low = r.forest.low in
+    let needs = raise_needs m a b width (len - width) s.height ss chunks kept r full (omega arith) (level_read width len ss s full low e is) in
+    (omega arith, needs.0, needs.1)

@@ -1,8 +1,8 @@
 use Rattle.std.proofs.Common.{◌-◌, ◌≤◌, ℕ, sym, subst, arith}
 use Rattle.std.proofs.lemmas.Result.{err_from_is_err_and}
-use Rattle.tg_filedag.proofs.Calls.{lowest}
+use Rattle.tg_filedag.proofs.Calls.{close_at, lowest}
 use Rattle.tg_filedag.proofs.Parts.{NodeLaws}
-use Rattle.tg_filedag.proofs.Runs.{close_done, close_init, close_needs, close_next, close_smaller, close_stops}
+use Rattle.tg_filedag.proofs.Runs.{close_done, close_init, close_next, close_smaller, close_stops}
 use Rattle.tg_filedag.proofs.linking.close_all.Goals as goal
 use Rattle.tg_filedag.specs.declared.subtree.Subtree.{Subtree}
 use Rattle.tg_filedag.specs.MadeFile.{IsMadeFile}
@@ -16,26 +16,24 @@ pub overflow_add-lowest : goal.overflow_add-lowest
 overflow_add-lowest g c =
     let ss = c.loop-alloc.subtrees.items in
     let req = c.requires.growing in
-    let r = c.loop-alloc.invariant req.0 req.1 req.2 in
-    let low = lowest c.as_slice.result.now ss c.first_of_height-start.result (c.len-in-loop-alloc.result - 1) c.index.result.now c.as_slice.ensures.value (omega arith)
+    let needs = close_at g.K.Keep.keeper c.args.keep.now c.loop-alloc.keep c.args.width c.as_slice.result.now ss c.first_of_height-start.result
+    (c.len-in-loop-alloc.result - 1) c.index.result.now req.0 req.1 (c.loop-alloc.invariant req.0 req.1 req.2) c.as_slice.ensures.value (omega arith) (omega arith)
     c.index.ensures c.first_of_height-start.ensures.before c.first_of_height-start.ensures.found in
-    let needs = close_needs g.K.Keep.keeper c.args.keep.now c.loop-alloc.keep c.args.width c.first_of_height-start.result c.index.result.now.height ss req.0 req.1 r low.0 (omega arith) low.1 in
-    omega (arith, needs.0)
+    omega (arith, needs.1)
 
 pub close-requires : goal.close-requires
 close-requires g c =
     let ss = c.loop-alloc.subtrees.items in
     let req = c.requires.growing in
-    let r = c.loop-alloc.invariant req.0 req.1 req.2 in
-    let low = lowest c.as_slice.result.now ss c.first_of_height-start.result (c.len-in-loop-alloc.result - 1) c.index.result.now c.as_slice.ensures.value (omega arith)
+    let needs = close_at g.K.Keep.keeper c.args.keep.now c.loop-alloc.keep c.args.width c.as_slice.result.now ss c.first_of_height-start.result
+    (c.len-in-loop-alloc.result - 1) c.index.result.now req.0 req.1 (c.loop-alloc.invariant req.0 req.1 req.2) c.as_slice.ensures.value (omega arith) (omega arith)
     c.index.ensures c.first_of_height-start.ensures.before c.first_of_height-start.ensures.found in
-    let needs = close_needs g.K.Keep.keeper c.args.keep.now c.loop-alloc.keep c.args.width c.first_of_height-start.result c.index.result.now.height ss req.0 req.1 r low.0 (omega arith) low.1 in
     record {
-      start = low.0.inside;
-      few = needs.1.few;
-      plain = needs.1.plain;
-      content = needs.1.content;
-      tsize = needs.1.tsize;
+      start = needs.0.inside;
+      few = needs.2.few;
+      plain = needs.2.plain;
+      content = needs.2.content;
+      tsize = needs.2.tsize;
     }
 
 pub loop-alloc-smaller : goal.loop-alloc-smaller

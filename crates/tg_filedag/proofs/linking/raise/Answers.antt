@@ -1,8 +1,8 @@
 use Rattle.std.proofs.Common.{◌-◌, ◌≤◌, ℕ, sym, subst, arith}
 use Rattle.std.proofs.lemmas.Result.{err_from_is_err_and}
-use Rattle.tg_filedag.proofs.Calls.{level_read}
+use Rattle.tg_filedag.proofs.Calls.{level_read, raise_at}
 use Rattle.tg_filedag.proofs.Parts.{NodeLaws}
-use Rattle.tg_filedag.proofs.Runs.{raise_done, raise_needs, raise_next, raise_stops}
+use Rattle.tg_filedag.proofs.Runs.{raise_done, raise_next, raise_stops}
 use Rattle.tg_filedag.proofs.linking.raise.Goals as goal
 use Rattle.tg_filedag.specs.Linking.{HasFullLevel}
 
@@ -10,28 +10,22 @@ pub overflow_add-height : goal.overflow_add-height
 overflow_add-height g c =
     let ss = c.loop-alloc.subtrees.items in
     let full = subst (HasFullLevel c.args.width) c.as_slice.ensures.value (c.has_full_level.ensures.0 c.loop-alloc-test.true) in
-    let r = c.loop-alloc.invariant c.requires.0 c.requires.1 c.requires.2 in
-    let is = level_read c.args.width c.len.result ss c.index.result.now full r.forest.low (omega arith) c.index.ensures in
-    let needs = raise_needs g.K.Keep.keeper c.args.keep.now c.loop-alloc.keep c.args.width (c.len.result - c.args.width) c.index.result.now.height ss c.requires.0
-    c.requires.1 r full (omega arith) is in
-    omega (arith, needs.0)
+    let needs = raise_at g.K.Keep.keeper c.args.keep.now c.loop-alloc.keep c.args.width ss c.len.result c.index.result.now c.requires.0 c.requires.1
+    (c.loop-alloc.invariant c.requires.0 c.requires.1 c.requires.2) full (omega arith) c.index.ensures in
+    omega (arith, needs.1)
 
 pub close-requires : goal.close-requires
 close-requires g c =
     let ss = c.loop-alloc.subtrees.items in
     let full = subst (HasFullLevel c.args.width) c.as_slice.ensures.value (c.has_full_level.ensures.0 c.loop-alloc-test.true) in
-    let r = c.loop-alloc.invariant c.requires.0 c.requires.1 c.requires.2 in
-    let is = level_read c.args.width c.len.result ss c.index.result.now full r.forest.low (omega arith) c.index.ensures in
-    let needs = raise_needs g.K.Keep.keeper c.args.keep.now c.loop-alloc.keep c.args.width (c.len.result - c.args.width) c.index.result.now.height ss c.requires.0
-    c.requires.1 r full (omega arith) is in
-    let low = r.forest.low in
-    let enough = full.enough in
+    let needs = raise_at g.K.Keep.keeper c.args.keep.now c.loop-alloc.keep c.args.width ss c.len.result c.index.result.now c.requires.0 c.requires.1
+    (c.loop-alloc.invariant c.requires.0 c.requires.1 c.requires.2) full (omega arith) c.index.ensures in
     record {
-      start = omega arith;
-      few = needs.1.few;
-      plain = needs.1.plain;
-      content = needs.1.content;
-      tsize = needs.1.tsize;
+      start = needs.0;
+      few = needs.2.few;
+      plain = needs.2.plain;
+      content = needs.2.content;
+      tsize = needs.2.tsize;
     }
 
 pub loop-alloc-preserved : goal.loop-alloc-preserved
