@@ -1,6 +1,6 @@
 -- Why an import of a folder stops, from why one of its steps did.
 use Rattle.std.proofs.Common.{Result, Ok, Err, ◌≡◌, ◌≢◌, ◌⊎◌, inl, inr, ⊎_elim, ℕ, zero, suc, ◌+◌, ◌-◌, ◌<◌, ◌≤◌, cond, List, Option, [], ◌∷◌, ◌++◌, length, get_or, take, drop, refl, ap, sym, ◌∙◌, subst, arith, add-one, drop-cons}
-use Rattle.std.specs.Prelude.{Contains, IfErr, IfOk, OnOk, map, nat_lt}
+use Rattle.std.specs.Prelude.{Contains, IfOk, OnOk, map, nat_lt}
 use Rattle.std.proofs.lemmas.List.Elements.{All-contains}
 use Rattle.std.proofs.lemmas.List.Sorted.{All-permutation}
 use Rattle.std.proofs.lemmas.List.{take-append-drop}
@@ -279,14 +279,6 @@ memory_behind m f joins rests stores k0 k1 k2 t0 t1 t2 options path at counted o
 pub ok_both : {X E : Type 0} {P Q : X → Type 0} {C : Type 0} → (r : Result X E) → ((x : X) → P x → C → Q x) → IfOk r P → OnOk r C → IfOk r Q
 ok_both (Ok x) f h c = f x h c
 ok_both (Err e) f h c = tt
-
-pub ok_then : {X E : Type 0} {P Q : X → Type 0} → (r : Result X E) → ((x : X) → P x → Q x) → IfOk r P → IfOk r Q
-ok_then (Ok x) f h = f x h
-ok_then (Err e) f h = tt
-
-pub err_then : {X E : Type 0} {P Q : E → Type 0} → (r : Result X E) → ((e : E) → P e → Q e) → IfErr r P → IfErr r Q
-err_then (Ok x) f h = tt
-err_then (Err e) f h = f e h
 
 pub end_of : (items taken : List Item) → map (λ (x : Item). x) taken ≡ items → taken ≡ items
 end_of items taken h = sym (map_same taken) ∙ h

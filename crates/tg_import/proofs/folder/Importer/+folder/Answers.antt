@@ -1,10 +1,10 @@
 use Rattle.std.proofs.Common.{◌≡◌, ◌≢◌, ℕ, ◌-◌, ◌<◌, ◌++◌, ◌∷◌, [], List, length, refl, ap, sym, ◌∙◌, subst, arith}
 use Rattle.std.proofs.lemmas.Iterator.Adapters.{YieldsList-from_vec}
 use Rattle.std.proofs.lemmas.Iterator.Consumers.{YieldsList-end, YieldsList-so_far, YieldsList-turn}
-use Rattle.std.proofs.lemmas.Result.{err_from_is_err_and}
+use Rattle.std.proofs.lemmas.Result.{IfErr-weaker, IfOk-weaker, err_from_is_err_and}
 use Rattle.tg_cid.specs.Spelling.{IsDigestSize}
 use Rattle.tg_dir.specs.Made.{MakesDirectory}
-use Rattle.tg_import.proofs.Causes.{IsDone, IsTurn, cause_behind, done_as, done_of, end_of, entries_cause, err_then, file_sort, folder_imports, folder_sort, item_refused, led_at, list_cause, memory_behind, memory_cause, ok_both, ok_then, plain_sort, turn_of, writer_now}
+use Rattle.tg_import.proofs.Causes.{IsDone, IsTurn, cause_behind, done_as, done_of, end_of, entries_cause, file_sort, folder_imports, folder_sort, item_refused, led_at, list_cause, memory_behind, memory_cause, ok_both, plain_sort, turn_of, writer_now}
 use Rattle.tg_import.proofs.DirectoryRoots.{directory_codec}
 use Rattle.tg_import.proofs.SoFar.{IsSoFar, new_entries, so_far_next, so_far_none}
 use Rattle.tg_import.proofs.folder.Importer.+folder.Goals.{in-File+in_ok-made-in-File, in-Folder+in_ok-made-in-Folder}
@@ -226,7 +226,7 @@ returns-clause-directory g t c =
     let whole = end_of c.in_ok-items.items c.loop-item.yielded end.0 in
     let so_far = subst (λ (l : List Item). IsSoFar g.K.Keep.keeper g.F.Folder.folder c.args.keep.now c.loop-item.keep c.args.folder.now c.loop-item.folder c.args.self.now.options c.args.path.now c.args.self.now.summary
     c.loop-item.self.options c.loop-item.self.writer c.loop-item.self.summary l c.loop-item.entries) whole c.loop-item.invariant.2 in
-    ok_then c.directory.result
+    IfOk-weaker c.directory.result _ _
     (λ made makes. directory_codec c.args.self.now.options (g.F.Folder.folder.tree c.args.folder.now) c.args.path.now c.in_ok-items.items c.loop-item.entries so_far.children c.loop-item.self.options.shard made
     (kept_in g.K.Keep.keeper c.loop-item.keep c.directory.new.keep) so_far.imported so_far.lead
     (subst (λ (l : List NewEntry). MakesDirectory c.loop-item.self.options.shard l made (kept_in g.K.Keep.keeper c.loop-item.keep c.directory.new.keep)) c.as_slice-2.ensures makes)) c.directory.ensures.made
@@ -239,7 +239,7 @@ returns-clause-cause g t c =
     let whole = end_of c.in_ok-items.items c.loop-item.yielded end.0 in
     let so_far = subst (λ (l : List Item). IsSoFar g.K.Keep.keeper g.F.Folder.folder c.args.keep.now c.loop-item.keep c.args.folder.now c.loop-item.folder c.args.self.now.options c.args.path.now c.args.self.now.summary
     c.loop-item.self.options c.loop-item.self.writer c.loop-item.self.summary l c.loop-item.entries) whole c.loop-item.invariant.2 in
-    err_then c.directory.result
+    IfErr-weaker c.directory.result _ _
     (λ fault h. entries_cause g.K.Keep.keeper g.F.Folder.folder g.met.K.Keep.joins c.kept_sections.ensures.joins c.args.keep.now c.loop-item.keep c.directory.new.keep c.args.folder.now c.loop-item.folder
     c.args.self.now.options c.args.path.now c.args.self.now.summary c.loop-item.self.options c.loop-item.self.writer c.loop-item.self.summary c.in_ok-items.items c.loop-item.entries c.args.levels fault so_far
     c.if-levels-eq0.false c.in_ok-items.ensures.items c.in_ok-items.ensures.names
