@@ -14,11 +14,11 @@ use Rattle.tg_model.specs.Traversal.{ListedEntry, Place, Traversal, block_list, 
 use Rattle.tg_model.specs.declared.kinds.Kind.{Kind}
 use Rattle.tg_traverse.proofs.OpeningSteps.{opened_more}
 use Rattle.tg_traverse.proofs.Outputs.{whole_is, written_is, written_stopped}
-use Rattle.tg_traverse.specs.BesideSound.{BesideLaws, IsBeside, Passes}
-use Rattle.tg_traverse.specs.Openings.{IsReadAt, Opening, OpeningLaws, Shows, end_now, opened_by}
-use Rattle.tg_traverse.specs.Stages.{Given, ending, nothing_given, place_of, up_to_next, with_place}
+use Rattle.tg_traverse.specs.BesideSound.{BesideLaws, IsBeside}
+use Rattle.tg_traverse.specs.Openings.{IsReadAt, OpeningLaws, Shows, end_now, opened_by}
+use Rattle.tg_traverse.specs.Stages.{Given, ending, nothing_given, up_to_next, with_place}
 use Rattle.tg_traverse.specs.Tasks.{Miss, Task, Want, give_entries, give_text, is_read_at, no_directory, no_entry, open_block, position_of, spot_of, start, stop_at, stop_of, tasks_of, tasks_then, text_at}
-use Rattle.tg_traverse.specs.Verified.{GoesOn, IsAccepted, LeadsNowhere, Verified, WantsAt, WantsNext, written_whole}
+use Rattle.tg_traverse.specs.Verified.{GoesOn, IsAccepted, LeadsNowhere, Then, Verified, WantsAt, WantsNext, then_block, then_none, then_stop, written_whole}
 
 -- ---- sections that are sent
 
@@ -54,11 +54,6 @@ pair_of some sections d h p = record {
 
 -- ---- how tasks go on
 
-pub data Then (tasks : List (Task CidParts)) : Type 0 where
-  then_none : tasks_then tasks ≡ [] → Then tasks
-  then_block : (w : Want) (cid : CidParts) (more : List (Task CidParts)) → tasks_then tasks ≡ open_block w cid ∷ more → Then tasks
-  then_stop : (miss : Miss) (more : List (Task CidParts)) → tasks_then tasks ≡ stop_at miss ∷ more → Then tasks
-
 then_text : (text : List ℕ) (tasks : List (Task CidParts)) → Then tasks → Then (give_text text ∷ tasks)
 then_text text tasks (then_none e) = then_none e
 then_text text tasks (then_block w cid more e) = then_block w cid more e
@@ -69,7 +64,7 @@ then_entries met tasks (then_none e) = then_none e
 then_entries met tasks (then_block w cid more e) = then_block w cid more e
 then_entries met tasks (then_stop miss more e) = then_stop miss more e
 
-how_then : (tasks : List (Task CidParts)) → Then tasks
+pub how_then : (tasks : List (Task CidParts)) → Then tasks
 how_then [] = then_none refl
 how_then (open_block w cid ∷ tasks) = then_block w cid tasks refl
 how_then (give_text text ∷ tasks) = then_text text tasks (how_then tasks)

@@ -4,7 +4,6 @@ use Rattle.tg_model.specs.declared.queries.Scope.TheVariants as scopes
 use Rattle.std.specs.Prelude.{Contains, List, [], map, true, false, ℕ, ◌++◌, ◌∷◌, ◌≡◌, ◌≢◌, ◌⊎◌}
 use Rattle.tg_cid.specs.Cid.{CidParts}
 use Rattle.tg_cid.specs.Names.{Names}
-use Rattle.tg_laws.specs.Fronts.{IsNew}
 use Rattle.tg_model.specs.Dag.{Dag, Section, links_of, root_cid}
 use Rattle.tg_model.specs.Fits.{CollisionPair, Fits, HasOneBlockEach, IfOnce, IsInProgress, IsOpenedFor, output_so_far}
 use Rattle.tg_model.specs.PathWalk.{Spot, gone, stopped, whole}
@@ -76,6 +75,12 @@ pub record WantsAt (tasks : List (Task CidParts)) (spot : Spot) : Type 0 where
   pub then_is : tasks_then tasks ≡ open_block want cid ∷ more
   pub spot_is : spot_of want cid ≡ spot
 
+-- how tasks go on: none is left, a block is wanted, or a segment leads nowhere
+pub data Then (tasks : List (Task CidParts)) : Type 0 where
+  then_none : tasks_then tasks ≡ [] → Then tasks
+  then_block : (w : Want) (cid : CidParts) (more : List (Task CidParts)) → tasks_then tasks ≡ open_block w cid ∷ more → Then tasks
+  then_stop : (miss : Miss) (more : List (Task CidParts)) → tasks_then tasks ≡ stop_at miss ∷ more → Then tasks
+
 -- ---- from section to section
 
 abbrev pub VerifiedStarts : Type 0
@@ -143,7 +148,10 @@ abbrev pub InProgressEnds : Type 0
 InProgressEnds = (q : QueryParts) (d : Dag) (sections : List Section) (wanted : Spot) (given : Given) (tasks : List (Task CidParts)) → q.dups ≡ true
     → IsInProgress d q sections wanted → Verified q sections given tasks → WantsAt tasks wanted × (output_so_far q d ≡ (up_to_next tasks given).text)
 
--- ---- of lists of sections
+-- ---- of tasks, and of lists of sections
+
+abbrev pub EachGoesOn : Type 0
+EachGoesOn = (tasks : List (Task CidParts)) → Then tasks
 
 -- where repeats are sent, the section of each place is
 abbrev pub RepeatsAreSent : Type 0
@@ -168,5 +176,6 @@ pub record VerifiedLaws : Type 0 where
   pub in_progress : InProgressPasses
   pub fitting_ends : FittingEnds
   pub in_progress_ends : InProgressEnds
+  pub how_then : EachGoesOn
   pub repeats_sent : RepeatsAreSent
   pub pair_of_some : PairOfSome

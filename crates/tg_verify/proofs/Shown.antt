@@ -12,10 +12,10 @@ use Rattle.tg_model.specs.Lookup as lookups
 use Rattle.tg_model.specs.PathWalk.{Spot, not_folder, not_there, stopped}
 use Rattle.tg_model.specs.Queries.{QueryParts}
 use Rattle.tg_model.specs.Sound.{IsSound}
-use Rattle.tg_model.specs.Traversal.{ListedEntry, Traversal, block_list, traversal}
+use Rattle.tg_model.specs.Traversal.{Traversal, block_list, traversal}
 use Rattle.tg_traverse.specs.Stages.{Given, up_to_next}
-use Rattle.tg_traverse.specs.Tasks.{Miss, Task, give_entries, give_text, no_directory, no_entry, open_block, spot_of, stop_at, tasks_then, text_now}
-use Rattle.tg_traverse.specs.Verified.{GoesOn, IsAccepted, LeadsNowhere, Verified, VerifiedLaws, listing_at_end, written_whole}
+use Rattle.tg_traverse.specs.Tasks.{Miss, Task, no_directory, no_entry, spot_of, tasks_then, text_now}
+use Rattle.tg_traverse.specs.Verified.{GoesOn, IsAccepted, LeadsNowhere, Then, Verified, VerifiedLaws, listing_at_end, then_block, then_none, then_stop, written_whole}
 use Rattle.tg_verify.proofs.Fronts.{front_of_front, whole_is_front}
 use Rattle.tg_verify.specs.Laws.{IsFitOf, IsNowhereOf, IsProgressOf}
 use Rattle.tg_verify.specs.Sound.{IsItsAnswer, IsItsFront}
@@ -38,30 +38,6 @@ pub record PeerLaws : Type 0 where
 pub answer_front : (q : QueryParts) (d : Dag) (sections : List Section) (written : List ℕ) → IsItsAnswer q d sections written → IsItsFront q d sections written
 answer_front q d sections written (inl e) = inl (whole_is_front (answer q d) written e)
 answer_front q d sections written (inr pair) = inr pair
-
--- ---- how tasks go on
-
-data Then (tasks : List (Task CidParts)) : Type 0 where
-  then_none : tasks_then tasks ≡ [] → Then tasks
-  then_block : (at : WantedAt) (more : List (Task CidParts)) → tasks_then tasks ≡ open_block at.want at.cid ∷ more → Then tasks
-  then_stop : (miss : Miss) (more : List (Task CidParts)) → tasks_then tasks ≡ stop_at miss ∷ more → Then tasks
-
-then_text : (text : List ℕ) (tasks : List (Task CidParts)) → Then tasks → Then (give_text text ∷ tasks)
-then_text text tasks (then_none e) = then_none e
-then_text text tasks (then_block at more e) = then_block at more e
-then_text text tasks (then_stop miss more e) = then_stop miss more e
-
-then_entries : (met : List ListedEntry) (tasks : List (Task CidParts)) → Then tasks → Then (give_entries met ∷ tasks)
-then_entries met tasks (then_none e) = then_none e
-then_entries met tasks (then_block at more e) = then_block at more e
-then_entries met tasks (then_stop miss more e) = then_stop miss more e
-
-how_then : (tasks : List (Task CidParts)) → Then tasks
-how_then [] = then_none refl
-how_then (open_block w cid ∷ tasks) = then_block (record { want = w; cid = cid }) tasks refl
-how_then (give_text text ∷ tasks) = then_text text tasks (how_then tasks)
-how_then (give_entries met ∷ tasks) = then_entries met tasks (how_then tasks)
-how_then (stop_at miss ∷ tasks) = then_stop miss tasks refl
 
 module _ (v : VerifiedLaws) where
   -- ---- what the sections are
@@ -159,9 +135,9 @@ module _ (v : VerifiedLaws) where
         } in
         shorter (written_whole q next) (given.text ++ text_now tasks) (listing_at_end q.scope next.met) refl
         (answer_front q d sections (written_whole q next) (through_sound (written_whole q next) through))
-    front_by repeats given tasks verified (then_block at more e) =
+    front_by repeats given tasks verified (then_block w cid more e) =
         let next = up_to_next tasks given in
-        up_to_sound (given.text ++ text_now tasks) at (record {
+        up_to_sound (given.text ++ text_now tasks) (record { want = w; cid = cid }) (record {
           repeats = repeats;
           given = next;
           later = more;
@@ -183,7 +159,7 @@ module _ (v : VerifiedLaws) where
         answer_front q d sections (written_whole q given) (through_sound (written_whole q given) (record { repeats = repeats; given = given; verified = verified; text = refl }))
     most_by repeats given (task ∷ tasks) verified =
         let all = task ∷ tasks in
-        shorter (given.text ++ text_now all) given.text (text_now all) refl (front_by repeats given all (v.up_to_next q sections given all verified) (how_then all))
+        shorter (given.text ++ text_now all) given.text (text_now all) refl (front_by repeats given all (v.up_to_next q sections given all verified) (v.how_then all))
 
     pub written_front : (written : List ℕ) → IsFrontWritten q sections written → IsItsFront q d sections written
     written_front written h = shorter (most_text q h.given h.tasks) written h.rest h.text (most_by h.repeats h.given h.tasks h.verified)

@@ -1,4 +1,4 @@
-use Rattle.tg_traverse.proofs.VerifySteps.{ends_whole, pair_of, sent_all, verified_beside, verified_fits, verified_gives, verified_goes, verified_misses, verified_refuses, verified_starts, verified_takes, verified_takes_alone, waits_at, wants_next}
+use Rattle.tg_traverse.proofs.VerifySteps.{ends_whole, how_then, pair_of, sent_all, verified_beside, verified_fits, verified_gives, verified_goes, verified_misses, verified_refuses, verified_starts, verified_takes, verified_takes_alone, waits_at, wants_next}
 use Rattle.tg_traverse.proofs.verified.verified_sections.Goals as goal
 
 pub returns : goal.returns
@@ -23,6 +23,7 @@ returns c =
       in_progress = λ q d front rest next wanted given tasks dups h v. wants_next o b q dups d given tasks front rest next v h.right.checked h.right.root h.list;
       fitting_ends = λ q d sections out given tasks dups h v. ends_whole o b q dups d given tasks say meet sections out v h;
       in_progress_ends = λ q d sections wanted given tasks dups h v. waits_at o b q dups d given tasks sections wanted v h;
+      how_then = how_then;
       repeats_sent = sent_all;
       pair_of_some = pair_of;
     }
