@@ -2,10 +2,8 @@
 #![tactic(auto)]
 
 mod importing;
-mod numbered_log;
 
 pub use importing::{ImportFault, import};
-pub use numbered_log::{LoggedKeep, NumberedLog};
 
 #[cfg(test)]
 mod tests;

@@ -1,11 +1,11 @@
 //! Worked files, by Python's hashlib.
 use crate::importing::{ImportFault, import};
-use crate::numbered_log::NumberedLog;
 use std::test::Fail;
 use tg_bytes::{Bytes, List};
 use tg_cid::Cid;
 use tg_filedag::Balanced;
 use tg_model::{KeepFault, NewEntry};
+use tg_numbered_log::NumberedLog;
 use tg_unixfs::Unix;
 use tg_writing::node_block;
 
@@ -107,11 +107,7 @@ fn files_are_made(rt: HostRuntime) -> Result<(), Fail> {
             assert_eq!(rt; made.cid, Cid::from_text(rt.alloc(), row.root)?);
             assert_eq!(rt; made.content, row.bytes.len() as u64);
             assert_eq!(rt; made.tsize, row.tsize);
-            let mut lengths = Vec::new(rt.alloc());
-            for held in log.kept() {
-                lengths.push(held.block.as_slice().len() as u64)?;
-            }
-            assert_eq!(rt; lengths.as_slice(), row.kept);
+            assert_eq!(rt; log.lengths()?.as_slice(), row.kept);
         }
     }
     Ok(())

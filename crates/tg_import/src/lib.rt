@@ -10,6 +10,3 @@ mod summary;
 pub use fault::ImportFault;
 pub use importing::import;
 pub use summary::{Options, Summary};
-
-#[cfg(test)]
-mod tests;

@@ -8,6 +8,3 @@ mod writer;
 pub use fault::FileFault;
 pub use pieces::MAX_FILE_LEN;
 pub use writer::FileWriter;
-
-#[cfg(test)]
-mod tests;

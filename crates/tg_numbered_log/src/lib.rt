@@ -1,7 +1,9 @@
-//! A keeper whose calls fail by their numbers.
+//! A keeper whose calls fail by their numbers, for tests.
+#![tactic(auto)]
+
 ghost use Rattle.std.specs.Prelude.{◌≡◌, []};
 
-use std::alloc::Global;
+use std::alloc::{AllocError, Global};
 use tg_bytes::{Bytes, List};
 use tg_cid::Cid;
 use tg_faults::Calls;
@@ -39,6 +41,15 @@ impl NumberedLog {
         ensures { result.now ≡ self.now.kept }
     {
         self.kept.as_slice()
+    }
+
+    /// How many bytes each block has that was kept, in order.
+    pub fn lengths(&self) -> Result<List<u64>, AllocError> {
+        let mut lengths = List::new(self.alloc);
+        for kept in self.kept.as_slice() {
+            lengths.push(kept.block.as_slice().len() as u64)?;
+        }
+        Ok(lengths)
     }
 
     /// How many calls failed.

@@ -1,55 +1,22 @@
 //! Worked folders, by Python's hashlib, and folders that aren't imported.
-ghost use Rattle.std.specs.Prelude.{IsTrue, ◌≤◌};
-ghost use Rattle.tg_tree.specs.Tree.{IsFolderOfFiles};
+ghost use Rattle.std.specs.Prelude.{◌≤◌};
 
-use crate::{ImportFault, Options, Summary, import};
+use crate::given::{has_names, numbers};
 use std::test::Fail;
 use tg_bytes::{Bytes, List};
 use tg_cid::Cid;
-use tg_faults::Calls;
 use tg_files::MemFolder;
-use tg_model::{Keep, KeepFault};
-use tg_tree::{Sort, Tree};
+use tg_import::{ImportFault, Options, Summary, import};
+use tg_numbered_log::NumberedLog;
+use tg_tree::Tree;
 
-/// A store that notes how long each block is that is kept in it, and doesn't tell what it holds. Its calls fail by their numbers.
-#[derive(Debug, Drop)]
-struct LengthLog {
-    calls: Calls,
-    lengths: List<u64>,
-}
-
-impl Keep for LengthLog {
-    ghost use Rattle.std.specs.Prelude.{None, ⊤};
-
-    ghost keeper = { record {
-      stored = λ _. None;
-      faults = λ s. s.calls.faults;
-      kept = λ a b sections. ⊤;
-    } };
-
-    ghost told = { λ s. tt };
-
-    ghost rests = { λ s. tt };
-
-    ghost joins = { λ a b c u v p q. tt };
-
-    fn keep(&mut self, _cid: Cid, block: &[u8]) -> Result<(), KeepFault> {
-        if self.calls.next().is_err() {
-            return Err(KeepFault::Failed);
-        }
-        match self.lengths.push(block.len() as u64) {
-            Ok(()) => Ok(()),
-            Err(_) => Err(KeepFault::OutOfMemory),
-        }
-    }
-}
-
-/// What came of an import, how often the folder failed, and the store.
+/// What came of an import, how often the folder failed and the store, and how many bytes the blocks have that were kept.
 #[derive(Drop)]
 struct Imported {
     result: Result<(Cid, Summary), ImportFault>,
     folder_faults: u64,
-    log: LengthLog,
+    store_faults: u64,
+    lengths: List<u64>,
 }
 
 /// The entry of that name.
@@ -90,22 +57,6 @@ fn nested(rt: &HostRuntime, levels: u32) -> Result<Tree, Fail> {
     Ok(tree)
 }
 
-/// Whether the tree is a folder in which the names differ.
-fn has_names(tree: &Tree) -> bool
-    ensures { IsTrue result → IsFolderOfFiles tree.now }
-{
-    tree.sort() == Sort::Folder && tree.names_differ()
-}
-
-/// The numbers of the calls that fail: this one, or none.
-fn numbers(rt: &HostRuntime, call: Option<u64>) -> Result<List<u64>, Fail> {
-    let mut numbers = List::new(rt.alloc());
-    if let Some(number) = call {
-        numbers.push(number)?;
-    }
-    Ok(numbers)
-}
-
 /// Imports the folder with this threshold, where these calls of the folder and of the store fail.
 fn import_tree(
     rt: &HostRuntime,
@@ -120,10 +71,7 @@ fn import_tree(
         return Err(Fail::from("the folder"));
     }
     let mut folder = MemFolder::new(rt.alloc(), tree, numbers(rt, folder_fails)?);
-    let mut log = LengthLog {
-        calls: Calls::new(numbers(rt, store_fails)?),
-        lengths: List::new(rt.alloc()),
-    };
+    let mut log = NumberedLog::new(rt.alloc(), numbers(rt, store_fails)?);
     let options = Options {
         chunk: 4,
         width: 1024,
@@ -133,7 +81,8 @@ fn import_tree(
     Ok(Imported {
         result,
         folder_faults: folder.count(),
-        log,
+        store_faults: log.faults(),
+        lengths: log.lengths()?,
     })
 }
 
@@ -180,18 +129,18 @@ fn folders_are_imported(rt: HostRuntime) -> Result<(), Fail> {
         assert_eq!(rt; root, Cid::from_text(rt.alloc(), row.root)?);
         assert_eq!(rt; (summary.files, summary.folders), (3, 3));
         assert_eq!(rt; (summary.shards, summary.bytes), (row.shards, 15));
-        assert_eq!(rt; whole.log.lengths.as_slice(), row.kept);
+        assert_eq!(rt; whole.lengths.as_slice(), row.kept);
 
         // Each block that is kept fails in turn, and each call of the folder: three lists, and two reads of each file but the empty one.
         for (number, _) in row.kept.iter().enumerate() {
             let stopped = import_tree(&rt, worked(&rt)?, row.shard, None, Some(number as u64))?;
             assert_eq!(rt; told(&rt, &stopped)?.as_slice(), b"KeepFault".as_slice());
-            assert_eq!(rt; stopped.log.lengths.as_slice(), &row.kept[..number]);
+            assert_eq!(rt; stopped.lengths.as_slice(), &row.kept[..number]);
         }
         for number in 0..8 {
             let stopped = import_tree(&rt, worked(&rt)?, row.shard, Some(number), None)?;
             assert_eq!(rt; told(&rt, &stopped)?.as_slice(), b"FolderFault".as_slice());
-            assert_eq!(rt; (stopped.folder_faults, stopped.log.calls.faults), (1, 0));
+            assert_eq!(rt; (stopped.folder_faults, stopped.store_faults), (1, 0));
         }
     }
     Ok(())
@@ -237,7 +186,7 @@ fn folders_are_refused(rt: HostRuntime) -> Result<(), Fail> {
     entries.push(entry(&rt, b"b/c", file(&rt, b"abcd")?)?)?;
     let refused = import_tree(&rt, Tree::Folder(entries.into_vec()), 100, None, None)?;
     assert_eq!(rt; told(&rt, &refused)?.as_slice(), b"BadName/b/c".as_slice());
-    assert!(rt; refused.log.lengths.as_slice().is_empty());
+    assert!(rt; refused.lengths.as_slice().is_empty());
 
     let longest = [b'n'; 255];
     let tree = folder_of(&rt, entry(&rt, &longest, file(&rt, b"abcd")?)?)?;

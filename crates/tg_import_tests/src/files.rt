@@ -1,49 +1,17 @@
 //! Worked files, by Python's hashlib.
 ghost use Rattle.std.specs.Prelude.{IsTrue, Some};
 ghost use Rattle.tg_import_file.specs.Files.{IsReady};
-ghost use Rattle.tg_tree.specs.Tree.{HasFileAt, IsFolderOfFiles};
+ghost use Rattle.tg_tree.specs.Tree.{HasFileAt};
 
-use crate::{FileFault, FileWriter};
+use crate::given::{has_names, numbers};
 use std::test::Fail;
 use tg_bytes::{Bytes, List};
 use tg_cid::Cid;
-use tg_faults::Calls;
 use tg_files::{Folder, MemFolder};
-use tg_model::{Keep, KeepFault, Made};
+use tg_import_file::{FileFault, FileWriter};
+use tg_model::{Keep, Made};
+use tg_numbered_log::NumberedLog;
 use tg_tree::{Sort, Tree, path_of_entry};
-
-/// A store that notes how long each block is that is kept in it, and doesn't tell what it holds. Its calls fail by their numbers.
-#[derive(Debug, Drop)]
-struct LengthLog {
-    calls: Calls,
-    lengths: List<u64>,
-}
-
-impl Keep for LengthLog {
-    ghost use Rattle.std.specs.Prelude.{None, ⊤};
-
-    ghost keeper = { record {
-      stored = λ _. None;
-      faults = λ s. s.calls.faults;
-      kept = λ a b sections. ⊤;
-    } };
-
-    ghost told = { λ s. tt };
-
-    ghost rests = { λ s. tt };
-
-    ghost joins = { λ a b c u v p q. tt };
-
-    fn keep(&mut self, _cid: Cid, block: &[u8]) -> Result<(), KeepFault> {
-        if self.calls.next().is_err() {
-            return Err(KeepFault::Failed);
-        }
-        match self.lengths.push(block.len() as u64) {
-            Ok(()) => Ok(()),
-            Err(_) => Err(KeepFault::OutOfMemory),
-        }
-    }
-}
 
 /// A file, its chunk size and width, how often the folder is read for it, and what is made of it: the root, the Tsize, and how many
 /// bytes the blocks have that are kept.
@@ -107,19 +75,13 @@ const ROWS: [Row<'static>; 5] = [
     },
 ];
 
-/// What came of an import, how often the folder failed, and the store.
+/// What came of an import, how often the folder failed and the store, and how many bytes the blocks have that were kept.
 #[derive(Drop)]
 struct Imported {
     made: Result<Made, FileFault>,
     folder_faults: u64,
-    log: LengthLog,
-}
-
-/// Whether the tree is a folder in which the names differ.
-fn has_names(tree: &Tree) -> bool
-    ensures { IsTrue result → IsFolderOfFiles tree.now }
-{
-    tree.sort() == Sort::Folder && tree.names_differ()
+    store_faults: u64,
+    lengths: List<u64>,
 }
 
 /// Whether a file stands at a path of the tree.
@@ -142,15 +104,6 @@ fn two_files(rt: &HostRuntime, first: &[u8], second: &[u8]) -> Result<Tree, Fail
     Ok(Tree::Folder(entries.into_vec()))
 }
 
-/// The numbers of the calls that fail: this one, or none.
-fn numbers(rt: &HostRuntime, call: Option<u64>) -> Result<List<u64>, Fail> {
-    let mut numbers = List::new(rt.alloc());
-    if let Some(number) = call {
-        numbers.push(number)?;
-    }
-    Ok(numbers)
-}
-
 /// Imports the file of a row, where these calls of the folder and of the store fail.
 fn import(
     rt: &HostRuntime,
@@ -167,16 +120,14 @@ fn import(
         return Err(Fail::from("the row"));
     }
     let mut folder = MemFolder::new(rt.alloc(), tree, numbers(rt, folder_fails)?);
-    let mut log = LengthLog {
-        calls: Calls::new(numbers(rt, store_fails)?),
-        lengths: List::new(rt.alloc()),
-    };
+    let mut log = NumberedLog::new(rt.alloc(), numbers(rt, store_fails)?);
     let mut writer = FileWriter::new(rt.alloc(), row.chunk, row.width)?;
     let made = writer.import(&mut folder, path.as_slice(), &mut log);
     Ok(Imported {
         made,
         folder_faults: folder.count(),
-        log,
+        store_faults: log.faults(),
+        lengths: log.lengths()?,
     })
 }
 
@@ -188,19 +139,19 @@ fn files_are_imported(rt: HostRuntime) -> Result<(), Fail> {
         assert_eq!(rt; made.cid, Cid::from_text(rt.alloc(), row.root)?);
         assert_eq!(rt; made.content, row.bytes.len() as u64);
         assert_eq!(rt; made.tsize, row.tsize);
-        assert_eq!(rt; whole.log.lengths.as_slice(), row.kept);
+        assert_eq!(rt; whole.lengths.as_slice(), row.kept);
 
         // Each read fails in turn, and each block that is kept.
         for number in 0..row.reads {
             let stopped = import(&rt, &row, Some(number), None)?;
             assert_eq!(rt; stopped.made.err(), Some(FileFault::Folder));
-            assert_eq!(rt; (stopped.folder_faults, stopped.log.calls.faults), (1, 0));
+            assert_eq!(rt; (stopped.folder_faults, stopped.store_faults), (1, 0));
         }
         for (number, _) in row.kept.iter().enumerate() {
             let stopped = import(&rt, &row, None, Some(number as u64))?;
             assert_eq!(rt; stopped.made.err(), Some(FileFault::Keep));
-            assert_eq!(rt; (stopped.folder_faults, stopped.log.calls.faults), (0, 1));
-            assert_eq!(rt; stopped.log.lengths.as_slice(), &row.kept[..number]);
+            assert_eq!(rt; (stopped.folder_faults, stopped.store_faults), (0, 1));
+            assert_eq!(rt; stopped.lengths.as_slice(), &row.kept[..number]);
         }
     }
     Ok(())
@@ -233,10 +184,7 @@ fn one_writer_imports_two_files(rt: HostRuntime) -> Result<(), Fail> {
     assert!(rt; is_file(&tree, first.as_slice()));
     assert!(rt; is_file(&tree, second.as_slice()));
     let mut folder = MemFolder::new(rt.alloc(), tree, List::new(rt.alloc()));
-    let mut log = LengthLog {
-        calls: Calls::new(List::new(rt.alloc())),
-        lengths: List::new(rt.alloc()),
-    };
+    let mut log = NumberedLog::new(rt.alloc(), List::new(rt.alloc()));
     let mut writer = FileWriter::new(rt.alloc(), 60_000, 2)?;
     let (made, other) = import_both(
         &mut writer,
@@ -249,6 +197,9 @@ fn one_writer_imports_two_files(rt: HostRuntime) -> Result<(), Fail> {
     assert_eq!(rt; made.cid, Cid::from_text(rt.alloc(), root)?);
     assert_eq!(rt; (made.content, made.tsize), (70_000, 70_106));
     assert_eq!(rt; (other.content, other.tsize), (5, 5));
-    assert_eq!(rt; log.lengths.as_slice(), [60_000, 10_000, 106, 5].as_slice());
+    assert_eq!(rt;
+        log.lengths()?.as_slice(),
+        [60_000, 10_000, 106, 5].as_slice()
+    );
     Ok(())
 }
