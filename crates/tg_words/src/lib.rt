@@ -24,7 +24,8 @@ use exports::export_of;
 use hex::FromHexError;
 pub use imports::Import;
 use imports::import_of;
-use operands::{OptionNames, one_word, operands_of, value_of};
+pub use operands::{GivenOption, Operands, OptionNames, operands_of};
+use operands::{one_word, value_of};
 use std::alloc::{AllocError, Global};
 use tg_cid::{Cid, CidFault, one_spelling};
 use tg_model::Query;
@@ -281,6 +282,3 @@ fn cid_of_hex(alloc: Global, digits: &str) -> Result<Cid, WordsFault>
     let bytes = hex::decode(alloc, digits.as_bytes())?;
     Ok(Cid::from_bytes(bytes.as_slice())?)
 }
-
-#[cfg(test)]
-mod tests;

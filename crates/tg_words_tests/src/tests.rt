@@ -1,8 +1,9 @@
-use super::*;
-use operands::Operands;
-use std::alloc::AllocError;
+//! Tables of lines, each with what it asks or that it is refused, and of operands.
+use std::alloc::{AllocError, Global};
 use std::test::Fail;
+use tg_cid::Cid;
 use tg_model::{Query, Span};
+use tg_words::{Command, Operands, OptionNames, WordsFault, operands_of, read};
 
 // The CIDv1 of raw bytes with the sha2-256 of "hello world".
 const TEXT: &str = "bafkreifzjut3te2nhyekklss27nh3k72ysco7y32koao5eei66wof36n5e";
