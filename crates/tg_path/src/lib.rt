@@ -14,6 +14,3 @@ pub use laws::{cuts_read, paths_read, roots_read, spans_read};
 pub use paths::{MAX_SEGMENTS, parse_behind, parse_path};
 pub use spans::parse_span;
 pub use words::{behind_front, parse_rooted, parse_word};
-
-#[cfg(test)]
-mod tests;

@@ -1,9 +1,9 @@
 //! Words and ranges, as tables.
-use super::*;
 use std::alloc::{AllocError, Global};
 use std::test::Fail;
 use tg_cid::CidFault;
 use tg_model::Span;
+use tg_path::{QueryFault, parse_span, parse_word};
 
 /// The CID of a directory.
 const ROOT: &str = "bafybeihtdtunwt2sx7qvwdcknhnwretbb4zmjieise77ebt4pqxbabimfy";
