@@ -18,6 +18,3 @@ pub use head_text::{MAX_FIELDS, MAX_TEXT, is_empty_line, line_length};
 pub use laws::{line_laws, longer_bytes, request_heads};
 pub use reply::{ReplyHead, read_reply};
 pub use request::{RequestHead, read_request};
-
-#[cfg(test)]
-mod tests;

@@ -1,6 +1,7 @@
-use super::*;
+//! Heads as tables, and lines of chunks.
 use std::alloc::{AllocError, Global};
 use std::test::Fail;
+use tg_http::{chunk_head, read_reply, read_request};
 
 // What a request's head tells: its length, minor version, `close` and `framed`, then the method, the target and the values of
 // the `Accept` fields, with a `|` before each of these.
