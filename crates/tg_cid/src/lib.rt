@@ -15,6 +15,3 @@ pub use computed::computes;
 pub use fault::CidFault;
 pub use laws::{digest_laws, equality, hashing, length_laws, one_spelling};
 pub use limits::{MAX_BLOCK_LEN, MAX_CID_LEN, MAX_DIGEST_LEN};
-
-#[cfg(test)]
-mod tests;

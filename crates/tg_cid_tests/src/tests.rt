@@ -1,5 +1,6 @@
-use super::*;
+//! Bytes and texts, with their CIDs or faults.
 use std::test::Fail;
+use tg_cid::{Cid, CidFault, Codec, HashKind};
 
 // Texts and bytes by Python's base64 and hashlib.
 const RAW_TEXT: &[u8] = b"bafkreifzjut3te2nhyekklss27nh3k72ysco7y32koao5eei66wof36n5e";
