@@ -101,6 +101,3 @@ pub fn one_text()
 {
     table_laws();
 }
-
-#[cfg(test)]
-mod tests;

@@ -275,8 +275,3 @@ pub fn one_data()
 {
     table_laws();
 }
-
-#[cfg(test)]
-mod table_tests;
-#[cfg(test)]
-mod tests;

@@ -1,10 +1,11 @@
 //! Blocks with their nodes or faults, and many links in one block.
 ghost use Rattle.tg_dagpb.specs.Cursor.{IsCursor};
 
-use super::*;
 use std::alloc::Global;
 use std::process::Abort;
 use std::test::Fail;
+use tg_bytes::Bytes;
+use tg_dagpb::{Link, LinkSpan, check, decode, encode, link_at, link_places_at, payload_at};
 use tg_pbtable::PbFault;
 
 // CIDs of version 1 with the codec raw and SHA2-256, by Python's hashlib: of `hell`, `o wo`, `rld` and `hello world`.

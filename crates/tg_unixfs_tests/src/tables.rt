@@ -1,5 +1,4 @@
-//! Texts under tables, with their fields or faults, and what is written for fields: what `tg_pbtable` answers. They stand
-//! here since a crate with tests of its own is proved twice.
+//! Texts under tables, with their fields or faults, and what is written for fields: what `tg_pbtable` answers.
 ghost use Rattle.tg_pbtable.specs.Message.{IsTable};
 
 use std::alloc::Global;

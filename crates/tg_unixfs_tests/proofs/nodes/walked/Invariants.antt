@@ -1,6 +1,6 @@
 use Rattle.std.proofs.Common.{◌-◌, length}
 use Rattle.tg_dagpb.specs.Cursor.{IsCursor}
-use Rattle.tg_dagpb.proofs.tests.walked.Given as goal
+use Rattle.tg_unixfs_tests.proofs.nodes.walked.Given as goal
 
 abbrev pub invariant-loop-span : goal.invariant-loop-span
 invariant-loop-span l = IsCursor l.block l.at

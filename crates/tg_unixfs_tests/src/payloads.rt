@@ -1,6 +1,9 @@
-use super::*;
+//! Payloads with their data or faults.
+use std::alloc::Global;
 use std::process::Abort;
 use std::test::Fail;
+use tg_pbtable::PbFault;
+use tg_unixfs::{Unix, UnixFault, decode, encode};
 
 /// The parts of data, borrowed.
 #[derive(Clone, Copy, Debug, PartialEq, Eq)]
