@@ -1,4 +1,3 @@
-mod Begun
 mod Moves
 mod Places
 mod Sought

@@ -15,10 +15,4 @@ pub use host_pack::HostPack;
 pub use mem_folder::MemFolder;
 pub use mem_pack::MemPack;
 pub use packs::Pack;
-
-#[cfg(test)]
-mod folder_tests;
-#[cfg(test)]
-mod pack_tests;
-#[cfg(test)]
-mod rough_files;
+pub use reading::read_from;

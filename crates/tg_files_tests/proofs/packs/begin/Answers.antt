@@ -1,8 +1,8 @@
 use Rattle.std.proofs.Common.{◌∷◌, [], true}
 use Rattle.tg_files.specs.Packs.{did_joins}
 use Rattle.tg_files.specs.Packs.PackWrite.{append, attach}
-use Rattle.tg_files.proofs.Begun.{on_ok}
-use Rattle.tg_files.proofs.pack_tests.begin.Goals as goal
+use Rattle.tg_files_tests.proofs.Begun.{on_ok}
+use Rattle.tg_files_tests.proofs.packs.begin.Goals as goal
 
 pub returns : goal.returns
 returns g c =

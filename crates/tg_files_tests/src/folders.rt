@@ -3,8 +3,7 @@ ghost use Rattle.std.specs.Prelude.{◌≡◌, [], All, IfOk, IfErr};
 ghost use Rattle.tg_files.specs.Folders.{FolderCalled, FolderCounts, Leads, Lists, SameTree, folder_step};
 ghost use Rattle.tg_tree.specs.Tree.{tree_at};
 
-use super::rough_files::RoughFiles;
-use super::*;
+use crate::rough_files::RoughFiles;
 use std::fs::File;
 use std::io::{Seek, SeekFrom, Write};
 use std::os::unix::fs::symlink;
@@ -13,10 +12,11 @@ use std::test::Fail;
 use std::{env, fs, process};
 use tg_bytes::{Bytes, List};
 use tg_faults::Failed;
+use tg_files::{Folder, FolderFault, HostFolder, MemFolder};
 use tg_tree::{Item, Sort, Tree, path_of_entry, sort_by_name};
 
 /// The first offset that has no place in 32 bits.
-const FOUR_GIB: u64 = 0x1_0000_0000;
+pub const FOUR_GIB: u64 = 0x1_0000_0000;
 
 /// The names at the top of any folder, also of one that wasn't attached here.
 fn top_items<F: Folder>(folder: &mut F) -> Result<List<Item>, FolderFault>
@@ -181,7 +181,7 @@ fn reads_of_a_folder_that_go_wrong(rt: HostRuntime) -> Result<(), Fail> {
 }
 
 /// An empty folder of the test's own.
-pub(super) fn fresh_folder(rt: &HostRuntime, test: &str) -> Result<String, Fail> {
+pub fn fresh_folder(rt: &HostRuntime, test: &str) -> Result<String, Fail> {
     let id = process::id(rt.process());
     let temp = env::temp_dir(rt)?;
     let path = format!(in rt.alloc(); "{}/tg_files_{test}_{id}", temp.as_str())?;
@@ -193,12 +193,12 @@ pub(super) fn fresh_folder(rt: &HostRuntime, test: &str) -> Result<String, Fail>
 }
 
 /// The path of the system of a name in the folder at `top`.
-pub(super) fn inner(rt: &HostRuntime, top: &str, name: &str) -> Result<String, Fail> {
+pub fn inner(rt: &HostRuntime, top: &str, name: &str) -> Result<String, Fail> {
     Ok(format!(in rt.alloc(); "{top}/{name}")?)
 }
 
 /// A file of zeros up to 2 ^ 32, and a dot and `end` behind them.
-pub(super) fn write_sparse(rt: &HostRuntime, path: &str) -> Result<(), Fail> {
+pub fn write_sparse(rt: &HostRuntime, path: &str) -> Result<(), Fail> {
     let mut file = File::create(rt, path)?;
     file.seek(SeekFrom::Start(FOUR_GIB))?;
     file.write_all(b".end")?;
@@ -361,6 +361,6 @@ fn a_folder_of_the_system_is_read_as_it_was_listed(rt: HostRuntime) -> Result<()
 }
 
 /// The numbers of the calls that fail.
-pub(super) fn numbers(rt: &HostRuntime, calls: &[u64]) -> Result<List<u64>, Fail> {
+pub fn numbers(rt: &HostRuntime, calls: &[u64]) -> Result<List<u64>, Fail> {
     Ok(List::from(Vec::from_slice(rt.alloc(), calls)?))
 }

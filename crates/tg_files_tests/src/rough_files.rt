@@ -8,7 +8,7 @@ use std::rt::Files;
 /// Each file holds the bytes `hello world`, and the one folder that there is holds the file `f`, and `g` where the listing
 /// goes on.
 #[derive(Clone, Copy)]
-pub(crate) struct RoughFiles {
+pub struct RoughFiles {
     pub alloc: Global,
     /// How many reads or writes of an opened file are interrupted before the first that isn't.
     pub interrupted: u8,
@@ -26,21 +26,21 @@ pub(crate) struct RoughFiles {
 
 /// An opened file.
 #[derive(Drop)]
-pub(crate) struct RoughFile {
+pub struct RoughFile {
     bytes: Cursor<Vec<u8>>,
     plan: RoughFiles,
 }
 
 /// An opened folder, of which no name was read yet, one, or all.
 #[derive(Drop)]
-pub(crate) struct RoughFolder {
+pub struct RoughFolder {
     breaks_off: bool,
     reads: u8,
 }
 
 impl RoughFiles {
     /// Two reads or writes are interrupted, and none fails.
-    pub(crate) fn new(alloc: Global) -> RoughFiles {
+    pub fn new(alloc: Global) -> RoughFiles {
         RoughFiles {
             alloc,
             interrupted: 2,

@@ -4,19 +4,15 @@ ghost use Rattle.std.specs.Io.Cursor.{cursor_inner};
 ghost use Rattle.tg_files.specs.Packs.{Did, ReadAt, pack_step};
 ghost use Rattle.tg_files.specs.Packs.PackWrite.{append as added, attach as attached};
 
-use super::folder_tests::{fresh_folder, inner, numbers, write_sparse};
-use super::rough_files::RoughFiles;
-use super::*;
-use crate::reading::read_from;
+use crate::folders::{FOUR_GIB, fresh_folder, inner, numbers, write_sparse};
+use crate::rough_files::RoughFiles;
 use std::io::Cursor;
 use std::rt::Files;
 use std::test::Fail;
 use std::{fs, io};
 use tg_bytes::Bytes;
 use tg_faults::Failed;
-
-/// The first offset that has no place in 32 bits.
-const FOUR_GIB: u64 = 0x1_0000_0000;
+use tg_files::{HostPack, MemPack, Pack, read_from};
 
 /// Makes any pack fresh and puts bytes into it in two pieces.
 fn begin<P: Pack>(pack: &mut P, path: &str, head: &[u8], body: &[u8]) -> Result<(), Failed>

@@ -1,5 +1,5 @@
-use Rattle.tg_files.proofs.Begun.{begun, on_ok}
-use Rattle.tg_files.proofs.pack_tests.begin_in_memory.Goals as goal
+use Rattle.tg_files_tests.proofs.Begun.{begun, on_ok}
+use Rattle.tg_files_tests.proofs.packs.begin_in_memory.Goals as goal
 
 pub returns-clause-content : goal.returns-clause-content
 returns-clause-content c = on_ok c.begin.result (λ did. begun c.args.pack.now.content c.begin.new.pack.content c.args.head.now c.args.body.now did.content) c.begin.ensures
