@@ -4,7 +4,6 @@ mod Orders
 mod Gathering
 mod Causes
 mod Encoding
-mod Ranges
 mod Cursors
 mod Checking
 mod ComputedNode

@@ -17,7 +17,9 @@ ghost use Rattle.tg_dagpb.specs.declared.Link.{Link};
 use crate::{LINK, Link, LinkPlaces, LinkSpan, NODE, Node};
 use std::alloc::{AllocError, Global};
 use tg_bytes::{Bytes, List};
-use tg_pbtable::{Field, FieldCursor, Order, PbFault, Place, Value, field_at, table_laws};
+use tg_pbtable::{
+    Field, FieldCursor, Order, PbFault, Place, Value, field_at, place_laws, table_laws,
+};
 
 /// The node that a block spells.
 ///
@@ -275,6 +277,7 @@ fn with_part(
         (placed_link bytes.now result) }
     ensures inside { LieInside bytes.now places → LieInside bytes.now result }
 {
+    place_laws();
     let mut new = places;
     match field.value {
         Value::Number(value) => {

@@ -1,8 +1,8 @@
 -- Answers in place beside computed ones.
-use Rattle.std.proofs.Common.{◌≡◌, ℕ, ◌+◌, ◌-◌, ◌<◌, ◌≤◌, ◌⊎◌, inl, inr, Some, None, Option, Ok, Err, Result, List, [], ◌∷◌, length, min, sum, map, take, drop, suc, eq-eqb, refl, sym, ap, ap₂, ◌∙◌, subst, arith}
+use Rattle.std.proofs.Common.{◌≡◌, ℕ, ◌+◌, ◌-◌, ◌<◌, ◌≤◌, ◌⊎◌, inl, inr, Some, None, Option, Ok, Err, Result, List, [], ◌∷◌, length, min, sum, map, drop, suc, eq-eqb, refl, sym, ap, ap₂, ◌∙◌, subst, arith}
 use Rattle.std.specs.Prelude.{⊤, Bool, false, true, nat_lt, not, ◌&&◌, ◌==◌, ◌^◌, IfErr, IfOk, MatchResult, slice_range, unwrap_or}
 use Rattle.std.proofs.lemmas.Bool.{le-ltb, lt-ltb, ne_eqb}
-use Rattle.std.proofs.lemmas.List.{length-drop, length-take-le, drop-drop, drop-take, take-take}
+use Rattle.std.proofs.lemmas.List.{length-drop, length-take-le}
 use Rattle.std.proofs.lemmas.List.Sums.{sum_by-cons}
 use Rattle.tg_cid.specs.Cid.{CidParts}
 use Rattle.tg_cid.specs.declared.cid.Codec.TheVariants as codecs
@@ -25,6 +25,7 @@ use Rattle.tg_model.specs.declared.placed.DataPlaces.{DataPlaces}
 use Rattle.tg_model.specs.declared.placed.FilePlaces.{FilePlaces}
 use Rattle.tg_model.specs.declared.placed.PlacedKind.{PlacedKind}
 use Rattle.tg_model.specs.declared.placed.PlacedKind.TheVariants as placed
+use Rattle.tg_pbtable.specs.Laws.{PlaceLaws}
 use Rattle.tg_pbtable.specs.Place.{AreInside, IsInside, bytes_of, placed_bytes}
 use Rattle.tg_pbtable.specs.declared.fault.PbFault.{PbFault}
 use Rattle.tg_pbtable.specs.declared.table.Place.{Place}
@@ -91,21 +92,6 @@ file_is block places (File i f p) inline parts h e same =
     cc
 file_is block places _ inline parts h e same = absurd h
 
--- ---- places in a part of a text
-
-pub range_in : (text : List ℕ) (start end from to : ℕ) → start ≤ end → end ≤ length text → from ≤ to → to ≤ length (slice_range text start end)
-    → slice_range text (start + from) (start + to) ≡ slice_range (slice_range text start end) from to
-range_in text start end from to l m k n =
-    let size : length (take (end - start) (drop start text)) ≡ end - start = length-take-le (end - start) (drop start text) (omega (arith, length-drop start text)) in
-    let parts : end - start ≡ from + ((end - start) - from) = omega arith in
-    let inner : drop from (take (end - start) (drop start text)) ≡ take ((end - start) - from) (drop from (drop start text)) =
-    ap (λ (i : ℕ). drop from (take i (drop start text))) parts ∙ drop-take from ((end - start) - from) (drop start text) in
-    let there : drop (start + from) text ≡ drop from (drop start text) = sym (drop-drop from start text) in
-    let amount : (start + to) - (start + from) ≡ to - from = omega arith in
-    ap₂ (λ (i : ℕ) (t : List ℕ). take i t) amount there
-    ∙ sym (take-take (to - from) ((end - start) - from) (drop from (drop start text)) (omega arith))
-    ∙ ap (take (to - from)) (sym inner)
-
 -- ---- the parts of a file
 
 -- where no size is left, no part is
@@ -137,22 +123,22 @@ start_sizes unix text h = record {
 }
 
 -- the inline bytes lie at their place in the data, which lies in the block
-lies_in : (block : List ℕ) (payload inline : Place) → IsInside block payload → IsInside (bytes_of block payload) inline
+lies_in : (laws : PlaceLaws) (block : List ℕ) (payload inline : Place) → IsInside block payload → IsInside (bytes_of block payload) inline
     → LieAt block (record { start = payload.start + inline.start; end = payload.start + inline.end }) (bytes_of (bytes_of block payload) inline)
-lies_in block payload inline h k =
+lies_in laws block payload inline h k =
     let size : length (slice_range block payload.start payload.end) ≡ payload.end - payload.start = length-take-le (payload.end - payload.start) (drop payload.start block) (omega (arith, length-drop payload.start block)) in
     record {
       inside = (omega arith, omega arith);
-      bytes_are = range_in block payload.start payload.end inline.start inline.end h.0 h.1 k.0 k.1;
+      bytes_are = laws.in_part block payload.start payload.end inline.start inline.end h.0 h.1 k.0 k.1;
     }
 
-pub inline_lies : (block : List ℕ) (places : DataPlaces) (inline : Place) → AreDataPlaces block places → places.unix.inline ≡ Some inline
+pub inline_lies : (laws : PlaceLaws) (block : List ℕ) (places : DataPlaces) (inline : Place) → AreDataPlaces block places → places.unix.inline ≡ Some inline
     → LieAt block (record { start = places.payload.start + inline.start; end = places.payload.start + inline.end }) (inline_of (data_unix block places))
-inline_lies block places inline h e =
+inline_lies laws block places inline h e =
     let text = bytes_of block places.payload in
     let inside : IsInside text inline = subst (λ (o : Option Place). AreInside text o) e h.inline in
     subst (λ (bytes : List ℕ). LieAt block (record { start = places.payload.start + inline.start; end = places.payload.start + inline.end }) bytes)
-    (sym (ap (λ (o : Option Place). unwrap_or (placed_bytes text o) []) e)) (lies_in block places.payload inline h.payload inside)
+    (sym (ap (λ (o : Option Place). unwrap_or (placed_bytes text o) []) e)) (lies_in laws block places.payload inline h.payload inside)
 
 -- ---- sums that stand still
 

@@ -20,7 +20,7 @@ use crate::links::count_links;
 use std::alloc::Global;
 use tg_bytes::List;
 use tg_cid::{Cid, Codec};
-use tg_pbtable::Place;
+use tg_pbtable::{Place, place_laws};
 use tg_unixfs::{UnixPlaces, places_of, size_at};
 
 /// A place between two parts of a file, in the node of its block. It takes no memory.
@@ -170,6 +170,7 @@ fn inline_at(block: &[u8], places: DataPlaces) -> Place
     requires { AreDataPlaces block.now places }
     ensures { LieAt block.now result (inline_of (data_unix block.now places)) }
 {
+    place_laws();
     let start = places.payload.start;
     match places.unix.inline {
         Some(inline) => Place {

@@ -6,6 +6,7 @@ mod Numbers
 mod Causes
 mod Scanning
 mod Places
+mod Ranges
 mod Between
 mod Emitting
 mod Tables

@@ -1,5 +1,5 @@
 -- What follows from the definitions of tables, messages and values, in plain words for those who call this crate.
-use Rattle.std.specs.Prelude.{◌≡◌, ◌≢◌, ℕ, ◌+◌, ◌<◌, ◌≤◌, ◌↔◌, Option, Some, None, unwrap_or, List, [], ◌∷◌, ◌++◌, length, All, Bool, true, nat_lt, ◌&&◌, Ok, Err}
+use Rattle.std.specs.Prelude.{◌≡◌, ◌≢◌, ℕ, ◌+◌, ◌<◌, ◌≤◌, ◌↔◌, Option, Some, None, unwrap_or, List, [], ◌∷◌, ◌++◌, length, slice_range, All, Bool, true, nat_lt, ◌&&◌, Ok, Err}
 use Rattle.tg_pbtable.specs.declared.table.Rule.{Rule}
 use Rattle.tg_pbtable.specs.declared.table.Wire.TheVariants.{Varint, Bytes}
 use Rattle.tg_pbtable.specs.declared.table.Order.{Order}
@@ -92,3 +92,10 @@ pub record TableLaws : Type 0 where
   pub last_number : LastLaws ℕ
   pub last_bytes : LastLaws (List ℕ)
   pub writing : WritingLaws
+
+-- places in a part of a text
+pub record PlaceLaws : Type 0 where
+  -- the bytes at a place of a part, as bytes of the whole text
+  pub in_part : (text : List ℕ) (start end from to : ℕ) → start ≤ end → end ≤ length text → from ≤ to
+      → to ≤ length (slice_range text start end)
+      → slice_range text (start + from) (start + to) ≡ slice_range (slice_range text start end) from to

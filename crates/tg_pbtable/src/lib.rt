@@ -14,7 +14,7 @@ mod writing;
 pub use computed::computes;
 pub use cursor::FieldCursor;
 pub use fault::PbFault;
-pub use laws::table_laws;
+pub use laws::{place_laws, table_laws};
 pub use reading::scan;
 pub use ruled::field_at;
 pub use table::{Field, Fields, Order, Place, Rule, Times, Value, Wire};
