@@ -8,6 +8,3 @@ mod packed;
 pub use car::write_car;
 pub use fault::ExportFault;
 pub use packed::export;
-
-#[cfg(test)]
-mod tests;

@@ -1,9 +1,8 @@
 //! CARs that are written from packs in memory. The sizes are counted: 59 bytes of header, and of each section the bytes of its
 //! length, 36 of its CID, and the block.
-ghost use Rattle.std.specs.Prelude.{◌≡◌, ◌≤◌, ◌∷◌, [], length, All, IfOk, IsTrue};
+ghost use Rattle.std.specs.Prelude.{◌≡◌, ◌≤◌, ◌∷◌, [], length, All, IfOk};
 ghost use Rattle.tg_model.specs.EntryNames.{IsGoodName};
 
-use crate::{ExportFault, export, write_car};
 use std::alloc::Global;
 use std::process::Abort;
 use std::rt::HostRuntime;
@@ -11,8 +10,9 @@ use std::test::Fail;
 use tg_bytes::{Bytes, List};
 use tg_car::{header, section_head};
 use tg_cid::{Cid, Codec};
+use tg_export::{ExportFault, export, write_car};
 use tg_files::MemPack;
-use tg_model::{Keep, Path, Query, Scope, Span};
+use tg_model::{Keep, Path, Query, Scope, Span, is_good_name};
 use tg_store::{MemStore, PackFault};
 use tg_streams::MemSink;
 use tg_walk::{ResolveFault, WalkFault};
@@ -85,16 +85,6 @@ fn car_of(alloc: Global, root: &Cid, nodes: &[&[u8]], leaves: &[usize]) -> Resul
         }
     }
     Ok(car)
-}
-
-/// Whether a name may be an entry's.
-fn is_good_name(name: &[u8]) -> bool
-    ensures { IsTrue result → IsGoodName name.now }
-{
-    match name {
-        b"" | b"." | b".." => false,
-        _ => name.iter().all(|b| *b != b'/' && *b != 0),
-    }
 }
 
 /// The path with these segments.

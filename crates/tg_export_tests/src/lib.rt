@@ -1,0 +1,5 @@
+//! The tests of `tg_export`: CARs from packs and stores in memory.
+#![tactic(auto)]
+
+#[cfg(test)]
+mod tests;
