@@ -1,68 +1,21 @@
--- Names of entries: the test on a name says what the relation says.
-use Rattle.std.proofs.Common.{◌≢◌, ℕ, ◌+◌, ◌<◌, ◌≤◌, Bool, true, List, [], ◌∷◌, ◌++◌, All, length, map, not, refl, arith}
+-- Names of a path: the test on them says what the relation says.
+use Rattle.std.proofs.Common.{All, List, length, refl, ℕ, ◌≤◌}
 use Rattle.std.specs.Bool.{Decides}
 use Rattle.std.specs.List.{list_all}
-use Rattle.std.specs.Prelude.{bytes_eq, nat_le, ◌&&◌, ◌==◌}
+use Rattle.std.specs.Prelude.{nat_le}
 use Rattle.std.proofs.lemmas.Bool.{le-leb, leb-true}
-use Rattle.std.proofs.lemmas.Bool.Decides.{Decides-and, Decides-by_and, Decides-eqb, Decides-like, Decides-not}
-use Rattle.std.proofs.lemmas.Slice.Eq.{bytes_eq-Decides}
+use Rattle.std.proofs.lemmas.Bool.Decides.{Decides-and, Decides-by_and}
 use Rattle.tg_model.specs.Computed.{is_good_name}
 use Rattle.tg_model.specs.EntryNames.{IsGoodName}
 use Rattle.tg_path.specs.Paths.{are_names}
 
--- no byte of a name is a slash or zero
-abbrev IsInner : ℕ → Type 0
-IsInner b = (b ≢ 47) × (b ≢ 0)
+-- the test of a name says whether it is good: a law of tg_model
+abbrev pub NameLaw : Type 0
+NameLaw = (name : List ℕ) → Decides (is_good_name name) (IsGoodName name)
 
-abbrev is_inner : ℕ → Bool
-is_inner b = not (b == 47) && not (b == 0)
+all_good : NameLaw → (names : List (List ℕ)) → Decides (list_all is_good_name names) (All IsGoodName names)
+all_good good names = Decides-by_and is_good_name IsGoodName (λ (xs : List (List ℕ)). list_all is_good_name xs) good refl (λ _ _. refl) names
 
-inner_decides : (b : ℕ) → Decides (is_inner b) (IsInner b)
-inner_decides b = Decides-and (not (b == 47)) (not (b == 0)) (Decides-not (b == 47) (Decides-eqb b 47)) (Decides-not (b == 0) (Decides-eqb b 0))
-
-all_inner : (name : List ℕ) → Decides (list_all is_inner name) (All IsInner name)
-all_inner name = Decides-by_and is_inner IsInner (λ (xs : List ℕ). list_all is_inner xs) inner_decides refl (λ _ _. refl) name
-
-not_empty : (name : List ℕ) → name ≢ [] → 0 < length name
-not_empty [] other = absurd (other refl)
-not_empty (b ∷ name) other = omega arith
-
-some_bytes : (name : List ℕ) → 0 < length name → name ≢ []
-some_bytes [] l e = absurd (omega arith)
-some_bytes (b ∷ name) l e = cc
-
--- the four parts of the test
-abbrev Parts : List ℕ → Type 0
-Parts name = (name ≢ []) × (All IsInner name × ((name ≢ 46 ∷ []) × (name ≢ 46 ∷ 46 ∷ [])))
-
-other_decides : (name other : List ℕ) → Decides (not (bytes_eq name other)) (name ≢ other)
-other_decides name other = Decides-not (bytes_eq name other) (bytes_eq-Decides name other)
-
-parts_decide : (name : List ℕ) → Decides (is_good_name name) (Parts name)
-parts_decide name =
-    Decides-and (not (bytes_eq name [])) (list_all is_inner name && (not (bytes_eq name (46 ∷ [])) && not (bytes_eq name (46 ∷ 46 ∷ []))))
-    (other_decides name [])
-    (Decides-and (list_all is_inner name) (not (bytes_eq name (46 ∷ [])) && not (bytes_eq name (46 ∷ 46 ∷ []))) (all_inner name)
-    (Decides-and (not (bytes_eq name (46 ∷ []))) (not (bytes_eq name (46 ∷ 46 ∷ []))) (other_decides name (46 ∷ [])) (other_decides name (46 ∷ 46 ∷ []))))
-
-good_from_parts : (name : List ℕ) → Parts name → IsGoodName name
-good_from_parts name p = record {
-  not_empty = not_empty name p.0;
-  no_slash = λ k d l. (p.1.0 k d l).0;
-  no_zero = λ k d l. (p.1.0 k d l).1;
-  not_here = p.1.1.0;
-  not_above = p.1.1.1;
-}
-
-parts_from_good : (name : List ℕ) → IsGoodName name → Parts name
-parts_from_good name g = (some_bytes name g.not_empty, ((λ k d l. (g.no_slash k d l, g.no_zero k d l)), (g.not_here, g.not_above)))
-
-pub good_decides : (name : List ℕ) → Decides (is_good_name name) (IsGoodName name)
-good_decides name = Decides-like (is_good_name name) (good_from_parts name) (parts_from_good name) (parts_decide name)
-
-all_good : (names : List (List ℕ)) → Decides (list_all is_good_name names) (All IsGoodName names)
-all_good names = Decides-by_and is_good_name IsGoodName (λ (xs : List (List ℕ)). list_all is_good_name xs) good_decides refl (λ _ _. refl) names
-
-pub names_decide : (names : List (List ℕ)) → Decides (are_names names) (All IsGoodName names × (length names ≤ 128))
-names_decide names =
-    Decides-and (list_all is_good_name names) (nat_le (length names) 128) (all_good names) (leb-true (length names) 128, le-leb (length names) 128)
+pub names_decide : NameLaw → (names : List (List ℕ)) → Decides (are_names names) (All IsGoodName names × (length names ≤ 128))
+names_decide good names =
+    Decides-and (list_all is_good_name names) (nat_le (length names) 128) (all_good good names) (leb-true (length names) 128, le-leb (length names) 128)

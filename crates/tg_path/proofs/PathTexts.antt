@@ -3,7 +3,7 @@ use Rattle.std.proofs.Common.{All, Bor, Err, List, None, Ok, Option, Result, Som
 use Rattle.std.specs.List.{list_all}
 use Rattle.std.specs.Prelude.{if◌then◌else◌, ◌↔◌}
 use Rattle.percent_encoding.specs.Percent.{percent_decode}
-use Rattle.std.proofs.lemmas.Bool.{and_from, and_parts, cond-false, cond-true, cond_both, le-leb}
+use Rattle.std.proofs.lemmas.Bool.{and_from, and_parts, cond-false, cond-true, cond_both, le-leb, leb-true}
 use Rattle.std.proofs.lemmas.List.{get_or-map, length-map}
 use Rattle.std.proofs.lemmas.List.Folds.{list_all_at}
 use Rattle.std.proofs.lemmas.Simd.{map-map}
@@ -14,7 +14,7 @@ use Rattle.tg_path.specs.Cuts.{parts_at}
 use Rattle.tg_path.specs.Paths.{PathBehind, PathText, are_names, name_of, name_or_fault, names_of, path_behind, path_of, path_with}
 use Rattle.tg_path.specs.declared.fault.QueryFault.{QueryFault}
 use Rattle.tg_path.specs.declared.fault.QueryFault.TheVariants.{BadPath, OutOfMemory}
-use Rattle.tg_path.proofs.Names.{names_decide}
+use Rattle.tg_path.proofs.Names.{NameLaw, names_decide}
 
 abbrev Answer : Type 0
 Answer = Result (List (List ℕ)) QueryFault
@@ -28,7 +28,12 @@ pub too_many : (text : List ℕ) (n : ℕ) → n < length (parts_at slash text) 
 unfolding names_of
 too_many text n more many =
     let names = map percent_decode (parts_at slash text) in
-    inl (sym (refused names (λ t. let few = ((names_decide names).0 t).1 in omega (arith, length-map (parts_at slash text) percent_decode, few, more, many))))
+    inl
+    (sym
+    (refused names
+    (λ t.
+    let few = leb-true (length names) 128 (and_parts (list_all is_good_name names) _ t).1 in
+    omega (arith, length-map (parts_at slash text) percent_decode, few, more, many))))
 
 not_good : (segment : List ℕ) (e : QueryFault) → ◌≡◌ {A = Result (List ℕ) QueryFault} (Err e) (name_of segment)
     → (is_good_name (percent_decode segment) ≡ false) × (e ≡ BadPath)
@@ -73,21 +78,21 @@ all_names text path segments whole is good few =
 
 -- ---- the law
 
-path_told : (text : List ℕ) (path : List (List ℕ)) → path_of text ≡ Ok path → PathText text path
-path_told text path =
+path_told : NameLaw → (text : List ℕ) (path : List (List ℕ)) → path_of text ≡ Ok path → PathText text path
+path_told good text path =
     cond_both (are_names (names_of text)) (Ok (names_of text)) (Err BadPath) (λ (r : Answer). r ≡ Ok path → PathText text path)
     (λ t e.
     let same : names_of text ≡ path = cc in
-    let both = (names_decide path).0 (subst (λ (names : List (List ℕ)). are_names names ≡ true) same t) in
+    let both = (names_decide good path).0 (subst (λ (names : List (List ℕ)). are_names names ≡ true) same t) in
     record { names = sym same; few = both.1; good = both.0 })
     (λ f e. absurd cc)
 
-path_found : (text : List ℕ) (path : List (List ℕ)) → PathText text path → path_of text ≡ Ok path
-path_found text path h =
-    ap path_with (sym h.names) ∙ cond-true (are_names path) (Ok path) (Err BadPath) ((names_decide path).1 (h.good, h.few))
+path_found : NameLaw → (text : List ℕ) (path : List (List ℕ)) → PathText text path → path_of text ≡ Ok path
+path_found good text path h =
+    ap path_with (sym h.names) ∙ cond-true (are_names path) (Ok path) (Err BadPath) ((names_decide good path).1 (h.good, h.few))
 
-pub path_law : (text : List ℕ) (path : List (List ℕ)) → (path_of text ≡ Ok path) ↔ PathText text path
-path_law text path = (path_told text path, path_found text path)
+pub path_law : NameLaw → (text : List ℕ) (path : List (List ℕ)) → (path_of text ≡ Ok path) ↔ PathText text path
+path_law good text path = (path_told good text path, path_found good text path)
 
 pub path_fault : (text : List ℕ) (fault : QueryFault) → path_of text ≡ Err fault → fault ≡ BadPath
 path_fault text fault =
@@ -95,13 +100,13 @@ path_fault text fault =
     (λ t e. absurd cc)
     (λ f e. cc)
 
-pub behind_told : (rest : Option (List ℕ)) (path : List (List ℕ)) → path_behind rest ≡ Ok path → PathBehind rest path
-behind_told None path e = cc
-behind_told (Some text) path e = path_told text path e
+pub behind_told : NameLaw → (rest : Option (List ℕ)) (path : List (List ℕ)) → path_behind rest ≡ Ok path → PathBehind rest path
+behind_told good None path e = cc
+behind_told good (Some text) path e = path_told good text path e
 
-pub behind_found : (rest : Option (List ℕ)) (path : List (List ℕ)) → PathBehind rest path → path_behind rest ≡ Ok path
-behind_found None path e = ap (λ (l : List (List ℕ)). Ok l) (sym e)
-behind_found (Some text) path h = path_found text path h
+pub behind_found : NameLaw → (rest : Option (List ℕ)) (path : List (List ℕ)) → PathBehind rest path → path_behind rest ≡ Ok path
+behind_found good None path e = ap (λ (l : List (List ℕ)). Ok l) (sym e)
+behind_found good (Some text) path h = path_found good text path h
 
 pub behind_fault : (rest : Option (List ℕ)) (fault : QueryFault) → path_behind rest ≡ Err fault → fault ≡ BadPath
 behind_fault None fault e = absurd cc

@@ -21,6 +21,7 @@ use Rattle.tg_path.specs.declared.fault.QueryFault.TheVariants.{BadCid}
 use Rattle.tg_path.proofs.CidAnswers.{IsOfText, answer_found, answer_told}
 use Rattle.tg_path.proofs.FirstCuts.{Parts, cut_found, cut_told}
 use Rattle.tg_path.proofs.Fronts.{front_found, front_told}
+use Rattle.tg_path.proofs.Names.{NameLaw}
 use Rattle.tg_path.proofs.PathTexts.{behind_fault, behind_found, behind_told}
 use Rattle.tg_varint.specs.Laws.{SpellingLaws}
 
@@ -87,9 +88,9 @@ no_slash cid text h =
     (All-cons (λ (b : ℕ). b ≢ 47) 98 h.in_base.letters (λ e. omega (arith, e))
     (All-weaker IsLetter (λ (b : ℕ). b ≢ 47) letter_not h.in_base.letters h.in_base.rest.letters))
 
-rooted_told_at : SpellingLaws → TextLaws → (text front : List ℕ) (rest : Option (List ℕ)) → IsCut slash text front rest → (root : CidParts) (path : List (List ℕ))
+rooted_told_at : SpellingLaws → TextLaws → NameLaw → (text front : List ℕ) (rest : Option (List ℕ)) → IsCut slash text front rest → (root : CidParts) (path : List (List ℕ))
     → rooted_with (front, rest) ≡ Ok (root, path) → RootedText text root path
-rooted_told_at laws texts text front rest cut root path e =
+rooted_told_at laws texts good text front rest cut root path e =
     let first = bind_ok (root_of front) (λ root. path_behind rest >>= λ path. Ok (root, path)) (root, path) e in
     let second = bind_ok (path_behind rest) (λ path. Ok (first.0, path)) (root, path) first.2 in
     let pair : ◌≡◌ {A = Rooted} (first.0, second.0) (root, path) = cc (second.2) in
@@ -100,29 +101,29 @@ rooted_told_at laws texts text front rest cut root path e =
       rest = rest;
       whole = cut.whole;
       root_is = subst (λ (c : CidParts). CidText c front) is_root (root_told laws texts front first.0 first.1);
-      path_is = subst (PathBehind rest) is_path (behind_told rest second.0 second.1);
+      path_is = subst (PathBehind rest) is_path (behind_told good rest second.0 second.1);
     }
 
-pub rooted_told : SpellingLaws → TextLaws → (text : List ℕ) (root : CidParts) (path : List (List ℕ)) → rooted_of text ≡ Ok (root, path) → RootedText text root path
-rooted_told laws texts text root path e = rooted_told_at laws texts text (cut_first slash text).0 (cut_first slash text).1 (cut_told slash text) root path e
+pub rooted_told : SpellingLaws → TextLaws → NameLaw → (text : List ℕ) (root : CidParts) (path : List (List ℕ)) → rooted_of text ≡ Ok (root, path) → RootedText text root path
+rooted_told laws texts good text root path e = rooted_told_at laws texts good text (cut_first slash text).0 (cut_first slash text).1 (cut_told slash text) root path e
 
-pub rooted_found : SpellingLaws → TextLaws → (text : List ℕ) (root : CidParts) (path : List (List ℕ)) → RootedText text root path → rooted_of text ≡ Ok (root, path)
-rooted_found laws texts text root path h =
+pub rooted_found : SpellingLaws → TextLaws → NameLaw → (text : List ℕ) (root : CidParts) (path : List (List ℕ)) → RootedText text root path → rooted_of text ≡ Ok (root, path)
+rooted_found laws texts good text root path h =
     let cut = cut_found slash text h.root_text h.rest (record { whole = h.whole; none = no_slash root h.root_text h.root_is }) in
     ap rooted_with cut
     ∙ bind_found (root_of h.root_text) (λ root. path_behind h.rest >>= λ path. Ok (root, path)) root (Ok (root, path)) (root_found laws texts h.root_text root h.root_is)
-    (bind_found (path_behind h.rest) (λ path. Ok (root, path)) path (Ok (root, path)) (behind_found h.rest path h.path_is) refl)
+    (bind_found (path_behind h.rest) (λ path. Ok (root, path)) path (Ok (root, path)) (behind_found good h.rest path h.path_is) refl)
 
-pub rooted_law : SpellingLaws → TextLaws → (text : List ℕ) (root : CidParts) (path : List (List ℕ)) → (rooted_of text ≡ Ok (root, path)) ↔ RootedText text root path
-rooted_law laws texts text root path = (rooted_told laws texts text root path, rooted_found laws texts text root path)
+pub rooted_law : SpellingLaws → TextLaws → NameLaw → (text : List ℕ) (root : CidParts) (path : List (List ℕ)) → (rooted_of text ≡ Ok (root, path)) ↔ RootedText text root path
+rooted_law laws texts good text root path = (rooted_told laws texts good text root path, rooted_found laws texts good text root path)
 
 -- ---- words
 
-word_told_at : SpellingLaws → TextLaws → (word : List ℕ) (o : Option (List ℕ)) → behind_front ipfs word ≡ o → (root : CidParts) (path : List (List ℕ))
+word_told_at : SpellingLaws → TextLaws → NameLaw → (word : List ℕ) (o : Option (List ℕ)) → behind_front ipfs word ≡ o → (root : CidParts) (path : List (List ℕ))
     → rooted_of (or_whole word o) ≡ Ok (root, path) → WordText word root path
-word_told_at laws texts word None f root path e = record { text = word; front = inl refl; rooted = rooted_told laws texts word root path e }
-word_told_at laws texts word (Some rest) f root path e =
-    record { text = rest; front = inr (front_told ipfs word rest f); rooted = rooted_told laws texts rest root path e }
+word_told_at laws texts good word None f root path e = record { text = word; front = inl refl; rooted = rooted_told laws texts good word root path e }
+word_told_at laws texts good word (Some rest) f root path e =
+    record { text = rest; front = inr (front_told ipfs word rest f); rooted = rooted_told laws texts good rest root path e }
 
 -- a CID's text doesn't begin with a slash
 plain_front : (text : List ℕ) (root : CidParts) (path : List (List ℕ)) → RootedText text root path → behind_front ipfs text ≡ None
@@ -133,8 +134,8 @@ word_front : (word text : List ℕ) (root : CidParts) (path : List (List ℕ)) �
 word_front word text root path h (inl e) = ap (or_whole word) (ap (behind_front ipfs) e ∙ plain_front text root path h) ∙ e
 word_front word text root path h (inr e) = ap (or_whole word) (ap (behind_front ipfs) e ∙ front_found ipfs text)
 
-pub word_law : SpellingLaws → TextLaws → (word : List ℕ) (root : CidParts) (path : List (List ℕ)) → (word_of word ≡ Ok (root, path)) ↔ WordText word root path
-word_law laws texts word root path = (
-  λ e. word_told_at laws texts word (behind_front ipfs word) refl root path e,
-  λ h. ap rooted_of (word_front word h.text root path h.rooted h.front) ∙ rooted_found laws texts h.text root path h.rooted,
+pub word_law : SpellingLaws → TextLaws → NameLaw → (word : List ℕ) (root : CidParts) (path : List (List ℕ)) → (word_of word ≡ Ok (root, path)) ↔ WordText word root path
+word_law laws texts good word root path = (
+  λ e. word_told_at laws texts good word (behind_front ipfs word) refl root path e,
+  λ h. ap rooted_of (word_front word h.text root path h.rooted h.front) ∙ rooted_found laws texts good h.text root path h.rooted,
 )

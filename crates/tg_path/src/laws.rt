@@ -24,7 +24,9 @@ pub fn cuts_read()
 pub fn paths_read()
     ensures path { (text : List ℕ) (path : List (List ℕ)) → (path_of text ≡ Ok path) ↔ PathText text path }
     ensures fault { (text : List ℕ) (fault : QueryFault) → path_of text ≡ Err fault → fault ≡ QueryFault.BadPath }
-{}
+{
+    tg_model::good_names();
+}
 
 /// What is computed of a root, of a root with a path and of a word is what the grammar says, and a root is refused by the
 /// cause of its CID's text, which is never want of memory.
@@ -39,6 +41,7 @@ pub fn roots_read()
 {
     tg_varint::spelling_laws();
     tg_base32::text_laws();
+    tg_model::good_names();
 }
 
 /// What is computed of a range is what its grammar says, and its one fault is `BadRange`.
