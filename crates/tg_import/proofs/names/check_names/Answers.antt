@@ -16,7 +16,7 @@ returns-then-not-is_good_name-clause-cause c =
     let named : c.as_slice-name.result.now ≡ item.name = c.as_slice-name.ensures ∙ ap (λ (x : Item). x.name) (sym c.index-items-i.is) in
     let why : (IsGoodName item.name → ⊥) ⊎ Contains (item_names (take c.loop-i.i c.args.items.now)) item.name =
     elim c.then-not-is_good_name.branch [
-      | then-not-is_good_name-via-then-not-is_good_name w ↦ inl (not_good c.as_slice-name.result.now item.name c.is_good_name.result named c.is_good_name.ensures w.if-not-is_good_name.true)
+      | then-not-is_good_name-via-then-not-is_good_name w ↦ inl (not_good c.as_slice-name.result.now item.name c.is_good_name.result (c.good_names.ensures c.as_slice-name.result.now) named c.is_good_name.ensures w.if-not-is_good_name.true)
       | then-not-is_good_name-via-else-not-is_good_name+then-stands_before w ↦ inr (stood_before c.args.items.now c.loop-i.i item c.loop-i-test.true c.index-items-i.is (w.stands_before.ensures.0 w.if-stands_before.true))
     ] in
     name_fault c.args.path.now c.args.items.now c.loop-i.i item (faults.BadName c.in_ok-path_of_entry.field-0) c.loop-i.invariant c.loop-i-test.true c.index-items-i.is
@@ -30,7 +30,7 @@ returns-then-name-gt-MAX_NAME_LEN-clause-cause c =
     let same = ap length named in
     name_fault c.args.path.now c.args.items.now c.loop-i.i item (faults.LongName c.in_ok-path_of_entry-2.field-0) c.loop-i.invariant c.loop-i-test.true c.index-items-i.is (
       c.in_ok-path_of_entry-2.ensures ∙ ap (λ (n : List ℕ). c.args.path.now ++ n ∷ []) named,
-      is_good c.as_slice-name.result.now item.name c.is_good_name.result named c.is_good_name.ensures c.if-not-is_good_name.false,
+      is_good c.as_slice-name.result.now item.name c.is_good_name.result (c.good_names.ensures c.as_slice-name.result.now) named c.is_good_name.ensures c.if-not-is_good_name.false,
       omega (arith, same, c.if-name-gt-MAX_NAME_LEN.true),
     )
 
@@ -41,7 +41,7 @@ loop-i-preserved c =
     let same = ap length named in
     one_more c.args.items.now c.loop-i.i item c.requires c.loop-i.invariant c.loop-i-test.true c.index-items-i.is
     (record {
-      good = is_good c.as_slice-name.result.now item.name c.is_good_name.result named c.is_good_name.ensures c.if-not-is_good_name.false;
+      good = is_good c.as_slice-name.result.now item.name c.is_good_name.result (c.good_names.ensures c.as_slice-name.result.now) named c.is_good_name.ensures c.if-not-is_good_name.false;
       short = omega (arith, same, c.if-name-gt-MAX_NAME_LEN.false);
     })
     (λ (before : StandsBefore c.args.items.now c.loop-i.i). (let stands : c.stands_before.result ≡ true = c.stands_before.ensures.1 before in let other = c.if-stands_before.false in absurd (cc)))
