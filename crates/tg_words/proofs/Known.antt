@@ -29,4 +29,4 @@ known_by names (flag name ∷ items) front spelled =
     ]
 
 pub known : (names : Names) (words texts_in : List (List ℕ)) (options : List Given) → WordsSpelling names words texts_in options → AreKnown names options
-known names words texts_in options s = subst (AreKnown names) (sym s.options_are) (known_by names s.items s.front s.spelled)
+known names words texts_in options s = subst (AreKnown names) (sym s.reading.options_are) (known_by names s.reading.items s.reading.front s.reading.spelled)

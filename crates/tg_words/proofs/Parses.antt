@@ -21,7 +21,7 @@ use Rattle.clap.specs.declared.builder.action.ArgAction.TheVariants.{Set, SetTru
 use Rattle.clap.proofs.FaultLemmas.{leaf_fault}
 use Rattle.tg_words.specs.Words.{Names, Given, WordsSpelling}
 use Rattle.tg_words.specs.Parsing.{app_for, fault_of_kind, options_in, positional_in}
-use Rattle.tg_words.proofs.Readings.{AreNames, one_spelling_of_words, reading_of, spelling_of}
+use Rattle.tg_words.proofs.Readings.{AreNames, one_spelling_of_words, spelling_of}
 use Rattle.tg_words.proofs.Rules.{app_with, args_for, built_for, no_args, option_arg, positional_arg, shape_for, simple_and_free}
 use Rattle.tg_words.proofs.Rows.{Ends, all_defaults, options_of_rows}
 use Rattle.tg_words.proofs.Turns.{ended, or_else-nil, stand, total}
@@ -96,7 +96,7 @@ parse_only names words positional options are texts s = elim (outcome names are 
             let p = holding names words later others rows are rows_are ends in
             record { positional_is = p.positional_is ∙ same.0; options_are = p.options_are ∙ same.1 },
       )
-  | fails bad never ↦ absurd (never positional options (reading_of names words positional options s) s.once)
+  | fails bad never ↦ absurd (never positional options s.reading s.once)
 ]
 
 -- ---- what the call of a parse says

@@ -2,19 +2,7 @@
 use Rattle.std.proofs.Common.{◌≡◌, ◌≢◌, ℕ, suc, zero, ◌<◌, inl, inr, List, [], ◌∷◌, ◌++◌, length, map, codes, false, refl, sym, ap, ap₂, ◌∙◌, subst, arith, Some, None}
 use Rattle.std.specs.Prelude.{Contains, get_or}
 use Rattle.std.proofs.lemmas.List.{length-append}
-use Rattle.tg_words.specs.Words.{Names, Given, Item, positional, valued, flag, IsPlain, begins_with_dash, ItemsSpelling, IsEnd, positionals_of, options_of, StandOnce, WordsSpelling}
-
--- the words are these positional words and these options, of which one may stand more than once
-pub record Reading (names : Names) (words positional : List (List ℕ)) (options : List Given) : Type 0 where
-  pub items : List Item
-  pub front : List (List ℕ)
-  pub rest : List (List ℕ)
-  pub late : List (List ℕ)
-  pub whole : words ≡ front ++ rest
-  pub spelled : ItemsSpelling names items front
-  pub end : IsEnd rest late
-  pub positional_is : positional ≡ positionals_of items ++ late
-  pub options_are : options ≡ options_of items
+use Rattle.tg_words.specs.Words.{Names, Given, Item, positional, valued, flag, IsPlain, begins_with_dash, ItemsSpelling, IsEnd, positionals_of, options_of, StandOnce, Reading, WordsSpelling}
 
 -- a reading of the words is these positional words and these options, and then a reading of the rest
 pub record Leaves (names : Names) (positional : List (List ℕ)) (options : List Given) (rest more_positional : List (List ℕ)) (more_options : List Given) : Type 0 where
@@ -346,31 +334,7 @@ end_only names word words all every are at r =
     ]
 
 pub spelling_of : (names : Names) (words all : List (List ℕ)) (every : List Given) → StandOnce every → Reading names words all every → WordsSpelling names words all every
-spelling_of names words all every once r = record {
-  items = r.items;
-  front = r.front;
-  rest = r.rest;
-  late = r.late;
-  whole = r.whole;
-  spelled = r.spelled;
-  end = r.end;
-  positional_is = r.positional_is;
-  options_are = r.options_are;
-  once = once;
-}
-
-pub reading_of : (names : Names) (words all : List (List ℕ)) (every : List Given) → WordsSpelling names words all every → Reading names words all every
-reading_of names words all every s = record {
-  items = s.items;
-  front = s.front;
-  rest = s.rest;
-  late = s.late;
-  whole = s.whole;
-  spelled = s.spelled;
-  end = s.end;
-  positional_is = s.positional_is;
-  options_are = s.options_are;
-}
+spelling_of names words all every once r = record { reading = r; once = once }
 
 -- words have one reading
 one_by : (fuel : ℕ) (names : Names) (words all more : List (List ℕ)) (every others : List Given) → AreNames names
@@ -405,7 +369,7 @@ one_by (suc fuel) names (word ∷ words) all more every others are enough r s =
 pub one_spelling_of_words : (names : Names) (words all more : List (List ℕ)) (every others : List Given) → AreNames names
     → WordsSpelling names words all every → WordsSpelling names words more others → (all ≡ more) × (every ≡ others)
 one_spelling_of_words names words all more every others are r s =
-    one_by (suc (length words)) names words all more every others are (omega arith) (reading_of names words all every r) (reading_of names words more others s)
+    one_by (suc (length words)) names words all more every others are (omega arith) r.reading s.reading
 
 -- a first word that is neither plain nor begins with two dashes
 pub no_dashes : (names : Names) (word : List ℕ) (words : List (List ℕ)) → word ≢ codes "--" → (IsPlain word → ⊥)

@@ -12,11 +12,11 @@ use Rattle.clap.specs.Walk.{positional as positional_waits}
 use Rattle.clap.specs.Faults.{long_fault, use_fault}
 use Rattle.clap.specs.declared.builder.action.ArgAction.TheVariants.{Set, SetTrue}
 use Rattle.clap.specs.declared.error.kind.ErrorKind.TheVariants as kind
-use Rattle.tg_words.specs.Words.{Names, Given, IsPlain, StandOnce}
+use Rattle.tg_words.specs.Words.{Names, Given, IsPlain, Reading, StandOnce}
 use Rattle.tg_words.specs.Parsing.{value_in}
 use Rattle.tg_words.proofs.Names.{among_passes, any_among, bytes_same}
 use Rattle.tg_words.proofs.Once.{once_more, once_none, stands_twice}
-use Rattle.tg_words.proofs.Readings.{AreNames, assigned, named, end_reading, moves_assigned, moves_flag, moves_named, moves_plain, no_assigned, no_dashes, no_named, not_plain, nothing, Reading, Moves, LacksEquals, HasNoReading}
+use Rattle.tg_words.proofs.Readings.{AreNames, assigned, named, end_reading, moves_assigned, moves_flag, moves_named, moves_plain, no_assigned, no_dashes, no_named, not_plain, nothing, Moves, LacksEquals, HasNoReading}
 use Rattle.tg_words.proofs.Rules.{args_for, id_valued, is_of, of_flag, of_none, of_valued, option_arg}
 use Rattle.tg_words.proofs.Rows.{Ends, Holds, ends_of, flag_row, given_row, one_option, one_word_more, row_given, used_flag, used_valued, valued_row}
 use Rattle.tg_words.proofs.Shapes.{WordIs, dashes, is_end, is_long, is_plain, is_short, word_is, written}

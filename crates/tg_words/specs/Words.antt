@@ -72,8 +72,8 @@ IsEnd rest late = ((rest ≡ []) × (late ≡ [])) ⊎ (rest ≡ codes "--" ∷ 
 abbrev pub StandOnce : List Given → Type 0
 StandOnce options = (i j : ℕ) (a b : Given) → i < j → slice_get options i ≡ Some a → slice_get options j ≡ Some b → a.0 ≢ b.0
 
--- the words are these positional words and these options, of the names that a command has
-pub record WordsSpelling (names : Names) (words positional : List (List ℕ)) (options : List Given) : Type 0 where
+-- the words are these positional words and these options, of the names that a command has; an option may stand more than once
+pub record Reading (names : Names) (words positional : List (List ℕ)) (options : List Given) : Type 0 where
   pub items : List Item
   pub front : List (List ℕ)
   pub rest : List (List ℕ)
@@ -83,6 +83,10 @@ pub record WordsSpelling (names : Names) (words positional : List (List ℕ)) (o
   pub end : IsEnd rest late
   pub positional_is : positional ≡ positionals_of items ++ late
   pub options_are : options ≡ options_of items
+
+-- the words are these positional words and these options, each of which stands at most once
+pub record WordsSpelling (names : Names) (words positional : List (List ℕ)) (options : List Given) : Type 0 where
+  pub reading : Reading names words positional options
   pub once : StandOnce options
 
 -- the words are the command's name, and behind it these positional words and these options
