@@ -12,7 +12,8 @@ use Rattle.tg_pbtable.specs.declared.table.Value.TheVariants.{Number, Place}
 use Rattle.tg_pbtable.specs.declared.raw.RawField.{RawField}
 use Rattle.tg_pbtable.specs.declared.raw.ReadFault.{ReadFault}
 use Rattle.tg_pbtable.specs.declared.raw.ReadFault.TheVariants.{Short, Bad}
-use Rattle.tg_pbtable.specs.Varint.{number_of, AllGoOn, Groups}
+use Rattle.tg_pbtable.specs.Varint.{Groups}
+use Rattle.tg_varint.specs.Varint.{number_of, AllGoOn}
 use Rattle.tg_pbtable.specs.Wires.{wire_code, IsNoWire}
 use Rattle.tg_pbtable.specs.Reading.{IsVarintAt, IsVarintFault, IsValueAt, IsValueFault, IsWireOf, IsFieldAt, IsFieldFault}
 use Rattle.tg_pbtable.specs.Computed.{and_then, going_on, below_range, ended, varint_in, place_in, wire_with, value_with, value_in, field_in}

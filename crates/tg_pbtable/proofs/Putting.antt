@@ -5,7 +5,8 @@ use Rattle.std.proofs.lemmas.Bool.{cases_lt}
 use Rattle.std.proofs.lemmas.List.{length-append, append-nil}
 use Rattle.std.proofs.lemmas.List.Elements.{All-push, All-nil, All-cons, All-tail}
 use Rattle.std.proofs.lemmas.Nat.{pow-add, pow_below, mul-le}
-use Rattle.tg_pbtable.specs.Varint.{number_of, AllGoOn, VarintSpelling}
+use Rattle.tg_pbtable.specs.Varint.{VarintSpelling}
+use Rattle.tg_varint.specs.Varint.{number_of, AllGoOn}
 use Rattle.tg_pbtable.specs.Emitted.{Puts}
 use Rattle.tg_pbtable.proofs.Varints.{number_push, same_bytes}
 

@@ -6,7 +6,8 @@ use Rattle.std.proofs.lemmas.List.{length-append, get_or_at, get_or-take, length
 use Rattle.std.proofs.lemmas.List.Elements.{All-push, All-nil, All-cons, All-head, All-tail, All-get_or, All-take, All-more}
 use Rattle.std.proofs.lemmas.Nat.{pow-add, pow_below, shl_whole, shl_below}
 use Rattle.tg_pbtable.specs.Reading.{IsVarintAt}
-use Rattle.tg_pbtable.specs.Varint.{number_of, AllGoOn, Groups, VarintSpelling, EndsInside, PassesTen, IsBadVarint}
+use Rattle.tg_pbtable.specs.Varint.{Groups, VarintSpelling, EndsInside, PassesTen, IsBadVarint}
+use Rattle.tg_varint.specs.Varint.{number_of, AllGoOn}
 
 -- ---- the number
 

@@ -16,7 +16,7 @@ use Rattle.tg_pbtable.specs.declared.raw.ReadFault.{ReadFault}
 use Rattle.tg_pbtable.specs.declared.raw.ReadFault.TheVariants.{Short, Bad}
 use Rattle.tg_pbtable.specs.declared.fault.PbFault.{PbFault}
 use Rattle.tg_pbtable.specs.declared.fault.PbFault.TheVariants as faults
-use Rattle.tg_pbtable.specs.Varint.{number_of}
+use Rattle.tg_varint.specs.Varint.{number_of}
 use Rattle.tg_pbtable.specs.Wires.{wire_code}
 use Rattle.tg_pbtable.specs.Message.{wire_of, numbers_of}
 use Rattle.tg_pbtable.specs.Cursor.{has_number}

@@ -1,16 +1,8 @@
 -- The varints of protobuf messages (protobuf encoding guide, Base 128 Varints): groups of seven bits, the least
 -- significant group first, the high bit set on every byte but the last. A number is below 2 ^ 64 and takes at most 10
 -- bytes; only the shortest spelling is taken (this project's own rule).
-use Rattle.std.specs.Prelude.{◌≡◌, ℕ, ◌+◌, ◌*◌, ◌%◌, ◌^◌, ◌<◌, ◌≤◌, ◌⊎◌, List, [], ◌∷◌, ◌++◌, length, take, All}
-
--- the number that the groups spell
-abbrev pub number_of : List ℕ → ℕ
-number_of [] = 0
-number_of (b ∷ bytes) = b % 128 + 128 * number_of bytes
-
--- the high bit stands on each byte: more bytes are to come after them
-abbrev pub AllGoOn : List ℕ → Type 0
-AllGoOn bytes = All (λ b. 128 ≤ b) bytes
+use Rattle.std.specs.Prelude.{◌≡◌, ℕ, ◌^◌, ◌<◌, ◌≤◌, ◌⊎◌, List, [], ◌∷◌, ◌++◌, length, take, All}
+use Rattle.tg_varint.specs.Varint.{number_of, AllGoOn}
 
 -- at most ten bytes, all but the last with the high bit, spell the number
 pub record Groups (number : ℕ) (bytes : List ℕ) : Type 0 where

@@ -6,7 +6,8 @@ use Rattle.std.proofs.lemmas.List.{drop_at, take_at}
 use Rattle.std.proofs.lemmas.List.Elements.{All-head, All-tail}
 use Rattle.tg_pbtable.specs.Message.{Spelled, ValueSpelling}
 use Rattle.tg_pbtable.specs.Values.{bytes_at, bytes_in, number_in, numbers_at}
-use Rattle.tg_pbtable.specs.Varint.{VarintSpelling, number_of}
+use Rattle.tg_pbtable.specs.Varint.{VarintSpelling}
+use Rattle.tg_varint.specs.Varint.{number_of}
 use Rattle.tg_pbtable.specs.declared.table.Field.{Field}
 use Rattle.tg_pbtable.specs.declared.table.Value.{Value}
 use Rattle.tg_pbtable.specs.declared.table.Value.TheVariants.{Number, Place}

@@ -1,6 +1,6 @@
 use Rattle.std.proofs.Common.{◌≡◌, ℕ, ◌+◌, ◌*◌, ◌%◌, ◌^◌, ◌<◌, ◌≤◌, get_or, take, refl, sym, subst, arith, rules}
 use Rattle.std.proofs.lemmas.List.Elements.{All-from_get_or}
-use Rattle.tg_pbtable.specs.Varint.{number_of}
+use Rattle.tg_varint.specs.Varint.{number_of}
 use Rattle.tg_pbtable.proofs.Varints.{bad_at, zero_at, sum_fits, sum_is, spelled_at, go_on}
 use Rattle.tg_pbtable.proofs.raw.long_varint_at.Goals as goal
 use Rattle.tg_pbtable.proofs.raw.long_varint_at.Goals.{else-i-eq9-via-then-i-eq9+else-byte-ne1, else-i-eq9-via-else-i-eq9, else-byte-eq0-via-then-byte-eq0+else-i-gt0, else-byte-eq0-via-else-byte-eq0}

@@ -1,5 +1,5 @@
 use Rattle.std.proofs.Common.{◌≡◌, ◌<◌, take}
-use Rattle.tg_pbtable.specs.Varint.{number_of, AllGoOn}
+use Rattle.tg_varint.specs.Varint.{number_of, AllGoOn}
 use Rattle.tg_pbtable.proofs.raw.long_varint_at.Given as goal
 
 abbrev pub invariant-loop-i : goal.invariant-loop-i
