@@ -27,7 +27,7 @@ use Rattle.tg_walk.specs.declared.fault.ResolveFault.TheVariants as paths
 use Rattle.tg_walk.specs.declared.fault.WalkFault.TheVariants as walks
 use Rattle.tg_streams.specs.Streams.{Input, InputQuiet, Output, InputRose, OutputQuiet, OutputRose}
 use Rattle.tg_app.specs.Lines.{status_of, exit_status}
-use Rattle.tg_app.specs.Blocks.{OutputUntouched, PassedLimit, TookBlock, Untouched}
+use Rattle.tg_app.specs.Blocks.{OutputUntouched, PassedLimit, TookBlock}
 use Rattle.tg_app.specs.Check.{Checked, CheckedOther, CheckEnds, CollisionPair, Agrees, CheckStatus}
 use Rattle.tg_app.specs.Node.{Noded, NodedOther, NodeEnds, HasText, HasNoText, NodeStatus}
 use Rattle.tg_app.specs.CidLines.{HexLine, PrintEnds, PutsLine, TextLine}

@@ -1,7 +1,7 @@
 -- An export from a pack, and before it the pack attached: together one step.
-use Rattle.std.proofs.Common.{◌≡◌, ◌⊎◌, ℕ, inl, inr, [], ◌∷◌, List, Option, Some, None, Ok, Err, refl, sym, ◌∙◌, subst, ◌++◌, ◌≤◌}
+use Rattle.std.proofs.Common.{◌≡◌, ℕ, inl, inr, [], ◌∷◌, List, Option, Some, Ok, Err, sym, ◌∙◌, subst, ◌++◌, ◌≤◌}
 use Rattle.std.specs.Prelude.{false, ⊤}
-use Rattle.tg_app.specs.Exports.{ExportRefused, Exported, HasAnswer, IsAttachedPack, IsExportRefusal, IsNotForMissing}
+use Rattle.tg_app.specs.Exports.{ExportRefused, Exported, IsAttachedPack, IsExportRefusal}
 use Rattle.tg_app.specs.declared.refusal.Refusal.{Refusal}
 use Rattle.tg_export.specs.Packed.{ExportEnds, HasPackedCause, IsExportedElse, IsStoreCause, StoreEnds}
 use Rattle.tg_export.specs.declared.fault.ExportFault.{ExportFault}

@@ -1,5 +1,5 @@
 -- The lines of an import.
-use Rattle.std.proofs.Common.{◌≡◌, ◌≤◌, ◌⊎◌, ◌++◌, ◌∷◌, [], List, Option, Some, None, ℕ, inl, inr, codes, refl, sym, ap, ◌∙◌, subst}
+use Rattle.std.proofs.Common.{◌≡◌, ◌≤◌, ◌++◌, ◌∷◌, [], List, Option, Some, None, ℕ, inl, inr, codes, refl, sym, ◌∙◌, subst}
 use Rattle.std.specs.Prelude.{IfSome, decimal}
 use Rattle.std.proofs.lemmas.List.{append_assoc}
 use Rattle.tg_app.specs.Blocks.{OutputUntouched}

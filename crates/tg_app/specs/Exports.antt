@@ -1,5 +1,5 @@
 -- `export`: the CAR of a query goes from a pack to out.
-use Rattle.std.specs.Prelude.{◌≡◌, ◌⊎◌, ℕ, ⊤, [], ◌∷◌, List, Option, Some, None, Result, Ok, Err, IfSome, false}
+use Rattle.std.specs.Prelude.{◌≡◌, ◌⊎◌, ℕ, ⊤, [], ◌∷◌, List, Option, Some, None, Ok, Err, false}
 use Rattle.tg_app.specs.Blocks.{IsTextOf, OutputUntouched}
 use Rattle.tg_app.specs.declared.refusal.Refusal.{Refusal}
 use Rattle.tg_app.specs.declared.refusal.Refusal.TheVariants as refusals
@@ -11,7 +11,7 @@ use Rattle.tg_faults.specs.Faults.{Rose}
 use Rattle.tg_files.specs.Packs.{Did, PackQuiet, PackRose, PackStep, SameContent}
 use Rattle.tg_files.specs.Packs.PackWrite.{attach}
 use Rattle.tg_model.specs.Dag.{Section}
-use Rattle.tg_model.specs.PathWalk.{TraversalEnd, whole}
+use Rattle.tg_model.specs.PathWalk.{whole}
 use Rattle.tg_model.specs.Queries.{QueryParts}
 use Rattle.tg_model.specs.Stores.{Store}
 use Rattle.tg_model.specs.declared.stores.BlocksFault.{BlocksFault}

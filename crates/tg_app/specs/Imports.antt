@@ -9,8 +9,8 @@ use Rattle.tg_app.specs.declared.refusal.Refusal.{Refusal}
 use Rattle.tg_app.specs.declared.refusal.Refusal.TheVariants as refusals
 use Rattle.tg_ascii.specs.Ascii.{line_feed, slash}
 use Rattle.tg_cid.specs.Cid.{CidParts}
-use Rattle.tg_files.specs.Folders.{FolderQuiet, FolderRose, FolderStep, SameTree, TellsFolder}
-use Rattle.tg_files.specs.Packs.{PackRose, PackStep, SameContent}
+use Rattle.tg_files.specs.Folders.{FolderQuiet, FolderRose, TellsFolder}
+use Rattle.tg_files.specs.Packs.{PackRose, SameContent}
 use Rattle.tg_import.specs.Counting.{nothing}
 use Rattle.tg_import.specs.Refused.{HasFolderFault, max_levels}
 use Rattle.tg_import.specs.declared.fault.ImportFault.{ImportFault}

@@ -1,5 +1,5 @@
 -- The objects that a command is handed: a folder, a pack, which it gives back, its input and out.
-use Rattle.std.specs.Prelude.{◌≡◌, ℕ, Option, Some, None}
+use Rattle.std.specs.Prelude.{◌≡◌, Option, Some, None}
 use Rattle.tg_files.specs.Folders.{FolderMeaning, FolderStep, folder_step}
 use Rattle.tg_files.specs.Packs.{PackMeaning, PackStep, pack_step}
 use Rattle.tg_streams.specs.Streams.{Input, Output, SinkMeaning, SourceMeaning, into, through}

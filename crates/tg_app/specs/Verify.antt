@@ -1,5 +1,5 @@
 -- `verify`: a CAR on input is verified, and what it says goes to out.
-use Rattle.std.specs.Prelude.{◌≡◌, ◌⊎◌, ◌≢◌, ◌≤◌, ℕ, ⊤, List, Option, Some, None, Result, Ok, Err, length, ◌++◌}
+use Rattle.std.specs.Prelude.{◌≡◌, ◌⊎◌, ◌≤◌, ℕ, ⊤, List, Option, Some, None, Ok, Err, length, ◌++◌}
 use Rattle.tg_app.specs.Blocks.{IsTextOf}
 use Rattle.tg_app.specs.Exports.{ShowsCid}
 use Rattle.tg_app.specs.declared.refusal.Refusal.{Refusal}

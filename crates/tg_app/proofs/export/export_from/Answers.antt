@@ -1,5 +1,4 @@
-use Rattle.std.proofs.Common.{◌≡◌, inl, sym, subst}
-use Rattle.std.specs.Prelude.{Err, Ok}
+use Rattle.std.proofs.Common.{inl, subst}
 use Rattle.tg_app.specs.Exports.{ExportRefused, Exported}
 use Rattle.tg_words.specs.ExportLines.{ExportParts}
 use Rattle.tg_app.proofs.ExportSteps.{attached_step, content_same, done_step, refused_step}

@@ -1,4 +1,4 @@
-use Rattle.std.proofs.Common.{◌≡◌, Option, Some, sym, ◌∙◌, subst}
+use Rattle.std.proofs.Common.{Option, Some, sym, ◌∙◌, subst}
 use Rattle.tg_app.proofs.ImportSteps.{folder_first}
 use Rattle.tg_app.specs.Imports.{ImportAnswers, options_of}
 use Rattle.tg_app.specs.Lines.{end_of}

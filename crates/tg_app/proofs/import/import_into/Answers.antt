@@ -1,6 +1,6 @@
-use Rattle.std.proofs.Common.{◌≡◌, inl, inr, refl, sym, subst}
+use Rattle.std.proofs.Common.{refl, subst}
 use Rattle.std.specs.Prelude.{IfErr, IfOk, IfSome, OnErr, OnOk, Some}
-use Rattle.tg_app.proofs.ImportSteps.{attached_ends, attached_refused, emptied_is_nothing}
+use Rattle.tg_app.proofs.ImportSteps.{attached_ends, attached_refused}
 use Rattle.tg_app.specs.Imports.{AttachedAnswers, AttachedRefused, options_of}
 use Rattle.tg_app.specs.Lines.{end_of}
 use Rattle.tg_app.specs.Objects.{files_between}

@@ -1,6 +1,3 @@
-use Rattle.std.proofs.Common.{◌≡◌, ◌++◌, ◌∷◌, [], List, ℕ, codes, decimal, refl, sym, ap, ◌∙◌}
-use Rattle.std.proofs.lemmas.List.{append_assoc}
-use Rattle.tg_ascii.specs.Ascii.{line_feed}
 use Rattle.tg_app.proofs.ImportSteps.{lines_are}
 use Rattle.tg_app.proofs.import.lines.Goals as goal
 
