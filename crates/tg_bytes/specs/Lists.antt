@@ -1,0 +1,76 @@
+-- Lists of bytes and of lists: what two of them have in common, and what stands where.
+use Rattle.std.proofs.Common.{◌≡◌, ◌≢◌, ℕ, ◌+◌, ◌-◌, ◌<◌, ◌≤◌, Bool, true, false, List, [], ◌∷◌, ◌++◌, length, take, drop, get_or, refl, sym, ap, ◌∙◌, append_assoc, arith}
+use Rattle.std.specs.Prelude.{All, bytes_eq, slice_range, ◌||◌}
+use Rattle.std.specs.List.{flat_map}
+use Rattle.std.specs.List.Sorted.{IsNonDecreasing}
+use Rattle.std.proofs.lemmas.List.{append-nil, drop_at, get_or_default, take_at}
+use Rattle.std.proofs.lemmas.List.Concat.{flat_map-append}
+use Rattle.std.proofs.lemmas.List.Elements.{All-tail}
+use Rattle.std.proofs.lemmas.List.Sorted.{IsNonDecreasingBy-push}
+use Rattle.std.proofs.lemmas.Slice.Eq.{bytes_eq-Decides}
+
+-- each number is a byte's
+abbrev pub AreBytes : List ℕ → Type 0
+AreBytes bytes = All (λ (b : ℕ). b < 256) bytes
+
+-- the lists, one after another
+abbrev pub joined : List (List ℕ) → List ℕ
+joined lists = flat_map (λ (list : List ℕ). list) lists
+
+-- ---- what two lists have in common
+
+-- of two lists whose fronts are as long, the fronts are the same, and so is what follows
+pub same_front : {X : Type 0} (a b x y : List X) → length a ≡ length b → a ++ x ≡ b ++ y → (a ≡ b) × (x ≡ y)
+same_front a b x y size e = (
+  sym (take_at a x (length a) refl) ∙ ap (take (length a)) e ∙ take_at b y (length a) (sym size),
+  sym (drop_at a x (length a) refl) ∙ ap (drop (length a)) e ∙ drop_at b y (length a) (sym size),
+)
+
+-- two lists of one element
+pub same_only : (a b : List ℕ) → a ∷ [] ≡ b ∷ [] → a ≡ b
+same_only a b e = cc
+
+-- different bytes fail the test
+pub other_bytes : (a b : List ℕ) → a ≢ b → bytes_eq a b ≡ false
+other_bytes a b differ = go (bytes_eq a b) refl
+  where
+    go : (test : Bool) → bytes_eq a b ≡ test → bytes_eq a b ≡ false
+    go true is = absurd (differ ((bytes_eq-Decides a b).0 is))
+    go false is = is
+
+-- ---- what stands where
+
+-- what stands between two others
+pub between : (a b c : List ℕ) (start end : ℕ) → start ≡ length a → end ≡ start + length b → slice_range (a ++ (b ++ c)) start end ≡ b
+between a b c start end s e =
+    let size : length b ≡ end - start = omega arith in
+    ap (take (end - start)) (drop_at a (b ++ c) start (sym s)) ∙ take_at b c (end - start) size
+
+-- what follows a list of two parts follows the second
+pub behind_parts : (a b rest bytes : List ℕ) → bytes ≡ a ++ b → bytes ++ rest ≡ a ++ (b ++ rest)
+behind_parts a b rest bytes e = ap (λ (list : List ℕ). list ++ rest) e ∙ append_assoc a b rest
+
+-- what follows a front of bytes are bytes
+pub rest_bytes : (a rest : List ℕ) → AreBytes (a ++ rest) → AreBytes rest
+rest_bytes [] rest are = are
+rest_bytes (x ∷ a) rest are = rest_bytes a rest (All-tail (λ (b : ℕ). b < 256) x (a ++ rest) are)
+
+-- one list more
+pub joined_push : (lists : List (List ℕ)) (list : List ℕ) → joined (lists ++ list ∷ []) ≡ joined lists ++ list
+joined_push lists list =
+    flat_map-append (λ (l : List ℕ). l) lists (list ∷ []) ∙ ap (λ (s : List ℕ). joined lists ++ s) (append-nil list)
+
+-- numbers that don't fall, and one more that is at least the last
+pub rises : (numbers : List ℕ) (n : ℕ) → IsNonDecreasing numbers → (0 < length numbers → get_or numbers (length numbers - 1) 0 ≤ n)
+    → IsNonDecreasing (numbers ++ n ∷ [])
+rises numbers n is last = IsNonDecreasingBy-push (λ (x : ℕ). x) numbers n is (λ d p.
+    let e : get_or numbers (length numbers - 1) d ≡ get_or numbers (length numbers - 1) 0 = get_or_default numbers (length numbers - 1) d 0 (omega arith) in
+    let l = last p in
+    omega arith)
+
+-- ---- tests
+
+-- neither of two holds
+pub neither : (a b : Bool) → (a || b) ≡ false → (a ≡ false) × (b ≡ false)
+neither true b e = absurd (cc)
+neither false b e = (refl, e)

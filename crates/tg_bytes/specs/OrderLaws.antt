@@ -1,0 +1,20 @@
+-- What holds of the order of bytes.
+use Rattle.std.proofs.Common.{◌≡◌, ◌≢◌, ℕ, false, List, refl, sym, ap, ◌∙◌}
+use Rattle.std.specs.Cmp.Lexicographic.{nat_list_cmp_total}
+use Rattle.std.specs.Ordering.{is_lt, ordering_reverse}
+use Rattle.std.specs.declared.cmp.Ordering.{Ordering}
+use Rattle.std.specs.declared.cmp.Ordering.TheVariants.{Less, Equal, Greater}
+use Rattle.tg_bytes.specs.Order.{bytes_cmp}
+
+-- bytes that come before others aren't theirs
+pub less_apart : (a b : List ℕ) → bytes_cmp a b ≡ Less → a ≢ b
+less_apart a b less same =
+    let turned : bytes_cmp a a ≡ Less = ap (bytes_cmp a) same ∙ less in
+    let other : Less ≡ Greater = sym turned ∙ nat_list_cmp_total.antisymm a a ∙ ap ordering_reverse turned in
+    absurd (cc)
+
+-- where one neither comes before the other nor is equal, the other comes before it
+pub reversed : (o r : Ordering) → is_lt o ≡ false → (o ≡ Equal → ⊥) → r ≡ ordering_reverse o → r ≡ Less
+reversed Less r not_less differ is = absurd (cc)
+reversed Equal r not_less differ is = absurd (differ refl)
+reversed Greater r not_less differ is = is
