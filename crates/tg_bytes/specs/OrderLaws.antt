@@ -1,5 +1,6 @@
 -- What holds of the order of bytes.
 use Rattle.std.proofs.Common.{◌≡◌, ◌≢◌, ℕ, false, List, refl, sym, ap, ◌∙◌}
+use Rattle.std.proofs.lemmas.Map.Lookups.{exact_bytes}
 use Rattle.std.specs.Cmp.Lexicographic.{nat_list_cmp_total}
 use Rattle.std.specs.Ordering.{is_lt, ordering_reverse}
 use Rattle.std.specs.declared.cmp.Ordering.{Ordering}
@@ -18,3 +19,7 @@ pub reversed : (o r : Ordering) → is_lt o ≡ false → (o ≡ Equal → ⊥) 
 reversed Less r not_less differ is = absurd (cc)
 reversed Equal r not_less differ is = absurd (differ refl)
 reversed Greater r not_less differ is = is
+
+-- of two that differ, the second is below the first, where the first isn't below the second
+pub other_way : (a b : List ℕ) → a ≢ b → is_lt (bytes_cmp a b) ≡ false → bytes_cmp b a ≡ Less
+other_way a b differ not_less = reversed (bytes_cmp a b) (bytes_cmp b a) not_less (λ e. differ (exact_bytes a b e)) (nat_list_cmp_total.antisymm b a)

@@ -20,6 +20,7 @@ use Rattle.tg_unixfs.specs.Computed.{unix_of}
 use Rattle.tg_unixfs.specs.Unix.{UnixText}
 use Rattle.tg_unixfs.specs.declared.Unix.{Unix}
 use Rattle.tg_unixfs.specs.declared.UnixFault.{UnixFault}
+use Rattle.std.proofs.lemmas.Option.{same_Some}
 
 -- ---- one kind
 
@@ -29,10 +30,6 @@ pub record OneReading : Type 0 where
   pub one_unix : (a b : Unix) (text : List ℕ) → UnixText a text → UnixText b text → a ≡ b
   pub one_cid : FrontLaw
 
--- payloads that are there are equal where the options are
-same_payload : (a b : List ℕ) → ◌≡◌ {A = Option (List ℕ)} (Some a) (Some b) → a ≡ b
-same_payload a b e = cc
-
 -- a node block has one kind: its node, CIDs and UnixFS data are determined, and they determine the kind
 one_node_kind : OneReading → (block : List ℕ) (a b : Kind) → ReadsNode block a → ReadsNode block b → a ≡ b
 one_node_kind laws block a b p q =
@@ -40,7 +37,7 @@ one_node_kind laws block a b p q =
     let other : Node = record { links = q.links; payload = Some q.node.payload } in
     let nodes = laws.one_node node other block p.node.node q.node.node in
     let links : p.links ≡ q.links = ap (λ (n : Node). n.links) nodes in
-    let payload = same_payload p.node.payload q.node.payload (ap (λ (n : Node). n.payload) nodes) in
+    let payload = same_Some p.node.payload q.node.payload (ap (λ (n : Node). n.payload) nodes) in
     let cids = one_cids laws.one_cid q.links p.cids q.cids (subst (λ (ls : List Link). AreCids ls p.cids) links p.node.cids_are) q.node.cids_are in
     let unix = laws.one_unix p.unix q.unix q.node.payload (subst (λ (text : List ℕ). UnixText p.unix text) payload p.node.unix_is) q.node.unix_is in
     let first = kind_ok p.links p.cids p.unix a (cids_count p.links p.cids p.node.cids_are) p.reads in

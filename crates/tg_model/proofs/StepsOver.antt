@@ -2,7 +2,8 @@
 use Rattle.std.proofs.Common.{◌≡◌, ℕ, ◌+◌, ◌<◌, true, List, ◌∷◌, length, drop, get_or, Some, refl, sym, ap, ◌∙◌, subst}
 use Rattle.std.specs.Prelude.{bytes_eq, slice_get, ◌==◌}
 use Rattle.tg_cid.specs.Cid.{CidParts}
-use Rattle.tg_model.proofs.IndexedLists.{drop_at, mapped_at}
+use Rattle.tg_bytes.specs.Lists.{drop_from}
+use Rattle.tg_model.proofs.IndexedLists.{mapped_at}
 use Rattle.tg_model.specs.PathWalk.{StepTo, entry_step, slot_step, slots_step, to_entry}
 use Rattle.tg_model.specs.StepAnswers.{IsStepOver, entry_cids, slot_cids}
 use Rattle.tg_model.specs.declared.kinds.Entry.{Entry}
@@ -19,7 +20,7 @@ pub found_entry : (name : List ℕ) (entries : List Entry) (i : ℕ) (entry : En
     → IsStepOver (entry_cids entries) (entry_step 0 name entries) (Found entry.cid)
 found_entry name entries i entry is within so_far same =
     let e : entry_step 0 name entries ≡ to_entry i =
-    so_far ∙ ap (entry_step i name) (drop_at entries i entry is within) ∙ entry_here i name entry (drop (i + 1) entries) same in
+    so_far ∙ ap (entry_step i name) (drop_from entries i entry is within) ∙ entry_here i name entry (drop (i + 1) entries) same in
     subst (λ (step : StepTo). IsStepOver (entry_cids entries) step (Found entry.cid)) (sym e) (mapped_at (λ (entry : Entry). entry.cid) entries i entry is within)
 
 -- the slot of this number is stepped into
@@ -33,6 +34,6 @@ pub found_slot : (number : ℕ) (name : List ℕ) (slots : List Slot) (i : ℕ) 
     → IsStepOver (slot_cids slots) (slots_step 0 number name slots) answer
 found_slot number name slots i slot answer is within so_far same answers =
     let e : slots_step 0 number name slots ≡ slot_step i name slot.name =
-    so_far ∙ ap (slots_step i number name) (drop_at slots i slot is within) ∙ slot_here i number name slot (drop (i + 1) slots) same in
+    so_far ∙ ap (slots_step i number name) (drop_from slots i slot is within) ∙ slot_here i number name slot (drop (i + 1) slots) same in
     subst (λ (step : StepTo). IsStepOver (slot_cids slots) step answer) (sym e)
     (answers (slot_cids slots) i (mapped_at (λ (slot : Slot). slot.cid) slots i slot is within))

@@ -1,14 +1,12 @@
 -- Bytes that move in pieces, over lists alone.
-use Rattle.std.proofs.Common.{arith, suc, get_or, drop-cons, ◌∷◌, min, ◌≡◌, ℕ, ◌+◌, ◌-◌, ◌<◌, ◌≤◌, List, [], ◌++◌, length, take, drop, Ok, Err, OnErr, refl, sym, ap, ◌∙◌, length-append, append_assoc, take-append-drop}
-use Rattle.std.proofs.Math.Seq.{take-add, take-append_seam, take-append-add, drop-drop}
+use Rattle.std.proofs.Common.{arith, suc, get_or, drop-cons, ◌∷◌, min, ◌≡◌, ℕ, ◌+◌, ◌-◌, ◌<◌, ◌≤◌, List, [], ◌++◌, length, take, drop, Ok, Err, OnErr, sym, ap, ◌∙◌, length-append, append_assoc, take-append-drop}
+use Rattle.std.proofs.Math.Seq.{take-add, take-append_seam, drop-drop}
 use Rattle.std.proofs.Math.ListN.{drop_of_length-le}
 use Rattle.std.proofs.Math.Nat.{min-eq_left}
 use Rattle.std.proofs.lemmas.Grind.{flat_map-append}
-use Rattle.std.proofs.lemmas.List.{take_rest, take-take, length-take, length-take-le, length-drop}
-use Rattle.std.proofs.lemmas.Slice.{take-put_mid}
+use Rattle.std.proofs.lemmas.List.{take_rest, length-take, length-drop}
 use Rattle.std.specs.declared.result.Result.{Result}
 use Rattle.std.specs.List.{flat_map}
-use borrow.Rule.Slice.PartMut.{put_mid, post_of}
 
 -- the front up to `at` and the first n bytes after it are the front up to at + n
 pub take_on : (at n : ℕ) (xs : List ℕ) → take at xs ++ take n (take (length xs - at) (drop at xs)) ≡ take (at + n) xs
@@ -36,23 +34,6 @@ took_none piece at n copied buf bytes p room e amount none =
     let size = ap length e ∙ length-take n (drop at bytes) in
     let left = length-drop at bytes in
     drop_of_length-le bytes (omega arith)
-
--- the part of a buffer from `at` on was written: its first n bytes follow what stood in front
-pub front_more : (at size n : ℕ) (old mid : List ℕ) → at ≤ length old → n ≤ length mid
-    → take (at + n) (put_mid at size old mid) ≡ take at old ++ take n mid
-front_more at size n old mid h k =
-    let all = take-put_mid at size old mid (at + length mid) refl h in
-    let fewer = take-take (at + n) (at + length mid) (put_mid at size old mid) (omega arith) in
-    let size_is = length-take-le at old h in
-    let split : take (length (take at old) + n) (take at old ++ mid) ≡ take at old ++ take n mid = take-append-add (take at old) mid n in
-    sym fewer ∙ ap (take (at + n)) all ∙ ap (λ m. take (m + n) (take at old ++ mid)) (sym size_is) ∙ split
-
-pub front_fits : (at size n : ℕ) (old mid : List ℕ) → at ≤ length old → n ≤ length mid → at + n ≤ length (put_mid at size old mid)
-front_fits at size n old mid h k =
-    let outer = length-append (take at old) (mid ++ post_of at size old) in
-    let inner = length-append mid (post_of at size old) in
-    let front = length-take-le at old h in
-    omega arith
 
 -- the pieces before the i-th, the i-th, and those behind it
 pub pieces_split : {P : Type 0} (f : P → List ℕ) (pieces : List P) (i : ℕ) (d : P) → i < length pieces

@@ -1,10 +1,11 @@
 -- One move of a stream after another is a move: how what went through a source or a sink between two moments, and then
 -- between the second and a third, went through it between the first and the third.
-use Rattle.std.specs.Prelude.{◌≡◌, ℕ, ◌+◌, ◌<◌, List, [], ◌++◌, length, take, Option, Some, None, refl}
-use Rattle.std.proofs.Common.{◌∙◌, ap, sym, subst, append_assoc, append-nil, length-append, add-lt-add_of_le_of_lt, lt_of_lt_of_le, le-add_right, le_refl, le_of_lt}
+use Rattle.std.specs.Prelude.{ℕ, ◌+◌, ◌<◌, List, [], ◌++◌, length, take, refl}
+use Rattle.std.proofs.Common.{◌∙◌, ap, sym, subst, append-nil, length-append, add-lt-add_of_le_of_lt, lt_of_lt_of_le, le-add_right, le_refl, le_of_lt}
 use Rattle.std.proofs.Math.Seq.{take-append-add, take-append-le}
 use Rattle.tg_bytes.specs.Told.{after_front, grown}
 use Rattle.tg_faults.specs.Faults.{Rose}
+use Rattle.tg_bytes.specs.ToldLaws.{after_front-after_front, after_front-nothing, grown-grown, grown-nothing}
 use Rattle.tg_streams.specs.Streams.{SourceMeaning, SinkMeaning, through, into, OutputQuiet, OutputRose, Took, Untaken, Put, Unput, PutFront}
 
 -- the law of sources, and that of sinks: one step after another is a step
@@ -13,23 +14,6 @@ SourceJoins S m = (a b c : S) (u v : List ℕ) → m.took a b u → m.took b c v
 
 abbrev pub SinkJoins : (S : Type 0) → SinkMeaning S → Type 0
 SinkJoins S m = (a b c : S) (u v : List ℕ) → m.wrote a b u → m.wrote b c v → m.wrote a c (u ++ v)
-
--- what is told composes
-pub after_front-after_front : (u v : List ℕ) (rest : Option (List ℕ)) → after_front u (after_front v rest) ≡ after_front (u ++ v) rest
-after_front-after_front u v None = refl
-after_front-after_front u v (Some xs) = ap (λ ys. Some ys) (sym (append_assoc u v xs))
-
-pub after_front-nothing : (rest : Option (List ℕ)) → rest ≡ after_front [] rest
-after_front-nothing None = refl
-after_front-nothing (Some xs) = refl
-
-pub grown-grown : (held : Option (List ℕ)) (u v : List ℕ) → grown (grown held u) v ≡ grown held (u ++ v)
-grown-grown None u v = refl
-grown-grown (Some xs) u v = ap (λ ys. Some ys) (append_assoc xs u v)
-
-pub grown-nothing : (held : Option (List ℕ)) → held ≡ grown held []
-grown-nothing None = refl
-grown-nothing (Some xs) = ap (λ ys. Some ys) (sym (append-nil xs))
 
 -- nothing taken at all
 pub took_nothing : (S : Type 0) (m : SourceMeaning S) (a : S) → m.took a a [] → Took [] (through m a a)

@@ -1,8 +1,9 @@
 use Rattle.std.proofs.Common.{ℕ, ◌-◌, [], length, take, arith, ◌∙◌, subst, append-nil}
 use Rattle.std.proofs.lemmas.Slice.{take-put_mid_below}
+use Rattle.tg_bytes.specs.ToldLaws.{front_fits, front_more}
 use Rattle.tg_streams.specs.Streams.{Took, through}
 use Rattle.tg_streams.specs.Joining.{took_took, took_untaken}
-use Rattle.tg_streams.proofs.Moves.{front_more, front_fits, on_err}
+use Rattle.tg_streams.proofs.Moves.{on_err}
 use Rattle.tg_streams.proofs.sources.read_front.Goals as goal
 
 pub returns-in_err-taken-clause-err_took : goal.returns-in_err-taken-clause-err_took
