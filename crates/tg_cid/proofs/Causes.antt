@@ -8,10 +8,10 @@ use Rattle.tg_cid.specs.Spelling.{CidV1Bytes, IsDigestSize, IsTaken, codec_code,
 use Rattle.tg_cid.specs.declared.cid.Codec.{Codec}
 use Rattle.tg_cid.specs.declared.cid.Codec.TheVariants.{Raw, DagPb}
 use Rattle.tg_cid.specs.declared.cid.HashKind.{HashKind}
-use Rattle.tg_cid.specs.declared.cid.HashKind.TheVariants.{Sha256, Identity}
 use Rattle.tg_cid.specs.declared.fault.CidFault.{CidFault}
 use Rattle.tg_cid.specs.declared.fault.CidFault.TheVariants as faults
 use Rattle.tg_cid.proofs.Places.{Stand, stand, first, none_stand, rest_is}
+use Rattle.tg_cid.specs.CodeLaws.{size_taken}
 
 pub codec_with : (number : ℕ) → IsCodec number → (codec : Codec) × (number ≡ codec_code codec)
 codec_with number (inl e) = (Raw, e)
@@ -51,10 +51,6 @@ bad_size bytes codec hash number at rest is taken f wrong =
     let sized = inr (number, e.next, e.here, inl (wrong, refl)) in
     let hashed = inr (hash_code hash, d.next, d.here, inr (hash, taken, refl, sized)) in
     inr (1, a.next, a.here, inr (refl, inr (codec, b.next, b.here, inr (k.0, k.1, hashed))))
-
-pub size_taken : (hash : HashKind) (size : ℕ) → IsDigestSize hash size → IsTaken hash
-size_taken Sha256 size h = tt
-size_taken Identity size h = h
 
 -- all four numbers are good, so the digest tells
 at_digest : (bytes : List ℕ) (codec : Codec) (hash : HashKind) (size at : ℕ) (rest : List ℕ) (r : Answer) → IsDigestSize hash size

@@ -3,11 +3,11 @@ use Rattle.std.proofs.Common.{◌≡◌, ℕ, ◌<◌, ◌≤◌, true, Option, 
 use Rattle.std.specs.Prelude.{◌↔◌, ◌==◌, ◌&&◌, if◌then◌else◌}
 use Rattle.std.proofs.lemmas.Bool.{cond_both, cond-true, eqb-true, eq-eqb, and_parts, and_from}
 use Rattle.std.proofs.lemmas.List.{append-nil, length-append}
-use Rattle.std.proofs.lemmas.List.Elements.{All-tail}
 use Rattle.tg_base32.specs.Laws.{TextLaws}
 use Rattle.tg_varint.specs.Computed.{varint, front_number}
 use Rattle.tg_varint.specs.Laws.{SpellingLaws}
 use Rattle.tg_varint.specs.Varint.{VarintSpelling}
+use Rattle.tg_bytes.specs.Lists.{AreBytes, behind_parts, rest_bytes}
 use Rattle.tg_cid.specs.Cid.{CidParts}
 use Rattle.tg_cid.specs.Spelling.{CidBytes, CidV1Bytes, CidText, IsDigestSize, Varints, codec_code, hash_code}
 use Rattle.tg_cid.specs.Computed.{with_number, with_codec, with_hash, is_digest_size, with_digest, size_then, hash_then, codec_then, version_one, cid_of, v1_bytes, cid_text}
@@ -19,13 +19,6 @@ use Rattle.tg_cid.proofs.Causes.{same_cid}
 use Rattle.tg_cid.proofs.Lengths.{name_bytes}
 use Rattle.tg_cid.proofs.Prefix.{one_is}
 use Rattle.tg_cid.proofs.Written.{size_most, one_written}
-
-abbrev AreBytes : List ℕ → Type 0
-AreBytes bytes = All (λ (b : ℕ). b < 256) bytes
-
-rest_bytes : (a rest : List ℕ) → AreBytes (a ++ rest) → AreBytes rest
-rest_bytes [] rest h = h
-rest_bytes (x ∷ a) rest h = rest_bytes a rest (All-tail (λ (b : ℕ). b < 256) x (a ++ rest) h)
 
 size_decides : (hash : HashKind) (size : ℕ) → (is_digest_size hash size ≡ true → IsDigestSize hash size) × (IsDigestSize hash size → is_digest_size hash size ≡ true)
 size_decides Sha256 size = (eqb-true size 32, eq-eqb size 32)
@@ -200,9 +193,6 @@ codec_computes DagPb make = refl
 hash_computes : (hash : HashKind) (size : ℕ) → IsDigestSize hash size → (make : HashKind → Option CidParts) → with_hash (hash_code hash) make ≡ make hash
 hash_computes Sha256 size h make = refl
 hash_computes Identity size h make = absurd h
-
-behind_parts : (a b digest bytes : List ℕ) → bytes ≡ a ++ b → bytes ++ digest ≡ a ++ (b ++ digest)
-behind_parts a b digest bytes e = ap (λ (l : List ℕ). l ++ digest) e ∙ append_assoc a b digest
 
 version_computes : SpellingLaws → (cid : CidParts) (bytes : List ℕ) → AreBytes bytes → CidV1Bytes cid bytes → version_one bytes ≡ Some cid
 version_computes laws cid bytes are h =

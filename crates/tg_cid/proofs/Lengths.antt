@@ -6,7 +6,8 @@ use Rattle.tg_varint.specs.Laws.{SpellingLaws}
 use Rattle.tg_varint.specs.Varint.{VarintSpelling}
 use Rattle.tg_cid.specs.Cid.{CidParts}
 use Rattle.tg_cid.specs.Spelling.{CidBytes, Varints, codec_code, hash_code}
-use Rattle.tg_cid.proofs.Written.{code_below, hash_below, size_most}
+use Rattle.tg_cid.proofs.Written.{size_most}
+use Rattle.tg_cid.specs.CodeLaws.{codec_below, hash_below}
 
 varint_some : (n : ℕ) (a : List ℕ) → VarintSpelling n a → 0 < length a
 varint_some n a v = let long : length a ≡ length v.front + 1 = ap length v.whole ∙ length_push v.front v.last in omega arith
@@ -42,7 +43,7 @@ name_most laws cid name (inr h) =
     let l = k.4 in
     let digest : length cid.digest ≤ 128 = size_most cid.hash (length cid.digest) h.size in
     let a : length n.0 ≤ 1 = laws.at_most 1 1 n.0 (omega arith) (omega arith) n.3 in
-    let b : length m.0 ≤ 1 = laws.at_most (codec_code cid.codec) 1 m.0 (omega arith) (code_below cid.codec) m.3 in
+    let b : length m.0 ≤ 1 = laws.at_most (codec_code cid.codec) 1 m.0 (omega arith) (codec_below cid.codec) m.3 in
     let c : length k.0 ≤ 1 = laws.at_most (hash_code cid.hash) 1 k.0 (omega arith) (hash_below cid.hash) k.3 in
     let d : length l.0 ≤ 2 = laws.at_most (length cid.digest) 2 l.0 (omega arith) (omega arith) l.3 in
     let e : length h.head ≡ length n.0 + length n.1 = ap length n.2 ∙ length-append n.0 n.1 in

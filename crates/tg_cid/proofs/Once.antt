@@ -9,6 +9,7 @@ use Rattle.tg_cid.specs.declared.cid.Codec.TheVariants.{Raw, DagPb}
 use Rattle.tg_cid.specs.declared.cid.HashKind.{HashKind}
 use Rattle.tg_cid.specs.declared.cid.HashKind.TheVariants.{Sha256, Identity}
 use Rattle.tg_cid.proofs.Places.{one_number, not_both, one_fault}
+use Rattle.tg_cid.specs.CodeLaws.{code_is}
 
 pub one_then : SpellingLaws → (bytes : List ℕ) (at : ℕ) (P Q : ℕ → ℕ → Type 0) (r s : Answer)
     → ((number next : ℕ) → P number next → Q number next → r ≡ s)
@@ -66,10 +67,6 @@ one_hash laws codec bytes at r s = one_then laws bytes at _ _ r s (λ number nex
         one_size laws codec q.0 bytes next r s (subst (λ (hash : HashKind). SizeThen codec hash bytes next r) same p.3) q.3
   ]
 ])
-
-pub code_is : (codec : Codec) → IsCodec (codec_code codec)
-code_is Raw = inl refl
-code_is DagPb = inr refl
 
 one_code : (a b : Codec) → codec_code a ≡ codec_code b → a ≡ b
 one_code Raw Raw e = refl

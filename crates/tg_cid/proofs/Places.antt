@@ -1,13 +1,14 @@
 -- Numbers that are spelled one after another: there is one at a place, and a list of them is read from the front.
 use Rattle.std.proofs.Common.{◌≡◌, ℕ, ◌+◌, ◌≤◌, ◌⊎◌, List, [], ◌∷◌, ◌++◌, length, drop, refl, ap, sym, ◌∙◌, inl, inr, arith}
-use Rattle.std.proofs.lemmas.List.{append_assoc, append-nil, drop-drop, drop_at, length-append}
-use Rattle.tg_varint.specs.Varint.{VarintSpelling, EndsInside, PassesNine, EndsInZero}
+use Rattle.std.proofs.lemmas.List.{append_assoc, drop-drop, drop_at, length-append}
+use Rattle.tg_varint.specs.Varint.{EndsInside, PassesNine, EndsInZero}
 use Rattle.tg_varint.specs.Laws.{SpellingLaws, Begins}
 use Rattle.tg_varint.specs.Laws.VarintFront.{spelled, inside, too_long, not_shortest}
 use Rattle.tg_cid.specs.Faults.{Follows}
 use Rattle.tg_cid.specs.Reading.{NumberAt, NoNumberAt}
 use Rattle.tg_cid.specs.Spelling.{Varints}
 use Rattle.tg_cid.specs.declared.fault.CidFault.{CidFault}
+use Rattle.tg_cid.specs.CodeLaws.{varints_push}
 
 pub one_number : SpellingLaws → {bytes : List ℕ} {at m n x y : ℕ} → NumberAt bytes at m x → NumberAt bytes at n y → (m ≡ n) × (x ≡ y)
 one_number laws {bytes} {at} {m} {n} a b =
@@ -42,18 +43,6 @@ drop_number {bytes} {at} a =
     ap (λ n. drop n bytes) a.next_is
     ∙ (sym (drop-drop (length a.spelling) at bytes)
     ∙ (ap (λ l. drop (length a.spelling) l) a.whole ∙ drop_at a.spelling a.rest (length a.spelling) refl))
-
-varints_push : (numbers front : List ℕ) (number : ℕ) (spelling : List ℕ) → Varints numbers front → VarintSpelling number spelling
-    → Varints (numbers ++ number ∷ []) (front ++ spelling)
-varints_push [] front number spelling e v =
-    (spelling, [], ap (λ l. l ++ spelling) e ∙ sym (append-nil spelling), v, refl)
-varints_push (n ∷ numbers) front number spelling h v = (
-  h.0,
-  h.1 ++ spelling,
-  ap (λ l. l ++ spelling) h.2 ∙ append_assoc h.0 h.1 spelling,
-  h.3,
-  varints_push numbers h.1 number spelling h.4 v,
-)
 
 pub follows_none : (bytes : List ℕ) → Follows [] bytes 0 (drop 0 bytes)
 follows_none bytes = record { front = []; whole = refl; at_is = refl; spelled = refl }

@@ -11,7 +11,7 @@ use Rattle.tg_cid.specs.declared.cid.HashKind.{HashKind}
 use Rattle.tg_cid.specs.declared.cid.Codec.{Codec}
 use Rattle.tg_cid.specs.declared.fault.CidFault.{CidFault}
 use Rattle.tg_cid.proofs.Places.{follows_none, follows_more}
-use Rattle.tg_cid.proofs.Once.{code_is}
+use Rattle.tg_cid.specs.CodeLaws.{code_is}
 
 -- the CID stands at the front, or the cause of the refusal holds
 abbrev pub Told : List ℕ → Answer → Type 0

@@ -5,18 +5,9 @@ use Rattle.tg_varint.specs.Laws.{SpellingLaws}
 use Rattle.tg_varint.specs.Varint.{VarintSpelling}
 use Rattle.tg_cid.specs.Cid.{CidParts}
 use Rattle.tg_cid.specs.Spelling.{CidV1Bytes, IsDigestSize, Varints, codec_code, hash_code}
-use Rattle.tg_cid.specs.declared.cid.Codec.{Codec}
-use Rattle.tg_cid.specs.declared.cid.Codec.TheVariants.{Raw, DagPb}
 use Rattle.tg_cid.specs.declared.cid.HashKind.{HashKind}
 use Rattle.tg_cid.specs.declared.cid.HashKind.TheVariants.{Sha256, Identity}
-
-pub code_below : (codec : Codec) → codec_code codec < 128
-code_below Raw = omega arith
-code_below DagPb = omega arith
-
-pub hash_below : (hash : HashKind) → hash_code hash < 128
-hash_below Sha256 = omega arith
-hash_below Identity = omega arith
+use Rattle.tg_cid.specs.CodeLaws.{codec_below, hash_below}
 
 pub size_most : (hash : HashKind) (size : ℕ) → IsDigestSize hash size → size ≤ 128
 size_most Sha256 size h = omega arith
@@ -36,7 +27,7 @@ four_numbers laws cid spelling v =
         code ∷ [],
         hash ∷ spelling,
         refl,
-        laws.one_byte code (code_below cid.codec),
+        laws.one_byte code (codec_below cid.codec),
         (hash ∷ [], spelling, refl, laws.one_byte hash (hash_below cid.hash), (spelling, [], sym (append-nil spelling), v, refl)),
       ),
     )

@@ -6,5 +6,7 @@ pub mod Digest
 pub mod Faults
 pub mod Reading
 pub mod Computed
+pub mod CodeLaws
 pub mod Fewest
 pub mod Laws
+pub mod TextLaws

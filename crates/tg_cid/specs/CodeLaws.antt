@@ -1,0 +1,101 @@
+-- What holds of the numbers of codecs and hashes, of the tests whether two are equal, and of digests.
+use Rattle.std.proofs.Common.{◌≡◌, ℕ, ◌<◌, Bool, true, false, List, length, refl, ap, inl, inr, length-append, append_assoc, append-nil, sym, ◌∙◌, [], ◌∷◌, ◌++◌, arith}
+use Rattle.std.specs.Coded.{Coded-set, coded_list, coded_ℕ}
+use Rattle.tg_cid.specs.Cid.{CidParts}
+use Rattle.tg_cid.specs.Computed.{v1_bytes}
+use Rattle.tg_cid.specs.Names.{IsDigestOf, Names}
+use Rattle.tg_cid.specs.Faults.{IsCodec}
+use Rattle.tg_cid.specs.Spelling.{IsDigestSize, IsTaken, Varints, codec_code, hash_code}
+use Rattle.tg_cid.specs.declared.cid.Codec.{Codec}
+use Rattle.tg_cid.specs.declared.cid.Codec.TheVariants.{Raw, DagPb}
+use Rattle.tg_cid.specs.declared.cid.HashKind.{HashKind}
+use Rattle.tg_cid.specs.declared.cid.HashKind.TheVariants.{Sha256, Identity}
+use Rattle.tg_varint.specs.Computed.{varint}
+use Rattle.tg_varint.specs.Varint.{VarintSpelling}
+
+-- ---- numbers
+
+-- the numbers of codecs and of hashes are varints of one byte
+pub codec_below : (codec : Codec) → codec_code codec < 128
+codec_below Raw = omega arith
+codec_below DagPb = omega arith
+
+pub hash_below : (hash : HashKind) → hash_code hash < 128
+hash_below Sha256 = omega arith
+hash_below Identity = omega arith
+
+-- a codec's number is one of a codec
+pub code_is : (codec : Codec) → IsCodec (codec_code codec)
+code_is Raw = inl refl
+code_is DagPb = inr refl
+
+-- a hash whose digests have a size is one that is taken
+pub size_taken : (hash : HashKind) (size : ℕ) → IsDigestSize hash size → IsTaken hash
+size_taken Sha256 size h = tt
+size_taken Identity size h = h
+
+-- one number more behind others
+pub varints_push : (numbers front : List ℕ) (number : ℕ) (spelling : List ℕ) → Varints numbers front → VarintSpelling number spelling
+    → Varints (numbers ++ number ∷ []) (front ++ spelling)
+varints_push [] front number spelling e v =
+    (spelling, [], ap (λ (l : List ℕ). l ++ spelling) e ∙ sym (append-nil spelling), v, refl)
+varints_push (n ∷ numbers) front number spelling h v = (
+  h.0,
+  h.1 ++ spelling,
+  ap (λ (l : List ℕ). l ++ spelling) h.2 ∙ append_assoc h.0 h.1 spelling,
+  h.3,
+  varints_push numbers h.1 number spelling h.4 v,
+)
+
+-- a digest of 32 bytes makes 36 bytes of a CIDv1
+pub v1_length : (cid : CidParts) → length cid.digest ≡ 32 → length (v1_bytes cid) ≡ 36
+v1_length cid size =
+    let joined = length-append (varint (length cid.digest)) cid.digest in
+    let number : length (varint (length cid.digest)) ≡ 1 = ap (λ (n : ℕ). length (varint n)) size in
+    omega (arith, joined, number, size)
+
+-- ---- tests
+
+-- whether two codecs are equal
+abbrev pub same_codec : Codec → Codec → Bool
+same_codec Raw Raw = true
+same_codec Raw DagPb = false
+same_codec DagPb Raw = false
+same_codec DagPb DagPb = true
+
+-- whether two hashes are equal
+abbrev pub same_hash : HashKind → HashKind → Bool
+same_hash Sha256 Sha256 = true
+same_hash Sha256 Identity = false
+same_hash Identity Sha256 = false
+same_hash Identity Identity = true
+
+pub same_codec_is : (a b : Codec) → same_codec a b ≡ true → a ≡ b
+same_codec_is Raw Raw h = refl
+same_codec_is Raw DagPb h = cc
+same_codec_is DagPb Raw h = cc
+same_codec_is DagPb DagPb h = refl
+
+pub same_codec_self : (a : Codec) → same_codec a a ≡ true
+same_codec_self Raw = refl
+same_codec_self DagPb = refl
+
+pub same_hash_is : (a b : HashKind) → same_hash a b ≡ true → a ≡ b
+same_hash_is Sha256 Sha256 h = refl
+same_hash_is Sha256 Identity h = cc
+same_hash_is Identity Sha256 h = cc
+same_hash_is Identity Identity h = refl
+
+pub same_hash_self : (a : HashKind) → same_hash a a ≡ true
+same_hash_self Sha256 = refl
+same_hash_self Identity = refl
+
+-- ---- digests
+
+digest-prop : (hash : HashKind) (digest block : List ℕ) → IsProp (IsDigestOf hash digest block)
+digest-prop Sha256 digest block = Coded-set (coded_list coded_ℕ) _ _
+digest-prop Identity digest block = λ x y. absurd x
+
+-- that a CID names a block has one proof
+pub Names-prop : (cid : CidParts) (block : List ℕ) → IsProp (Names cid block)
+Names-prop cid block = digest-prop cid.hash cid.digest block
