@@ -9,6 +9,7 @@ use Rattle.tg_laws.proofs.OpenedDags.{Collision, OneKind, opened_or_collision}
 use Rattle.tg_laws.specs.PartialDags.{OpenedFrom, alone, opened, same_bare, unseen}
 use Rattle.tg_laws.proofs.TerminalTexts.{traversal-text}
 use Rattle.tg_laws.proofs.Terminals.{traversal_whole}
+use Rattle.tg_laws.specs.PathStops.{path_stops}
 use Rattle.tg_model.specs.Answer.{answer, is_listed, node_text}
 use Rattle.tg_model.specs.Counts.{counts}
 use Rattle.tg_model.specs.Dag.{Dag, Section, blocks, node, root_cid}
@@ -16,7 +17,7 @@ use Rattle.tg_model.specs.Ends.{StopsAlike}
 use Rattle.tg_model.specs.Fits.{CollisionPair, Fits, HasOneBlockEach, IfOnce, IsFrontOfAnswer, IsInProgress, IsOpenedFor, is_late_terminal, output_so_far, so_far, whole_text}
 use Rattle.tg_model.specs.LimitNumbers.{AreWithin}
 use Rattle.tg_model.specs.Lookup.{lookup_path}
-use Rattle.tg_model.specs.PathWalk.{PathEnd, Spot, Stop, TraversalEnd, gone, not_folder, not_reached, not_there, path_walk, stopped, terminal, whole}
+use Rattle.tg_model.specs.PathWalk.{PathEnd, Spot, Stop, TraversalEnd, gone, not_folder, not_there, path_walk, stopped, terminal, whole}
 use Rattle.tg_model.specs.Queries.{QueryParts, SpanParts}
 use Rattle.tg_model.specs.Sound.{IsSound, top}
 use Rattle.tg_model.specs.Traversal.{Place, Traversal, block_list, from_end, opened_list, traversal}
@@ -45,10 +46,6 @@ or_pair one_kind q d s sections P sound root right e h =
     (opened_or_collision one_kind top s d sound.whole right.checked sound.checked (right.root ∙ sym root))
 
 -- ---- the end
-
--- a path that leads to no terminal stops the traversal
-path_stops : (q : QueryParts) (d : Dag) (stop : Stop) → (path_walk q.path d).end ≡ not_reached stop → (traversal q d).end ≡ stopped stop
-path_stops q d stop e = ap (λ (end : PathEnd). (from_end end q.scope q.span (length (path_walk q.path d).sections + 1)).end) e
 
 -- where the traversal of a sound DAG stops, the look-up ends as it
 stops_alike : (q : QueryParts) (d : Dag) (stop : Stop) → IsSound d → (traversal q d).end ≡ stopped stop → StopsAlike stop (lookup_path q.path d)

@@ -9,6 +9,7 @@ use Rattle.tg_model.specs.Sound.{AreCheckedAt, IsChecked, IsCheckedAt, IsFileKin
 use Rattle.tg_model.specs.declared.kinds.Kind.{Kind}
 use Rattle.tg_model.specs.declared.kinds.Kind.TheVariants.{File, Raw}
 use Rattle.tg_model.specs.declared.kinds.Part.{Part}
+use Rattle.tg_laws.specs.Contents.{no_content}
 
 -- no block is told alone
 abbrev mutual
@@ -33,14 +34,9 @@ mutual
   children_read no_child w = tt
   children_read (with_child d children) w = (whole_read d w.0, children_read children w.1)
 
--- children that aren't parts give no content
-no-content : (children : Children) → content_of_children [] children ≡ []
-no-content no_child = refl
-no-content (with_child d children) = refl
-
 -- the content of a raw block
 raw-length : (section : Section) (children : Children) → length (section.block ++ content_of_children [] children) ≡ length section.block
-raw-length section children = omega (arith, length-append section.block (content_of_children [] children), ap length (no-content children))
+raw-length section children = omega (arith, length-append section.block (content_of_children [] children), ap length (no_content children))
 
 -- the content of a file, by those of its parts
 file-length : (inline : List ℕ) (parts : List Part) (children : Children) → length (content_of_children (map (λ p. part p.size) parts) children) ≡ sum (map (λ p. p.size) parts)

@@ -1,81 +1,19 @@
 -- What stores hold that sections were kept in.
 use Rattle.std.proofs.Common.{◌≡◌, ◌≢◌, ◌⊎◌, ◌≤◌, ◌++◌, ◌∷◌, ℕ, Bool, true, false, List, [], All, Decides, Option, Some, None, inl, inr, length, refl, sym, ap, ◌∙◌, subst, true≢false}
-use Rattle.std.specs.Prelude.{bytes_eq, unwrap_or, ◌&&◌}
-use Rattle.std.proofs.lemmas.Bool.{and_from, and_parts}
+use Rattle.std.specs.Prelude.{bytes_eq, unwrap_or}
 use Rattle.std.proofs.lemmas.List.Elements.{All-cons, All-head, All-nil, All-tail}
 use Rattle.std.proofs.lemmas.Slice.Eq.{bytes_eq-Decides}
 use Rattle.tg_cid.specs.Cid.{CidParts}
 use Rattle.tg_cid.specs.Names.{Names}
-use Rattle.tg_cid.specs.declared.cid.Codec.{Codec}
 use Rattle.tg_cid.specs.declared.cid.Codec.TheVariants as codecs
-use Rattle.tg_cid.specs.declared.cid.HashKind.{HashKind}
 use Rattle.tg_cid.specs.declared.cid.HashKind.TheVariants as hashes
+use Rattle.tg_model.specs.SameForm.{named_too, v1_or_not}
 use Rattle.tg_laws.proofs.OpenedDags.{one_hash}
 use Rattle.tg_laws.specs.Stores.{BlocksCollide, MayKeep}
 use Rattle.tg_model.specs.Dag.{Section}
 use Rattle.tg_model.specs.Stores.{Adds, AddsEach, AreKeptAs, IsStore, Store, as_v1}
 
 -- ---- one version 1 form
-
--- whether CIDs have one version 1 form
-abbrev same_codec : Codec → Codec → Bool
-same_codec codecs.Raw codecs.Raw = true
-same_codec codecs.Raw codecs.DagPb = false
-same_codec codecs.DagPb codecs.Raw = false
-same_codec codecs.DagPb codecs.DagPb = true
-
-abbrev same_kind : HashKind → HashKind → Bool
-same_kind hashes.Sha256 hashes.Sha256 = true
-same_kind hashes.Sha256 hashes.Identity = false
-same_kind hashes.Identity hashes.Sha256 = false
-same_kind hashes.Identity hashes.Identity = true
-
-abbrev same_v1 : CidParts → CidParts → Bool
-same_v1 a b = same_codec a.codec b.codec && (same_kind a.hash b.hash && bytes_eq a.digest b.digest)
-
-codec_is : (a b : Codec) → same_codec a b ≡ true → a ≡ b
-codec_is codecs.Raw codecs.Raw h = refl
-codec_is codecs.Raw codecs.DagPb h = cc
-codec_is codecs.DagPb codecs.Raw h = cc
-codec_is codecs.DagPb codecs.DagPb h = refl
-
-kind_is : (a b : HashKind) → same_kind a b ≡ true → a ≡ b
-kind_is hashes.Sha256 hashes.Sha256 h = refl
-kind_is hashes.Sha256 hashes.Identity h = cc
-kind_is hashes.Identity hashes.Sha256 h = cc
-kind_is hashes.Identity hashes.Identity h = refl
-
-codec_self : (a : Codec) → same_codec a a ≡ true
-codec_self codecs.Raw = refl
-codec_self codecs.DagPb = refl
-
-kind_self : (a : HashKind) → same_kind a a ≡ true
-kind_self hashes.Sha256 = refl
-kind_self hashes.Identity = refl
-
-v1_is : (a b : CidParts) → same_v1 a b ≡ true → as_v1 a ≡ as_v1 b
-v1_is a b h =
-    let codecs = and_parts _ _ h in
-    let rest = and_parts _ _ codecs.1 in
-    let c : a.codec ≡ b.codec = codec_is a.codec b.codec codecs.0 in
-    let k : a.hash ≡ b.hash = kind_is a.hash b.hash rest.0 in
-    let d : a.digest ≡ b.digest = (bytes_eq-Decides a.digest b.digest).0 rest.1 in
-    λ i. record { version = 1; codec = c i; hash = k i; digest = d i }
-
-v1_self : (a : CidParts) → same_v1 a a ≡ true
-v1_self a = and_from _ _ (codec_self a.codec) (and_from _ _ (kind_self a.hash) ((bytes_eq-Decides a.digest a.digest).1 refl))
-
-is_v1 : (a b : CidParts) → as_v1 a ≡ as_v1 b → same_v1 a b ≡ true
-is_v1 a b e = ap (λ (cid : CidParts). same_v1 cid b) e ∙ v1_self b
-
--- they have it or not
-v1_or_not : (a b : CidParts) (test : Bool) → same_v1 a b ≡ test → (as_v1 a ≡ as_v1 b) ⊎ (as_v1 a ≢ as_v1 b)
-v1_or_not a b true e = inl (v1_is a b e)
-v1_or_not a b false e = inr (λ same. true≢false (sym (is_v1 a b same) ∙ e))
-
--- a CID names what another of its form names
-named_too : (a b : CidParts) (block : List ℕ) → as_v1 a ≡ as_v1 b → Names b block → Names a block
-named_too a b block e n = subst (λ (c : CidParts). Names c block) (sym e) n
 
 -- ---- one section
 
@@ -86,7 +24,7 @@ twins_alike store a b is e = is.twins a ∙ ap store e ∙ sym (is.twins b)
 -- what was stored under a CID stays there
 one_stays : (old new : Store) (cid other : CidParts) (block found : List ℕ) → IsStore old → Adds old new cid block → old other ≡ Some found → new other ≡ Some found
 one_stays old new cid other block found is adds e =
-    elim (v1_or_not other cid (same_v1 other cid) refl) [
+    elim (v1_or_not other cid) [
       | inl same ↦
           let there : old cid ≡ Some found = sym (twins_alike old other cid is same) ∙ e in
           adds.here other same ∙ ap (λ (o : Option (List ℕ)). Some (unwrap_or o block)) there
@@ -102,7 +40,7 @@ found_or_block (Some held) block found e = inl (e)
 from_either : (old new : Store) (cid other : CidParts) (block found : List ℕ) → IsStore old → Adds old new cid block → new other ≡ Some found
     → (old other ≡ Some found) ⊎ ((as_v1 other ≡ as_v1 cid) × (block ≡ found))
 from_either old new cid other block found is adds e =
-    elim (v1_or_not other cid (same_v1 other cid) refl) [
+    elim (v1_or_not other cid) [
       | inl same ↦ elim (found_or_block (old cid) block found (sym (adds.here other same) ∙ e)) [
         | inl held ↦ inl (twins_alike old other cid is same ∙ held)
         | inr mine ↦ inr (same, mine)
@@ -113,7 +51,7 @@ from_either old new cid other block found is adds e =
 -- the store is still one
 one_store : (old new : Store) (section : Section) → IsStore old → MayKeep section → Adds old new section.cid section.block → IsStore new
 one_store old new section is may adds = record {
-  twins = λ cid. elim (v1_or_not cid section.cid (same_v1 cid section.cid) refl) [
+  twins = λ cid. elim (v1_or_not cid section.cid) [
     | inl same ↦ adds.here cid same ∙ sym (adds.here (as_v1 cid) same)
     | inr differs ↦ adds.others cid differs ∙ is.twins cid ∙ sym (adds.others (as_v1 cid) differs)
   ];

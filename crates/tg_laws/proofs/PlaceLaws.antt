@@ -79,7 +79,7 @@ stood slots (Some name) h = ap not (each_has name 0 slots (λ level slot here. l
 stood slots None h = refl
 
 -- a first fault that isn't there, or is none
-no_first : (test : Bool) (fault : BlockFault) (later : Option BlockFault) → cond test (Some fault) later ≡ None → (test ≡ false) × (later ≡ None)
+pub no_first : (test : Bool) (fault : BlockFault) (later : Option BlockFault) → cond test (Some fault) later ≡ None → (test ≡ false) × (later ≡ None)
 no_first true fault later h = cc
 no_first false fault later h = (refl, h)
 

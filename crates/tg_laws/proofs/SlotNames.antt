@@ -1,14 +1,14 @@
 -- An entry stands behind the slots of its name, so behind other slots no shard has an entry of that name.
-use Rattle.std.proofs.Common.{◌≡◌, ℕ, ◌+◌, ◌≤◌, Bool, true, false, cond, not, List, [], ◌∷◌, ◌++◌, map, length, Option, Some, None, inl, inr, refl, sym, ap, ◌∙◌, arith}
+use Rattle.std.proofs.Common.{◌≡◌, ℕ, ◌+◌, ◌≤◌, true, false, cond, not, List, [], ◌∷◌, ◌++◌, map, length, Option, Some, None, inl, inr, refl, sym, ap, ◌∙◌, arith}
 use Rattle.std.specs.Prelude.{◌==◌, bytes_eq, nat_lt}
 use Rattle.std.proofs.lemmas.Bool.{and_cases, and_left, and_right, cond_both, ne_eqb, not-false}
 use Rattle.std.proofs.lemmas.Slice.Eq.{bytes_eq-Decides}
 use Rattle.tg_laws.proofs.SlotNumbers.{Ascends, AreAscending, numbers_of, reads_ascending}
+use Rattle.tg_laws.proofs.PlaceLaws.{no_first}
 use Rattle.tg_model.specs.Content.{DirEntry, entries, entries_of_slots, slot_entries}
 use Rattle.tg_model.specs.Dag.{Dag, Children, Section, with_child, node}
 use Rattle.tg_model.specs.Lookup.{entry_named}
 use Rattle.tg_model.specs.Sound.{AreCheckedAt, IsCheckedAt, IsNodeAt, Position, child, has_slots, is_misplaced, is_name_elsewhere, misplaced_from, part, passed, position_by_name, position_fault, shard_fault, slot_position, top}
-use Rattle.tg_model.specs.declared.fault.BlockFault.{BlockFault}
 use Rattle.tg_model.specs.declared.kinds.Kind.TheVariants.{Basic, Shard}
 use Rattle.tg_model.specs.declared.kinds.Slot.{Slot}
 use Rattle.tg_murmur.specs.NameHash.{slot_of}
@@ -41,24 +41,19 @@ pub record StandBehind (above : List ℕ) (low : ℕ) (slots : List Slot) (child
   pub placed : misplaced_from at above slots ≡ None
   pub checked : AreCheckedAt (map (slot_position above) slots) children
 
--- a first fault that isn't there
-no_fault : (test : Bool) (fault : BlockFault) (later : Option BlockFault) → cond test (Some fault) later ≡ None → (test ≡ false) × (later ≡ None)
-no_fault true fault later h = cc
-no_fault false fault later h = (refl, h)
-
 -- the slots behind the first
 pub rest_stand : (above : List ℕ) (low : ℕ) (slot : Slot) (slots : List Slot) (d : Dag) (children : Children) → StandBehind above low (slot ∷ slots) (with_child d children) → StandBehind above (slot.slot + 1) slots children
 rest_stand above low slot slots d children h = record {
   at = h.at + 1;
   high = h.high;
   ascends = h.ascends.1;
-  placed = (no_fault (is_misplaced above slot) _ _ h.placed).1;
+  placed = (no_first (is_misplaced above slot) _ _ h.placed).1;
   checked = h.checked.1;
 }
 
 -- the first slot's entry stands behind the slots of its name
 pub first_placed : (above : List ℕ) (low : ℕ) (slot : Slot) (slots : List Slot) (d : Dag) (children : Children) → StandBehind above low (slot ∷ slots) (with_child d children) → is_misplaced above slot ≡ false
-first_placed above low slot slots d children h = (no_fault (is_misplaced above slot) _ _ h.placed).0
+first_placed above low slot slots d children h = (no_first (is_misplaced above slot) _ _ h.placed).0
 
 -- what a shard has to be where it stands
 no_shard_fault : (position : Position) (slots : List Slot) → position_fault position (Shard slots) ≡ None → shard_fault (passed position) slots ≡ None
@@ -75,7 +70,7 @@ shard_stands position section slots children h checked =
       at = 0;
       high = ascending.high;
       ascends = ascending.ascends;
-      placed = (no_fault (nat_lt 7 (length (passed position))) _ _ (no_shard_fault position slots h.stands)).1;
+      placed = (no_first (nat_lt 7 (length (passed position))) _ _ (no_shard_fault position slots h.stands)).1;
       checked = checked;
     }
 

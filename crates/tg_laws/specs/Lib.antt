@@ -1,7 +1,9 @@
+pub mod Contents
 pub mod Depths
 pub mod Fronts
 pub mod Openings
 pub mod PartialDags
+pub mod PathStops
 pub mod Places
 pub mod Standing
 pub mod Steps

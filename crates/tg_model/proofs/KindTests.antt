@@ -113,7 +113,7 @@ count_told bits links e =
     (ltb-false 32 (length bits) (not-true (nat_lt 32 (length bits)) few), eqb-true (length (used_slots bits)) (length links) many)
 
 -- and the converse
-count_ok : (bits : List ℕ) (links : List Link) → length bits ≤ 32 → length (used_slots bits) ≡ length links → is_wrong_count bits links ≡ false
+pub count_ok : (bits : List ℕ) (links : List Link) → length bits ≤ 32 → length (used_slots bits) ≡ length links → is_wrong_count bits links ≡ false
 count_ok bits links few many =
     not_from_true (not (nat_lt 32 (length bits)) && length (used_slots bits) == length links)
     (and_from (not (nat_lt 32 (length bits))) (length (used_slots bits) == length links)

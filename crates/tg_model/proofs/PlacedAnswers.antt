@@ -1,5 +1,5 @@
 -- Answers in place beside computed ones.
-use Rattle.std.proofs.Common.{◌≡◌, ℕ, ◌+◌, ◌-◌, ◌<◌, ◌≤◌, ◌⊎◌, inl, inr, Some, None, Option, Ok, Err, Result, List, [], ◌∷◌, length, min, sum, map, drop, suc, eq-eqb, refl, sym, ap, ap₂, ◌∙◌, subst, arith}
+use Rattle.std.proofs.Common.{◌≡◌, ℕ, ◌+◌, ◌-◌, ◌<◌, ◌≤◌, ◌⊎◌, inl, inr, Some, None, Option, Ok, Err, Result, List, [], ◌∷◌, length, min, sum, map, drop, suc, eq-eqb, refl, sym, ap, ◌∙◌, subst, arith}
 use Rattle.std.specs.Prelude.{⊤, Bool, false, true, nat_lt, not, ◌&&◌, ◌==◌, ◌^◌, IfErr, IfOk, MatchResult, slice_range, unwrap_or}
 use Rattle.std.proofs.lemmas.Bool.{le-ltb, lt-ltb, ne_eqb}
 use Rattle.std.proofs.lemmas.List.{length-drop, length-take-le}
@@ -25,6 +25,7 @@ use Rattle.tg_model.specs.declared.placed.DataPlaces.{DataPlaces}
 use Rattle.tg_model.specs.declared.placed.FilePlaces.{FilePlaces}
 use Rattle.tg_model.specs.declared.placed.PlacedKind.{PlacedKind}
 use Rattle.tg_model.specs.declared.placed.PlacedKind.TheVariants as placed
+use Rattle.tg_model.proofs.KindTests.{count_ok}
 use Rattle.tg_pbtable.specs.Laws.{PlaceLaws}
 use Rattle.tg_pbtable.specs.Place.{AreInside, IsInside, bytes_of, placed_bytes}
 use Rattle.tg_pbtable.specs.declared.fault.PbFault.{PbFault}
@@ -74,13 +75,6 @@ pub cursor_in : (block : List ℕ) (result : Result PlacedKind BlockFault) (IsKi
     → IfOk result (λ found. HasPartCursor block found)
 cursor_in block (Ok found) IsKind h = cursor_of block found h.0 h.2
 cursor_in block (Err fault) IsKind h = tt
-
--- a kind in place stands for the kind that is computed
-pub kind_of : (block : List ℕ) (placed : PlacedKind) (computed : Result Kind BlockFault)
-    → GivesPlaced block (Ok placed) computed → (kind : Kind) × (computed ≡ Ok kind) × StandsForKind block placed kind
-kind_of block placed (Ok kind) (inl h) = (kind, refl, h)
-kind_of block placed (Err fault) (inl h) = absurd h
-kind_of block placed computed (inr h) = let wrong : ◌≡◌ {A = Result PlacedKind BlockFault} (Ok placed) (Err faults.OutOfMemory) = h.0 in absurd (cc)
 
 -- the file that is copied is the one that stands at the places
 pub file_is : (block : List ℕ) (places : FilePlaces) (kind : Kind) (inline : List ℕ) (parts : List Part) → StandsForKind block (placed.File places) kind → inline ≡ bytes_of block places.inline
@@ -300,18 +294,13 @@ shard_takes links cids bits e =
     subst (λ (at : Option ℕ). TakesMemory (unless_at at faults.BadName (unless (is_wrong_count bits links) (faults.BadBits (used_count bits) (length links)) (slots >>= λ slots. Ok (Shard slots))))) e
     (unless_bits (is_wrong_count bits links) (used_count bits) (length links) (slots >>= λ slots. Ok (Shard slots)) (shard_of slots (slots_or_fault 0 (used_slots bits) links cids)))
 
--- at most 32 bytes of bits, and as many of them used as there are links
-right_count : (bits : List ℕ) (links : List Link) → length bits ≤ 32 → length (used_slots bits) ≡ length links → is_wrong_count bits links ≡ false
-right_count bits links few many =
-    ap₂ (λ (long equal : Bool). not (not long && equal)) (le-ltb 32 (length bits) few) (eq-eqb (length (used_slots bits)) (length links) many)
-
 -- then the slots decide
 shard_slots : (links : List Link) (cids : List CidParts) (bits : List ℕ) → None ≡ first_from has_bad_suffix 0 links → length bits ≤ 32 → length (used_slots bits) ≡ length links
     → shard_kind links cids bits ≡ (slots_from 0 (used_slots bits) links cids >>= λ slots. Ok (Shard slots))
 shard_slots links cids bits e few many =
     let rest = slots_from 0 (used_slots bits) links cids >>= λ slots. Ok (Shard slots) in
     ap (λ (at : Option ℕ). unless_at at faults.BadName (unless (is_wrong_count bits links) (faults.BadBits (used_count bits) (length links)) rest)) (sym e)
-    ∙ unless_fails (is_wrong_count bits links) (faults.BadBits (used_count bits) (length links)) rest (right_count bits links few many)
+    ∙ unless_fails (is_wrong_count bits links) (faults.BadBits (used_count bits) (length links)) rest (count_ok bits links few many)
 
 pub shard_gives : (block : List ℕ) (links : List Link) (cids : List CidParts) (bits : List ℕ) (fault : BlockFault) → None ≡ first_from has_bad_suffix 0 links → length bits ≤ 32
     → length (used_slots bits) ≡ length links → Gives (slots_from 0 (used_slots bits) links cids) (Err fault) → GivesPlaced block (Err fault) (shard_kind links cids bits)

@@ -15,11 +15,11 @@ use Rattle.tg_model.specs.declared.kinds.Kind.TheVariants.{Basic, File, Raw, Sha
 use Rattle.tg_murmur.specs.NameHash.{slot_of}
 use Rattle.tg_traverse.proofs.PathSteps.{path_misfit, path_opens, path_starts}
 use Rattle.tg_traverse.proofs.StoreSteps.{full_view}
-use Rattle.tg_traverse.proofs.TaskMaps.{depth_at_top, map_tasks, shown_children}
+use Rattle.tg_traverse.proofs.TaskMaps.{map_tasks, shown_children}
 use Rattle.tg_traverse.specs.PathStages.{AreWithinPath, IsPathEnd, IsResolved, IsWithinPath, LeadsToEnd, store_end}
 use Rattle.tg_traverse.specs.Stages.{IsOpened}
 use Rattle.tg_traverse.specs.StoreWalks.{section_of, shown_tasks, shown_at}
-use Rattle.tg_traverse.specs.Tasks.{Miss, Task, Want, dags_of, depth_of, link_tasks, node_want, open_block, path_want, position_below, segment_want, spot_of, start, step_tasks, stop_at, stop_of, tasks_of, terminal_want}
+use Rattle.tg_traverse.specs.Tasks.{Miss, Task, Want, dags_of, depth_of, link_tasks, node_want, open_block, path_want, position_below, segment_want, spot_of, start, step_tasks, stop_at, stop_of, tasks_of, terminal_want, depth_at_top}
 
 -- ---- how deep a path goes
 

@@ -14,10 +14,10 @@ use Rattle.tg_model.specs.Stores.{Store}
 use Rattle.tg_model.specs.Traversal.{ListedEntry, Place, Traversal, and_then, traversal}
 use Rattle.tg_model.specs.declared.fault.BlockFault.{BlockFault}
 use Rattle.tg_model.specs.declared.kinds.Kind.{Kind}
-use Rattle.tg_traverse.proofs.TaskMaps.{depth_at_top, map_both, map_entries, map_tasks, map_text, map_then, shown_children}
+use Rattle.tg_traverse.proofs.TaskMaps.{map_both, map_entries, map_tasks, map_text, map_then, shown_children}
 use Rattle.tg_traverse.specs.Stages.{Given, IsOpened, IsStage, StageLaws, ending, nothing_given, place_of, tasks_give, up_to_next, with_place}
 use Rattle.tg_traverse.specs.StoreWalks.{IsWalked, WalkEnds, WalkTooDeep, cut_at, cut_view, section_of, shown_tasks, shown_at}
-use Rattle.tg_traverse.specs.Tasks.{Miss, Task, Want, dags_of, depth_of, entries_now, fault_at, is_read_at, open_block, path_want, spot_of, start, stop_at, stop_of, tasks_of, tasks_then, text_at, text_now}
+use Rattle.tg_traverse.specs.Tasks.{Miss, Task, Want, dags_of, depth_of, entries_now, fault_at, is_read_at, open_block, path_want, spot_of, start, stop_at, stop_of, tasks_of, tasks_then, text_at, text_now, depth_at_top}
 
 -- ---- what is shown of a CID, a block deeper for the links
 

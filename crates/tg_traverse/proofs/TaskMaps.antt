@@ -10,15 +10,10 @@ use Rattle.tg_model.specs.Traversal.{ListedEntry, Reach, Visit, all_reach, entit
 use Rattle.tg_model.specs.declared.kinds.Kind.{Kind}
 use Rattle.tg_model.specs.declared.queries.Scope.{Scope}
 use Rattle.tg_model.specs.declared.queries.Scope.TheVariants as scopes
-use Rattle.tg_traverse.specs.Tasks.{Task, Want, child_then, children_tasks, dags_of, depth_of, entries_now, entries_then, give_entries, give_text, link_tasks, mapped, node_tasks, node_want, open_block, path_want, position_below, segment_want, step_tasks, stop_at, tasks_of, tasks_then, terminal_tasks, terminal_want, text_last, text_now}
+use Rattle.tg_traverse.specs.Tasks.{Task, Want, child_then, children_tasks, dags_of, depth_of, entries_now, entries_then, give_entries, give_text, link_tasks, mapped, node_tasks, node_want, open_block, path_want, position_below, segment_want, step_tasks, stop_at, tasks_of, tasks_then, terminal_tasks, terminal_want, text_last, text_now, depth_at_top}
 
 abbrev pub by_depth : {X Y : Type 0} → (ℕ → X → Y) → List (Task X) → List (Task Y)
 by_depth f tasks = mapped (λ w x. f (depth_of w) x) tasks
-
--- the depth at the top
-pub depth_at_top : (i : ℕ) (path : List (List ℕ)) (depth : ℕ) → depth_of (path_want i path depth) ≡ depth
-depth_at_top i [] depth = refl
-depth_at_top i (name ∷ path) depth = refl
 
 module _ (X Y : Type 0) (f : ℕ → X → Y) where
   abbrev changed : List (Task X) → List (Task Y)

@@ -1,7 +1,7 @@
 -- What is left of a traversal, as a list of tasks: places of which the blocks are to be opened, and texts and entries that are to be
 -- given. What stands at a place is told by its CID, or by a DAG (Trustless Gateway specification: dag-scope, entity-bytes, order dfs).
 use Rattle.tg_model.specs.declared.queries.Scope.TheVariants as scopes
-use Rattle.std.specs.Prelude.{Bool, List, None, Option, Some, [], length, not, suc, true, zero, ℕ, ◌++◌, ◌+◌, ◌∷◌}
+use Rattle.std.specs.Prelude.{Bool, List, None, Option, Some, [], length, not, refl, suc, true, zero, ℕ, ◌++◌, ◌+◌, ◌∷◌, ◌≡◌}
 use Rattle.tg_cid.specs.Cid.{CidParts}
 use Rattle.tg_model.specs.Dag.{Children, Dag, Section, no_child, with_child}
 use Rattle.tg_model.specs.Fits.{is_block}
@@ -63,6 +63,11 @@ is_read_at q (node_want reach position depth) = true
 abbrev pub path_want : ℕ → List (List ℕ) → ℕ → Want
 path_want i [] depth = terminal_want depth
 path_want i (name ∷ path) depth = segment_want i top name path depth
+
+-- the depth at the top
+pub depth_at_top : (i : ℕ) (path : List (List ℕ)) (depth : ℕ) → depth_of (path_want i path depth) ≡ depth
+depth_at_top i [] depth = refl
+depth_at_top i (name ∷ path) depth = refl
 
 -- of a query, before its first block
 abbrev pub start : {X : Type 0} → QueryParts → X → List (Task X)

@@ -1,5 +1,5 @@
 use Rattle.std.proofs.Common.{Ok, inl, sym, ap, ◌∙◌}
-use Rattle.tg_model.proofs.PlacedAnswers.{kind_of}
+use Rattle.tg_model.specs.PlacedLaws.{kind_of}
 use Rattle.tg_model.specs.Computed.{read}
 use Rattle.tg_model.specs.declared.kinds.Kind.{Kind}
 use Rattle.tg_model.proofs.reading.read_block.Goals as goal
