@@ -13,6 +13,4 @@ mod faults;
 #[cfg(test)]
 mod files;
 #[cfg(test)]
-mod stores;
-#[cfg(test)]
 mod walks;

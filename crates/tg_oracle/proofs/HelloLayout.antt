@@ -12,6 +12,7 @@ use Rattle.tg_model.specs.ImportLayout.{AreFull, AreSorted, HasPlainCid, IsImpor
 use Rattle.tg_model.specs.ShowsTree.{HasNamesOf, Shows}
 use Rattle.tg_model.specs.Sound.{top}
 use Rattle.tg_model.specs.declared.kinds.Entry.{Entry}
+use Rattle.tg_model.specs.FullLaws.{full_none, full_one}
 use Rattle.tg_oracle.proofs.HelloTexts.{Laws, d_written, f_written}
 use Rattle.tg_oracle.specs.HelloWorld.{IsHelloFolder, all_sections, d, f, f_cid, file_of, l1, l2, l3, leaf, options_of_four, whole_dag}
 
@@ -37,18 +38,6 @@ shows_folder tree file is =
     (has_names tree file is, ((file, here, is.bytes), tt))
 
 -- ---- the file's layout
-
--- no numbers are full
-full_none : (number : ℕ) → AreFull number []
-full_none number = record { full = λ i n before e. absurd (omega arith); last = λ i n is e. absurd (omega arith) }
-
--- one number is full where it is at most the number asked for
-last_one : (number n i m : ℕ) → n ≤ number → i + 1 ≡ 1 → slice_get (n ∷ []) i ≡ Some m → m ≤ number
-last_one number n zero m most is e = let same : n ≡ m = cc in subst (λ (k : ℕ). k ≤ number) same most
-last_one number n (suc i) m most is e = absurd (omega arith)
-
-full_one : (number n : ℕ) → n ≤ number → AreFull number (n ∷ [])
-full_one number n most = record { full = λ i m before e. absurd (omega arith); last = λ i m is e. last_one number n i m most is e }
 
 -- the chunks have 4 bytes, and the last one 3
 chunk_full : (i n : ℕ) → i + 1 < 3 → slice_get (4 ∷ 4 ∷ 3 ∷ []) i ≡ Some n → n ≡ 4

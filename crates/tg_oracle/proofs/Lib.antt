@@ -1,4 +1,3 @@
 mod HelloChecks
 mod HelloTexts
 mod HelloLayout
-mod BlockLogs

@@ -1,5 +1,2 @@
-pub mod BlockLog
-pub mod BlockLogLaws
 pub mod HelloWorld
-pub mod LoggedBlocks
 pub mod SmallDags

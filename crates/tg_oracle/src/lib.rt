@@ -1,20 +1,16 @@
 //! A plain and slow evaluator of queries over stored blocks. Tests of other crates compare their answers with its.
 #![tactic(auto)]
 
-mod block_log;
 mod evaluation;
 mod hello_world;
-mod logged_block;
 mod queries;
 mod ranges;
 mod sizes;
 mod small_dags;
 mod texts;
 
-pub use block_log::BlockLog;
 pub use evaluation::{End, Evaluation, EvaluationFault, Sent, StoredBlock, evaluate};
 pub use hello_world::{example_blocks, example_import, example_partial, example_whole};
-pub use logged_block::LoggedBlock;
 pub use queries::{QueryFault, ranged_query, scoped_query, span_of};
 pub use ranges::{bounds, is_met};
 pub use sizes::car_size;

@@ -1,7 +1,7 @@
 -- Blocks that are logged, as sections.
 use Rattle.tg_model.specs.Dag.{Section}
-use Rattle.tg_oracle.specs.BlockLogLaws.{IsGoodSection}
-use Rattle.tg_oracle.specs.declared.logged_block.LoggedBlock.{LoggedBlock}
+use Rattle.tg_block_log.specs.BlockLogLaws.{IsGoodSection}
+use Rattle.tg_block_log.specs.declared.logged_block.LoggedBlock.{LoggedBlock}
 
 -- the CID and the block
 abbrev pub section_of : LoggedBlock → Section

@@ -1,79 +1,14 @@
 -- What a log of sections tells is a store, to which each further section is added.
 use Rattle.std.specs.Prelude.{◌≡◌, ◌≢◌, ◌≤◌, ◌++◌, ◌∷◌, ℕ, Bool, true, false, cond, List, [], length, map, unwrap_or, Some, None, Option, refl, ⊤}
 use Rattle.tg_cid.specs.Limits.{max_block_len}
-use Rattle.std.specs.Coded.{Coded-set, coded_list, coded_ℕ}
 use Rattle.std.proofs.Common.{ap, sym, subst, ◌∙◌}
-use Rattle.std.proofs.lemmas.Bool.{and_parts, and_from}
 use Rattle.std.proofs.lemmas.List.{append-nil, append_assoc, map-append}
-use Rattle.std.proofs.lemmas.Slice.Eq.{bytes_eq-Decides}
 use Rattle.tg_cid.specs.Cid.{CidParts}
-use Rattle.tg_cid.specs.Names.{IsDigestOf, Names}
-use Rattle.tg_cid.specs.declared.cid.Codec.{Codec}
-use Rattle.tg_cid.specs.declared.cid.Codec.TheVariants.{Raw, DagPb}
-use Rattle.tg_cid.specs.declared.cid.HashKind.{HashKind}
-use Rattle.tg_cid.specs.declared.cid.HashKind.TheVariants.{Sha256, Identity}
+use Rattle.tg_cid.specs.Names.{Names}
 use Rattle.tg_model.specs.Dag.{Section}
 use Rattle.tg_model.specs.Stores.{Adds, IsNamedBlock, IsStore, Store, as_v1}
-use Rattle.tg_oracle.specs.BlockLog.{Logged, Searched, first_block, same_codec, same_hash, same_v1, section_v1}
-
--- that a digest is a block's has one proof
-digest-prop : (hash : HashKind) (digest block : List ℕ) → IsProp (IsDigestOf hash digest block)
-digest-prop Sha256 digest block = Coded-set (coded_list coded_ℕ) _ _
-digest-prop Identity digest block = λ x y. absurd x
-
--- that a CID names a block has one proof
-pub Names-prop : (cid : CidParts) (block : List ℕ) → IsProp (Names cid block)
-Names-prop cid block = digest-prop cid.hash cid.digest block
-
--- codecs that pass the test are equal
-same_codec_is : (a b : Codec) → same_codec a b ≡ true → a ≡ b
-same_codec_is Raw Raw h = refl
-same_codec_is Raw DagPb h = cc
-same_codec_is DagPb Raw h = cc
-same_codec_is DagPb DagPb h = refl
-
--- hashes that pass the test are equal
-same_hash_is : (a b : HashKind) → same_hash a b ≡ true → a ≡ b
-same_hash_is Sha256 Sha256 h = refl
-same_hash_is Sha256 Identity h = cc
-same_hash_is Identity Sha256 h = cc
-same_hash_is Identity Identity h = refl
-
--- a codec passes the test with itself
-same_codec_self : (a : Codec) → same_codec a a ≡ true
-same_codec_self Raw = refl
-same_codec_self DagPb = refl
-
--- a hash passes the test with itself
-same_hash_self : (a : HashKind) → same_hash a a ≡ true
-same_hash_self Sha256 = refl
-same_hash_self Identity = refl
-
--- CIDs that pass the test have one version 1 form
-pub same_v1_is : (a b : CidParts) → same_v1 a b ≡ true → as_v1 a ≡ as_v1 b
-same_v1_is a b h =
-    let codecs = and_parts _ _ h in
-    let rest = and_parts _ _ codecs.1 in
-    let c : a.codec ≡ b.codec = same_codec_is a.codec b.codec codecs.0 in
-    let k : a.hash ≡ b.hash = same_hash_is a.hash b.hash rest.0 in
-    let d : a.digest ≡ b.digest = (bytes_eq-Decides a.digest b.digest).0 rest.1 in
-    λ i. record { version = 1; codec = c i; hash = k i; digest = d i }
-
--- a CID passes the test with itself
-same_v1_self : (a : CidParts) → same_v1 a a ≡ true
-same_v1_self a = and_from _ _ (same_codec_self a.codec) (and_from _ _ (same_hash_self a.hash) ((bytes_eq-Decides a.digest a.digest).1 refl))
-
--- CIDs of one version 1 form pass the test with the same
-same_v1_alike : (a b c : CidParts) → as_v1 a ≡ as_v1 b → same_v1 a c ≡ same_v1 b c
-same_v1_alike a b c e = ap (λ (cid : CidParts). same_v1 cid c) e
-
--- CIDs with one version 1 form pass the test
-pub is_same_v1 : (a b : CidParts) → as_v1 a ≡ as_v1 b → same_v1 a b ≡ true
-is_same_v1 a b e = same_v1_alike a b b e ∙ same_v1_self b
-
--- a CID names what another of its form names
-named_too : (a b : CidParts) (block : List ℕ) → as_v1 a ≡ as_v1 b → Names b block → Names a block
-named_too a b block e n = subst (λ (c : CidParts). Names c block) (sym e) n
+use Rattle.tg_model.specs.SameForm.{is_same_v1, named_too, same_v1, same_v1_alike, same_v1_is}
+use Rattle.tg_block_log.specs.BlockLog.{Logged, Searched, first_block, section_v1}
 
 -- ---- what is told is a store
 

@@ -1,7 +1,7 @@
 use Rattle.std.proofs.Common.{◌≡◌, sym, ap, ◌∙◌, arith, Some, true≢false}
 use Rattle.tg_model.specs.Stores.{as_v1}
-use Rattle.tg_oracle.proofs.BlockLogs.{found_behind, found_here}
-use Rattle.tg_oracle.proofs.block_log.first_block.Goals as goal
+use Rattle.tg_block_log.proofs.BlockLogs.{found_behind, found_here}
+use Rattle.tg_block_log.proofs.block_log.first_block.Goals as goal
 
 pub returns-then-eq : goal.returns-then-eq
 returns-then-eq c =

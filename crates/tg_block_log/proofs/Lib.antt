@@ -1,1 +1,2 @@
+mod BlockLogs
 mod KeptBlocks

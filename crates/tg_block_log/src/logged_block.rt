@@ -2,7 +2,7 @@
 ghost use Rattle.tg_cid.specs.Limits.{max_block_len};
 ghost use Rattle.std.specs.Prelude.{◌≤◌, ℕ, length};
 ghost use Rattle.tg_cid.specs.Names.{Names};
-ghost use Rattle.tg_oracle.specs.BlockLogLaws.{Names-prop};
+ghost use Rattle.tg_cid.specs.CodeLaws.{Names-prop};
 
 use tg_bytes::Bytes;
 use tg_cid::Cid;

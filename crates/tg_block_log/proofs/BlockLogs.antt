@@ -1,13 +1,16 @@
 -- A log that a section is added to, and what is found in one.
-use Rattle.std.proofs.Common.{◌≡◌, ◌<◌, ◌+◌, ℕ, Bool, true, false, cond, List, [], ◌∷◌, ◌++◌, length, map, drop, get_or, Option, Some, None, refl, sym, ap, ap₂, ◌∙◌, subst, add-one, drop-cons}
+use Rattle.std.proofs.Common.{◌≡◌, ◌<◌, ◌+◌, ℕ, Bool, true, false, cond, List, [], ◌∷◌, ◌++◌, length, map, drop, get_or, Option, Some, refl, sym, ap, ap₂, ◌∙◌}
 use Rattle.std.proofs.lemmas.List.{map-append}
 use Rattle.tg_cid.specs.Cid.{CidParts}
 use Rattle.tg_model.specs.Dag.{Section}
 use Rattle.tg_model.specs.Stores.{AreKeptAs, as_v1}
-use Rattle.tg_oracle.specs.BlockLog.{Logged, first_block, same_v1, section_v1}
-use Rattle.tg_oracle.specs.BlockLogLaws.{is_same_v1, log_adds, same_v1_is}
-use Rattle.tg_oracle.specs.LoggedBlocks.{section_of}
-use Rattle.tg_oracle.specs.declared.logged_block.LoggedBlock.{LoggedBlock}
+use Rattle.tg_bytes.specs.Lists.{drop_from}
+use Rattle.tg_model.specs.SameForm.{is_same_v1, same_v1, same_v1_is}
+use Rattle.tg_block_log.specs.BlockLog.{Logged, first_block, section_v1}
+use Rattle.tg_block_log.specs.BlockLogLaws.{log_adds}
+use Rattle.tg_block_log.specs.LoggedBlocks.{section_of}
+use Rattle.tg_block_log.specs.declared.logged_block.LoggedBlock.{LoggedBlock}
+use Rattle.std.proofs.lemmas.Bool.{cond-true}
 
 -- a log with one block more
 more : (old new : List LoggedBlock) (held : LoggedBlock) (cid : CidParts) (block : List ℕ) → new ≡ old ++ held ∷ [] → held.cid ≡ as_v1 cid → held.block ≡ block
@@ -31,19 +34,10 @@ told_one old new held cid block e c b =
 
 -- ---- what is found
 
--- a list from an index on begins with the value there
-drop_at : {A : Type 0} (xs : List A) (i : ℕ) (x : A) → x ≡ get_or xs i x → i < length xs → drop i xs ≡ x ∷ drop (i + 1) xs
-drop_at xs i x e h = drop-cons xs i x h ∙ (rw (← e, add-one) refl)
-
 -- what is found from an index on, by the block there
 found_from : (blocks : List LoggedBlock) (i : ℕ) (held : LoggedBlock) (cid : CidParts) → held ≡ get_or blocks i held → i < length blocks
     → first_block (map section_of (drop i blocks)) cid ≡ cond (same_v1 cid held.cid) (Some held.block) (first_block (map section_of (drop (i + 1) blocks)) cid)
-found_from blocks i held cid is within = ap (λ (blocks : List LoggedBlock). first_block (map section_of blocks) cid) (drop_at blocks i held is within)
-
--- a choice by a test
-chosen : (test : Bool) (one other : Option (List ℕ)) → test ≡ true → cond test one other ≡ one
-chosen true one other e = refl
-chosen false one other e = cc
+found_from blocks i held cid is within = ap (λ (blocks : List LoggedBlock). first_block (map section_of blocks) cid) (drop_from blocks i held is within)
 
 -- and where the test fails
 not_chosen : (test : Bool) (one other : Option (List ℕ)) → (test ≡ true → ⊥) → cond test one other ≡ other
@@ -54,7 +48,7 @@ not_chosen false one other h = refl
 pub found_here : (blocks : List LoggedBlock) (i : ℕ) (held : LoggedBlock) (cid : CidParts) → held ≡ get_or blocks i held → i < length blocks → as_v1 held.cid ≡ as_v1 cid
     → first_block (map section_of (drop i blocks)) cid ≡ Some held.block
 found_here blocks i held cid is within same =
-    found_from blocks i held cid is within ∙ chosen (same_v1 cid held.cid) (Some held.block) (first_block (map section_of (drop (i + 1) blocks)) cid) (is_same_v1 cid held.cid (sym same))
+    found_from blocks i held cid is within ∙ cond-true (same_v1 cid held.cid) (Some held.block) (first_block (map section_of (drop (i + 1) blocks)) cid) (is_same_v1 cid held.cid (sym same))
 
 -- or one behind it
 pub found_behind : (blocks : List LoggedBlock) (i : ℕ) (held : LoggedBlock) (cid : CidParts) → held ≡ get_or blocks i held → i < length blocks → (as_v1 held.cid ≡ as_v1 cid → ⊥)

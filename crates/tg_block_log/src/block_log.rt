@@ -1,8 +1,8 @@
 //! A store in memory that logs each block that is kept in it.
 ghost use Rattle.std.specs.Prelude.{◌≡◌, [], map, IfOk, Some, refl};
-ghost use Rattle.tg_oracle.specs.BlockLog.{Logged, Searched, first_block};
-ghost use Rattle.tg_oracle.specs.BlockLogLaws.{log_is_store, logged_joins, logged_rests, searched_joins};
-ghost use Rattle.tg_oracle.specs.LoggedBlocks.{are_good, section_of};
+ghost use Rattle.tg_block_log.specs.BlockLog.{Logged, Searched, first_block};
+ghost use Rattle.tg_block_log.specs.BlockLogLaws.{log_is_store, logged_joins, logged_rests, searched_joins};
+ghost use Rattle.tg_block_log.specs.LoggedBlocks.{are_good, section_of};
 
 use crate::logged_block::LoggedBlock;
 use std::alloc::{AllocError, Global};

@@ -1,5 +1,5 @@
 -- What a store gives once a block was kept.
-use Rattle.std.proofs.Common.{◌≡◌, ◌∙◌, ap, ℕ, List, [], ◌∷◌, Option, Some, None, IfOk, IfSome, OnErr, OnOk, Result, Ok, Err, unwrap_or, refl, sym}
+use Rattle.std.proofs.Common.{◌≡◌, ◌∙◌, ap, ℕ, List, [], ◌∷◌, Option, Some, None, IfOk, IfSome, Result, Ok, Err, unwrap_or, refl}
 use Rattle.tg_cid.specs.Cid.{CidParts}
 use Rattle.tg_model.specs.Stores.{AreKeptAs, IsGotten, Store}
 
@@ -19,12 +19,3 @@ pub first_found : {E : Type 0} (told : Option Store) (cid : CidParts) (block : L
 first_found told cid block (Err fault) h = tt
 first_found None cid block (Ok found) h = tt
 first_found (Some held) cid block (Ok found) h = λ nothing. h ∙ ap (λ (o : Option (List ℕ)). Some (unwrap_or o block)) nothing
-
--- what follows on Ok, or on Err
-pub ok_so : {T E P Q : Type 0} (result : Result T E) → (P → Q) → OnOk result P → OnOk result Q
-ok_so (Ok value) so h = so h
-ok_so (Err fault) so h = tt
-
-pub err_so : {T E P Q : Type 0} (result : Result T E) → (P → Q) → OnErr result P → OnErr result Q
-err_so (Ok value) so h = tt
-err_so (Err fault) so h = so h

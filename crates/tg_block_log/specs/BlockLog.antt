@@ -1,30 +1,8 @@
 -- What a store tells that logs each section that is kept in it.
-use Rattle.std.specs.Prelude.{◌≡◌, Bool, true, false, ◌&&◌, ◌++◌, ◌∷◌, [], cond, List, map, ℕ, Some, None, bytes_eq}
-use Rattle.tg_cid.specs.Cid.{CidParts}
-use Rattle.tg_cid.specs.declared.cid.Codec.{Codec}
-use Rattle.tg_cid.specs.declared.cid.Codec.TheVariants.{Raw, DagPb}
-use Rattle.tg_cid.specs.declared.cid.HashKind.{HashKind}
-use Rattle.tg_cid.specs.declared.cid.HashKind.TheVariants.{Sha256, Identity}
+use Rattle.std.specs.Prelude.{◌≡◌, ◌++◌, ◌∷◌, [], cond, List, map, ℕ, Some, None}
 use Rattle.tg_model.specs.Dag.{Section}
 use Rattle.tg_model.specs.Stores.{Store, as_v1}
-
--- the codecs are equal
-abbrev pub same_codec : Codec → Codec → Bool
-same_codec Raw Raw = true
-same_codec Raw DagPb = false
-same_codec DagPb Raw = false
-same_codec DagPb DagPb = true
-
--- the hashes are equal
-abbrev pub same_hash : HashKind → HashKind → Bool
-same_hash Sha256 Sha256 = true
-same_hash Sha256 Identity = false
-same_hash Identity Sha256 = false
-same_hash Identity Identity = true
-
--- the CIDs have one version 1 form
-abbrev pub same_v1 : CidParts → CidParts → Bool
-same_v1 a b = same_codec a.codec b.codec && (same_hash a.hash b.hash && bytes_eq a.digest b.digest)
+use Rattle.tg_model.specs.SameForm.{same_v1}
 
 -- the block of the first section whose CID has one version 1 form with this
 abbrev pub first_block : List Section → Store

@@ -4,14 +4,14 @@ ghost use Rattle.tg_cid.specs.Cid.{CidParts};
 ghost use Rattle.tg_cid.specs.Names.{Names};
 ghost use Rattle.tg_faults.specs.Faults.{Rose};
 ghost use Rattle.tg_model.specs.Stores.{IsNamedBlock, Kept, LookedUp, as_v1, kept_in, looked_in};
-ghost use Rattle.tg_oracle.specs.BlockLogLaws.{searched_logs};
-ghost use Rattle.tg_oracle.specs.LoggedBlocks.{section_of};
+ghost use Rattle.tg_block_log.specs.BlockLogLaws.{searched_logs};
+ghost use Rattle.tg_block_log.specs.LoggedBlocks.{section_of};
 
 use std::test::Fail;
 use tg_bytes::Bytes;
 use tg_cid::{Cid, Codec};
 use tg_model::{Blocks, BlocksFault, Keep, KeepFault};
-use tg_oracle::BlockLog;
+use crate::block_log::BlockLog;
 
 /// A store in which blocks are kept and looked up. A look-up keeps nothing.
 trait KeptBlocks: Blocks + Keep {

@@ -1,6 +1,6 @@
 use Rattle.std.proofs.Common.{sym, ◌∙◌}
-use Rattle.tg_oracle.proofs.BlockLogs.{logged_one, told_one}
-use Rattle.tg_oracle.proofs.block_log.BlockLogKeep.keep.Goals as goal
+use Rattle.tg_block_log.proofs.BlockLogs.{logged_one, told_one}
+use Rattle.tg_block_log.proofs.block_log.BlockLogKeep.keep.Goals as goal
 
 -- src/block_log.rt:75:5
 pub returns-in-Ok-push-clause-kept : goal.returns-in-Ok-push-clause-kept

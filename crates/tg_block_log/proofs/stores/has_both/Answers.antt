@@ -1,5 +1,5 @@
 use Rattle.std.proofs.Common.{[], ◌∷◌, ◌∙◌}
-use Rattle.tg_model_tests.proofs.stores.has_both.Goals as goal
+use Rattle.tg_block_log.proofs.stores.has_both.Goals as goal
 
 pub returns-then-first : goal.returns-then-first
 returns-then-first g c = record {

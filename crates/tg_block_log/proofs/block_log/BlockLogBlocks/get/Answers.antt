@@ -1,8 +1,8 @@
 use Rattle.std.proofs.Common.{◌≡◌, ap, map, ◌∙◌}
-use Rattle.tg_oracle.proofs.block_log.BlockLogBlocks.get.Goals as goal
-use Rattle.tg_oracle.specs.BlockLog.{first_block}
-use Rattle.tg_oracle.specs.BlockLogLaws.{found_named, log_is_store}
-use Rattle.tg_oracle.specs.LoggedBlocks.{are_good, section_of}
+use Rattle.tg_block_log.proofs.block_log.BlockLogBlocks.get.Goals as goal
+use Rattle.tg_block_log.specs.BlockLog.{first_block}
+use Rattle.tg_block_log.specs.BlockLogLaws.{found_named, log_is_store}
+use Rattle.tg_block_log.specs.LoggedBlocks.{are_good, section_of}
 
 pub returns-in-Ok-clause-gotten : goal.returns-in-Ok-clause-gotten
 returns-in-Ok-clause-gotten c =

@@ -1,0 +1,3 @@
+pub mod BlockLog
+pub mod BlockLogLaws
+pub mod LoggedBlocks
