@@ -3,6 +3,7 @@ use Rattle.std.proofs.Common.{◌≡◌, ℕ, ◌<◌, ◌≤◌, List, [], ◌�
 use Rattle.std.proofs.lemmas.Bool.{cases_lt}
 use Rattle.std.proofs.lemmas.List.{append_assoc, append-nil, append_cancel_left, length-append, length_push}
 use Rattle.std.proofs.lemmas.List.Elements.{All-head, All-tail}
+use Rattle.tg_bytes.specs.Lists.{longer}
 use Rattle.tg_car.specs.TextLaws.{TextLaws}
 use Rattle.tg_cid.specs.Cid.{CidParts}
 use Rattle.tg_car.specs.declared.section.Section.{Section}
@@ -15,7 +16,7 @@ use Rattle.tg_car.specs.declared.event.Event.TheVariants as events
 use Rattle.tg_car.specs.Faults.{Brings, PassesLimit, HasCarCause}
 use Rattle.tg_car.specs.Heads.{HeadText, IsInHead, IsNoHead}
 use Rattle.tg_car.specs.History.{History, IsBeforeSections, IsAmongSections, ArePlaced, GoesOn, IsExact}
-use Rattle.tg_car.proofs.Heads.{longer, one_head, no_head_behind}
+use Rattle.tg_car.proofs.Heads.{one_head, no_head_behind}
 use Rattle.tg_car.proofs.OneText.{one_header}
 use Rattle.tg_car.proofs.Openings.{nothing_in_head}
 use Rattle.tg_car.proofs.Parts.{head_inside}
@@ -45,10 +46,10 @@ no_car_in_header laws a b inside none front =
     elim (cases_lt (length a) (length car.header)) [
       | inl past ↦
           let long : (a ++ b ∷ []) ++ more ≡ a ++ b ∷ more = append_assoc a (b ∷ []) more in
-          let l = longer car.header (a ++ b ∷ []) car.rest more (whole ∙ sym long) (omega (arith, length_push a b)) in
+          let l = longer (a ++ b ∷ []) car.header more car.rest (sym (whole ∙ sym long)) (omega (arith, length_push a b)) in
           none front.0 l.middle (subst (HeaderText front.0) (l.first ∙ append_assoc a (b ∷ []) l.middle) car.header_is)
       | inr less ↦
-          let l = longer a car.header (b ∷ more) car.rest (sym whole) less in
+          let l = longer car.header a car.rest (b ∷ more) whole less in
           none_in_header laws front.0 car.header l.middle a car.header_is (sym l.first) inside
     ]
 

@@ -1,6 +1,6 @@
 -- One call of a reader, and the histories that it stands for.
 use Rattle.std.proofs.Common.{◌≡◌, ℕ, ◌+◌, ◌-◌, ◌^◌, ◌<◌, ◌≤◌, ◌⊎◌, Bool, true, false, Option, Some, None, List, [], ◌∷◌, ◌++◌, length, take, min, refl, ap, sym, ◌∙◌, subst, inl, inr, arith}
-use Rattle.std.proofs.lemmas.List.{append_assoc, append-nil, length-append, length-take-le, take_all}
+use Rattle.std.proofs.lemmas.List.{append_assoc, append-nil, length-append, length-take-le, take_all, nil_from_length}
 use Rattle.std.proofs.lemmas.List.Elements.{All-nil, All-push}
 use Rattle.tg_car.specs.TextLaws.{TextLaws}
 use Rattle.tg_car.specs.declared.section.Section.{Section}
@@ -18,7 +18,7 @@ use Rattle.tg_car.specs.HeaderState.{FollowsHeader}
 use Rattle.tg_car.specs.History.{History, Stop, at_piece, at_end, IsBeforeSections, IsAmongSections, GoesOn, IsExact, HasStopped, IsGivenOf, nothing, given_by, stopped}
 use Rattle.tg_car.specs.State.{ReaderState, Holds, HoldsHeader, HoldsSection, StandsFor, fault_of}
 use Rattle.tg_car.specs.Steps.{Steps, Stops, StopsHeader, IsTaken, IsHeaderSoFar}
-use Rattle.tg_car.proofs.Openings.{nothing_in_head, nothing_more}
+use Rattle.tg_car.proofs.Openings.{nothing_in_head}
 use Rattle.tg_car.proofs.Parts.{head_inside, head_within, head_before, Last, before_last}
 use Rattle.tg_car.proofs.Sections.{push_section, push_placed, section_long}
 use Rattle.tg_car.proofs.Divisions.{no_car_in_header, no_car_in_section, none_in_header}
@@ -178,7 +178,7 @@ nothing_behind laws true fed piece taken l t h inside =
 nothing_behind laws false fed piece taken l t h inside =
     let all : length piece ≡ length (l.front ++ l.last ∷ l.more) = ap length l.whole in
     let front : length l.front + 1 ≡ taken = l.front_long in
-    nothing_more l.more (omega (arith, length-append l.front (l.last ∷ l.more)))
+    nil_from_length l.more (omega (arith, length-append l.front (l.last ∷ l.more)))
 
 pub header_memory : TextLaws → (old new : ReaderState) (piece : List ℕ) (taken : ℕ) (state : HeaderState) (whole : Bool) → new.limit ≡ old.limit
     → old.in_header ≡ true → 0 < taken → IsTaken whole piece taken → Follows old piece state taken whole → Stops old new piece faults.OutOfMemory

@@ -1,30 +1,11 @@
 -- No section's length and CID begin another's.
-use Rattle.std.proofs.Common.{◌≡◌, ℕ, ◌+◌, ◌<◌, ◌≤◌, List, [], ◌∷◌, ◌++◌, length, take, drop, ap, ap₂, sym, ◌∙◌, subst, inl, inr, arith}
+use Rattle.std.proofs.Common.{◌≡◌, ℕ, ◌+◌, ◌<◌, ◌≤◌, List, [], ◌∷◌, ◌++◌, length, ap, ap₂, sym, ◌∙◌, subst, inl, inr, arith}
 use Rattle.std.proofs.lemmas.Bool.{cases_lt}
-use Rattle.std.proofs.lemmas.List.{append_assoc, append-nil, append_cancel_left, length-append, take-append-drop, take-append-le, length_push}
-use Rattle.std.proofs.Math.Seq.{take-append-add}
+use Rattle.std.proofs.lemmas.List.{append_assoc, append-nil, append_cancel_left, length-append, length_push}
+use Rattle.tg_bytes.specs.Lists.{longer}
 use Rattle.tg_car.specs.TextLaws.{TextLaws}
 use Rattle.tg_cid.specs.Cid.{CidParts}
 use Rattle.tg_car.specs.Heads.{HeadText, IsInHead, IsNoHead}
-
--- two lists with one whole: the first begins with the second or is shorter and begins it
-pub record Longer (a b x y : List ℕ) : Type 0 where
-  pub middle : List ℕ
-  pub first : a ≡ b ++ middle
-  pub rest : y ≡ middle ++ x
-
-pub longer : (a b x y : List ℕ) → a ++ x ≡ b ++ y → length b ≤ length a → Longer a b x y
-longer a b x y e less =
-    let m = drop (length b) a in
-    let front : take (length b) a ≡ b =
-    sym (take-append-le (length b) a x less)
-    ∙ (ap (λ (l : List ℕ). take (length b) l) e ∙ (ap (λ (n : ℕ). take n (b ++ y)) (omega arith) ∙ (take-append-add b y 0 ∙ append-nil b))) in
-    let whole : a ≡ b ++ m = sym (take-append-drop (length b) a) ∙ ap (λ (l : List ℕ). l ++ m) front in
-    record {
-      middle = m;
-      first = whole;
-      rest = append_cancel_left b y (m ++ x) (sym e ∙ (ap (λ (l : List ℕ). l ++ x) whole ∙ append_assoc b m x));
-    }
 
 pub record SameHeads (a b : List ℕ) (c d : CidParts) (m n : ℕ) : Type 0 where
   pub bytes : a ≡ b
@@ -77,10 +58,10 @@ pub no_head_behind : TextLaws → (a : List ℕ) (b : ℕ) (c : CidParts) (m : �
 no_head_behind laws a b c m u x y inside none text e = elim (cases_lt (length a) (length u)) [
   | inl more ↦
       let whole : u ++ x ≡ (a ++ b ∷ []) ++ y = e ∙ sym (append_assoc a (b ∷ []) y) in
-      let l = longer u (a ++ b ∷ []) x y whole (omega (arith, length_push a b)) in
+      let l = longer (a ++ b ∷ []) u y x (sym whole) (omega (arith, length_push a b)) in
       none.none c m l.middle (subst (HeadText c m) l.first text)
   | inr less ↦
-      let l = longer a u (b ∷ y) x (sym e) less in
+      let l = longer u a x (b ∷ y) e less in
       not_both laws c inside.cid m inside.number u l.middle inside.more text
       (subst (HeadText inside.cid inside.number) (ap (λ (t : List ℕ). t ++ inside.more) l.first ∙ append_assoc u l.middle inside.more) inside.text) inside.not_whole
 ]

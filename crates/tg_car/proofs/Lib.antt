@@ -15,3 +15,4 @@ mod Divisions
 mod Refusals
 mod Feeding
 mod Written
+mod States

@@ -2,6 +2,7 @@
 use Rattle.std.proofs.Common.{◌≡◌, ℕ, ◌+◌, List, [], ◌∷◌, ◌++◌, length, ap, ap₂, sym, ◌∙◌, refl, inl, inr, arith}
 use Rattle.std.specs.List.{flat_map}
 use Rattle.std.proofs.lemmas.List.{append_assoc}
+use Rattle.tg_bytes.specs.Lists.{same_front}
 use Rattle.tg_car.specs.TextLaws.{TextLaws}
 use Rattle.tg_varint.specs.Varint.{VarintSpelling}
 use Rattle.tg_car.specs.CarText.{string_head, array_head, root_text, header_map, HeaderText}
@@ -12,17 +13,6 @@ use Rattle.tg_car.proofs.Sizes.{string_head_is, array_head_is}
 abbrev pub VarintsOnce : Type 0
 VarintsOnce = (m n : ℕ) (a b x y : List ℕ) → VarintSpelling m a → VarintSpelling n b → a ++ x ≡ b ++ y → (a ≡ b) × (m ≡ n)
 
--- fronts of one length are one
-pub same_fronts : (p q x y : List ℕ) → length p ≡ length q → p ++ x ≡ q ++ y → (p ≡ q) × (x ≡ y)
-same_fronts [] [] x y l e = (refl, e)
-same_fronts [] (b ∷ q) x y l e = absurd (omega arith)
-same_fronts (a ∷ p) [] x y l e = absurd (omega arith)
-same_fronts (a ∷ p) (b ∷ q) x y l e =
-    let heads : a ≡ b = cc in
-    let tails : p ++ x ≡ q ++ y = cc in
-    let rest = same_fronts p q x y (omega arith) tails in
-    (ap₂ (λ n l. n ∷ l) heads rest.0, rest.1)
-
 -- no byte string begins another
 same_strings : (p q x y : List ℕ) → (string_head (length p) ++ p) ++ x ≡ (string_head (length q) ++ q) ++ y → (p ≡ q) × (x ≡ y)
 same_strings p q x y e = elim (string_head_is (length p)) [
@@ -30,7 +20,7 @@ same_strings p q x y e = elim (string_head_is (length p)) [
     | inl t ↦ (let parts : (0x40 + length p) ∷ (p ++ x) ≡ (0x40 + length q) ∷ (q ++ y) =
         sym (ap (λ l. (l ++ p) ++ x) s.1) ∙ (e ∙ ap (λ l. (l ++ q) ++ y) t.1) in
         let heads : 0x40 + length p ≡ 0x40 + length q = cc in
-        same_fronts p q x y (omega arith) cc)
+        same_front p q x y (omega arith) cc)
     | inr t ↦ (let parts : (0x40 + length p) ∷ (p ++ x) ≡ 0x58 ∷ length q ∷ (q ++ y) =
         sym (ap (λ l. (l ++ p) ++ x) s.1) ∙ (e ∙ ap (λ l. (l ++ q) ++ y) t.1) in
         let heads : 0x40 + length p ≡ 0x58 = cc in
@@ -44,7 +34,7 @@ same_strings p q x y e = elim (string_head_is (length p)) [
     | inr t ↦ (let parts : 0x58 ∷ length p ∷ (p ++ x) ≡ 0x58 ∷ length q ∷ (q ++ y) =
         sym (ap (λ l. (l ++ p) ++ x) s.1) ∙ (e ∙ ap (λ l. (l ++ q) ++ y) t.1) in
         let long : length p ≡ length q = cc in
-        same_fronts p q x y long cc)
+        same_front p q x y long cc)
   ]
 ]
 
@@ -90,8 +80,8 @@ one_header once a b u v x y h k e =
     let right : v ++ y ≡ k.size ++ (header_map b ++ y) = ap (λ l. l ++ y) k.whole ∙ append_assoc k.size (header_map b) y in
     let parts : h.size ++ (header_map a ++ x) ≡ k.size ++ (header_map b ++ y) = sym left ∙ (e ∙ right) in
     let sizes = once (length (header_map a)) (length (header_map b)) h.size k.size (header_map a ++ x) (header_map b ++ y) h.size_is k.size_is parts in
-    let maps = same_fronts h.size k.size (header_map a ++ x) (header_map b ++ y) (ap length sizes.0) parts in
-    let map = same_fronts (header_map a) (header_map b) x y sizes.1 maps.1 in
+    let maps = same_front h.size k.size (header_map a ++ x) (header_map b ++ y) (ap length sizes.0) parts in
+    let map = same_front (header_map a) (header_map b) x y sizes.1 maps.1 in
     let same : header_map a ≡ header_map b = map.0 in (
       h.whole ∙ (ap₂ (λ p q. p ++ q) sizes.0 same ∙ sym k.whole),
       same_arrays a b cc,

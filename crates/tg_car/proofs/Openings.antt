@@ -1,6 +1,6 @@
 -- What bytes at the front of a section are, by their length and what is behind it.
 use Rattle.std.proofs.Common.{◌≡◌, ℕ, ◌+◌, ◌-◌, ◌<◌, ◌≤◌, List, [], ◌∷◌, ◌++◌, length, All, refl, ap, sym, ◌∙◌, subst, arith}
-use Rattle.std.proofs.lemmas.List.{append_assoc, append-nil, append_cancel_left, length-append}
+use Rattle.std.proofs.lemmas.List.{append_assoc, append-nil, append_cancel_left, length-append, nil_from_length}
 use Rattle.std.proofs.lemmas.List.Elements.{All-cons, All-append, All-nil}
 use Rattle.tg_car.specs.TextLaws.{TextLaws}
 use Rattle.tg_varint.specs.Varint.{VarintSpelling, number_of, EndsInside, PassesNine, EndsInZero}
@@ -70,16 +70,12 @@ whole_name size spelling name count c v f enough past h =
       name_is = h;
     }
 
-pub nothing_more : (l : List ℕ) → length l ≡ 0 → l ≡ []
-nothing_more [] h = refl
-nothing_more (x ∷ l) h = absurd (omega arith)
-
 -- as many bytes as the fewest of a CID are one
 pub broken_name : (size : ℕ) (spelling name : List ℕ) (count : ℕ) → IsFewest name count → count ≤ length name
     → ((c : CidParts) → CidBytes c name → ⊥) → IsNoHead (spelling ++ name)
 broken_name size spelling name count f past none =
     let count_is : count ≡ length (name ++ f.more) = f.count_is in
-    let no_more : f.more ≡ [] = nothing_more f.more (omega (arith, length-append name f.more)) in
+    let no_more : f.more ≡ [] = nil_from_length f.more (omega (arith, length-append name f.more)) in
     absurd (none f.cid (subst (CidBytes f.cid) (ap (λ (l : List ℕ). name ++ l) no_more ∙ append-nil name) f.begins))
 
 -- a section of a length that ends so, which has room for a CID

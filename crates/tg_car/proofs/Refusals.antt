@@ -3,6 +3,7 @@ use Rattle.std.proofs.Common.{◌≡◌, ◌≢◌, ℕ, ◌-◌, ◌<◌, Optio
 use Rattle.std.proofs.lemmas.Bool.{cases_lt}
 use Rattle.std.proofs.lemmas.List.{append_assoc, append-nil, append_cancel_left, length_push}
 use Rattle.std.proofs.lemmas.List.Elements.{All-nil}
+use Rattle.tg_bytes.specs.Lists.{same_front, longer}
 use Rattle.tg_car.specs.TextLaws.{TextLaws}
 use Rattle.tg_car.specs.declared.section.Section.{Section}
 use Rattle.tg_car.specs.declared.event.Event.{Event}
@@ -13,8 +14,6 @@ use Rattle.tg_car.specs.Fronts.{IsCarFront, IsInHeader, IsInSection, Reaches}
 use Rattle.tg_car.specs.Faults.{shown, BreaksHeader, BreaksSection, PassesLimit, Brings}
 use Rattle.tg_car.specs.Heads.{HeadText}
 use Rattle.tg_car.specs.History.{History, Stop, at_piece, GoesOn, HasStopped, StopsAt, IsExact}
-use Rattle.tg_car.proofs.Heads.{longer}
-use Rattle.tg_car.proofs.OneText.{same_fronts}
 use Rattle.tg_car.proofs.Parts.{block_inside}
 use Rattle.tg_car.proofs.Sections.{onward}
 use Rattle.tg_car.proofs.Divisions.{same_header, none_in_header, nothing_left, section_front, missed, same_given}
@@ -35,7 +34,7 @@ same_rest laws limit bytes ss ts r q a b inside other =
 same_before : (bytes p q : List ℕ) (x y : ℕ) → bytes ≡ p ++ x ∷ [] → bytes ≡ q ++ y ∷ [] → p ≡ q
 same_before bytes p q x y e f =
     let long : length (p ++ x ∷ []) ≡ length (q ++ y ∷ []) = ap length (sym e ∙ f) in
-    (same_fronts p q (x ∷ []) (y ∷ []) (omega (arith, length_push p x, length_push q y)) (sym e ∙ f)).0
+    (same_front p q (x ∷ []) (y ∷ []) (omega (arith, length_push p x, length_push q y)) (sym e ∙ f)).0
 
 header_apart : TextLaws → (limit : ℕ) (bytes : List ℕ) (at : ℕ) → BreaksHeader bytes → BreaksSection limit bytes at → ⊥
 header_apart laws limit bytes at b s =
@@ -99,7 +98,7 @@ handed fed front more x last =
 not_before : TextLaws → (limit : ℕ) (given : List Event) (a b x y : List ℕ) (last next : ℕ) (e : CarFault) → e ≢ faults.OutOfMemory
     → (a ++ last ∷ []) ++ x ≡ (b ++ next ∷ []) ++ y → length a < length b → GoesOn limit b given → Brings limit (a ++ last ∷ []) e → ⊥
 not_before laws limit given a b x y last next e n both less goes brings =
-    let l = longer b (a ++ last ∷ []) (next ∷ y) x (sym (append_assoc b (next ∷ []) y) ∙ sym both) (omega (arith, length_push a last)) in
+    let l = longer (a ++ last ∷ []) b x (next ∷ y) (both ∙ append_assoc b (next ∷ []) y) (omega (arith, length_push a last)) in
     missed laws limit b given (a ++ last ∷ []) l.middle e goes n l.first brings
 
 pub one_refusal : TextLaws → (limit : ℕ) (g h : History) (p q x y : List ℕ) (e f : CarFault) → IsExact limit g → IsExact limit h
@@ -121,8 +120,8 @@ one_refusal laws limit g h p q x y e f exact other sg sh n m same =
         | inl less ↦ absurd (not_before laws limit g.given b a (t.more ++ y) (s.more ++ x) t.last s.last f m (sym both) less s.went_on t.brings)
         | inr most ↦
             let long : length (a ++ s.last ∷ []) ≡ length (b ++ t.last ∷ []) = omega (arith, length_push a s.last, length_push b t.last) in
-            let bytes = same_fronts (a ++ s.last ∷ []) (b ++ t.last ∷ []) (s.more ++ x) (t.more ++ y) long both in
-            let fronts = same_fronts a b (s.last ∷ []) (t.last ∷ []) (omega arith) bytes.0 in (
+            let bytes = same_front (a ++ s.last ∷ []) (b ++ t.last ∷ []) (s.more ++ x) (t.more ++ y) long both in
+            let fronts = same_front a b (s.last ∷ []) (t.last ∷ []) (omega arith) bytes.0 in (
               one_fault laws limit (b ++ t.last ∷ []) e f n m (subst (λ (l : List ℕ). Brings limit l e) bytes.0 s.brings) t.brings,
               same_given laws limit b g.given h.given (subst (λ (l : List ℕ). GoesOn limit l g.given) fronts.0 s.went_on) t.went_on,
             )

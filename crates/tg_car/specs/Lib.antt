@@ -10,3 +10,4 @@ pub mod State
 pub mod Steps
 pub mod Writing
 pub mod Laws
+pub mod LawLemmas

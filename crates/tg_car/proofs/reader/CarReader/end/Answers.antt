@@ -3,24 +3,16 @@ use Rattle.std.proofs.lemmas.Bool.{false≢true}
 use Rattle.tg_car.specs.declared.event.Event.{Event}
 use Rattle.tg_car.specs.declared.fault.CarFault.TheVariants.{Torn}
 use Rattle.tg_car.specs.Faults.{HasEndCause}
-use Rattle.tg_car.specs.Filling.{came_of}
 use Rattle.tg_car.specs.History.{History, IsGivenOf, at_end, stopped}
 use Rattle.tg_car.specs.State.{ReaderState, Holds, StandsFor}
+use Rattle.tg_car.proofs.States.{state_of}
 use Rattle.tg_car.proofs.Feeding.{whole_car, stands_torn, torn_header, torn_section}
 use Rattle.tg_car.proofs.reader.CarReader.end.Goals as goal
 use Rattle.tg_car.proofs.reader.CarReader.end.Goals.{then-self, else-self+else-is_empty}
 
 pub returns-clause-stands : goal.returns-clause-stands
 returns-clause-stands c =
-    let old : ReaderState = record {
-      limit = c.self.inside.limit;
-      refused = c.self.inside.refused;
-      place = c.self.inside.place;
-      in_header = c.self.inside.in_header;
-      header = c.self.inside.header;
-      text = c.self.inside.text.items;
-      came = came_of c.self.inside.part;
-    } in
+    let old : ReaderState = state_of c.self.inside in
     let at = c.if-self.at in
     let new : ReaderState = record old { refused = Some (Torn at) } in
     let cause : (fed : List ℕ) (given : List Event) → Holds old.in_header old fed given → HasEndCause old.limit fed (Torn at) = elim c.if-self.branch [
@@ -32,14 +24,6 @@ returns-clause-stands c =
 
 pub returns-then-is_empty-clause-whole : goal.returns-then-is_empty-clause-whole
 returns-then-is_empty-clause-whole c =
-    let old : ReaderState = record {
-      limit = c.self.inside.limit;
-      refused = c.self.inside.refused;
-      place = c.self.inside.place;
-      in_header = c.self.inside.in_header;
-      header = c.self.inside.header;
-      text = c.self.inside.text.items;
-      came = came_of c.self.inside.part;
-    } in
+    let old : ReaderState = state_of c.self.inside in
     subst (λ (s : ReaderState). (h : History) → StandsFor s h → IsGivenOf h.fed h.given) c.self.view_is
     (whole_car old c.in_default.is c.if-self.false (c.if-is_empty.ensures.0 refl))

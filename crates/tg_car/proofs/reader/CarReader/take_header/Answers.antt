@@ -3,38 +3,22 @@ use Rattle.std.proofs.lemmas.List.{length-take-le}
 use Rattle.std.proofs.lemmas.Result.{err_from_is_err_and}
 use Rattle.tg_car.specs.declared.event.Event.TheVariants.{Need, Header}
 use Rattle.tg_car.specs.declared.fault.CarFault.TheVariants.{BadHeader, OutOfMemory}
-use Rattle.tg_car.specs.Filling.{came_of}
 use Rattle.tg_car.specs.State.{ReaderState}
+use Rattle.tg_car.proofs.States.{state_of}
 use Rattle.tg_car.specs.Steps.{Stops}
 use Rattle.tg_car.proofs.Feeding.{header_bad, header_done, header_memory, header_more, steps_from, stops_from, taken_within}
 use Rattle.tg_car.proofs.reader.CarReader.take_header.Goals as goal
 
 pub returns-in_default : goal.returns-in_default
 returns-in_default c =
-    let old : ReaderState = record {
-      limit = c.self.inside.limit;
-      refused = c.self.inside.refused;
-      place = c.self.inside.place;
-      in_header = c.self.inside.in_header;
-      header = c.self.inside.header;
-      text = c.self.inside.text.items;
-      came = came_of c.self.inside.part;
-    } in
+    let old : ReaderState = state_of c.self.inside in
     let was : c.self.inside.in_header ≡ true = ap (λ (s : ReaderState). s.in_header) c.self.view_is ∙ c.requires in
     subst (λ (s : ReaderState). Stops s s c.args.piece.now (BadHeader 0)) c.self.view_is
     (header_bad c.text_laws.ensures old c.args.piece.now was c.in_default.ensures.bytes)
 
 pub returns-in_err-keep : goal.returns-in_err-keep
 returns-in_err-keep c =
-    let old : ReaderState = record {
-      limit = c.self.inside.limit;
-      refused = c.self.inside.refused;
-      place = c.self.inside.place;
-      in_header = c.self.inside.in_header;
-      header = c.self.inside.header;
-      text = c.self.inside.text.items;
-      came = came_of c.self.inside.part;
-    } in
+    let old : ReaderState = state_of c.self.inside in
     let was : c.self.inside.in_header ≡ true = ap (λ (s : ReaderState). s.in_header) c.self.view_is ∙ c.requires in
     let found = c.in-Some.found in
     let most : found.taken ≤ length c.args.piece.now = taken_within found.whole c.args.piece.now found.taken c.in-Some.ensures.taken in
@@ -47,15 +31,7 @@ returns-in_err-keep c =
 
 pub returns-then-found : goal.returns-then-found
 returns-then-found c =
-    let old : ReaderState = record {
-      limit = c.self.inside.limit;
-      refused = c.self.inside.refused;
-      place = c.self.inside.place;
-      in_header = c.self.inside.in_header;
-      header = c.self.inside.header;
-      text = c.self.inside.text.items;
-      came = came_of c.self.inside.part;
-    } in
+    let old : ReaderState = state_of c.self.inside in
     let was : c.self.inside.in_header ≡ true = ap (λ (s : ReaderState). s.in_header) c.self.view_is ∙ c.requires in
     let found = c.in-Some.found in
     steps_from old _ _ c.args.piece.now found.taken (Header c.from.result) c.self.view_is
@@ -64,15 +40,7 @@ returns-then-found c =
 
 pub returns : goal.returns
 returns c =
-    let old : ReaderState = record {
-      limit = c.self.inside.limit;
-      refused = c.self.inside.refused;
-      place = c.self.inside.place;
-      in_header = c.self.inside.in_header;
-      header = c.self.inside.header;
-      text = c.self.inside.text.items;
-      came = came_of c.self.inside.part;
-    } in
+    let old : ReaderState = state_of c.self.inside in
     let was : c.self.inside.in_header ≡ true = ap (λ (s : ReaderState). s.in_header) c.self.view_is ∙ c.requires in
     let found = c.in-Some.found in
     steps_from old _ _ c.args.piece.now found.taken Need c.self.view_is

@@ -3,21 +3,14 @@ use Rattle.tg_car.specs.declared.event.Event.TheVariants.{Need, Section}
 use Rattle.tg_car.specs.declared.fault.CarFault.TheVariants.{BadSection, BlockLimit, OutOfMemory}
 use Rattle.tg_car.specs.Filling.{came_of}
 use Rattle.tg_car.specs.State.{ReaderState}
+use Rattle.tg_car.proofs.States.{state_of}
 use Rattle.tg_car.specs.Steps.{Steps, Stops}
 use Rattle.tg_car.proofs.Feeding.{section_more, section_done, section_bad, section_above, section_memory}
 use Rattle.tg_car.proofs.reader.CarReader.take_section.Goals as goal
 
 pub returns-in-Ok-default-None : goal.returns-in-Ok-default-None
 returns-in-Ok-default-None c =
-    let old : ReaderState = record {
-      limit = c.self.inside.limit;
-      refused = c.self.inside.refused;
-      place = c.self.inside.place;
-      in_header = c.self.inside.in_header;
-      header = c.self.inside.header;
-      text = c.self.inside.text.items;
-      came = came_of c.self.inside.part;
-    } in
+    let old : ReaderState = state_of c.self.inside in
     let was : c.self.inside.in_header ≡ false = ap (λ (s : ReaderState). s.in_header) c.self.view_is ∙ c.requires in
     let new : ReaderState = record old { came = came_of c.take.new.self } in
     subst (λ (s : ReaderState). Steps s new c.args.piece.now c.in-Ok-default-None.taken Need) c.self.view_is
@@ -26,15 +19,7 @@ returns-in-Ok-default-None c =
 
 pub returns-in-Ok-default-Some : goal.returns-in-Ok-default-Some
 returns-in-Ok-default-Some c =
-    let old : ReaderState = record {
-      limit = c.self.inside.limit;
-      refused = c.self.inside.refused;
-      place = c.self.inside.place;
-      in_header = c.self.inside.in_header;
-      header = c.self.inside.header;
-      text = c.self.inside.text.items;
-      came = came_of c.self.inside.part;
-    } in
+    let old : ReaderState = state_of c.self.inside in
     let was : c.self.inside.in_header ≡ false = ap (λ (s : ReaderState). s.in_header) c.self.view_is ∙ c.requires in
     let size = c.saturating_add-size.result in
     let new : ReaderState = record old { place = c.saturating_add-self-inside.result; came = came_of c.take.new.self } in
@@ -45,15 +30,7 @@ returns-in-Ok-default-Some c =
 
 pub returns-in-Err-Bad : goal.returns-in-Err-Bad
 returns-in-Err-Bad c =
-    let old : ReaderState = record {
-      limit = c.self.inside.limit;
-      refused = c.self.inside.refused;
-      place = c.self.inside.place;
-      in_header = c.self.inside.in_header;
-      header = c.self.inside.header;
-      text = c.self.inside.text.items;
-      came = came_of c.self.inside.part;
-    } in
+    let old : ReaderState = state_of c.self.inside in
     let was : c.self.inside.in_header ≡ false = ap (λ (s : ReaderState). s.in_header) c.self.view_is ∙ c.requires in
     let new : ReaderState = record old { came = came_of c.take.new.self } in
     subst (λ (s : ReaderState). Stops s new c.args.piece.now (BadSection c.self.inside.place)) c.self.view_is
@@ -62,15 +39,7 @@ returns-in-Err-Bad c =
 
 pub returns-in-Err-AboveLimit : goal.returns-in-Err-AboveLimit
 returns-in-Err-AboveLimit c =
-    let old : ReaderState = record {
-      limit = c.self.inside.limit;
-      refused = c.self.inside.refused;
-      place = c.self.inside.place;
-      in_header = c.self.inside.in_header;
-      header = c.self.inside.header;
-      text = c.self.inside.text.items;
-      came = came_of c.self.inside.part;
-    } in
+    let old : ReaderState = state_of c.self.inside in
     let was : c.self.inside.in_header ≡ false = ap (λ (s : ReaderState). s.in_header) c.self.view_is ∙ c.requires in
     let new : ReaderState = record old { came = came_of c.take.new.self } in
     subst (λ (s : ReaderState). Stops s new c.args.piece.now (BlockLimit c.self.inside.place c.self.inside.limit)) c.self.view_is
@@ -79,15 +48,7 @@ returns-in-Err-AboveLimit c =
 
 pub returns-in-Err-OutOfMemory : goal.returns-in-Err-OutOfMemory
 returns-in-Err-OutOfMemory c =
-    let old : ReaderState = record {
-      limit = c.self.inside.limit;
-      refused = c.self.inside.refused;
-      place = c.self.inside.place;
-      in_header = c.self.inside.in_header;
-      header = c.self.inside.header;
-      text = c.self.inside.text.items;
-      came = came_of c.self.inside.part;
-    } in
+    let old : ReaderState = state_of c.self.inside in
     let was : c.self.inside.in_header ≡ false = ap (λ (s : ReaderState). s.in_header) c.self.view_is ∙ c.requires in
     let new : ReaderState = record old { came = came_of c.take.new.self } in
     subst (λ (s : ReaderState). Stops s new c.args.piece.now OutOfMemory) c.self.view_is
