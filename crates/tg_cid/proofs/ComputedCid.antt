@@ -1,5 +1,5 @@
 -- The CID that is computed of bytes is theirs, and the bytes and the text that are computed of a CID are its own.
-use Rattle.std.proofs.Common.{◌≡◌, ℕ, ◌<◌, ◌≤◌, true, Option, Some, None, List, [], ◌∷◌, ◌++◌, length, All, refl, sym, ap, ◌∙◌, append_assoc, subst, inl, inr, arith}
+use Rattle.std.proofs.Common.{◌≡◌, ℕ, ◌<◌, ◌≤◌, Option, Some, None, List, [], ◌∷◌, ◌++◌, length, All, refl, sym, ap, ◌∙◌, append_assoc, subst, inl, inr, arith}
 use Rattle.std.specs.Prelude.{◌↔◌, ◌==◌, ◌&&◌, if◌then◌else◌}
 use Rattle.std.proofs.lemmas.Bool.{cond_both, cond-true, eqb-true, eq-eqb, and_parts, and_from}
 use Rattle.std.proofs.lemmas.List.{append-nil, length-append}
@@ -19,10 +19,7 @@ use Rattle.tg_cid.proofs.Causes.{same_cid}
 use Rattle.tg_cid.proofs.Lengths.{name_bytes}
 use Rattle.tg_cid.proofs.Prefix.{one_is}
 use Rattle.tg_cid.proofs.Written.{size_most, one_written}
-
-size_decides : (hash : HashKind) (size : ℕ) → (is_digest_size hash size ≡ true → IsDigestSize hash size) × (IsDigestSize hash size → is_digest_size hash size ≡ true)
-size_decides Sha256 size = (eqb-true size 32, eq-eqb size 32)
-size_decides Identity size = (λ e. absurd cc, λ h. absurd h)
+use Rattle.tg_cid.specs.CodeLaws.{size_decides}
 
 -- ---- the CID of bytes is theirs
 

@@ -1,8 +1,9 @@
 -- What holds of the numbers of codecs and hashes, of the tests whether two are equal, and of digests.
-use Rattle.std.proofs.Common.{◌≡◌, ℕ, ◌<◌, Bool, true, false, List, length, refl, ap, inl, inr, length-append, append_assoc, append-nil, sym, ◌∙◌, [], ◌∷◌, ◌++◌, arith}
+use Rattle.std.proofs.Common.{◌≡◌, ℕ, ◌<◌, Bool, true, false, List, length, refl, ap, inl, inr, length-append, append_assoc, append-nil, Decides, eq-eqb, sym, ◌∙◌, [], ◌∷◌, ◌++◌, arith}
+use Rattle.std.proofs.lemmas.Bool.{eqb-true}
 use Rattle.std.specs.Coded.{Coded-set, coded_list, coded_ℕ}
 use Rattle.tg_cid.specs.Cid.{CidParts}
-use Rattle.tg_cid.specs.Computed.{v1_bytes}
+use Rattle.tg_cid.specs.Computed.{is_digest_size, v1_bytes}
 use Rattle.tg_cid.specs.Names.{IsDigestOf, Names}
 use Rattle.tg_cid.specs.Faults.{IsCodec}
 use Rattle.tg_cid.specs.Spelling.{IsDigestSize, IsTaken, Varints, codec_code, hash_code}
@@ -33,6 +34,11 @@ code_is DagPb = inr refl
 pub size_taken : (hash : HashKind) (size : ℕ) → IsDigestSize hash size → IsTaken hash
 size_taken Sha256 size h = tt
 size_taken Identity size h = h
+
+-- the test decides whether a digest has the size
+pub size_decides : (hash : HashKind) (size : ℕ) → Decides (is_digest_size hash size) (IsDigestSize hash size)
+size_decides Sha256 size = (eqb-true size 32, eq-eqb size 32)
+size_decides Identity size = (λ e. absurd cc, λ h. absurd h)
 
 -- one number more behind others
 pub varints_push : (numbers front : List ℕ) (number : ℕ) (spelling : List ℕ) → Varints numbers front → VarintSpelling number spelling
