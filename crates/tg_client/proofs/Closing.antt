@@ -16,12 +16,12 @@ use Rattle.tg_frames.specs.Left.{WantedAt}
 use Rattle.tg_model.specs.Dag.{Section}
 use Rattle.tg_verify.specs.Laws.{AnswerLaws}
 use Rattle.tg_verify.specs.declared.fault.Refusal.TheVariants as refusals
+use Rattle.tg_car.specs.LawLemmas.{none_in_header, none_in_section}
 use Rattle.tg_client.specs.Body.{HasEnded, IsBody, going_on}
 use Rattle.tg_client.specs.Ends.{HasSurplus}
 use Rattle.tg_client.specs.Received.{in_car, out_of_car, sections_given}
 use Rattle.tg_client.specs.declared.body.Body.{Body}
 use Rattle.tg_client.specs.declared.fault.ClientFault.TheVariants as faults
-use Rattle.tg_client.proofs.Fronts.{none_in_header, none_in_section}
 use Rattle.tg_client.proofs.Going.{back_in, held_front, is_received, past_header, surplus_of}
 use Rattle.tg_client.proofs.Sections.{placed_sections}
 

@@ -1,36 +1,16 @@
 -- What a front of bytes gives, the bytes give too.
-use Rattle.std.proofs.Common.{◌≡◌, ℕ, ◌<◌, List, [], ◌∷◌, ◌++◌, length, map, refl, ap, ap₂, sym, ◌∙◌, inl, inr, arith}
-use Rattle.std.proofs.lemmas.List.{append_assoc, append-nil, append_cancel_left, length-append}
-use Rattle.tg_car.specs.CarText.{HeaderText, SectionText, SectionsText}
-use Rattle.tg_car.specs.Fronts.{IsInHeader, IsInSection}
+use Rattle.std.proofs.Common.{◌≡◌, ℕ, List, [], ◌∷◌, ◌++◌, map, refl, ap, ap₂, sym, ◌∙◌, inl, inr}
+use Rattle.std.proofs.lemmas.List.{append_assoc, append_cancel_left}
+use Rattle.tg_car.specs.CarText.{HeaderText, SectionsText}
+use Rattle.tg_car.specs.Fronts.{IsInSection}
 use Rattle.tg_car.specs.History.{GoesOn}
 use Rattle.tg_car.specs.Laws.{CarLaws}
 use Rattle.tg_car.specs.declared.event.Event.{Event}
 use Rattle.tg_car.specs.declared.section.Section.{Section as CarSection}
 use Rattle.tg_model.specs.Dag.{Section}
+use Rattle.tg_car.specs.LawLemmas.{none_in_header, none_in_section}
 use Rattle.tg_client.specs.Received.{HasReceived, IsCarOf, in_car, out_of_car, sections_given}
 use Rattle.tg_client.proofs.Sections.{back_again, split_out, among_sections}
-
--- the bytes with those that are to come, behind a text at their front
-with_more : (u x r more : List ℕ) → u ++ x ≡ r → u ++ (x ++ more) ≡ (r ++ more) ++ []
-with_more u x r more e = sym (append_assoc u x more) ∙ (ap (λ (l : List ℕ). l ++ more) e ∙ sym (append-nil (r ++ more)))
-
-too_long : (u x r more : List ℕ) → u ++ x ≡ r → u ≡ r ++ more → 0 < length more → ⊥
-too_long u x r more e same some =
-    let lengths : length u ≡ length (r ++ more) = ap length same in
-    let parts : length (u ++ x) ≡ length r = ap length e in
-    omega (arith, length-append u x, length-append r more)
-
--- no whole header stands at the front of bytes inside a header, and no whole section at the front of bytes inside a section
-pub none_in_header : CarLaws → (roots : List (List ℕ)) (u x r : List ℕ) → HeaderText roots u → u ++ x ≡ r → IsInHeader r → ⊥
-none_in_header laws roots u x r text e inside =
-    let same = laws.one_header roots inside.roots u (r ++ inside.more) (x ++ inside.more) [] text inside.text (with_more u x r inside.more e) in
-    too_long u x r inside.more e same.0 inside.not_whole
-
-pub none_in_section : CarLaws → (s : CarSection) (u x r : List ℕ) → SectionText s u → u ++ x ≡ r → IsInSection r → ⊥
-none_in_section laws s u x r text e inside =
-    let same = laws.one_section s inside.section u (r ++ inside.more) (x ++ inside.more) [] text inside.text (with_more u x r inside.more e) in
-    too_long u x r inside.more e same.0 inside.not_whole
 
 -- the sections at the front of bytes are the first of those with which the bytes go on to the inside of a section
 onward : CarLaws → (some all : List CarSection) (d e q r : List ℕ) → SectionsText some e → SectionsText all d → IsInSection r → d ++ r ≡ e ++ q

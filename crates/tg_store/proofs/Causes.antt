@@ -10,15 +10,17 @@ use Rattle.tg_cid.specs.Limits.{max_block_len}
 use Rattle.tg_cid.specs.Spelling.{CidBytes}
 use Rattle.tg_car.specs.CarText.{HeaderText, SectionText, SectionsText}
 use Rattle.tg_car.specs.Faults.{BreaksHeader, shown}
-use Rattle.tg_car.specs.Fronts.{IsInHeader, IsInSection, IsWithin}
+use Rattle.tg_car.specs.Fronts.{IsInHeader, IsInSection, IsWithin, Reaches}
 use Rattle.tg_car.specs.Laws.{CarLaws}
 use Rattle.tg_car.specs.declared.section.Section.{Section}
 use Rattle.tg_model.specs.Stores.{Store}
+use Rattle.tg_car.specs.LawLemmas.{none_in_header, none_in_section}
+use Rattle.tg_bytes.specs.Lists.{longer}
 use Rattle.tg_store.specs.declared.fault.PackFault.{PackFault}
 use Rattle.tg_store.specs.declared.fault.PackFault.TheVariants as faults
 use Rattle.tg_store.specs.Attaching.{AboveLimit, EndsInside, HasPackCause, HasUnfinishedHeader, IsAttached, IsNamed, IsSmall, IsSound, NoSection, WrongDigest}
 use Rattle.tg_store.specs.Packs.{unfinished_root}
-use Rattle.tg_store.proofs.Courses.{Begins, compare, left_goes_on, longer, none_in_header, none_inside, one_text, right_goes_on, same, same_header, sections_join}
+use Rattle.tg_store.proofs.Courses.{Begins, compare, left_goes_on, one_text, right_goes_on, same, same_header, sections_join}
 use Rattle.tg_store.proofs.Stopping.{CidsOnce, declared_block}
 
 -- ---- how a content ends behind sections that are good
@@ -97,7 +99,7 @@ module _ (laws : CarLaws) (spellings : SpellingLaws) (cids : CidsOnce) where
               let sizes : length front ≡ length b.before + 1 = length-append b.before (b.last ∷ []) in
               let again : text ++ more ≡ b.before ++ (b.last ∷ b.more) = sym e ∙ b.whole_is in
               let l = longer text b.before more (b.last ∷ b.more) again (omega arith) in
-              none_inside laws section text l.middle b.before text_is (sym l.first) b.went_on
+              none_in_section laws section text l.middle b.before text_is (sym l.first) b.went_on
           | inr most ↦
               let l = longer front text b.more more divided most in
               b.none section l.middle (subst (SectionText section) l.first text_is)
@@ -112,7 +114,7 @@ module _ (laws : CarLaws) (spellings : SpellingLaws) (cids : CidsOnce) where
         omega arith
 
     not_inside : IsInSection bytes → ⊥
-    not_inside within = none_inside laws section text more bytes text_is (sym e) within
+    not_inside within = none_in_section laws section text more bytes text_is (sym e) within
 
   -- ---- no two ends
 
@@ -224,6 +226,22 @@ pub record Course (content : List ℕ) : Type 0 where
   pub sections_are : SectionsText sections done
   pub small : All IsSmall sections
   pub sound : IsSound roots sections
+
+-- a content of which a front reaches these sections, with what is behind them
+course_of : (content : List ℕ) {front : List ℕ} {sections : List Section} {left rest : List ℕ} → (r : Reaches max_block_len front sections left) → IsSound r.roots sections
+    → content ≡ r.header ++ (r.done ++ rest) → Course content
+course_of content {sections = sections} {rest = rest} r sound whole = record {
+  roots = r.roots;
+  header = r.header;
+  sections = sections;
+  done = r.done;
+  rest = rest;
+  whole_is = whole;
+  header_is = r.header_is;
+  sections_are = r.sections_are;
+  small = r.within;
+  sound = sound;
+}
 
 -- how a content ends: in the header, or with so many bytes behind good sections
 pub data Outcome : Type 0 where
@@ -352,18 +370,7 @@ module _ (laws : CarLaws) (spellings : SpellingLaws) (cids : CidsOnce) where
       n.whole ∙ (ap (λ (l : List ℕ). l ++ n.more) (b.whole ∙ ap (λ (l : List ℕ). l ++ b.last ∷ []) r.whole)
       ∙ (append_assoc (r.header ++ (r.done ++ b.rest)) (b.last ∷ []) n.more
       ∙ (append_assoc r.header (r.done ++ b.rest) (b.last ∷ n.more) ∙ ap (λ (l : List ℕ). r.header ++ l) (append_assoc r.done b.rest (b.last ∷ n.more))))) in
-      let course : Course content = record {
-        roots = r.roots;
-        header = r.header;
-        sections = b.sections;
-        done = r.done;
-        rest = rest;
-        whole_is = whole_is;
-        header_is = r.header_is;
-        sections_are = r.sections_are;
-        small = r.within;
-        sound = n.sound;
-      } in
+      let course : Course content = course_of content r n.sound whole_is in
       let none : (section : Section) (behind : List ℕ) → SectionText section ((b.rest ++ b.last ∷ []) ++ behind) → ⊥ = λ section behind text.
       b.hopeless (
         r.roots,
@@ -396,18 +403,7 @@ module _ (laws : CarLaws) (spellings : SpellingLaws) (cids : CidsOnce) where
       let rest : List ℕ = head ++ n.more in
       let whole_is : content ≡ r.header ++ (r.done ++ rest) =
       n.whole ∙ (ap (λ (l : List ℕ). l ++ n.more) r.whole ∙ (append_assoc r.header (r.done ++ head) n.more ∙ ap (λ (l : List ℕ). r.header ++ l) (append_assoc r.done head n.more))) in
-      let course : Course content = record {
-        roots = r.roots;
-        header = r.header;
-        sections = p.sections;
-        done = r.done;
-        rest = rest;
-        whole_is = whole_is;
-        header_is = r.header_is;
-        sections_are = r.sections_are;
-        small = r.within;
-        sound = n.sound;
-      } in
+      let course : Course content = course_of content r n.sound whole_is in
       let size : length content ≡ length n.front + length n.more = ap length n.whole ∙ length-append n.front n.more in
       let left : length rest ≡ length head + length n.more = length-append head n.more in
       let place_is : n.place ≡ length n.front - length head = p.at_is in
@@ -422,18 +418,7 @@ module _ (laws : CarLaws) (spellings : SpellingLaws) (cids : CidsOnce) where
       let r = n.reaches in
       let rest : List ℕ = n.text ++ n.more in
       let front_is : n.front ≡ r.header ++ r.done = r.whole ∙ ap (λ (l : List ℕ). r.header ++ l) (append-nil r.done) in
-      let course : Course content = record {
-        roots = r.roots;
-        header = r.header;
-        sections = n.sections;
-        done = r.done;
-        rest = rest;
-        whole_is = n.whole ∙ (ap (λ (l : List ℕ). l ++ rest) front_is ∙ append_assoc r.header r.done rest);
-        header_is = r.header_is;
-        sections_are = r.sections_are;
-        small = r.within;
-        sound = n.sound;
-      } in
+      let course : Course content = course_of content r n.sound (n.whole ∙ (ap (λ (l : List ℕ). l ++ rest) front_is ∙ append_assoc r.header r.done rest)) in
       let size : length content ≡ length n.front + length rest = ap length n.whole ∙ length-append n.front rest in
       let place : length content - length rest ≡ length n.front = omega arith in (
         ends (length rest) wrong,
@@ -445,18 +430,7 @@ module _ (laws : CarLaws) (spellings : SpellingLaws) (cids : CidsOnce) where
   shows_inside content at n =
       let e = n.ends in
       let r = e.reaches in
-      let course : Course content = record {
-        roots = r.roots;
-        header = r.header;
-        sections = e.sections;
-        done = r.done;
-        rest = e.rest;
-        whole_is = r.whole;
-        header_is = r.header_is;
-        sections_are = r.sections_are;
-        small = r.within;
-        sound = n.sound;
-      } in
+      let course : Course content = course_of content r n.sound r.whole in
       let place : length content - length e.rest ≡ n.place = sym e.at_is in (
         ends (length e.rest) inside,
         (course, refl, (e.inside, e.begun, n.within)),

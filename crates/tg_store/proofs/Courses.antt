@@ -1,40 +1,13 @@
 -- How bytes are divided into a header and sections.
-use Rattle.std.proofs.Common.{◌≡◌, ◌≤◌, ◌<◌, ℕ, List, [], ◌∷◌, ◌++◌, length, All, refl, ap, ap₂, sym, subst, ◌∙◌, arith}
+use Rattle.std.proofs.Common.{◌≡◌, ◌≤◌, ℕ, List, [], ◌∷◌, ◌++◌, length, All, refl, ap, ap₂, sym, subst, ◌∙◌, arith}
 use Rattle.std.proofs.lemmas.List.{append-nil, append_assoc, append_cancel_left, length-append}
 use Rattle.std.proofs.lemmas.List.Elements.{All-cons, All-head, All-nil, All-tail}
 use Rattle.tg_car.specs.CarText.{HeaderText, SectionText, SectionsText}
-use Rattle.tg_car.specs.Fronts.{IsInHeader, IsInSection, Reaches}
+use Rattle.tg_car.specs.Fronts.{IsInSection, Reaches}
 use Rattle.tg_car.specs.Laws.{CarLaws}
 use Rattle.tg_car.specs.declared.section.Section.{Section}
 use Rattle.tg_cid.specs.Limits.{max_block_len}
-
--- ---- lists
-
--- the shorter of two fronts begins the longer one
-pub record Longer (a b x y : List ℕ) : Type 0 where
-  pub middle : List ℕ
-  pub first : b ≡ a ++ middle
-  pub rest : x ≡ middle ++ y
-
-pub longer : (a b x y : List ℕ) → a ++ x ≡ b ++ y → length a ≤ length b → Longer a b x y
-longer [] b x y e l = record { middle = b; first = refl; rest = e }
-longer (n ∷ a) [] x y e l = absurd (omega arith)
-longer (n ∷ a) (m ∷ b) x y e l =
-    let heads : n ≡ m = cc in
-    let tails : a ++ x ≡ b ++ y = cc in
-    let less : length a ≤ length b = omega arith in
-    let behind = longer a b x y tails less in
-    record { middle = behind.middle; first = ap₂ (λ (k : ℕ) (l : List ℕ). k ∷ l) (sym heads) behind.first; rest = behind.rest }
-
--- the last of two lists is the same, and what is before it
-pub same_front : (a b : List ℕ) (x y : ℕ) → a ++ x ∷ [] ≡ b ++ y ∷ [] → a ≡ b
-same_front [] [] x y e = refl
-same_front [] (m ∷ b) x y e = let sizes : length (x ∷ []) ≡ length (m ∷ (b ++ y ∷ [])) = ap length e in absurd (omega (arith, length-append b (y ∷ [])))
-same_front (n ∷ a) [] x y e = let sizes : length (n ∷ (a ++ x ∷ [])) ≡ length (y ∷ []) = ap length e in absurd (omega (arith, length-append a (x ∷ [])))
-same_front (n ∷ a) (m ∷ b) x y e =
-    let heads : n ≡ m = cc in
-    let tails : a ++ x ∷ [] ≡ b ++ y ∷ [] = cc in
-    ap₂ (λ (k : ℕ) (l : List ℕ). k ∷ l) heads (same_front a b x y tails)
+use Rattle.tg_car.specs.LawLemmas.{none_in_section}
 
 -- ---- sections
 
@@ -86,28 +59,6 @@ compare laws Q (s ∷ ss) (t ∷ ts) u v r q h k p p' e =
       | right_goes_on b ↦ right_goes_on b
     ]
 
--- no whole section stands at the front of bytes inside a section
-pub none_inside : CarLaws → (s : Section) (text more r : List ℕ) → SectionText s text → text ++ more ≡ r → IsInSection r → ⊥
-none_inside laws s text more r text_is e inside =
-    let whole : text ++ (more ++ inside.more) ≡ (r ++ inside.more) ++ [] =
-    sym (append_assoc text more inside.more) ∙ (ap (λ (l : List ℕ). l ++ inside.more) e ∙ sym (append-nil (r ++ inside.more))) in
-    let one = laws.one_section s inside.section text (r ++ inside.more) (more ++ inside.more) [] text_is inside.text whole in
-    let lengths : length text ≡ length (r ++ inside.more) = ap length one.0 in
-    let parts : length (text ++ more) ≡ length r = ap length e in
-    let some : 0 < length inside.more = inside.not_whole in
-    omega (arith, length-append text more, length-append r inside.more)
-
--- nor a whole header at the front of bytes inside a header
-pub none_in_header : CarLaws → (roots : List (List ℕ)) (text more r : List ℕ) → HeaderText roots text → text ++ more ≡ r → IsInHeader r → ⊥
-none_in_header laws roots text more r text_is e inside =
-    let whole : text ++ (more ++ inside.more) ≡ (r ++ inside.more) ++ [] =
-    sym (append_assoc text more inside.more) ∙ (ap (λ (l : List ℕ). l ++ inside.more) e ∙ sym (append-nil (r ++ inside.more))) in
-    let one = laws.one_header roots inside.roots text (r ++ inside.more) (more ++ inside.more) [] text_is inside.text whole in
-    let lengths : length text ≡ length (r ++ inside.more) = ap length one.0 in
-    let parts : length (text ++ more) ≡ length r = ap length e in
-    let some : 0 < length inside.more = inside.not_whole in
-    omega (arith, length-append text more, length-append r inside.more)
-
 -- ---- what was reached
 
 -- two headers at the front of the same bytes
@@ -135,8 +86,8 @@ same_reach laws bytes ss ts r q a b inside within =
     let head = same_header laws a.roots b.roots a.header b.header (a.done ++ r) (b.done ++ q) a.header_is b.header_is (sym a.whole ∙ b.whole) in
     elim (compare laws IsSmall ss ts a.done b.done r q a.sections_are b.sections_are a.within b.within head.rests) [
       | same sections rests ↦ record { roots_are = head.roots_are; sections_are = sections; rests = rests }
-      | left_goes_on g ↦ absurd (none_inside laws g.section g.text g.more r g.text_is (sym g.whole) inside)
-      | right_goes_on g ↦ absurd (none_inside laws g.section g.text g.more q g.text_is (sym g.whole) within)
+      | left_goes_on g ↦ absurd (none_in_section laws g.section g.text g.more r g.text_is (sym g.whole) inside)
+      | right_goes_on g ↦ absurd (none_in_section laws g.section g.text g.more q g.text_is (sym g.whole) within)
     ]
 
 -- ---- sections appended

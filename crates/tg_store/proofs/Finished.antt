@@ -18,6 +18,7 @@ use Rattle.tg_files.specs.Packs.{PackMeaning, written}
 use Rattle.tg_files.specs.Packs.PackWrite.{overwrite}
 use Rattle.tg_model.specs.Dag.{Section}
 use Rattle.tg_model.specs.Stores.{AddsEach, AreKeptAs, Store, as_v1}
+use Rattle.tg_bytes.specs.Lists.{neither}
 use Rattle.tg_store.specs.declared.key.Key.{Key}
 use Rattle.tg_store.specs.declared.place.Place.{Place}
 use Rattle.tg_store.specs.Attaching.{IsAttached, IsNamed, IsSmall, first_block, first_under, unfinished_header}
@@ -66,10 +67,6 @@ new_all Q keys (section ∷ sections) all =
         → All Q (cond b (new_beside keys sections) (section ∷ new_beside (keys ++ key_of section.cid ∷ []) sections))
     by true known new = known
     by false known new = All-cons Q section (new_beside (keys ++ key_of section.cid ∷ []) sections) (All-head Q section sections all) new
-
-neither : (b c : Bool) → (b || c) ≡ false → (b ≡ false) × (c ≡ false)
-neither true c h = cc
-neither false c h = (refl, h)
 
 -- of a key behind others
 apart_from : (test : Key → Bool) (keys : List Key) (key : Key) → list_any test (keys ++ key ∷ []) ≡ false → (list_any test keys ≡ false) × (test key ≡ false)

@@ -9,7 +9,6 @@ use Rattle.tg_varint.specs.Varint.{VarintSpelling}
 use Rattle.tg_cid.specs.Cid.{CidParts}
 use Rattle.tg_cid.specs.Spelling.{CidBytes, Varints, codec_code}
 use Rattle.tg_cid.specs.declared.cid.Codec.{Codec}
-use Rattle.tg_cid.specs.declared.cid.Codec.TheVariants.{Raw, DagPb}
 use Rattle.tg_cid.specs.declared.cid.HashKind.{HashKind}
 use Rattle.tg_cid.specs.declared.cid.HashKind.TheVariants.{Sha256, Identity}
 use Rattle.tg_car.specs.CarText.{HeaderText, IsRoot, header_map, root_text, string_head}
@@ -17,6 +16,7 @@ use Rattle.tg_car.specs.Laws.{CarLaws}
 use Rattle.tg_files.specs.Packs.{Reaches, written}
 use Rattle.tg_files.specs.Packs.PackWrite.{append, overwrite}
 use Rattle.tg_bytes.specs.Told.{IsNothing}
+use Rattle.tg_cid.specs.CodeLaws.{codec_below}
 use Rattle.tg_store.specs.declared.key.Key.{Key}
 use Rattle.tg_store.specs.declared.place.Place.{Place}
 use Rattle.tg_store.specs.Attaching.{unfinished_header}
@@ -54,14 +54,10 @@ unfinished_text laws = record {
 one_byte_of : SpellingLaws → (n : ℕ) (bytes : List ℕ) → n < 128 → VarintSpelling n bytes → length bytes ≡ 1
 one_byte_of laws n bytes below v = ap length (laws.one_spelling n bytes (n ∷ []) v (laws.one_byte n below))
 
-code_below : (codec : Codec) → codec_code codec < 128
-code_below Raw = omega arith
-code_below DagPb = omega arith
-
 four_bytes : SpellingLaws → (codec : Codec) (head : List ℕ) → Varints (1 ∷ codec_code codec ∷ 0x12 ∷ 32 ∷ []) head → length head ≡ 4
 four_bytes laws codec head v =
     let a = one_byte_of laws 1 v.0 (omega arith) v.3 in
-    let b = one_byte_of laws (codec_code codec) v.4.0 (code_below codec) v.4.3 in
+    let b = one_byte_of laws (codec_code codec) v.4.0 (codec_below codec) v.4.3 in
     let c = one_byte_of laws 0x12 v.4.4.0 (omega arith) v.4.4.3 in
     let d = one_byte_of laws 32 v.4.4.4.0 (omega arith) v.4.4.4.3 in
     let none : length v.4.4.4.1 ≡ 0 = ap length v.4.4.4.4 in

@@ -14,6 +14,7 @@ use Rattle.tg_car.specs.declared.event.Event.{Event}
 use Rattle.tg_car.specs.declared.event.Event.TheVariants as events
 use Rattle.tg_car.specs.declared.fault.CarFault.{CarFault}
 use Rattle.tg_files.specs.Packs.{PackMeaning, PackQuiet, PackStep, ReadAt, pack_step, rest_at}
+use Rattle.tg_bytes.specs.ToldLaws.{after_front-after_front, after_front-nothing}
 use Rattle.tg_store.specs.declared.fault.PackFault.{PackFault}
 use Rattle.tg_store.specs.declared.fault.PackFault.TheVariants as faults
 use Rattle.tg_store.specs.declared.key.Key.{Key}
@@ -24,7 +25,6 @@ use Rattle.tg_store.specs.Keys.{key_of, of_hash, same_key}
 use Rattle.tg_store.specs.Packs.{block_at}
 use Rattle.tg_store.proofs.Events.{noted_more, placed_first, placed_good, placed_named, placed_once, placed_small}
 use Rattle.tg_store.proofs.Appending.{rose_after}
-use Rattle.tg_store.proofs.Moving.{after_both, after_nothing}
 use Rattle.tg_store.proofs.Stopping.{CidsOnce, IsUnfinishedHeader, end_cause, finished_roots, stop_cause, unfinished_cause, wrong_cause}
 
 -- the history of bytes that were taken
@@ -242,14 +242,14 @@ begun reader places told end along none = record {
   fed = [];
   along = along;
   size = sym none;
-  front = after_nothing (rest_at told 0) ∙ ap (λ n. after_front [] (rest_at told n)) (sym none);
+  front = after_front-nothing (rest_at told 0) ∙ ap (λ n. after_front [] (rest_at told n)) (sym none);
 }
 
 -- what was read, with one piece more
 pub read_front : (reader : ReaderState) (places : List (Key × Place)) (told : Option (List ℕ)) (end count : ℕ) (buf : List ℕ) → (at : IsReadTo reader places told end)
     → ReadAt told end count buf → rest_at told 0 ≡ after_front (at.fed ++ take count buf) (rest_at told (end + count))
 read_front reader places told end count buf at read =
-    at.front ∙ (ap (after_front at.fed) read.bytes ∙ after_both at.fed (take count buf) (rest_at told (end + count)))
+    at.front ∙ (ap (after_front at.fed) read.bytes ∙ after_front-after_front at.fed (take count buf) (rest_at told (end + count)))
 
 -- a refusal stays one where nothing was done to the pack before
 pub refusal_since : {S : Type 0} (m : PackMeaning S) (a b c : S) (fault : PackFault) → m.content b ≡ m.content a → PackQuiet (pack_step m a b) → IsRefusal (pack_step m b c) fault

@@ -1,7 +1,7 @@
 -- Why a pack is refused while it is read.
 use Rattle.std.proofs.Common.{◌≡◌, ◌≢◌, ◌≤◌, ◌<◌, ◌+◌, ℕ, List, [], ◌∷◌, ◌++◌, length, All, refl, ap, sym, subst, ◌∙◌, inl, inr, arith}
 use Rattle.std.proofs.lemmas.Grind.{common_steps}
-use Rattle.std.proofs.lemmas.List.{append-nil, append_assoc, append_cancel_left, length-append}
+use Rattle.std.proofs.lemmas.List.{append-nil, append_assoc, append_cancel_left, length-append, same_from_push}
 use Rattle.std.proofs.lemmas.List.Elements.{All-head, All-tail}
 use Rattle.tg_varint.specs.Laws.{SpellingLaws}
 use Rattle.tg_varint.specs.Varint.{VarintSpelling}
@@ -18,9 +18,11 @@ use Rattle.tg_car.specs.declared.event.Event.TheVariants as events
 use Rattle.tg_car.specs.declared.fault.CarFault.{CarFault}
 use Rattle.tg_car.specs.declared.fault.CarFault.TheVariants as car_faults
 use Rattle.tg_car.specs.declared.section.Section.{Section}
+use Rattle.tg_car.specs.LawLemmas.{none_in_header, none_in_section}
+use Rattle.tg_bytes.specs.Lists.{longer}
 use Rattle.tg_store.specs.Attaching.{AboveLimit, HasPackCause, HasStopCause, HasUnfinishedHeader, IsGoodEvent, IsNamed, IsSmall, IsSound, NoSection, WrongDigest, pack_fault, unfinished_header}
 use Rattle.tg_store.specs.Packs.{unfinished_root}
-use Rattle.tg_store.proofs.Courses.{all_front, compare, left_goes_on, longer, none_in_header, none_inside, right_goes_on, same, same_front, same_header, same_reach}
+use Rattle.tg_store.proofs.Courses.{all_front, compare, left_goes_on, right_goes_on, same, same_header, same_reach}
 use Rattle.tg_store.proofs.Events.{placed_named, placed_text}
 
 -- CIDs of which none begins another
@@ -94,7 +96,7 @@ module _ (laws : CarLaws) (unfinished : IsUnfinishedHeader) where
   pub no_section : (bytes more : List ℕ) (given : List Event) (last at place : ℕ) → GoesOn max_block_len bytes given → All IsGoodEvent given → at ≡ shown place
       → BreaksSection max_block_len (bytes ++ last ∷ []) place → NoSection (bytes ++ last ∷ more) at
   no_section bytes more given last at place goes good e broken =
-      let before : broken.before ≡ bytes = same_front broken.before bytes broken.last last (sym broken.whole) in
+      let before : broken.before ≡ bytes = (same_from_push broken.before bytes broken.last last (sym broken.whole)).0 in
       record {
         front = bytes ++ last ∷ [];
         more = more;
@@ -131,7 +133,7 @@ module _ (laws : CarLaws) (unfinished : IsUnfinishedHeader) where
               let sizes : length rest + 1 ≡ length g.text + length g.more =
               sym (length-append rest (last ∷ [])) ∙ (ap length g.whole ∙ length-append g.text g.more) in
               let l = longer g.text rest g.more (last ∷ []) (sym g.whole) (omega arith) in
-              absurd (none_inside laws g.section g.text l.middle rest g.text_is (sym l.first) a.inside)
+              absurd (none_in_section laws g.section g.text l.middle rest g.text_is (sym l.first) a.inside)
         ]
 
     some_name : (cid : CidParts) (size name : List ℕ) (number : ℕ) → VarintSpelling number size → 0 < length (size ++ name)

@@ -2,8 +2,8 @@
 use Rattle.std.specs.Prelude.{◌≡◌, ◌≢◌, ◌≤◌, ◌+◌, ◌⊎◌, ℕ, Bool, true, false, cond, ◌&&◌, nat_lt, bytes_eq, List, [], ◌∷◌, ◌++◌, length, map, Option, Some, None, option_and_then, is_some, unwrap_or, refl}
 use Rattle.std.specs.List.{list_any}
 use Rattle.std.specs.Map.{keys_of, lookup}
-use Rattle.std.proofs.Common.{inl, inr, ap, ap₂, sym, subst, ◌∙◌, arith, true≢false}
-use Rattle.std.proofs.lemmas.Bool.{and_parts, and_from}
+use Rattle.std.proofs.Common.{inl, inr, ap, ap₂, sym, subst, ◌∙◌, arith}
+use Rattle.std.proofs.lemmas.Bool.{and_parts, and_from, cond-true}
 use Rattle.std.proofs.lemmas.Grind.{common_steps}
 use Rattle.std.proofs.lemmas.List.{append-nil, append_assoc, map-append}
 use Rattle.std.proofs.lemmas.Map.Made.{is_some-lookup}
@@ -39,14 +39,10 @@ checked_is key block found h =
     let good : IsGood key block = record { named = (bytes_eq-Decides key.digest (sha256 block)).0 tests.0; small = below (length block) max_block_len tests.1 } in
     (p.1, subst (IsGood key) p.1 good)
 
-chosen : (test : Bool) (one other : Option (List ℕ)) → test ≡ true → cond test one other ≡ one
-chosen true one other e = refl
-chosen false one other e = absurd (true≢false (sym e))
-
 -- a good block passes
 pub good_checked : (key : Key) (block : List ℕ) → IsGood key block → checked key block ≡ Some block
 good_checked key block good =
-    chosen (bytes_eq key.digest (sha256 block) && nat_lt (length block) (max_block_len + 1)) (Some block) None
+    cond-true (bytes_eq key.digest (sha256 block) && nat_lt (length block) (max_block_len + 1)) (Some block) None
     (and_from _ _ ((bytes_eq-Decides key.digest (sha256 block)).1 good.named) (small_test (length block) max_block_len good.small))
 
 -- that of a CID with sha2-256

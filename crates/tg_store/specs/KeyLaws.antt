@@ -5,20 +5,9 @@ use Rattle.std.specs.Hash as fed
 use Rattle.std.proofs.Common.{ap, sym, subst}
 use Rattle.std.proofs.lemmas.Bool.{and_parts, and_from}
 use Rattle.std.proofs.lemmas.Slice.Eq.{bytes_eq-Decides}
-use Rattle.tg_cid.specs.declared.cid.Codec.{Codec}
-use Rattle.tg_cid.specs.declared.cid.Codec.TheVariants.{Raw, DagPb}
+use Rattle.tg_cid.specs.CodeLaws.{same_codec_is, same_codec_self}
 use Rattle.tg_store.specs.declared.key.Key.{Key}
-use Rattle.tg_store.specs.Keys.{same_codec, same_key}
-
-same_codec_is : (a b : Codec) → same_codec a b ≡ true → a ≡ b
-same_codec_is Raw Raw h = refl
-same_codec_is Raw DagPb h = cc
-same_codec_is DagPb Raw h = cc
-same_codec_is DagPb DagPb h = refl
-
-same_codec_self : (a : Codec) → same_codec a a ≡ true
-same_codec_self Raw = refl
-same_codec_self DagPb = refl
+use Rattle.tg_store.specs.Keys.{same_key}
 
 -- keys that pass the test are equal
 pub same_key_is : (a b : Key) → same_key a b ≡ true → a ≡ b

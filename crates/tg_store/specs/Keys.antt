@@ -1,18 +1,10 @@
 -- The keys under which blocks are found: what a CID and its version 1 form have in common.
-use Rattle.std.specs.Prelude.{Bool, true, false, ◌&&◌, Option, None, bytes_eq}
+use Rattle.std.specs.Prelude.{Bool, ◌&&◌, Option, None, bytes_eq}
 use Rattle.tg_cid.specs.Cid.{CidParts}
-use Rattle.tg_cid.specs.declared.cid.Codec.{Codec}
-use Rattle.tg_cid.specs.declared.cid.Codec.TheVariants.{Raw, DagPb}
 use Rattle.tg_cid.specs.declared.cid.HashKind.{HashKind}
 use Rattle.tg_cid.specs.declared.cid.HashKind.TheVariants.{Sha256, Identity}
+use Rattle.tg_cid.specs.CodeLaws.{same_codec}
 use Rattle.tg_store.specs.declared.key.Key.{Key}
-
--- the codecs are equal
-abbrev pub same_codec : Codec → Codec → Bool
-same_codec Raw Raw = true
-same_codec Raw DagPb = false
-same_codec DagPb Raw = false
-same_codec DagPb DagPb = true
 
 -- the keys are equal
 abbrev pub same_key : Key → Key → Bool
