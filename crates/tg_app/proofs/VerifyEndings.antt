@@ -237,7 +237,7 @@ before_header = record {
       goes_on = search rules;
       ends = omega arith;
       shortest = λ some. omega arith;
-      at_most_nine = omega arith;
+      at_most = omega arith;
       spells = refl;
     };
     whole = refl;

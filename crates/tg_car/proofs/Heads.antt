@@ -5,6 +5,7 @@ use Rattle.std.proofs.lemmas.List.{append_assoc, append-nil, append_cancel_left,
 use Rattle.tg_bytes.specs.Lists.{longer}
 use Rattle.tg_car.specs.TextLaws.{TextLaws}
 use Rattle.tg_cid.specs.Cid.{CidParts}
+use Rattle.tg_varint.specs.GroupLaws.{most_bytes}
 use Rattle.tg_car.specs.Heads.{HeadText, IsInHead, IsNoHead}
 
 pub record SameHeads (a b : List ℕ) (c d : CidParts) (m n : ℕ) : Type 0 where
@@ -40,8 +41,7 @@ pub head_size : TextLaws → (c : CidParts) (m : ℕ) (a : List ℕ) → HeadTex
 head_size laws c m a h =
     let low : 0 < length h.name = laws.lengths.some c h.name h.name_is in
     let high : length h.name ≤ 133 = laws.lengths.most c h.name h.name_is in
-    let front : length h.size_is.front < 9 = h.size_is.at_most_nine in
-    let size : length h.size ≡ length h.size_is.front + 1 = ap length h.size_is.whole ∙ length_push h.size_is.front h.size_is.last in
+    let size : length h.size ≤ 9 = most_bytes (length h.name + m) h.size h.size_is in
     let whole : length a ≡ length h.size + length h.name = ap length h.whole ∙ length-append h.size h.name in
     (omega arith, omega arith)
 

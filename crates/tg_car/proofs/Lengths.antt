@@ -2,6 +2,7 @@
 use Rattle.std.proofs.Common.{◌≡◌, ◌↔◌, ℕ, ◌+◌, ◌*◌, ◌%◌, ◌<◌, ◌≤◌, Option, Some, None, List, [], ◌∷◌, ◌++◌, length, ap, sym, ◌∙◌, refl, subst, MatchOption, arith}
 use Rattle.std.specs.List.{flat_map}
 use Rattle.std.proofs.lemmas.List.Elements.{All-head, All-nil, All-cons}
+use Rattle.tg_varint.specs.GroupLaws.{one_byte}
 use Rattle.tg_varint.specs.Varint.{number_of, AllGoOn, VarintSpelling}
 use Rattle.tg_car.specs.CarText.{array_head, root_text, header_map, HeaderText}
 use Rattle.tg_car.specs.HeaderState.{IsMapSize, IsLive, Follows, GoesOn, map_front, map_back}
@@ -68,17 +69,7 @@ one_from byte rest small (more, e, a) = (
     few = a.few;
     each = a.each;
     size = byte ∷ [];
-    size_is = subst (λ n. VarintSpelling n (byte ∷ [])) (sym a.size_is) (record {
-      front = [];
-      last = byte;
-      whole = refl;
-      are_bytes = All-cons (λ b. b < 256) byte [] (omega arith) (All-nil (λ b. b < 256));
-      goes_on = All-nil (λ b. 128 ≤ b);
-      ends = small;
-      shortest = λ some. absurd (omega arith);
-      at_most_nine = omega arith;
-      spells = omega arith;
-    });
+    size_is = subst (λ n. VarintSpelling n (byte ∷ [])) (sym a.size_is) (one_byte 9 byte (omega arith) small);
     whole = ap (λ l. byte ∷ l) (e ∙ ap (λ l. map_front ++ l) a.whole);
   },
 )
@@ -117,7 +108,7 @@ two_from first second rest large byte some small (more, e, a) = (
       goes_on = All-cons (λ b. 128 ≤ b) first [] large (All-nil (λ b. 128 ≤ b));
       ends = small;
       shortest = λ _. some;
-      at_most_nine = omega arith;
+      at_most = omega arith;
       spells = omega arith;
     });
     whole = ap (λ l. first ∷ second ∷ l) (e ∙ ap (λ l. map_front ++ l) a.whole);

@@ -113,7 +113,7 @@ short_size laws (b ∷ rest) inside bytes =
       goes_on = inside.goes_on;
       ends = omega arith;
       shortest = λ some. omega arith;
-      at_most_nine = inside.fewer;
+      at_most = inside.fewer;
       spells = omega arith;
     } in
     ends_so laws (b ∷ rest) (2 ∷ []) (number - 133) number_is

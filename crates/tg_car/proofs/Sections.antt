@@ -1,7 +1,8 @@
 -- No section begins another, and bytes have one division into sections.
-use Rattle.std.proofs.Common.{◌≡◌, ℕ, ◌+◌, ◌^◌, ◌<◌, List, [], ◌∷◌, ◌++◌, length, take, refl, ap, ap₂, sym, ◌∙◌, subst, arith}
-use Rattle.std.proofs.lemmas.List.{append_assoc, append-nil, append_cancel_left, length-append, length_push, take_at}
+use Rattle.std.proofs.Common.{◌≡◌, ℕ, ◌+◌, ◌^◌, ◌<◌, ◌≤◌, List, [], ◌∷◌, ◌++◌, length, take, refl, ap, ap₂, sym, ◌∙◌, subst, arith}
+use Rattle.std.proofs.lemmas.List.{append_assoc, append-nil, append_cancel_left, length-append, take_at}
 use Rattle.tg_car.specs.TextLaws.{TextLaws}
+use Rattle.tg_varint.specs.GroupLaws.{most_bytes}
 use Rattle.tg_varint.specs.Varint.{VarintSpelling}
 use Rattle.tg_car.specs.declared.section.Section.{Section}
 use Rattle.tg_car.specs.CarText.{SectionText, SectionsText}
@@ -145,7 +146,6 @@ section_text laws s u v h k =
 pub section_long : TextLaws → (s : Section) (bytes : List ℕ) → SectionText s bytes → length bytes < 2 ^ 63 + 9
 section_long laws s bytes h =
     let below : length h.name + length s.block < 2 ^ 63 = laws.varints.below (length h.name + length s.block) h.size h.size_is in
-    let front : length h.size_is.front < 9 = h.size_is.at_most_nine in
-    let size : length h.size ≡ length h.size_is.front + 1 = ap length h.size_is.whole ∙ length_push h.size_is.front h.size_is.last in
+    let size : length h.size ≤ 9 = most_bytes (length h.name + length s.block) h.size h.size_is in
     let whole : length bytes ≡ length (h.size ++ (h.name ++ s.block)) = ap length h.whole in
     omega (arith, length-append h.size (h.name ++ s.block), length-append h.name s.block)

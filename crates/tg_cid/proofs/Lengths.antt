@@ -1,22 +1,19 @@
 -- The bytes of a CID are bytes, and there are 1 to 133 of them.
 use Rattle.std.proofs.Common.{◌≡◌, ℕ, ◌+◌, ◌<◌, ◌≤◌, List, [], ◌∷◌, length, All, ap, sym, ◌∙◌, subst, inl, inr, arith}
-use Rattle.std.proofs.lemmas.List.{length-append, length_push}
+use Rattle.std.proofs.lemmas.List.{length-append}
 use Rattle.std.proofs.lemmas.List.Elements.{All-nil, All-cons, All-append}
+use Rattle.tg_varint.specs.GroupLaws.{not_empty}
 use Rattle.tg_varint.specs.Laws.{SpellingLaws}
-use Rattle.tg_varint.specs.Varint.{VarintSpelling}
 use Rattle.tg_cid.specs.Cid.{CidParts}
 use Rattle.tg_cid.specs.Spelling.{CidBytes, Varints, codec_code, hash_code}
 use Rattle.tg_cid.proofs.Written.{size_most}
 use Rattle.tg_cid.specs.CodeLaws.{codec_below, hash_below}
 
-varint_some : (n : ℕ) (a : List ℕ) → VarintSpelling n a → 0 < length a
-varint_some n a v = let long : length a ≡ length v.front + 1 = ap length v.whole ∙ length_push v.front v.last in omega arith
-
 pub name_some : (cid : CidParts) (name : List ℕ) → CidBytes cid name → 0 < length name
 name_some cid name (inl h) = let long : length name ≡ length (0x12 ∷ 0x20 ∷ cid.digest) = ap length h.whole in omega arith
 name_some cid name (inr h) =
     let n = h.numbers in
-    let first : 0 < length n.0 = varint_some 1 n.0 n.3 in
+    let first : 0 < length n.0 = not_empty 1 n.0 n.3 in
     omega (arith, ap length n.2, length-append n.0 n.1, ap length h.whole, length-append h.head cid.digest)
 
 varints_bytes : (numbers bytes : List ℕ) → Varints numbers bytes → All (λ b. b < 256) bytes

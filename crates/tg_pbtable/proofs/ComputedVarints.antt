@@ -1,8 +1,8 @@
 -- What is computed at the front of bytes is what stands there: varints, values and fields.
-use Rattle.std.proofs.Common.{◌≡◌, ◌≢◌, ℕ, zero, suc, ◌+◌, ◌-◌, ◌*◌, ◌/◌, ◌%◌, ◌^◌, ◌<◌, ◌≤◌, Option, Some, None, Result, Ok, Err, List, [], ◌∷◌, ◌++◌, length, take, drop, get_or, refl, sym, ap, ◌∙◌, subst, inl, inr, arith}
+use Rattle.std.proofs.Common.{◌≡◌, ◌≢◌, ℕ, zero, suc, ◌+◌, ◌-◌, ◌/◌, ◌%◌, ◌^◌, ◌<◌, ◌≤◌, Option, Some, None, Result, Ok, Err, List, [], ◌∷◌, length, take, drop, get_or, refl, sym, ◌∙◌, subst, inl, inr, arith}
 use Rattle.std.specs.Prelude.{All, MatchResult, nat_lt, ◌==◌, ◌&&◌, slice_get, if◌then◌else◌}
 use Rattle.std.proofs.lemmas.Bool.{cases_lt, cond_both, ltb-true, ltb-false, eqb-true, eqb-false, and_parts, and_cases}
-use Rattle.std.proofs.lemmas.List.{length-drop, length-take-le, take_more, take-append-drop, drop-drop}
+use Rattle.std.proofs.lemmas.List.{length-drop, take-append-drop, drop-drop}
 use Rattle.std.proofs.lemmas.List.Elements.{All-nil, All-cons, All-drop}
 use Rattle.std.proofs.lemmas.Option.{slice_get_within, slice_get-get_or, get_or_from_slice_get}
 use Rattle.tg_pbtable.specs.declared.table.Wire.{Wire}
@@ -12,12 +12,11 @@ use Rattle.tg_pbtable.specs.declared.table.Value.TheVariants.{Number, Place}
 use Rattle.tg_pbtable.specs.declared.raw.RawField.{RawField}
 use Rattle.tg_pbtable.specs.declared.raw.ReadFault.{ReadFault}
 use Rattle.tg_pbtable.specs.declared.raw.ReadFault.TheVariants.{Short, Bad}
-use Rattle.tg_pbtable.specs.Varint.{Groups}
 use Rattle.tg_varint.specs.Varint.{number_of, AllGoOn}
 use Rattle.tg_pbtable.specs.Wires.{wire_code, IsNoWire}
 use Rattle.tg_pbtable.specs.Reading.{IsVarintAt, IsVarintFault, IsValueAt, IsValueFault, IsWireOf, IsFieldAt, IsFieldFault}
 use Rattle.tg_pbtable.specs.Computed.{and_then, going_on, below_range, ended, varint_in, place_in, wire_with, value_with, value_in, field_in}
-use Rattle.tg_pbtable.proofs.Varints.{number_push, group_at, zero_at, ends_at}
+use Rattle.tg_varint.specs.GroupLaws.{group_at, inside_at, zero_at}
 use Rattle.tg_pbtable.proofs.Whole.{number_there, place_there, short_place, field_there, fault_there}
 
 -- what goes on with something that was read says what it says of each reading, and of each fault
@@ -59,20 +58,9 @@ none_past bytes i e = elim (cases_lt i (length bytes)) [
 abbrev pub VarintTold : List ℕ → Result (ℕ × ℕ) ReadFault → Type 0
 VarintTold bytes r = MatchResult r (λ v. IsVarintAt bytes v.0 v.1) (λ e. IsVarintFault e bytes)
 
--- the groups up to the byte at `high`
-groups_there : (bytes : List ℕ) (high : ℕ) → All (λ (b : ℕ). b < 256) bytes → AllGoOn (take high bytes) → high < length bytes → high < 10 → get_or bytes high 0 < 128 → (0 < high → 0 < get_or bytes high 0)
-    → Groups (number_of (take (high + 1) bytes)) (take (high + 1) bytes)
-groups_there bytes high are on l few low short =
-    let byte = get_or bytes high 0 in
-    let more : take (high + 1) bytes ≡ take high bytes ++ byte ∷ [] = take_more bytes high 0 l in
-    let size : length (take high bytes) ≡ high = length-take-le high bytes (omega arith) in
-    let number : number_of (take (high + 1) bytes) ≡ number_of (take high bytes) + (byte % 128) * 2 ^ (7 * high) =
-    ap number_of more ∙ number_push (take high bytes) byte ∙ ap (λ (n : ℕ). number_of (take high bytes) + (byte % 128) * 2 ^ (7 * n)) size in
-    subst (λ (t : List ℕ). Groups (number_of (take (high + 1) bytes)) t) (sym more) (group_at bytes high byte (number_of (take (high + 1) bytes)) l are on few low short number refl)
-
 ended_told : (bytes : List ℕ) (high : ℕ) (last : Option ℕ) → slice_get bytes high ≡ last → All (λ (b : ℕ). b < 256) bytes → AllGoOn (take high bytes) → high < 10 → (high < length bytes → get_or bytes high 0 < 128)
     → VarintTold bytes (ended bytes high last)
-ended_told bytes high None e are on few low = ends_at bytes high (none_past bytes high e) few on
+ended_told bytes high None e are on few low = inside_at 10 bytes high (none_past bytes high e) few on
 ended_told bytes high (Some last) e are on few low =
     let l : high < length bytes = slice_get_within bytes high last e in
     let here : get_or bytes high 0 ≡ last = get_or_from_slice_get bytes high last 0 e in
@@ -81,13 +69,13 @@ ended_told bytes high (Some last) e are on few low =
     (λ t.
     let both = and_parts (nat_lt 0 high) (last == 0) t in
     let zero_is : last ≡ 0 = eqb-true last 0 both.1 in
-    zero_at bytes high l on few (ltb-true 0 high both.0) (omega arith))
+    inr (inl (zero_at 10 bytes high l few on (omega arith) (ltb-true 0 high both.0))))
     (λ f.
     let short : 0 < high → 0 < get_or bytes high 0 = λ p. elim (and_cases (nat_lt 0 high) (last == 0) f) [
       | inl fails ↦ let none : high ≤ 0 = ltb-false 0 high fails in omega arith
       | inr fails ↦ elim (cases_lt 0 last) [ inl some ↦ omega arith | inr none ↦ let is : last ≡ 0 = omega arith in absurd (eqb-false last 0 fails is) ]
     ] in
-    let groups = groups_there bytes high are on l few (low l) short in
+    let groups = group_at 10 bytes high number are l few on (low l) short refl in
     cond_both (nat_lt number (2 ^ 64)) (Ok (number, high + 1)) (Err Bad) (VarintTold bytes)
     (λ t. record { inside = omega arith; spells = record { groups = groups; fits = ltb-true number (2 ^ 64) t } })
     (λ f. inr (inr (record {

@@ -3,12 +3,13 @@ use Rattle.std.proofs.Common.{◌≡◌, ℕ, suc, ◌+◌, ◌*◌, ◌/◌, �
 use Rattle.std.specs.Prelude.{All}
 use Rattle.std.proofs.lemmas.Bool.{cases_lt}
 use Rattle.std.proofs.lemmas.List.{length-append, append-nil}
-use Rattle.std.proofs.lemmas.List.Elements.{All-push, All-nil, All-cons, All-tail}
+use Rattle.std.proofs.lemmas.List.Elements.{All-push, All-nil, All-tail}
 use Rattle.std.proofs.lemmas.Nat.{pow-add, pow_below, mul-le}
 use Rattle.tg_pbtable.specs.Varint.{VarintSpelling}
+use Rattle.tg_varint.specs.GroupLaws.{one_long}
 use Rattle.tg_varint.specs.Varint.{number_of, AllGoOn}
 use Rattle.tg_pbtable.specs.Emitted.{Puts}
-use Rattle.tg_pbtable.proofs.Varints.{number_push, same_bytes}
+use Rattle.tg_pbtable.proofs.Varints.{number_push}
 
 -- groups of the number are put, and `left` is what the others are to spell
 pub record HasPut (number left : ℕ) (old new : List ℕ) : Type 0 where
@@ -69,7 +70,7 @@ all_put number left old new fits low h = record {
       goes_on = h.goes_on;
       ends = low;
       shortest = h.more;
-      at_most_ten = elim (cases_lt 0 (length h.bytes)) [
+      at_most = elim (cases_lt 0 (length h.bytes)) [
         | inl some ↦ fewer (number_of h.bytes) left (length h.bytes) (subst (λ (n : ℕ). n < 2 ^ 64) h.spells fits) (h.more some)
         | inr none ↦ omega arith
       ];
@@ -110,7 +111,7 @@ tail_in number (b ∷ front) last bytes w are on low short ten is fits enough =
           goes_on = All-tail (λ (x : ℕ). 128 ≤ x) b front on;
           ends = low;
           shortest = λ _. short (omega arith);
-          at_most_ten = omega arith;
+          at_most = omega arith;
           spells = left;
         };
         fits = omega arith;
@@ -120,23 +121,7 @@ tail_in number (b ∷ front) last bytes w are on low short ten is fits enough =
 tail_of : (number : ℕ) (bytes : List ℕ) → 128 ≤ number → VarintSpelling number bytes → HasTail number bytes
 tail_of number bytes enough p =
     let g = p.groups in
-    tail_in number g.front g.last bytes g.whole g.are_bytes g.goes_on g.ends g.shortest g.at_most_ten g.spells p.fits enough
-
-one_byte : (number : ℕ) → number < 128 → VarintSpelling number (number ∷ [])
-one_byte number low = record {
-  groups = record {
-    front = [];
-    last = number;
-    whole = refl;
-    are_bytes = All-cons (λ (b : ℕ). b < 256) number [] (omega arith) (All-nil (λ (b : ℕ). b < 256));
-    goes_on = All-nil (λ (b : ℕ). 128 ≤ b);
-    ends = low;
-    shortest = λ p. absurd (omega arith);
-    at_most_ten = omega arith;
-    spells = omega arith;
-  };
-  fits = omega arith;
-}
+    tail_in number g.front g.last bytes g.whole g.are_bytes g.goes_on g.ends g.shortest g.at_most g.spells p.fits enough
 
 -- all groups but those of `left` are counted
 pub record HasCounted (number left size : ℕ) : Type 0 where
@@ -176,5 +161,4 @@ one_counted number left size enough h =
 pub all_counted : (number left size : ℕ) (bytes : List ℕ) → left < 128 → HasCounted number left size → VarintSpelling number bytes → size ≡ length bytes
 all_counted number left size bytes low h p =
     let last = h.rest bytes p in
-    let one : length last.0 ≡ 1 = ap length (same_bytes left last.0 (left ∷ []) last.2 (one_byte left low)) in
-    omega (arith, h.size_is, last.1)
+    omega (arith, h.size_is, last.1, one_long left last.0 low last.2.groups)

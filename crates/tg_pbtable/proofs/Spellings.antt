@@ -1,14 +1,16 @@
 -- Fields at the front of bytes: one field at each place, and one text for the same fields.
-use Rattle.std.proofs.Common.{◌≡◌, ℕ, ◌+◌, ◌-◌, ◌*◌, ◌<◌, ◌⊎◌, List, [], ◌∷◌, ◌++◌, length, take, drop, refl, sym, ap, ap₂, ◌∙◌, append_assoc, subst, inl, inr, arith}
+use Rattle.std.proofs.Common.{◌≡◌, ℕ, ◌+◌, ◌*◌, ◌<◌, ◌⊎◌, List, [], ◌∷◌, ◌++◌, length, refl, sym, ap, ap₂, ◌∙◌, append_assoc, subst, inl, inr, arith}
 use Rattle.std.specs.Prelude.{slice_range}
-use Rattle.std.proofs.lemmas.List.{length-append, append-nil, take_at, drop_at}
+use Rattle.std.proofs.lemmas.List.{length-append, append-nil}
 use Rattle.tg_pbtable.specs.declared.table.Field.{Field}
 use Rattle.tg_pbtable.specs.declared.table.Value.{Value}
 use Rattle.tg_pbtable.specs.declared.table.Value.TheVariants.{Number, Place}
 use Rattle.tg_pbtable.specs.Varint.{VarintSpelling}
+use Rattle.tg_bytes.specs.Lists.{between, same_front}
+use Rattle.tg_varint.specs.GroupLaws.{not_empty}
 use Rattle.tg_pbtable.specs.Message.{KeySpelling, NumberSpelling, PlaceSpelling, ValueSpelling, FieldSpelling, Spelled}
 use Rattle.tg_pbtable.specs.Emitted.{IsSameValue, AreSameFields}
-use Rattle.tg_pbtable.proofs.Varints.{one_number, same_bytes, not_empty}
+use Rattle.tg_pbtable.proofs.Varints.{one_number, same_bytes}
 
 -- ---- keys
 
@@ -30,13 +32,6 @@ place_whole at number start end bytes r p =
 
 number_whole : (number value : ℕ) (bytes r : List ℕ) (p : NumberSpelling number value bytes) → bytes ++ r ≡ p.key ++ (p.amount ++ r)
 number_whole number value bytes r p = ap (λ (t : List ℕ). t ++ r) p.whole ∙ append_assoc p.key p.amount r
-
--- lists of one length at the front are the same
-same_front : (a b r s : List ℕ) → length a ≡ length b → a ++ r ≡ b ++ s → (a ≡ b) × (r ≡ s)
-same_front a b r s l e = (
-  sym (take_at a r (length a) refl) ∙ ap (take (length a)) e ∙ take_at b s (length a) (sym l),
-  sym (drop_at a r (length a) refl) ∙ ap (drop (length a)) e ∙ drop_at b s (length a) (sym l),
-)
 
 pub one_value : (at m n : ℕ) (v w : Value) (a b r s : List ℕ) → ValueSpelling at m v a → ValueSpelling at n w b → a ++ r ≡ b ++ s → (m ≡ n) × (v ≡ w) × (a ≡ b) × (r ≡ s)
 one_value at m n (Number i) (Number j) a b r s p q e =
@@ -73,8 +68,8 @@ one_field at f g a b r s p q e =
     (fields, same.2, same.3)
 
 pub value_more : (at number : ℕ) (v : Value) (a : List ℕ) → ValueSpelling at number v a → 0 < length a
-value_more at number (Number n) a p = omega (arith, ap length p.whole, length-append p.key p.amount, not_empty (number * 8 + 0) p.key p.key_is)
-value_more at number (Place start end) a p = omega (arith, ap length p.whole, length-append p.key (p.size ++ p.content), not_empty (number * 8 + 2) p.key p.key_is)
+value_more at number (Number n) a p = omega (arith, ap length p.whole, length-append p.key p.amount, not_empty (number * 8 + 0) p.key p.key_is.groups)
+value_more at number (Place start end) a p = omega (arith, ap length p.whole, length-append p.key (p.size ++ p.content), not_empty (number * 8 + 2) p.key p.key_is.groups)
 
 -- ---- fields one after another
 
@@ -168,18 +163,13 @@ spelled_push (g ∷ gs) f at a b p q =
 
 -- ---- the bytes of a place in a whole text
 
-pub range_at : (a b c : List ℕ) (start end : ℕ) → start ≡ length a → end ≡ start + length b → slice_range (a ++ (b ++ c)) start end ≡ b
-range_at a b c start end s e =
-    let size : length b ≡ end - start = omega arith in
-    ap (take (end - start)) (drop_at a (b ++ c) start (sym s)) ∙ take_at b c (end - start) size
-
 pub place_range : (at number start end : ℕ) (before bytes behind : List ℕ) (p : PlaceSpelling at number start end bytes) → at ≡ length before → slice_range (before ++ (bytes ++ behind)) start end ≡ p.content
 place_range at number start end before bytes behind p e =
     let whole : before ++ (bytes ++ behind) ≡ (before ++ (p.key ++ p.size)) ++ (p.content ++ behind) =
     ap (λ (t : List ℕ). before ++ t) (place_whole at number start end bytes behind p ∙ sym (append_assoc p.key p.size (p.content ++ behind)))
     ∙ sym (append_assoc before (p.key ++ p.size) (p.content ++ behind)) in
     let starts : start ≡ length (before ++ (p.key ++ p.size)) = omega (arith, p.start_is, length-append before (p.key ++ p.size), length-append p.key p.size) in
-    ap (λ (t : List ℕ). slice_range t start end) whole ∙ range_at (before ++ (p.key ++ p.size)) p.content behind start end starts p.end_is
+    ap (λ (t : List ℕ). slice_range t start end) whole ∙ between (before ++ (p.key ++ p.size)) p.content behind start end starts p.end_is
 
 -- two spellings of fields of one number and value are the same bytes
 same_spelling : (m n : ℕ) (v w : Value) (before a behind before' b behind' : List ℕ) → m ≡ n → ValueSpelling (length before) m v a → ValueSpelling (length before') n w b

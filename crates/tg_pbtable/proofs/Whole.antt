@@ -10,11 +10,12 @@ use Rattle.tg_pbtable.specs.declared.table.Value.TheVariants.{Number, Place}
 use Rattle.tg_pbtable.specs.declared.raw.ReadFault.{ReadFault}
 use Rattle.tg_pbtable.specs.declared.raw.ReadFault.TheVariants.{Short, Bad}
 use Rattle.tg_pbtable.specs.Varint.{VarintSpelling, EndsInside, IsBadVarint}
+use Rattle.tg_varint.specs.GroupLaws.{not_empty}
 use Rattle.tg_pbtable.specs.Wires.{wire_type, wire_code, EndsInValue, HasBadValue, HasValue}
 use Rattle.tg_pbtable.specs.Message.{KeySpelling, ValueSpelling, wire_of}
 use Rattle.tg_pbtable.specs.Faults.{HasKey, IsShort, HasBadVarint, HasField}
 use Rattle.tg_pbtable.specs.Reading.{IsVarintAt, IsNumberAt, IsPlaceAt, IsSomeValueAt, IsValueAt, IsValueFault, IsSpelledAt, IsValueOf, IsFieldAt, IsFieldFault}
-use Rattle.tg_pbtable.proofs.Varints.{short_number, short_bad, bad_number, one_number, not_empty}
+use Rattle.tg_pbtable.proofs.Varints.{short_number, short_bad, bad_number, one_number}
 use Rattle.tg_pbtable.proofs.Spellings.{one_key}
 
 -- ---- what is read
@@ -87,7 +88,7 @@ spelled_there at number rest size wire (Number n) next k l h =
         whole = whole;
         spelled = record { key = k.key; amount = h.amount; whole = refl; key_is = key_is; amount_is = h.amount_is };
         next_is = omega (arith, h.next_is, length-append k.key h.amount);
-        more = omega (arith, length-append k.key h.amount, not_empty (number * 8 + 0) k.key key_is);
+        more = omega (arith, length-append k.key h.amount, not_empty (number * 8 + 0) k.key key_is.groups);
       },
     )
 spelled_there at number rest size wire (Place start end) next k l h =
@@ -111,7 +112,7 @@ spelled_there at number rest size wire (Place start end) next k l h =
           end_is = h.end_is;
         };
         next_is = omega (arith, h.next_is, h.end_is, h.start_is, length-append k.key (h.size ++ h.content), length-append h.size h.content);
-        more = omega (arith, length-append k.key (h.size ++ h.content), not_empty (number * 8 + 2) k.key key_is);
+        more = omega (arith, length-append k.key (h.size ++ h.content), not_empty (number * 8 + 2) k.key key_is.groups);
       },
     )
 

@@ -13,6 +13,7 @@ use Rattle.tg_model.specs.Dag.{Section}
 use Rattle.tg_reply.specs.Bodies.{CarsInParts, IsPart, IsSpelled, car_section}
 use Rattle.tg_reply.specs.CarBytes.{car_header, cid_bytes, section_bytes, sized}
 use Rattle.tg_varint.specs.Computed.{varint}
+use Rattle.tg_varint.specs.GroupLaws.{not_empty}
 use Rattle.tg_varint.specs.Laws.{SpellingLaws}
 use Rattle.tg_varint.specs.Varint.{VarintSpelling}
 
@@ -24,15 +25,12 @@ pub record Below : Type 0 where
 
 -- ---- bytes behind their length
 
-some_bytes : (n : ℕ) (bytes : List ℕ) → VarintSpelling n bytes → 0 < length bytes
-some_bytes n bytes h = omega (arith, ap length h.whole, length-append h.front (h.last ∷ []))
-
 part_of : Below → (bytes : List ℕ) → length bytes < 2 ^ 62 → IsPart (sized bytes)
 part_of below bytes small =
     let told = below.varints.computed (length bytes) (omega (arith, small)) in
     let few = below.varints.at_most (length bytes) 9 (varint (length bytes)) (omega arith) (omega (arith, small)) told in
     let both = length-append (varint (length bytes)) bytes in
-    (omega (arith, some_bytes (length bytes) (varint (length bytes)) told, both), omega (arith, few, both, small))
+    (omega (arith, not_empty (length bytes) (varint (length bytes)) told, both), omega (arith, few, both, small))
 
 -- ---- the header
 

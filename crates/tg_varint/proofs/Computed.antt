@@ -3,58 +3,19 @@ use Rattle.std.proofs.Common.{◌≡◌, ℕ, zero, suc, ◌+◌, ◌*◌, ◌/�
 use Rattle.std.specs.Prelude.{◌↔◌, nat_lt, nat_eq}
 use Rattle.std.proofs.Math.Nat.{pow-succ'}
 use Rattle.std.proofs.lemmas.Bool.{cond_both, cond-true, cond-false, ltb-true, ltb-false, lt-ltb, le-ltb, eqb-false, ne_eqb}
-use Rattle.std.proofs.lemmas.List.{append_assoc}
-use Rattle.std.proofs.lemmas.List.Elements.{All-cons, All-head, All-nil, All-tail}
+use Rattle.std.proofs.lemmas.List.Elements.{All-cons, All-head, All-tail}
 use Rattle.tg_varint.specs.Computed.{varint_within, varint, before_group, number_within, front_number}
-use Rattle.tg_varint.specs.Varint.{number_of, AllGoOn, VarintSpelling}
-use Rattle.tg_varint.proofs.Groups.{positive}
-
--- the spelling of a number with at most so many groups behind the first
-record SpelledWithin (more number : ℕ) (bytes : List ℕ) : Type 0 where
-  front : List ℕ
-  last : ℕ
-  whole : bytes ≡ front ++ last ∷ []
-  are_bytes : All (λ b. b < 256) bytes
-  goes_on : AllGoOn front
-  ends : last < 128
-  shortest : 0 < length front → 0 < last
-  few : length front ≤ more
-  spells : number ≡ number_of bytes
-
-whole_spelling : (number : ℕ) (bytes : List ℕ) → SpelledWithin 8 number bytes → VarintSpelling number bytes
-whole_spelling number bytes s = record {
-  front = s.front;
-  last = s.last;
-  whole = s.whole;
-  are_bytes = s.are_bytes;
-  goes_on = s.goes_on;
-  ends = s.ends;
-  shortest = s.shortest;
-  at_most_nine = let few : length s.front ≤ 8 = s.few in omega arith;
-  spells = s.spells;
-}
+use Rattle.tg_varint.specs.GroupLaws.{group_whole, last_counts, one_byte}
+use Rattle.tg_varint.specs.Varint.{number_of, AllGoOn, Groups, VarintSpelling}
 
 last_some : (front : List ℕ) (last number : ℕ) → number ≡ number_of (front ++ last ∷ []) → last < 128 → (0 < length front → 0 < last) → 0 < number → 0 < last
 last_some [] last number e l some h = omega arith
 last_some (x ∷ front) last number e l some h = some (omega arith)
 
-alone : (more n : ℕ) → n < 128 → SpelledWithin more n (n ∷ [])
-alone more n l = record {
-  front = [];
-  last = n;
-  whole = refl;
-  are_bytes = All-cons (λ (b : ℕ). b < 256) n [] (omega arith) (All-nil (λ (b : ℕ). b < 256));
-  goes_on = All-nil (λ (b : ℕ). 128 ≤ b);
-  ends = l;
-  shortest = λ h. absurd (omega arith);
-  few = omega arith;
-  spells = omega arith;
-}
-
 -- one group more in front
-grouped : (more byte number : ℕ) (bytes : List ℕ) → SpelledWithin more number bytes → 128 ≤ byte → byte < 256 → 0 < number
-    → SpelledWithin (suc more) (byte % 128 + 128 * number) (byte ∷ bytes)
-grouped more byte number bytes s high below some = record {
+grouped : (most byte number : ℕ) (bytes : List ℕ) → Groups most number bytes → 128 ≤ byte → byte < 256 → 0 < number
+    → Groups (suc most) (byte % 128 + 128 * number) (byte ∷ bytes)
+grouped most byte number bytes s high below some = record {
   front = byte ∷ s.front;
   last = s.last;
   whole = ap (λ (t : List ℕ). byte ∷ t) s.whole;
@@ -62,24 +23,24 @@ grouped more byte number bytes s high below some = record {
   goes_on = All-cons (λ (b : ℕ). 128 ≤ b) byte s.front high s.goes_on;
   ends = s.ends;
   shortest = λ h. last_some s.front s.last number (s.spells ∙ ap number_of s.whole) s.ends s.shortest some;
-  few = let few : length s.front ≤ more = s.few in omega arith;
+  at_most = let few : length s.front < most = s.at_most in omega arith;
   spells = ap (λ (n : ℕ). byte % 128 + 128 * n) s.spells;
 }
 
-written : (more n : ℕ) → n < 128 ^ suc more → SpelledWithin more n (varint_within more n)
-written zero n below = alone zero n (omega arith)
+written : (more n : ℕ) → n < 128 ^ suc more → Groups (suc more) n (varint_within more n)
+written zero n below = one_byte 1 n (omega arith) (omega arith)
 written (suc more) n below =
-    cond_both (nat_lt n 128) (n ∷ []) ((n % 128 + 128) ∷ varint_within more (n / 128)) (SpelledWithin (suc more) n)
-    (λ t. alone (suc more) n (ltb-true n 128 t))
+    cond_both (nat_lt n 128) (n ∷ []) ((n % 128 + 128) ∷ varint_within more (n / 128)) (Groups (suc (suc more)) n)
+    (λ t. one_byte (suc (suc more)) n (omega arith) (ltb-true n 128 t))
     (λ f.
     let high : 128 ≤ n = ltb-false n 128 f in
     let power : 128 ^ suc (suc more) ≡ 128 * 128 ^ suc more = pow-succ' 128 (suc more) in
     let whole : (n % 128 + 128) % 128 + 128 * (n / 128) ≡ n = omega arith in
-    subst (λ (m : ℕ). SpelledWithin (suc more) m ((n % 128 + 128) ∷ varint_within more (n / 128))) whole
-    (grouped more (n % 128 + 128) (n / 128) (varint_within more (n / 128)) (written more (n / 128) (omega arith)) (omega arith) (omega arith) (omega arith)))
+    subst (λ (m : ℕ). Groups (suc (suc more)) m ((n % 128 + 128) ∷ varint_within more (n / 128))) whole
+    (grouped (suc more) (n % 128 + 128) (n / 128) (varint_within more (n / 128)) (written more (n / 128) (omega arith)) (omega arith) (omega arith) (omega arith)))
 
 pub writes : (n : ℕ) → n < 2 ^ 63 → VarintSpelling n (varint n)
-writes n below = whole_spelling n (varint n) (written 8 n (omega arith))
+writes n below = written 8 n (omega arith)
 
 -- ---- reading
 
@@ -87,7 +48,7 @@ writes n below = whole_spelling n (varint n) (written 8 n (omega arith))
 record FoundWithin (more : ℕ) (bytes : List ℕ) (n : ℕ) (rest : List ℕ) : Type 0 where
   spelling : List ℕ
   whole : bytes ≡ spelling ++ rest
-  spelled : SpelledWithin more n spelling
+  spelled : Groups (suc more) n spelling
 
 abbrev Told : ℕ → List ℕ → Option (ℕ × List ℕ) → Type 0
 Told more bytes o = (n : ℕ) (rest : List ℕ) → o ≡ Some (n, rest) → FoundWithin more bytes n rest
@@ -106,7 +67,7 @@ some_told more bytes n rest f m t e =
     subst (λ (k : ℕ). FoundWithin more bytes k t) same.0 (subst (λ (l : List ℕ). FoundWithin more bytes n l) same.1 f)
 
 alone_found : (more byte : ℕ) (bytes : List ℕ) → byte < 128 → FoundWithin more (byte ∷ bytes) byte bytes
-alone_found more byte bytes l = record { spelling = byte ∷ []; whole = refl; spelled = alone more byte l }
+alone_found more byte bytes l = record { spelling = byte ∷ []; whole = refl; spelled = one_byte (suc more) byte (omega arith) l }
 
 group_told : (more byte : ℕ) (bytes : List ℕ) (o : Option (ℕ × List ℕ)) → 128 ≤ byte → byte < 256 → Told more bytes o
     → Told (suc more) (byte ∷ bytes) (before_group byte o)
@@ -120,7 +81,7 @@ group_told more byte bytes (Some p) high below h =
     some_told (suc more) (byte ∷ bytes) (byte % 128 + 128 * p.0) p.1 (record {
       spelling = byte ∷ inner.spelling;
       whole = ap (λ (t : List ℕ). byte ∷ t) inner.whole;
-      spelled = grouped more byte p.0 inner.spelling inner.spelled high below (omega arith);
+      spelled = grouped (suc more) byte p.0 inner.spelling inner.spelled high below (omega arith);
     }))
 
 told : (more : ℕ) (bytes : List ℕ) → All (λ b. b < 256) bytes → Told more bytes (number_within more bytes)
@@ -148,7 +109,7 @@ found (suc more) (x ∷ front) last rest g l some few =
     let above : 0 < last = some (omega arith) in
     let inner : number_within more (front ++ last ∷ rest) ≡ Some (number_of (front ++ last ∷ []), rest) =
     found more front last rest (All-tail (λ (b : ℕ). 128 ≤ b) x front g) l (λ h. above) (omega arith) in
-    let number : 0 < number_of (front ++ last ∷ []) = positive front last l above in
+    let number : 0 < number_of (front ++ last ∷ []) = last_counts front last above l in
     let not_zero : number_of (front ++ last ∷ []) ≡ 0 → ⊥ = λ e. omega arith in
     cond-false (nat_lt x 128) (Some (x, front ++ last ∷ rest)) (before_group x (number_within more (front ++ last ∷ rest))) (le-ltb x 128 high)
     ∙ ap (before_group x) inner
@@ -157,13 +118,13 @@ found (suc more) (x ∷ front) last rest g l some few =
 
 spelled_found : (n : ℕ) (a rest : List ℕ) → VarintSpelling n a → front_number (a ++ rest) ≡ Some (n, rest)
 spelled_found n a rest v =
-    ap front_number (ap (λ (t : List ℕ). t ++ rest) v.whole ∙ append_assoc v.front (v.last ∷ []) rest)
-    ∙ found 8 v.front v.last rest v.goes_on v.ends v.shortest (let few : length v.front < 9 = v.at_most_nine in omega arith)
+    ap front_number (group_whole n a rest v)
+    ∙ found 8 v.front v.last rest v.goes_on v.ends v.shortest (let few : length v.front < 9 = v.at_most in omega arith)
     ∙ ap (λ (m : ℕ). Some (m, rest)) (ap number_of (sym v.whole) ∙ sym v.spells)
 
 pub reads : (bytes : List ℕ) → All (λ b. b < 256) bytes → (n : ℕ) (rest : List ℕ)
     → (front_number bytes ≡ Some (n, rest)) ↔ ((a : List ℕ) × (bytes ≡ a ++ rest) × VarintSpelling n a)
 reads bytes are n rest = (
-  λ e. let f = told 8 bytes are n rest e in (f.spelling, f.whole, whole_spelling n f.spelling f.spelled),
+  λ e. let f = told 8 bytes are n rest e in (f.spelling, f.whole, f.spelled),
   λ h. ap front_number h.1 ∙ spelled_found n h.0 rest h.2,
 )

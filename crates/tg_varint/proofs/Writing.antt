@@ -4,8 +4,8 @@ use Rattle.std.proofs.lemmas.Bool.{cases_lt}
 use Rattle.std.proofs.Math.Nat.{pow-suc, pow-succ', pow-le-pow_right}
 use Rattle.std.proofs.lemmas.List.{take_more_set, drop-set-lt, drop-drop, drop-replicate, length-take-le, length-set}
 use Rattle.std.proofs.lemmas.List.Elements.{All-push}
+use Rattle.tg_varint.specs.GroupLaws.{number_append}
 use Rattle.tg_varint.specs.Varint.{number_of, AllGoOn, VarintSpelling}
-use Rattle.tg_varint.proofs.Groups.{number_of-append}
 
 -- the first groups of the number are written, and the rest of it is still to come
 pub record Written (number rest at : ℕ) (room : List ℕ) : Type 0 where
@@ -51,7 +51,7 @@ number_set number rest next at byte room within spells e =
     let parts : number_of (take (at + 1) (set room at byte)) ≡ number_of (take at room ++ byte ∷ []) =
     ap number_of (take_more_set room at byte within) in
     let sum : number_of (take at room ++ byte ∷ []) ≡ number_of (take at room) + 128 ^ length (take at room) * number_of (byte ∷ []) =
-    number_of-append (take at room) (byte ∷ []) in
+    number_append (take at room) (byte ∷ []) in
     let weights : 128 ^ length (take at room) * number_of (byte ∷ []) ≡ 128 ^ at * (byte % 128) =
     ap₂ (λ k g. 128 ^ k * g) long (omega arith) in
     let heavier : 128 ^ (at + 1) ≡ 128 ^ at * 128 = rw add-one (pow-suc 128 at) in
@@ -111,6 +111,6 @@ written_all number rest at byte room w last e =
       goes_on = w.goes_on;
       ends = omega arith;
       shortest = λ h. let above : 0 < rest = some (omega arith) in omega arith;
-      at_most_nine = omega arith;
+      at_most = omega arith;
       spells = omega arith;
     }

@@ -1,3 +1,4 @@
 pub mod Varint
+pub mod GroupLaws
 pub mod Computed
 pub mod Laws

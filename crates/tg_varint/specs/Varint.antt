@@ -11,8 +11,10 @@ number_of (b ∷ bytes) = b % 128 + 128 * number_of bytes
 abbrev pub AllGoOn : List ℕ → Type 0
 AllGoOn bytes = All (λ b. 128 ≤ b) bytes
 
+-- ---- groups, where a spelling may have at most so many
+
 -- the bytes are the one spelling of the number
-pub record VarintSpelling (number : ℕ) (bytes : List ℕ) : Type 0 where
+pub record Groups (most number : ℕ) (bytes : List ℕ) : Type 0 where
   pub front : List ℕ
   pub last : ℕ
   pub whole : bytes ≡ front ++ last ∷ []
@@ -20,24 +22,42 @@ pub record VarintSpelling (number : ℕ) (bytes : List ℕ) : Type 0 where
   pub goes_on : AllGoOn front
   pub ends : last < 128
   pub shortest : 0 < length front → 0 < last
-  pub at_most_nine : length front < 9
+  pub at_most : length front < most
   pub spells : number ≡ number_of bytes
 
--- the bytes end inside a spelling of at most nine bytes
-pub record EndsInside (bytes : List ℕ) : Type 0 where
+-- the bytes end inside a spelling
+pub record GroupsInside (most : ℕ) (bytes : List ℕ) : Type 0 where
   pub goes_on : AllGoOn bytes
-  pub fewer : length bytes < 9
+  pub fewer : length bytes < most
 
--- nine bytes stand with the high bit set in each
-pub record PassesNine (bytes : List ℕ) : Type 0 where
-  pub enough : 9 ≤ length bytes
-  pub goes_on : AllGoOn (take 9 bytes)
+-- so many bytes stand with the high bit set in each
+pub record GroupsPast (most : ℕ) (bytes : List ℕ) : Type 0 where
+  pub enough : most ≤ length bytes
+  pub goes_on : AllGoOn (take most bytes)
 
--- a spelling of two to nine bytes ends in a zero byte, so a shorter one spells the same number
-pub record EndsInZero (bytes : List ℕ) : Type 0 where
+-- a spelling of two bytes or more ends in a zero byte, so a shorter one spells the same number
+pub record GroupsInZero (most : ℕ) (bytes : List ℕ) : Type 0 where
   pub front : List ℕ
   pub rest : List ℕ
   pub whole : bytes ≡ front ++ 0 ∷ rest
   pub goes_on : AllGoOn front
   pub not_alone : 0 < length front
-  pub at_most_nine : length front < 9
+  pub at_most : length front < most
+
+-- ---- varints
+
+-- the bytes are the one spelling of the number
+abbrev pub VarintSpelling : ℕ → List ℕ → Type 0
+VarintSpelling number bytes = Groups 9 number bytes
+
+-- the bytes end inside a spelling of at most nine bytes
+abbrev pub EndsInside : List ℕ → Type 0
+EndsInside bytes = GroupsInside 9 bytes
+
+-- nine bytes stand with the high bit set in each
+abbrev pub PassesNine : List ℕ → Type 0
+PassesNine bytes = GroupsPast 9 bytes
+
+-- a spelling of two to nine bytes ends in a zero byte, so a shorter one spells the same number
+abbrev pub EndsInZero : List ℕ → Type 0
+EndsInZero bytes = GroupsInZero 9 bytes

@@ -2,43 +2,17 @@
 use Rattle.std.proofs.Common.{◌≡◌, ◌⊎◌, ◌*◌, ◌+◌, ◌-◌, ◌<◌, ◌≤◌, ℕ, Bool, true, false, cond, List, [], ◌∷◌, ◌++◌, length, take, refl, sym, ap, ◌∙◌, subst, inl, inr, arith, append_assoc, length-append}
 use Rattle.std.specs.Prelude.{All, nat_lt, slice_range, ◌==◌, if◌then◌else◌}
 use Rattle.std.proofs.lemmas.Bool.{eq-eqb, le-ltb, lt-ltb, cases_lt}
-use Rattle.std.proofs.lemmas.List.{drop_at, take_at}
 use Rattle.std.proofs.lemmas.List.Elements.{All-head, All-tail}
+use Rattle.tg_bytes.specs.Lists.{between}
 use Rattle.tg_pbtable.specs.Message.{Spelled, ValueSpelling}
 use Rattle.tg_pbtable.specs.Values.{bytes_at, bytes_in, number_in, numbers_at}
 use Rattle.tg_pbtable.specs.Varint.{VarintSpelling}
-use Rattle.tg_varint.specs.Varint.{number_of}
+use Rattle.tg_varint.specs.GroupLaws.{most_bytes, one_long}
 use Rattle.tg_pbtable.specs.declared.table.Field.{Field}
 use Rattle.tg_pbtable.specs.declared.table.Value.{Value}
 use Rattle.tg_pbtable.specs.declared.table.Value.TheVariants.{Number, Place}
 
 -- ---- varints
-
--- groups that end in a group that isn't zero spell no zero
-last_counts : (front : List ℕ) (last : ℕ) → 0 < last → last < 128 → 0 < number_of (front ++ last ∷ [])
-last_counts [] last p l = omega arith
-last_counts (b ∷ front) last p l = let h = last_counts front last p l in omega arith
-
-alone : (front : List ℕ) (last : ℕ) → (0 < length front → 0 < last) → last < 128 → number_of (front ++ last ∷ []) < 128 → length front ≡ 0
-alone [] last s e l = refl
-alone (b ∷ front) last s e l =
-    let some : 0 < length (b ∷ front) = omega arith in
-    let h = last_counts front last (s some) e in
-    absurd (omega arith)
-
--- a number below 128 is spelled by one byte, and any number by at most ten
-pub one_byte : (n : ℕ) (bytes : List ℕ) → n < 128 → VarintSpelling n bytes → length bytes ≡ 1
-one_byte n bytes l h =
-    let g = h.groups in
-    let few = alone g.front g.last g.shortest g.ends (subst (λ (m : ℕ). m < 128) (g.spells ∙ ap number_of g.whole) l) in
-    ap length g.whole ∙ length-append g.front (g.last ∷ []) ∙ ap (λ (m : ℕ). m + 1) few
-
-pub at_most_ten : (n : ℕ) (bytes : List ℕ) → VarintSpelling n bytes → length bytes ≤ 10
-at_most_ten n bytes h =
-    let g = h.groups in
-    let most : length g.front < 10 = g.at_most_ten in
-    let size : length bytes ≡ length g.front + 1 = ap length g.whole ∙ length-append g.front (g.last ∷ []) in
-    omega arith
 
 -- how many bytes a number takes at most
 abbrev pub size_room : ℕ → ℕ
@@ -56,9 +30,9 @@ size_most n = cond_most (nat_lt n 128)
 
 size_fits : (n : ℕ) (bytes : List ℕ) → VarintSpelling n bytes → length bytes ≤ size_room n
 size_fits n bytes h =
-    let any = at_most_ten n bytes h in
+    let any : length bytes ≤ 10 = most_bytes n bytes h.groups in
     elim (cases_lt n 128) [
-      | inl l ↦ let one = one_byte n bytes l h in let room = small_size n l in omega arith
+      | inl l ↦ let one = one_long n bytes l h.groups in let room = small_size n l in omega arith
       | inr l ↦ let room : size_room n ≡ 10 = ap (λ (b : Bool). cond b 1 10) (le-ltb n 128 l) in omega arith
     ]
 
@@ -80,20 +54,15 @@ abbrev pub fields_room : List ℕ → List Field → ℕ
 fields_room text [] = 0
 fields_room text (field ∷ fields) = value_room text field.value + fields_room text fields
 
-between : (a b c : List ℕ) (start end : ℕ) → start ≡ length a → end ≡ start + length b → slice_range (a ++ (b ++ c)) start end ≡ b
-between a b c start end s e =
-    let size : length b ≡ end - start = omega arith in
-    ap (take (end - start)) (drop_at a (b ++ c) start (sym s)) ∙ take_at b c (end - start) size
-
 value_fits : (text before front rest : List ℕ) (number : ℕ) (value : Value) → text ≡ before ++ (front ++ rest) → number < 15
     → ValueSpelling (length before) number value front → length front ≤ value_room text value
 value_fits text before front rest number (Number n) w l h =
-    let key = one_byte _ h.key (omega arith) h.key_is in
-    let amount = at_most_ten _ h.amount h.amount_is in
+    let key = one_long _ h.key (omega arith) h.key_is.groups in
+    let amount = most_bytes _ h.amount h.amount_is.groups in
     let size : length front ≡ length h.key + length h.amount = ap length h.whole ∙ length-append h.key h.amount in
     omega arith
 value_fits text before front rest number (Place start end) w l h =
-    let key = one_byte _ h.key (omega arith) h.key_is in
+    let key = one_long _ h.key (omega arith) h.key_is.groups in
     let amount = size_fits _ h.size h.size_is in
     let head = before ++ (h.key ++ h.size) in
     let at : length head ≡ length before + (length h.key + length h.size) = length-append before (h.key ++ h.size) ∙ ap (λ (n : ℕ). length before + n) (length-append h.key h.size) in

@@ -1,7 +1,8 @@
-use Rattle.std.proofs.Common.{◌≡◌, ℕ, ◌+◌, ◌*◌, ◌%◌, ◌^◌, ◌<◌, ◌≤◌, get_or, take, refl, sym, subst, arith, rules}
+use Rattle.std.proofs.Common.{◌≡◌, ℕ, ◌+◌, ◌*◌, ◌%◌, ◌^◌, ◌<◌, ◌≤◌, get_or, take, refl, sym, subst, inl, inr, arith, rules}
 use Rattle.std.proofs.lemmas.List.Elements.{All-from_get_or}
+use Rattle.tg_varint.specs.GroupLaws.{zero_at}
 use Rattle.tg_varint.specs.Varint.{number_of}
-use Rattle.tg_pbtable.proofs.Varints.{bad_at, zero_at, sum_fits, sum_is, spelled_at, go_on}
+use Rattle.tg_pbtable.proofs.Varints.{bad_at, sum_fits, sum_is, spelled_at, go_on}
 use Rattle.tg_pbtable.proofs.raw.long_varint_at.Goals as goal
 use Rattle.tg_pbtable.proofs.raw.long_varint_at.Goals.{else-i-eq9-via-then-i-eq9+else-byte-ne1, else-i-eq9-via-else-i-eq9, else-byte-eq0-via-then-byte-eq0+else-i-gt0, else-byte-eq0-via-else-byte-eq0}
 
@@ -22,7 +23,7 @@ overflow_add-number c =
 
 pub returns-then-i-gt0 : goal.returns-then-i-gt0
 returns-then-i-gt0 c =
-    zero_at c.args.bytes.now c.loop-i.i (omega arith) c.loop-i.invariant.1 c.loop-i.invariant.0 c.if-i-gt0.true (sym c.if-byte-eq0.true)
+    inr (inl (zero_at 10 c.args.bytes.now c.loop-i.i (omega arith) c.loop-i.invariant.0 c.loop-i.invariant.1 c.if-byte-eq0.true c.if-i-gt0.true))
 
 pub returns-then-byte-lt128 : goal.returns-then-byte-lt128
 returns-then-byte-lt128 c =
