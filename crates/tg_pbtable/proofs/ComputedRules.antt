@@ -23,7 +23,8 @@ use Rattle.tg_pbtable.specs.Faults.{HasField, BreaksOrder}
 use Rattle.tg_pbtable.specs.Cursor.{IsRefused, EndsIn, has_number}
 use Rattle.tg_pbtable.specs.Reading.{IsValueOf, IsSpelledAt, IsRuleAt, IsRuled}
 use Rattle.tg_pbtable.specs.Computed.{rule_of, Ruled, with_value, with_rule, ruled, ends_in, breaks_order, is_many, asks, lower, lowest_missing}
-use Rattle.tg_pbtable.proofs.Numbers.{count_contains, contains_count, last_of, none_counted, rises, new_run, same_run}
+use Rattle.tg_bytes.specs.Lists.{rises}
+use Rattle.tg_pbtable.proofs.Numbers.{count_contains, contains_count, last_of, none_counted, new_run, same_run}
 use Rattle.tg_pbtable.proofs.Whole.{same_code}
 use Rattle.tg_pbtable.proofs.ComputedVarints.{FieldTold}
 

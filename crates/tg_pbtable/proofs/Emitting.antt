@@ -4,6 +4,7 @@ use Rattle.std.specs.Prelude.{All, slice_range, ◌==◌, Result, Ok, Err, OnOk}
 use Rattle.std.specs.Result.{is_ok}
 use Rattle.std.proofs.lemmas.List.{length-append, append-nil}
 use Rattle.std.proofs.lemmas.List.Elements.{All-nil, All-cons, All-head, All-tail, All-append}
+use Rattle.tg_bytes.specs.Lists.{AreBytes}
 use Rattle.tg_pbtable.specs.declared.table.Rule.{Rule}
 use Rattle.tg_pbtable.specs.declared.table.Order.{Order}
 use Rattle.tg_pbtable.specs.declared.table.Field.{Field}
@@ -51,9 +52,6 @@ pub text_more : (source : List ℕ) (fs : List Field) (f : Field) (old new : Lis
 text_more source fs f old new h p =
     subst (λ (t : List ℕ). FieldTexts source (fs ++ f ∷ []) t) (sym p.whole)
     (texts_append source fs (f ∷ []) old p.bytes h (p.bytes, [], sym (append-nil p.bytes), p.spells, refl))
-
-abbrev AreBytes : List ℕ → Type 0
-AreBytes text = All (λ (b : ℕ). b < 256) text
 
 value_bytes : (source : List ℕ) (number : ℕ) (value : Value) (text : List ℕ) → ValueText source number value text → AreBytes text
 value_bytes source number (Number n) text p =

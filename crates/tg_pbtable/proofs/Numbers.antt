@@ -7,9 +7,9 @@ use Rattle.std.proofs.lemmas.Bool.Decides.{Decides-eqb}
 use Rattle.std.proofs.lemmas.Bool.{cases_lt, cases_eq, eq-eqb, ne_eqb, ltb-false}
 use Rattle.std.proofs.lemmas.List.{length-append, get_or_push, get_or_at, get_or_append_left, take_more, take_all, map-append, get_or_default}
 use Rattle.std.proofs.lemmas.List.Elements.{Contains-append_right}
-use Rattle.std.proofs.lemmas.List.Sorted.{IsNonDecreasingBy-push}
 use Rattle.std.proofs.lemmas.List.Sums.{sum_by-cons, sum_by-append, sum_by_push}
 use Rattle.std.proofs.lemmas.Map.Made.{Contains-tail}
+use Rattle.tg_bytes.specs.Lists.{rises}
 use Rattle.tg_pbtable.specs.declared.table.Field.{Field}
 use Rattle.tg_pbtable.specs.declared.table.Order.{Order}
 use Rattle.tg_pbtable.specs.declared.table.Order.TheVariants.{Ascending, Runs}
@@ -145,9 +145,6 @@ none_before Ascending ns n h not_last c =
     let high : get_or (ns ++ n ∷ []) last 0 ≤ get_or (ns ++ n ∷ []) (length ns) 0 = h last (length ns) 0 (omega arith) (within ns [] n) in
     not_last (ends_in_last ns n (omega arith) (omega arith))
 none_before Runs ns n h not_last c = not_last (together_last ns [] n h c)
-
-pub rises : (ns : List ℕ) (n : ℕ) → IsNonDecreasing ns → (0 < length ns → get_or ns (length ns - 1) 0 ≤ n) → IsNonDecreasing (ns ++ n ∷ [])
-rises ns n h last = IsNonDecreasingBy-push (λ (x : ℕ). x) ns n h (λ d p. let e : get_or ns (length ns - 1) d ≡ get_or ns (length ns - 1) 0 = get_or_default ns (length ns - 1) d 0 (omega arith) in let l = last p in omega arith)
 
 pub new_run : (ns : List ℕ) (n : ℕ) → StandTogether ns → (Contains ns n → ⊥) → StandTogether (ns ++ n ∷ [])
 new_run ns n h new i j k ij jk kl e =

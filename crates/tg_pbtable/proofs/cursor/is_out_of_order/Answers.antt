@@ -2,7 +2,7 @@ use Rattle.std.proofs.Common.{◌≡◌, ℕ, List, [], ◌∷◌, ◌++◌, Opt
 use Rattle.std.specs.Prelude.{MatchBool, Contains, nat_lt, not, ◌==◌}
 use Rattle.std.specs.Option.{option_eq}
 use Rattle.std.specs.List.Sorted.{IsNonDecreasing}
-use Rattle.std.proofs.lemmas.Bool.{cases_lt, le-ltb}
+use Rattle.std.proofs.lemmas.Bool.{cases_lt, false≢true, le-ltb}
 use Rattle.std.proofs.lemmas.Bool.Decides.{Decides-ltb}
 use Rattle.tg_pbtable.specs.declared.table.Order.{Order}
 use Rattle.tg_pbtable.specs.declared.table.Order.TheVariants.{Ascending, Runs}
@@ -31,12 +31,9 @@ returns-in-None c = λ ns last_is means inorder.
     subst (λ (o : Order). IsInOrder o (ns ++ c.args.number ∷ [])) (sym c.in-Ascending.is)
     (rises_alone ns c.args.number (subst (λ (o : Order). IsInOrder o ns) c.in-Ascending.is inorder) (subst (λ (l : Option ℕ). IsLast ns l) c.in-None.is last_is))
 
-false_true : false ≡ true → ⊥
-false_true e = cc
-
 seen_run : (ns : List ℕ) (n : ℕ) (b : Bool) → Contains ns n → StandTogether ns → (b ≡ true → EndsIn ns n) × (EndsIn ns n → b ≡ true) → Answer Runs ns n (not b)
 seen_run ns n true has h ends = same_run ns n h (ends.0 refl)
-seen_run ns n false has h ends = (has, λ front e. false_true (ends.1 (front, e)))
+seen_run ns n false has h ends = (has, λ front e. false≢true (ends.1 (front, e)))
 
 pub returns-then-seen : goal.returns-then-seen
 returns-then-seen c = λ ns last_is means inorder.
@@ -47,4 +44,4 @@ returns-then-seen c = λ ns last_is means inorder.
 pub returns-else-seen : goal.returns-else-seen
 returns-else-seen c = λ ns last_is means inorder.
     subst (λ (b : Bool). Answer c.args.order ns c.args.number b) (sym c.if-seen.false)
-    (subst (λ (o : Order). Answer o ns c.args.number false) (sym c.in-Runs.is) (new_run ns c.args.number (subst (λ (o : Order). IsInOrder o ns) c.in-Runs.is inorder) (λ h. false_true (sym c.if-seen.false ∙ means.1 h))))
+    (subst (λ (o : Order). Answer o ns c.args.number false) (sym c.in-Runs.is) (new_run ns c.args.number (subst (λ (o : Order). IsInOrder o ns) c.in-Runs.is inorder) (λ h. false≢true (sym c.if-seen.false ∙ means.1 h))))

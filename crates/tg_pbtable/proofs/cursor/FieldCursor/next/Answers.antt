@@ -1,5 +1,6 @@
 use Rattle.std.proofs.Common.{◌≡◌, ◌≢◌, [], ◌∷◌, ◌++◌, true, false, refl, sym, ◌∙◌, arith}
 use Rattle.std.specs.Prelude.{not}
+use Rattle.std.proofs.lemmas.Bool.{false≢true}
 use Rattle.tg_pbtable.specs.declared.table.Times.{Times}
 use Rattle.tg_pbtable.specs.declared.table.Times.TheVariants.{One, Optional, Many}
 use Rattle.tg_pbtable.specs.contracts.table.Times.{the_type}
@@ -21,9 +22,6 @@ is_many : (t : Times) → not (sameb the_type t Many) ≡ false → t ≡ Many
 is_many One e = absurd cc
 is_many Optional e = absurd cc
 is_many Many e = refl
-
-false_true : false ≡ true → ⊥
-false_true e = cc
 
 pub returns-in-Some-clause-next : goal.returns-in-Some-clause-next
 returns-in-Some-clause-next g c = λ fields h. rw c.from.ensures (missing_there c.args.rules.now c.args.order c.args.bytes.now fields c.args.self.now c.in-Some.number (omega arith) h c.in-Some.ensures)
@@ -50,6 +48,6 @@ returns-clause-next g c = λ fields h.
     let once : c.in_ok-index.ensures.rule.times ≢ Many → EndsIn (numbers_of fields) number → ⊥ = λ not_many' ends.
     elim c.else-eq.branch [
       | else-eq-via-then-eq+else-ne w ↦ not_many' (times_is c.args.rules.now c.args.self.now.at _ c.in_ok-index.index c.in_ok-index.field c.in_ok-index.next _ c.in_ok-index.ensures (is_many _ (sym w.if-ne.ensures)))
-      | else-eq-via-else-eq w ↦ false_true (w.if-eq.ensures ∙ (same_last (numbers_of fields) c.args.self.now.last number h.last_is).1 ends)
+      | else-eq-via-else-eq w ↦ false≢true (w.if-eq.ensures ∙ (same_last (numbers_of fields) c.args.self.now.last number h.last_is).1 ends)
     ] in
     read_more c.args.rules.now c.args.order c.args.bytes.now fields c.args.self.now c.in_ok-index.index c.in_ok-index.field c.in_ok-index.next c.requires.table h c.in_ok-index.ensures inorder once
