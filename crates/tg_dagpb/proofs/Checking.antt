@@ -11,6 +11,7 @@ use Rattle.tg_pbtable.specs.Values.{bytes_at, later}
 use Rattle.tg_pbtable.specs.Place.{placed_bytes}
 use Rattle.tg_pbtable.specs.declared.table.Place.{Place}
 use Rattle.tg_pbtable.specs.Laws.{TableLaws}
+use Rattle.tg_pbtable.specs.TableRules.{any_rule}
 use Rattle.tg_dagpb.specs.declared.TheConstants.{NODE}
 use Rattle.tg_dagpb.specs.declared.Link.{Link}
 use Rattle.tg_dagpb.specs.declared.LinkPlaces.{LinkPlaces}
@@ -19,7 +20,6 @@ use Rattle.tg_dagpb.specs.Node.{LinkText, LinkTexts, NodeText}
 use Rattle.tg_dagpb.specs.Cursor.{HasPayloadAt, placed_link}
 use Rattle.tg_dagpb.specs.Faults.{IsLinkText, HasBadLink}
 use Rattle.tg_dagpb.specs.Reading.{placed, IsLinkBetween, IsBadPlace, IsBadField, HasFirstBad, IsVerdict}
-use Rattle.tg_dagpb.proofs.Parts.{any_rule}
 use Rattle.tg_dagpb.proofs.Causes.{link_has_none}
 use Rattle.tg_dagpb.proofs.Same.{one_node}
 

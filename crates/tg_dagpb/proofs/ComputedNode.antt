@@ -3,6 +3,7 @@ use Rattle.std.proofs.Common.{◌≡◌, ◌≢◌, ℕ, ◌-◌, ◌<◌, ◌�
 use Rattle.std.specs.Prelude.{All, MatchResult, ◌↔◌, ◌==◌, unwrap_or, slice_range}
 use Rattle.std.proofs.lemmas.Bool.{cond-true, cond-false, cases_eq, eq-eqb, ne_eqb}
 use Rattle.std.proofs.lemmas.List.Elements.{All-nil, All-cons, All-head, All-tail, All-append, All-take, All-drop}
+use Rattle.tg_bytes.specs.Lists.{AreBytes}
 use Rattle.tg_pbtable.specs.declared.table.Field.{Field}
 use Rattle.tg_pbtable.specs.declared.table.Order.TheVariants.{Ascending, Runs}
 use Rattle.tg_pbtable.specs.declared.table.Value.{Value}
@@ -13,6 +14,7 @@ use Rattle.tg_pbtable.specs.Faults.{HasCause}
 use Rattle.tg_pbtable.specs.Values.{numbers_at, bytes_at, bytes_in, listed}
 use Rattle.tg_pbtable.specs.Computed.{fields_of, and_then, first_of}
 use Rattle.tg_pbtable.specs.Laws.{TableLaws}
+use Rattle.tg_pbtable.specs.TableRules.{any_rule, rule_at}
 use Rattle.tg_dagpb.specs.declared.TheConstants.{NODE, LINK}
 use Rattle.tg_dagpb.specs.declared.Link.{Link}
 use Rattle.tg_dagpb.specs.declared.Node.{Node}
@@ -20,10 +22,8 @@ use Rattle.tg_dagpb.specs.Node.{LinkText, HasLinkParts, LinkTexts, NodeText}
 use Rattle.tg_dagpb.specs.Faults.{moved_by, IsLinkText, HasNodeCause}
 use Rattle.tg_dagpb.specs.Reading.{placed, HasFirstBad}
 use Rattle.tg_dagpb.specs.Computed.{link_parts, link_in, moved_to, with_link, links_in, with_links, with_fields, node_of}
-use Rattle.tg_dagpb.proofs.Parts.{node_table, link_table, any_rule, link_rule}
-
-abbrev AreBytes : List ℕ → Type 0
-AreBytes text = All (λ (b : ℕ). b < 256) text
+use Rattle.tg_dagpb.proofs.Checking.{bad_link_there}
+use Rattle.tg_dagpb.proofs.Parts.{node_table, link_table}
 
 -- ---- a link
 
@@ -37,7 +37,7 @@ link_parts_told laws text fs m =
     let two : count_of fs 2 ≤ 1 = m.counts 1 any_rule (omega arith) in
     let three : count_of fs 3 ≤ 1 = m.counts 2 any_rule (omega arith) in
     record {
-      hash = laws.last_bytes.first_alone [] (bytes_at text 1 fs) (laws.values.all_bytes LINK.now text 1 fs (link_table laws) (link_rule 0 (omega arith)) m.ruled ∙ one);
+      hash = laws.last_bytes.first_alone [] (bytes_at text 1 fs) (laws.values.all_bytes LINK.now text 1 fs (link_table laws) (rule_at LINK.now 0 (omega arith)) m.ruled ∙ one);
       name = laws.last_bytes.first_listed (bytes_at text 2 fs) (omega (arith, laws.values.count text 2 fs));
       tsize = laws.last_number.first_listed (numbers_at 3 fs) (omega (arith, laws.values.count text 3 fs));
     }
@@ -210,17 +210,7 @@ with_links_told : (laws : TableLaws) → (text : List ℕ) (fields : List Field)
 with_links_told laws text fields (Ok links) m h =
     let one : count_of fields 1 ≤ 1 = m.counts 0 any_rule (omega arith) in
     record { fields = fields; message = m; parts = record { links = h; payload = laws.last_bytes.first_listed (bytes_at text 1 fields) (omega (arith, laws.values.count text 1 fields)) } }
-with_links_told laws text fields (Err e) m h = inr (record {
-  before = h.before;
-  start = h.start;
-  end = h.end;
-  after = h.after;
-  message = subst (λ (fs : List Field). Message NODE.now Runs text fs) h.whole m;
-  earlier = h.earlier;
-  cause = h.bad.cause;
-  cause_is = h.bad.cause_is;
-  fault_is = h.bad.fault_is;
-})
+with_links_told laws text fields (Err e) m h = inr (bad_link_there text fields e m h)
 
 with_fields_told : (laws : TableLaws) → (text : List ℕ) (r : Result (List Field) PbFault) → AreBytes text → fields_of NODE.now Runs text ≡ r → NodeTold text (with_fields text r)
 with_fields_told laws text (Ok fields) are e =

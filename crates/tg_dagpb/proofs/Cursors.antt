@@ -1,5 +1,5 @@
 -- Cursors between the links of a text.
-use Rattle.std.proofs.Common.{◌≡◌, ℕ, List, [], ◌∷◌, ◌++◌, refl, sym, ap, ◌∙◌, append_assoc, subst, arith}
+use Rattle.std.proofs.Common.{◌≡◌, ℕ, List, [], ◌∷◌, ◌++◌, refl, sym, ap, ◌∙◌, subst, arith}
 use Rattle.std.specs.Prelude.{slice_range}
 use Rattle.std.proofs.lemmas.List.{append-nil}
 use Rattle.tg_pbtable.specs.declared.table.Field.{Field}
@@ -103,21 +103,3 @@ between_link laws text at behind ahead f next start end link e is b g =
         links_ahead = h.rest;
       };
     }
-
--- ---- links taken one by one
-
--- the links are the first of all, and the cursor stands behind them
-abbrev pub AreFirst : List ℕ → ℕ → List Link → Type 0
-AreFirst text at behind = (all : List Link) → IsBetween text 0 [] all → (ahead : List Link) × (all ≡ behind ++ ahead) × IsBetween text at behind ahead
-
-pub one_more : (text : List ℕ) (at next : ℕ) (behind : List Link) (link : Link) → ((ahead : List Link) → IsBetween text at behind ahead → (more : List Link) × (ahead ≡ link ∷ more) × IsBetween text next (behind ++ link ∷ []) more)
-    → AreFirst text at behind → AreFirst text next (behind ++ link ∷ [])
-one_more text at next behind link step h = λ all start.
-    let old = h all start in
-    let new = step old.0 old.2 in
-    (new.0, old.1 ∙ ap (λ (t : List Link). behind ++ t) new.1 ∙ sym (append_assoc behind (link ∷ []) new.0), new.2)
-
-pub all_taken : (text : List ℕ) (at : ℕ) (behind : List Link) → ((ahead : List Link) → IsBetween text at behind ahead → ahead ≡ []) → AreFirst text at behind → (all : List Link) → IsBetween text 0 [] all → behind ≡ all
-all_taken text at behind none h all start =
-    let old = h all start in
-    sym (old.1 ∙ ap (λ (t : List Link). behind ++ t) (none old.0 old.2) ∙ append-nil behind)

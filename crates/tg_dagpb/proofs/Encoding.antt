@@ -1,10 +1,10 @@
 -- The text that is written for a link and for a node is theirs.
-use Rattle.std.proofs.Common.{◌≡◌, ◌≢◌, ℕ, zero, suc, ◌+◌, ◌-◌, ◌^◌, ◌<◌, ◌≤◌, Option, Some, None, List, [], ◌∷◌, ◌++◌, length, take, get_or, refl, sym, ap, ap₂, ◌∙◌, append_assoc, subst, arith, length-append}
+use Rattle.std.proofs.Common.{◌≡◌, ◌≢◌, ℕ, zero, suc, ◌+◌, ◌-◌, ◌^◌, ◌<◌, ◌≤◌, Option, Some, None, List, [], ◌∷◌, ◌++◌, length, get_or, refl, sym, ap, ap₂, ◌∙◌, append_assoc, subst, arith, length-append}
 use Rattle.std.specs.Prelude.{All, slice_range, min}
 use Rattle.std.specs.List.Sorted.{IsNonDecreasing}
-use Rattle.std.proofs.lemmas.List.{append-nil, take_at, drop_at, get_or_default}
-use Rattle.std.proofs.lemmas.List.Sorted.{IsNonDecreasingBy-push}
+use Rattle.std.proofs.lemmas.List.{append-nil}
 use Rattle.std.proofs.lemmas.List.Elements.{All-nil, All-cons, All-head, All-tail, All-append}
+use Rattle.tg_bytes.specs.Lists.{between, joined, rises}
 use Rattle.tg_pbtable.specs.declared.table.Rule.{Rule}
 use Rattle.tg_pbtable.specs.declared.table.Wire.TheVariants.{Varint, Bytes}
 use Rattle.tg_pbtable.specs.declared.table.Field.{Field}
@@ -14,12 +14,13 @@ use Rattle.tg_pbtable.specs.Message.{HasRule, AreRuled, IsCount, count_of, numbe
 use Rattle.tg_pbtable.specs.Emitted.{AreSameFields, HeadSpelling, BytesSpelling, FieldTexts, Puts, IsSizeOf}
 use Rattle.tg_pbtable.specs.Values.{number_in, bytes_in, numbers_at, bytes_at, listed}
 use Rattle.tg_pbtable.specs.Laws.{TableLaws}
+use Rattle.tg_pbtable.specs.TableRules.{rule_at}
 use Rattle.tg_dagpb.specs.declared.TheConstants.{NODE, LINK}
 use Rattle.tg_dagpb.specs.declared.Link.{Link}
 use Rattle.tg_dagpb.specs.declared.Node.{Node}
 use Rattle.tg_dagpb.specs.Node.{LinkText, LinkTexts, HasLinkParts, HasNodeParts, CanonicalText}
 use Rattle.tg_dagpb.specs.Writing.{BytesTexts, NumberTexts, LinkContent, LinkField}
-use Rattle.tg_dagpb.proofs.Parts.{node_table, link_table, node_rule, link_rule}
+use Rattle.tg_dagpb.proofs.Parts.{node_table, link_table}
 use Rattle.tg_dagpb.proofs.Same.{link_again, node_again}
 use Rattle.tg_dagpb.proofs.Orders.{Halves, longer, halves_together, first_links}
 use Rattle.tg_dagpb.proofs.Gathering.{texts_append}
@@ -30,15 +31,6 @@ use Rattle.tg_dagpb.proofs.Gathering.{texts_append}
 abbrev spans : ℕ → ℕ → List (List ℕ) → List Field
 spans number at [] = []
 spans number at (text ∷ texts) = record { number = number; value = Place at (at + length text) } ∷ spans number (at + length text) texts
-
-abbrev joined : List (List ℕ) → List ℕ
-joined [] = []
-joined (text ∷ texts) = text ++ joined texts
-
-between : (a b c : List ℕ) (start end : ℕ) → start ≡ length a → end ≡ start + length b → slice_range (a ++ (b ++ c)) start end ≡ b
-between a b c start end s e =
-    let size : length b ≡ end - start = omega arith in
-    ap (take (end - start)) (drop_at a (b ++ c) start (sym s)) ∙ take_at b c (end - start) size
 
 spans_number : (n at : ℕ) (texts : List (List ℕ)) → All (λ (f : Field). f.number ≡ n) (spans n at texts)
 spans_number n at [] = All-nil (λ (f : Field). f.number ≡ n)
@@ -147,25 +139,22 @@ link_ruled link =
     let xs = spans 1 0 (link.hash ∷ []) in
     let ys = spans 2 (length hash) (listed link.name) in
     All-append P (xs ++ ys) (sizes 3 (listed link.tsize))
-    (All-append P xs ys (spans_ruled LINK.now 1 0 (link.hash ∷ []) (link_rule 0 (omega arith))) (spans_ruled LINK.now 2 (length hash) (listed link.name) (link_rule 1 (omega arith))))
-    (sizes_ruled LINK.now 3 (listed link.tsize) (link_rule 2 (omega arith)))
+    (All-append P xs ys (spans_ruled LINK.now 1 0 (link.hash ∷ []) (rule_at LINK.now 0 (omega arith))) (spans_ruled LINK.now 2 (length hash) (listed link.name) (rule_at LINK.now 1 (omega arith))))
+    (sizes_ruled LINK.now 3 (listed link.tsize) (rule_at LINK.now 2 (omega arith)))
 
 few : {A : Type 0} (o : Option A) → length (listed o) ≤ 1
 few None = omega arith
 few (Some x) = omega arith
 
 link_counts : (laws : TableLaws) → (link : Link) (k : ℕ) (d : Rule) → k < 3 → IsCount (get_or LINK.now k d).times (count_of (link_fields link) (get_or LINK.now k d).number)
-link_counts laws link zero d l = sym (laws.values.all_bytes LINK.now (link_source link) 1 (link_fields link) (link_table laws) (link_rule 0 (omega arith)) (link_ruled link)) ∙ ap length (link_parts laws link).hash
+link_counts laws link zero d l = sym (laws.values.all_bytes LINK.now (link_source link) 1 (link_fields link) (link_table laws) (rule_at LINK.now 0 (omega arith)) (link_ruled link)) ∙ ap length (link_parts laws link).hash
 link_counts laws link (suc zero) d l =
-    let e : length (listed link.name) ≡ count_of (link_fields link) 2 = sym (ap length (link_parts laws link).name) ∙ laws.values.all_bytes LINK.now (link_source link) 2 (link_fields link) (link_table laws) (link_rule 1 (omega arith)) (link_ruled link) in
+    let e : length (listed link.name) ≡ count_of (link_fields link) 2 = sym (ap length (link_parts laws link).name) ∙ laws.values.all_bytes LINK.now (link_source link) 2 (link_fields link) (link_table laws) (rule_at LINK.now 1 (omega arith)) (link_ruled link) in
     omega (arith, few link.name)
 link_counts laws link (suc (suc zero)) d l =
-    let e : length (listed link.tsize) ≡ count_of (link_fields link) 3 = sym (ap length (link_parts laws link).tsize) ∙ laws.values.all_numbers LINK.now 3 (link_fields link) (link_table laws) (link_rule 2 (omega arith)) (link_ruled link) in
+    let e : length (listed link.tsize) ≡ count_of (link_fields link) 3 = sym (ap length (link_parts laws link).tsize) ∙ laws.values.all_numbers LINK.now 3 (link_fields link) (link_table laws) (rule_at LINK.now 2 (omega arith)) (link_ruled link) in
     omega (arith, few link.tsize)
 link_counts laws link (suc (suc (suc k))) d l = absurd (omega arith)
-
-rises : (ns : List ℕ) (n : ℕ) → IsNonDecreasing ns → (0 < length ns → get_or ns (length ns - 1) 0 ≤ n) → IsNonDecreasing (ns ++ n ∷ [])
-rises ns n h last = IsNonDecreasingBy-push (λ (x : ℕ). x) ns n h (λ d p. let e : get_or ns (length ns - 1) d ≡ get_or ns (length ns - 1) 0 = get_or_default ns (length ns - 1) d 0 (omega arith) in let l = last p in omega arith)
 
 one_rises : IsNonDecreasing (1 ∷ [])
 one_rises = rises [] 1 (λ i j d ij jl. absurd (omega arith)) (λ l. omega arith)
@@ -231,12 +220,12 @@ node_parts laws node texts h =
 node_ruled : (texts : List (List ℕ)) (payload : Option (List ℕ)) → AreRuled NODE.now (node_fields texts payload)
 node_ruled texts payload =
     All-append (λ (f : Field). HasRule NODE.now f.number (wire_of f.value)) (spans 2 0 texts) (spans 1 (length (joined texts)) (listed payload))
-    (spans_ruled NODE.now 2 0 texts (node_rule 1 (omega arith))) (spans_ruled NODE.now 1 (length (joined texts)) (listed payload) (node_rule 0 (omega arith)))
+    (spans_ruled NODE.now 2 0 texts (rule_at NODE.now 1 (omega arith))) (spans_ruled NODE.now 1 (length (joined texts)) (listed payload) (rule_at NODE.now 0 (omega arith)))
 
 node_counts : (laws : TableLaws) → (node : Node) (texts : List (List ℕ)) → LinkTexts node.links texts → (k : ℕ) (d : Rule) → k < 2 → IsCount (get_or NODE.now k d).times (count_of (node_fields texts node.payload) (get_or NODE.now k d).number)
 node_counts laws node texts h zero d l =
     let e : length (listed node.payload) ≡ count_of (node_fields texts node.payload) 1 =
-    sym (ap length (node_parts laws node texts h).payload) ∙ laws.values.all_bytes NODE.now (node_source texts node.payload) 1 (node_fields texts node.payload) (node_table laws) (node_rule 0 (omega arith)) (node_ruled texts node.payload) in
+    sym (ap length (node_parts laws node texts h).payload) ∙ laws.values.all_bytes NODE.now (node_source texts node.payload) 1 (node_fields texts node.payload) (node_table laws) (rule_at NODE.now 0 (omega arith)) (node_ruled texts node.payload) in
     omega (arith, few node.payload)
 node_counts laws node texts h (suc zero) d l = tt
 node_counts laws node texts h (suc (suc k)) d l = absurd (omega arith)

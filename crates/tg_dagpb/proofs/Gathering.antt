@@ -8,11 +8,12 @@ use Rattle.tg_pbtable.specs.declared.table.Order.TheVariants.{Ascending}
 use Rattle.tg_pbtable.specs.Message.{Message, count_of}
 use Rattle.tg_pbtable.specs.Values.{numbers_at, bytes_at}
 use Rattle.tg_pbtable.specs.Laws.{TableLaws}
+use Rattle.tg_pbtable.specs.TableRules.{any_rule, rule_at}
 use Rattle.tg_dagpb.specs.declared.TheConstants.{LINK}
 use Rattle.tg_dagpb.specs.declared.Link.{Link}
 use Rattle.tg_dagpb.specs.Node.{LinkTexts, LinkText}
 use Rattle.tg_dagpb.specs.Reading.{GathersLink, no_link}
-use Rattle.tg_dagpb.proofs.Parts.{link_table, any_rule, link_rule}
+use Rattle.tg_dagpb.proofs.Parts.{link_table}
 
 -- ---- links
 
@@ -34,7 +35,7 @@ gathered_link laws text fs link m g =
       fields = fs;
       message = m;
       parts = record {
-        hash = laws.last_bytes.exactly_one [] (bytes_at text 1 fs) link.hash (laws.values.all_bytes LINK.now text 1 fs (link_table laws) (link_rule 0 (omega arith)) m.ruled ∙ one) g.hash;
+        hash = laws.last_bytes.exactly_one [] (bytes_at text 1 fs) link.hash (laws.values.all_bytes LINK.now text 1 fs (link_table laws) (rule_at LINK.now 0 (omega arith)) m.ruled ∙ one) g.hash;
         name = laws.last_bytes.at_most_one (bytes_at text 2 fs) link.name (omega (arith, laws.values.count text 2 fs)) g.name;
         tsize = laws.last_number.at_most_one (numbers_at 3 fs) link.tsize (omega (arith, laws.values.count text 3 fs)) g.tsize;
       };

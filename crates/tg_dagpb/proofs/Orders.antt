@@ -12,10 +12,11 @@ use Rattle.tg_pbtable.specs.declared.table.Rule.{Rule}
 use Rattle.tg_pbtable.specs.Message.{HasRule, AreRuled, StandTogether, count_of, numbers_of, wire_of}
 use Rattle.tg_pbtable.specs.Values.{bytes_at}
 use Rattle.tg_pbtable.specs.Laws.{TableLaws}
+use Rattle.tg_pbtable.specs.TableRules.{rule_at}
 use Rattle.tg_dagpb.specs.declared.TheConstants.{NODE}
 use Rattle.tg_dagpb.specs.declared.Node.{Node}
 use Rattle.tg_dagpb.specs.Node.{HasLinksFirst, HasDataFirst, NodeText, CanonicalText, DataFirstText}
-use Rattle.tg_dagpb.proofs.Parts.{node_table, node_rule, All-split}
+use Rattle.tg_dagpb.proofs.Parts.{node_table, All-split}
 use Rattle.tg_dagpb.proofs.Same.{texts_alike}
 
 -- the fields of one number before those of another
@@ -177,29 +178,26 @@ node_orders node text p =
 -- ---- a node has one text in each order
 
 ruled_one : HasRule NODE.now 1 Bytes
-ruled_one = node_rule 0 (omega arith)
+ruled_one = rule_at NODE.now 0 (omega arith)
 
 ruled_two : HasRule NODE.now 2 Bytes
-ruled_two = node_rule 1 (omega arith)
+ruled_two = rule_at NODE.now 1 (omega arith)
+
+-- texts of a node whose fields stand in one order are one
+one_ordered : (laws : TableLaws) → (node : Node) (m n : ℕ) (s t : List ℕ) (a : NodeText node s) (b : NodeText node t) → m ≢ n
+    → HasRule NODE.now m Bytes → HasRule NODE.now n Bytes → Halves m n a.fields → Halves m n b.fields → s ≡ t
+one_ordered laws node m n s t a b ne rm rn h k =
+    let values = texts_alike laws node s t a b in
+    let numbers : numbers_of a.fields ≡ numbers_of b.fields =
+    halves_values laws s m n a.fields h ne rm rn a.message.ruled
+    ∙ ap₂ (λ (x y : List (List ℕ)). replicate (length x) m ++ replicate (length y) n) (values.bytes m) (values.bytes n)
+    ∙ sym (halves_values laws t m n b.fields k ne rm rn b.message.ruled) in
+    laws.messages.any_order NODE.now Runs s t a.fields b.fields (node_table laws) a.message b.message numbers values
 
 pub one_canonical : (laws : TableLaws) → (node : Node) (s t : List ℕ) → CanonicalText node s → CanonicalText node t → s ≡ t
 one_canonical laws node s t p q =
-    let a = p.is_text in
-    let b = q.is_text in
-    let values = texts_alike laws node s t a b in
-    let numbers : numbers_of a.fields ≡ numbers_of b.fields =
-    halves_values laws s 2 1 a.fields (links_first a.fields p.order) (omega arith) ruled_two ruled_one a.message.ruled
-    ∙ ap₂ (λ (x y : List (List ℕ)). replicate (length x) 2 ++ replicate (length y) 1) (values.bytes 2) (values.bytes 1)
-    ∙ sym (halves_values laws t 2 1 b.fields (links_first b.fields q.order) (omega arith) ruled_two ruled_one b.message.ruled) in
-    laws.messages.any_order NODE.now Runs s t a.fields b.fields (node_table laws) a.message b.message numbers values
+    one_ordered laws node 2 1 s t p.is_text q.is_text (omega arith) ruled_two ruled_one (links_first p.is_text.fields p.order) (links_first q.is_text.fields q.order)
 
 pub one_data_first : (laws : TableLaws) → (node : Node) (s t : List ℕ) → DataFirstText node s → DataFirstText node t → s ≡ t
 one_data_first laws node s t p q =
-    let a = p.is_text in
-    let b = q.is_text in
-    let values = texts_alike laws node s t a b in
-    let numbers : numbers_of a.fields ≡ numbers_of b.fields =
-    halves_values laws s 1 2 a.fields (data_first a.fields p.order) (omega arith) ruled_one ruled_two a.message.ruled
-    ∙ ap₂ (λ (x y : List (List ℕ)). replicate (length x) 1 ++ replicate (length y) 2) (values.bytes 1) (values.bytes 2)
-    ∙ sym (halves_values laws t 1 2 b.fields (data_first b.fields q.order) (omega arith) ruled_one ruled_two b.message.ruled) in
-    laws.messages.any_order NODE.now Runs s t a.fields b.fields (node_table laws) a.message b.message numbers values
+    one_ordered laws node 1 2 s t p.is_text q.is_text (omega arith) ruled_one ruled_two (data_first p.is_text.fields p.order) (data_first q.is_text.fields q.order)

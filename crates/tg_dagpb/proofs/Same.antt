@@ -1,5 +1,6 @@
 -- A text is of one link and of one node, and a link has one text.
 use Rattle.std.proofs.Common.{◌≡◌, ℕ, zero, suc, ◌<◌, Option, List, [], ◌∷◌, get_or, refl, sym, ap₂, ◌∙◌, subst, arith}
+use Rattle.tg_bytes.specs.Lists.{same_only}
 use Rattle.tg_pbtable.specs.declared.table.Rule.{Rule}
 use Rattle.tg_pbtable.specs.declared.table.Field.{Field}
 use Rattle.tg_pbtable.specs.Emitted.{AreSameFields}
@@ -19,12 +20,9 @@ link_with h n t = record { hash = h; name = n; tsize = t }
 three_same : (h k : List ℕ) (m n : Option (List ℕ)) (t u : Option ℕ) → h ≡ k → m ≡ n → t ≡ u → link_with h m t ≡ link_with k n u
 three_same h k m n t u a b c = rw (a, b, c) refl
 
-head_same : (a b : List ℕ) → a ∷ [] ≡ b ∷ [] → a ≡ b
-head_same a b e = cc
-
 parts_same : (laws : TableLaws) → (text : List ℕ) (fs : List Field) (a b : Link) → HasLinkParts text fs a → HasLinkParts text fs b → a ≡ b
 parts_same laws text fs a b p q = three_same a.hash b.hash a.name b.name a.tsize b.tsize
-    (head_same a.hash b.hash (sym p.hash ∙ q.hash))
+    (same_only a.hash b.hash (sym p.hash ∙ q.hash))
     (laws.last_bytes.listed_same a.name b.name (sym p.name ∙ q.name))
     (laws.last_number.listed_same a.tsize b.tsize (sym p.tsize ∙ q.tsize))
 
@@ -74,7 +72,7 @@ one_link_texts laws (a ∷ links) (s ∷ ss) (t ∷ ts) p q = ap₂ (λ (x : Lis
 
 -- ---- one node
 
-abbrev node_with : List Link → Option (List ℕ) → Node
+abbrev pub node_with : List Link → Option (List ℕ) → Node
 node_with l p = record { links = l; payload = p }
 
 two_same : (l m : List Link) (p q : Option (List ℕ)) → l ≡ m → p ≡ q → node_with l p ≡ node_with m q

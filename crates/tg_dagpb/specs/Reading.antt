@@ -16,7 +16,7 @@ use Rattle.tg_dagpb.specs.Node.{LinkText}
 use Rattle.tg_dagpb.specs.Faults.{moved_by, IsLinkText}
 use Rattle.tg_pbtable.specs.Place.{AreInside, placed_bytes}
 use Rattle.tg_dagpb.specs.declared.LinkPlaces.{LinkPlaces}
-use Rattle.tg_dagpb.specs.Cursor.{IsBetween, placed_link, LieInside}
+use Rattle.tg_dagpb.specs.Cursor.{placed_link, LieInside}
 
 -- the link after the fields: of each number the last value
 pub record GathersLink (text : List ℕ) (fields : List Field) (old new : Link) : Type 0 where
@@ -90,7 +90,3 @@ pub record CheckedSoFar (text : List ℕ) (cursor : FieldCursor 2) (bad : Option
   pub verdict : IsVerdict text fields bad
   pub payload_is : placed_bytes text payload ≡ later None (bytes_at text 1 fields)
   pub inside : AreInside text payload
-
--- every cursor of links at the one place is one at the other
-abbrev pub IsSameCursor : List ℕ → ℕ → ℕ → Type 0
-IsSameCursor text at from = (behind ahead : List Link) → IsBetween text at behind ahead → IsBetween text from behind ahead

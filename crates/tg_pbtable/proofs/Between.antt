@@ -1,8 +1,7 @@
 -- Places between two fields of a message, and the field that is next.
 use Rattle.std.proofs.Common.{◌≡◌, ℕ, ◌+◌, List, [], ◌∷◌, ◌++◌, length, take, drop, refl, sym, ap, ◌∙◌, append_assoc, subst, arith}
-use Rattle.std.proofs.lemmas.List.{length-append, length-take-le, take-append-drop, take_at}
-use Rattle.std.proofs.lemmas.List.Elements.{All-head}
-use Rattle.std.proofs.lemmas.List.Elements.{All-tail}
+use Rattle.std.proofs.lemmas.List.{length-append, length-take-le, take-append-drop, take_at, drop_at}
+use Rattle.std.proofs.lemmas.List.Elements.{All-drop, All-head}
 use Rattle.tg_pbtable.specs.declared.table.Rule.{Rule}
 use Rattle.tg_pbtable.specs.declared.table.Order.{Order}
 use Rattle.tg_pbtable.specs.declared.table.Field.{Field}
@@ -31,8 +30,8 @@ between_rest rules order text at behind ahead b =
     subst (λ (n : ℕ). Spelled n ahead (drop at text)) size (rest_spelled behind ahead 0 text (take at text) (drop at text) b.message.spelled b.spelled (sym (take-append-drop at text)))
 
 rest_ruled : (rules : List Rule) (fs gs : List Field) → AreRuled rules (fs ++ gs) → AreRuled rules gs
-rest_ruled rules [] gs h = h
-rest_ruled rules (f ∷ fs) gs h = rest_ruled rules fs gs (All-tail (λ (x : Field). HasRule rules x.number (wire_of x.value)) f (fs ++ gs) h)
+rest_ruled rules fs gs h =
+    subst (λ (t : List Field). AreRuled rules t) (drop_at fs gs (length fs) refl) (All-drop (λ (x : Field). HasRule rules x.number (wire_of x.value)) (length fs) (fs ++ gs) h)
 
 -- ---- the first of them
 

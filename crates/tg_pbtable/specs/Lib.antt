@@ -9,3 +9,5 @@ pub mod Values
 pub mod Computed
 pub mod Laws
 pub mod Place
+pub mod TableRules
+pub mod Taking

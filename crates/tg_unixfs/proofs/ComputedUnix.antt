@@ -11,6 +11,7 @@ use Rattle.tg_pbtable.specs.Faults.{HasCause}
 use Rattle.tg_pbtable.specs.Values.{numbers_at, bytes_at}
 use Rattle.tg_pbtable.specs.Computed.{fields_of}
 use Rattle.tg_pbtable.specs.Laws.{TableLaws}
+use Rattle.tg_pbtable.specs.TableRules.{any_rule, rule_at}
 use Rattle.tg_unixfs.specs.declared.TheConstants.{DATA}
 use Rattle.tg_unixfs.specs.declared.Unix.{Unix}
 use Rattle.tg_unixfs.specs.declared.UnixFault.{UnixFault}
@@ -18,7 +19,7 @@ use Rattle.tg_unixfs.specs.declared.UnixFault.TheVariants as faults
 use Rattle.tg_unixfs.specs.Unix.{UnixText, HasParts, IsUnix, IsKind, IsShardOf}
 use Rattle.tg_unixfs.specs.Faults.{HasData, HasUnixCause}
 use Rattle.tg_unixfs.specs.Computed.{parts_of, is_kind, checked_shard, checked, with_fields, unix_of}
-use Rattle.tg_unixfs.proofs.Parts.{data_table, any_rule, rule_at}
+use Rattle.tg_unixfs.proofs.Parts.{data_table}
 use Rattle.tg_unixfs.proofs.Same.{one_data}
 
 -- ---- the parts
@@ -31,7 +32,7 @@ parts_told laws text fs m =
     let five : count_of fs 5 ≤ 1 = m.counts 4 any_rule (omega arith) in
     let six : count_of fs 6 ≤ 1 = m.counts 5 any_rule (omega arith) in
     record {
-      kind = laws.last_number.first_alone 0 (numbers_at 1 fs) (laws.values.all_numbers DATA.now 1 fs (data_table laws) (rule_at 0 (omega arith)) m.ruled ∙ one);
+      kind = laws.last_number.first_alone 0 (numbers_at 1 fs) (laws.values.all_numbers DATA.now 1 fs (data_table laws) (rule_at DATA.now 0 (omega arith)) m.ruled ∙ one);
       inline = laws.last_bytes.first_listed (bytes_at text 2 fs) (omega (arith, laws.values.count text 2 fs));
       filesize = laws.last_number.first_listed (numbers_at 3 fs) (omega (arith, laws.values.count text 3 fs));
       sizes = refl;

@@ -7,9 +7,10 @@ use Rattle.tg_unixfs.specs.declared.TheConstants.{DATA}
 use Rattle.tg_unixfs.specs.declared.Unix.{Unix}
 use Rattle.tg_pbtable.specs.Values.{numbers_at, bytes_at}
 use Rattle.tg_pbtable.specs.Laws.{TableLaws}
+use Rattle.tg_pbtable.specs.TableRules.{any_rule, rule_at}
 use Rattle.tg_unixfs.specs.Unix.{HasParts}
 use Rattle.tg_unixfs.specs.Reading.{Gathers, nothing}
-use Rattle.tg_unixfs.proofs.Parts.{data_table, any_rule, rule_at}
+use Rattle.tg_unixfs.proofs.Parts.{data_table}
 
 pub gathers_more : (laws : TableLaws) → (text : List ℕ) (fs : List Field) (f : Field) (a b c : Unix) → Gathers text fs a b → Gathers text (f ∷ []) b c → Gathers text (fs ++ f ∷ []) a c
 gathers_more laws text fs f a b c p q =
@@ -31,7 +32,7 @@ gathered_parts laws text fs u m g =
     let five : count_of fs 5 ≤ 1 = m.counts 4 any_rule (omega arith) in
     let six : count_of fs 6 ≤ 1 = m.counts 5 any_rule (omega arith) in
     record {
-      kind = laws.last_number.exactly_one 0 (numbers_at 1 fs) u.kind (laws.values.all_numbers DATA.now 1 fs (data_table laws) (rule_at 0 (omega arith)) m.ruled ∙ one) g.kind;
+      kind = laws.last_number.exactly_one 0 (numbers_at 1 fs) u.kind (laws.values.all_numbers DATA.now 1 fs (data_table laws) (rule_at DATA.now 0 (omega arith)) m.ruled ∙ one) g.kind;
       inline = laws.last_bytes.at_most_one (bytes_at text 2 fs) u.inline (omega (arith, laws.values.count text 2 fs)) g.inline;
       filesize = laws.last_number.at_most_one (numbers_at 3 fs) u.filesize (omega (arith, laws.values.count text 3 fs)) g.filesize;
       sizes = sym g.sizes;

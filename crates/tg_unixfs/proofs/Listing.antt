@@ -14,9 +14,9 @@ use Rattle.tg_pbtable.specs.Message.{HasRule, AreRuled, IsCount, count_of, numbe
 use Rattle.tg_unixfs.specs.declared.TheConstants.{DATA}
 use Rattle.tg_unixfs.specs.declared.Unix.{Unix}
 use Rattle.tg_pbtable.specs.Values.{number_in, bytes_in, numbers_at, bytes_at, listed}
+use Rattle.tg_pbtable.specs.TableRules.{rule_at}
 use Rattle.tg_unixfs.specs.Unix.{HasParts}
 use Rattle.tg_unixfs.specs.Writing.{numbered, as_numbers, as_places, source_of, optional, placed, all_fields}
-use Rattle.tg_unixfs.proofs.Parts.{rule_at}
 
 -- ---- the sizes, one after another
 
@@ -247,9 +247,9 @@ listed_ruled u =
     let p4 = numbered 4 (as_numbers u.sizes) in
     let p5 = optional 5 u.hash in
     let p6 = optional 6 u.fanout in
-    All-append IsRuled p1 (p2 ++ (p3 ++ (p4 ++ (p5 ++ p6)))) (ruled_numbers 1 (rule_at 0 (omega arith)) (u.kind ∷ []))
-    (All-append IsRuled p2 (p3 ++ (p4 ++ (p5 ++ p6))) (ruled_inline u.inline (rule_at 1 (omega arith)))
-    (All-append IsRuled p3 (p4 ++ (p5 ++ p6)) (ruled_numbers 3 (rule_at 2 (omega arith)) (listed u.filesize))
-    (All-append IsRuled p4 (p5 ++ p6) (ruled_numbers 4 (rule_at 3 (omega arith)) u.sizes)
-    (All-append IsRuled p5 p6 (ruled_numbers 5 (rule_at 4 (omega arith)) (listed u.hash))
-    (ruled_numbers 6 (rule_at 5 (omega arith)) (listed u.fanout))))))
+    All-append IsRuled p1 (p2 ++ (p3 ++ (p4 ++ (p5 ++ p6)))) (ruled_numbers 1 (rule_at DATA.now 0 (omega arith)) (u.kind ∷ []))
+    (All-append IsRuled p2 (p3 ++ (p4 ++ (p5 ++ p6))) (ruled_inline u.inline (rule_at DATA.now 1 (omega arith)))
+    (All-append IsRuled p3 (p4 ++ (p5 ++ p6)) (ruled_numbers 3 (rule_at DATA.now 2 (omega arith)) (listed u.filesize))
+    (All-append IsRuled p4 (p5 ++ p6) (ruled_numbers 4 (rule_at DATA.now 3 (omega arith)) u.sizes)
+    (All-append IsRuled p5 p6 (ruled_numbers 5 (rule_at DATA.now 4 (omega arith)) (listed u.hash))
+    (ruled_numbers 6 (rule_at DATA.now 5 (omega arith)) (listed u.fanout))))))

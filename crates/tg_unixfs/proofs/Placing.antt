@@ -1,5 +1,5 @@
 -- Data read by places: its causes exclude one another, and cursors over its blocksizes.
-use Rattle.std.proofs.Common.{◌≡◌, ℕ, List, [], ◌∷◌, ◌++◌, refl, sym, ap, ◌∙◌, append_assoc, subst, inr, arith}
+use Rattle.std.proofs.Common.{◌≡◌, ℕ, List, [], ◌∷◌, ◌++◌, refl, sym, ap, ◌∙◌, subst, inr}
 use Rattle.std.specs.Prelude.{Option, unwrap_or}
 use Rattle.std.proofs.lemmas.List.{append-nil}
 use Rattle.tg_pbtable.specs.declared.table.Field.{Field}
@@ -15,10 +15,12 @@ use Rattle.tg_unixfs.specs.declared.TheConstants.{DATA}
 use Rattle.tg_unixfs.specs.declared.Unix.{Unix}
 use Rattle.tg_unixfs.specs.declared.UnixFault.{UnixFault}
 use Rattle.tg_unixfs.specs.declared.UnixFault.TheVariants as faults
+use Rattle.tg_unixfs.specs.declared.places.UnixPlaces.{UnixPlaces}
 use Rattle.tg_unixfs.specs.Unix.{UnixText, IsUnix, IsKind}
 use Rattle.tg_unixfs.specs.Faults.{HasData, HasUnixCause}
-use Rattle.tg_unixfs.specs.Reading.{IsUnfit, carried}
-use Rattle.tg_unixfs.specs.Places.{IsBetween}
+use Rattle.tg_unixfs.specs.Reading.{Gathers, IsUnfit, carried, nothing}
+use Rattle.tg_unixfs.specs.Places.{IsBetween, MayNotStand, placed_unix}
+use Rattle.tg_unixfs.proofs.Gathering.{gathered_parts}
 use Rattle.tg_unixfs.proofs.Parts.{data_table}
 use Rattle.tg_unixfs.proofs.Same.{one_data}
 
@@ -27,12 +29,28 @@ use Rattle.tg_unixfs.proofs.Same.{one_data}
 pub data_of : (text : List ℕ) (unix : Unix) → UnixText unix text → HasData text unix
 data_of text unix h = record { fields = h.fields; message = h.message; parts = h.parts }
 
-pub unfit_cause : (text : List ℕ) (unix : Unix) (fault : UnixFault) → HasData text unix → IsUnfit unix fault → HasUnixCause text fault
-unfit_cause text unix (faults.Pb fault) d h = absurd h
-unfit_cause text unix (faults.BadKind number) d h = record { unix = unix; has = d; kind = h.kind; unknown = h.unknown }
-unfit_cause text unix (faults.BadHash number) d h = record { unix = unix; has = d; kind = h.kind; number_is = h.number_is; other = h.other }
-unfit_cause text unix (faults.BadFanout number) d h = record { unix = unix; has = d; kind = h.kind; hash = h.hash; number_is = h.number_is; other = h.other }
-unfit_cause text unix faults.OutOfMemory d h = absurd h
+-- a text of data that isn't fit
+pub record HasUnfit (text : List ℕ) (fault : UnixFault) : Type 0 where
+  pub unix : Unix
+  pub has : HasData text unix
+  pub unfit : IsUnfit unix fault
+
+-- the data that the fields of a message gave, where it may not stand
+pub unfit_there : (laws : TableLaws) (text : List ℕ) (fs : List Field) (places : UnixPlaces) (fault : UnixFault) → Message DATA.now Ascending text fs
+    → Gathers text fs nothing (placed_unix text places (numbers_at 4 fs)) → MayNotStand places fault → HasUnfit text fault
+unfit_there laws text fs places fault m g none =
+    let unix = placed_unix text places (numbers_at 4 fs) in
+    record { unix = unix; has = record { fields = fs; message = m; parts = gathered_parts laws text fs unix m g }; unfit = none text (numbers_at 4 fs) }
+
+unfit_data : (text : List ℕ) (unix : Unix) (fault : UnixFault) → HasData text unix → IsUnfit unix fault → HasUnixCause text fault
+unfit_data text unix (faults.Pb fault) d h = absurd h
+unfit_data text unix (faults.BadKind number) d h = record { unix = unix; has = d; kind = h.kind; unknown = h.unknown }
+unfit_data text unix (faults.BadHash number) d h = record { unix = unix; has = d; kind = h.kind; number_is = h.number_is; other = h.other }
+unfit_data text unix (faults.BadFanout number) d h = record { unix = unix; has = d; kind = h.kind; hash = h.hash; number_is = h.number_is; other = h.other }
+unfit_data text unix faults.OutOfMemory d h = absurd h
+
+pub unfit_cause : (text : List ℕ) (fault : UnixFault) → HasUnfit text fault → HasUnixCause text fault
+unfit_cause text fault h = unfit_data text h.unix fault h.has h.unfit
 
 same_data : (laws : TableLaws) (text : List ℕ) (a b : Unix) → HasData text a → HasData text b → a ≡ b
 same_data laws text a b p q = one_data laws text p.fields q.fields a b p.message q.message p.parts q.parts
@@ -77,8 +95,8 @@ one_unfit unix (faults.BadFanout m) (faults.BadKind n) h k = absurd (k.unknown (
 one_unfit unix (faults.BadFanout m) (faults.BadHash n) h k = absurd (k.other (k.number_is ∙ h.hash))
 one_unfit unix (faults.BadFanout m) (faults.BadFanout n) h k = ap (λ (i : ℕ). faults.BadFanout i) (h.number_is ∙ sym k.number_is)
 
-pub unfit_given : (laws : TableLaws) (text : List ℕ) (unix : Unix) (fault other : UnixFault) → HasData text unix → IsUnfit unix fault → HasUnixCause text other → fault ≡ other
-unfit_given laws text unix fault other d h k = one_unfit unix fault other h (cause_unfit laws text unix other d k)
+pub unfit_given : (laws : TableLaws) (text : List ℕ) (fault other : UnixFault) → HasUnfit text fault → HasUnixCause text other → fault ≡ other
+unfit_given laws text fault other h k = one_unfit h.unix fault other h.unfit (cause_unfit laws text h.unix other h.has k)
 
 pub unix_has_none : (laws : TableLaws) (text : List ℕ) (unix : Unix) (fault : UnixFault) → UnixText unix text → HasUnixCause text fault → ⊥
 unix_has_none laws text unix fault h k = fit_or_unfit unix fault h.is_unix (cause_unfit laws text unix fault (data_of text unix h) k)
@@ -114,15 +132,6 @@ carried_given laws text fault faults.OutOfMemory h k = absurd k
 
 -- ---- cursors over the blocksizes
 
-pub start_between : (text : List ℕ) (fields : List Field) → Message DATA.now Ascending text fields → IsBetween text 0 [] (numbers_at 4 fields)
-start_between text fields m = record {
-  front = [];
-  rest = fields;
-  fields = record { message = m; inside = omega arith; spelled = refl };
-  sizes_behind = refl;
-  sizes_ahead = refl;
-}
-
 pub between_end : (text : List ℕ) (at : ℕ) (behind ahead : List ℕ) (b : IsBetween text at behind ahead) → b.rest ≡ [] → ahead ≡ []
 between_end text at behind ahead b none = b.sizes_ahead ∙ ap (numbers_at 4) none
 
@@ -145,24 +154,3 @@ pub between_past : (laws : TableLaws) (text : List ℕ) (at : ℕ) (behind ahead
 between_past laws text at behind ahead f next e b g =
     let h = between_next laws text at behind ahead [] (numbers_at 4 g.more) f next e b g refl in
     subst (λ (t : List ℕ). IsBetween text next t ahead) (append-nil behind) (subst (λ (t : List ℕ). IsBetween text next (behind ++ []) t) (sym h.0) h.1)
-
--- ---- blocksizes taken one by one
-
--- the blocksizes are the first of all, and the cursor stands behind them
-abbrev pub AreFirst : List ℕ → ℕ → List ℕ → Type 0
-AreFirst text at behind = (all : List ℕ) → IsBetween text 0 [] all → (ahead : List ℕ) × (all ≡ behind ++ ahead) × IsBetween text at behind ahead
-
-pub start_of : (text : List ℕ) (unix : Unix) → UnixText unix text → IsBetween text 0 [] unix.sizes
-start_of text unix h = subst (λ (sizes : List ℕ). IsBetween text 0 [] sizes) h.parts.sizes (start_between text h.fields h.message)
-
-pub one_more : (text : List ℕ) (at next : ℕ) (behind : List ℕ) (size : ℕ) → ((ahead : List ℕ) → IsBetween text at behind ahead → (more : List ℕ) × (ahead ≡ size ∷ more) × IsBetween text next (behind ++ size ∷ []) more)
-    → AreFirst text at behind → AreFirst text next (behind ++ size ∷ [])
-one_more text at next behind size step h = λ all start.
-    let old = h all start in
-    let new = step old.0 old.2 in
-    (new.0, old.1 ∙ ap (λ (t : List ℕ). behind ++ t) new.1 ∙ sym (append_assoc behind (size ∷ []) new.0), new.2)
-
-pub all_taken : (text : List ℕ) (at : ℕ) (behind : List ℕ) → ((ahead : List ℕ) → IsBetween text at behind ahead → ahead ≡ []) → AreFirst text at behind → (all : List ℕ) → IsBetween text 0 [] all → behind ≡ all
-all_taken text at behind none h all start =
-    let old = h all start in
-    sym (old.1 ∙ ap (λ (t : List ℕ). behind ++ t) (none old.0 old.2) ∙ append-nil behind)

@@ -4,3 +4,4 @@ pub mod Reading
 pub mod Writing
 pub mod Computed
 pub mod Places
+pub mod Starting

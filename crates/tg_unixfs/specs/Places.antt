@@ -48,10 +48,6 @@ pub record IsBetween (text : List ℕ) (at : ℕ) (behind ahead : List ℕ) : Ty
 abbrev pub IsCursor : List ℕ → ℕ → Type 0
 IsCursor text at = (behind : List ℕ) × (ahead : List ℕ) × IsBetween text at behind ahead
 
--- every cursor at the one place is one at the other
-abbrev pub IsSameCursor : List ℕ → ℕ → ℕ → Type 0
-IsSameCursor text at from = (behind ahead : List ℕ) → IsBetween text at behind ahead → IsBetween text from behind ahead
-
 -- the data after the fields that a cursor has read
 pub record DataSoFar (text : List ℕ) (cursor : FieldCursor 6) (places : UnixPlaces) : Type 0 where
   pub fields : List Field

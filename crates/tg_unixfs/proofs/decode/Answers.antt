@@ -2,7 +2,7 @@ use Rattle.std.proofs.Common.{◌≡◌, sym, ◌∙◌, subst}
 use Rattle.tg_unixfs.specs.declared.Unix.{Unix}
 use Rattle.tg_unixfs.specs.Unix.{UnixText}
 use Rattle.tg_unixfs.specs.Places.{placed_unix}
-use Rattle.tg_unixfs.proofs.Placing.{start_of}
+use Rattle.tg_unixfs.specs.Starting.{start_sizes}
 use Rattle.tg_unixfs.proofs.decode.Goals as goal
 
 pub returns-in_err-places-clause-only : goal.returns-in_err-places-clause-only
@@ -13,9 +13,9 @@ returns-clause-found c =
     let text = c.args.bytes.now in
     let h = c.in_ok-places.ensures.found in
     let there = placed_unix text c.in_ok-places.places h.sizes in
-    let same : c.in_ok-copied.field-0 ≡ there = c.in_ok-copied.ensures h.sizes (start_of text there h.is_text) in
+    let same : c.in_ok-copied.field-0 ≡ there = c.in_ok-copied.ensures h.sizes (start_sizes there text h.is_text) in
     subst (λ (unix : Unix). UnixText unix text) (sym same) h.is_text
 
 pub returns-clause-only : goal.returns-clause-only
 returns-clause-only c = λ unix text.
-    c.in_ok-copied.ensures unix.sizes (start_of c.args.bytes.now unix text) ∙ sym (c.in_ok-places.ensures.only unix text)
+    c.in_ok-copied.ensures unix.sizes (start_sizes unix c.args.bytes.now text) ∙ sym (c.in_ok-places.ensures.only unix text)

@@ -1,5 +1,6 @@
 use Rattle.std.proofs.Common.{◌<◌, ◌≤◌, ℕ, List, length, refl, sym, subst, arith}
-use Rattle.tg_unixfs.proofs.Placing.{AreFirst, one_more, all_taken}
+use Rattle.tg_pbtable.specs.Taking.{AreFirst, one_more, all_taken}
+use Rattle.tg_unixfs.specs.Places.{IsBetween}
 use Rattle.tg_unixfs.proofs.sizes_of.Goals as goal
 
 pub loop-size-init : goal.loop-size-init
@@ -15,9 +16,9 @@ loop-size-smaller c =
 pub loop-size-preserved : goal.loop-size-preserved
 loop-size-preserved c = record {
   cursor = c.in-Some.ensures.cursor;
-  passed = subst (λ (sizes : List ℕ). AreFirst c.args.bytes.now c.in-Some.next sizes) (sym c.in_ok-push.ensures.ok)
-      (one_more c.args.bytes.now c.loop-size.at c.in-Some.next c.loop-size.sizes c.in-Some.size (c.in-Some.ensures.next c.loop-size.sizes) c.loop-size.invariant.passed);
+  passed = subst (λ (sizes : List ℕ). AreFirst (IsBetween c.args.bytes.now) c.in-Some.next sizes) (sym c.in_ok-push.ensures.ok)
+      (one_more (IsBetween c.args.bytes.now) c.loop-size.at c.in-Some.next c.loop-size.sizes c.in-Some.size (c.in-Some.ensures.next c.loop-size.sizes) c.loop-size.invariant.passed);
 }
 
 pub returns : goal.returns
-returns c = all_taken c.args.bytes.now c.loop-size.at c.loop-size.sizes (c.in_default.ensures.next c.loop-size.sizes) c.loop-size.invariant.passed
+returns c = all_taken (IsBetween c.args.bytes.now) c.loop-size.at c.loop-size.sizes (c.in_default.ensures.next c.loop-size.sizes) c.loop-size.invariant.passed

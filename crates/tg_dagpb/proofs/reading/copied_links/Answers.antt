@@ -1,7 +1,7 @@
 use Rattle.std.proofs.Common.{◌<◌, ◌≤◌, ◌≡◌, ◌∷◌, ◌++◌, [], List, length, refl, sym, ap, ◌∙◌, subst, arith}
+use Rattle.tg_pbtable.specs.Taking.{AreFirst, one_more, all_taken}
 use Rattle.tg_dagpb.specs.declared.Link.{Link}
-use Rattle.tg_dagpb.specs.Cursor.{placed_link}
-use Rattle.tg_dagpb.proofs.Cursors.{AreFirst, one_more, all_taken}
+use Rattle.tg_dagpb.specs.Cursor.{IsBetween, placed_link}
 use Rattle.tg_dagpb.proofs.reading.copied_links.Goals as goal
 
 pub loop-places-init : goal.loop-places-init
@@ -22,9 +22,9 @@ loop-places-preserved c =
     let pushed : c.push.new.self ≡ before ++ link ∷ [] = c.in_ok-push.ensures.ok ∙ ap (λ (x : Link). before ++ x ∷ []) c.in_ok-copied_link.ensures in
     record {
       cursor = c.in-Some.ensures.cursor;
-      passed = subst (λ (links : List Link). AreFirst text c.in-Some.next links) (sym pushed)
-          (one_more text c.loop-places.at c.in-Some.next before link (c.in-Some.ensures.next before) c.loop-places.invariant.passed);
+      passed = subst (λ (links : List Link). AreFirst (IsBetween text) c.in-Some.next links) (sym pushed)
+          (one_more (IsBetween text) c.loop-places.at c.in-Some.next before link (c.in-Some.ensures.next before) c.loop-places.invariant.passed);
     }
 
 pub returns : goal.returns
-returns c = all_taken c.args.bytes.now c.loop-places.at c.loop-places.links (c.in_default.ensures.next c.loop-places.links) c.loop-places.invariant.passed
+returns c = all_taken (IsBetween c.args.bytes.now) c.loop-places.at c.loop-places.links (c.in_default.ensures.next c.loop-places.links) c.loop-places.invariant.passed

@@ -1,14 +1,11 @@
-use Rattle.std.proofs.Common.{◌≡◌, ℕ, Option, Result, Ok, Err, List, ap, ◌∙◌, sym, subst}
+use Rattle.std.proofs.Common.{◌≡◌, Result, Ok, Err, ap, ◌∙◌, sym, subst}
 use Rattle.std.proofs.lemmas.Result.{err_from_is_err_and}
 use Rattle.tg_pbtable.specs.declared.fault.PbFault.{PbFault}
-use Rattle.tg_dagpb.specs.declared.Link.{Link}
 use Rattle.tg_dagpb.specs.declared.Node.{Node}
 use Rattle.tg_dagpb.specs.Node.{NodeText}
 use Rattle.tg_dagpb.proofs.Cursors.{start_between}
+use Rattle.tg_dagpb.proofs.Same.{node_with}
 use Rattle.tg_dagpb.proofs.reading.decode.Goals as goal
-
-abbrev node_with : List Link → Option (List ℕ) → Node
-node_with links payload = record { links = links; payload = payload }
 
 err_same : {T : Type 0} (a b : PbFault) → ◌≡◌ {A = Result T PbFault} (Err a) (Err b) → a ≡ b
 err_same a b e = cc

@@ -85,13 +85,6 @@ loop-field-preserved c =
       inside = c.with_payload-payload.ensures.inside text h.1 c.loop-field.invariant.inside;
     }
 
-pub returns-in-Some-bad-clause-only : goal.returns-in-Some-bad-clause-only
-returns-in-Some-bad-clause-only c = λ node text.
-    let fs = c.loop-field.invariant.fields in
-    let message : Message NODE.now Runs c.args.bytes.now fs = rw c.in_default.is at (c.in_ok-field.ensures.next fs c.loop-field.invariant.read) in
-    let verdict : HasFirstBad c.args.bytes.now fs c.in-Some-bad.fault = rw c.in-Some-bad.is at c.loop-field.invariant.verdict in
-    absurd (node_has_none c.table_laws.ensures c.args.bytes.now node c.in-Some-bad.fault text (inr (bad_link_there c.args.bytes.now fs c.in-Some-bad.fault message verdict)))
-
 pub returns-in-Some-bad-clause-cause : goal.returns-in-Some-bad-clause-cause
 returns-in-Some-bad-clause-cause c =
     let fs = c.loop-field.invariant.fields in
@@ -99,12 +92,13 @@ returns-in-Some-bad-clause-cause c =
     let verdict : HasFirstBad c.args.bytes.now fs c.in-Some-bad.fault = rw c.in-Some-bad.is at c.loop-field.invariant.verdict in
     inr (bad_link_there c.args.bytes.now fs c.in-Some-bad.fault message verdict)
 
+pub returns-in-Some-bad-clause-only : goal.returns-in-Some-bad-clause-only
+returns-in-Some-bad-clause-only c = λ node text.
+    absurd (node_has_none c.table_laws.ensures c.args.bytes.now node c.in-Some-bad.fault text (returns-in-Some-bad-clause-cause c))
+
 pub returns-in-Some-bad-clause-given : goal.returns-in-Some-bad-clause-given
 returns-in-Some-bad-clause-given c = λ fault cause.
-    let fs = c.loop-field.invariant.fields in
-    let message : Message NODE.now Runs c.args.bytes.now fs = rw c.in_default.is at (c.in_ok-field.ensures.next fs c.loop-field.invariant.read) in
-    let verdict : HasFirstBad c.args.bytes.now fs c.in-Some-bad.fault = rw c.in-Some-bad.is at c.loop-field.invariant.verdict in
-    ap (λ (x : PbFault). Err x) (one_node_cause c.table_laws.ensures c.args.bytes.now c.in-Some-bad.fault fault (inr (bad_link_there c.args.bytes.now fs c.in-Some-bad.fault message verdict)) cause)
+    ap (λ (x : PbFault). Err x) (one_node_cause c.table_laws.ensures c.args.bytes.now c.in-Some-bad.fault fault (returns-in-Some-bad-clause-cause c) cause)
 
 pub returns-in-None-clause-found : goal.returns-in-None-clause-found
 returns-in-None-clause-found c =

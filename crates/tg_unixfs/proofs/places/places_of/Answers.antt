@@ -6,13 +6,13 @@ use Rattle.tg_pbtable.specs.Values.{numbers_at}
 use Rattle.tg_unixfs.specs.declared.TheConstants.{DATA}
 use Rattle.tg_unixfs.specs.declared.Unix.{Unix}
 use Rattle.tg_unixfs.specs.declared.UnixFault.{UnixFault}
-use Rattle.tg_unixfs.specs.Faults.{HasData}
 use Rattle.tg_unixfs.specs.Reading.{Gathers, nothing}
 use Rattle.tg_unixfs.specs.Places.{placed_unix}
+use Rattle.tg_unixfs.specs.Starting.{start_sizes}
 use Rattle.tg_unixfs.proofs.Gathering.{gathers_more, gathered_parts}
 use Rattle.tg_unixfs.proofs.Parts.{data_table}
 use Rattle.tg_unixfs.proofs.Same.{one_data}
-use Rattle.tg_unixfs.proofs.Placing.{unfit_cause, unfit_given, unix_has_none, carried_cause, carried_given, start_between}
+use Rattle.tg_unixfs.proofs.Placing.{unfit_there, unfit_cause, unfit_given, unix_has_none, carried_cause, carried_given}
 use Rattle.tg_unixfs.proofs.places.places_of.Goals as goal
 
 pub loop-field-init : goal.loop-field-init
@@ -69,51 +69,45 @@ pub returns-in_err-check-clause-only : goal.returns-in_err-check-clause-only
 returns-in_err-check-clause-only c = λ unix text.
     let laws = c.table_laws.ensures in
     let fs = c.loop-field.invariant.fields in
-    let sizes = numbers_at 4 fs in
+    let fault = c.in_err-check.field-0.0 in
     let message : Message DATA.now Ascending c.args.bytes.now fs = rw c.in_default.is at (c.in_ok-field.ensures.next fs c.loop-field.invariant.read) in
-    let u = placed_unix c.args.bytes.now c.loop-field.places sizes in
-    let has : HasData c.args.bytes.now u = record { fields = fs; message = message; parts = gathered_parts laws c.args.bytes.now fs u message c.loop-field.invariant.gathers } in
-    absurd (unix_has_none laws c.args.bytes.now unix c.in_err-check.field-0.0 text (unfit_cause c.args.bytes.now u c.in_err-check.field-0.0 has (c.in_err-check.ensures c.args.bytes.now sizes)))
+    let unfit = unfit_there laws c.args.bytes.now fs c.loop-field.places fault message c.loop-field.invariant.gathers c.in_err-check.ensures in
+    absurd (unix_has_none laws c.args.bytes.now unix fault text (unfit_cause c.args.bytes.now fault unfit))
 
 pub returns-in_err-check-clause-cause : goal.returns-in_err-check-clause-cause
 returns-in_err-check-clause-cause c =
     let p = err_from_is_err_and c.from_residual-in_err-check.result c.from_residual-in_err-check.ensures.1 in
-    let laws = c.table_laws.ensures in
     let fs = c.loop-field.invariant.fields in
-    let sizes = numbers_at 4 fs in
+    let fault = c.in_err-check.field-0.0 in
     let message : Message DATA.now Ascending c.args.bytes.now fs = rw c.in_default.is at (c.in_ok-field.ensures.next fs c.loop-field.invariant.read) in
-    let u = placed_unix c.args.bytes.now c.loop-field.places sizes in
-    let has : HasData c.args.bytes.now u = record { fields = fs; message = message; parts = gathered_parts laws c.args.bytes.now fs u message c.loop-field.invariant.gathers } in
-    rw (p.1, p.2) (unfit_cause c.args.bytes.now u c.in_err-check.field-0.0 has (c.in_err-check.ensures c.args.bytes.now sizes))
+    let unfit = unfit_there c.table_laws.ensures c.args.bytes.now fs c.loop-field.places fault message c.loop-field.invariant.gathers c.in_err-check.ensures in
+    rw (p.1, p.2) (unfit_cause c.args.bytes.now fault unfit)
 
 pub returns-in_err-check-clause-given : goal.returns-in_err-check-clause-given
-returns-in_err-check-clause-given c = λ fault cause.
+returns-in_err-check-clause-given c = λ other cause.
     let p = err_from_is_err_and c.from_residual-in_err-check.result c.from_residual-in_err-check.ensures.1 in
     let laws = c.table_laws.ensures in
     let fs = c.loop-field.invariant.fields in
-    let sizes = numbers_at 4 fs in
+    let fault = c.in_err-check.field-0.0 in
     let message : Message DATA.now Ascending c.args.bytes.now fs = rw c.in_default.is at (c.in_ok-field.ensures.next fs c.loop-field.invariant.read) in
-    let u = placed_unix c.args.bytes.now c.loop-field.places sizes in
-    let has : HasData c.args.bytes.now u = record { fields = fs; message = message; parts = gathered_parts laws c.args.bytes.now fs u message c.loop-field.invariant.gathers } in
-    rw (p.1, p.2) (ap (λ (x : UnixFault). Err x) (unfit_given laws c.args.bytes.now u c.in_err-check.field-0.0 fault has (c.in_err-check.ensures c.args.bytes.now sizes) cause))
+    let unfit = unfit_there laws c.args.bytes.now fs c.loop-field.places fault message c.loop-field.invariant.gathers c.in_err-check.ensures in
+    rw (p.1, p.2) (ap (λ (x : UnixFault). Err x) (unfit_given laws c.args.bytes.now fault other unfit cause))
 
 pub returns-clause-found : goal.returns-clause-found
 returns-clause-found c =
-    let laws = c.table_laws.ensures in
     let fs = c.loop-field.invariant.fields in
     let sizes = numbers_at 4 fs in
     let message : Message DATA.now Ascending c.args.bytes.now fs = rw c.in_default.is at (c.in_ok-field.ensures.next fs c.loop-field.invariant.read) in
-    let u = placed_unix c.args.bytes.now c.loop-field.places sizes in
+    let parts = gathered_parts c.table_laws.ensures c.args.bytes.now fs (placed_unix c.args.bytes.now c.loop-field.places sizes) message c.loop-field.invariant.gathers in
     record {
       sizes = sizes;
-      is_text = record { fields = fs; message = message; parts = gathered_parts laws c.args.bytes.now fs u message c.loop-field.invariant.gathers; is_unix = c.in_ok-check.ensures c.args.bytes.now sizes };
+      is_text = record { fields = fs; message = message; parts = parts; is_unix = c.in_ok-check.ensures c.args.bytes.now sizes };
     }
 
 pub returns-clause-cursor : goal.returns-clause-cursor
 returns-clause-cursor c =
-    let fs = c.loop-field.invariant.fields in
-    let message : Message DATA.now Ascending c.args.bytes.now fs = rw c.in_default.is at (c.in_ok-field.ensures.next fs c.loop-field.invariant.read) in
-    ([], numbers_at 4 fs, start_between c.args.bytes.now fs message)
+    let h = returns-clause-found c in
+    ([], h.sizes, start_sizes (placed_unix c.args.bytes.now c.loop-field.places h.sizes) c.args.bytes.now h.is_text)
 
 pub returns-clause-only : goal.returns-clause-only
 returns-clause-only c = λ unix text.

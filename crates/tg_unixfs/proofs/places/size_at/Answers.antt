@@ -1,8 +1,10 @@
 use Rattle.std.proofs.Common.{[], ◌∷◌, ◌++◌, refl, arith}
 use Rattle.tg_pbtable.specs.declared.table.Order.TheVariants.{Ascending}
 use Rattle.tg_pbtable.specs.Cursor.{StandsAt}
+use Rattle.tg_pbtable.specs.Taking.{one_passed}
 use Rattle.tg_pbtable.specs.Values.{numbers_at}
 use Rattle.tg_unixfs.specs.declared.TheConstants.{DATA}
+use Rattle.tg_unixfs.specs.Places.{IsBetween}
 use Rattle.tg_unixfs.proofs.Placing.{between_end, between_past, between_next}
 use Rattle.tg_unixfs.proofs.places.size_at.Goals as goal
 
@@ -24,14 +26,9 @@ pub loop-field-preserved : goal.loop-field-preserved
 loop-field-preserved c =
     let stands : StandsAt DATA.now c.args.bytes.now c.loop-field.from c.in-Ok.field c.in-Ok.next = c.in-Ok.ensures.found.0 in
     let none = c.in_default-size_of.ensures in
-    let cursor = c.loop-field.invariant.cursor in
-    record {
-      cursor = (cursor.0, cursor.1, between_past c.table_laws.ensures c.args.bytes.now c.loop-field.from cursor.0 cursor.1 c.in-Ok.field c.in-Ok.next none cursor.2 (c.in-Ok.ensures.between Ascending cursor.2.front cursor.2.rest cursor.2.fields));
-      same = λ behind ahead between.
-          let here = c.loop-field.invariant.same behind ahead between in
-          between_past c.table_laws.ensures c.args.bytes.now c.loop-field.from behind ahead c.in-Ok.field c.in-Ok.next none here (c.in-Ok.ensures.between Ascending here.front here.rest here.fields);
-      forward = omega (arith, stands.next_is, c.loop-field.invariant.forward);
-    }
+    one_passed (IsBetween c.args.bytes.now) c.args.at c.loop-field.from c.in-Ok.next
+    (λ behind ahead here. between_past c.table_laws.ensures c.args.bytes.now c.loop-field.from behind ahead c.in-Ok.field c.in-Ok.next none here (c.in-Ok.ensures.between Ascending here.front here.rest here.fields))
+    (omega (arith, stands.next_is)) c.loop-field.invariant
 
 pub returns-clause-next : goal.returns-clause-next
 returns-clause-next c = λ behind ahead between.
