@@ -1,8 +1,8 @@
 -- What stands at the front of bytes: one of four, and one alone.
 use Rattle.std.proofs.Common.{◌≡◌, ℕ, zero, suc, ◌<◌, ◌≤◌, List, [], ◌∷◌, ◌++◌, length, take, All, refl, ap, ap₂, sym, ◌∙◌, subst, inl, inr, arith}
 use Rattle.std.proofs.lemmas.Bool.{cases_lt}
-use Rattle.std.proofs.lemmas.List.{append_assoc, length-append, take-append-le}
-use Rattle.std.proofs.lemmas.List.Elements.{All-cons, All-append, All-head, All-nil, All-tail, All-take}
+use Rattle.std.proofs.lemmas.List.{append_assoc, length-append, take-append-le, take_at}
+use Rattle.std.proofs.lemmas.List.Elements.{All-cons, All-append, All-nil, All-take}
 use Rattle.tg_varint.specs.Laws.{VarintFront, Begins}
 use Rattle.tg_varint.specs.Laws.VarintFront.{spelled, inside, too_long, not_shortest}
 use Rattle.tg_varint.specs.GroupLaws.{one_group, inside_group, past_group, zero_group, inside_past, inside_zero, past_zero, one_byte}
@@ -49,9 +49,7 @@ part (b ∷ bytes) = elim (cases_lt b 128) [
 ]
 
 front_bytes : (a b : List ℕ) → All (λ b. b < 256) (a ++ b) → All (λ b. b < 256) a
-front_bytes [] b h = All-nil (λ (b : ℕ). b < 256)
-front_bytes (x ∷ a) b h =
-    All-cons (λ (b : ℕ). b < 256) x a (All-head (λ (b : ℕ). b < 256) x (a ++ b) h) (front_bytes a b (All-tail (λ (b : ℕ). b < 256) x (a ++ b) h))
+front_bytes a b h = subst (λ (t : List ℕ). All (λ (n : ℕ). n < 256) t) (take_at a b (length a) refl) (All-take (λ (n : ℕ). n < 256) (length a) (a ++ b) h)
 
 one_more : (front : List ℕ) (last : ℕ) → All (λ b. b < 256) (front ++ last ∷ []) → AllGoOn front → last < 128
     → (0 < length front → 0 < last) → length front < 9 → VarintSpelling (number_of (front ++ last ∷ [])) (front ++ last ∷ [])

@@ -1,5 +1,5 @@
 -- No spelling begins another, and its number is below 2 ^ 63.
-use Rattle.std.proofs.Common.{◌≡◌, ℕ, ◌+◌, ◌^◌, ◌<◌, ◌≤◌, List, ◌++◌, length, ap, ◌∙◌, arith}
+use Rattle.std.proofs.Common.{◌≡◌, ℕ, ◌^◌, ◌<◌, ◌≤◌, List, ◌++◌, length, arith}
 use Rattle.std.proofs.Math.Nat.{pow-le-pow_right}
 use Rattle.tg_varint.specs.GroupLaws.{most_bytes, number_below, one_group}
 use Rattle.tg_varint.specs.Varint.{number_of, VarintSpelling}
