@@ -30,8 +30,6 @@ use Rattle.tg_pbtable.specs.Laws.{PlaceLaws}
 use Rattle.tg_pbtable.specs.Place.{AreInside, IsInside, bytes_of, placed_bytes}
 use Rattle.tg_pbtable.specs.declared.fault.PbFault.{PbFault}
 use Rattle.tg_pbtable.specs.declared.table.Place.{Place}
-use Rattle.tg_unixfs.specs.Places.{IsBetween}
-use Rattle.tg_unixfs.specs.Unix.{UnixText}
 use Rattle.tg_unixfs.specs.declared.Unix.{Unix}
 
 -- ---- answers
@@ -105,16 +103,6 @@ parts_sum (cid ∷ cids) [] e = absurd (omega arith)
 parts_sum (cid ∷ cids) (size ∷ sizes) e =
     sum_by-cons (λ (n : ℕ). n) size (map (λ (part : Part). part.size) (parts_of cids sizes)) ∙ ap (λ (n : ℕ). size + n) (parts_sum cids sizes (omega arith))
     ∙ sym (sum_by-cons (λ (n : ℕ). n) size sizes)
-
--- the blocksizes of UnixFS data are all ahead at the front
-pub start_sizes : (unix : Unix) (text : List ℕ) → UnixText unix text → IsBetween text 0 [] unix.sizes
-start_sizes unix text h = record {
-  front = [];
-  rest = h.fields;
-  fields = record { message = h.message; inside = omega arith; spelled = refl };
-  sizes_behind = refl;
-  sizes_ahead = sym h.parts.sizes;
-}
 
 -- the inline bytes lie at their place in the data, which lies in the block
 lies_in : (laws : PlaceLaws) (block : List ℕ) (payload inline : Place) → IsInside block payload → IsInside (bytes_of block payload) inline

@@ -1,10 +1,10 @@
 use Rattle.std.proofs.Common.{◌≡◌, ◌<◌, ◌-◌, ℕ, All, Ok, Option, List, [], sym, ap, ◌∙◌, subst, arith, drop}
 use Rattle.std.proofs.lemmas.List.Elements.{All-drop, All-from_get_or, All-take}
-use Rattle.tg_model.proofs.PlacedAnswers.{start_sizes}
 use Rattle.tg_model.specs.PlacedSteps.{sizes_in, text_sizes}
 use Rattle.tg_pbtable.specs.Place.{AreInside, bytes_of}
 use Rattle.tg_pbtable.specs.declared.table.Place.{Place}
 use Rattle.tg_unixfs.specs.Places.{placed_unix}
+use Rattle.tg_unixfs.specs.Starting.{start_sizes}
 use Rattle.tg_unixfs.specs.Unix.{UnixText}
 use Rattle.tg_model.proofs.placed.data_of.Goals as goal
 
