@@ -1,23 +1,20 @@
 -- How many bytes a link, a node and UnixFS data take at most.
-use Rattle.std.proofs.Common.{◌≡◌, ◌⊎◌, ◌*◌, ◌+◌, ◌<◌, ◌≤◌, ℕ, Option, None, Some, List, [], ◌∷◌, ◌++◌, length, get_or, refl, sym, ap, ◌∙◌, subst, inl, inr, arith, length-append}
+use Rattle.std.proofs.Common.{◌≡◌, ◌*◌, ◌+◌, ◌<◌, ◌≤◌, ℕ, Option, None, Some, List, [], ◌∷◌, length, get_or, refl, ap, ◌∙◌, subst, inl, inr, arith, length-append}
 use Rattle.std.specs.Prelude.{All, unwrap_or, ⊤}
 use Rattle.std.proofs.lemmas.List.{nil_from_length}
 use Rattle.std.proofs.lemmas.List.Sums.{sum_by-cons}
 use Rattle.std.specs.List.{sum_by}
 use Rattle.std.proofs.lemmas.List.Elements.{All-cons, All-contains, All-head, All-nil, All-tail, Contains-get_or}
 use Rattle.tg_cid.specs.Cid.{CidParts}
-use Rattle.tg_cid.specs.Spelling.{CidBytes, IsDigestSize, Varints, codec_code, hash_code}
-use Rattle.tg_cid.specs.declared.cid.Codec.{Codec}
-use Rattle.tg_cid.specs.declared.cid.Codec.TheVariants as codecs
-use Rattle.tg_cid.specs.declared.cid.HashKind.{HashKind}
-use Rattle.tg_cid.specs.declared.cid.HashKind.TheVariants as hashes
+use Rattle.tg_cid.specs.CodeLaws.{codec_below, hash_below}
+use Rattle.tg_cid.specs.Spelling.{CidBytes, Varints, codec_code, hash_code}
 use Rattle.tg_dagpb.specs.declared.Link.{Link}
 use Rattle.tg_dagpb.specs.declared.TheConstants.{LINK, NODE}
-use Rattle.tg_dagpb.specs.Node.{LinkText, LinkTexts, NodeText}
+use Rattle.tg_dagpb.specs.Node.{LinkText, LinkTexts}
 use Rattle.tg_model.specs.Reading.{inline_of}
 use Rattle.tg_model.specs.declared.kinds.NewEntry.{NewEntry}
 use Rattle.tg_pbtable.specs.Laws.{TableLaws}
-use Rattle.tg_pbtable.specs.Message.{AreRuled, HasRule, IsTable, Message, wire_of}
+use Rattle.tg_pbtable.specs.Message.{AreRuled, HasRule, IsTable, Message}
 use Rattle.tg_pbtable.specs.Values.{bytes_at, listed, numbers_at}
 use Rattle.tg_pbtable.specs.declared.table.Field.{Field}
 use Rattle.tg_pbtable.specs.declared.table.Order.{Order}
@@ -29,6 +26,7 @@ use Rattle.tg_unixfs.specs.declared.TheConstants.{DATA}
 use Rattle.tg_unixfs.specs.declared.Unix.{Unix}
 use Rattle.tg_varint.specs.Laws.{SpellingLaws}
 use Rattle.tg_writing.proofs.TextLengths.{IsAmong, at_number, at_numbers, bytes_room, by_numbers, rooms, size_most, small_size, text_fits}
+use Rattle.tg_writing.specs.DigestLaws.{cid_size, digest_is}
 use Rattle.tg_writing.specs.Nodes.{AreLinksFor, IsLinkFor, IsNodeOf, IsOfSha256, link_room, node_room}
 
 -- ---- messages under a table
@@ -89,22 +87,6 @@ link_rules P a b c = rules_all P LINK.now (a, (b, (c, tt)))
 
 -- ---- the CIDs of links
 
-codec_small : (codec : Codec) → codec_code codec < 128
-codec_small codecs.Raw = omega arith
-codec_small codecs.DagPb = omega arith
-
-hash_small : (hash : HashKind) → hash_code hash < 128
-hash_small hashes.Sha256 = omega arith
-hash_small hashes.Identity = omega arith
-
-digest_is : (hash : HashKind) (size : ℕ) → IsDigestSize hash size → size ≡ 32
-digest_is hashes.Sha256 size e = e
-digest_is hashes.Identity size e = absurd e
-
-cid_size : (cid : CidParts) (bytes : List ℕ) → CidBytes cid bytes → IsDigestSize cid.hash (length cid.digest)
-cid_size cid bytes (inl zero) = subst (λ (k : HashKind). IsDigestSize k (length cid.digest)) (sym zero.hash) zero.size
-cid_size cid bytes (inr one) = one.size
-
 abbrev AreSmall : List ℕ → Type 0
 AreSmall [] = ⊤
 AreSmall (n ∷ ns) = (n < 128) × AreSmall ns
@@ -121,8 +103,8 @@ cid_fits : (spellings : SpellingLaws) → (cid : CidParts) (bytes : List ℕ) �
 cid_fits spellings cid bytes (inl zero) = let size : length bytes ≡ 2 + length cid.digest = ap length zero.whole ∙ omega arith in omega arith
 cid_fits spellings cid bytes (inr one) =
     let digest = digest_is cid.hash (length cid.digest) one.size in
-    let codec = codec_small cid.codec in
-    let hash = hash_small cid.hash in
+    let codec = codec_below cid.codec in
+    let hash = hash_below cid.hash in
     let head = varints_fit spellings (1 ∷ codec_code cid.codec ∷ hash_code cid.hash ∷ length cid.digest ∷ []) one.head
     (omega arith, (codec, (hash, (omega arith, tt)))) one.numbers in
     let size : length bytes ≡ length one.head + length cid.digest = ap length one.whole ∙ length-append one.head cid.digest in
@@ -139,7 +121,7 @@ link_fits laws spellings entry link text is h sha =
     let one = bytes_take laws LINK.now 1 text h.fields (link.hash ∷ []) t m.ruled (rule_at LINK.now 0 (omega arith)) h.parts.hash in
     let two = bytes_take laws LINK.now 2 text h.fields (entry.name ∷ []) t m.ruled (rule_at LINK.now 1 (omega arith)) (h.parts.name ∙ ap listed is.1) in
     let three = numbers_take laws LINK.now 3 text h.fields (entry.tsize ∷ []) t m.ruled (rule_at LINK.now 2 (omega arith)) (h.parts.tsize ∙ ap listed is.2) in
-    let digest = digest_is hashes.Sha256 (length entry.cid.digest) (subst (λ (k : HashKind). IsDigestSize k (length entry.cid.digest)) sha (cid_size entry.cid link.hash is.0)) in
+    let digest = digest_is entry.cid.hash (length entry.cid.digest) (cid_size entry.cid link.hash is.0) in
     let cid = cid_fits spellings entry.cid link.hash is.0 in
     let hash_size = small_size (length link.hash) (omega arith) in
     let name_size = size_most (length entry.name) in

@@ -23,7 +23,8 @@ keeps_both m joins stores a b c u v p q = record {
   quiet = q.quiet ∙ p.quiet;
 }
 
-counted_on : (fault : KeepFault) (a b c : ℕ) → b ≡ a → IsCountedBy fault b c → IsCountedBy fault a c
+-- a count of a fault behind what was kept quietly
+pub counted_on : (fault : KeepFault) (a b c : ℕ) → b ≡ a → IsCountedBy fault b c → IsCountedBy fault a c
 counted_on fault a b c e h = subst (λ (n : ℕ). IsCountedBy fault n c) e h
 
 pub stops_behind : {S : Type 0} → (m : KeepMeaning S) → Joins m → KeepingJoins → (a b c : S) (u v : List Section) (fault : KeepFault)
