@@ -1,35 +1,23 @@
 -- Entries in the order of their names' bytes.
-use Rattle.std.proofs.Common.{◌≡◌, ◌≢◌, inl, inr, ⊎_elim, ℕ, ◌+◌, ◌<◌, Bool, true, false, List, [], ◌∷◌, length, get_or, refl, ap, ap₂, sym, ◌∙◌, arith}
+use Rattle.std.proofs.Common.{◌≡◌, inl, inr, ⊎_elim, ℕ, ◌+◌, ◌<◌, Bool, true, false, List, [], ◌∷◌, length, get_or, refl, ap, ap₂, sym, ◌∙◌, arith}
 use Rattle.std.specs.Cmp.{nat_cmp_is}
-use Rattle.std.specs.Cmp.Lexicographic.{nat_list_cmp_total}
 use Rattle.std.specs.List.{IsDistinct}
 use Rattle.std.specs.List.Sorted.{IsSortedByKey}
-use Rattle.std.specs.Ordering.{is_lt, ordering_reverse, ordering_then}
+use Rattle.std.specs.Ordering.{ordering_then}
 use Rattle.std.specs.Prelude.{bytes_eq, if◌then◌else◌, map, nat_lt}
 use Rattle.std.specs.declared.cmp.Ordering.{Ordering}
 use Rattle.std.specs.declared.cmp.Ordering.TheVariants.{Less, Equal, Greater}
 use Rattle.std.proofs.lemmas.Bool.{cases_order, le-ltb, lt-ltb}
 use Rattle.std.proofs.lemmas.List.{get_or-map, length-map}
-use Rattle.std.proofs.lemmas.Map.Keys.{apart_from_distinct}
-use Rattle.std.proofs.lemmas.Map.Lookups.{exact_bytes}
 use Rattle.std.proofs.lemmas.Option.{get_or_from_slice_get, slice_get_within}
-use Rattle.std.proofs.lemmas.Slice.Eq.{bytes_eq-Decides}
 use Rattle.tg_bytes.specs.Order.{bytes_cmp}
+use Rattle.tg_hamt.specs.NameLaws.{other_names, other_way}
 use Rattle.tg_model.specs.ImportLayout.{AreSorted}
 use Rattle.tg_model.specs.Texts.{is_before}
 use Rattle.tg_model.specs.declared.kinds.Entry.{Entry}
 use Rattle.tg_model.specs.declared.kinds.NewEntry.{NewEntry}
 
 -- ---- one list of bytes before another
-
-reversed : (o r : Ordering) → is_lt o ≡ false → (o ≡ Equal → ⊥) → r ≡ ordering_reverse o → r ≡ Less
-reversed Less r not_less differ is = absurd (cc)
-reversed Equal r not_less differ is = absurd (differ refl)
-reversed Greater r not_less differ is = is
-
--- of two that differ the first is below the second, where the second isn't below the first
-below : (a b : List ℕ) → a ≢ b → is_lt (bytes_cmp b a) ≡ false → bytes_cmp a b ≡ Less
-below a b differ not_less = reversed (bytes_cmp b a) (bytes_cmp a b) not_less (λ e. differ (sym (exact_bytes b a e))) (nat_list_cmp_total.antisymm a b)
 
 before_from_less : (a b : List ℕ) → bytes_cmp a b ≡ Less → is_before a b ≡ true
 before_from_less [] [] less = absurd (cc)
@@ -53,21 +41,10 @@ before_from_less (x ∷ a) (y ∷ b) less = elim (cases_order x y) [
 abbrev pub basic_entry : NewEntry → Entry
 basic_entry entry = record { name = entry.name; cid = entry.cid }
 
-differ_at : (es : List NewEntry) (i : ℕ) (d : NewEntry) → IsDistinct bytes_eq (map (λ (e : NewEntry). e.name) es) → i + 1 < length es
-    → (get_or es i d).name ≢ (get_or es (i + 1) d).name
-differ_at es i d differ inside same =
-    let f = λ (e : NewEntry). e.name in
-    let names = map f es in
-    let count = length-map es f in
-    let no = apart_from_distinct bytes_eq names i (i + 1) [] differ (omega arith) (omega (arith, count, inside)) in
-    let yes = (bytes_eq-Decides (get_or names i []) (get_or names (i + 1) [])).1
-    (get_or-map f es i d [] (omega (arith, inside)) ∙ same ∙ sym (get_or-map f es (i + 1) d [] inside)) in
-    absurd (cc)
-
 less_at : (es : List NewEntry) → IsSortedByKey (λ (e : NewEntry). e.name) bytes_cmp es → IsDistinct bytes_eq (map (λ (e : NewEntry). e.name) es)
     → (i : ℕ) (d : NewEntry) → i + 1 < length es → bytes_cmp (get_or es i d).name (get_or es (i + 1) d).name ≡ Less
 less_at es rises differ i d inside =
-    below (get_or es i d).name (get_or es (i + 1) d).name (differ_at es i d differ inside) (rises i d (omega arith) inside)
+    other_way (get_or es (i + 1) d).name (get_or es i d).name (λ same. other_names es i (i + 1) d differ (omega arith) inside (sym same)) (rises i d (omega arith) inside)
 
 -- those of a directory in one block stand in the order of their names' bytes
 pub entries_sorted : (es : List NewEntry) → IsSortedByKey (λ (e : NewEntry). e.name) bytes_cmp es → IsDistinct bytes_eq (map (λ (e : NewEntry). e.name) es)

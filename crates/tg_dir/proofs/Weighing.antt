@@ -2,10 +2,11 @@
 use Rattle.std.proofs.Common.{◌≡◌, ◌*◌, ◌+◌, ◌<◌, ◌≤◌, ℕ, List, [], ◌∷◌, length, get_or, take, inr, refl, ap, sym, ◌∙◌, subst, arith}
 use Rattle.std.specs.List.{sum_by}
 use Rattle.std.specs.Prelude.{All}
-use Rattle.std.proofs.lemmas.List.{length-append, length-take-le}
+use Rattle.std.proofs.lemmas.List.{length-take-le}
 use Rattle.std.proofs.lemmas.List.Elements.{All-head, All-tail, All-weaker}
 use Rattle.std.proofs.lemmas.List.Sums.{sum_by-cons, sum_by_more}
 use Rattle.tg_cid.specs.Cid.{CidParts}
+use Rattle.tg_cid.specs.CodeLaws.{v1_length}
 use Rattle.tg_cid.specs.Computed.{v1_bytes}
 use Rattle.tg_cid.specs.Spelling.{CidBytes, CidV1Bytes, IsDigestSize}
 use Rattle.tg_cid.specs.declared.cid.HashKind.{HashKind}
@@ -16,7 +17,6 @@ use Rattle.tg_hamt.specs.Order.{IsGoodEntry}
 use Rattle.tg_model.specs.ImportLayout.{basic_unix}
 use Rattle.tg_model.specs.declared.kinds.NewEntry.{NewEntry}
 use Rattle.tg_unixfs.specs.declared.Unix.{Unix}
-use Rattle.tg_varint.specs.Computed.{varint}
 use Rattle.tg_writing.specs.Nodes.{AreLinksFor, IsNodeOf, IsOfSha256, link_room, node_room}
 
 pub all_plain : (es : List NewEntry) → All IsGoodEntry es → All IsOfSha256 es
@@ -25,12 +25,6 @@ all_plain es good = All-weaker IsGoodEntry IsOfSha256 (λ e h. h.plain) es good
 -- a digest has the size that its hash gives, where the CID is spelled
 abbrev pub HasDigestSize : Type 0
 HasDigestSize = (cid : CidParts) (bytes : List ℕ) → CidBytes cid bytes → IsDigestSize cid.hash (length cid.digest)
-
-v1_length : (cid : CidParts) → length cid.digest ≡ 32 → length (v1_bytes cid) ≡ 36
-v1_length cid size =
-    let joined = length-append (varint (length cid.digest)) cid.digest in
-    let number : length (varint (length cid.digest)) ≡ 1 = ap (λ (n : ℕ). length (varint n)) size in
-    omega (arith, joined, number, size)
 
 entry_weight : HasDigestSize → (e : NewEntry) (bytes : List ℕ) → CidBytes e.cid bytes → e.cid.hash ≡ Sha256 → weight_in e ≡ length e.name + 36
 entry_weight sizes e bytes spelled plain =

@@ -2,23 +2,21 @@
 use Rattle.std.proofs.Common.{nat_eq, eq-eqb, ◌≡◌, ◌≢◌, ◌⊎◌, inl, inr, ⊎_elim, ℕ, zero, suc, ◌+◌, ◌<◌, true, false, List, [], ◌∷◌, length, get_or, refl, ap, sym, ◌∙◌, subst, arith}
 use Rattle.std.specs.List.{IsDistinct, sum_by}
 use Rattle.std.specs.List.Sorted.{IsPermutation}
-use Rattle.std.specs.Ordering.{is_lt, ordering_reverse}
-use Rattle.std.specs.Cmp.Lexicographic.{nat_list_cmp_total}
+use Rattle.std.specs.Ordering.{is_lt}
 use Rattle.std.specs.declared.cmp.Ordering.{Ordering}
 use Rattle.std.specs.declared.cmp.Ordering.TheVariants.{Less, Equal, Greater}
 use Rattle.std.specs.Prelude.{All, Contains, bytes_eq, map}
 use Rattle.std.proofs.lemmas.Bool.{cases_order, ne_eqb}
 use Rattle.std.proofs.lemmas.Bool.Decides.{eqb_tells}
-use Rattle.std.proofs.lemmas.List.{length-map, get_or_default}
+use Rattle.std.proofs.lemmas.List.{get_or-map, length-map, get_or_default}
 use Rattle.std.proofs.lemmas.List.Elements.{All-cons, All-contains, All-head, All-tail, Contains-append_left, Contains-append_right, Contains-get_or}
 use Rattle.std.proofs.lemmas.List.Sorted.{All-permutation, Contains-permutation, IsPermutation-map, length_permutation, sum_by-IsPermutation}
 use Rattle.std.proofs.lemmas.List.Sums.{sum_by-cons}
 use Rattle.std.proofs.lemmas.Map.Keys.{IsDistinct-IsPermutation, IsDistinct-from_apart, apart_from_distinct}
-use Rattle.std.proofs.lemmas.Map.Lookups.{exact_bytes}
-use Rattle.std.proofs.lemmas.Slice.Eq.{bytes_eq-Decides}
-use Rattle.std.proofs.Math.ListN.{get_or-map}
 use Rattle.tg_bytes.specs.Order.{bytes_cmp}
+use Rattle.tg_bytes.specs.OrderLaws.{less_apart}
 use Rattle.tg_hamt.specs.Directories.{AreLaidOut, AreSound, HaveSameHash, IsCause, IsPairFault, IsOfSharded, MakesSharded, StopsSharded, listed_for}
+use Rattle.tg_hamt.specs.NameLaws.{other_names}
 use Rattle.tg_hamt.specs.Order.{IsHashed, IsOrder, IsSortedOrder, Rises, entry_at, hashed_from, no_entry, tsizes_in}
 use Rattle.tg_hamt.specs.Shards.{IsBelow, IsOfShard, LeadsTo, MakesShard, StopsShard, listed_as}
 use Rattle.tg_hamt.specs.declared.fault.HamtFault.TheVariants as faults
@@ -137,17 +135,6 @@ apart es order h rises i j a b differ same =
     ne)
     (cases_order one.0 other.0)
 
-name_at : (es : List NewEntry) (i : ℕ) (d : List ℕ) → i < length es → get_or (map (λ (e : NewEntry). e.name) es) i d ≡ (entry_at es i).name
-name_at es i d lt =
-    get_or_default (map (λ (e : NewEntry). e.name) es) i d (no_entry.name) (omega (arith, length-map es (λ (e : NewEntry). e.name)))
-    ∙ get_or-map (λ (e : NewEntry). e.name) es i no_entry
-
-less_apart : (a b : List ℕ) → bytes_cmp a b ≡ Less → a ≢ b
-less_apart a b less same =
-    let turned : bytes_cmp a a ≡ Less = ap (bytes_cmp a) same ∙ less in
-    let other : Less ≡ Greater = sym turned ∙ nat_list_cmp_total.antisymm a a ∙ ap ordering_reverse turned in
-    absurd (cc)
-
 pub none_passed_over : (es : List NewEntry) (order : List Hashed) → IsSortedOrder es order → Rises order → (first second : List ℕ) → HaveSameHash es first second → ⊥
 none_passed_over es order h rises first second s =
     let names = map (λ (e : NewEntry). e.name) es in
@@ -156,20 +143,11 @@ none_passed_over es order h rises first second s =
     let j = s.second_in.0 in
     let a : i < length es = omega (arith, s.first_in.1, count) in
     let b : j < length es = omega (arith, s.second_in.1, count) in
-    let first_is : (entry_at es i).name ≡ first = sym (name_at es i first a) ∙ s.first_in.2 in
-    let second_is : (entry_at es j).name ≡ second = sym (name_at es j second b) ∙ s.second_in.2 in
+    let first_is : (entry_at es i).name ≡ first = sym (get_or-map (λ (e : NewEntry). e.name) es i no_entry first a) ∙ s.first_in.2 in
+    let second_is : (entry_at es j).name ≡ second = sym (get_or-map (λ (e : NewEntry). e.name) es j no_entry second b) ∙ s.second_in.2 in
     apart es order h rises i j a b
     (λ e. less_apart first second s.before (sym first_is ∙ ap (λ (k : ℕ). (entry_at es k).name) e ∙ second_is))
     (ap name_hash first_is ∙ s.same ∙ sym (ap name_hash second_is))
-
--- the order of two names that differ
-flipped : (o r : Ordering) → is_lt o ≡ false → (o ≡ Equal → ⊥) → r ≡ ordering_reverse o → r ≡ Less
-flipped Less r not_less differ is = absurd (cc)
-flipped Equal r not_less differ is = absurd (differ refl)
-flipped Greater r not_less differ is = is
-
-pub other_way : (a b : List ℕ) → a ≢ b → is_lt (bytes_cmp a b) ≡ false → bytes_cmp b a ≡ Less
-other_way a b differ not_less = flipped (bytes_cmp a b) (bytes_cmp b a) not_less (λ e. differ (exact_bytes a b e)) (nat_list_cmp_total.antisymm b a)
 
 less_is : (o : Ordering) → is_lt o ≡ true → o ≡ Less
 less_is Less h = refl
@@ -267,7 +245,7 @@ listed_there es children lead sound item h =
     let count = length-map (hashed_from 0 es) f in
     let inside : i < length (hashed_from 0 es) = omega (arith, h.inside, length_hashed 0 es) in
     subst (λ (l : List DirEntry). Contains l (f item)) (listed_all es children lead sound)
-    (i, omega (arith, inside, count), get_or-map f (hashed_from 0 es) i one ∙ ap f (get_hashed 0 es i i one (omega arith) h.inside))
+    (i, omega (arith, inside, count), get_or-map f (hashed_from 0 es) i one (f item) inside ∙ ap f (get_hashed 0 es i i one (omega arith) h.inside))
 
 all_listed_there : (es : List NewEntry) (children : Children) → LeadTo es children → AreSound children → (order : List Hashed) → All (IsHashed es) order
     → All (Contains (listed_for es children)) (map (listed_as es (child_at children)) order)
@@ -300,15 +278,6 @@ directory_stops es order fault keeping h stops = record {
 
 -- ---- two entries with one hash
 
-pub other_names : (es : List NewEntry) (i j : ℕ) → IsDistinct bytes_eq (map (λ (e : NewEntry). e.name) es) → i < length es → j < length es → i < j
-    → (entry_at es i).name ≢ (entry_at es j).name
-other_names es i j differ a b lt same =
-    let names = map (λ (e : NewEntry). e.name) es in
-    let count = length-map es (λ (e : NewEntry). e.name) in
-    let no = apart_from_distinct bytes_eq names i j [] differ lt (omega (arith, b, count)) in
-    let yes = (bytes_eq-Decides (get_or names i []) (get_or names j [])).1 (name_at es i [] a ∙ same ∙ sym (name_at es j [] b)) in
-    absurd (cc)
-
 -- indices differ
 different : (i j : ℕ) → i < j → nat_eq i j ≡ false
 different i j lt = ne_eqb i j (λ same. absurd (omega (arith, same, lt)))
@@ -319,9 +288,7 @@ turned i j = elim (eqb_tells i j) [ inl p ↦ p.0 ∙ sym (eq-eqb j i (sym p.1))
 index_at : (es : List NewEntry) (i d : ℕ) → i < length es → get_or (map (λ (x : Hashed). x.index) (hashed_from 0 es)) i d ≡ i
 index_at es i d lt =
     let all = hashed_from 0 es in
-    let count = length-map all (λ (x : Hashed). x.index) in
-    get_or_default (map (λ (x : Hashed). x.index) all) i d i (omega (arith, count, length_hashed 0 es, lt))
-    ∙ get_or-map (λ (x : Hashed). x.index) all i (hashed_at es i i) ∙ ap (λ (x : Hashed). x.index) (get_hashed 0 es i i (hashed_at es i i) (omega arith) lt)
+    get_or-map (λ (x : Hashed). x.index) all i (hashed_at es i i) d (omega (arith, length_hashed 0 es, lt)) ∙ ap (λ (x : Hashed). x.index) (get_hashed 0 es i i (hashed_at es i i) (omega arith) lt)
 
 indices_differ : (es : List NewEntry) → IsDistinct nat_eq (map (λ (x : Hashed). x.index) (hashed_from 0 es))
 indices_differ es = IsDistinct-from_apart nat_eq (map (λ (x : Hashed). x.index) (hashed_from 0 es)) (λ i j d lt inside.
@@ -335,7 +302,7 @@ places_differ es order h i lt d same =
     let count = length-map order f in
     let moved = IsDistinct-IsPermutation nat_eq turned (map f (hashed_from 0 es)) (map f order) (IsPermutation-map f (hashed_from 0 es) order h.all) (indices_differ es) in
     let no = apart_from_distinct nat_eq (map f order) i (i + 1) d.index moved (omega arith) (omega (arith, count, lt)) in
-    let yes = eq-eqb (get_or (map f order) i d.index) (get_or (map f order) (i + 1) d.index) (get_or-map f order i d ∙ same ∙ sym (get_or-map f order (i + 1) d)) in
+    let yes = eq-eqb (get_or (map f order) i d.index) (get_or (map f order) (i + 1) d.index) (get_or-map f order i d d.index (omega (arith, lt)) ∙ same ∙ sym (get_or-map f order (i + 1) d d.index lt)) in
     absurd (cc)
 
 -- an entry of the order that is read
@@ -358,8 +325,8 @@ pair_differs es order h differ i one other a b lt one_is other_is a_is b_is same
     (λ (e : one.index ≡ other.index). places e)
     (λ (ne : (one.index < other.index) ⊎ (other.index < one.index)).
     ⊎_elim
-    (λ (less : one.index < other.index). other_names es one.index other.index differ first.inside second.inside less names)
-    (λ (more : other.index < one.index). other_names es other.index one.index differ second.inside first.inside more (sym names))
+    (λ (less : one.index < other.index). other_names es one.index other.index no_entry differ less second.inside names)
+    (λ (more : other.index < one.index). other_names es other.index one.index no_entry differ more first.inside (sym names))
     ne)
     (cases_order one.index other.index)
 
@@ -369,8 +336,8 @@ pair_same es one other a b h g same a_is b_is less =
     let names = map (λ (e : NewEntry). e.name) es in
     let count = length-map es (λ (e : NewEntry). e.name) in
     record {
-      first_in = (one.index, omega (arith, h.inside, count), name_at es one.index a h.inside ∙ sym a_is);
-      second_in = (other.index, omega (arith, g.inside, count), name_at es other.index b g.inside ∙ sym b_is);
+      first_in = (one.index, omega (arith, h.inside, count), get_or-map (λ (e : NewEntry). e.name) es one.index no_entry a h.inside ∙ sym a_is);
+      second_in = (other.index, omega (arith, g.inside, count), get_or-map (λ (e : NewEntry). e.name) es other.index no_entry b g.inside ∙ sym b_is);
       before = less;
       same = ap name_hash a_is ∙ sym h.hash_is ∙ same ∙ g.hash_is ∙ ap name_hash (sym b_is);
     }

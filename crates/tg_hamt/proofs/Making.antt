@@ -4,7 +4,7 @@ use Rattle.std.specs.List.{slice_range, sum_by}
 use Rattle.std.specs.Prelude.{All}
 use Rattle.std.proofs.lemmas.List.{append-nil, get_or-take, get_or_default, length-append, length_push, map-append}
 use Rattle.std.proofs.lemmas.List.Elements.{All-append, All-head, All-nil, All-push}
-use Rattle.std.proofs.lemmas.List.Sums.{sum_by-append, sum_by-take-le}
+use Rattle.std.proofs.lemmas.List.Sums.{sum_by-append, sum_by-take-le, sum_by_push}
 use Rattle.std.proofs.lemmas.Grind.{flat_map-append}
 use Rattle.std.proofs.lemmas.Option.{get_or_from_slice_get, slice_get_within}
 use Rattle.tg_cid.specs.declared.cid.HashKind.TheVariants.{Sha256}
@@ -162,9 +162,6 @@ tsizes_more : (es : List NewEntry) (order : List Hashed) (start end : ℕ) → s
 tsizes_more es order start end le =
     ap (tsizes_in es) (range_joins order start end le) ∙ sum_by-append (λ (x : Hashed). (entry_at es x.index).tsize) (take start order) (slice_range order start end)
 
-sums_more : (links : List NewEntry) (link : NewEntry) → sum_by tsize_in (links ++ link ∷ []) ≡ sum_by tsize_in links + link.tsize
-sums_more links link = sum_by-append tsize_in links (link ∷ []) ∙ (let e : sum_by tsize_in links + sum_by tsize_in (link ∷ []) ≡ sum_by tsize_in links + link.tsize = omega arith in e)
-
 -- an entry stands behind its slots
 stands_behind : (slots : List ℕ) (item : Hashed) (name : List ℕ) → item.hash ≡ name_hash name → take (length slots) (slots_of item) ≡ slots → StandsBehind slots (Some name)
 stands_behind slots item name hash passed = λ level slot e.
@@ -215,7 +212,7 @@ entry_next m before now es order level start end number index links new_links bi
       few = omega (arith, count, below, number_is, fits);
       good = subst (All IsShardLink) (sym links_are) (All-push IsShardLink links (entry_link_of number e) h.good (record { short = (let short = good.short in omega arith); plain = good.plain }));
       light =
-          (let sums = ap (sum_by tsize_in) links_are ∙ sums_more links (entry_link_of number e) in
+          (let sums = ap (sum_by tsize_in) links_are ∙ sum_by_push tsize_in links (entry_link_of number e) in
           let parts = tsizes_more es order start end le ∙ ap (λ (l : List Hashed). tsizes_in es (take start order) + tsizes_in es l) run in
           let mine : tsizes_in es (item ∷ []) ≡ e.tsize = (let f = ap (λ (x : NewEntry). x.tsize) at in omega (arith, f)) in
           entry_light (sum_by tsize_in links) (sum_by tsize_in new_links) e.tsize (tsizes_in es (take start order)) (tsizes_in es (take end order)) (131072 * (7 - level)) start end h.light sums
@@ -258,7 +255,7 @@ child_next m joins stores before now after es order level start end number links
       few = omega (arith, count, below, number_is, fits);
       good = subst (All IsShardLink) (sym links_are) (All-push IsShardLink links (child_link_of number made) h.good (record { short = omega arith; plain = plain }));
       light =
-          (let sums = ap (sum_by tsize_in) links_are ∙ sums_more links (child_link_of number made) in
+          (let sums = ap (sum_by tsize_in) links_are ∙ sum_by_push tsize_in links (child_link_of number made) in
           child_light (sum_by tsize_in links) (sum_by tsize_in new_links) made.tsize (tsizes_in es (take start order)) (tsizes_in es run) (tsizes_in es (take end order))
           (131072 * (7 - (level + 1))) (131072 * (7 - level)) start (length run) end h.light sums (tsizes_more es order start end le) (omega (arith, len)) (omega (arith, len)) (omega (arith, deeper)) light);
     }

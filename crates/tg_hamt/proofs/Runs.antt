@@ -1,6 +1,6 @@
 -- Runs of entries with one slot, in the order of their hashes.
 use Rattle.std.proofs.Common.{◌≡◌, ℕ, zero, suc, ◌+◌, ◌-◌, ◌*◌, ◌/◌, ◌%◌, ◌^◌, ◌<◌, ◌≤◌, ◌≢◌, List, [], ◌∷◌, ◌++◌, length, get_or, take, drop, refl, ap, sym, ◌∙◌, subst, ⊎_elim, arith, add-one}
-use Rattle.std.specs.Int.{byte_at, bytes_high_first, from_be_bytes, to_be_bytes, w64}
+use Rattle.std.specs.Int.{byte_at, bytes_high_first, from_be_bytes, w64}
 use Rattle.std.specs.List.{slice_range}
 use Rattle.std.specs.Prelude.{All}
 use Rattle.std.proofs.lemmas.Bool.{cases_lt}
@@ -45,28 +45,16 @@ low_more k n =
 ahead : (x y p r q : ℕ) → y < x → r < p → y * p + r < x * p + q
 ahead x y p r q less rest = let h = mul-le-mul_right {m = y + 1} {n = x} p (omega (arith, less)) in omega (arith, h, rest)
 
-first_of : List ℕ → ℕ
-first_of [] = 0
-first_of (x ∷ xs) = x
-
-rest_of : List ℕ → List ℕ
-rest_of [] = []
-rest_of (x ∷ xs) = xs
-
 -- a number with a lower byte where those above are equal is lower
 lower : (k j a b : ℕ) → j < k → take j (bytes_high_first k a) ≡ take j (bytes_high_first k b)
     → get_or (bytes_high_first k b) j 0 < get_or (bytes_high_first k a) j 0 → low_part k b < low_part k a
-unfolding first_of rest_of
 lower zero j a b lt same less = absurd (omega arith)
 lower (suc k) zero a b lt same less =
     rw (low_more k a, low_more k b) (ahead (byte_at k a) (byte_at k b) (256 ^ k) (low_part k b) (low_part k a) less (mod-lt b {m = 256 ^ k} (one-le-pow k 256 (omega arith))))
 lower (suc k) (suc j) a b lt same less =
-    let head : byte_at k a ≡ byte_at k b = ap first_of same in
-    let rest = lower k j a b (omega arith) (ap rest_of same) less in
+    let head : byte_at k a ≡ byte_at k b = ap (λ (bytes : List ℕ). get_or bytes 0 0) same in
+    let rest = lower k j a b (omega arith) (ap (drop 1) same) less in
     rw (low_more k a, low_more k b) (rw head (omega (arith, rest)))
-
-long : (n : ℕ) → length (to_be_bytes w64 n) ≡ 8
-long n = refl
 
 -- where the slots above are equal, a lower hash has no higher slot
 pub no_higher : (a b : Hashed) (level : ℕ) → a.hash < b.hash → b.hash < 2 ^ 64 → level < 8 → take level (slots_of a) ≡ take level (slots_of b)
