@@ -1,8 +1,6 @@
 -- A value without a chunk.
 use Rattle.std.proofs.Common.{◌≡◌, ◌+◌, ◌≤◌, ℕ, List, Option, None, [], ◌∷◌, ◌++◌, length, refl, sym, ap, ◌∙◌, subst, arith, length-append}
-use Rattle.std.proofs.lemmas.List.{append-nil}
-use Rattle.tg_filedag.proofs.Parts.{joined_append}
-use Rattle.tg_filedag.specs.Chunks.{joined}
+use Rattle.tg_bytes.specs.Lists.{joined, joined_push}
 use Rattle.tg_writing.specs.Keeping.{Keeps}
 use Rattle.tg_filedag.specs.Linking.{HasRoom, TakesLeaf}
 use Rattle.tg_filedag.specs.State.{BalancedState, HasNoFullLevel, IsGrowing, StandsFor}
@@ -66,7 +64,7 @@ leaf_stands state new chunk keeping takes room chunks kept h =
     let step = takes chunks kept h.forest (leaf_room state chunk chunks kept h room) in
     let more = length-append chunks (chunk ∷ []) in
     let more_bytes : length (joined (chunks ++ chunk ∷ [])) ≡ length (joined chunks) + length chunk =
-    ap length (joined_append chunks (chunk ∷ [])) ∙ length-append (joined chunks) (chunk ++ []) ∙ ap (λ (t : List ℕ). length (joined chunks) + length t) (append-nil chunk) in (
+    ap length (joined_push chunks chunk) ∙ length-append (joined chunks) chunk in (
       step.0,
       step.1,
       record {

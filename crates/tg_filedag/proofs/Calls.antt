@@ -1,8 +1,8 @@
 -- What calls give, in the words of the steps.
-use Rattle.std.proofs.Common.{◌≡◌, ◌≢◌, ◌+◌, ◌-◌, ◌<◌, ◌≤◌, ℕ, true, List, [], ◌∷◌, length, get_or, refl, sym, ap, ◌∙◌, subst, inl, inr, arith}
-use Rattle.std.specs.Prelude.{slice_index, ◌==◌}
+use Rattle.std.proofs.Common.{◌≡◌, ◌≢◌, ◌+◌, ◌-◌, ◌<◌, ◌≤◌, ℕ, List, [], ◌∷◌, length, get_or, refl, sym, ap, ◌∙◌, subst, inl, inr, arith}
+use Rattle.std.specs.Prelude.{slice_index}
 use Rattle.std.specs.List.{sum_by}
-use Rattle.std.proofs.lemmas.Bool.{cases_eq, cases_lt, ne_eqb}
+use Rattle.std.proofs.lemmas.Bool.{cases_lt}
 use Rattle.tg_cid.specs.declared.cid.Codec.TheVariants.{DagPb, Raw}
 use Rattle.tg_filedag.proofs.Closings.{BeginsAt, MayClose}
 use Rattle.tg_filedag.proofs.Meanwhile.{Closed, Raised}
@@ -19,12 +19,6 @@ use Rattle.tg_writing.specs.Keeping.{Keeps, KeepsBlock, section_of}
 
 abbrev leaf_of_size : List ℕ → ℕ → Made
 leaf_of_size chunk n = record { cid = (section_of Raw chunk).cid; content = length chunk; tsize = n }
-
-pub zero_of : (n : ℕ) → (n == 0) ≡ true → n ≡ 0
-zero_of n e = elim (cases_eq n 0) [
-  | inl h ↦ h
-  | inr ne ↦ let f = ne_eqb n 0 ne in absurd (cc)
-]
 
 -- the leaf that is kept
 pub leaf_kept : (chunk : List ℕ) (made : Made) (keeping : Keeping) → KeepsBlock Raw chunk (length chunk) 0 made keeping → (made ≡ leaf_made chunk) × Keeps (section_of Raw chunk ∷ []) keeping

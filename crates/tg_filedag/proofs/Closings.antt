@@ -4,14 +4,15 @@ use Rattle.std.specs.List.{sum_by}
 use Rattle.std.specs.Prelude.{All, map, slice_index}
 use Rattle.std.proofs.lemmas.List.{append-nil, length-drop, length-map, length-take-le, nil_from_length}
 use Rattle.std.proofs.lemmas.List.Elements.{All-cons, All-nil}
+use Rattle.std.proofs.lemmas.List.Concat.{flat_map-append}
+use Rattle.tg_bytes.specs.Lists.{joined}
 use Rattle.tg_cid.specs.declared.cid.Codec.TheVariants.{DagPb}
 use Rattle.tg_filedag.proofs.Falling.{above_first, above_full, few_equal, no_full}
 use Rattle.tg_filedag.proofs.Files.{IsRoot, leaves_some, made_file}
 use Rattle.tg_filedag.proofs.Forests.{AreSubtrees, all_trees, behind, leaves_behind, split, trees_from}
-use Rattle.tg_filedag.proofs.Parts.{NodeLaws, all_plain, content_sum, joined_append, node_over}
+use Rattle.tg_filedag.proofs.Parts.{NodeLaws, all_plain, content_sum, node_over}
 use Rattle.tg_filedag.proofs.Shapes.{HaveHeight, full_last, full_node, last_leaves, last_node, last_parts, last_tsizes, many_leaves}
 use Rattle.tg_filedag.proofs.Steps.{closed_forest, heights_count, one_height}
-use Rattle.tg_filedag.specs.Chunks.{joined}
 use Rattle.tg_filedag.specs.Heights.{HasFew, IsFalling}
 use Rattle.tg_filedag.specs.Linking.{Closes, HasFullLevel}
 use Rattle.tg_filedag.specs.MadeFile.{IsMadeFile}
@@ -63,7 +64,7 @@ may_close width start height ss chunks kept f lt same few low_height =
     let count : length chunks ≡ length (leaves_of_children sp.front) + length (leaves_of_children sp.back) =
     ap length whole ∙ length-append (leaves_of_children sp.front) (leaves_of_children sp.back) in
     let bytes : length (joined chunks) ≡ length (joined (leaves_of_children sp.front)) + length (joined (leaves_of_children sp.back)) =
-    ap (λ (t : List (List ℕ)). length (joined t)) whole ∙ ap length (joined_append (leaves_of_children sp.front) (leaves_of_children sp.back))
+    ap (λ (t : List (List ℕ)). length (joined t)) whole ∙ ap length (flat_map-append (λ (chunk : List ℕ). chunk) (leaves_of_children sp.front) (leaves_of_children sp.back))
     ∙ length-append (joined (leaves_of_children sp.front)) (joined (leaves_of_children sp.back)) in
     let high = f.high in
     let few_chunks = f.few_chunks in

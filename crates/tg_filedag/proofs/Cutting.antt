@@ -1,7 +1,8 @@
 -- The bytes that a chunker takes are those of its chunks.
 use Rattle.std.proofs.Common.{◌≡◌, ℕ, List, [], ◌∷◌, ◌++◌, sym, ap, ◌∙◌, append_assoc}
 use Rattle.std.proofs.lemmas.List.{append-nil}
-use Rattle.tg_filedag.specs.Chunks.{ChunkerCall, ChunkerState, bytes_taken, chunks_after, cleared, clears, fed_with, feeds, joined, state_after, taken_of}
+use Rattle.tg_bytes.specs.Lists.{joined}
+use Rattle.tg_filedag.specs.Chunks.{ChunkerCall, ChunkerState, bytes_taken, chunks_after, cleared, clears, fed_with, feeds, state_after, taken_of}
 
 pub keeps_bytes : (state : ChunkerState) (calls : List ChunkerCall)
     → joined (chunks_after state calls) ++ (state_after state calls).bytes ≡ state.bytes ++ bytes_taken state calls

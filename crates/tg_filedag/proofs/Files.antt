@@ -1,18 +1,19 @@
 -- The root of a file.
-use Rattle.std.proofs.Common.{◌≡◌, ◌<◌, ◌≤◌, ◌⊎◌, ℕ, List, Option, None, Some, [], ◌∷◌, length, refl, sym, ap, ◌∙◌, subst, inl, inr, arith}
+use Rattle.std.proofs.Common.{◌≡◌, ◌<◌, ◌≤◌, ◌⊎◌, ℕ, List, [], ◌∷◌, length, refl, sym, ap, ◌∙◌, subst, inl, inr, arith}
 use Rattle.std.specs.Prelude.{All, map}
 use Rattle.std.proofs.lemmas.List.Elements.{All-nil}
-use Rattle.tg_filedag.proofs.FullLists.{chunks_longer, full_one}
-use Rattle.tg_filedag.proofs.Parts.{part_sound}
-use Rattle.tg_filedag.specs.Chunks.{AreChunks, joined}
+use Rattle.tg_bytes.specs.Lists.{joined}
+use Rattle.tg_filedag.proofs.FullLists.{chunks_longer}
+use Rattle.tg_filedag.proofs.Parts.{part_sound, some_fault}
+use Rattle.tg_filedag.specs.Chunks.{AreChunks}
 use Rattle.tg_filedag.specs.MadeFile.{IsMadeFile, leaves_for}
 use Rattle.tg_filedag.specs.Trees.{IsFilePart, IsLastSubtree}
 use Rattle.tg_filedag.specs.declared.subtree.Subtree.{Subtree}
 use Rattle.tg_model.specs.Content.{content}
 use Rattle.tg_model.specs.Dag.{Dag, bare, node, unopened}
+use Rattle.tg_model.specs.FullLaws.{full_one}
 use Rattle.tg_model.specs.ImportLayout.{AreFull, HasBytes, IsLaidAt, IsLaidFile, IsLeaf, LayoutOptions, leaves, level_widths}
 use Rattle.tg_model.specs.Sound.{top}
-use Rattle.tg_model.specs.declared.fault.BlockFault.{BlockFault}
 use Rattle.tg_model.specs.declared.kinds.Kind.TheVariants.{Basic, File, Raw, Shard, Symlink}
 
 -- a root is a leaf, or has two links and two leaves at least
@@ -73,9 +74,6 @@ laid_file options width s d chunks last root c l w are = record {
   levels = λ level. subst (λ (n : ℕ). AreFull n (level_widths d level)) (sym w) (last.front.widths level);
   linked = last.front.linked;
 }
-
-some_fault : {X : Type 0} (f : BlockFault) → ◌≡◌ {A = Option BlockFault} (Some f) None → X
-some_fault f e = absurd (cc)
 
 laid_top : (options : LayoutOptions) (d : Dag) → IsFilePart d → IsLaidFile options d → IsLaidAt options top d
 laid_top options (unopened cid) h laid = absurd h.whole

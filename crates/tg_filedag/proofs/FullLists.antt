@@ -1,30 +1,20 @@
 -- Lists of which all but the last are one number.
 use Rattle.std.proofs.Common.{◌≡◌, ◌+◌, ◌<◌, ◌≤◌, ℕ, zero, suc, List, Some, [], ◌∷◌, ◌++◌, length, refl, sym, ◌∙◌, subst, arith}
-use Rattle.std.specs.Prelude.{All, Option, map, slice_get}
+use Rattle.std.specs.Prelude.{All, map, slice_get}
 use Rattle.std.proofs.lemmas.List.Elements.{All-cons, All-head, All-nil, All-tail}
-use Rattle.tg_filedag.specs.Chunks.{AllFull, AreChunks, FullAreChunks, LastIsChunk, joined}
+use Rattle.tg_filedag.specs.Chunks.{AllFull, AreChunks, FullAreChunks, LastIsChunk}
 use Rattle.std.proofs.lemmas.List.{append-nil, length-append}
+use Rattle.std.proofs.lemmas.Option.{same_Some}
+use Rattle.tg_bytes.specs.Lists.{joined}
+use Rattle.tg_model.specs.FullLaws.{full_none, full_one}
 use Rattle.tg_model.specs.ImportLayout.{AreFull, HasBytes}
 
-the_same : (a b : ℕ) → ◌≡◌ {A = Option ℕ} (Some a) (Some b) → a ≡ b
-the_same a b e = cc
-
-pub full_nil : (number : ℕ) → AreFull number []
-full_nil number = record { full = λ i n lt e. absurd (omega arith); last = λ i n eq e. absurd (omega arith) }
-
-one_last : (number x i n : ℕ) → x ≤ number → i + 1 ≡ length (x ∷ []) → slice_get (x ∷ []) i ≡ Some n → n ≤ number
-one_last number x zero n le eq e = let same = the_same x n e in omega arith
-one_last number x (suc i) n le eq e = absurd (omega arith)
-
-pub full_one : (number x : ℕ) → x ≤ number → AreFull number (x ∷ [])
-full_one number x le = record { full = λ i n lt e. absurd (omega arith); last = λ i n eq e. one_last number x i n le eq e }
-
 cons_all : (number x : ℕ) (zs : List ℕ) (i n : ℕ) → x ≡ number → AreFull number zs → i + 1 < length (x ∷ zs) → slice_get (x ∷ zs) i ≡ Some n → n ≡ number
-cons_all number x zs zero n is full lt e = sym (the_same x n e) ∙ is
+cons_all number x zs zero n is full lt e = sym (same_Some x n e) ∙ is
 cons_all number x zs (suc i) n is full lt e = full.full i n (omega arith) e
 
 cons_last : (number x : ℕ) (zs : List ℕ) (i n : ℕ) → x ≡ number → AreFull number zs → i + 1 ≡ length (x ∷ zs) → slice_get (x ∷ zs) i ≡ Some n → n ≤ number
-cons_last number x zs zero n is full eq e = let same = the_same x n e in omega arith
+cons_last number x zs zero n is full eq e = let same = same_Some x n e in omega arith
 cons_last number x zs (suc i) n is full eq e = full.last i n (omega arith) e
 
 pub full_cons : (number x : ℕ) (zs : List ℕ) → x ≡ number → AreFull number zs → AreFull number (x ∷ zs)
@@ -41,7 +31,7 @@ full_append number (x ∷ xs) ys all full =
     full_cons number x (xs ++ ys) (All-head P x xs all) (full_append number xs ys (All-tail P x xs all) full)
 
 pub full_all : (number : ℕ) (xs : List ℕ) → All (λ n. n ≡ number) xs → AreFull number xs
-full_all number [] all = full_nil number
+full_all number [] all = full_none number
 full_all number (x ∷ xs) all =
     let P = λ (n : ℕ). n ≡ number in
     full_cons number x xs (All-head P x xs all) (full_all number xs (All-tail P x xs all))
@@ -92,7 +82,7 @@ has_bytes (x ∷ y ∷ more) all = all
 -- the chunks of a file: all full, or a last one behind them
 pub full_are_chunks : FullAreChunks
 full_are_chunks size chunks one all = subst (AreChunks size) (append-nil chunks) (record {
-  full = full_before size chunks [] all (full_nil size);
+  full = full_before size chunks [] all (full_none size);
   not_empty = has_bytes (chunks ++ []) (some_before size chunks [] one all (All-nil (λ (c : List ℕ). 0 < length c)));
 })
 

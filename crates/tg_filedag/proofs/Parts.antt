@@ -1,14 +1,15 @@
 -- The parts of a file, and the node over them.
-use Rattle.std.proofs.Common.{◌≡◌, ◌+◌, ◌<◌, ◌^◌, ℕ, List, Option, None, Some, [], ◌∷◌, ◌++◌, length, refl, sym, ap, ap₂, ◌∙◌, subst, arith, length-append, zero-add, append_assoc}
+use Rattle.std.proofs.Common.{◌≡◌, ◌+◌, ◌<◌, ◌^◌, ℕ, List, Option, None, Some, [], ◌∷◌, ◌++◌, length, refl, sym, ap, ap₂, ◌∙◌, subst, arith, length-append, zero-add}
 use Rattle.std.specs.List.{sum_by}
 use Rattle.std.specs.Prelude.{All, map, sum, ⊤}
 use Rattle.std.proofs.lemmas.List.{append-nil}
 use Rattle.std.proofs.lemmas.List.Elements.{All-append, All-cons, All-head, All-nil}
 use Rattle.std.proofs.lemmas.List.Sums.{sum-map, sum_by-cons}
+use Rattle.std.proofs.lemmas.List.Concat.{flat_map-append}
+use Rattle.tg_bytes.specs.Lists.{joined}
 use Rattle.tg_cid.specs.Cid.{CidParts}
 use Rattle.tg_cid.specs.declared.cid.Codec.TheVariants.{DagPb}
 use Rattle.tg_cid.specs.declared.cid.HashKind.TheVariants.{Sha256}
-use Rattle.tg_filedag.specs.Chunks.{joined}
 use Rattle.tg_filedag.specs.Trees.{IsFileBlock, IsFilePart, IsMadeOf, IsPlain, content_in, entry_for, file_kind, leaf_made, leaf_of, node_made, part_for, tsize_in}
 use Rattle.tg_filedag.specs.declared.subtree.Subtree.{Subtree}
 use Rattle.tg_model.specs.Content.{content, content_at, content_of_children}
@@ -25,15 +26,9 @@ use Rattle.tg_unixfs.specs.declared.Unix.{Unix}
 use Rattle.tg_writing.specs.Nodes.{IsNodeOf, LeadTo}
 use Rattle.tg_writing.specs.Keeping.{section_of}
 
--- ---- lists of chunks
-
-pub joined_append : (xs ys : List (List ℕ)) → joined (xs ++ ys) ≡ joined xs ++ joined ys
-joined_append [] ys = refl
-joined_append (x ∷ xs) ys = ap (λ (t : List ℕ). x ++ t) (joined_append xs ys) ∙ sym (append_assoc x (joined xs) (joined ys))
-
 -- ---- one part
 
-some_fault : {X : Type 0} (f : BlockFault) → ◌≡◌ {A = Option BlockFault} (Some f) None → X
+pub some_fault : {X : Type 0} (f : BlockFault) → ◌≡◌ {A = Option BlockFault} (Some f) None → X
 some_fault f e = absurd (cc)
 
 -- a file's part is a raw block or a file, so its content is the same wherever it stands
@@ -133,7 +128,7 @@ contents [] (with_child d ds) h = absurd h
 contents (s ∷ ss) no_child h = absurd h
 contents (s ∷ ss) (with_child d ds) h =
     ap₂ (λ (x y : List ℕ). x ++ y) (same_content d (part s.made.content) top h.1.0 ∙ h.1.0.content_is) (contents ss ds h.1.1)
-    ∙ sym (joined_append (leaves d) (leaves_of_children ds))
+    ∙ sym (flat_map-append (λ (chunk : List ℕ). chunk) (leaves d) (leaves_of_children ds))
 
 pub content_sum : (ss : List Subtree) (ds : Children) → AreParts ss ds → sum_by content_in ss ≡ length (joined (leaves_of_children ds))
 content_sum [] no_child h = refl
@@ -144,7 +139,7 @@ content_sum (s ∷ ss) (with_child d ds) h =
     let here : s.made.content ≡ length (joined (leaves d)) = h.0.content_len ∙ ap length h.1.0.content_is in
     let sums = sum_by-cons content_in s ss in
     let size : length (joined (leaves d ++ leaves_of_children ds)) ≡ length (joined (leaves d)) + length (joined (leaves_of_children ds)) =
-    ap length (joined_append (leaves d) (leaves_of_children ds)) ∙ length-append (joined (leaves d)) (joined (leaves_of_children ds)) in
+    ap length (flat_map-append (λ (chunk : List ℕ). chunk) (leaves d) (leaves_of_children ds)) ∙ length-append (joined (leaves d)) (joined (leaves_of_children ds)) in
     omega arith
 
 tsize_sum : (ss : List Subtree) (ds : Children) → AreParts ss ds → sum_by tsize_in ss ≡ tsizes_of ds

@@ -25,6 +25,16 @@ use Rattle.tg_model.specs.Stores.{KeepMeaning, Keeping, kept_in}
 use Rattle.tg_model.specs.declared.kinds.Made.{Made}
 use Rattle.tg_model.specs.declared.stores.KeepFault.{KeepFault}
 
+-- a fault behind sections that were kept
+pub stops_here : {S : Type 0} → (m : KeepMeaning S) → Joins m → KeepingJoins → (a b c : S) (width : ℕ) (ss : List Subtree) (chunks : List (List ℕ)) (kept sections : List Section)
+    (fault : KeepFault) → Keeps sections (kept_in m a b) → IsClosing width ss chunks (kept ++ sections) → StopsAfter [] fault (kept_in m b c)
+    → (more : List Section) × StopsAfter more fault (kept_in m a c) × IsFrontFor width chunks kept more
+stops_here m joins stores a b c width ss chunks kept sections fault keeps closing stop = (
+  sections,
+  subst (λ (s : List Section). StopsAfter s fault (kept_in m a c)) (append-nil sections) (stops_behind m joins stores a b c sections [] fault keeps stop),
+  inr (ss, closing),
+)
+
 -- ---- full levels
 
 pub raise_init : {S : Type 0} → (m : KeepMeaning S) → ((s : S) → m.kept s s []) → (s : S) (width : ℕ) (ss : List Subtree) (chunks : List (List ℕ)) (kept : List Section)
@@ -71,15 +81,6 @@ raise_smaller width start height ss new keeping two full at c =
     let front = length-take-le start ss (omega arith) in
     let size : length new ≡ length (take start ss) + 1 = ap length c.new_is ∙ length-append (take start ss) (record { height = height; made = c.made } ∷ []) in
     omega arith
-
-pub raise_stops : {S : Type 0} → (m : KeepMeaning S) → Joins m → KeepingJoins → (a b c : S) (width : ℕ) (ss : List Subtree) (chunks : List (List ℕ)) (kept : List Section)
-    (fault : KeepFault) → Raised m a b width ss chunks kept → StopsAfter [] fault (kept_in m b c)
-    → (sections : List Section) × StopsAfter sections fault (kept_in m a c) × IsFrontFor width chunks kept sections
-raise_stops m joins stores a b c width ss chunks kept fault r stop = (
-  r.sections,
-  subst (λ (s : List Section). StopsAfter s fault (kept_in m a c)) (append-nil r.sections) (stops_behind m joins stores a b c r.sections [] fault r.keeps stop),
-  inr (ss, growing_closing width ss chunks (kept ++ r.sections) r.forest),
-)
 
 pub raise_done : {S : Type 0} → (m : KeepMeaning S) (a b : S) (width : ℕ) (ss : List Subtree) (chunks : List (List ℕ)) (kept : List Section)
     → Raised m a b width ss chunks kept → (HasFullLevel width ss → ⊥)
@@ -194,15 +195,6 @@ close_smaller width start height ss new chunks kept keeping f begins many is c =
           let first : slice_index (heights new) 0 ≡ height + 1 = ap (λ (n : ℕ). slice_index (heights new) n) (sym start_is ∙ sym last_place) ∙ last in
           omega arith
     ]
-
-pub close_stops : {S : Type 0} → (m : KeepMeaning S) → Joins m → KeepingJoins → (a b c : S) (width : ℕ) (ss : List Subtree) (chunks : List (List ℕ)) (kept : List Section)
-    (fault : KeepFault) → Closed m a b width ss chunks kept → StopsAfter [] fault (kept_in m b c)
-    → (sections : List Section) × StopsAfter sections fault (kept_in m a c) × IsFrontFor width chunks kept sections
-close_stops m joins stores a b c width ss chunks kept fault r stop = (
-  r.sections,
-  subst (λ (s : List Section). StopsAfter s fault (kept_in m a c)) (append-nil r.sections) (stops_behind m joins stores a b c r.sections [] fault r.keeps stop),
-  inr (ss, r.forest.forest),
-)
 
 pub close_done : {S : Type 0} → (m : KeepMeaning S) (a b : S) (width : ℕ) (ss : List Subtree) (chunks : List (List ℕ)) (kept : List Section) (r : Subtree)
     → Closed m a b width ss chunks kept → length ss ≤ 1

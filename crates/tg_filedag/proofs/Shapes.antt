@@ -6,12 +6,13 @@ use Rattle.std.proofs.lemmas.List.Elements.{All-append, All-cons, All-head, All-
 use Rattle.std.proofs.lemmas.List.Sums.{sum_by-cons}
 use Rattle.std.proofs.lemmas.List.{append-nil, length-map}
 use Rattle.tg_filedag.proofs.Forests.{AreSubtrees}
-use Rattle.tg_filedag.proofs.FullLists.{all_some, full_all, full_append, full_nil, full_one}
+use Rattle.tg_filedag.proofs.FullLists.{all_some, full_all, full_append}
 use Rattle.tg_filedag.proofs.Parts.{AreParts, NodeLaws, leaf_made_of, leaf_part, node_made_of, node_over, node_part}
 use Rattle.tg_filedag.specs.Trees.{AreTrees, IsFileBlock, IsFrontTree, IsFullTree, IsLastSubtree, IsSubtree, content_in, leaf_made, leaf_of, node_made, part_for, tsize_in}
 use Rattle.tg_filedag.specs.declared.subtree.Subtree.{Subtree}
 use Rattle.tg_model.specs.Content.{content}
 use Rattle.tg_model.specs.Dag.{Children, Dag, no_child, with_child}
+use Rattle.tg_model.specs.FullLaws.{full_none, full_one}
 use Rattle.tg_model.specs.ImportLayout.{AreFull, HasLeavesAt, HaveLeavesAt, leaves, leaves_of_children, level_widths, level_widths_of_children}
 
 -- a height that all subtrees have
@@ -97,7 +98,7 @@ last_depths width height (s ∷ t ∷ ss) (with_child d ds) h e =
     (subst (λ (n : ℕ). HasLeavesAt n d) (All-head P s (t ∷ ss) e) h.0.full.depth, last_depths width height (t ∷ ss) ds h.1 (All-tail P s (t ∷ ss) e))
 
 last_widths : (width : ℕ) (ss : List Subtree) (ds : Children) (level : ℕ) → AreTrees (IsLastSubtree width) width ss ds → AreFull width (level_widths_of_children ds level)
-last_widths width [] no_child level h = full_nil width
+last_widths width [] no_child level h = full_none width
 last_widths width [] (with_child d ds) level h = absurd h
 last_widths width (s ∷ []) no_child level h = absurd h
 last_widths width (s ∷ []) (with_child d no_child) level h = subst (AreFull width) (sym (append-nil (level_widths d level))) (h.front.widths level)

@@ -2,12 +2,12 @@
 use Rattle.std.proofs.Common.{◌≡◌, ◌+◌, ◌-◌, ◌<◌, ◌≤◌, ℕ, List, [], ◌∷◌, ◌++◌, length, take, drop, get_or, sym, ap, ap₂, ◌∙◌, subst, arith, append_assoc, length-append}
 use Rattle.std.specs.Prelude.{slice_index}
 use Rattle.std.proofs.lemmas.List.{append-nil, get_or-drop, get_or-map, length-drop, length-map, length-take-le, map-append, take-map}
+use Rattle.tg_bytes.specs.Lists.{joined, joined_push}
 use Rattle.tg_cid.specs.declared.cid.Codec.TheVariants.{DagPb}
 use Rattle.tg_filedag.proofs.Falling.{between_equal, closed_falls, closed_few, pushed_falls, pushed_few}
 use Rattle.tg_filedag.proofs.Forests.{Split, all_trees, behind, leaves_behind, sections_behind, trees_push}
-use Rattle.tg_filedag.proofs.Parts.{joined_append, node_over}
+use Rattle.tg_filedag.proofs.Parts.{node_over}
 use Rattle.tg_filedag.proofs.Shapes.{HaveHeight, leaf_subtree}
-use Rattle.tg_filedag.specs.Chunks.{joined}
 use Rattle.tg_filedag.specs.Heights.{HasFew, IsFalling}
 use Rattle.tg_filedag.specs.Linking.{HasRoom}
 use Rattle.tg_filedag.specs.State.{HasNoFullLevel, IsForest, IsGrowing, heights}
@@ -59,7 +59,7 @@ leaf_pushed width ss chunk chunks kept f levels room =
     let more = length-append ss (s ∷ []) in
     let chunk_more = length-append chunks (chunk ∷ []) in
     let byte_more : length (joined (chunks ++ chunk ∷ [])) ≡ length (joined chunks) + length chunk =
-    ap length (joined_append chunks (chunk ∷ [])) ∙ length-append (joined chunks) (chunk ++ []) ∙ ap (λ (t : List ℕ). length (joined chunks) + length t) (append-nil chunk) in
+    ap length (joined_push chunks chunk) ∙ length-append (joined chunks) chunk in
     record {
       trees = behind f.trees (with_child (leaf_of chunk) no_child);
       stand = trees_push (IsSubtree width) width ss f.trees s (leaf_of chunk) (all_trees width ss f.trees f.stand) (leaf_subtree width chunk);

@@ -1,11 +1,7 @@
 -- How the bytes of a file are cut into chunks (this project's own profile of UnixFS).
 use Rattle.std.specs.Prelude.{All, List, [], length, map, take, ℕ, ◌++◌, ◌-◌, ◌<◌, ◌≤◌, ◌∷◌, ◌≡◌}
+use Rattle.tg_bytes.specs.Lists.{joined}
 use Rattle.tg_model.specs.ImportLayout.{AreFull, HasBytes}
-
--- the chunks one behind another
-abbrev pub joined : List (List ℕ) → List ℕ
-joined [] = []
-joined (chunk ∷ chunks) = chunk ++ joined chunks
 
 -- all chunks but the last have this size and the last has at most it, and a chunk that isn't alone has a byte
 pub record AreChunks (size : ℕ) (chunks : List (List ℕ)) : Type 0 where

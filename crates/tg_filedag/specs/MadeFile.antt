@@ -1,6 +1,7 @@
 -- The file that is made of chunks (this project's own profile of UnixFS).
 use Rattle.std.specs.Prelude.{All, List, [], ℕ, ◌∷◌, ◌≡◌, ◌≤◌}
-use Rattle.tg_filedag.specs.Chunks.{AreChunks, joined}
+use Rattle.tg_bytes.specs.Lists.{joined}
+use Rattle.tg_filedag.specs.Chunks.{AreChunks}
 use Rattle.tg_filedag.specs.Trees.{IsMadeOf}
 use Rattle.tg_model.specs.Content.{content}
 use Rattle.tg_model.specs.Dag.{Dag, blocks}

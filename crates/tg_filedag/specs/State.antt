@@ -1,6 +1,6 @@
 -- What a contract sees of a file that is being linked, and the chunks and sections that it stands for.
 use Rattle.std.specs.Prelude.{List, None, Option, [], length, map, ℕ, ◌++◌, ◌-◌, ◌≡◌, ◌≤◌, ◌⊎◌}
-use Rattle.tg_filedag.specs.Chunks.{joined}
+use Rattle.tg_bytes.specs.Lists.{joined}
 use Rattle.tg_filedag.specs.Heights.{HasFew, IsFalling}
 use Rattle.tg_filedag.specs.Trees.{AreTrees, IsLastSubtree, IsSubtree, bottom_up_of_children}
 use Rattle.tg_filedag.specs.declared.subtree.Subtree.{Subtree}

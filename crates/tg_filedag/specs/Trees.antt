@@ -1,9 +1,9 @@
 -- The DAG of a file as it grows (UnixFS specification, File; the balanced layout is this project's own profile).
 use Rattle.std.specs.List.{sum_by}
 use Rattle.std.specs.Prelude.{All, List, Some, [], length, map, ℕ, ⊤, ◌*◌, ◌++◌, ◌+◌, ◌<◌, ◌∷◌, ◌≡◌, ◌≤◌}
+use Rattle.tg_bytes.specs.Lists.{joined}
 use Rattle.tg_cid.specs.declared.cid.Codec.TheVariants as codecs
 use Rattle.tg_cid.specs.declared.cid.HashKind.TheVariants.{Sha256}
-use Rattle.tg_filedag.specs.Chunks.{joined}
 use Rattle.tg_filedag.specs.declared.subtree.Subtree.{Subtree}
 use Rattle.tg_model.specs.Content.{content}
 use Rattle.tg_model.specs.Dag.{Children, Dag, IsWhole, Section, bare, blocks, no_child, node, root_cid, unopened, with_child}

@@ -1,5 +1,5 @@
 -- The file that was made of what was taken.
-use Rattle.std.proofs.Common.{◌≡◌, ◌<◌, ◌≤◌, ℕ, List, Some, [], ◌∷◌, ◌++◌, length, refl, sym, ap, ◌∙◌, subst, inl, inr, arith, append_assoc}
+use Rattle.std.proofs.Common.{◌≡◌, ◌<◌, ◌≤◌, ℕ, List, Some, [], ◌∷◌, ◌++◌, length, sym, ap, ◌∙◌, subst, inl, inr, arith, append_assoc}
 use Rattle.std.specs.Prelude.{Contains}
 use Rattle.std.proofs.lemmas.List.{append-nil}
 use Rattle.std.proofs.lemmas.List.Elements.{Contains-append_cases, Contains-append_left, Contains-append_right}
@@ -10,8 +10,9 @@ use Rattle.tg_filedag.specs.Trees.{bottom_up, bottom_up_of_children}
 use Rattle.tg_writing.specs.KeepingSteps.{Joins, keeps_both}
 use Rattle.tg_import_file.specs.Files.{AreBlocksOf, IsFileOf}
 use Rattle.tg_import_file.specs.Taking.{HasLinked, LinksLast, MakesFile}
+use Rattle.tg_laws.specs.Contents.{no_content}
 use Rattle.tg_laws.specs.Stores.{KeepingJoins}
-use Rattle.tg_model.specs.Content.{content, content_of_children}
+use Rattle.tg_model.specs.Content.{content}
 use Rattle.tg_model.specs.Dag.{Children, Dag, IsWhole, Section, bare, blocks, blocks_of_children, no_child, node, unopened, with_child}
 use Rattle.tg_model.specs.ImportLayout.{leaves}
 use Rattle.tg_model.specs.ShowsTree.{Shows}
@@ -61,10 +62,6 @@ are_blocks d section = (kept_block d section, block_kept d section)
 
 -- ---- what a file shows
 
-no_parts : (children : Children) → content_of_children [] children ≡ []
-no_parts no_child = refl
-no_parts (with_child d children) = refl
-
 some_leaf : (chunks : List (List ℕ)) → 0 < length (leaves_for chunks)
 some_leaf [] = omega arith
 some_leaf (chunk ∷ chunks) = omega arith
@@ -79,7 +76,7 @@ shows_file : (d : Dag) (chunks : List (List ℕ)) (tree : Tree) → IsWhole d �
 shows_file (unopened cid) chunks tree whole are is = absurd whole
 shows_file (bare section fault) chunks tree whole are is = absurd whole
 shows_file (node section Raw children) chunks tree whole are is =
-    is ∙ ap (λ (t : List ℕ). Some (section.block ++ t)) (no_parts children) ∙ ap Some (append-nil section.block)
+    is ∙ ap (λ (t : List ℕ). Some (section.block ++ t)) (no_content children) ∙ ap Some (append-nil section.block)
 shows_file (node section (File inline filesize parts) children) chunks tree whole are is = is
 shows_file (node section (Basic es) children) chunks tree whole are is = no_leaf chunks are
 shows_file (node section (Shard slots) children) chunks tree whole are is = no_leaf chunks are

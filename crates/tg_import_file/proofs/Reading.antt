@@ -1,8 +1,10 @@
 -- A file that is read from its beginning on.
-use Rattle.std.proofs.Common.{◌≡◌, ◌+◌, ◌<◌, ◌≤◌, ℕ, List, Option, None, Some, [], ◌++◌, length, take, drop, refl, sym, ap, ◌∙◌, subst, arith, append_assoc}
+use Rattle.std.proofs.Common.{◌≡◌, ◌+◌, ◌<◌, ◌≤◌, ℕ, List, Option, None, Some, [], ◌++◌, length, take, drop, refl, sym, ap, ◌∙◌, subst, arith}
 use Rattle.std.specs.Prelude.{IfSome}
 use Rattle.std.proofs.lemmas.List.{append-nil, length-append, length-take-le}
+use Rattle.std.proofs.lemmas.Option.{same_Some}
 use Rattle.tg_bytes.specs.Told.{IsNothing, after_front}
+use Rattle.tg_bytes.specs.ToldLaws.{after_front-after_front}
 use Rattle.tg_filedag.specs.Chunks.{ChunkerState}
 use Rattle.tg_filedag.specs.State.{BalancedState}
 use Rattle.tg_files.specs.Folders.{FolderMeaning, FolderQuiet, SameTree, folder_step}
@@ -27,31 +29,24 @@ behind_none : (file : Option (List ℕ)) → file ≡ after_front [] (rest_at fi
 behind_none None = refl
 behind_none (Some content) = refl
 
-behind_two : (u v : List ℕ) (rest : Option (List ℕ)) → after_front u (after_front v rest) ≡ after_front (u ++ v) rest
-behind_two u v None = refl
-behind_two u v (Some rest) = ap Some (sym (append_assoc u v rest))
-
 read_on : (file : Option (List ℕ)) (offset n : ℕ) (bytes buf : List ℕ) → IsFrontTo file offset bytes → ReadAt file offset n buf → IsFrontTo file (offset + n) (bytes ++ take n buf)
 read_on file offset n bytes buf front read =
     let part = length-take-le n buf read.within in
     let whole = length-append bytes (take n buf) in
     let count = front.0 in (
       omega arith,
-      front.1 ∙ ap (λ (rest : Option (List ℕ)). after_front bytes rest) read.bytes ∙ behind_two bytes (take n buf) (rest_at file (offset + n)),
+      front.1 ∙ ap (λ (rest : Option (List ℕ)). after_front bytes rest) read.bytes ∙ after_front-after_front bytes (take n buf) (rest_at file (offset + n)),
     )
-
-same_bytes : (a b : List ℕ) → ◌≡◌ {A = Option (List ℕ)} (Some a) (Some b) → a ≡ b
-same_bytes a b e = cc
 
 read_all : (file : Option (List ℕ)) (offset : ℕ) (bytes : List ℕ) → IsFrontTo file offset bytes → IsNothing (rest_at file offset) → IfSome file (λ content. content ≡ bytes)
 read_all None offset bytes front none = tt
 read_all (Some content) offset bytes front none =
-    same_bytes content (bytes ++ drop offset content) front.1 ∙ ap (λ (t : List ℕ). bytes ++ t) none ∙ append-nil bytes
+    same_Some content (bytes ++ drop offset content) front.1 ∙ ap (λ (t : List ℕ). bytes ++ t) none ∙ append-nil bytes
 
 longer : (file : Option (List ℕ)) (offset most : ℕ) (bytes : List ℕ) → IsFrontTo file offset bytes → most < offset → IfSome file (λ content. most < length content)
 longer None offset most bytes front more = tt
 longer (Some content) offset most bytes front more =
-    let is : length content ≡ length (bytes ++ drop offset content) = ap length (same_bytes content (bytes ++ drop offset content) front.1) in
+    let is : length content ≡ length (bytes ++ drop offset content) = ap length (same_Some content (bytes ++ drop offset content) front.1) in
     let whole = length-append bytes (drop offset content) in
     let count = front.0 in
     omega arith

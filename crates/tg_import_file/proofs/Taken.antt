@@ -3,10 +3,11 @@ use Rattle.std.proofs.Common.{◌≡◌, ◌≢◌, ◌+◌, ◌-◌, ◌<◌, �
 use Rattle.std.specs.Prelude.{min}
 use Rattle.std.proofs.lemmas.Bool.{cases_lt}
 use Rattle.std.proofs.lemmas.List.{append-nil, length-append, length-take}
-use Rattle.std.proofs.lemmas.List.Elements.{All-nil}
-use Rattle.tg_filedag.specs.Chunks.{ChunkerState, FullAreChunks, LastIsChunk, cleared, fed_with, joined, taken_of}
+use Rattle.std.proofs.lemmas.List.Elements.{All-nil, All-push}
+use Rattle.tg_bytes.specs.Lists.{joined, joined_push}
+use Rattle.tg_filedag.specs.Chunks.{ChunkerState, FullAreChunks, LastIsChunk, cleared, fed_with, taken_of}
 use Rattle.tg_filedag.specs.State.{BalancedState, StandsFor}
-use Rattle.tg_import_file.proofs.Cuts.{full_count, full_push, joined_push}
+use Rattle.tg_import_file.proofs.Cuts.{full_count}
 use Rattle.tg_writing.specs.KeepingSteps.{Joins, keeps_both, keeps_nothing}
 use Rattle.tg_import_file.specs.Files.{max_file_len}
 use Rattle.tg_import_file.specs.Taking.{HasLinked, HasTaken, LinksLast, MayTake, TakesPiece}
@@ -105,7 +106,7 @@ takes_full c fed new b b' piece chunk n keeping is clear chunk_is count full sta
     record {
       chunks = h.chunks ++ chunk ∷ [];
       stands = leaf.2;
-      full = full_push c.size h.chunks chunk h.full long;
+      full = All-push (λ (x : List ℕ). length x ≡ c.size) h.chunks chunk h.full long;
       room = omega arith;
       bytes_are = append-nil (joined (h.chunks ++ chunk ∷ [])) ∙ joined_push h.chunks chunk ∙ ap (λ (t : List ℕ). joined h.chunks ++ t) same ∙ fed_bytes c piece bytes h.chunks h.bytes_are;
     } in

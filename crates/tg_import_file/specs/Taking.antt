@@ -1,6 +1,7 @@
 -- How far a file was taken: cut into chunks and linked.
 use Rattle.std.specs.Prelude.{All, IfSome, List, Option, Some, length, ℕ, ◌++◌, ◌+◌, ◌<◌, ◌≡◌, ◌≤◌}
-use Rattle.tg_filedag.specs.Chunks.{AreChunks, ChunkerState, joined}
+use Rattle.tg_bytes.specs.Lists.{joined}
+use Rattle.tg_filedag.specs.Chunks.{AreChunks, ChunkerState}
 use Rattle.tg_filedag.specs.State.{BalancedState, StandsFor}
 use Rattle.tg_filedag.specs.Trees.{bottom_up}
 use Rattle.tg_import_file.specs.Files.{IsFileOf, max_file_len}

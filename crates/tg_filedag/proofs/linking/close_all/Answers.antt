@@ -2,7 +2,7 @@ use Rattle.std.proofs.Common.{◌-◌, ◌≤◌, ℕ, sym, subst, arith}
 use Rattle.std.proofs.lemmas.Result.{err_from_is_err_and}
 use Rattle.tg_filedag.proofs.Calls.{close_at, lowest}
 use Rattle.tg_filedag.proofs.Parts.{NodeLaws}
-use Rattle.tg_filedag.proofs.Runs.{close_done, close_init, close_next, close_smaller, close_stops}
+use Rattle.tg_filedag.proofs.Runs.{close_done, close_init, close_next, close_smaller, stops_here}
 use Rattle.tg_filedag.proofs.linking.close_all.Goals as goal
 use Rattle.tg_filedag.specs.declared.subtree.Subtree.{Subtree}
 use Rattle.tg_filedag.specs.MadeFile.{IsMadeFile}
@@ -61,8 +61,9 @@ returns-in_err-close-clause-stops g c =
     let p = err_from_is_err_and c.from_residual.result c.from_residual.ensures.1 in
     rw (p.1, p.2)
     (λ chunks kept f.
-    close_stops g.K.Keep.keeper g.met.K.Keep.joins c.kept_sections.ensures.joins c.args.keep.now c.loop-alloc.keep c.close.new.keep c.args.width
-    c.loop-alloc.subtrees.items chunks kept c.in_err-close.field-0.0 (c.loop-alloc.invariant chunks kept f) c.in_err-close.ensures.stops)
+    let r = c.loop-alloc.invariant chunks kept f in
+    stops_here g.K.Keep.keeper g.met.K.Keep.joins c.kept_sections.ensures.joins c.args.keep.now c.loop-alloc.keep c.close.new.keep c.args.width
+    c.loop-alloc.subtrees.items chunks kept r.sections c.in_err-close.field-0.0 r.keeps r.forest.forest c.in_err-close.ensures.stops)
 
 pub returns-in_err-close-clause-err_counted : goal.returns-in_err-close-clause-err_counted
 returns-in_err-close-clause-err_counted g c =

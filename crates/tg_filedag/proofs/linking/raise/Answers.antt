@@ -1,8 +1,9 @@
-use Rattle.std.proofs.Common.{◌-◌, ◌≤◌, ℕ, sym, subst, arith}
+use Rattle.std.proofs.Common.{◌-◌, ◌≤◌, ◌++◌, ℕ, sym, subst, arith}
 use Rattle.std.proofs.lemmas.Result.{err_from_is_err_and}
 use Rattle.tg_filedag.proofs.Calls.{level_read, raise_at}
+use Rattle.tg_filedag.proofs.Closings.{growing_closing}
 use Rattle.tg_filedag.proofs.Parts.{NodeLaws}
-use Rattle.tg_filedag.proofs.Runs.{raise_done, raise_next, raise_stops}
+use Rattle.tg_filedag.proofs.Runs.{raise_done, raise_next, stops_here}
 use Rattle.tg_filedag.proofs.linking.raise.Goals as goal
 use Rattle.tg_filedag.specs.Linking.{HasFullLevel}
 
@@ -49,8 +50,10 @@ returns-in_err-close-clause-stops g c =
     let p = err_from_is_err_and c.from_residual.result c.from_residual.ensures.1 in
     rw (p.1, p.2)
     (λ chunks kept f.
-    raise_stops g.K.Keep.keeper g.met.K.Keep.joins c.kept_sections.ensures.joins c.args.keep.now c.loop-alloc.keep c.close.new.keep c.args.width
-    c.loop-alloc.subtrees.items chunks kept c.in_err-close.field-0.0 (c.loop-alloc.invariant chunks kept f) c.in_err-close.ensures.stops)
+    let ss = c.loop-alloc.subtrees.items in
+    let r = c.loop-alloc.invariant chunks kept f in
+    stops_here g.K.Keep.keeper g.met.K.Keep.joins c.kept_sections.ensures.joins c.args.keep.now c.loop-alloc.keep c.close.new.keep c.args.width
+    ss chunks kept r.sections c.in_err-close.field-0.0 r.keeps (growing_closing c.args.width ss chunks (kept ++ r.sections) r.forest) c.in_err-close.ensures.stops)
 
 pub returns-in_err-close-clause-err_counted : goal.returns-in_err-close-clause-err_counted
 returns-in_err-close-clause-err_counted g c =

@@ -1,6 +1,6 @@
 use Rattle.std.proofs.Common.{◌≡◌, length, sym, ap, ◌∙◌, arith}
 use Rattle.std.proofs.lemmas.Result.{err_from_is_err_and}
-use Rattle.tg_import_file.proofs.Cuts.{are_none, are_some}
+use Rattle.tg_import_file.proofs.Cuts.{are_none, still_some}
 use Rattle.tg_import_file.proofs.Taken.{leaf_fits, links_last, links_none}
 use Rattle.tg_import_file.proofs.pieces.link_last.Goals as goal
 use Rattle.tg_model.specs.Stores.{kept_in}
@@ -13,9 +13,8 @@ returns-then-is_empty-clause-linked g c =
 pub leaf-requires-clause-leaves : goal.leaf-requires-clause-leaves
 leaf-requires-clause-leaves g c =
     let long : length c.chunk-2.result.now ≡ length c.args.chunker.now.bytes = ap length c.chunk-2.ensures.bytes in
-    let first : length c.chunk.result.now ≡ length c.args.chunker.now.bytes = ap length c.chunk.ensures.bytes in
-    let some = are_some c.chunk.result.now (sym c.if-is_empty.ensures) in
-    (leaf_fits c.args.chunker.now c.args.balanced.now 0 c.chunk-2.result.now c.requires (omega arith) (omega arith)).1
+    (leaf_fits c.args.chunker.now c.args.balanced.now 0 c.chunk-2.result.now c.requires (omega arith)
+    (still_some c.chunk.result.now c.chunk-2.result.now c.args.chunker.now.bytes c.chunk.ensures.bytes c.chunk-2.ensures.bytes (sym c.if-is_empty.ensures))).1
 
 pub returns-in_err-leaf-clause-stops : goal.returns-in_err-leaf-clause-stops
 returns-in_err-leaf-clause-stops g c =
@@ -25,8 +24,6 @@ returns-in_err-leaf-clause-stops g c =
 
 pub returns-clause-linked : goal.returns-clause-linked
 returns-clause-linked g c =
-    let long : length c.chunk-2.result.now ≡ length c.args.chunker.now.bytes = ap length c.chunk-2.ensures.bytes in
-    let first : length c.chunk.result.now ≡ length c.args.chunker.now.bytes = ap length c.chunk.ensures.bytes in
-    let some = are_some c.chunk.result.now (sym c.if-is_empty.ensures) in
     links_last c.cut_chunks.ensures.last c.args.chunker.now c.args.balanced.now c.leaf.new.self c.chunk-2.result.now (kept_in g.K.Keep.keeper c.args.keep.now c.leaf.new.keep)
-    c.chunk-2.ensures.bytes (omega arith) c.in_ok-leaf.ensures.stands
+    c.chunk-2.ensures.bytes (still_some c.chunk.result.now c.chunk-2.result.now c.args.chunker.now.bytes c.chunk.ensures.bytes c.chunk-2.ensures.bytes (sym c.if-is_empty.ensures))
+    c.in_ok-leaf.ensures.stands
