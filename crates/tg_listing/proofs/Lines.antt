@@ -1,8 +1,10 @@
 -- The line of an entry, and the lines of entries.
-use Rattle.std.proofs.Common.{add-one, append-nil, inr, suc, ◌+◌, ◌<◌, get_or, length, take, drop, ◌≡◌, List, [], ◌∷◌, ℕ, ◌++◌, append_assoc, ap, refl, sym, take-append-drop, drop-cons, ◌∙◌}
+use Rattle.std.proofs.Common.{add-one, append-nil, inr, suc, ◌+◌, ◌<◌, get_or, length, take, drop, ◌≡◌, List, [], ◌∷◌, ℕ, ◌++◌, append_assoc, ap, sym, take-append-drop, drop-cons, ◌∙◌}
 use Rattle.std.specs.List.{flat_map}
 use Rattle.std.specs.Prelude.{map}
 use Rattle.std.proofs.Math.Seq.{take-suc}
+use Rattle.std.proofs.lemmas.List.{map-append}
+use Rattle.std.proofs.lemmas.List.Concat.{flat_map-append}
 use Rattle.tg_cid.specs.Cid.{CidParts}
 use Rattle.tg_cid.specs.Computed.{cid_text}
 use Rattle.tg_cid.specs.Spelling.{CidBytes, CidText}
@@ -29,10 +31,7 @@ abbrev pub lines_of : List Entry → List ℕ
 lines_of entries = flat_map listing_line (map named_entry entries)
 
 lines_append : (es fs : List Entry) → lines_of (es ++ fs) ≡ lines_of es ++ lines_of fs
-lines_append [] fs = refl
-lines_append (e ∷ es) fs =
-    ap (λ (l : List ℕ). listing_line (named_entry e) ++ l) (lines_append es fs)
-    ∙ sym (append_assoc (listing_line (named_entry e)) (lines_of es) (lines_of fs))
+lines_append es fs = ap (flat_map listing_line) (map-append named_entry es fs) ∙ flat_map-append listing_line (map named_entry es) (map named_entry fs)
 
 -- those before the i-th, the i-th one's, and those behind it
 pub lines_split : (es : List Entry) (i : ℕ) (d : Entry) → i < length es
