@@ -1,7 +1,8 @@
 -- A section whose length and CID are whole, and bytes of its block.
 use Rattle.std.proofs.Common.{◌≡◌, ℕ, ◌+◌, ◌-◌, ◌<◌, ◌≤◌, List, [], ◌∷◌, ◌++◌, length, take, drop, get_or, replicate, All, refl, ap, sym, ◌∙◌, subst, arith}
-use Rattle.std.proofs.lemmas.List.{append_assoc, length-append, length-replicate, length-take-le, take-append-drop, take_more, drop_more}
+use Rattle.std.proofs.lemmas.List.{append_assoc, length-append, length-replicate, length-take-le, take_more}
 use Rattle.std.proofs.lemmas.List.Elements.{All-append, All-replicate}
+use Rattle.tg_varint.specs.GroupLaws.{parted_at}
 use Rattle.tg_car.specs.TextLaws.{TextLaws}
 use Rattle.tg_varint.specs.Varint.{VarintSpelling}
 use Rattle.tg_cid.specs.Cid.{CidParts}
@@ -85,10 +86,6 @@ pub one_more : (bytes piece : List ℕ) (at : ℕ) → at < length piece → (by
 one_more bytes piece at less =
     append_assoc bytes (take at piece) (get_or piece at 0 ∷ []) ∙ ap (λ (l : List ℕ). bytes ++ l) (sym (take_more piece at 0 less))
 
-pub one_behind : (piece : List ℕ) (at : ℕ) → at < length piece → piece ≡ take at piece ++ get_or piece at 0 ∷ drop (at + 1) piece
-one_behind piece at less =
-    sym (take-append-drop at piece) ∙ ap (λ (l : List ℕ). take at piece ++ l) (drop_more piece at 0 less)
-
 -- a length and CID without their last byte go on
 pub head_before : (d : Declared) (head : List ℕ) (last : ℕ) → HeadText d.cid d.number (head ++ last ∷ []) → IsInHead head
 head_before d head last text = record { cid = d.cid; number = d.number; more = last ∷ []; not_whole = omega arith; text = text }
@@ -110,7 +107,7 @@ before_last bytes piece taken some less =
       front = take at piece;
       last = get_or piece at 0;
       more = drop (at + 1) piece;
-      whole = one_behind piece at (omega arith);
+      whole = parted_at piece at (omega arith);
       taken_is = ap (λ (n : ℕ). bytes ++ take n piece) (sym next) ∙ sym (one_more bytes piece at (omega arith));
       front_long = ap (λ (n : ℕ). n + 1) (length-take-le at piece (omega arith)) ∙ next;
     }

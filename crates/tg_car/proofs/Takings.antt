@@ -3,6 +3,7 @@ use Rattle.std.proofs.Common.{◌≡◌, ℕ, ◌+◌, ◌<◌, ◌≤◌, Optio
 use Rattle.std.proofs.lemmas.List.{append_assoc, append-nil, length-append, length-drop, length-take-le, take-append-drop}
 use Rattle.std.proofs.lemmas.List.Elements.{All-append, All-take, All-drop, All-nil}
 use Rattle.std.proofs.Math.Seq.{take-add}
+use Rattle.tg_varint.specs.GroupLaws.{parted_at}
 use Rattle.tg_car.specs.TextLaws.{TextLaws}
 use Rattle.tg_car.specs.declared.section.Section.{Section}
 use Rattle.tg_car.specs.declared.head.Declared.{Declared}
@@ -15,7 +16,7 @@ use Rattle.tg_car.specs.Fronts.{IsInSection, IsWithin}
 use Rattle.tg_car.specs.Heads.{HeadText, IsInHead, IsNoHead}
 use Rattle.tg_car.specs.Filling.{IsPart, IsPartOf, IsFront, Fills, came_of, Takes, TakesHead, TakesBlock, StopsPart, Completes}
 use Rattle.tg_car.proofs.Openings.{nothing_in_head}
-use Rattle.tg_car.proofs.Parts.{one_more, one_behind, before_last, whole_section, head_inside, head_within, block_inside, whole_within, declared_within}
+use Rattle.tg_car.proofs.Parts.{one_more, before_last, whole_section, head_inside, head_within, block_inside, whole_within, declared_within}
 
 -- nothing came
 pub no_part : TextLaws → (d : Option Declared) (part : Part) → d ≡ None → part.head ≡ [] → part.block.items ≡ [] → IsPartOf d part
@@ -163,7 +164,7 @@ filled old head new piece at Broken less e inside pushed is other = record {
   front = take at piece;
   last = get_or piece at 0;
   more = drop (at + 1) piece;
-  whole = one_behind piece at less;
+  whole = parted_at piece at less;
   went_on = subst IsInHead e inside;
   none = subst IsNoHead (pushed ∙ ap (λ (l : List ℕ). l ++ get_or piece at 0 ∷ []) e) is;
 }

@@ -10,13 +10,14 @@ use Rattle.tg_pbtable.specs.declared.fault.PbFault.TheVariants as faults
 use Rattle.tg_pbtable.specs.Faults.{HasCause}
 use Rattle.tg_pbtable.specs.Values.{bytes_at}
 use Rattle.tg_pbtable.specs.Laws.{TableLaws}
+use Rattle.tg_bytes.specs.Lists.{All-split}
 use Rattle.tg_dagpb.specs.declared.TheConstants.{NODE, LINK}
 use Rattle.tg_dagpb.specs.declared.Link.{Link}
 use Rattle.tg_dagpb.specs.declared.Node.{Node}
 use Rattle.tg_dagpb.specs.Node.{LinkText, LinkTexts, NodeText}
 use Rattle.tg_dagpb.specs.Faults.{IsLinkText, HasBadLink, HasNodeCause, moved_by}
 use Rattle.tg_dagpb.specs.Reading.{place_of, placed}
-use Rattle.tg_dagpb.proofs.Parts.{node_table, link_table, All-split}
+use Rattle.tg_dagpb.proofs.Parts.{node_table, link_table}
 
 -- ---- links
 

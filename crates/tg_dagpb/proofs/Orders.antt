@@ -13,10 +13,11 @@ use Rattle.tg_pbtable.specs.Message.{HasRule, AreRuled, StandTogether, count_of,
 use Rattle.tg_pbtable.specs.Values.{bytes_at}
 use Rattle.tg_pbtable.specs.Laws.{TableLaws}
 use Rattle.tg_pbtable.specs.TableRules.{rule_at}
+use Rattle.tg_bytes.specs.Lists.{All-split}
 use Rattle.tg_dagpb.specs.declared.TheConstants.{NODE}
 use Rattle.tg_dagpb.specs.declared.Node.{Node}
 use Rattle.tg_dagpb.specs.Node.{HasLinksFirst, HasDataFirst, NodeText, CanonicalText, DataFirstText}
-use Rattle.tg_dagpb.proofs.Parts.{node_table, All-split}
+use Rattle.tg_dagpb.proofs.Parts.{node_table}
 use Rattle.tg_dagpb.proofs.Same.{texts_alike}
 
 -- the fields of one number before those of another

@@ -11,11 +11,12 @@ use Rattle.std.proofs.lemmas.Bool.{cases_order, le-ltb, lt-ltb}
 use Rattle.std.proofs.lemmas.List.{get_or-map, length-map}
 use Rattle.std.proofs.lemmas.Option.{get_or_from_slice_get, slice_get_within}
 use Rattle.tg_bytes.specs.Order.{bytes_cmp}
-use Rattle.tg_hamt.specs.NameLaws.{other_names, other_way}
+use Rattle.tg_hamt.specs.NameLaws.{other_names}
 use Rattle.tg_model.specs.ImportLayout.{AreSorted}
 use Rattle.tg_model.specs.Texts.{is_before}
 use Rattle.tg_model.specs.declared.kinds.Entry.{Entry}
 use Rattle.tg_model.specs.declared.kinds.NewEntry.{NewEntry}
+use Rattle.tg_bytes.specs.OrderLaws.{other_way}
 
 -- ---- one list of bytes before another
 

@@ -7,6 +7,7 @@ use Rattle.std.proofs.lemmas.List.Sums.{sum_by-cons}
 use Rattle.std.proofs.lemmas.List.{length-map, map-append}
 use Rattle.tg_cid.specs.Cid.{CidParts}
 use Rattle.tg_dagpb.specs.declared.Link.{Link}
+use Rattle.tg_bytes.specs.Lists.{All-split}
 use Rattle.tg_hamt.specs.Links.{child_link_of, entry_link_of, tsize_in}
 use Rattle.tg_hamt.specs.Order.{IsGoodEntry, entry_at}
 use Rattle.tg_hamt.specs.Shards.{AreLaidIn, IsBelow, IsMadeShard, IsOfShard, LeadsTo, in_child, listed_as, shards_of, shards_of_slots}
@@ -126,12 +127,6 @@ named_link : (name : Option (List ℕ)) (b : ℕ) (rest : List ℕ) → unwrap_o
 named_link None b rest e = absurd (let f : 0 ≡ suc (length rest) = ap length e in omega arith)
 named_link (Some name) b rest e = ap (λ (n : List ℕ). Some n) e
 
-All-unappend : {X : Type 0} → (P : X → Type 0) (xs ys : List X) → All P (xs ++ ys) → All P xs × All P ys
-All-unappend P [] ys h = (All-nil P, h)
-All-unappend P (x ∷ xs) ys h =
-    let rest = All-unappend P xs ys (All-tail P x (xs ++ ys) h) in
-    (All-cons P x xs (All-head P x (xs ++ ys) h) rest.0, rest.1)
-
 -- ---- all slots of a shard
 
 abbrev pub links_of : List MadeSlot → List NewEntry
@@ -237,7 +232,7 @@ module _ (es : List NewEntry) (dags : ℕ → Dag) (above : List ℕ) where
       → AreLaidAt options (map (slot_position above) (slots_in ms)) (children_in ms)
   all_laid options [] h laid = tt
   all_laid options (m ∷ ms) h laid =
-      let parts = All-unappend (λ (x : Hashed). IsLaidAt options top (dags x.index)) m.run (runs_in ms) laid in
+      let parts = All-split (λ (x : Hashed). IsLaidAt options top (dags x.index)) m.run (runs_in ms) laid in
       ((All-head Good m ms h).laid options parts.0, all_laid options ms (All-tail Good m ms h) parts.1)
 
   -- the links as they are read

@@ -1,21 +1,11 @@
 -- What holds of the names of entries: of two that differ one comes first, and those of distinct entries differ.
-use Rattle.std.proofs.Common.{◌≡◌, ◌≢◌, ℕ, ◌<◌, false, List, [], length, get_or, sym, ◌∙◌, arith}
-use Rattle.std.specs.Cmp.Lexicographic.{nat_list_cmp_total}
+use Rattle.std.proofs.Common.{◌≢◌, ℕ, ◌<◌, List, [], length, get_or, sym, ◌∙◌, arith}
 use Rattle.std.specs.List.{IsDistinct}
-use Rattle.std.specs.Ordering.{is_lt}
 use Rattle.std.specs.Prelude.{bytes_eq, map}
-use Rattle.std.specs.declared.cmp.Ordering.TheVariants.{Less}
 use Rattle.std.proofs.lemmas.List.{get_or-map, length-map}
 use Rattle.std.proofs.lemmas.Map.Keys.{apart_from_distinct}
-use Rattle.std.proofs.lemmas.Map.Lookups.{exact_bytes}
 use Rattle.std.proofs.lemmas.Slice.Eq.{bytes_eq-Decides}
-use Rattle.tg_bytes.specs.Order.{bytes_cmp}
-use Rattle.tg_bytes.specs.OrderLaws.{reversed}
 use Rattle.tg_model.specs.declared.kinds.NewEntry.{NewEntry}
-
--- of two that differ the second comes first, where the first doesn't
-pub other_way : (a b : List ℕ) → a ≢ b → is_lt (bytes_cmp a b) ≡ false → bytes_cmp b a ≡ Less
-other_way a b differ not_less = reversed (bytes_cmp a b) (bytes_cmp b a) not_less (λ e. differ (exact_bytes a b e)) (nat_list_cmp_total.antisymm b a)
 
 -- two entries of distinct names have different names
 pub other_names : (es : List NewEntry) (i j : ℕ) (d : NewEntry) → IsDistinct bytes_eq (map (λ (e : NewEntry). e.name) es) → i < j → j < length es

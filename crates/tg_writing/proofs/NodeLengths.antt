@@ -1,10 +1,10 @@
 -- How many bytes a link, a node and UnixFS data take at most.
-use Rattle.std.proofs.Common.{◌≡◌, ◌*◌, ◌+◌, ◌<◌, ◌≤◌, ℕ, Option, None, Some, List, [], ◌∷◌, length, get_or, refl, ap, ◌∙◌, subst, inl, inr, arith, length-append}
+use Rattle.std.proofs.Common.{◌≡◌, ◌*◌, ◌+◌, ◌<◌, ◌≤◌, ℕ, Option, None, Some, List, [], ◌∷◌, length, refl, ap, ◌∙◌, subst, inl, inr, arith, length-append}
 use Rattle.std.specs.Prelude.{All, unwrap_or, ⊤}
 use Rattle.std.proofs.lemmas.List.{nil_from_length}
 use Rattle.std.proofs.lemmas.List.Sums.{sum_by-cons}
 use Rattle.std.specs.List.{sum_by}
-use Rattle.std.proofs.lemmas.List.Elements.{All-cons, All-contains, All-head, All-nil, All-tail, Contains-get_or}
+use Rattle.std.proofs.lemmas.List.Elements.{All-cons, All-contains, All-head, All-nil, All-tail}
 use Rattle.tg_cid.specs.Cid.{CidParts}
 use Rattle.tg_cid.specs.CodeLaws.{codec_below, hash_below}
 use Rattle.tg_cid.specs.Spelling.{CidBytes, Varints, codec_code, hash_code}
@@ -19,23 +19,17 @@ use Rattle.tg_pbtable.specs.Values.{bytes_at, listed, numbers_at}
 use Rattle.tg_pbtable.specs.declared.table.Field.{Field}
 use Rattle.tg_pbtable.specs.declared.table.Order.{Order}
 use Rattle.tg_pbtable.specs.declared.table.Rule.{Rule}
-use Rattle.tg_pbtable.specs.declared.table.Times.TheVariants.{One}
 use Rattle.tg_pbtable.specs.declared.table.Wire.TheVariants.{Bytes, Varint}
 use Rattle.tg_unixfs.specs.Unix.{UnixText}
 use Rattle.tg_unixfs.specs.declared.TheConstants.{DATA}
 use Rattle.tg_unixfs.specs.declared.Unix.{Unix}
 use Rattle.tg_varint.specs.Laws.{SpellingLaws}
+use Rattle.tg_pbtable.specs.TableRules.{rule_at}
 use Rattle.tg_writing.proofs.TextLengths.{IsAmong, at_number, at_numbers, bytes_room, by_numbers, rooms, size_most, small_size, text_fits}
 use Rattle.tg_writing.specs.DigestLaws.{cid_size, digest_is}
 use Rattle.tg_writing.specs.Nodes.{AreLinksFor, IsLinkFor, IsNodeOf, IsOfSha256, link_room, node_room}
 
 -- ---- messages under a table
-
-abbrev any_rule : Rule
-any_rule = record { number = 1; wire = Varint; times = One }
-
-rule_at : (rules : List Rule) (i : ℕ) → i < length rules → HasRule rules (get_or rules i any_rule).number (get_or rules i any_rule).wire
-rule_at rules i l = record { rule = get_or rules i any_rule; among = Contains-get_or rules i any_rule l; number_is = refl; wire_is = refl }
 
 -- what holds of each rule's number holds of each field's
 ruled_all : (rules : List Rule) (P : ℕ → Type 0) (fields : List Field) → AreRuled rules fields → All (λ (r : Rule). P r.number) rules

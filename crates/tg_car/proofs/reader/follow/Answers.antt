@@ -1,9 +1,10 @@
 use Rattle.std.proofs.Common.{◌≡◌, ℕ, ◌+◌, ◌++◌, length, take, drop, get_or, Option, sym, subst, arith}
+use Rattle.tg_varint.specs.GroupLaws.{parted_at}
 use Rattle.tg_car.specs.Fronts.{IsInHeader}
 use Rattle.tg_car.specs.HeaderState.{FollowsHeader}
 use Rattle.tg_car.specs.Steps.{TakesHeader}
 use Rattle.tg_car.specs.declared.reader.Followed.{Followed}
-use Rattle.tg_car.proofs.Parts.{one_more, one_behind}
+use Rattle.tg_car.proofs.Parts.{one_more}
 use Rattle.tg_car.proofs.reader.follow.Goals as goal
 
 pub returns-in_err-state-clause-bytes : goal.returns-in_err-state-clause-bytes
@@ -15,7 +16,7 @@ returns-in_err-state-clause-bytes c = λ bytes f i.
       front = take at piece;
       last = get_or piece at 0;
       more = drop (at + 1) piece;
-      whole = one_behind piece at c.loop-at-test.true;
+      whole = parted_at piece at c.loop-at-test.true;
       went_on = inv.1;
       none = c.in_err-state.ensures (bytes ++ take at piece) inv.0;
     })

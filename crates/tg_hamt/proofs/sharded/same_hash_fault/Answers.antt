@@ -2,7 +2,7 @@ use Rattle.std.proofs.Common.{inl, inr, ◌∙◌, sym, subst, ℕ, List}
 use Rattle.tg_hamt.proofs.Directory.{this_way}
 use Rattle.tg_hamt.proofs.sharded.same_hash_fault.Goals as goal
 use Rattle.tg_hamt.specs.Directories.{IsNamePair}
-use Rattle.tg_hamt.specs.NameLaws.{other_way}
+use Rattle.tg_bytes.specs.OrderLaws.{other_way}
 
 pub returns-then-lt : goal.returns-then-lt
 returns-then-lt c = inl (
