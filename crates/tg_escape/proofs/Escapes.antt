@@ -1,14 +1,13 @@
 -- A name in percent-encoding is the escaped name.
-use Rattle.std.proofs.Common.{◌≡◌, ℕ, zero, suc, subst, zero-add, ◌+◌, ◌*◌, ◌/◌, ◌%◌, ◌<◌, Bool, true, false, All, List, [], ◌∷◌, ◌++◌, length, refl, sym, ap, ap₂, ◌∙◌, arith, get_or}
+use Rattle.std.proofs.Common.{◌≡◌, ℕ, ◌+◌, ◌/◌, ◌%◌, ◌<◌, Bool, true, false, All, List, [], ◌∷◌, ◌++◌, refl, ap, ap₂, ◌∙◌, arith}
 use Rattle.std.specs.Fmt.{digit_glyph}
-use Rattle.std.specs.List.{flat_map, list_all, range_with_len}
+use Rattle.std.specs.List.{list_all, range_with_len}
 use Rattle.std.specs.Prelude.{if◌then◌else◌, not}
 use Rattle.percent_encoding.specs.AsciiSet.{should_percent_encode}
 use Rattle.percent_encoding.specs.Percent.{encode_byte, percent_encode, percent_encode_byte}
-use Rattle.std.proofs.lemmas.Bool.{and_parts}
-use Rattle.std.proofs.lemmas.List.FromFn.{get_or-range_with_len, length-range_with_len}
 use Rattle.std.proofs.lemmas.List.Elements.{All-head, All-tail}
 use Rattle.tg_model.specs.Texts.{escaped, escaped_byte, is_unreserved}
+use Rattle.tg_escape.specs.ByteTests.{by_table}
 use Rattle.tg_escape.specs.declared.TheConstants.{ESCAPED}
 
 -- the set has a byte exactly where the byte isn't unreserved
@@ -19,15 +18,8 @@ all_agree : list_all agrees (range_with_len 0 256) ≡ true
 unfolding should_percent_encode
 all_agree = refl
 
-agree_at : (xs : List ℕ) → list_all agrees xs ≡ true → (i : ℕ) → i < length xs → agrees (get_or xs i 0) ≡ true
-agree_at [] t i inside = absurd (omega arith)
-agree_at (x ∷ xs) t zero inside = (and_parts (agrees x) (list_all agrees xs) t).0
-agree_at (x ∷ xs) t (suc i) inside = agree_at xs (and_parts (agrees x) (list_all agrees xs) t).1 i (omega arith)
-
 one_agrees : (b : ℕ) → b < 256 → agrees b ≡ true
-one_agrees b h =
-    subst (λ (n : ℕ). agrees n ≡ true) (get_or-range_with_len 0 256 b 0 h ∙ zero-add b)
-    (agree_at (range_with_len 0 256) all_agree b (omega (arith, length-range_with_len 0 256, h)))
+one_agrees = by_table agrees 256 all_agree
 
 -- one byte
 byte_by : (u s : Bool) (b : ℕ) → b < 256 → (if u then not s else s) ≡ true
