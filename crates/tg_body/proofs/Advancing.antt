@@ -1,6 +1,7 @@
 -- Steps of a reader of a body, one after another.
-use Rattle.std.proofs.Common.{◌≡◌, ℕ, zero, suc, ◌+◌, ◌-◌, ◌<◌, ◌≤◌, true, false, List, [], ◌∷◌, ◌++◌, length, take, drop, refl, sym, ap, ◌∙◌, subst, inl, inr, arith, append_assoc}
+use Rattle.std.proofs.Common.{◌≡◌, ℕ, zero, suc, ◌+◌, ◌-◌, ◌<◌, ◌≤◌, false, List, [], ◌∷◌, ◌++◌, length, take, drop, refl, sym, ap, ◌∙◌, subst, inl, inr, arith, append_assoc}
 use Rattle.std.specs.Prelude.{slice_range}
+use Rattle.std.proofs.Math.Seq.{take-add}
 use Rattle.std.proofs.lemmas.Bool.{false≢true}
 use Rattle.std.proofs.lemmas.List.{append-nil, length-drop, take-append-drop, take_rest}
 use Rattle.tg_http.specs.declared.framing.Framing.{Framing}
@@ -37,19 +38,6 @@ taken_none old piece = record {
   holds = λ body bytes h. subst (λ (b : List ℕ). Holds old.framing old.stage old.came body b) (sym (append-nil bytes)) h;
 }
 
--- the bytes of two steps
-pub taken_both : (at taken : ℕ) (piece : List ℕ) → at ≤ length piece → take (at + taken) piece ≡ take at piece ++ take taken (drop at piece)
-taken_both zero taken piece within = ap (λ n. take n piece) (zero_plus taken)
-  where
-    zero_plus : (n : ℕ) → 0 + n ≡ n
-    zero_plus n = omega arith
-taken_both (suc at) taken [] within = absurd (omega (arith, within))
-taken_both (suc at) taken (x ∷ piece) within =
-    ap (λ n. take n (x ∷ piece)) (suc_plus at taken) ∙ ap (λ (s : List ℕ). x ∷ s) (taken_both at taken piece (omega (arith, within)))
-  where
-    suc_plus : (a b : ℕ) → suc a + b ≡ suc (a + b)
-    suc_plus a b = omega arith
-
 -- was the reader going before the step
 open_before : (old now : BodyReader) (piece : List ℕ) (at : ℕ) → Taken old now piece at → is_done now.stage ≡ false → is_done old.stage ≡ false
 open_before old now piece zero t going = ap is_done (sym (t.same refl)) ∙ going
@@ -59,12 +47,12 @@ left_before : (old now : BodyReader) (piece : List ℕ) (at : ℕ) → Taken old
 left_before old now piece zero t some w = some (subst HasNothingLeft (sym (t.same refl)) w)
 left_before old now piece (suc at) t some w = t.left (omega arith) w
 
-held_both : (old now new : BodyReader) (piece part : List ℕ) (at taken : ℕ) (body bytes : List ℕ) → at ≤ length piece
+held_both : (new : BodyReader) (piece part : List ℕ) (at taken : ℕ) (body bytes : List ℕ)
     → Holds new.framing new.stage new.came (body ++ part) ((bytes ++ take at piece) ++ take taken (drop at piece))
     → Holds new.framing new.stage new.came (body ++ part) (bytes ++ take (at + taken) piece)
-held_both old now new piece part at taken body bytes within h =
+held_both new piece part at taken body bytes h =
     subst (λ (b : List ℕ). Holds new.framing new.stage new.came (body ++ part) b)
-    (append_assoc bytes (take at piece) (take taken (drop at piece)) ∙ ap (λ (s : List ℕ). bytes ++ s) (sym (taken_both at taken piece within))) h
+    (append_assoc bytes (take at piece) (take taken (drop at piece)) ∙ ap (λ (s : List ℕ). bytes ++ s) (sym (take-add at taken piece))) h
 
 pub taken_next : (old now new : BodyReader) (piece : List ℕ) (at taken : ℕ) → Taken old now piece at → Steps now new (drop at piece) taken steps.Next
     → Taken old new piece (at + taken)
@@ -79,7 +67,7 @@ taken_next old now new piece at taken t s =
       left = λ some w. left_before old now piece at t (λ v. next_no_end (s.whole v).1) w;
       holds = λ body bytes h.
           subst (λ (b : List ℕ). Holds new.framing new.stage new.came b (bytes ++ take (at + taken) piece)) (append-nil body)
-          (held_both old now new piece [] at taken body bytes t.within (s.holds body (bytes ++ take at piece) (t.holds body bytes h)));
+          (held_both new piece [] at taken body bytes (s.holds body (bytes ++ take at piece) (t.holds body bytes h)));
     }
   where
     next_no_end : steps.Next ≡ steps.End → ⊥
@@ -100,7 +88,7 @@ advances_need old now new piece at taken t s =
       done = s.done;
       goes_on = λ e. open_before old now piece at t (s.goes_on refl);
       whole = λ w. absurd (left_before old now piece at t (λ v. need_no_end (s.whole v).1) w);
-      holds = λ body bytes h. held_both old now new piece [] at taken body bytes t.within (s.holds body (bytes ++ take at piece) (t.holds body bytes h));
+      holds = λ body bytes h. held_both new piece [] at taken body bytes (s.holds body (bytes ++ take at piece) (t.holds body bytes h));
     }
   where
     need_no_end : steps.Need ≡ steps.End → ⊥
@@ -124,7 +112,7 @@ advances_part old now new piece at taken t s =
       whole = λ w. absurd (left_before old now piece at t (λ v. part_no_end (s.whole v).1) w);
       holds = λ body bytes h.
           subst (λ (p : List ℕ). Holds new.framing new.stage new.came (body ++ p) (bytes ++ take (at + taken) piece)) part
-          (held_both old now new piece (take taken (drop at piece)) at taken body bytes t.within (s.holds body (bytes ++ take at piece) (t.holds body bytes h)));
+          (held_both new piece (take taken (drop at piece)) at taken body bytes (s.holds body (bytes ++ take at piece) (t.holds body bytes h)));
     }
   where
     minus : (a b : ℕ) → b ≡ (a + b) - a
@@ -150,7 +138,7 @@ advances_end old now new piece at taken t s =
       done = s.done;
       goes_on = λ e. absurd (false≢true (sym e));
       whole = λ w. (by_at at t w, refl);
-      holds = λ body bytes h. held_both old now new piece [] at taken body bytes t.within (s.holds body (bytes ++ take at piece) (t.holds body bytes h));
+      holds = λ body bytes h. held_both new piece [] at taken body bytes (s.holds body (bytes ++ take at piece) (t.holds body bytes h));
     }
   where
     end_no_need : bodies.End ≡ bodies.Need → ⊥

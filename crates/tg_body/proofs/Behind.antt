@@ -1,10 +1,8 @@
 -- What is behind whole chunks.
 use Rattle.std.proofs.Common.{◌≡◌, ℕ, zero, suc, ◌+◌, Bool, false, List, [], ◌∷◌, ◌++◌, length, refl, sym, ap, ◌∙◌, subst, inl, inr, arith, append_assoc}
 use Rattle.std.proofs.lemmas.List.{append-nil}
-use Rattle.std.proofs.lemmas.List.Concat.{flat_map-append}
 use Rattle.tg_http.specs.declared.framing.Framing.{Framing}
 use Rattle.tg_http.specs.declared.framing.Framing.TheVariants as framings
-use Rattle.tg_http.specs.HeadText.{joined}
 use Rattle.tg_body.specs.declared.stage.Stage.{Stage}
 use Rattle.tg_body.specs.declared.stage.Stage.TheVariants as stages
 use Rattle.tg_body.specs.Bodies.{SizeLine, ChunkText, ChunksText, BodyFront, ChunkedFront, InChunk}
@@ -72,10 +70,6 @@ pub chunks_more : (chunks : List (List ℕ)) (front chunk bytes : List ℕ) → 
 chunks_more [] front chunk bytes c t = (bytes, [], ap (λ (s : List ℕ). s ++ bytes) c ∙ sym (append-nil bytes), t, refl)
 chunks_more (x ∷ chunks) front chunk bytes c t =
     (c.0, c.1 ++ bytes, ap (λ (s : List ℕ). s ++ bytes) c.2 ∙ append_assoc c.0 c.1 bytes, c.3, chunks_more chunks c.1 chunk bytes c.4 t)
-
-pub joined_more : (chunks : List (List ℕ)) (chunk : List ℕ) → joined (chunks ++ chunk ∷ []) ≡ joined chunks ++ chunk
-joined_more chunks chunk =
-    flat_map-append (λ (line : List ℕ). line) chunks (chunk ∷ []) ∙ ap (λ (s : List ℕ). joined chunks ++ s) (append-nil chunk)
 
 -- one byte more behind what came
 pub byte_behind : (front a b : List ℕ) (byte : ℕ) (bytes : List ℕ) → bytes ≡ front ++ (a ++ b) → bytes ++ byte ∷ [] ≡ front ++ (a ++ (b ++ byte ∷ []))

@@ -4,12 +4,13 @@ use Rattle.std.specs.Prelude.{All}
 use Rattle.std.proofs.lemmas.List.{append-nil, length-append, take_at, take-append-le}
 use Rattle.std.proofs.lemmas.List.Elements.{All-take, All-push, All-nil}
 use Rattle.httparse.specs.Grammar.{print_end}
+use Rattle.tg_bytes.specs.Lists.{joined, joined_push, same_front}
+use Rattle.tg_http.specs.OneHead.{one_section}
 use Rattle.tg_http.specs.Laws.{LineLaws}
-use Rattle.tg_http.specs.HeadText.{HasNoFeed, IsFullLine, joined}
+use Rattle.tg_http.specs.HeadText.{HasNoFeed, IsFullLine}
 use Rattle.tg_body.specs.Bodies.{SizeLine, ChunksText, TrailerText, ChunkedText, IsOpenLine, InChunk, ChunkedFront}
 use Rattle.tg_body.specs.History.{BreaksLine, BreaksDataEnd, BreaksBlock, BreaksTrailer, BreaksChunked}
-use Rattle.tg_body.proofs.Behind.{joined_more}
-use Rattle.tg_body.proofs.Divisions.{FirstLine, size_line, first_same, no_first, chunk_first, same_front, Inside, View, view, NoChunk, no_chunk_last, sync, front_no_chunk, text_no_chunk, text_first, open_not_whole, one_block}
+use Rattle.tg_body.proofs.Divisions.{FirstLine, size_line, first_same, no_first, chunk_first, Inside, View, view, NoChunk, no_chunk_last, sync, front_no_chunk, text_no_chunk, text_first, open_not_whole}
 
 -- what can be behind whole chunks in bytes of a body: a front, or the last line and the trailer
 abbrev pub Behind : List ℕ → Type 0
@@ -131,7 +132,7 @@ block_whole laws lines rest more trailer (inl b) full t same =
     let shape : joined lines ++ rest ≡ joined lines ++ print_end b.0.0 = ap (λ (s : List ℕ). joined lines ++ s) b.0.1 in
     let whole : (joined t.lines ++ print_end t.empty) ++ [] ≡ (joined lines ++ print_end b.0.0) ++ more =
     append-nil (joined t.lines ++ print_end t.empty) ∙ sym t.up_to_empty ∙ sym same ∙ ap (λ (s : List ℕ). s ++ more) shape in
-    let one = one_block laws t.lines lines t.empty b.0.0 [] more t.lines_are full whole in
+    let one = (one_section t.lines lines t.empty b.0.0 [] more t.lines_are full whole).0 in
     b.2 (subst TrailerText (t.up_to_empty ∙ one ∙ sym shape) t)
 block_whole laws lines rest [] trailer (inr b) full t same = by_rest b.0
   where
@@ -143,7 +144,7 @@ block_whole laws lines rest [] trailer (inr b) full t same = by_rest b.0
     by_rest (inl none) = open_not_whole laws lines t.lines rest [] t.empty full t.lines_are none up
     by_rest (inr line) =
         open_not_whole laws (lines ++ rest ∷ []) t.lines [] [] t.empty (All-push IsFullLine lines rest full line) t.lines_are (All-nil (λ b. b ≢ 10))
-        (append-nil (joined (lines ++ rest ∷ [])) ∙ joined_more lines rest ∙ up)
+        (append-nil (joined (lines ++ rest ∷ [])) ∙ joined_push lines rest ∙ up)
 block_whole laws lines rest (x ∷ more) trailer (inr b) full t same =
     omega (arith, b.1, t.fits, ap length same, length-append (joined lines ++ rest) (x ∷ more))
 

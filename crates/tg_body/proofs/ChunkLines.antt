@@ -1,5 +1,5 @@
 -- Chunk lines and trailers, whole.
-use Rattle.std.proofs.Common.{◌≡◌, ◌≢◌, ℕ, ◌^◌, ◌<◌, ◌≤◌, false, true, List, [], ◌∷◌, ◌++◌, map, length, take, drop, Option, Some, None, sym, ap, ◌∙◌, subst, arith, append_assoc}
+use Rattle.std.proofs.Common.{◌≡◌, ◌≢◌, ℕ, ◌^◌, ◌<◌, ◌≤◌, List, [], ◌∷◌, ◌++◌, map, length, take, drop, Option, Some, None, refl, sym, ap, ◌∙◌, subst, arith, append_assoc}
 use Rattle.std.specs.Prelude.{All, IsTrue}
 use Rattle.std.specs.Char.{is_ascii_hexdigit}
 use Rattle.std.proofs.lemmas.List.{append-nil, length-append, length-map, length-take-le, drop_all}
@@ -8,18 +8,20 @@ use Rattle.httparse.specs.Grammar.{LineEnd, print_end, is_ows, is_extension_byte
 use Rattle.httparse.specs.Spans.{IsChunkLineAt, IsSectionAt, header_bytes, name_and_value}
 use Rattle.httparse.specs.declared.spans.HeaderSpan.{HeaderSpan}
 use Rattle.httparse.proofs.ChunkLemmas.{chunk_line_unique}
+use Rattle.tg_bytes.specs.Lists.{joined}
+use Rattle.tg_http.specs.GrammarLines.{plain_by}
 use Rattle.tg_http.specs.Laws.{LineLaws}
-use Rattle.tg_http.specs.HeadText.{HasNoFeed, IsLine, IsFullLine, joined}
+use Rattle.tg_http.specs.HeadText.{HasNoFeed, IsLine, IsFullLine}
 use Rattle.tg_body.specs.Bodies.{SizeLine, TrailerText}
 
 no_feed_hex : (b : ℕ) → IsTrue (is_ascii_hexdigit b) → b ≢ 10
-no_feed_hex b t e = let none : false ≡ true = subst (λ (n : ℕ). is_ascii_hexdigit n ≡ true) e t in cc
+no_feed_hex b t = (plain_by is_ascii_hexdigit b refl refl t).0
 
 no_feed_ows : (b : ℕ) → IsTrue (is_ows b) → b ≢ 10
-no_feed_ows b t e = let none : false ≡ true = subst (λ (n : ℕ). is_ows n ≡ true) e t in cc
+no_feed_ows b t = (plain_by is_ows b refl refl t).0
 
 no_feed_extension : (b : ℕ) → IsTrue (is_extension_byte b) → b ≢ 10
-no_feed_extension b t e = let none : false ≡ true = subst (λ (n : ℕ). is_extension_byte n ≡ true) e t in cc
+no_feed_extension b t = (plain_by is_extension_byte b refl refl t).0
 
 extension_feed : (e : Option (List ℕ)) → IsExtension e → HasNoFeed (print_extension e)
 extension_feed None i = All-nil (λ b. b ≢ 10)

@@ -5,8 +5,9 @@ use Rattle.std.proofs.lemmas.List.{append-nil, length-append, take_all, take_at}
 use Rattle.std.proofs.lemmas.List.Elements.{All-head, All-tail}
 use Rattle.httparse.specs.Grammar.{LineEnd, print_end, print_chunk_line, chunk_size}
 use Rattle.httparse.proofs.ChunkLemmas.{chunk_line_unique}
+use Rattle.tg_bytes.specs.Lists.{joined, same_front}
 use Rattle.tg_http.specs.Laws.{LineLaws}
-use Rattle.tg_http.specs.HeadText.{HasNoFeed, IsLine, IsFullLine, joined}
+use Rattle.tg_http.specs.HeadText.{HasNoFeed, IsLine, IsFullLine}
 use Rattle.tg_body.specs.Bodies.{SizeLine, ChunkText, ChunksText, TrailerText, ChunkedText, IsOpenLine, IsOpenBlock, InChunk, ChunkedFront}
 use Rattle.tg_body.proofs.ChunkLines.{chunk_is_line}
 
@@ -36,16 +37,6 @@ chunk_first chunk bytes y t c e = record {
   whole = e ∙ ap (λ (s : List ℕ). s ++ y) c.whole ∙ append_assoc c.line (chunk ++ 13 ∷ 10 ∷ []) y
       ∙ ap (λ (s : List ℕ). c.line ++ s) (append_assoc chunk (13 ∷ 10 ∷ []) y);
 }
-
-pub same_front : (a b x y : List ℕ) → length a ≡ length b → a ++ x ≡ b ++ y → (a ≡ b) × (x ≡ y)
-same_front [] [] x y l e = (refl, e)
-same_front [] (b ∷ bs) x y l e = absurd (omega (arith, l))
-same_front (a ∷ front) [] x y l e = absurd (omega (arith, l))
-same_front (a ∷ front) (b ∷ bs) x y l e =
-    let tails : front ++ x ≡ bs ++ y = cc in
-    let same = same_front front bs x y (omega (arith, l)) tails in
-    let heads : a ≡ b = cc in
-    (cc (same.0, heads), same.1)
 
 -- what came behind the chunk line of this size, and the bytes of the chunk that are in it
 abbrev pub Inside : ℕ → List ℕ → List ℕ → Type 0
@@ -209,24 +200,6 @@ open_not_whole laws (l ∷ ls) (m ∷ ms) rest x e a b none same =
     let here = laws.one_line l m (joined ls ++ rest) ((joined ms ++ print_end e) ++ x) (All-head IsFullLine l ls a).line_is (All-head IsFullLine m ms b).line_is
     (sym (append_assoc l (joined ls) rest) ∙ same ∙ regroup m (joined ms) (print_end e) x) in
     open_not_whole laws ls ms rest x e (All-tail IsFullLine l ls a) (All-tail IsFullLine m ms b) none here.1
-
--- lines up to and with the first empty one are determined
-pub one_block : LineLaws → (ls ms : List (List ℕ)) (e f : LineEnd) (x y : List ℕ) → All IsFullLine ls → All IsFullLine ms
-    → (joined ls ++ print_end e) ++ x ≡ (joined ms ++ print_end f) ++ y → joined ls ++ print_end e ≡ joined ms ++ print_end f
-one_block laws [] [] e f x y a b same = (laws.one_line (print_end e) (print_end f) x y (laws.end_line e) (laws.end_line f) same).0
-one_block laws [] (m ∷ ms) e f x y a b same =
-    let full = All-head IsFullLine m ms b in
-    let here = laws.one_line (print_end e) m x ((joined ms ++ print_end f) ++ y) (laws.end_line e) full.line_is (same ∙ regroup m (joined ms) (print_end f) y) in
-    absurd (full.not_empty (e, sym here.0))
-one_block laws (l ∷ ls) [] e f x y a b same =
-    let full = All-head IsFullLine l ls a in
-    let here = laws.one_line l (print_end f) ((joined ls ++ print_end e) ++ x) y full.line_is (laws.end_line f) (sym (regroup l (joined ls) (print_end e) x) ∙ same) in
-    absurd (full.not_empty (f, here.0))
-one_block laws (l ∷ ls) (m ∷ ms) e f x y a b same =
-    let here = laws.one_line l m ((joined ls ++ print_end e) ++ x) ((joined ms ++ print_end f) ++ y) (All-head IsFullLine l ls a).line_is (All-head IsFullLine m ms b).line_is
-    (sym (regroup l (joined ls) (print_end e) x) ∙ same ∙ regroup m (joined ms) (print_end f) y) in
-    let others = one_block laws ls ms e f x y (All-tail IsFullLine l ls a) (All-tail IsFullLine m ms b) here.1 in
-    append_assoc l (joined ls) (print_end e) ∙ ap₂ (λ (s t : List ℕ). s ++ t) here.0 others ∙ sym (append_assoc m (joined ms) (print_end f))
 
 -- bytes of a body that isn't whole are no whole body
 pub front_not_text : LineLaws → (body other bytes : List ℕ) → ChunkedFront body bytes → ChunkedText other bytes → ⊥

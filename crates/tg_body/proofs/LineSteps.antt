@@ -2,6 +2,7 @@
 use Rattle.std.proofs.Common.{◌≡◌, ◌≢◌, ℕ, ◌+◌, ◌-◌, ◌<◌, ◌≤◌, ◌⊎◌, false, List, [], ◌∷◌, ◌++◌, length, take, drop, refl, sym, ap, ◌∙◌, subst, inl, inr, arith, append_assoc, zero-add}
 use Rattle.std.proofs.lemmas.List.{length-append, length-take-le, append-nil, take-append-drop, take_at, take_all}
 use Rattle.std.proofs.lemmas.List.Elements.{All-nil, All-append, All-take}
+use Rattle.tg_body.specs.History.{BreaksLine, HasFeedCause}
 use Rattle.tg_http.specs.declared.framing.Framing.{Framing}
 use Rattle.tg_http.specs.declared.framing.Framing.TheVariants as framings
 use Rattle.tg_http.specs.declared.fault.HttpFault.{HttpFault}
@@ -10,12 +11,12 @@ use Rattle.tg_body.specs.declared.stage.Stage.{Stage}
 use Rattle.tg_body.specs.declared.stage.Stage.TheVariants as stages
 use Rattle.tg_body.specs.declared.stage.Step.TheVariants as steps
 use Rattle.tg_body.specs.declared.reader.BodyReader.{BodyReader}
-use Rattle.tg_http.specs.HeadText.{HasNoFeed, IsLine, IsFullLine, joined}
+use Rattle.tg_http.specs.HeadText.{HasNoFeed, IsLine, IsFullLine}
 use Rattle.tg_body.specs.Bodies.{SizeLine}
-use Rattle.tg_body.specs.History.{BreaksLine}
-use Rattle.tg_body.specs.State.{BehindChunks, Holds, is_done, HasNothingLeft}
+use Rattle.tg_body.specs.State.{BehindChunks, Holds, is_done}
 use Rattle.tg_body.specs.Steps.{Steps, Stops, EndsLine, IsTooLong}
 use Rattle.tg_body.proofs.Behind.{held_front}
+use Rattle.tg_body.proofs.Steps.{refuses, steps_at, stops_at, wants_front}
 
 -- the stage behind a chunk line of this size
 abbrev pub IsBehindLine : ℕ → Stage → Type 0
@@ -70,23 +71,14 @@ pub line_steps : (old : BodyReader) (piece came : List ℕ) (size stated : ℕ) 
     → IsLine (take size piece) → length old.came + size ≤ 16384
     → (IsLine (old.came ++ take size piece) → length (old.came ++ take size piece) ≤ 16384 → SizeLine stated (old.came ++ take size piece))
     → IsBehindLine stated next → came ≡ [] → Steps old (record old { stage = next; came = came }) piece size steps.Next
-line_steps old piece came size stated next at within some l few says behind none = record {
-  within = within;
-  took = some;
-  framing = refl;
-  refused = refl;
-  done = not_done behind;
-  goes_on = λ e. ap is_done at;
-  whole = λ w. absurd (subst HasNothingLeft at w);
-  holds = λ body bytes h.
-      let here : Holds old.framing stages.Line old.came body bytes = subst (λ (s : Stage). Holds old.framing s old.came body bytes) at h in
-      let t = take size piece in
-      let size_is : length t ≡ size = length-take-le size piece within in
-      let line = line_more old.came t here.2.no_feed l in
-      let stated_is = says line (omega (arith, length-append old.came t)) in
-      line_held old.framing (body ++ []) (bytes ++ t) (old.came ++ t) came stated next here.0 none
-      (behind_end (body ++ []) (bytes ++ t) (old.came ++ t) (behind_more body bytes old.came t here.1)) stated_is behind;
-}
+line_steps old piece came size stated next at within some l few says behind none =
+    steps_at old (record old { stage = next; came = came }) piece size steps.Next stages.Line at (refl, λ w. w) refl refl within some (not_done behind) (λ body bytes here.
+    let t = take size piece in
+    let size_is : length t ≡ size = length-take-le size piece within in
+    let line = line_more old.came t here.2.no_feed l in
+    let stated_is = says line (omega (arith, length-append old.came t)) in
+    line_held old.framing (body ++ []) (bytes ++ t) (old.came ++ t) came stated next here.0 none
+    (behind_end (body ++ []) (bytes ++ t) (old.came ++ t) (behind_more body bytes old.came t here.1)) stated_is behind)
   where
     not_done : IsBehindLine stated next → is_done next ≡ false
     not_done (inl last) = ap is_done last.1
@@ -94,64 +86,48 @@ line_steps old piece came size stated next at within some l few says behind none
 
 pub line_needs : (old : BodyReader) (piece came : List ℕ) → old.stage ≡ stages.Line → HasNoFeed piece → length old.came + length piece < 16384
     → came ≡ old.came ++ piece → Steps old (record old { came = came }) piece (length piece) steps.Need
-line_needs old piece came at none few is = record {
-  within = omega arith;
-  took = refl;
-  framing = refl;
-  refused = refl;
-  done = ap is_done at;
-  goes_on = λ e. ap is_done at;
-  whole = λ w. absurd (subst HasNothingLeft at w);
-  holds = λ body bytes h.
-      let here : Holds old.framing stages.Line old.came body bytes = subst (λ (s : Stage). Holds old.framing s old.came body bytes) at h in
-      let t = take (length piece) piece in
-      let all : t ≡ piece = take_all (length piece) piece (omega arith) in
-      let next : Holds old.framing stages.Line (old.came ++ piece) (body ++ []) (bytes ++ piece) = (
-        here.0,
-        behind_more body bytes old.came piece here.1,
-        record { no_feed = All-append (λ b. b ≢ 10) old.came piece here.2.no_feed none; few = omega (arith, length-append old.came piece) },
-      ) in
-      subst (λ (s : Stage). Holds old.framing s came (body ++ []) (bytes ++ t)) (sym at)
-      (subst (λ (s : List ℕ). Holds old.framing stages.Line s (body ++ []) (bytes ++ t)) (sym is)
-      (subst (λ (s : List ℕ). Holds old.framing stages.Line (old.came ++ piece) (body ++ []) (bytes ++ s)) (sym all) next));
-}
+line_needs old piece came at none few is =
+    steps_at old (record old { came = came }) piece (length piece) steps.Need stages.Line at (refl, λ w. w) refl refl (omega arith) refl (ap is_done at) (λ body bytes here.
+    let t = take (length piece) piece in
+    let all : t ≡ piece = take_all (length piece) piece (omega arith) in
+    let next : Holds old.framing stages.Line (old.came ++ piece) (body ++ []) (bytes ++ piece) = (
+      here.0,
+      behind_more body bytes old.came piece here.1,
+      record { no_feed = All-append (λ b. b ≢ 10) old.came piece here.2.no_feed none; few = omega (arith, length-append old.came piece) },
+    ) in
+    subst (λ (s : Stage). Holds old.framing s came (body ++ []) (bytes ++ t)) (sym at)
+    (subst (λ (s : List ℕ). Holds old.framing stages.Line s (body ++ []) (bytes ++ t)) (sym is)
+    (subst (λ (s : List ℕ). Holds old.framing stages.Line (old.came ++ piece) (body ++ []) (bytes ++ s)) (sym all) next)))
 
 -- a byte of the piece breaks the line: with `line` behind what came it is whole and states no size, or it is too long
-pub line_stops : (old new : BodyReader) (piece front more : List ℕ) (last : ℕ) → old.stage ≡ stages.Line → new.framing ≡ old.framing → new.refused ≡ old.refused
-    → piece ≡ front ++ last ∷ more → HasNoFeed front → length old.came + length front < 16384
-    → (HasNoFeed old.came → BreaksLine (old.came ++ (front ++ last ∷ []))) → Stops old new piece faults.BadFraming
-line_stops old new piece front more last at framing refused whole none few breaks = record {
-  framing = framing;
-  refused = refused;
-  goes_on = ap is_done at;
-  left = λ w. subst HasNothingLeft at w;
-  cause = λ body bytes h.
-      let here : Holds old.framing stages.Line old.came body bytes = subst (λ (s : Stage). Holds old.framing s old.came body bytes) at h in
-      let behind = here.1 in
-      inr (
-        here.0,
-        record {
-          front = front;
-          last = last;
-          more = more;
-          whole = whole;
-          went_on = held_front old.framing stages.Line (old.came ++ front) body (bytes ++ front) here.0 refl (
-            here.0,
-            subst (λ (s : List ℕ). BehindChunks s (bytes ++ front) [] (old.came ++ front)) (append-nil body) (behind_more body bytes old.came front behind),
-            record { no_feed = All-append (λ b. b ≢ 10) old.came front here.2.no_feed none; few = omega (arith, length-append old.came front) },
-          );
-          breaks = record {
-            chunks = behind.chunks;
-            front = behind.front;
-            rest = old.came ++ (front ++ last ∷ []);
-            chunks_are = behind.chunks_are;
-            whole = append_assoc bytes front (last ∷ []) ∙ ap (λ (s : List ℕ). s ++ (front ++ last ∷ [])) behind.whole
-                ∙ append_assoc behind.front old.came (front ++ last ∷ []);
-            breaks = inl (breaks here.2.no_feed);
-          };
-        },
-      );
-}
+line_cause : (old : BodyReader) (piece front more : List ℕ) (last : ℕ) → piece ≡ front ++ last ∷ more → HasNoFeed front → length old.came + length front < 16384
+    → (HasNoFeed old.came → BreaksLine (old.came ++ (front ++ last ∷ []))) → (body bytes : List ℕ) → Holds old.framing stages.Line old.came body bytes
+    → HasFeedCause old.framing bytes body piece faults.BadFraming
+line_cause old piece front more last whole none few breaks body bytes here =
+    let behind = here.1 in
+    inr (
+      here.0,
+      record {
+        front = front;
+        last = last;
+        more = more;
+        whole = whole;
+        went_on = held_front old.framing stages.Line (old.came ++ front) body (bytes ++ front) here.0 refl (
+          here.0,
+          subst (λ (s : List ℕ). BehindChunks s (bytes ++ front) [] (old.came ++ front)) (append-nil body) (behind_more body bytes old.came front behind),
+          record { no_feed = All-append (λ b. b ≢ 10) old.came front here.2.no_feed none; few = omega (arith, length-append old.came front) },
+        );
+        breaks = record {
+          chunks = behind.chunks;
+          front = behind.front;
+          rest = old.came ++ (front ++ last ∷ []);
+          chunks_are = behind.chunks_are;
+          whole = append_assoc bytes front (last ∷ []) ∙ ap (λ (s : List ℕ). s ++ (front ++ last ∷ [])) behind.whole
+              ∙ append_assoc behind.front old.came (front ++ last ∷ []);
+          breaks = inl (breaks here.2.no_feed);
+        };
+      },
+    )
 
 -- a line is bytes without a line feed, and a line feed
 pub line_split : (piece : List ℕ) (size : ℕ) (l : IsLine (take size piece)) → piece ≡ l.front ++ 10 ∷ drop size piece
@@ -190,22 +166,16 @@ pub front_no_feed : (front : List ℕ) (last : ℕ) → HasNoFeed (front ++ last
 front_no_feed front last none = subst HasNoFeed (take_at front (last ∷ []) (length front) refl) (All-take (λ b. b ≢ 10) (length front) (front ++ last ∷ []) none)
 
 -- a chunk line that is too long
-pub line_long : (old new : BodyReader) (piece : List ℕ) → old.stage ≡ stages.Line → new.framing ≡ old.framing → new.refused ≡ old.refused
+line_long : (old new : BodyReader) (piece : List ℕ) → old.stage ≡ stages.Line → new.framing ≡ old.framing → new.refused ≡ old.refused
     → IsTooLong old.came piece → Stops old new piece faults.BadFraming
-line_long old new piece at framing refused long = record {
-  framing = framing;
-  refused = refused;
-  goes_on = ap is_done at;
-  left = λ w. subst HasNothingLeft at w;
-  cause = λ body bytes h.
-      let here : Holds old.framing stages.Line old.came body bytes = subst (λ (s : Stage). Holds old.framing s old.came body bytes) at h in
-      let found = long_split old.came piece here.2.few long in
-      let front = found.0 in
-      let text : List ℕ = front ++ found.1 ∷ [] in
-      let size : length text ≡ length front + 1 = length-append front (found.1 ∷ []) in
-      (line_stops old new piece front (drop (16384 - length old.came) piece) found.1 at framing refused found.2 (front_no_feed front found.1 found.3) (omega (arith, size, found.4))
-      (λ none. inr (All-append (λ b. b ≢ 10) old.came text none found.3, length-append old.came text ∙ found.4))).cause body bytes h;
-}
+line_long old new piece at framing refused long =
+    stops_at old new piece faults.BadFraming stages.Line at (refl, λ w. w) framing refused (λ body bytes here.
+    let found = long_split old.came piece here.2.few long in
+    let front = found.0 in
+    let text : List ℕ = front ++ found.1 ∷ [] in
+    let size : length text ≡ length front + 1 = length-append front (found.1 ∷ []) in
+    line_cause old piece front (drop (16384 - length old.came) piece) found.1 found.2 (front_no_feed front found.1 found.3) (omega (arith, size, found.4))
+    (λ none. inr (All-append (λ b. b ≢ 10) old.came text none found.3, length-append old.came text ∙ found.4)) body bytes here)
 
 -- a chunk line that states no size
 pub line_bad : (old new : BodyReader) (piece came : List ℕ) (size : ℕ) → old.stage ≡ stages.Line → new.framing ≡ old.framing → new.refused ≡ old.refused
@@ -216,47 +186,22 @@ line_bad old new piece came size at framing refused kept never =
     let number = line_size piece size l kept.within in
     let bytes_are : came ≡ old.came ++ (l.front ++ 10 ∷ []) = kept.kept_is ∙ ap (λ (s : List ℕ). old.came ++ s) l.whole in
     let fits : length came ≤ 16384 = omega (arith, ap length bytes_are, length-append old.came (l.front ++ 10 ∷ []), length-append l.front (10 ∷ []), number, kept.fits) in
-    line_stops old new piece l.front (drop size piece) 10 at framing refused (line_split piece size l) l.inside (omega (arith, number, kept.fits))
+    stops_at old new piece faults.BadFraming stages.Line at (refl, λ w. w) framing refused
+    (line_cause old piece l.front (drop size piece) 10 (line_split piece size l) l.inside (omega (arith, number, kept.fits))
     (λ none.
     let line : IsLine came = subst IsLine (sym kept.kept_is) (line_more old.came (take size piece) none l) in
-    subst BreaksLine bytes_are (inl (line, fits, never line fits)))
+    subst BreaksLine bytes_are (inl (line, fits, never line fits))))
 
 -- no memory for bytes of a chunk line
-pub line_wants : (old new : BodyReader) (piece : List ℕ) → old.stage ≡ stages.Line → new.framing ≡ old.framing → new.refused ≡ old.refused
+line_wants : (old new : BodyReader) (piece : List ℕ) → old.stage ≡ stages.Line → new.framing ≡ old.framing → new.refused ≡ old.refused
     → 0 < length piece → Stops old new piece faults.OutOfMemory
-line_wants old new piece at framing refused some = record {
-  framing = framing;
-  refused = refused;
-  goes_on = ap is_done at;
-  left = λ w. subst HasNothingLeft at w;
-  cause = λ body bytes h.
-      let here : Holds old.framing stages.Line old.came body bytes = subst (λ (s : Stage). Holds old.framing s old.came body bytes) at h in
-      let behind = here.1 in (
-        here.0,
-        record {
-          front = [];
-          more = piece;
-          whole = refl;
-          some = some;
-          went_on = record {
-            chunks = behind.chunks;
-            front = behind.front;
-            rest = old.came;
-            chunks_are = behind.chunks_are;
-            text = inl here.2;
-            whole = append-nil bytes ∙ behind.whole;
-            body_is = behind.body_is ∙ append-nil (joined behind.chunks);
-          };
-        },
-      );
-}
+line_wants old new piece at framing refused some =
+    stops_at old new piece faults.OutOfMemory stages.Line at (refl, λ w. w) framing refused (λ body bytes here.
+    (here.0, wants_front old.came body bytes piece some here.1 (inl here.2)))
 
 pub line_refuses : (old new : BodyReader) (piece : List ℕ) (fault : HttpFault) → old.stage ≡ stages.Line → new.framing ≡ old.framing → new.refused ≡ old.refused
     → ((fault ≡ faults.OutOfMemory) × (0 < length piece)) ⊎ ((fault ≡ faults.BadFraming) × IsTooLong old.came piece) → Stops old new piece fault
-line_refuses old new piece fault at framing refused (inl memory) =
-    subst (λ (f : HttpFault). Stops old new piece f) (sym memory.0) (line_wants old new piece at framing refused memory.1)
-line_refuses old new piece fault at framing refused (inr long) =
-    subst (λ (f : HttpFault). Stops old new piece f) (sym long.0) (line_long old new piece at framing refused long.1)
+line_refuses old new piece fault at framing refused = refuses old new piece fault (line_wants old new piece at framing refused) (line_long old new piece at framing refused)
 
 -- a chunk line that states a size
 pub line_states : (old : BodyReader) (piece text kept came : List ℕ) (size stated : ℕ) (next : Stage) → old.stage ≡ stages.Line → EndsLine old.came piece size kept

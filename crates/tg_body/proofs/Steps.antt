@@ -1,19 +1,22 @@
 -- One step of a reader of a body.
-use Rattle.std.proofs.Common.{◌≡◌, ◌≢◌, ℕ, ◌+◌, ◌-◌, ◌<◌, ◌⊎◌, min, Some, None, false, List, [], ◌∷◌, ◌++◌, length, take, drop, refl, sym, ap, ap₂, ◌∙◌, subst, inl, inr, arith, append_assoc}
+use Rattle.std.proofs.Common.{◌≡◌, ◌≢◌, ℕ, ◌+◌, ◌-◌, ◌<◌, ◌≤◌, ◌⊎◌, min, Some, None, false, List, [], ◌∷◌, ◌++◌, length, take, drop, refl, sym, ap, ap₂, ◌∙◌, subst, inl, inr, arith, append_assoc}
 use Rattle.std.specs.Prelude.{slice_get}
 use Rattle.std.proofs.lemmas.List.{length-append, length-take-le, append-nil}
 use Rattle.std.proofs.lemmas.List.Elements.{All-nil}
+use Rattle.tg_body.specs.History.{BreaksChunked, HasFeedCause, WantsMemory}
+use Rattle.tg_bytes.specs.Lists.{joined, joined_push}
+use Rattle.tg_http.specs.declared.fault.HttpFault.{HttpFault}
 use Rattle.tg_http.specs.declared.fault.HttpFault.TheVariants as faults
+use Rattle.tg_http.specs.declared.framing.Framing.TheVariants as framings
 use Rattle.tg_body.specs.declared.stage.Stage.{Stage}
 use Rattle.tg_body.specs.declared.stage.Stage.TheVariants as stages
 use Rattle.tg_body.specs.declared.stage.Step.{Step}
 use Rattle.tg_body.specs.declared.stage.Step.TheVariants as steps
 use Rattle.tg_body.specs.declared.reader.BodyReader.{BodyReader}
-use Rattle.tg_http.specs.HeadText.{joined}
-use Rattle.tg_body.specs.Bodies.{SizeLine, IsOpenLine}
-use Rattle.tg_body.specs.State.{Holds, is_done, HasNothingLeft}
-use Rattle.tg_body.specs.Steps.{Given, TookAll, ends, Steps, Stops}
-use Rattle.tg_body.proofs.Behind.{chunks_more, joined_more, byte_behind, held_front}
+use Rattle.tg_body.specs.Bodies.{SizeLine, IsOpenLine, InTrailer}
+use Rattle.tg_body.specs.State.{BehindChunks, Holds, is_done, HasNothingLeft}
+use Rattle.tg_body.specs.Steps.{Given, TookAll, ends, IsTooLong, Steps, Stops}
+use Rattle.tg_body.proofs.Behind.{chunks_more, byte_behind, held_front}
 
 -- so many bytes of the body as a step
 abbrev pub IsGiven : ℕ → Step → Type 0
@@ -31,183 +34,205 @@ given_is : (taken : ℕ) (step : Step) (piece : List ℕ) → IsGiven taken step
 given_is taken step piece (inl none) = ap (λ (s : Step). Given s (take taken piece)) none.1 ∙ ap (λ n. take n piece) (sym none.0)
 given_is taken step piece (inr some) = ap (λ (s : Step). Given s (take taken piece)) some.1
 
+-- ---- at a stage at which bytes are to come
+
+abbrev pub GoesOn : Stage → Type 0
+GoesOn stage = (is_done stage ≡ false) × (HasNothingLeft stage → ⊥)
+
+pub steps_at : (old new : BodyReader) (piece : List ℕ) (taken : ℕ) (step : Step) (stage : Stage) → old.stage ≡ stage → GoesOn stage
+    → new.framing ≡ old.framing → new.refused ≡ old.refused → taken ≤ length piece → TookAll step taken piece → is_done new.stage ≡ ends step
+    → ((body bytes : List ℕ) → Holds old.framing stage old.came body bytes → Holds new.framing new.stage new.came (body ++ Given step (take taken piece)) (bytes ++ take taken piece))
+    → Steps old new piece taken step
+steps_at old new piece taken step stage at going framing refused within took done holds = record {
+  within = within;
+  took = took;
+  framing = framing;
+  refused = refused;
+  done = done;
+  goes_on = λ e. ap is_done at ∙ going.0;
+  whole = λ w. absurd (going.1 (subst HasNothingLeft at w));
+  holds = λ body bytes h. holds body bytes (subst (λ (s : Stage). Holds old.framing s old.came body bytes) at h);
+}
+
+pub stops_at : (old new : BodyReader) (piece : List ℕ) (fault : HttpFault) (stage : Stage) → old.stage ≡ stage → GoesOn stage
+    → new.framing ≡ old.framing → new.refused ≡ old.refused
+    → ((body bytes : List ℕ) → Holds old.framing stage old.came body bytes → HasFeedCause old.framing bytes body piece fault)
+    → Stops old new piece fault
+stops_at old new piece fault stage at going framing refused cause = record {
+  framing = framing;
+  refused = refused;
+  goes_on = ap is_done at ∙ going.0;
+  left = λ w. going.1 (subst HasNothingLeft at w);
+  cause = λ body bytes h. cause body bytes (subst (λ (s : Stage). Holds old.framing s old.came body bytes) at h);
+}
+
+-- the first byte of the piece breaks the body
+stops_first : (old : BodyReader) (last : ℕ) (more : List ℕ) (stage : Stage) → old.stage ≡ stage → GoesOn stage
+    → ((body bytes : List ℕ) → Holds old.framing stage old.came body bytes → (old.framing ≡ framings.Chunked) × BreaksChunked (bytes ++ last ∷ []))
+    → Stops old old (last ∷ more) faults.BadFraming
+stops_first old last more stage at going breaks =
+    stops_at old old (last ∷ more) faults.BadFraming stage at going refl refl (λ body bytes h.
+    let found = breaks body bytes h in
+    inr (
+      found.0,
+      record {
+        front = [];
+        last = last;
+        more = more;
+        whole = refl;
+        went_on =
+            held_front old.framing stage old.came body (bytes ++ []) found.0 going.0
+            (subst (λ (s : List ℕ). Holds old.framing stage old.came body s) (sym (append-nil bytes)) h);
+        breaks = subst (λ (s : List ℕ). BreaksChunked (s ++ last ∷ [])) (sym (append-nil bytes)) found.1;
+      },
+    ))
+
+-- memory is wanted for the piece behind what came of a line
+pub wants_front : (rest body bytes piece : List ℕ) → 0 < length piece → BehindChunks body bytes [] rest → IsOpenLine rest ⊎ InTrailer rest → WantsMemory bytes body piece
+wants_front rest body bytes piece some behind text = record {
+  front = [];
+  more = piece;
+  whole = refl;
+  some = some;
+  went_on = record {
+    chunks = behind.chunks;
+    front = behind.front;
+    rest = rest;
+    chunks_are = behind.chunks_are;
+    text = text;
+    whole = append-nil bytes ∙ behind.whole;
+    body_is = behind.body_is ∙ append-nil (joined behind.chunks);
+  };
+}
+
+-- a refusal for want of memory, or of a line that is too long
+pub refuses : (old new : BodyReader) (piece : List ℕ) (fault : HttpFault) → (0 < length piece → Stops old new piece faults.OutOfMemory)
+    → (IsTooLong old.came piece → Stops old new piece faults.BadFraming)
+    → ((fault ≡ faults.OutOfMemory) × (0 < length piece)) ⊎ ((fault ≡ faults.BadFraming) × IsTooLong old.came piece) → Stops old new piece fault
+refuses old new piece fault wants long (inl memory) = subst (λ (f : HttpFault). Stops old new piece f) (sym memory.0) (wants memory.1)
+refuses old new piece fault wants long (inr line) = subst (λ (f : HttpFault). Stops old new piece f) (sym line.0) (long line.1)
+
+-- ---- in a chunk and behind it
+
 -- bytes of a chunk, more of them
 pub data_steps : (old : BodyReader) (piece : List ℕ) (left taken : ℕ) (step : Step) → old.stage ≡ stages.Data left → 0 < left
     → taken ≡ min left (length piece) → IsGiven taken step → Steps old (record old { stage = stages.Data (left - taken) }) piece taken step
-data_steps old piece left taken step at some is given = record {
-  within = omega arith;
-  took = given_took taken step piece given (λ none. omega (arith, none));
-  framing = refl;
-  refused = refl;
-  done = given_ends taken step given;
-  goes_on = λ e. ap is_done at;
-  whole = λ w. absurd (subst HasNothingLeft at w);
-  holds = λ body bytes h.
-      let here : Holds old.framing (stages.Data left) old.came body bytes = subst (λ (s : Stage). Holds old.framing s old.came body bytes) at h in
-      let t = take taken piece in
-      let line = here.2 in
-      let part = here.3 in
-      let behind = here.4 in
-      let size : length t ≡ taken = length-take-le taken piece (omega arith) in
-      let number : length part + left ≡ length (part ++ t) + (left - taken) = omega (arith, length-append part t) in (
-        here.0,
-        here.1,
-        line,
-        part ++ t,
-        record {
-          chunks = behind.chunks;
-          front = behind.front;
-          chunks_are = behind.chunks_are;
-          whole = ap (λ (s : List ℕ). s ++ t) behind.whole ∙ append_assoc behind.front (line ++ part) t
-              ∙ ap (λ (s : List ℕ). behind.front ++ s) (append_assoc line part t);
-          body_is = ap₂ (λ (a b : List ℕ). a ++ b) behind.body_is (given_is taken step piece given) ∙ append_assoc (joined behind.chunks) part t;
-        },
-        subst (λ n. SizeLine n line) number here.5,
-        omega (arith, here.6, number),
-      );
-}
+data_steps old piece left taken step at some is given =
+    steps_at old (record old { stage = stages.Data (left - taken) }) piece taken step (stages.Data left) at (refl, λ w. w) refl refl (omega arith)
+    (given_took taken step piece given (λ none. omega (arith, none))) (given_ends taken step given) (λ body bytes here.
+    let t = take taken piece in
+    let line = here.2 in
+    let part = here.3 in
+    let behind = here.4 in
+    let size : length t ≡ taken = length-take-le taken piece (omega arith) in
+    let number : length part + left ≡ length (part ++ t) + (left - taken) = omega (arith, length-append part t) in (
+      here.0,
+      here.1,
+      line,
+      part ++ t,
+      record {
+        chunks = behind.chunks;
+        front = behind.front;
+        chunks_are = behind.chunks_are;
+        whole = ap (λ (s : List ℕ). s ++ t) behind.whole ∙ append_assoc behind.front (line ++ part) t
+            ∙ ap (λ (s : List ℕ). behind.front ++ s) (append_assoc line part t);
+        body_is = ap₂ (λ (a b : List ℕ). a ++ b) behind.body_is (given_is taken step piece given) ∙ append_assoc (joined behind.chunks) part t;
+      },
+      subst (λ n. SizeLine n line) number here.5,
+      omega (arith, here.6, number),
+    ))
 
 -- the CR behind a chunk
-pub return_steps : (old : BodyReader) (more : List ℕ) → old.stage ≡ stages.Data 0 → Steps old (record old { stage = stages.Feed }) (13 ∷ more) 1 steps.Next
-return_steps old more at = record {
-  within = omega arith;
-  took = omega arith;
-  framing = refl;
-  refused = refl;
-  done = refl;
-  goes_on = λ e. ap is_done at;
-  whole = λ w. absurd (subst HasNothingLeft at w);
-  holds = λ body bytes h.
-      let here : Holds old.framing (stages.Data 0) old.came body bytes = subst (λ (s : Stage). Holds old.framing s old.came body bytes) at h in
-      let behind = here.4 in
-      let number : length here.3 + 0 ≡ length here.3 = omega arith in (
-        here.0,
-        here.1,
-        here.2,
-        here.3,
-        record {
-          chunks = behind.chunks;
-          front = behind.front;
-          chunks_are = behind.chunks_are;
-          whole = byte_behind behind.front here.2 here.3 13 bytes behind.whole;
-          body_is = append-nil body ∙ behind.body_is;
-        },
-        subst (λ n. SizeLine n here.2) number here.5,
-        omega (arith, here.6),
-      );
-}
+return_steps : (old : BodyReader) (more : List ℕ) → old.stage ≡ stages.Data 0 → Steps old (record old { stage = stages.Feed }) (13 ∷ more) 1 steps.Next
+return_steps old more at =
+    steps_at old (record old { stage = stages.Feed }) (13 ∷ more) 1 steps.Next (stages.Data 0) at (refl, λ w. w) refl refl (omega arith) (omega arith) refl (λ body bytes here.
+    let behind = here.4 in
+    let number : length here.3 + 0 ≡ length here.3 = omega arith in (
+      here.0,
+      here.1,
+      here.2,
+      here.3,
+      record {
+        chunks = behind.chunks;
+        front = behind.front;
+        chunks_are = behind.chunks_are;
+        whole = byte_behind behind.front here.2 here.3 13 bytes behind.whole;
+        body_is = append-nil body ∙ behind.body_is;
+      },
+      subst (λ n. SizeLine n here.2) number here.5,
+      omega (arith, here.6),
+    ))
 
 -- the LF behind it
-pub feed_steps : (old : BodyReader) (more : List ℕ) → old.stage ≡ stages.Feed → Steps old (record old { stage = stages.Line }) (10 ∷ more) 1 steps.Next
-feed_steps old more at = record {
-  within = omega arith;
-  took = omega arith;
-  framing = refl;
-  refused = refl;
-  done = refl;
-  goes_on = λ e. ap is_done at;
-  whole = λ w. absurd (subst HasNothingLeft at w);
-  holds = λ body bytes h.
-      let here : Holds old.framing stages.Feed old.came body bytes = subst (λ (s : Stage). Holds old.framing s old.came body bytes) at h in
-      let line = here.2 in
-      let chunk = here.3 in
-      let behind = here.4 in
-      let text : List ℕ = line ++ (chunk ++ 13 ∷ 10 ∷ []) in
-      let closed : bytes ++ 10 ∷ [] ≡ behind.front ++ text =
-      byte_behind behind.front line (chunk ++ 13 ∷ []) 10 bytes behind.whole
-      ∙ ap (λ (s : List ℕ). behind.front ++ (line ++ s)) (append_assoc chunk (13 ∷ []) (10 ∷ [])) in
-      let none : old.came ≡ [] = here.1 in (
-        here.0,
-        record {
-          chunks = behind.chunks ++ chunk ∷ [];
-          front = behind.front ++ text;
-          chunks_are = chunks_more behind.chunks behind.front chunk text behind.chunks_are (record { line = line; line_is = here.5; some = here.6; whole = refl });
-          whole = closed ∙ sym (append-nil (behind.front ++ text)) ∙ ap (λ (s : List ℕ). (behind.front ++ text) ++ s) (sym none);
-          body_is = append-nil body ∙ behind.body_is ∙ sym (joined_more behind.chunks chunk) ∙ sym (append-nil (joined (behind.chunks ++ chunk ∷ [])));
-        },
-        subst IsOpenLine (sym none) (record { no_feed = All-nil (λ b. b ≢ 10); few = omega arith }),
-      );
-}
+feed_steps : (old : BodyReader) (more : List ℕ) → old.stage ≡ stages.Feed → Steps old (record old { stage = stages.Line }) (10 ∷ more) 1 steps.Next
+feed_steps old more at =
+    steps_at old (record old { stage = stages.Line }) (10 ∷ more) 1 steps.Next stages.Feed at (refl, λ w. w) refl refl (omega arith) (omega arith) refl (λ body bytes here.
+    let line = here.2 in
+    let chunk = here.3 in
+    let behind = here.4 in
+    let text : List ℕ = line ++ (chunk ++ 13 ∷ 10 ∷ []) in
+    let closed : bytes ++ 10 ∷ [] ≡ behind.front ++ text =
+    byte_behind behind.front line (chunk ++ 13 ∷ []) 10 bytes behind.whole
+    ∙ ap (λ (s : List ℕ). behind.front ++ (line ++ s)) (append_assoc chunk (13 ∷ []) (10 ∷ [])) in
+    let none : old.came ≡ [] = here.1 in (
+      here.0,
+      record {
+        chunks = behind.chunks ++ chunk ∷ [];
+        front = behind.front ++ text;
+        chunks_are = chunks_more behind.chunks behind.front chunk text behind.chunks_are (record { line = line; line_is = here.5; some = here.6; whole = refl });
+        whole = closed ∙ sym (append-nil (behind.front ++ text)) ∙ ap (λ (s : List ℕ). (behind.front ++ text) ++ s) (sym none);
+        body_is = append-nil body ∙ behind.body_is ∙ sym (joined_push behind.chunks chunk) ∙ sym (append-nil (joined (behind.chunks ++ chunk ∷ [])));
+      },
+      subst IsOpenLine (sym none) (record { no_feed = All-nil (λ b. b ≢ 10); few = omega arith }),
+    ))
 
 -- a byte behind a chunk that is no CR
-pub return_stops : (old : BodyReader) (last : ℕ) (more : List ℕ) → old.stage ≡ stages.Data 0 → last ≢ 13 → Stops old old (last ∷ more) faults.BadFraming
-return_stops old last more at other = record {
-  framing = refl;
-  refused = refl;
-  goes_on = ap is_done at;
-  left = λ w. subst HasNothingLeft at w;
-  cause = λ body bytes h.
-      let here : Holds old.framing (stages.Data 0) old.came body bytes = subst (λ (s : Stage). Holds old.framing s old.came body bytes) at h in
-      let behind = here.4 in
-      let number : length here.3 + 0 ≡ length here.3 = omega arith in
-      inr (
-        here.0,
-        record {
-          front = [];
+return_stops : (old : BodyReader) (last : ℕ) (more : List ℕ) → old.stage ≡ stages.Data 0 → last ≢ 13 → Stops old old (last ∷ more) faults.BadFraming
+return_stops old last more at other =
+    stops_first old last more (stages.Data 0) at (refl, λ w. w) (λ body bytes here.
+    let behind = here.4 in
+    let number : length here.3 + 0 ≡ length here.3 = omega arith in (
+      here.0,
+      record {
+        chunks = behind.chunks;
+        front = behind.front;
+        rest = here.2 ++ (here.3 ++ last ∷ []);
+        chunks_are = behind.chunks_are;
+        whole = byte_behind behind.front here.2 here.3 last bytes behind.whole;
+        breaks = inr (inl (record {
+          line = here.2;
+          chunk = here.3;
           last = last;
-          more = more;
-          whole = refl;
-          went_on =
-              held_front old.framing old.stage old.came body (bytes ++ []) here.0 (ap is_done at)
-              (subst (λ (s : List ℕ). Holds old.framing old.stage old.came body s) (sym (append-nil bytes)) h);
-          breaks = record {
-            chunks = behind.chunks;
-            front = behind.front;
-            rest = here.2 ++ (here.3 ++ last ∷ []);
-            chunks_are = behind.chunks_are;
-            whole = ap (λ (s : List ℕ). s ++ last ∷ []) (append-nil bytes) ∙ byte_behind behind.front here.2 here.3 last bytes behind.whole;
-            breaks = inr (inl (record {
-              line = here.2;
-              chunk = here.3;
-              last = last;
-              line_is = subst (λ n. SizeLine n here.2) number here.5;
-              some = omega (arith, here.6);
-              breaks = inl (refl, other);
-            }));
-          };
-        },
-      );
-}
+          line_is = subst (λ n. SizeLine n here.2) number here.5;
+          some = omega (arith, here.6);
+          breaks = inl (refl, other);
+        }));
+      },
+    ))
 
 -- a byte behind its CR that is no LF
-pub feed_stops : (old : BodyReader) (last : ℕ) (more : List ℕ) → old.stage ≡ stages.Feed → last ≢ 10 → Stops old old (last ∷ more) faults.BadFraming
-feed_stops old last more at other = record {
-  framing = refl;
-  refused = refl;
-  goes_on = ap is_done at;
-  left = λ w. subst HasNothingLeft at w;
-  cause = λ body bytes h.
-      let here : Holds old.framing stages.Feed old.came body bytes = subst (λ (s : Stage). Holds old.framing s old.came body bytes) at h in
-      let behind = here.4 in
-      inr (
-        here.0,
-        record {
-          front = [];
+feed_stops : (old : BodyReader) (last : ℕ) (more : List ℕ) → old.stage ≡ stages.Feed → last ≢ 10 → Stops old old (last ∷ more) faults.BadFraming
+feed_stops old last more at other =
+    stops_first old last more stages.Feed at (refl, λ w. w) (λ body bytes here.
+    let behind = here.4 in (
+      here.0,
+      record {
+        chunks = behind.chunks;
+        front = behind.front;
+        rest = here.2 ++ (here.3 ++ 13 ∷ last ∷ []);
+        chunks_are = behind.chunks_are;
+        whole = byte_behind behind.front here.2 (here.3 ++ 13 ∷ []) last bytes behind.whole
+            ∙ ap (λ (s : List ℕ). behind.front ++ (here.2 ++ s)) (append_assoc here.3 (13 ∷ []) (last ∷ []));
+        breaks = inr (inl (record {
+          line = here.2;
+          chunk = here.3;
           last = last;
-          more = more;
-          whole = refl;
-          went_on =
-              held_front old.framing old.stage old.came body (bytes ++ []) here.0 (ap is_done at)
-              (subst (λ (s : List ℕ). Holds old.framing old.stage old.came body s) (sym (append-nil bytes)) h);
-          breaks = record {
-            chunks = behind.chunks;
-            front = behind.front;
-            rest = here.2 ++ (here.3 ++ 13 ∷ last ∷ []);
-            chunks_are = behind.chunks_are;
-            whole = ap (λ (s : List ℕ). s ++ last ∷ []) (append-nil bytes) ∙ byte_behind behind.front here.2 (here.3 ++ 13 ∷ []) last bytes behind.whole
-                ∙ ap (λ (s : List ℕ). behind.front ++ (here.2 ++ s)) (append_assoc here.3 (13 ∷ []) (last ∷ []));
-            breaks = inr (inl (record {
-              line = here.2;
-              chunk = here.3;
-              last = last;
-              line_is = here.5;
-              some = here.6;
-              breaks = inr (refl, other);
-            }));
-          };
-        },
-      );
-}
+          line_is = here.5;
+          some = here.6;
+          breaks = inr (refl, other);
+        }));
+      },
+    ))
 
 -- which byte is to come behind a chunk
 abbrev pub IsByteStage : Stage → ℕ → Stage → Type 0

@@ -2,9 +2,10 @@
 use Rattle.std.specs.Prelude.{◌≡◌, ◌≢◌, ℕ, ◌^◌, ◌<◌, ◌≤◌, ◌⊎◌, List, [], ◌∷◌, ◌++◌, length, All}
 use Rattle.httparse.specs.Ascii.{crlf_bytes}
 use Rattle.httparse.specs.Grammar.{LineEnd, print_end, Field, ReadsSection, ChunkLine, ReadsChunkLine, chunk_size}
+use Rattle.tg_bytes.specs.Lists.{joined}
 use Rattle.tg_http.specs.declared.framing.Framing.{Framing}
 use Rattle.tg_http.specs.declared.framing.Framing.TheVariants as framings
-use Rattle.tg_http.specs.HeadText.{IsFullLine, joined}
+use Rattle.tg_http.specs.HeadText.{IsFullLine}
 
 -- a chunk line of the grammar of at most 16,384 bytes, which states this size
 pub record SizeLine (size : ℕ) (line : List ℕ) : Type 0 where

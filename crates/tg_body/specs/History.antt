@@ -1,12 +1,13 @@
 -- What a reader of a body stands for: what it was fed and what it gave.
 use Rattle.std.specs.Prelude.{◌≡◌, ◌≢◌, ℕ, ◌<◌, ◌≤◌, ◌⊎◌, ⊤, Bool, true, false, Option, Some, None, List, [], ◌∷◌, ◌++◌, length, take, slice_range, All, Result, Ok, Err}
+use Rattle.tg_bytes.specs.Lists.{joined}
 use Rattle.tg_http.specs.declared.fault.HttpFault.{HttpFault}
 use Rattle.tg_http.specs.declared.fault.HttpFault.TheVariants as faults
 use Rattle.tg_http.specs.declared.framing.Framing.{Framing}
 use Rattle.tg_http.specs.declared.framing.Framing.TheVariants as framings
 use Rattle.tg_body.specs.declared.body.Body.{Body}
 use Rattle.tg_body.specs.declared.body.Body.TheVariants as events
-use Rattle.tg_http.specs.HeadText.{IsLine, IsEmptyLine, IsFullLine, joined}
+use Rattle.tg_http.specs.HeadText.{IsLine, IsEmptyLine, IsFullLine}
 use Rattle.tg_body.specs.Bodies.{SizeLine, ChunksText, TrailerText, IsOpenLine, InTrailer, ChunkedFront, BodyText, BodyFront}
 
 -- how a reader stopped: `feed` refused this piece, or `end` refused

@@ -1,12 +1,13 @@
 -- What a reader of a body holds, and the histories that it stands for.
 use Rattle.std.specs.Prelude.{◌≡◌, ◌≢◌, ℕ, ◌+◌, ◌<◌, ⊤, Bool, true, false, None, List, [], ◌∷◌, ◌++◌, length, All, option_map}
+use Rattle.tg_bytes.specs.Lists.{joined}
 use Rattle.tg_http.specs.declared.fault.HttpFault.{HttpFault}
 use Rattle.tg_http.specs.declared.framing.Framing.{Framing}
 use Rattle.tg_http.specs.declared.framing.Framing.TheVariants as framings
 use Rattle.tg_body.specs.declared.stage.Stage.{Stage}
 use Rattle.tg_body.specs.declared.stage.Stage.TheVariants as stages
 use Rattle.tg_body.specs.declared.reader.BodyReader.{BodyReader}
-use Rattle.tg_http.specs.HeadText.{IsFullLine, joined}
+use Rattle.tg_http.specs.HeadText.{IsFullLine}
 use Rattle.tg_body.specs.Bodies.{SizeLine, ChunksText, IsOpenLine, BodyText}
 use Rattle.tg_body.specs.History.{Stop, at_piece, at_end, History, IsExact}
 

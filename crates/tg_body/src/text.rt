@@ -1,7 +1,8 @@
 //! Chunk lines and trailers.
 ghost use Rattle.std.specs.Prelude.{◌≡◌, ℕ, ◌<◌, ◌≤◌, ◌⊎◌, ◌↔◌, List, ◌++◌, length, All, IsTrue, MatchOption, MatchResult};
 ghost use Rattle.httparse.specs.Grammar.{LineEnd, print_end};
-ghost use Rattle.tg_http.specs.HeadText.{IsLine, IsFullLine, joined};
+ghost use Rattle.tg_bytes.specs.Lists.{joined};
+ghost use Rattle.tg_http.specs.HeadText.{IsLine, IsFullLine};
 ghost use Rattle.tg_http.specs.declared.fault.HttpFault.{HttpFault};
 ghost use Rattle.tg_body.specs.Bodies.{SizeLine, TrailerText};
 ghost use Rattle.tg_body.specs.Steps.{EndsLine, InsideLine, IsTooLong};

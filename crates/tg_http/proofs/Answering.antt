@@ -10,8 +10,8 @@ use Rattle.tg_http.specs.declared.request.RequestHead.{RequestHead}
 use Rattle.tg_http.specs.declared.reply.ReplyHead.{ReplyHead}
 use Rattle.tg_http.specs.HeadText.{BeginsHead, HeadText}
 use Rattle.tg_http.specs.Heads.{IsWaiting, PassesLimit, HasHeadCause, IsRequest, IsReply, IsNoRequest, IsNoReply, TellsParts, TellsReplyParts, TellsRequest, TellsReply}
+use Rattle.tg_http.specs.OneHead.{limit_not_waiting, limit_only, one_beginning}
 use Rattle.tg_http.proofs.Grammar.{whole_request, whole_reply}
-use Rattle.tg_http.proofs.Unique.{one_beginning}
 
 -- the bytes begin with this head text, of at most 64 fields
 abbrev pub Here : List ℕ → List ℕ → Type 0
@@ -24,16 +24,6 @@ Refuses told R N = ((told ≡ faults.OutOfMemory) × R) ⊎ ((told ≡ faults.Ba
 -- a refusal that is handed on
 pub handed_on : {T : Type 0} {told fault : HttpFault} (r : Result T HttpFault) → IsErrAnd r (λ y. y ≡ told) → told ≡ fault → r ≡ Err fault
 handed_on r is same = let p = err_from_is_err_and r is in p.1 ∙ ap Err (p.2 ∙ same)
-
-pub limit_only : (bytes text : List ℕ) (count : ℕ) → PassesLimit bytes → BeginsHead bytes text count → count ≤ 64 → ⊥
-limit_only bytes text count (inl none) b few = none.1 text count b
-limit_only bytes text count (inr many) b few =
-    let same = one_beginning bytes text many.0 count many.1 b many.2 in
-    omega (arith, same.1, many.3)
-
-pub limit_not_waiting : (bytes : List ℕ) → PassesLimit bytes → IsWaiting bytes → ⊥
-limit_not_waiting bytes (inl none) w = omega (arith, none.0, w.short)
-limit_not_waiting bytes (inr many) w = w.none many.0 many.1 many.2
 
 module _ (none : List ℕ → Type 0) where
   pub limit_given : (bytes : List ℕ) (fault : HttpFault) → PassesLimit bytes → HasHeadCause none bytes fault → fault ≡ faults.HeadLimit

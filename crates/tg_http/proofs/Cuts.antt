@@ -1,6 +1,7 @@
 -- One line more of bytes in which a head text is looked for.
-use Rattle.std.proofs.Common.{◌≡◌, ℕ, zero, suc, ◌+◌, ◌-◌, ◌<◌, ◌≤◌, min, List, [], ◌∷◌, ◌++◌, length, take, drop, refl, sym, ap, ap₂, ◌∙◌, subst, arith, append_assoc, add-one}
-use Rattle.std.proofs.lemmas.List.{append_cancel_left, take-append-drop, drop-drop, take_rest, take-take, take_at, length-append, length-drop, drop-take}
+use Rattle.std.proofs.Common.{◌≡◌, ℕ, zero, suc, ◌+◌, ◌-◌, ◌<◌, ◌≤◌, min, List, ◌++◌, length, take, drop, refl, sym, ap, ◌∙◌, subst, arith, append_assoc, add-one}
+use Rattle.std.proofs.Math.Seq.{take-add}
+use Rattle.std.proofs.lemmas.List.{append_cancel_left, take-append-drop, drop-drop, take_rest, take-take, take_at, length-append, length-drop, length-take}
 use Rattle.tg_http.specs.HeadText.{IsLine, IsEmptyLine, IsFullLine, HeadText, BeginsHead}
 use Rattle.tg_http.proofs.Heads.{Tail, start_first, field_first, last_line, start_taken, field_taken, last_taken}
 
@@ -9,15 +10,11 @@ pub record Cut (bytes : List ℕ) (at size : ℕ) (line : List ℕ) : Type 0 whe
   pub taken : take (at + size) bytes ≡ take at bytes ++ line
   pub left : drop at bytes ≡ line ++ drop (at + size) bytes
 
-pub taken_parts : (at size : ℕ) (bytes : List ℕ) → take (at + size) bytes ≡ take at bytes ++ take size (drop at bytes)
-taken_parts at size bytes =
-    sym (take-append-drop at (take (at + size) bytes)) ∙ ap₂ (λ (a b : List ℕ). a ++ b) (take-take at (at + size) bytes (omega arith)) (drop-take at size bytes)
-
 pub cut : (bytes : List ℕ) (at size : ℕ) → at + size ≤ length bytes → Cut bytes at size (take (at + size - at) (drop at bytes))
 cut bytes at size fits =
     let number : at + size - at ≡ size = omega arith in
     record {
-      taken = rw number (taken_parts at size bytes);
+      taken = rw number (take-add at size bytes);
       left = rw number (sym (take-append-drop size (drop at bytes)) ∙ ap (λ (s : List ℕ). take size (drop at bytes) ++ s) (drop-drop size at bytes));
     }
 
@@ -92,18 +89,13 @@ last_takes (suc done) line more rest after count some e t same =
 pub front_begins : (bytes : List ℕ) (n m count : ℕ) → m ≡ min (length bytes) 16384 → n ≤ length (take m bytes) → HeadText (take n (take m bytes)) count
     → BeginsHead bytes (take n bytes) count
 front_begins bytes n m count front fits t =
-    let size : n ≤ m = omega (arith, length-take_le m bytes) in
+    let size : n ≤ m = omega (arith, length-take m bytes) in
     record {
       text_is = subst (λ (s : List ℕ). HeadText s count) (take-take n m bytes size) t;
       rest = drop n bytes;
       whole = sym (take-append-drop n bytes);
-      fits = omega (arith, length-take_le n bytes);
+      fits = omega (arith, length-take n bytes);
     }
-  where
-    length-take_le : (k : ℕ) (s : List ℕ) → length (take k s) ≤ k
-    length-take_le zero s = omega arith
-    length-take_le (suc k) [] = omega arith
-    length-take_le (suc k) (x ∷ s) = omega (arith, length-take_le k s)
 
 -- a head text at the front of the bytes is one of their front
 pub begins_front : (bytes text : List ℕ) (m count : ℕ) → m ≡ min (length bytes) 16384 → BeginsHead bytes text count

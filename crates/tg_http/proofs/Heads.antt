@@ -3,8 +3,9 @@ use Rattle.std.proofs.Common.{◌≡◌, ℕ, zero, suc, ◌+◌, List, [], ◌�
 use Rattle.std.specs.Prelude.{All}
 use Rattle.std.proofs.lemmas.List.Elements.{All-head, All-tail, All-nil, All-cons}
 use Rattle.httparse.specs.Grammar.{LineEnd, print_end, print_blank}
-use Rattle.tg_http.specs.HeadText.{HasNoFeed, IsLine, IsEmptyLine, IsFullLine, joined, HeadText}
-use Rattle.tg_http.proofs.Lines.{one_line, end_line, feed_in_line}
+use Rattle.tg_bytes.specs.Lists.{joined}
+use Rattle.tg_http.specs.HeadText.{HasNoFeed, IsLine, IsEmptyLine, IsFullLine, HeadText}
+use Rattle.tg_http.specs.Lines.{one_line, end_line, feed_in_line}
 
 -- what of a head text is left behind its start line and lines of fields
 pub record FieldsTail (more : List ℕ) (count : ℕ) : Type 0 where

@@ -1,7 +1,5 @@
-mod Lines
 mod Heads
 mod Cuts
-mod Unique
 mod Grammar
 mod Values
 mod Answering

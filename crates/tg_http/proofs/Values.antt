@@ -1,47 +1,32 @@
 -- The values of one name, a field more.
 use Rattle.std.proofs.Common.{◌≡◌, ℕ, ◌+◌, ◌<◌, Bool, true, false, List, [], ◌∷◌, ◌++◌, length, take, drop, get_or, map, refl, sym, ap, ◌∙◌, subst, Option, Some, None}
-use Rattle.std.specs.Prelude.{not, find, codes}
+use Rattle.std.specs.Prelude.{not, find, codes, ◌||◌}
 use Rattle.std.specs.List.{cons_option, list_any}
-use Rattle.std.specs.Option.{option_to_list}
-use Rattle.std.proofs.lemmas.List.{map_more, map-append, take-append-drop, append-nil}
+use Rattle.std.specs.Option.{option_or, option_to_list}
+use Rattle.std.proofs.lemmas.List.{map_more, map-append, take-append-drop, append-nil, append_assoc}
 use Rattle.std.proofs.lemmas.List.Elements.{filter_map-append}
+use Rattle.std.proofs.lemmas.List.Folds.{find-append, list_any-append}
 use Rattle.std.proofs.lemmas.Bool.{cond-true, cond-false}
 use Rattle.httparse.specs.Spans.{header_bytes}
 use Rattle.httparse.specs.declared.spans.HeaderSpan.{HeaderSpan}
 use Rattle.tg_http.specs.declared.fields.FieldValue.{FieldValue}
-use Rattle.tg_http.specs.Fields.{AreValues, value_under, values, first as first_of, or_else, coding_of, is_identity, lists_token}
+use Rattle.tg_http.specs.Fields.{AreValues, value_under, values, first as first_of, coding_of, is_identity, lists_token}
 
 pub find_push : (p : List ℕ → Bool) (xs : List (List ℕ)) (v : List ℕ) → find p xs ≡ None → p v ≡ false → find p (xs ++ v ∷ []) ≡ None
-find_push p [] v none other = cond-false _ _ _ other
-find_push p (x ∷ xs) v none other = by_test (λ e. find_push p xs v e other) (p x) refl
-  where
-    by_test : (find p xs ≡ None → find p (xs ++ v ∷ []) ≡ None) → (t : Bool) → p x ≡ t → find p ((x ∷ xs) ++ v ∷ []) ≡ None
-    by_test others true holds = absurd (let some : Some x ≡ None = sym (cond-true _ _ _ holds) ∙ none in cc)
-    by_test others false no_test = cond-false _ _ _ no_test ∙ others (sym (cond-false _ _ _ no_test) ∙ none)
+find_push p xs v none other = find-append p xs (v ∷ []) ∙ ap (λ o. option_or o (find p (v ∷ []))) none ∙ cond-false _ _ _ other
 
 pub find_at : (p : List ℕ → Bool) (xs ys : List (List ℕ)) (v : List ℕ) → find p xs ≡ None → p v ≡ true → find p (xs ++ v ∷ ys) ≡ Some v
-find_at p [] ys v none holds = cond-true _ _ _ holds
-find_at p (x ∷ xs) ys v none holds = by_test (λ e. find_at p xs ys v e holds) (p x) refl
-  where
-    by_test : (find p xs ≡ None → find p (xs ++ v ∷ ys) ≡ Some v) → (t : Bool) → p x ≡ t → find p ((x ∷ xs) ++ v ∷ ys) ≡ Some v
-    by_test others true early = absurd (let some : Some x ≡ None = sym (cond-true _ _ _ early) ∙ none in cc)
-    by_test others false no_test = cond-false _ _ _ no_test ∙ others (sym (cond-false _ _ _ no_test) ∙ none)
+find_at p xs ys v none holds = find-append p xs (v ∷ ys) ∙ ap (λ o. option_or o (find p (v ∷ ys))) none ∙ cond-true _ _ _ holds
 
 pub any_push : (p : List ℕ → Bool) (xs : List (List ℕ)) (v : List ℕ) → list_any p xs ≡ false → p v ≡ false → list_any p (xs ++ v ∷ []) ≡ false
-any_push p [] v none other = rw other refl
-any_push p (x ∷ xs) v none other = by_test (λ e. any_push p xs v e other) (p x) refl
-  where
-    by_test : (list_any p xs ≡ false → list_any p (xs ++ v ∷ []) ≡ false) → (t : Bool) → p x ≡ t → list_any p ((x ∷ xs) ++ v ∷ []) ≡ false
-    by_test others true holds = absurd (let some : true ≡ false = (rw holds at none) in cc)
-    by_test others false no_test = rw no_test (others (rw no_test at none))
+any_push p xs v none other = rw (list_any-append p xs (v ∷ []), none, other) refl
 
 pub any_at : (p : List ℕ → Bool) (xs ys : List (List ℕ)) (v : List ℕ) → p v ≡ true → list_any p (xs ++ v ∷ ys) ≡ true
-any_at p [] ys v holds = rw holds refl
-any_at p (x ∷ xs) ys v holds = by_test (any_at p xs ys v holds) (p x) refl
+any_at p xs ys v holds = rw (list_any-append p xs (v ∷ ys), holds) (by_test (list_any p xs))
   where
-    by_test : list_any p (xs ++ v ∷ ys) ≡ true → (t : Bool) → p x ≡ t → list_any p ((x ∷ xs) ++ v ∷ ys) ≡ true
-    by_test others true early = rw early refl
-    by_test others false no_test = rw no_test others
+    by_test : (t : Bool) → (t || true) ≡ true
+    by_test true = refl
+    by_test false = refl
 
 abbrev pub is_coded : List ℕ → Bool
 is_coded value = not (is_identity value)
@@ -81,10 +66,6 @@ module _ (name text : List ℕ) (fields : List HeaderSpan) (i : ℕ) (d : Header
       ∙ filter_map-append (value_under name) (map (header_bytes text) (take (i + 1) fields)) (map (header_bytes text) (drop (i + 1) fields))
       ∙ ap (λ (s : List (List ℕ)). s ++ rest) (values_some v some)
       ∙ append_assoc (seen i) (v ∷ []) rest
-    where
-      append_assoc : (a b c : List (List ℕ)) → (a ++ b) ++ c ≡ a ++ (b ++ c)
-      append_assoc [] b c = refl
-      append_assoc (x ∷ a) b c = ap (λ (s : List (List ℕ)). x ∷ s) (append_assoc a b c)
 
   -- the values of all of the fields
   abbrev pub all_values : List (List ℕ)
@@ -99,7 +80,7 @@ module _ (name text : List ℕ) (fields : List HeaderSpan) (i : ℕ) (d : Header
   pub coding_at : (v : List ℕ) → find is_coded (seen i) ≡ None → Some v ≡ here → is_identity v ≡ false → Some v ≡ coding_of all_values
   coding_at v none some other =
       let found : find is_coded all_values ≡ Some v = ap (find is_coded) (values_found v some) ∙ find_at is_coded (seen i) later v none (ap not other) in
-      ap (λ (o : Option (List ℕ)). or_else o (first_of all_values)) (sym found)
+      ap (λ (o : Option (List ℕ)). option_or o (first_of all_values)) (sym found)
 
   pub coding_none : find is_coded (seen i) ≡ None → None ≡ here → find is_coded (seen (i + 1)) ≡ None
   coding_none none absent = ap (find is_coded) (values_none absent) ∙ none

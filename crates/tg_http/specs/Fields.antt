@@ -1,6 +1,7 @@
 -- The fields of a head by their names, which are compared without regard to case (RFC 9110, section 5.1).
 use Rattle.std.specs.Prelude.{◌≡◌, ℕ, ◌<◌, ◌==◌, List, [], ◌∷◌, Bool, not, Option, Some, None, length, find, codes, if◌then◌else◌}
 use Rattle.std.specs.List.{filter_map, list_any, slice_split}
+use Rattle.std.specs.Option.{option_or}
 use Rattle.std.specs.Str.{str_eq_ignore_ascii_case}
 use Rattle.httparse.specs.Grammar.{trim_ows}
 use Rattle.tg_http.specs.declared.fields.FieldValue.{FieldValue}
@@ -29,13 +30,9 @@ first (value ∷ more) = Some value
 abbrev pub is_identity : List ℕ → Bool
 is_identity value = str_eq_ignore_ascii_case value (codes "identity")
 
-abbrev pub or_else : Option (List ℕ) → Option (List ℕ) → Option (List ℕ)
-or_else (Some value) other = Some value
-or_else None other = other
-
 -- the first of the values that isn't `identity`, else the first (RFC 9110, section 8.4)
 abbrev pub coding_of : List (List ℕ) → Option (List ℕ)
-coding_of codings = or_else (find (λ value. not (is_identity value)) codings) (first codings)
+coding_of codings = option_or (find (λ value. not (is_identity value)) codings) (first codings)
 
 -- what the values of one name are
 abbrev pub AreValues : List (List ℕ) → FieldValue → Type 0

@@ -1,7 +1,7 @@
 -- The text of a head, which is found before it is read (RFC 9112, section 2.1: a start line, field lines and an empty line).
 use Rattle.std.specs.Prelude.{◌≡◌, ◌≢◌, ℕ, ◌≤◌, List, [], ◌∷◌, ◌++◌, length, All}
-use Rattle.std.specs.List.{flat_map}
 use Rattle.httparse.specs.Grammar.{LineEnd, print_end, print_blank}
+use Rattle.tg_bytes.specs.Lists.{joined}
 
 -- no line feed is among them
 abbrev pub HasNoFeed : List ℕ → Type 0
@@ -21,10 +21,6 @@ IsEmptyLine line = (end : LineEnd) × (line ≡ print_end end)
 pub record IsFullLine (line : List ℕ) : Type 0 where
   pub line_is : IsLine line
   pub not_empty : IsEmptyLine line → ⊥
-
--- lines, one after another
-abbrev pub joined : List (List ℕ) → List ℕ
-joined lines = flat_map (λ line. line) lines
 
 -- Empty lines, a line that isn't empty, lines that count as one field each, and the first empty line behind them.
 pub record HeadText (text : List ℕ) (count : ℕ) : Type 0 where

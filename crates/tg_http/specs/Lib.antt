@@ -4,3 +4,6 @@ pub mod Framing
 pub mod Heads
 pub mod Chunks
 pub mod Laws
+pub mod Lines
+pub mod OneHead
+pub mod GrammarLines

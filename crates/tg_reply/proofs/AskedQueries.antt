@@ -8,8 +8,10 @@ use Rattle.std.specs.Prelude.{if◌then◌else◌, nat_lt, not, ◌==◌, ◌||�
 use Rattle.std.specs.Str.{all_scalars, encode_utf8_all}
 use Rattle.std.proofs.Math.Utf8.{scalar_cases}
 use Rattle.std.proofs.lemmas.Bool.{and_parts, cond_both, ltb-true}
-use Rattle.std.proofs.lemmas.List.Elements.{All-append, All-cons, All-filter, All-head, All-map, All-nil, All-tail, All-weaker}
+use Rattle.std.proofs.lemmas.List.{take_at}
+use Rattle.std.proofs.lemmas.List.Elements.{All-append, All-cons, All-filter, All-head, All-map, All-nil, All-tail, All-take, All-weaker}
 use Rattle.tg_ascii.specs.Ascii.{slash}
+use Rattle.tg_bytes.specs.Lists.{AreBytes, rest_bytes}
 use Rattle.tg_cid.specs.Cid.{CidParts}
 use Rattle.tg_cid.specs.Spelling.{CidBytes}
 use Rattle.tg_model.specs.Queries.{QueryParts}
@@ -31,18 +33,10 @@ use Rattle.tg_reply.specs.AskedReadings.{AskedSpells, IsSpelledQuery, TargetsAre
 abbrev IsByte : ℕ → Type 0
 IsByte b = b < 256
 
-abbrev AreBytes : List ℕ → Type 0
-AreBytes bytes = All IsByte bytes
-
 -- ---- parts of bytes are bytes
 
 front_bytes : (a b : List ℕ) → AreBytes (a ++ b) → AreBytes a
-front_bytes [] b all = All-nil IsByte
-front_bytes (x ∷ a) b all = All-cons IsByte x a (All-head IsByte x (a ++ b) all) (front_bytes a b (All-tail IsByte x (a ++ b) all))
-
-back_bytes : (a b : List ℕ) → AreBytes (a ++ b) → AreBytes b
-back_bytes [] b all = all
-back_bytes (x ∷ a) b all = back_bytes a b (All-tail IsByte x (a ++ b) all)
+front_bytes a b all = subst AreBytes (take_at a b (length a) refl) (All-take IsByte (length a) (a ++ b) all)
 
 -- ---- the target of a request
 
@@ -127,12 +121,12 @@ path_bytes (Some text) path are h = subst (All AreBytes) (sym h.names) (names_by
 rooted_spelled : (text : List ℕ) (root : CidParts) (path : List (List ℕ)) → AreBytes text → RootedText text root path
     → ((name : List ℕ) × CidBytes root name) × All AreBytes path
 rooted_spelled text root path are r =
-    let back = back_bytes r.root_text (behind slash r.rest) (subst AreBytes r.whole are) in
+    let back = rest_bytes r.root_text (behind slash r.rest) (subst AreBytes r.whole are) in
     ((r.root_is.bytes, inr r.root_is.in_bytes), path_bytes r.rest path back r.path_is)
 
 target_spelled : (text : List ℕ) (target : Target) → AreBytes text → TargetText text target → ((name : List ℕ) × CidBytes target.root name) × All AreBytes target.path
 target_spelled text target are t =
-    let rooted = front_bytes t.rooted_text (behind 63 t.query) (back_bytes ipfs (t.rooted_text ++ behind 63 t.query) (subst AreBytes t.whole are)) in
+    let rooted = front_bytes t.rooted_text (behind 63 t.query) (rest_bytes ipfs (t.rooted_text ++ behind 63 t.query) (subst AreBytes t.whole are)) in
     rooted_spelled t.rooted_text target.root target.path rooted t.rooted
 
 -- ---- the query that is joined of the target and `Accept`

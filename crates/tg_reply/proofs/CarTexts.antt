@@ -3,12 +3,12 @@ use Rattle.std.proofs.Common.{◌≡◌, ℕ, ◌+◌, ◌^◌, ◌<◌, ◌≤�
 use Rattle.std.specs.Prelude.{codes, nat_lt, ◌==◌}
 use Rattle.std.proofs.lemmas.List.{length-append}
 use Rattle.std.proofs.lemmas.List.Elements.{All-cons, All-head, All-map, All-nil, All-tail, All-weaker}
+use Rattle.tg_bytes.specs.Lists.{joined}
 use Rattle.tg_car.specs.CarText.{HeaderText, IsRoot, SectionText, SectionsText, header_map, string_head}
 use Rattle.tg_cid.specs.Cid.{CidParts}
 use Rattle.tg_cid.specs.Computed.{v1_bytes}
 use Rattle.tg_cid.specs.Laws.{LengthLaws}
 use Rattle.tg_cid.specs.Spelling.{CidBytes, CidV1Bytes}
-use Rattle.tg_http.specs.HeadText.{joined}
 use Rattle.tg_model.specs.Dag.{Section}
 use Rattle.tg_reply.specs.Bodies.{CarsInParts, IsPart, IsSpelled, car_section}
 use Rattle.tg_reply.specs.CarBytes.{car_header, cid_bytes, section_bytes, sized}

@@ -12,8 +12,9 @@ use Rattle.std.proofs.lemmas.Int.Digits.{all_below_base_digits_of, digits_value_
 use Rattle.std.proofs.lemmas.List.{append-nil, length-append, length-map}
 use Rattle.std.proofs.lemmas.List.Elements.{All-cons, All-head, All-nil, All-tail}
 use Rattle.tg_body.specs.Bodies.{ChunkText, ChunksText, SizeLine, TrailerText}
+use Rattle.tg_bytes.specs.Lists.{joined}
 use Rattle.tg_http.specs.Chunks.{chunk_line, hex_digit, hex_text}
-use Rattle.tg_http.specs.HeadText.{IsFullLine, joined}
+use Rattle.tg_http.specs.HeadText.{IsFullLine}
 use Rattle.tg_reply.specs.Bodies.{CutGoesOn, IsPart, WholeInChunks}
 use Rattle.tg_reply.specs.CarBytes.{chunk_bytes}
 

@@ -3,18 +3,20 @@ use Rattle.std.proofs.Common.{◌≡◌, ◌⊎◌, ◌↔◌, ℕ, ◌<◌, ◌
 use Rattle.httparse.specs.Grammar.{Field, IsField, IsRequestHead, IsToken, RequestHead as RequestTree, ReadsRequest, is_token, is_token_byte, is_uri_byte, is_value_byte, print_blank, print_end, print_request}
 use Rattle.httparse.specs.Spans.{name_and_value}
 use Rattle.std.specs.Bool.{Decides}
-use Rattle.std.specs.Char.{digit_value, is_digit}
 use Rattle.std.specs.List.{list_all}
 use Rattle.std.specs.Prelude.{IsFalse, IsTrue, drop, nat_le, nat_lt, not}
-use Rattle.std.specs.Str.Parse.{AllDigits, digits_value}
+use Rattle.std.specs.Str.Parse.{digits_value}
 use Rattle.std.proofs.lemmas.Bool.{ltb-false}
 use Rattle.std.proofs.lemmas.Bool.Decides.{Decides-and, Decides-by_and, Decides-eqb, Decides-ltb, not_from_Decides}
 use Rattle.std.proofs.lemmas.List.{append-nil, drop_at, length-append}
+use Rattle.std.proofs.lemmas.Option.{same_Some}
 use Rattle.std.proofs.lemmas.Slice.Eq.{bytes_eq-Decides}
 use Rattle.std.proofs.lemmas.Str.{IsUtf8-from_is_utf8, is_utf8-from_IsUtf8}
+use Rattle.tg_bytes.specs.Lists.{joined}
+use Rattle.tg_digits.specs.DigitLaws.{digits_decide}
 use Rattle.tg_digits.specs.Digits.{IsDigits}
 use Rattle.tg_http.specs.Framing.{HasNoBody, codings, lengths}
-use Rattle.tg_http.specs.HeadText.{BeginsHead, HeadText, joined}
+use Rattle.tg_http.specs.HeadText.{BeginsHead, HeadText}
 use Rattle.tg_http.specs.Heads.{IsNoRequest, TellsRequest}
 use Rattle.tg_http.specs.Laws.{LineLaws}
 use Rattle.tg_reply.specs.FirstHead.{FirstHeads, HeadLines, IsFirst, announces_body, first_of_lines, first_of_request, head_lines, is_field, is_request, is_request_head, is_zero_text, lines_of, request_of_lines, states_length, text_of_lines, told_of}
@@ -71,10 +73,6 @@ request_decides tree text =
     )
 
 -- ---- whether a body is announced
-
-digits_decide : (bytes : List ℕ) → Decides (list_all (λ b. is_digit b 10) bytes) (AllDigits 10 bytes)
-digits_decide [] = (λ e. tt, λ a. refl)
-digits_decide (b ∷ bytes) = Decides-and _ _ (Decides-ltb (digit_value b) 10) (digits_decide bytes)
 
 zero_decides : (value : List ℕ) → Decides (is_zero_text value) (IsDigits value 0)
 zero_decides value =
@@ -137,9 +135,6 @@ tells used tree =
 clash_none : {T : Type 0} {x : T} → None ≡ Some x → ⊥
 clash_none e = cc
 
-some_same : {T : Type 0} {x y : T} → Some x ≡ Some y → x ≡ y
-some_same e = cc
-
 module _ (laws : LineLaws) (bytes : List ℕ) where
   -- a head text at the front is the text of the lines that are found
   one_text : (found : Option HeadLines) → head_lines (lines_of bytes) ≡ found → (text : List ℕ) (count : ℕ) (b : BeginsHead bytes text count)
@@ -189,7 +184,7 @@ module _ (laws : LineLaws) (bytes : List ℕ) where
     same_text : (other : List ℕ) (count : ℕ) → BeginsHead bytes other count → other ≡ text
     unfolding text
     same_text other count b =
-        b.text_is.whole ∙ ap text_of_lines (sym (some_same (one_text (Some head) e other count b)))
+        b.text_is.whole ∙ ap text_of_lines (sym (same_Some _ _ (one_text (Some head) e other count b)))
 
     begins_text : length text ≤ 16384 → BeginsHead bytes text (length head.section.fields)
     begins_text fits = record { text_is = is_text; rest = rest; whole = whole; fits = fits }
@@ -202,7 +197,7 @@ module _ (laws : LineLaws) (bytes : List ℕ) where
         let here = head_at laws.end_line head.blank head.start head.section.fields head.section.last [] found.start_is found.fields_are in
         let lines = tree_lines tree in
         let there = head_at laws.end_line lines.blank lines.start lines.section.fields lines.section.last [] (lines_start tree r.0) (lines_fields tree r.0) in
-        let same : head ≡ lines = some_same (sym here ∙ ap (λ (l : List ℕ). head_lines (lines_of (l ++ []))) printed ∙ there) in
+        let same : head ≡ lines = same_Some _ _ (sym here ∙ ap (λ (l : List ℕ). head_lines (lines_of (l ++ []))) printed ∙ there) in
         ap request_of_lines same ∙ request_read tree r.0
 
     -- the text within the limits is a request, or none

@@ -1,20 +1,20 @@
 -- The path that a head tells is bytes of a field.
-use Rattle.std.proofs.Common.{◌≡◌, ℕ, zero, suc, ◌<◌, Bool, true, All, List, [], ◌∷◌, ◌++◌, codes, get_or, inl, inr, length, refl, sym, subst, ◌∙◌, arith, zero-add}
+use Rattle.std.proofs.Common.{◌≡◌, ℕ, ◌<◌, Bool, true, All, List, [], ◌∷◌, ◌++◌, codes, inl, inr, refl, sym, subst, arith}
 use Rattle.httparse.specs.Grammar.{AllPass, is_value_byte}
 use Rattle.std.specs.List.{list_all, range_with_len}
 use Rattle.std.specs.Prelude.{IsTrue}
-use Rattle.std.proofs.lemmas.Bool.{and_parts}
 use Rattle.std.proofs.lemmas.List.Elements.{All-append, All-cons, All-head, All-nil, All-tail, All-weaker}
-use Rattle.std.proofs.lemmas.List.FromFn.{get_or-range_with_len, length-range_with_len}
+use Rattle.std.proofs.lemmas.List.Sums.{AllPass-from_list_all}
 use Rattle.tg_base32.specs.Base32.{IsLetter}
+use Rattle.tg_bytes.specs.Lists.{AreBytes}
 use Rattle.tg_cid.specs.Cid.{CidParts}
 use Rattle.tg_cid.specs.Computed.{cid_text}
 use Rattle.tg_cid.specs.Spelling.{CidBytes, CidText}
+use Rattle.tg_escape.specs.ByteTests.{by_table}
 use Rattle.tg_model.specs.Queries.{QueryParts}
 use Rattle.tg_model.specs.Texts.{escaped, escaped_byte}
 use Rattle.tg_query.specs.Requests.{path_text}
 use Rattle.tg_reply.specs.Heads.{asked_path}
-use Rattle.tg_reply.proofs.HeadLines.{all_from}
 
 abbrev Passes : ℕ → Type 0
 Passes b = IsTrue (is_value_byte b)
@@ -27,25 +27,14 @@ escape_passes b = list_all is_value_byte (escaped_byte b)
 all_escapes : list_all escape_passes (range_with_len 0 256) ≡ true
 all_escapes = refl
 
-test_at : (xs : List ℕ) → list_all escape_passes xs ≡ true → (i : ℕ) → i < length xs → escape_passes (get_or xs i 0) ≡ true
-test_at [] t i inside = absurd (omega arith)
-test_at (x ∷ xs) t zero inside = (and_parts (escape_passes x) (list_all escape_passes xs) t).0
-test_at (x ∷ xs) t (suc i) inside = test_at xs (and_parts (escape_passes x) (list_all escape_passes xs) t).1 i (omega arith)
-
 one_escape : (b : ℕ) → b < 256 → AllPass is_value_byte (escaped_byte b)
-one_escape b h =
-    all_from is_value_byte (escaped_byte b)
-    (subst (λ (n : ℕ). escape_passes n ≡ true) (get_or-range_with_len 0 256 b 0 h ∙ zero-add b)
-    (test_at (range_with_len 0 256) all_escapes b (omega (arith, length-range_with_len 0 256, h))))
+one_escape b h = AllPass-from_list_all is_value_byte (escaped_byte b) (by_table escape_passes 256 all_escapes b h)
 
-escaped_passes : (name : List ℕ) → All (λ (b : ℕ). b < 256) name → AllPass is_value_byte (escaped name)
+escaped_passes : (name : List ℕ) → AreBytes name → AllPass is_value_byte (escaped name)
 escaped_passes [] are = All-nil Passes
 escaped_passes (b ∷ name) are =
     All-append Passes (escaped_byte b) (escaped name) (one_escape b (All-head (λ (b : ℕ). b < 256) b name are))
     (escaped_passes name (All-tail (λ (b : ℕ). b < 256) b name are))
-
-abbrev AreBytes : List ℕ → Type 0
-AreBytes name = All (λ (b : ℕ). b < 256) name
 
 names_pass : (path : List (List ℕ)) → All (λ (name : List ℕ). AreBytes name) path → AllPass is_value_byte (path_text path)
 names_pass [] are = All-nil Passes
@@ -68,5 +57,5 @@ root_passes root text h =
 pub path_passes : ((cid : CidParts) (bytes : List ℕ) → CidBytes cid bytes → CidText (record cid { version = 1 }) (cid_text cid))
     → (q : QueryParts) (name : List ℕ) → CidBytes q.root name → All (λ (name : List ℕ). AreBytes name) q.path → AllPass is_value_byte (asked_path q)
 path_passes texts q name h are =
-    All-append Passes (codes "/ipfs/") (cid_text q.root ++ path_text q.path) (all_from is_value_byte (codes "/ipfs/") refl)
+    All-append Passes (codes "/ipfs/") (cid_text q.root ++ path_text q.path) (AllPass-from_list_all is_value_byte (codes "/ipfs/") refl)
     (All-append Passes (cid_text q.root) (path_text q.path) (root_passes (record q.root { version = 1 }) (cid_text q.root) (texts q.root name h)) (names_pass q.path are))

@@ -7,8 +7,9 @@ use Rattle.std.specs.Char.{digit_value}
 use Rattle.std.specs.Prelude.{IsTrue, decimal}
 use Rattle.std.specs.Str.Parse.{AllDigits, digits_value}
 use Rattle.std.proofs.lemmas.Bool.{ne_eqb}
-use Rattle.std.proofs.lemmas.Fmt.{decimal_is_IsNumeral, length-decimal-le}
-use Rattle.std.proofs.lemmas.List.Elements.{All-cons, All-head, All-nil}
+use Rattle.std.proofs.lemmas.List.Elements.{All-head}
+use Rattle.tg_bytes.specs.Lists.{same_only}
+use Rattle.tg_digits.specs.DigitLaws.{decimal_digits, digits_all}
 use Rattle.tg_digits.specs.Digits.{IsDigits}
 use Rattle.tg_http.specs.Fields.{coding_of, first, values}
 use Rattle.tg_http.specs.Framing.{HasFraming, IsFramingOf}
@@ -25,12 +26,9 @@ use Rattle.tg_reply.proofs.HeadLines.{Good, is_reply, tree_field, tree_of}
 some_none : {A : Type 0} (x : A) (xs : List A) → x ∷ xs ≡ [] → ⊥
 some_none x xs e = cc
 
-same_value : (v w : List ℕ) → v ∷ [] ≡ w ∷ [] → v ≡ w
-same_value v w e = cc
-
 has_one : (fields : List (List ℕ × List ℕ)) (wanted found : Framing) → HasFraming fields wanted → HasFraming fields found → found ≡ wanted
 has_one fields (framings.Length n) (framings.Length m) h k =
-    let same = same_value h.1 k.1 (sym h.2 ∙ k.2) in
+    let same = same_only h.1 k.1 (sym h.2 ∙ k.2) in
     ap framings.Length (k.3.number_is ∙ ap (digits_value 10) (sym same) ∙ sym h.3.number_is)
 has_one fields (framings.Length n) framings.Chunked h k = absurd (some_none h.1 [] (sym h.2 ∙ k.0))
 has_one fields (framings.Length n) framings.UntilClose h k = absurd (some_none h.1 [] (sym h.2 ∙ k.1))
@@ -74,28 +72,17 @@ digit_inside b h =
     let tab : (b ≡ 9) → ⊥ = λ e. omega (arith, h, ap digit_value e) in
     rw (ne_eqb b 32 space, ne_eqb b 9 tab) refl
 
-digits_inside : (text : List ℕ) → AllDigits 10 text → AllPass is_inside text
-digits_inside [] all = All-nil (λ (b : ℕ). IsTrue (is_inside b))
-digits_inside (b ∷ text) all = All-cons (λ (b : ℕ). IsTrue (is_inside b)) b text (digit_inside b all.0) (digits_inside text all.1)
-
 digit_value_byte : (b : ℕ) → digit_value b < 10 → IsTrue (is_value_byte b)
 digit_value_byte b h = grind (arith, h)
 
 pub digits_value_bytes : (text : List ℕ) → AllDigits 10 text → AllPass is_value_byte text
-digits_value_bytes [] all = All-nil (λ (b : ℕ). IsTrue (is_value_byte b))
-digits_value_bytes (b ∷ text) all = All-cons (λ (b : ℕ). IsTrue (is_value_byte b)) b text (digit_value_byte b all.0) (digits_value_bytes text all.1)
+digits_value_bytes = digits_all (λ (b : ℕ). IsTrue (is_value_byte b)) digit_value_byte
 
-pub wide : (n : ℕ) → n < 2 ^ 63 → n < 2 ^ 64
-wide n h = omega arith
-
-pub decimal_shown : (n : ℕ) → n < 2 ^ 63 → trim_ows (32 ∷ decimal n) ≡ decimal n
-decimal_shown n h = shown_inside (decimal n) (digits_inside (decimal n) (decimal_is_IsNumeral n (wide n h)).0.1)
+decimal_shown : (n : ℕ) → n < 2 ^ 63 → trim_ows (32 ∷ decimal n) ≡ decimal n
+decimal_shown n h = shown_inside (decimal n) (digits_all (λ (b : ℕ). IsTrue (is_inside b)) digit_inside (decimal n) (decimal_digits n h).digits.1)
 
 pub length_value : (n : ℕ) → n < 2 ^ 63 → IsDigits (trim_ows (32 ∷ decimal n)) n
-length_value n h =
-    let told = decimal_is_IsNumeral n (wide n h) in
-    subst (λ (v : List ℕ). IsDigits v n) (sym (decimal_shown n h))
-    (record { digits = told.0; few = length-decimal-le 19 n (omega arith) (omega arith) (wide n h); number_is = sym told.1 })
+length_value n h = subst (λ (v : List ℕ). IsDigits v n) (sym (decimal_shown n h)) (decimal_digits n h)
 
 -- ---- any head of such fields
 

@@ -4,8 +4,8 @@ use Rattle.std.specs.Prelude.{◌||◌}
 use Rattle.std.proofs.lemmas.Bool.{cond-false}
 use Rattle.httparse.specs.Grammar.{AllPass, is_value_byte}
 use Rattle.tg_body.specs.Bodies.{BodyText}
+use Rattle.tg_bytes.specs.Lists.{joined}
 use Rattle.tg_cid.specs.Spelling.{CidBytes}
-use Rattle.tg_http.specs.HeadText.{joined}
 use Rattle.tg_http.specs.declared.framing.Framing.TheVariants.{Chunked, Length, UntilClose}
 use Rattle.tg_http.specs.declared.request.RequestHead.{RequestHead}
 use Rattle.tg_model.specs.Queries.{QueryParts}

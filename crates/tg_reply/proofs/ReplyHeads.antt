@@ -4,9 +4,11 @@ use Rattle.httparse.specs.Ascii.{crlf_bytes}
 use Rattle.httparse.specs.Grammar.{AllPass, is_token_byte, is_value_byte, trim_ows}
 use Rattle.std.specs.List.{flat_map, list_all}
 use Rattle.std.specs.Prelude.{decimal}
-use Rattle.std.proofs.lemmas.Fmt.{decimal_is_IsNumeral, length-decimal-le}
 use Rattle.std.proofs.lemmas.List.{length-append}
-use Rattle.std.proofs.lemmas.List.Elements.{All-cons, All-nil}
+use Rattle.std.proofs.lemmas.List.Elements.{All-append, All-cons, All-nil}
+use Rattle.std.proofs.lemmas.List.Sums.{AllPass-from_list_all}
+use Rattle.tg_digits.specs.DigitLaws.{decimal_digits}
+use Rattle.tg_http.specs.GrammarLines.{token}
 use Rattle.tg_http.specs.Fields.{values}
 use Rattle.tg_http.specs.Framing.{HasFraming}
 use Rattle.tg_http.specs.declared.framing.Framing.TheVariants as framings
@@ -21,16 +23,16 @@ use Rattle.tg_reply.specs.declared.refusal.Refusal.{Refusal}
 use Rattle.tg_reply.specs.declared.refusal.Refusal.TheVariants as refusals
 use Rattle.tg_reply.specs.declared.status.Status.{Status}
 use Rattle.tg_reply.specs.declared.status.Status.TheVariants as statuses
-use Rattle.tg_reply.proofs.HeadLines.{Good, all_from}
-use Rattle.tg_reply.proofs.ReadBack.{digits_value_bytes, length_value, reads_back, told_fields, wide}
+use Rattle.tg_reply.proofs.HeadLines.{Good, digits_pass}
+use Rattle.tg_reply.proofs.ReadBack.{digits_value_bytes, length_value, reads_back, told_fields}
 
 -- ---- the fields
 
 plain : (name value : List ℕ) → 0 < length name → list_all is_token_byte name ≡ true → AllPass is_value_byte value → Good (name, value)
-plain name value some token pass = record { name = (some, all_from is_token_byte name token); value = pass }
+plain name value some tests pass = record { name = token name some tests; value = pass }
 
 fixed : (name value : List ℕ) → 0 < length name → list_all is_token_byte name ≡ true → list_all is_value_byte value ≡ true → Good (name, value)
-fixed name value some token pass = plain name value some token (all_from is_value_byte value pass)
+fixed name value some tests pass = plain name value some tests (AllPass-from_list_all is_value_byte value pass)
 
 type_good : (kind : List ℕ) → AllPass is_value_byte kind → Good (content_type kind)
 unfolding is_token_byte
@@ -54,7 +56,7 @@ path_good path pass = plain (codes "X-Ipfs-Path") path (omega arith) refl pass
 
 length_good : (n : ℕ) → n < 2 ^ 63 → Good (content_length n)
 unfolding is_token_byte
-length_good n h = plain (codes "Content-Length") (decimal n) (omega arith) refl (digits_value_bytes (decimal n) (decimal_is_IsNumeral n (wide n h)).0.1)
+length_good n h = plain (codes "Content-Length") (decimal n) (omega arith) refl (digits_value_bytes (decimal n) (decimal_digits n h).digits.1)
 
 chunked_good : Good chunked_coding
 unfolding is_token_byte
@@ -78,17 +80,20 @@ closing_good false = All-nil Good
 abbrev text_with : List NamedValue → ℕ → Bool → List NamedValue
 text_with between n closes = content_type text_type ∷ no_sniffing ∷ (between ++ content_length n ∷ if_closing closes)
 
-text_good : (n : ℕ) (closes : Bool) → n < 2 ^ 63 → All Good (text_with [] n closes)
-text_good n closes h =
-    All-cons Good (content_type text_type) (no_sniffing ∷ content_length n ∷ if_closing closes) (type_good text_type (all_from is_value_byte text_type refl))
-    (All-cons Good no_sniffing (content_length n ∷ if_closing closes) no_sniffing_good
-    (All-cons Good (content_length n) (if_closing closes) (length_good n h) (closing_good closes)))
+-- with the methods that are allowed, or without
+abbrev between : Bool → List NamedValue
+between true = allow ∷ []
+between false = []
 
-allow_text_good : (n : ℕ) (closes : Bool) → n < 2 ^ 63 → All Good (text_with (allow ∷ []) n closes)
-allow_text_good n closes h =
-    All-cons Good (content_type text_type) (no_sniffing ∷ allow ∷ content_length n ∷ if_closing closes) (type_good text_type (all_from is_value_byte text_type refl))
-    (All-cons Good no_sniffing (allow ∷ content_length n ∷ if_closing closes) no_sniffing_good
-    (All-cons Good allow (content_length n ∷ if_closing closes) allow_good
+between_good : (named : Bool) → All Good (between named)
+between_good true = All-cons Good allow [] allow_good (All-nil Good)
+between_good false = All-nil Good
+
+text_good : (named : Bool) (n : ℕ) (closes : Bool) → n < 2 ^ 63 → All Good (text_with (between named) n closes)
+text_good named n closes h =
+    All-cons Good (content_type text_type) (no_sniffing ∷ (between named ++ content_length n ∷ if_closing closes)) (type_good text_type (AllPass-from_list_all is_value_byte text_type refl))
+    (All-cons Good no_sniffing (between named ++ content_length n ∷ if_closing closes) no_sniffing_good
+    (All-append Good (between named) (content_length n ∷ if_closing closes) (between_good named)
     (All-cons Good (content_length n) (if_closing closes) (length_good n h) (closing_good closes))))
 
 phrase_small : (status : Status) → length (phrase_of status) ≤ 31
@@ -100,88 +105,73 @@ phrase_small statuses.NotAcceptable = omega arith
 phrase_small statuses.FieldsTooLarge = omega arith
 phrase_small statuses.ServerError = omega arith
 
-digits_three : (status : Status) → length (digits_of status) ≡ 3
-digits_three statuses.Ok = refl
-digits_three statuses.BadRequest = refl
-digits_three statuses.NotFound = refl
-digits_three statuses.MethodNotAllowed = refl
-digits_three statuses.NotAcceptable = refl
-digits_three statuses.FieldsTooLarge = refl
-digits_three statuses.ServerError = refl
-
 head_length : (status : Status) (fields : List NamedValue) → length (head_text status fields) ≤ 48 + length (flat_map field_line fields)
 head_length status fields =
     let lines = flat_map field_line fields in
     omega (
       arith,
-      digits_three status,
+      (digits_pass status).0,
       phrase_small status,
       length-append (digits_of status) (32 ∷ (phrase_of status ++ (crlf_bytes ++ (lines ++ crlf_bytes)))),
       length-append (phrase_of status) (crlf_bytes ++ (lines ++ crlf_bytes)),
       length-append lines crlf_bytes,
     )
 
-decimal_short : (n : ℕ) → n < 2 ^ 63 → length (decimal n) ≤ 19
-decimal_short n h = length-decimal-le 19 n (omega arith) (omega arith) (wide n h)
+text_short : (named : Bool) (n : ℕ) (closes : Bool) → n < 2 ^ 63 → length (flat_map field_line (text_with (between named) n closes)) ≤ 1000
+text_short named n closes h =
+    let few = (decimal_digits n h).few in
+    by_fields named closes few
+  where
+    line : (rest : List ℕ) → length ((decimal n ++ crlf_bytes) ++ rest) ≡ length (decimal n) + (2 + length rest)
+    line rest = omega (arith, length-append (decimal n ++ crlf_bytes) rest, length-append (decimal n) crlf_bytes)
 
-text_short : (n : ℕ) (closes : Bool) → n < 2 ^ 63 → length (flat_map field_line (text_with [] n closes)) ≤ 1000
-text_short n true h =
-    omega (arith, decimal_short n h, length-append (decimal n ++ crlf_bytes) (flat_map field_line (close ∷ [])), length-append (decimal n) crlf_bytes)
-text_short n false h =
-    omega (arith, decimal_short n h, length-append (decimal n ++ crlf_bytes) [], length-append (decimal n) crlf_bytes)
-
-allow_text_short : (n : ℕ) (closes : Bool) → n < 2 ^ 63 → length (flat_map field_line (text_with (allow ∷ []) n closes)) ≤ 1000
-allow_text_short n true h =
-    omega (arith, decimal_short n h, length-append (decimal n ++ crlf_bytes) (flat_map field_line (close ∷ [])), length-append (decimal n) crlf_bytes)
-allow_text_short n false h =
-    omega (arith, decimal_short n h, length-append (decimal n ++ crlf_bytes) [], length-append (decimal n) crlf_bytes)
+    by_fields : (named closes : Bool) → length (decimal n) ≤ 19 → length (flat_map field_line (text_with (between named) n closes)) ≤ 1000
+    by_fields true true few = omega (arith, few, line (flat_map field_line (close ∷ [])))
+    by_fields true false few = omega (arith, few, line [])
+    by_fields false true few = omega (arith, few, line (flat_map field_line (close ∷ [])))
+    by_fields false false few = omega (arith, few, line [])
 
 text_kind : trim_ows (32 ∷ text_type) ≡ text_type
 unfolding trim_ows
 text_kind = refl
 
-text_framing : (n : ℕ) (closes : Bool) → n < 2 ^ 63 → HasFraming (told_fields (text_with [] n closes)) (framings.Length n)
-text_framing n true h = (refl, trim_ows (32 ∷ decimal n), refl, length_value n h, h)
-text_framing n false h = (refl, trim_ows (32 ∷ decimal n), refl, length_value n h, h)
+text_framing : (named : Bool) (n : ℕ) (closes : Bool) → n < 2 ^ 63 → HasFraming (told_fields (text_with (between named) n closes)) (framings.Length n)
+text_framing true n true h = (refl, trim_ows (32 ∷ decimal n), refl, length_value n h, h)
+text_framing true n false h = (refl, trim_ows (32 ∷ decimal n), refl, length_value n h, h)
+text_framing false n true h = (refl, trim_ows (32 ∷ decimal n), refl, length_value n h, h)
+text_framing false n false h = (refl, trim_ows (32 ∷ decimal n), refl, length_value n h, h)
 
-allow_text_framing : (n : ℕ) (closes : Bool) → n < 2 ^ 63 → HasFraming (told_fields (text_with (allow ∷ []) n closes)) (framings.Length n)
-allow_text_framing n true h = (refl, trim_ows (32 ∷ decimal n), refl, length_value n h, h)
-allow_text_framing n false h = (refl, trim_ows (32 ∷ decimal n), refl, length_value n h, h)
-
-text_coding : (n : ℕ) (closes : Bool) → values (codes "content-encoding") (told_fields (text_with [] n closes)) ≡ []
-text_coding n true = refl
-text_coding n false = refl
-
-allow_text_coding : (n : ℕ) (closes : Bool) → values (codes "content-encoding") (told_fields (text_with (allow ∷ []) n closes)) ≡ []
-allow_text_coding n true = refl
-allow_text_coding n false = refl
+text_coding : (named : Bool) (n : ℕ) (closes : Bool) → values (codes "content-encoding") (told_fields (text_with (between named) n closes)) ≡ []
+text_coding true n true = refl
+text_coding true n false = refl
+text_coding false n true = refl
+text_coding false n false = refl
 
 few_closing : (closes : Bool) → length (if_closing closes) ≤ 1
 few_closing true = omega arith
 few_closing false = omega arith
 
-text_back : (status : Status) (n : ℕ) (closes : Bool) → n < 2 ^ 63 → ReadsBack (head_text status (text_with [] n closes)) (number_of status) text_type (framings.Length n)
-text_back status n closes h =
-    let fields = text_with [] n closes in
-    reads_back status fields text_type (framings.Length n) (text_good n closes h) (omega (arith, few_closing closes))
-    (omega (arith, head_length status fields, text_short n closes h)) (ap Some text_kind) (text_coding n closes) (text_framing n closes h)
+few_between : (named : Bool) → length (between named) ≤ 1
+few_between true = omega arith
+few_between false = omega arith
 
-allow_text_back : (status : Status) (n : ℕ) (closes : Bool) → n < 2 ^ 63
-    → ReadsBack (head_text status (text_with (allow ∷ []) n closes)) (number_of status) text_type (framings.Length n)
-allow_text_back status n closes h =
-    let fields = text_with (allow ∷ []) n closes in
-    reads_back status fields text_type (framings.Length n) (allow_text_good n closes h) (omega (arith, few_closing closes))
-    (omega (arith, head_length status fields, allow_text_short n closes h)) (ap Some text_kind) (allow_text_coding n closes) (allow_text_framing n closes h)
+text_back : (named : Bool) (status : Status) (n : ℕ) (closes : Bool) → n < 2 ^ 63
+    → ReadsBack (head_text status (text_with (between named) n closes)) (number_of status) text_type (framings.Length n)
+text_back named status n closes h =
+    let fields = text_with (between named) n closes in
+    reads_back status fields text_type (framings.Length n) (text_good named n closes h)
+    (omega (arith, few_closing closes, few_between named, length-append (between named) (content_length n ∷ if_closing closes)))
+    (omega (arith, head_length status fields, text_short named n closes h)) (ap Some text_kind) (text_coding named n closes) (text_framing named n closes h)
 
 any_text_back : (status : Status) (n : ℕ) (closes : Bool) → n < 2 ^ 63
     → ReadsBack (head_text status (text_with (if_method status) n closes)) (number_of status) text_type (framings.Length n)
-any_text_back statuses.Ok = text_back statuses.Ok
-any_text_back statuses.BadRequest = text_back statuses.BadRequest
-any_text_back statuses.NotFound = text_back statuses.NotFound
-any_text_back statuses.MethodNotAllowed = allow_text_back statuses.MethodNotAllowed
-any_text_back statuses.NotAcceptable = text_back statuses.NotAcceptable
-any_text_back statuses.FieldsTooLarge = text_back statuses.FieldsTooLarge
-any_text_back statuses.ServerError = text_back statuses.ServerError
+any_text_back statuses.Ok = text_back false statuses.Ok
+any_text_back statuses.BadRequest = text_back false statuses.BadRequest
+any_text_back statuses.NotFound = text_back false statuses.NotFound
+any_text_back statuses.MethodNotAllowed = text_back true statuses.MethodNotAllowed
+any_text_back statuses.NotAcceptable = text_back false statuses.NotAcceptable
+any_text_back statuses.FieldsTooLarge = text_back false statuses.FieldsTooLarge
+any_text_back statuses.ServerError = text_back false statuses.ServerError
 
 query_word_short : (fault : QueryFault) → length (query_word fault) ≤ 20
 query_word_short faults.BadPath = omega arith
@@ -248,7 +238,7 @@ pub raw_back : RawReadsBack
 raw_back path size closes pass small fits =
     let rest = content_length size ∷ if_closing closes in
     reads_back statuses.Ok (raw_fields path size closes) raw_type (framings.Length size)
-    (data_good raw_type path rest (all_from is_value_byte raw_type refl) pass
+    (data_good raw_type path rest (AllPass-from_list_all is_value_byte raw_type refl) pass
     (All-cons Good (content_length size) (if_closing closes) (length_good size small) (closing_good closes)))
     (omega (arith, few_closing closes)) fits (ap Some raw_kind) (raw_coding path size closes) (raw_framing path size closes small)
 
@@ -271,7 +261,7 @@ plain_coding_none dups path false = refl
 
 pub car_back : CarReadsBack
 car_back dups path closes pass =
-    let kind = all_from is_value_byte (car_with_dups dups) (car_passes dups) in (
+    let kind = AllPass-from_list_all is_value_byte (car_with_dups dups) (car_passes dups) in (
       λ fits. reads_back statuses.Ok (car_fields dups path 1 closes) (car_with_dups dups) framings.Chunked
           (data_good (car_with_dups dups) path (chunked_coding ∷ if_closing closes) kind pass (All-cons Good chunked_coding (if_closing closes) chunked_good (closing_good closes)))
           (omega (arith, few_closing closes)) fits (ap Some (car_kind dups)) (chunked_coding_none dups path closes) (chunked_framing dups path closes),

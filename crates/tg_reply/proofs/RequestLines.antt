@@ -1,13 +1,13 @@
 -- The lines of a request of the grammar, and that it is read from them.
-use Rattle.std.proofs.Common.{◌≡◌, ◌≢◌, ℕ, ◌+◌, ◌<◌, Bool, true, false, All, List, [], ◌∷◌, ◌++◌, codes, length, map, refl, sym, ap, ap₂, subst, ◌∙◌, arith, append_assoc}
-use Rattle.httparse.specs.Grammar.{Field, IsField, IsRequestHead, LineEnd, RequestHead as RequestTree, crlf, is_token_byte, is_uri_byte, is_value_byte, lf, print_blank, print_end, print_field, print_request, print_section, print_version}
-use Rattle.httparse.proofs.GrammarLemmas.{cons-append}
-use Rattle.std.specs.List.{after_first, before_first, flat_map, position_or_len}
+use Rattle.std.proofs.Common.{◌≡◌, ℕ, ◌+◌, Bool, true, false, All, List, [], ◌∷◌, ◌++◌, length, map, refl, sym, ap, ap₂, subst, ◌∙◌, arith, append_assoc}
+use Rattle.httparse.specs.Grammar.{Field, IsField, IsRequestHead, LineEnd, RequestHead as RequestTree, crlf, is_token_byte, is_uri_byte, is_value_byte, lf, print_end, print_request, print_version}
+use Rattle.std.specs.List.{after_first, before_first, position_or_len}
 use Rattle.std.specs.Prelude.{IsTrue, drop, ◌==◌, ◌||◌}
 use Rattle.std.proofs.lemmas.Bool.{ne_eqb}
 use Rattle.std.proofs.lemmas.List.{drop_at, length-append, take_at}
-use Rattle.std.proofs.lemmas.List.Elements.{All-append, All-cons, All-from_recursion, All-head, All-nil, All-tail, All-weaker}
-use Rattle.tg_http.specs.HeadText.{HasNoFeed, IsFullLine, IsLine, joined}
+use Rattle.std.proofs.lemmas.List.Elements.{All-head, All-tail, All-weaker}
+use Rattle.tg_http.specs.GrammarLines.{IsPlain, field_plain, field_print, field_text, fields_full, plain_value, request_lines, start_full, start_plain, start_print, start_text}
+use Rattle.tg_http.specs.HeadText.{IsFullLine}
 use Rattle.tg_reply.specs.FirstHead.{HeadLines, end_of_line, field_of_line, minor_of, request_of_lines, text_of_lines}
 
 -- ---- up to the first byte that passes
@@ -31,84 +31,14 @@ module _ (test : ℕ → Bool) where
       rw (position_of front b rest none t)
       (ap (λ (l : List ℕ). drop (length front + 1) l) (sym (append_assoc front (b ∷ []) rest)) ∙ drop_at (front ++ b ∷ []) rest (length front + 1) size)
 
--- ---- bytes of a line before its end
+-- ---- a line end is read as it was printed
 
--- a byte that is neither LF nor CR
-abbrev IsPlain : ℕ → Type 0
-IsPlain b = (b ≢ 10) × (b ≢ 13)
-
-plain_token : (b : ℕ) → IsTrue (is_token_byte b) → IsPlain b
-unfolding is_token_byte
-plain_token b t = (λ e. feed (subst (λ (n : ℕ). is_token_byte n ≡ true) e t), λ e. return (subst (λ (n : ℕ). is_token_byte n ≡ true) e t))
-  where
-    feed : false ≡ true → ⊥
-    feed e = cc
-
-    return : false ≡ true → ⊥
-    return e = cc
-
-plain_uri : (b : ℕ) → IsTrue (is_uri_byte b) → IsPlain b
-plain_uri b t = (λ e. feed (subst (λ (n : ℕ). is_uri_byte n ≡ true) e t), λ e. return (subst (λ (n : ℕ). is_uri_byte n ≡ true) e t))
-  where
-    feed : false ≡ true → ⊥
-    feed e = cc
-
-    return : false ≡ true → ⊥
-    return e = cc
-
-plain_value : (b : ℕ) → IsTrue (is_value_byte b) → IsPlain b
-plain_value b t = (λ e. feed (subst (λ (n : ℕ). is_value_byte n ≡ true) e t), λ e. return (subst (λ (n : ℕ). is_value_byte n ≡ true) e t))
-  where
-    feed : false ≡ true → ⊥
-    feed e = cc
-
-    return : false ≡ true → ⊥
-    return e = cc
-
-number : (b : ℕ) → 13 < b → IsPlain b
-number b h = (λ e. omega (arith, e, h), λ e. omega (arith, e, h))
-
--- plain bytes and a line end are a line
-plain_line : (bytes : List ℕ) (end : LineEnd) → 0 < length bytes → All IsPlain bytes → IsFullLine (bytes ++ print_end end)
-plain_line [] end some plain = absurd (omega (arith, some))
-plain_line (b ∷ bytes) end some plain = record { line_is = line end; not_empty = λ e. by_end e.0 e.1 }
-  where
-    none : HasNoFeed (b ∷ bytes)
-    none = All-weaker IsPlain (λ (b : ℕ). b ≢ 10) (λ b h. h.0) (b ∷ bytes) plain
-
-    line : (end : LineEnd) → IsLine ((b ∷ bytes) ++ print_end end)
-    line crlf = record {
-      front = (b ∷ bytes) ++ 13 ∷ [];
-      inside = All-append (λ (b : ℕ). b ≢ 10) (b ∷ bytes) (13 ∷ []) none (All-cons (λ (b : ℕ). b ≢ 10) 13 [] (λ e. omega (arith, e)) (All-nil (λ (b : ℕ). b ≢ 10)));
-      whole = sym (append_assoc (b ∷ bytes) (13 ∷ []) (10 ∷ []));
-    }
-    line lf = record { front = b ∷ bytes; inside = none; whole = refl }
-
-    by_end : (other : LineEnd) → (b ∷ bytes) ++ print_end end ≡ print_end other → ⊥
-    by_end crlf same = (All-head IsPlain b bytes plain).1 cc
-    by_end lf same = (All-head IsPlain b bytes plain).0 cc
-
--- and end as they were printed
 end_read : (bytes : List ℕ) (end : LineEnd) → All IsPlain bytes → end_of_line (bytes ++ print_end end) ≡ end
 end_read [] crlf plain = refl
 end_read [] lf plain = refl
 end_read (b ∷ bytes) end plain = rw (ne_eqb b 13 (All-head IsPlain b bytes plain).1) (end_read bytes end (All-tail IsPlain b bytes plain))
 
 -- ---- a field
-
-abbrev field_text : Field → List ℕ
-field_text f = f.name ++ 58 ∷ f.raw
-
-field_plain : (f : Field) → IsField f → All IsPlain (field_text f)
-field_plain f i =
-    All-append IsPlain f.name (58 ∷ f.raw) (All-weaker (λ (b : ℕ). IsTrue (is_token_byte b)) IsPlain plain_token f.name i.name.1)
-    (All-cons IsPlain 58 f.raw (number 58 (omega arith)) (All-weaker (λ (b : ℕ). IsTrue (is_value_byte b)) IsPlain plain_value f.raw i.raw))
-
-abbrev field_print : Field → List ℕ
-field_print f = field_text f ++ print_end f.end
-
-field_full : (f : Field) → IsField f → IsFullLine (field_print f)
-field_full f i = plain_line (field_text f) f.end (omega (arith, i.name.0, length-append f.name (58 ∷ f.raw))) (field_plain f i)
 
 -- behind the colon the value goes up to the line end
 raw_read : (raw : List ℕ) (end : LineEnd) → All IsPlain raw → before_first (λ b. b == 13 || b == 10) (raw ++ print_end end) ≡ raw
@@ -149,47 +79,10 @@ fields_read [] all = refl
 fields_read (f ∷ fields) all =
     ap₂ (λ (g : Field) (more : List Field). g ∷ more) (field_read f (All-head IsField f fields all)) (fields_read fields (All-tail IsField f fields all))
 
-fields_full : (fields : List Field) → All IsField fields → All IsFullLine (map field_print fields)
-fields_full [] all = All-nil IsFullLine
-fields_full (f ∷ fields) all =
-    All-cons IsFullLine (field_print f) (map field_print fields) (field_full f (All-head IsField f fields all)) (fields_full fields (All-tail IsField f fields all))
-
-fields_joined : (fields : List Field) → joined (map field_print fields) ≡ flat_map print_field fields
-fields_joined [] = refl
-fields_joined (f ∷ fields) = ap (λ (l : List ℕ). print_field f ++ l) (fields_joined fields)
-
 -- ---- the start line
 
 abbrev version_print : RequestTree → List ℕ
 version_print tree = print_version tree.minor ++ print_end tree.line_end
-
-abbrev start_text : RequestTree → List ℕ
-start_text tree = tree.method ++ 32 ∷ (tree.target ++ 32 ∷ print_version tree.minor)
-
-abbrev start_print : RequestTree → List ℕ
-start_print tree = start_text tree ++ print_end tree.line_end
-
-version_plain : (minor : ℕ) → All IsPlain (print_version minor)
-version_plain minor = All-append IsPlain (codes "HTTP/1.") ((48 + minor) ∷ []) name (All-cons IsPlain (48 + minor) [] (number (48 + minor) (omega arith)) (All-nil IsPlain))
-  where
-    name : All IsPlain (codes "HTTP/1.")
-    name =
-        All-from_recursion IsPlain (codes "HTTP/1.")
-        (number 72 (omega arith), (number 84 (omega arith), (number 84 (omega arith), (number 80 (omega arith), (number 47 (omega arith), (number 49 (omega arith), (number 46 (omega arith), tt)))))))
-
-start_plain : (tree : RequestTree) → IsRequestHead tree → All IsPlain (start_text tree)
-start_plain tree i =
-    All-append IsPlain tree.method (32 ∷ (tree.target ++ 32 ∷ print_version tree.minor))
-    (All-weaker (λ (b : ℕ). IsTrue (is_token_byte b)) IsPlain plain_token tree.method i.method.1)
-    (All-cons IsPlain 32 (tree.target ++ 32 ∷ print_version tree.minor) (number 32 (omega arith))
-    (All-append IsPlain tree.target (32 ∷ print_version tree.minor)
-    (All-weaker (λ (b : ℕ). IsTrue (is_uri_byte b)) IsPlain plain_uri tree.target i.target.1)
-    (All-cons IsPlain 32 (print_version tree.minor) (number 32 (omega arith)) (version_plain tree.minor))))
-
-start_full : (tree : RequestTree) → IsRequestHead tree → IsFullLine (start_print tree)
-start_full tree i =
-    plain_line (start_text tree) tree.line_end
-    (omega (arith, i.method.0, length-append tree.method (32 ∷ (tree.target ++ 32 ∷ print_version tree.minor)))) (start_plain tree i)
 
 no_space_token : (b : ℕ) → IsTrue (is_token_byte b) → (b == 32) ≡ false
 unfolding is_token_byte
@@ -252,13 +145,8 @@ unfolding tree_lines
 lines_fields tree i = fields_full tree.fields i.fields
 
 pub lines_text : (tree : RequestTree) → text_of_lines (tree_lines tree) ≡ print_request tree
-unfolding tree_lines print_request
-lines_text tree =
-    rw (fields_joined tree.fields)
-    (spread (print_blank tree.blank) tree.method tree.target (print_version tree.minor) (print_end tree.line_end) (print_section tree.fields tree.last))
-  where
-    spread : (b m t v e s : List ℕ) → b ++ (((m ++ 32 ∷ (t ++ 32 ∷ v)) ++ e) ++ s) ≡ b ++ m ++ 32 ∷ t ++ 32 ∷ v ++ e ++ s
-    spread b m t v e s = simp (append_assoc, cons-append)
+unfolding tree_lines
+lines_text tree = sym (request_lines tree)
 
 -- a request is read from its lines
 pub request_read : (tree : RequestTree) → IsRequestHead tree → request_of_lines (tree_lines tree) ≡ tree

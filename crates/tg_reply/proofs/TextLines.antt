@@ -6,7 +6,8 @@ use Rattle.std.proofs.lemmas.Bool.{eqb-true, ne_eqb}
 use Rattle.std.proofs.lemmas.Bool.Decides.{not_from_Decides}
 use Rattle.std.proofs.lemmas.List.Elements.{All-cons, All-head, All-nil, All-tail}
 use Rattle.std.proofs.lemmas.Slice.Eq.{bytes_eq-Decides}
-use Rattle.tg_http.specs.HeadText.{HasNoFeed, HeadText, IsEmptyLine, IsFullLine, IsLine, joined}
+use Rattle.tg_bytes.specs.Lists.{joined}
+use Rattle.tg_http.specs.HeadText.{HasNoFeed, HeadText, IsEmptyLine, IsFullLine, IsLine}
 use Rattle.tg_reply.specs.FirstHead.{HeadLines, SectionLines, add_blank, add_field, empty_end, head_lines, lines_of, with_byte, section_lines, text_of_lines}
 
 -- ---- the first line

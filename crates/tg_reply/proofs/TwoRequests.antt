@@ -8,12 +8,14 @@ use Rattle.std.proofs.lemmas.Bool.{ltb-true}
 use Rattle.std.proofs.lemmas.Fmt.{decimal_digit}
 use Rattle.std.proofs.lemmas.List.{append-nil, length-append}
 use Rattle.std.proofs.lemmas.List.Elements.{All-cons, All-nil, All-weaker}
+use Rattle.std.proofs.lemmas.List.Sums.{AllPass-from_list_all}
 use Rattle.std.proofs.lemmas.Str.{IsUtf8-from_ascii}
 use Rattle.std.proofs.lemmas.Str.Ascii.{IsAscii-from_all}
 use Rattle.tg_base32.specs.Base32.{bits}
 use Rattle.tg_base32.specs.Computed.{base32}
 use Rattle.tg_cid.specs.Computed.{cid_of, cid_text}
 use Rattle.tg_dagpb.specs.Computed.{link_in, node_of}
+use Rattle.tg_http.specs.GrammarLines.{token}
 use Rattle.tg_http.specs.HeadText.{HeadText}
 use Rattle.tg_http.specs.declared.request.RequestHead.{RequestHead}
 use Rattle.tg_path.specs.CidAnswers.{bytes_of_letters, cid_answer}
@@ -26,7 +28,6 @@ use Rattle.tg_reply.specs.Examples.{empty_chunks, empty_head, first_bytes, first
 use Rattle.tg_reply.specs.Replies.{Reply, reply, reply_bytes}
 use Rattle.tg_reply.specs.Streams.{BeginsRequest, Replies, goes_on, waits}
 use Rattle.tg_reply.specs.declared.status.Status.TheVariants as statuses
-use Rattle.tg_reply.proofs.HeadLines.{all_from}
 use Rattle.tg_reply.proofs.FirstHeads.{some_text}
 
 abbrev host : Field
@@ -54,28 +55,25 @@ second_printed : request_lines second_target ≡ print_request (tree second_targ
 unfolding print_request
 second_printed = refl
 
-token : (name : List ℕ) → 0 < length name → list_all is_token_byte name ≡ true → IsToken name
-token name some t = (some, all_from is_token_byte name t)
-
 get_token : IsToken (codes "GET")
 unfolding is_token_byte
 get_token = token (codes "GET") (omega arith) refl
 
 host_field : IsField host
 unfolding is_token_byte
-host_field = record { name = token (codes "Host") (omega arith) refl; raw = all_from is_value_byte (codes " 127.0.0.1:8080") refl }
+host_field = record { name = token (codes "Host") (omega arith) refl; raw = AllPass-from_list_all is_value_byte (codes " 127.0.0.1:8080") refl }
 
 accept_field : IsField accept
 unfolding is_token_byte
-accept_field = record { name = token (codes "Accept") (omega arith) refl; raw = all_from is_value_byte (codes " application/vnd.ipld.car") refl }
+accept_field = record { name = token (codes "Accept") (omega arith) refl; raw = AllPass-from_list_all is_value_byte (codes " application/vnd.ipld.car") refl }
 
 is_head : (target : List ℕ) → 0 < length target → list_all is_uri_byte target ≡ true → list_all (λ b. nat_lt b 128) target ≡ true → IsRequestHead (tree target)
 is_head target some uri ascii = record {
   method = get_token;
-  target = (some, all_from is_uri_byte target uri);
+  target = (some, AllPass-from_list_all is_uri_byte target uri);
   target_text =
       IsUtf8-from_ascii target (IsAscii-from_all target
-      (All-weaker (λ (b : ℕ). IsTrue (nat_lt b 128)) (λ (b : ℕ). b < 128) (λ b t. ltb-true b 128 t) target (all_from (λ b. nat_lt b 128) target ascii)));
+      (All-weaker (λ (b : ℕ). IsTrue (nat_lt b 128)) (λ (b : ℕ). b < 128) (λ b t. ltb-true b 128 t) target (AllPass-from_list_all (λ b. nat_lt b 128) target ascii)));
   minor = omega arith;
   fields = All-cons IsField host (accept ∷ []) host_field (All-cons IsField accept [] accept_field (All-nil IsField));
 }

@@ -1,8 +1,8 @@
 -- What a reader makes of the replies to GET for what is asked, over a store of bytes.
 use Rattle.std.specs.Prelude.{All, List, Ok, Some, codes, false, if◌then◌else◌, length, ℕ, ◌<◌, ◌==◌, ◌≡◌, ◌≤◌}
+use Rattle.tg_bytes.specs.Lists.{joined}
 use Rattle.tg_cid.specs.Cid.{CidParts}
 use Rattle.tg_cid.specs.Spelling.{CidBytes}
-use Rattle.tg_http.specs.HeadText.{joined}
 use Rattle.tg_http.specs.declared.framing.Framing.{Framing}
 use Rattle.tg_http.specs.declared.framing.Framing.TheVariants.{Chunked, Length, UntilClose}
 use Rattle.tg_http.specs.declared.request.RequestHead.{RequestHead}

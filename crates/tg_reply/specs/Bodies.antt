@@ -1,13 +1,13 @@
 -- What the bodies of replies are to a reader of bodies, and to a reader of CARs.
 use Rattle.std.specs.Prelude.{All, List, [], false, length, map, true, ℕ, ◌<◌, ◌^◌, ◌∷◌, ◌≤◌}
 use Rattle.tg_body.specs.Bodies.{BodyFront, BodyText}
+use Rattle.tg_bytes.specs.Lists.{joined}
 use Rattle.tg_car.specs.CarText.{CarText}
 use Rattle.tg_car.specs.declared.section.Section.{Section as CarSection}
 use Rattle.tg_cid.specs.Cid.{CidParts}
 use Rattle.tg_cid.specs.Computed.{v1_bytes}
 use Rattle.tg_cid.specs.Limits.{max_block_len}
 use Rattle.tg_cid.specs.Spelling.{CidBytes}
-use Rattle.tg_http.specs.HeadText.{joined}
 use Rattle.tg_http.specs.declared.framing.Framing.TheVariants as framings
 use Rattle.tg_model.specs.Dag.{Section}
 use Rattle.tg_reply.specs.CarBytes.{car_parts, chunked}

@@ -7,9 +7,9 @@ use Rattle.std.specs.Option.{option_map}
 use Rattle.std.specs.Prelude.{Bool, List, None, Option, Some, [], bytes_eq, codes, drop, false, if◌then◌else◌, length, map, nat_le, nat_lt, not, slice_index, true, ℕ, ◌&&◌, ◌++◌, ◌-◌, ◌<◌, ◌==◌, ◌∷◌, ◌||◌}
 use Rattle.std.specs.Str.{is_utf8}
 use Rattle.std.specs.Str.Parse.{digits_value}
+use Rattle.tg_bytes.specs.Lists.{joined}
 use Rattle.tg_http.specs.Fields.{closes, values}
 use Rattle.tg_http.specs.Framing.{codings, lengths}
-use Rattle.tg_http.specs.HeadText.{joined}
 use Rattle.tg_http.specs.Heads.{HasWholeText, IsNoRequest, IsWaiting, PassesLimit}
 use Rattle.tg_http.specs.declared.request.RequestHead.{RequestHead}
 use Rattle.tg_reply.specs.Streams.{BeginsRequest}

@@ -1,8 +1,8 @@
 -- What a reader makes of the replies to GET: the head and the body that they were given.
 use Rattle.std.specs.Prelude.{All, List, false, length, ℕ, ◌<◌, ◌^◌, ◌≡◌, ◌≤◌}
 use Rattle.tg_body.specs.Bodies.{BodyText}
+use Rattle.tg_bytes.specs.Lists.{joined}
 use Rattle.tg_cid.specs.Spelling.{CidBytes}
-use Rattle.tg_http.specs.HeadText.{joined}
 use Rattle.tg_http.specs.declared.framing.Framing.{Framing}
 use Rattle.tg_http.specs.declared.framing.Framing.TheVariants.{Chunked, Length, UntilClose}
 use Rattle.tg_http.specs.declared.request.RequestHead.{RequestHead}

@@ -1,8 +1,8 @@
 -- The reply of a gateway over a store to the head of a request (Path Gateway and Trustless Gateway specifications; RFC 9110,
 -- sections 9 and 15; RFC 9112, sections 6, 7 and 9).
 use Rattle.std.specs.Prelude.{Bool, Err, List, None, Ok, Option, Result, Some, [], false, if◌then◌else◌, length, not, true, ℕ, ◌&&◌, ◌++◌, ◌==◌, ◌||◌}
+use Rattle.tg_bytes.specs.Lists.{joined}
 use Rattle.tg_cid.specs.Cid.{CidParts}
-use Rattle.tg_http.specs.HeadText.{joined}
 use Rattle.tg_http.specs.declared.request.RequestHead.{RequestHead}
 use Rattle.tg_laws.specs.Depths.{down_to}
 use Rattle.tg_model.specs.Answer.{block_of}

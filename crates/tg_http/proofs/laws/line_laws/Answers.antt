@@ -1,4 +1,4 @@
-use Rattle.tg_http.proofs.Lines.{one_line, end_line, feed_in_line}
+use Rattle.tg_http.specs.Lines.{one_line, end_line, feed_in_line}
 use Rattle.tg_http.proofs.laws.line_laws.Goals as goal
 
 pub returns : goal.returns

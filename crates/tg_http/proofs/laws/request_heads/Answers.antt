@@ -1,4 +1,4 @@
-use Rattle.tg_http.proofs.Grammar.{request_text}
+use Rattle.tg_http.specs.GrammarLines.{request_text}
 use Rattle.tg_http.proofs.laws.request_heads.Goals as goal
 
 pub returns : goal.returns

@@ -1,6 +1,7 @@
 use Rattle.std.proofs.lemmas.Option.{MatchOption-at_none, MatchOption-at_some}
 use Rattle.tg_http.specs.Heads.{IsNoReply}
-use Rattle.tg_http.proofs.Answering.{here_not_waiting, limit_answer, limit_not_waiting, limit_only, only_refused, read_given, refused_answer, reply_only, reply_read, waiting_given}
+use Rattle.tg_http.specs.OneHead.{limit_not_waiting, limit_only}
+use Rattle.tg_http.proofs.Answering.{here_not_waiting, limit_answer, only_refused, read_given, refused_answer, reply_only, reply_read, waiting_given}
 use Rattle.tg_http.proofs.reply.read_reply.Goals as goal
 
 pub returns-in_err-text-clause-only : goal.returns-in_err-text-clause-only

@@ -1,6 +1,7 @@
 use Rattle.std.proofs.lemmas.Option.{MatchOption-at_none, MatchOption-at_some}
 use Rattle.tg_http.specs.Heads.{IsNoRequest}
-use Rattle.tg_http.proofs.Answering.{here_not_waiting, limit_answer, limit_not_waiting, limit_only, only_refused, read_given, refused_answer, request_only, request_read, waiting_given}
+use Rattle.tg_http.specs.OneHead.{limit_not_waiting, limit_only}
+use Rattle.tg_http.proofs.Answering.{here_not_waiting, limit_answer, only_refused, read_given, refused_answer, request_only, request_read, waiting_given}
 use Rattle.tg_http.proofs.request.read_request.Goals as goal
 
 pub returns-in_err-text-clause-only : goal.returns-in_err-text-clause-only

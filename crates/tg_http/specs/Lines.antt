@@ -1,5 +1,5 @@
 -- Lines at the front of bytes: there is one.
-use Rattle.std.proofs.Common.{◌≡◌, ◌≢◌, ℕ, ◌<◌, List, [], ◌∷◌, ◌++◌, length, refl, sym, ap, ◌∙◌, arith, append_assoc}
+use Rattle.std.proofs.Common.{◌≡◌, ◌≢◌, ℕ, List, [], ◌∷◌, ◌++◌, refl, sym, ap, ◌∙◌, arith, append_assoc}
 use Rattle.std.proofs.lemmas.List.Elements.{All-head, All-tail, All-nil, All-cons}
 use Rattle.httparse.specs.Grammar.{LineEnd, print_end, crlf, lf}
 use Rattle.tg_http.specs.HeadText.{HasNoFeed, IsLine}
@@ -35,11 +35,3 @@ feed_in_line a r l none = feed l.front r (rw (l.whole, append_assoc l.front (10 
     feed : (front r : List ℕ) → HasNoFeed (front ++ 10 ∷ r) → ⊥
     feed [] r none = All-head (λ b. b ≢ 10) 10 r none refl
     feed (x ∷ front) r none = feed front r (All-tail (λ b. b ≢ 10) x (front ++ 10 ∷ r) none)
-
--- a line isn't nothing
-pub line_some : (a : List ℕ) → IsLine a → 0 < length a
-line_some a l = some l.front a l.whole
-  where
-    some : (front a : List ℕ) → a ≡ front ++ 10 ∷ [] → 0 < length a
-    some [] a e = rw e (omega arith)
-    some (x ∷ front) a e = rw e (omega arith)
