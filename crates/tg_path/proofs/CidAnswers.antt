@@ -1,15 +1,17 @@
 -- The CID or the fault that is computed of a text is the one that the grammar gives.
-use Rattle.std.proofs.Common.{All, Bool, Err, List, None, Ok, Option, Result, Some, [], ap, arith, false, inl, inr, length, refl, subst, sym, take, drop, true, ℕ, ◌++◌, ◌+◌, ◌-◌, ◌<◌, ◌≤◌, ◌∙◌, ◌∷◌, ◌≡◌, ◌⊎◌}
+use Rattle.std.proofs.Common.{Err, List, None, Ok, Option, Some, [], ap, arith, false, inl, inr, length, refl, subst, sym, take, drop, true, ℕ, ◌++◌, ◌-◌, ◌<◌, ◌≤◌, ◌∙◌, ◌∷◌, ◌≡◌, ◌⊎◌}
 use Rattle.std.specs.List.{list_all}
 use Rattle.std.specs.Bool.{Decides}
-use Rattle.std.specs.Prelude.{MatchResult, if◌then◌else◌, nat_le, nat_lt, ◌&&◌, ◌↔◌, ◌==◌}
+use Rattle.std.specs.Prelude.{MatchResult, if◌then◌else◌, nat_le, nat_lt, ◌↔◌, ◌==◌}
 use Rattle.std.proofs.lemmas.Bool.{cond-false, cond-true, cond_both, eq-eqb, eqb-false, eqb-true, le-leb, le-ltb, leb-true, ltb-false, ltb-true}
 use Rattle.std.proofs.lemmas.Bool.Decides.{Decides-and, Decides-by_and, Decides-ltb}
 use Rattle.std.proofs.lemmas.List.{append-nil, append_assoc, length-append, length-take-le, take-append-drop}
-use Rattle.std.proofs.lemmas.List.Elements.{All-tail, All-take}
+use Rattle.std.proofs.lemmas.List.Elements.{All-take}
 use Rattle.tg_base32.specs.Base32.{Base32Text}
 use Rattle.tg_base32.specs.Laws.{TextLaws}
+use Rattle.tg_bytes.specs.Lists.{AreBytes, behind_parts, rest_bytes}
 use Rattle.tg_cid.specs.Cid.{CidParts}
+use Rattle.tg_cid.specs.CodeLaws.{code_is}
 use Rattle.tg_cid.specs.Computed.{is_digest_size}
 use Rattle.tg_cid.specs.Faults.{Follows, HasBytesCause, HasTextCause, IsCodec, IsHash, IsVersionZero, MayBegin}
 use Rattle.tg_cid.specs.Spelling.{CidText, CidV1Bytes, IsDigestSize, IsTaken, MultibaseText, Varints, codec_code, hash_code}
@@ -22,16 +24,12 @@ use Rattle.tg_cid.specs.declared.fault.CidFault.TheVariants as faults
 use Rattle.tg_varint.specs.Computed.{front_number}
 use Rattle.tg_varint.specs.Laws.{Begins, SpellingLaws, VarintFront}
 use Rattle.tg_varint.specs.Laws.VarintFront.{inside, not_shortest, spelled, too_long}
-use Rattle.tg_varint.specs.Varint.{AllGoOn, EndsInside, VarintSpelling}
+use Rattle.tg_varint.specs.Varint.{AllGoOn, VarintSpelling}
 use Rattle.tg_path.specs.Answers.{Gives}
 use Rattle.tg_path.specs.CidAnswers.{CidAnswer, begins_with, by_codec, by_hash, by_size, by_version, bytes_answer, bytes_of_letters, cid_answer, codec_then, digest_then, ends_inside, hash_then, number_fault, number_then, root_of, size_then, text_answer, version_then, with_query_fault}
-use Rattle.tg_path.proofs.Letters.{AreBytes, letters_found, letters_told}
+use Rattle.tg_path.proofs.Letters.{letters_found, letters_told}
 
 -- ---- numbers one after another
-
-rest_bytes : (a rest : List ℕ) → AreBytes (a ++ rest) → AreBytes rest
-rest_bytes [] rest h = h
-rest_bytes (x ∷ a) rest h = rest_bytes a rest (All-tail (λ (b : ℕ). b < 256) x (a ++ rest) h)
 
 -- one number more behind others
 varints_more : (numbers : List ℕ) (n : ℕ) (front a : List ℕ) → Varints numbers front → VarintSpelling n a → Varints (numbers ++ n ∷ []) (front ++ a)
@@ -122,14 +120,6 @@ size_decides : (hash : HashKind) (size : ℕ) → Decides (is_digest_size hash s
 size_decides Sha256 size = (eqb-true size 32, eq-eqb size 32)
 size_decides Identity size = (λ e. absurd cc, λ h. absurd h)
 
-size_taken : (hash : HashKind) (size : ℕ) → IsDigestSize hash size → IsTaken hash
-size_taken Sha256 size h = tt
-size_taken Identity size h = absurd h
-
-codec_is : (codec : Codec) → IsCodec (codec_code codec)
-codec_is Raw = inl refl
-codec_is DagPb = inr refl
-
 abbrev numbers_of : Codec → HashKind → ℕ → List ℕ
 numbers_of codec hash size = 1 ∷ codec_code codec ∷ hash_code hash ∷ size ∷ []
 
@@ -154,7 +144,7 @@ digest_told all codec hash size digest r is =
         size = size;
         at = r.at;
         rest = digest;
-        codec_is = codec_is codec;
+        codec_is = code_is codec;
         size_is = is;
         follows = r.follows;
         fewer = ltb-true (length digest) size t;
@@ -197,7 +187,7 @@ size_told all codec hash n after taken r =
     (λ f. (
       codec_code codec,
       hash,
-      codec_is codec,
+      code_is codec,
       taken,
       record { at = r.at; rest = after; other = r.other; follows = r.follows },
       λ h. let holds = (size_decides hash n).1 h in absurd cc,
@@ -210,9 +200,9 @@ hash_told laws all codec n after r =
     (λ t.
     let here : Reached (1 ∷ codec_code codec ∷ 0x12 ∷ []) all after =
     subst (λ (k : ℕ). Reached (1 ∷ codec_code codec ∷ k ∷ []) all after) (eqb-true n 0x12 t) r in
-    then_told laws (1 ∷ codec_code codec ∷ 0x12 ∷ []) all after here (refl, codec_is codec, (Sha256, tt, refl)) (by_size (length all) codec Sha256)
+    then_told laws (1 ∷ codec_code codec ∷ 0x12 ∷ []) all after here (refl, code_is codec, (Sha256, tt, refl)) (by_size (length all) codec Sha256)
     (λ size digest q. size_told all codec Sha256 size digest tt q) (front_number after) refl)
-    (λ f. (codec_code codec, codec_is codec, record { at = r.at; rest = after; other = r.other; follows = r.follows }, other n f))
+    (λ f. (codec_code codec, code_is codec, record { at = r.at; rest = after; other = r.other; follows = r.follows }, other n f))
   where
     other : (n : ℕ) → (n == 0x12) ≡ false → IsHash n → ⊥
     other n f (Sha256, taken, e) = let holds = eq-eqb n 0x12 e in absurd cc
@@ -229,7 +219,7 @@ codec_told laws all n after r =
     under : (codec : Codec) → n ≡ codec_code codec → Is all (hash_then (length all) codec after)
     under codec e =
         let here : Reached (1 ∷ codec_code codec ∷ []) all after = subst (λ (k : ℕ). Reached (1 ∷ k ∷ []) all after) e r in
-        then_told laws (1 ∷ codec_code codec ∷ []) all after here (refl, codec_is codec) (by_hash (length all) codec)
+        then_told laws (1 ∷ codec_code codec ∷ []) all after here (refl, code_is codec) (by_hash (length all) codec)
         (λ code rest q. hash_told laws all codec code rest q) (front_number after) refl
 
     none : (n == 0x55) ≡ false → (n == 0x70) ≡ false → IsCodec n → ⊥
@@ -313,9 +303,6 @@ number_answer : SpellingLaws → (total : ℕ) (next : ℕ → List ℕ → CidA
     → VarintSpelling n a → number_then total bytes (front_number bytes) next ≡ next n rest
 number_answer laws total next n a rest bytes are e v =
     ap (λ (o : Option (ℕ × List ℕ)). number_then total bytes o next) ((laws.read bytes are n rest).1 (a, e, v))
-
-behind_parts : (a b digest bytes : List ℕ) → bytes ≡ a ++ b → bytes ++ digest ≡ a ++ (b ++ digest)
-behind_parts a b digest bytes e = ap (λ (l : List ℕ). l ++ digest) e ∙ append_assoc a b digest
 
 codec_answer : (total : ℕ) (codec : Codec) (rest : List ℕ) → by_codec total (codec_code codec) rest ≡ hash_then total codec rest
 codec_answer total Raw rest = refl

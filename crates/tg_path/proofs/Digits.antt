@@ -1,24 +1,17 @@
 -- The digits of a number.
-use Rattle.std.proofs.Common.{◌≡◌, Bool, true, false, ap, refl, subst, sym, ◌∙◌, ℕ, ◌^◌, ◌<◌, ◌≤◌, List, [], ◌∷◌, length}
+use Rattle.std.proofs.Common.{◌≡◌, Bool, true, false, ap, refl, subst, sym, ◌∙◌, ℕ, ◌^◌, ◌<◌, ◌≤◌, List, length}
 use Rattle.std.specs.Bool.{Decides, then_some}
-use Rattle.std.specs.Char.{digit_value, is_digit}
+use Rattle.std.specs.Char.{is_digit}
 use Rattle.std.specs.List.{list_all}
-use Rattle.std.proofs.lemmas.Bool.{and_from, and_parts, cond-true, cond_both, le-leb, leb-true, lt-ltb, ltb-true}
+use Rattle.std.proofs.lemmas.Bool.{cond-true, cond_both, le-leb, leb-true, lt-ltb, ltb-true}
 use Rattle.std.proofs.lemmas.Bool.Decides.{Decides-and, Decides-ltb}
 use Rattle.std.specs.Prelude.{None, Option, Some, nat_le, nat_lt, ◌&&◌}
 use Rattle.std.specs.Str.Parse.{AllDigits, digits_value}
+use Rattle.tg_digits.specs.DigitLaws.{digits_decide}
 use Rattle.tg_digits.specs.Digits.{IsDigits}
 use Rattle.tg_path.specs.Spans.{NumberText, is_number, number_of}
 
 -- numbers of 1 to 19 digits: the test says what the relation says
-pub digits_decide : (text : List ℕ) → Decides (list_all (λ (b : ℕ). is_digit b 10) text) (AllDigits 10 text)
-digits_decide [] = (λ t. tt, λ t. refl)
-digits_decide (b ∷ text) =
-    let rest = digits_decide text in (
-      λ t. let both = and_parts (is_digit b 10) (list_all (λ (b : ℕ). is_digit b 10) text) t in (ltb-true (digit_value b) 10 both.0, rest.0 both.1),
-      λ h. and_from (is_digit b 10) (list_all (λ (b : ℕ). is_digit b 10) text) (lt-ltb (digit_value b) 10 h.0) (rest.1 h.1),
-    )
-
 abbrev Parts : List ℕ → Type 0
 Parts text = (0 < length text) × ((length text ≤ 19) × (AllDigits 10 text × (digits_value 10 text < 2 ^ 63)))
 

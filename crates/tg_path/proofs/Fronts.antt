@@ -1,5 +1,5 @@
 -- Texts that begin with a front.
-use Rattle.std.proofs.Common.{Bool, List, None, Option, Some, [], ap, refl, sym, false, true, ℕ, ◌++◌, ◌==◌, ◌∙◌, ◌∷◌, ◌≡◌}
+use Rattle.std.proofs.Common.{List, None, Option, Some, [], ap, refl, ℕ, ◌++◌, ◌==◌, ◌∙◌, ◌∷◌, ◌≡◌}
 use Rattle.std.specs.Prelude.{◌↔◌}
 use Rattle.std.proofs.lemmas.Bool.{cond-true, cond_both, eq-eqb, eqb-true}
 use Rattle.tg_path.specs.Cuts.{behind_front}

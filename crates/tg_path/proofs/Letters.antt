@@ -1,18 +1,16 @@
 -- The bytes that are computed of letters are those whose text they are.
-use Rattle.std.proofs.Common.{All, List, None, Option, Some, [], ap, ap₂, arith, cond, false, length, refl, subst, sym, true, ℕ, zero, suc, ◌%◌, ◌*◌, ◌++◌, ◌+◌, ◌/◌, ◌<◌, ◌∙◌, ◌∷◌, ◌≡◌, ◌≤◌}
-use Rattle.std.specs.List.{AllByRecursion, flat_map}
-use Rattle.std.specs.Prelude.{bytes_eq, replicate, ◌↔◌}
-use Rattle.std.proofs.lemmas.Bool.{cond-false, cond-true, cond_both}
-use Rattle.std.proofs.lemmas.List.{append_assoc}
+use Rattle.std.proofs.Common.{List, None, Option, Some, [], ap, ap₂, arith, refl, subst, ℕ, zero, suc, ◌%◌, ◌*◌, ◌++◌, ◌+◌, ◌/◌, ◌<◌, ◌∙◌, ◌∷◌, ◌≡◌}
+use Rattle.std.specs.List.{AllByRecursion}
+use Rattle.std.specs.Prelude.{bytes_eq, replicate}
+use Rattle.std.proofs.lemmas.Bool.{cond-true, cond_both}
 use Rattle.std.proofs.lemmas.List.Elements.{All-cons, All-head, All-nil, All-tail}
+use Rattle.std.proofs.lemmas.Option.{same_Some}
 use Rattle.std.proofs.lemmas.Slice.Eq.{bytes_eq-Decides}
 use Rattle.tg_base32.specs.Base32.{Base32Text, bits, bits_of_bytes, bits_of_text, value_of}
 use Rattle.tg_base32.specs.Computed.{base32}
 use Rattle.tg_base32.specs.Laws.{TextLaws}
+use Rattle.tg_bytes.specs.Lists.{AreBytes}
 use Rattle.tg_path.specs.CidAnswers.{byte_of_bits, bytes_of_bits, bytes_of_letters, if_spelled}
-
-abbrev pub AreBytes : List ℕ → Type 0
-AreBytes bytes = All (λ (b : ℕ). b < 256) bytes
 
 -- ---- bits are below two
 
@@ -92,13 +90,10 @@ bytes_again (b ∷ bytes) padding are h =
 
 -- ---- the law
 
-some_is : (a b : List ℕ) → ◌≡◌ {A = Option (List ℕ)} (Some a) (Some b) → a ≡ b
-some_is a b e = cc
-
 spelled_told : (letters bytes : List ℕ) (found : List ℕ) → if_spelled letters bytes ≡ Some found → (base32 bytes ≡ letters) × (bytes ≡ found)
 spelled_told letters bytes found = cond_both (bytes_eq (base32 bytes) letters) (Some bytes) None
     (λ (o : Option (List ℕ)). o ≡ Some found → (base32 bytes ≡ letters) × (bytes ≡ found))
-    (λ t e. ((bytes_eq-Decides (base32 bytes) letters).0 t, some_is bytes found e))
+    (λ t e. ((bytes_eq-Decides (base32 bytes) letters).0 t, same_Some bytes found e))
     (λ f e. absurd cc)
 
 pub letters_told : TextLaws → (letters bytes : List ℕ) → bytes_of_letters letters ≡ Some bytes → Base32Text letters bytes

@@ -7,4 +7,3 @@ mod Fronts
 mod SpanTexts
 mod PathTexts
 mod RootTexts
-mod Roads

@@ -1,9 +1,9 @@
 -- Paths: what is computed is what the grammar says.
-use Rattle.std.proofs.Common.{All, Bor, Err, List, None, Ok, Option, Result, Some, [], ap, arith, false, get_or, inl, inr, length, map, refl, subst, sym, true, ℕ, ◌<◌, ◌≤◌, ◌∙◌, ◌≡◌, ◌⊎◌}
+use Rattle.std.proofs.Common.{Bor, Err, List, None, Ok, Option, Result, Some, ap, arith, false, get_or, inl, inr, length, map, refl, subst, sym, true, ℕ, ◌<◌, ◌≤◌, ◌∙◌, ◌≡◌}
 use Rattle.std.specs.List.{list_all}
-use Rattle.std.specs.Prelude.{if◌then◌else◌, ◌↔◌}
+use Rattle.std.specs.Prelude.{◌↔◌}
 use Rattle.percent_encoding.specs.Percent.{percent_decode}
-use Rattle.std.proofs.lemmas.Bool.{and_from, and_parts, cond-false, cond-true, cond_both, le-leb, leb-true}
+use Rattle.std.proofs.lemmas.Bool.{and_from, and_parts, cond-true, cond_both, le-leb, leb-true}
 use Rattle.std.proofs.lemmas.List.{get_or-map, length-map}
 use Rattle.std.proofs.lemmas.List.Folds.{list_all_at}
 use Rattle.std.proofs.lemmas.Simd.{map-map}
@@ -11,7 +11,7 @@ use Rattle.tg_ascii.specs.Ascii.{slash}
 use Rattle.tg_model.specs.Computed.{is_good_name}
 use Rattle.tg_path.specs.Answers.{Gives}
 use Rattle.tg_path.specs.Cuts.{parts_at}
-use Rattle.tg_path.specs.Paths.{PathBehind, PathText, are_names, name_of, name_or_fault, names_of, path_behind, path_of, path_with}
+use Rattle.tg_path.specs.Paths.{PathBehind, PathText, are_names, name_of, names_of, path_behind, path_of, path_with}
 use Rattle.tg_path.specs.declared.fault.QueryFault.{QueryFault}
 use Rattle.tg_path.specs.declared.fault.QueryFault.TheVariants.{BadPath, OutOfMemory}
 use Rattle.tg_path.proofs.Names.{NameLaw, names_decide}

@@ -1,6 +1,6 @@
 -- Roots with paths, and words: what is computed is what the grammar says.
-use Rattle.std.proofs.Common.{All, Err, List, None, Ok, Option, Result, Some, [], ap, arith, inl, inr, refl, subst, sym, ℕ, ◌++◌, ◌<◌, ◌≤◌, ◌∙◌, ◌∷◌, ◌≡◌, ◌≢◌, ◌⊎◌}
-use Rattle.std.specs.Prelude.{codes, ◌↔◌}
+use Rattle.std.proofs.Common.{All, Err, List, None, Ok, Option, Some, ap, arith, inl, inr, refl, subst, sym, ℕ, ◌++◌, ◌∙◌, ◌≡◌, ◌≢◌, ◌⊎◌}
+use Rattle.std.specs.Prelude.{◌↔◌}
 use Rattle.std.proofs.lemmas.List.Elements.{All-cons, All-weaker}
 use Rattle.tg_ascii.specs.Ascii.{slash}
 use Rattle.tg_base32.specs.Base32.{IsLetter}
@@ -10,6 +10,7 @@ use Rattle.tg_cid.specs.Faults.{HasTextCause}
 use Rattle.tg_cid.specs.Spelling.{CidText}
 use Rattle.tg_cid.specs.declared.fault.CidFault.{CidFault}
 use Rattle.tg_cid.specs.declared.fault.CidFault.TheVariants as faults
+use Rattle.tg_path.specs.AnswerLaws.{bind_found, bind_ok}
 use Rattle.tg_path.specs.Answers.{◌>>=◌}
 use Rattle.tg_path.specs.CidAnswers.{CidAnswer, cid_answer, root_of, with_query_fault}
 use Rattle.tg_path.specs.Cuts.{IsCut, behind, behind_front, cut_first}
@@ -19,20 +20,11 @@ use Rattle.tg_path.specs.WordTexts.{Rooted, RootedText, WordText, ipfs, or_whole
 use Rattle.tg_path.specs.declared.fault.QueryFault.{QueryFault}
 use Rattle.tg_path.specs.declared.fault.QueryFault.TheVariants.{BadCid}
 use Rattle.tg_path.proofs.CidAnswers.{IsOfText, answer_found, answer_told}
-use Rattle.tg_path.proofs.FirstCuts.{Parts, cut_found, cut_told}
+use Rattle.tg_path.proofs.FirstCuts.{cut_found, cut_told}
 use Rattle.tg_path.proofs.Fronts.{front_found, front_told}
 use Rattle.tg_path.proofs.Names.{NameLaw}
-use Rattle.tg_path.proofs.PathTexts.{behind_fault, behind_found, behind_told}
+use Rattle.tg_path.proofs.PathTexts.{behind_found, behind_told}
 use Rattle.tg_varint.specs.Laws.{SpellingLaws}
-
--- ---- one reading after another
-
-pub bind_ok : {A B : Type 0} (m : Result A QueryFault) (f : A → Result B QueryFault) (b : B) → (m >>= f) ≡ Ok b → (a : A) × (m ≡ Ok a) × (f a ≡ Ok b)
-bind_ok (Ok a) f b e = (a, refl, e)
-bind_ok (Err fault) f b e = absurd cc
-
-pub bind_found : {A B : Type 0} (m : Result A QueryFault) (f : A → Result B QueryFault) (a : A) (r : Result B QueryFault) → m ≡ Ok a → f a ≡ r → (m >>= f) ≡ r
-bind_found m f a r e g = ap (λ m. m >>= f) e ∙ g
 
 -- ---- roots
 

@@ -1,7 +1,7 @@
 -- Ranges: what is computed is what the grammar says.
-use Rattle.std.proofs.Common.{All, Err, List, None, Ok, Option, Result, Some, [], ap, arith, false, inl, inr, length, refl, subst, sym, true, ℕ, ◌++◌, ◌<◌, ◌≤◌, ◌∙◌, ◌∷◌, ◌≡◌, ◌≢◌, ◌==◌, Bool}
+use Rattle.std.proofs.Common.{All, Err, List, None, Ok, Option, Result, Some, [], ap, arith, false, length, refl, subst, sym, true, ℕ, ◌++◌, ◌<◌, ◌≤◌, ◌∙◌, ◌∷◌, ◌≡◌, ◌≢◌, ◌==◌, Bool}
 use Rattle.std.specs.Char.{digit_value}
-use Rattle.std.specs.Prelude.{IfSome, bytes_eq, if◌then◌else◌, nat_le, option_map, ◌↔◌}
+use Rattle.std.specs.Prelude.{IfSome, bytes_eq, option_map, ◌↔◌}
 use Rattle.std.specs.Str.Parse.{AllDigits}
 use Rattle.std.proofs.lemmas.Bool.{cond-false, cond-true, cond_both, le-leb, leb-true, ne_eqb}
 use Rattle.std.proofs.lemmas.List.Elements.{All-cons, All-nil}
@@ -15,7 +15,7 @@ use Rattle.tg_path.specs.declared.fault.QueryFault.{QueryFault}
 use Rattle.tg_path.specs.declared.fault.QueryFault.TheVariants.{BadRange}
 use Rattle.tg_path.proofs.Digits.{number_found, number_told}
 use Rattle.tg_path.proofs.FirstCuts.{Parts, cut_found, cut_told}
-use Rattle.tg_path.proofs.Fronts.{front_found, front_told}
+use Rattle.tg_path.proofs.Fronts.{front_told}
 
 pub parts_span : (text from : List ℕ) (to : Option (List ℕ)) → ◌≡◌ {A = Parts} (from, to) (cut_first 58 text) → span_by from to ≡ span_of text
 unfolding span_of

@@ -5,3 +5,5 @@ pub mod CidAnswers
 pub mod Paths
 pub mod WordTexts
 pub mod Spans
+pub mod AnswerLaws
+pub mod Roads

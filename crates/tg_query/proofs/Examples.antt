@@ -1,5 +1,5 @@
 -- Worked examples: what targets and `Accept` ask is computed.
-use Rattle.std.proofs.Common.{◌≡◌, ℕ, List, [], ◌∷◌, ◌++◌, None, Some, Ok, Err, codes, refl, true, false}
+use Rattle.std.proofs.Common.{◌≡◌, ℕ, List, [], ◌∷◌, ◌++◌, None, Ok, Err, codes, refl, false}
 use Rattle.httparse.specs.Grammar.{trim_ows}
 use Rattle.percent_encoding.specs.Percent.{percent_decode}
 use Rattle.tg_base32.specs.Base32.{bits}

@@ -1,6 +1,6 @@
 -- The first of the values that elements give, an element after the other.
 use Rattle.std.proofs.Common.{◌≡◌, Bool, Bor, ℕ, ◌+◌, ◌<◌, ◌≤◌, List, [], ◌∷◌, ◌++◌, Option, Some, None, get_or, length, drop, refl, sym, ap, ◌∙◌}
-use Rattle.std.specs.List.{filter_map, flat_map, cons_option}
+use Rattle.std.specs.List.{filter_map, cons_option}
 use Rattle.std.specs.Prelude.{find}
 use Rattle.std.specs.Option.{option_or}
 use Rattle.std.proofs.lemmas.List.{drop_all, drop_more, length_push}

@@ -1,5 +1,5 @@
 -- What a target is read as has a good path and a good range.
-use Rattle.std.proofs.Common.{All, Bool, Err, List, None, Ok, Option, Result, Some, [], ap, arith, false, inl, inr, length, refl, subst, sym, true, ℕ, ◌∙◌, ◌∷◌, ◌≡◌, ◌≤◌}
+use Rattle.std.proofs.Common.{All, Bool, List, None, Ok, Option, Result, Some, [], ap, arith, false, inl, inr, length, subst, sym, true, ℕ, ◌∷◌, ◌≡◌, ◌≤◌}
 use Rattle.std.specs.Prelude.{IfSome, bytes_eq, codes, if◌then◌else◌, ◌↔◌}
 use Rattle.std.proofs.lemmas.Bool.{cond_both}
 use Rattle.std.proofs.lemmas.List.Elements.{All-nil}
@@ -8,6 +8,7 @@ use Rattle.tg_model.specs.EntryNames.{IsGoodName}
 use Rattle.tg_model.specs.Queries.{IsSpan, SpanParts}
 use Rattle.tg_model.specs.declared.queries.Form.{Form}
 use Rattle.tg_model.specs.declared.queries.Scope.{Scope}
+use Rattle.tg_path.specs.AnswerLaws.{bind_ok}
 use Rattle.tg_path.specs.Answers.{Gives, unless, ◌>>=◌}
 use Rattle.tg_path.specs.Cuts.{behind_front, cut_first}
 use Rattle.tg_path.specs.Paths.{PathBehind}
@@ -18,10 +19,6 @@ use Rattle.tg_path.specs.declared.fault.QueryFault.TheVariants.{Doubled}
 use Rattle.tg_query.specs.Targets.{IsTarget, asked_of, behind_ipfs, form_of, is_given, nothing, pair_of, pieces_of, scope_of, target_by, target_of, target_with, with_format, with_param, with_piece, with_pieces, with_scope, with_span}
 use Rattle.tg_query.specs.declared.targets.Asked.{Asked}
 use Rattle.tg_query.specs.declared.targets.Target.{Target}
-
-pub bind_ok : {A B : Type 0} (m : Result A QueryFault) (f : A → Result B QueryFault) (b : B) → (m >>= f) ≡ Ok b → (a : A) × (m ≡ Ok a) × (f a ≡ Ok b)
-bind_ok (Ok a) f b e = (a, refl, e)
-bind_ok (Err fault) f b e = absurd cc
 
 pub unless_ok : {A : Type 0} (t : Bool) (fault : QueryFault) (r : Result A QueryFault) (a : A) → unless t fault r ≡ Ok a → r ≡ Ok a
 unless_ok true fault r a e = absurd cc

@@ -1,4 +1,3 @@
-mod Roads
 mod Firsts
 mod Pieces
 mod RootTexts

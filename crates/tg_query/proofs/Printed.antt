@@ -1,44 +1,43 @@
 -- A printed request is one head, and what the head asks is the query.
-use Rattle.std.proofs.Common.{◌≡◌, ◌≢◌, ℕ, ◌+◌, ◌<◌, ◌≤◌, Bool, true, false, All, List, [], ◌∷◌, ◌++◌, Option, Some, None, Result, Ok, Err, length, map, refl, sym, ap, subst, ◌∙◌, arith, inl, inr, append_assoc}
+use Rattle.std.proofs.Common.{◌≡◌, ◌≢◌, ℕ, ◌≤◌, Bool, true, false, All, List, [], ◌∷◌, ◌++◌, Option, Some, None, Result, Ok, length, map, refl, sym, ap, subst, ◌∙◌, arith, inl, append_assoc}
 use Rattle.httparse.specs.Ascii.{crlf_bytes}
 use Rattle.httparse.specs.Grammar.{AllPass, Field, IsField, IsRequestHead, IsToken, RequestHead as RequestTree, crlf, is_token_byte, is_uri_byte, is_value_byte, print_request, print_section, trim_ows}
 use Rattle.httparse.specs.Spans.{name_and_value}
 use Rattle.std.specs.List.{list_all}
-use Rattle.std.specs.Prelude.{IfSome, IsTrue, codes, if◌then◌else◌, nat_le, ◌&&◌, ◌↔◌}
+use Rattle.std.specs.Prelude.{IfSome, IsTrue, codes, if◌then◌else◌, nat_le, ◌↔◌}
 use Rattle.std.proofs.lemmas.Bool.{and_from, le-leb}
 use Rattle.std.proofs.lemmas.List.{append-nil}
 use Rattle.std.proofs.lemmas.List.Elements.{All-append, All-cons, All-nil, All-weaker}
 use Rattle.std.proofs.lemmas.Str.{IsUtf8-from_ascii}
 use Rattle.std.proofs.lemmas.Str.Ascii.{IsAscii-from_all}
+use Rattle.std.proofs.lemmas.List.Sums.{AllPass-from_list_all}
 use Rattle.tg_cid.specs.Cid.{CidParts}
 use Rattle.tg_cid.specs.Computed.{cid_text}
 use Rattle.tg_cid.specs.Spelling.{CidBytes, CidText}
 use Rattle.tg_http.specs.Fields.{closes, values}
 use Rattle.tg_http.specs.Framing.{HasNoBody}
+use Rattle.tg_http.specs.GrammarLines.{token}
 use Rattle.tg_http.specs.HeadText.{HeadText}
-use Rattle.tg_http.specs.Heads.{IsRequest, TellsRequest}
-use Rattle.tg_http.specs.declared.request.RequestHead.{RequestHead}
-use Rattle.tg_model.specs.EntryNames.{IsGoodName}
-use Rattle.tg_model.specs.Queries.{IsRawQuery, IsSpan, QueryParts, SpanParts, WellFormed}
+use Rattle.tg_model.specs.Queries.{IsSpan, QueryParts, SpanParts, WellFormed}
 use Rattle.tg_model.specs.declared.queries.Form.{Form}
 use Rattle.tg_model.specs.declared.queries.Form.TheVariants as forms
 use Rattle.tg_model.specs.declared.queries.Scope.{Scope}
 use Rattle.tg_model.specs.declared.queries.Scope.TheVariants as scopes
 use Rattle.tg_path.specs.Answers.{◌>>=◌}
-use Rattle.tg_path.specs.Cuts.{IsCut, behind, cut_first}
+use Rattle.tg_path.specs.Cuts.{IsCut, cut_first}
 use Rattle.tg_path.specs.Spans.{SpanText, span_of}
 use Rattle.tg_path.specs.WordTexts.{Rooted, RootedText, rooted_of}
 use Rattle.tg_path.specs.declared.fault.QueryFault.{QueryFault}
 use Rattle.tg_query.specs.Accepts.{accepted_of, form_of_range, param_of}
 use Rattle.tg_query.specs.Joins.{join_of}
-use Rattle.tg_query.specs.Laws.{Asks, IsOneHead, IsPrintable, asked_by}
+use Rattle.tg_query.specs.Laws.{IsOneHead, IsPrintable, asked_by}
 use Rattle.tg_query.specs.Requests.{IsAddr, accept_text, params_text, path_text, request_text, target_text}
 use Rattle.tg_query.specs.Targets.{asked_of, target_by, target_of, target_with}
 use Rattle.tg_query.specs.declared.accepts.Accepted.{Accepted}
 use Rattle.tg_query.specs.declared.targets.Asked.{Asked}
 use Rattle.tg_query.specs.declared.targets.Target.{Target}
 use Rattle.tg_query.proofs.PrintedTargets.{asked_again, own_asked, params_of, params_visible, path_no_query, path_visible, root_plain, rooted_again}
-use Rattle.tg_query.proofs.Visible.{Plain, Visible, all_from, is_visible, plain_is_visible, plain_without, visible_ascii, visible_uri, visible_value}
+use Rattle.tg_query.proofs.Visible.{Visible, is_visible, plain_is_visible, plain_without, visible_ascii, visible_uri, visible_value}
 
 -- the laws of the crates below
 pub record Below : Type 0 where
@@ -106,9 +105,9 @@ accepted_again forms.Car true = refl
 accepted_again forms.Car false = refl
 
 value_passes : (form : Form) (dups : Bool) → AllPass is_value_byte (value_of form dups)
-value_passes forms.Raw dups = all_from is_value_byte (value_of forms.Raw true) refl
-value_passes forms.Car true = all_from is_value_byte (value_of forms.Car true) refl
-value_passes forms.Car false = all_from is_value_byte (value_of forms.Car false) refl
+value_passes forms.Raw dups = AllPass-from_list_all is_value_byte (value_of forms.Raw true) refl
+value_passes forms.Car true = AllPass-from_list_all is_value_byte (value_of forms.Car true) refl
+value_passes forms.Car false = AllPass-from_list_all is_value_byte (value_of forms.Car false) refl
 
 -- ---- both together
 
@@ -203,9 +202,6 @@ connection_tests : list_all is_token_byte (codes "Connection") ≡ true
 unfolding is_token_byte
 connection_tests = refl
 
-token : (name : List ℕ) → 0 < length name → list_all is_token_byte name ≡ true → IsToken name
-token name some t = (some, all_from is_token_byte name t)
-
 field_is : (name value : List ℕ) → IsToken name → AllPass is_value_byte value → IsField (field name value)
 field_is name value t pass = record { name = t; raw = All-cons (λ (b : ℕ). IsTrue (is_value_byte b)) 32 value refl pass }
 
@@ -221,7 +217,7 @@ target_visible below q addr p =
     let root = root_text below q.root p.root_bytes p.root p.version in
     let V : ℕ → Type 0 = λ (b : ℕ). is_visible b ≡ true in
     let params = subst Visible (sym (params_same q q.form)) (params_visible q.form q.scope q.span p.well_formed.span) in
-    All-append V (codes "/ipfs/") (cid_text q.root ++ (path_text q.path ++ 63 ∷ params_text q.form q)) (all_from is_visible (codes "/ipfs/") refl)
+    All-append V (codes "/ipfs/") (cid_text q.root ++ (path_text q.path ++ 63 ∷ params_text q.form q)) (AllPass-from_list_all is_visible (codes "/ipfs/") refl)
     (All-append V (cid_text q.root) (path_text q.path ++ 63 ∷ params_text q.form q) (plain_is_visible (cid_text q.root) (root_plain q.root (cid_text q.root) root))
     (All-append V (path_text q.path) (63 ∷ params_text q.form q) (path_visible q.path p.names)
     (All-cons V 63 (params_text q.form q) refl params)))
@@ -230,7 +226,7 @@ head_is : Below → (q : QueryParts) (addr : List ℕ) → IsPrintable q addr �
 head_is below q addr p =
     let visible = target_visible below q addr p in
     let F : Field → Type 0 = IsField in
-    let close = field_is (codes "Connection") (codes "close") (token (codes "Connection") (omega arith) connection_tests) (all_from is_value_byte (codes "close") refl) in
+    let close = field_is (codes "Connection") (codes "close") (token (codes "Connection") (omega arith) connection_tests) (AllPass-from_list_all is_value_byte (codes "close") refl) in
     let accept = field_is (codes "Accept") (accept_text q.form q) (token (codes "Accept") (omega arith) accept_tests)
     (subst (AllPass is_value_byte) (sym (value_same q q.form q.dups refl)) (value_passes q.form q.dups)) in
     let host = field_is (codes "Host") addr (token (codes "Host") (omega arith) host_tests) (addr_passes addr p.addr_is) in

@@ -1,21 +1,22 @@
 -- The target of a printed request is read as the query's root, path, format, scope and range.
-use Rattle.std.proofs.Common.{◌≡◌, ◌≢◌, ℕ, zero, suc, ◌+◌, ◌/◌, ◌%◌, ◌^◌, ◌<◌, ◌≤◌, Bool, true, false, All, List, [], ◌∷◌, ◌++◌, Option, Some, None, Result, Ok, Err, cond, length, map, not, refl, sym, ap, ap₂, subst, ◌∙◌, arith, append_assoc}
+use Rattle.std.proofs.Common.{◌≡◌, ◌≢◌, ℕ, ◌/◌, ◌%◌, ◌^◌, ◌<◌, ◌≤◌, Bool, true, false, All, List, [], ◌∷◌, ◌++◌, Option, Some, None, Result, Ok, cond, length, map, not, refl, sym, ap, ap₂, subst, ◌∙◌, arith, append_assoc}
 use Rattle.percent_encoding.specs.Percent.{percent_decode, percent_encode_byte}
 use Rattle.percent_encoding.proofs.PercentLemmas.{percent_decode-nil, percent_decode-percent_encode_byte, percent_decode_not_percent}
 use Rattle.std.specs.Char.{digit_value}
 use Rattle.std.specs.Fmt.{digit_glyph}
 use Rattle.std.specs.List.{filter, onto_first, slice_split}
 use Rattle.std.specs.Prelude.{IfSome, codes, decimal, ◌==◌, ◌↔◌}
-use Rattle.std.specs.Str.Parse.{AllDigits}
-use Rattle.std.proofs.lemmas.Bool.{cond-false, cond-true, cond_both, ne_eqb}
-use Rattle.std.proofs.lemmas.Fmt.{decimal_is_IsNumeral, length-decimal-le}
+use Rattle.std.proofs.lemmas.Bool.{cond-true, cond_both, ne_eqb}
 use Rattle.std.proofs.lemmas.List.{append-nil}
 use Rattle.std.proofs.lemmas.List.Elements.{All-append, All-cons, All-head, All-nil, All-tail, All-weaker}
 use Rattle.std.proofs.lemmas.List.Splits.{length-slice_split, slice_split_at, slice_split_none}
+use Rattle.std.proofs.lemmas.List.Sums.{AllPass-from_list_all}
 use Rattle.tg_ascii.specs.Ascii.{slash}
+use Rattle.tg_bytes.specs.Lists.{AreBytes}
 use Rattle.tg_cid.specs.Cid.{CidParts}
 use Rattle.tg_cid.specs.Computed.{cid_text}
 use Rattle.tg_cid.specs.Spelling.{CidText}
+use Rattle.tg_digits.specs.DigitLaws.{decimal_digits, digits_all}
 use Rattle.tg_model.specs.EntryNames.{IsGoodName}
 use Rattle.tg_model.specs.Queries.{IsFrom, IsSpan, IsUpTo, SpanParts}
 use Rattle.tg_model.specs.Texts.{escaped, escaped_byte, is_unreserved}
@@ -26,18 +27,15 @@ use Rattle.tg_model.specs.declared.queries.Scope.TheVariants as scopes
 use Rattle.tg_model.specs.declared.queries.SpanFrom.{SpanFrom}
 use Rattle.tg_model.specs.declared.queries.SpanFrom.TheVariants.{Last, Start}
 use Rattle.tg_path.specs.Answers.{◌>>=◌}
-use Rattle.tg_path.specs.Cuts.{IsCut, behind, cut_at, cut_first, parts_at}
-use Rattle.tg_path.specs.Paths.{PathBehind, PathText, names_of}
+use Rattle.tg_path.specs.Cuts.{behind, cut_at}
+use Rattle.tg_path.specs.Paths.{PathBehind, names_of}
 use Rattle.tg_path.specs.Spans.{FromText, NumberText, SpanText, ToText, span_of}
-use Rattle.tg_path.specs.WordTexts.{RootedText, rooted_of}
+use Rattle.tg_path.specs.WordTexts.{RootedText}
 use Rattle.tg_path.specs.declared.fault.QueryFault.{QueryFault}
-use Rattle.tg_query.specs.Requests.{from_text, params_text, path_text, span_param, span_text, to_text}
-use Rattle.tg_query.specs.Targets.{asked_of, nothing, scope_word, with_piece, with_pieces, with_span}
+use Rattle.tg_query.specs.Requests.{from_text, path_text, span_param, span_text, to_text}
+use Rattle.tg_query.specs.Targets.{asked_of, nothing, scope_word, with_pieces, with_span}
 use Rattle.tg_query.specs.declared.targets.Asked.{Asked}
-use Rattle.tg_query.proofs.Visible.{Plain, Visible, all_from, decimal_plain, escaped_plain, is_plain, is_visible, letters_plain, plain_is_visible, plain_without}
-
-abbrev pub AreBytes : List ℕ → Type 0
-AreBytes bytes = All (λ (b : ℕ). b < 256) bytes
+use Rattle.tg_query.proofs.Visible.{Plain, Visible, decimal_plain, escaped_plain, is_plain, is_visible, letters_plain, plain_is_visible, plain_without}
 
 -- ---- paths
 
@@ -143,16 +141,8 @@ path_no_query (name ∷ names) are =
 
 -- ---- ranges
 
-wide : (n : ℕ) → n < 2 ^ 63 → n < 2 ^ 64
-wide n h = omega arith
-
 number_again : (n : ℕ) → n < 2 ^ 63 → NumberText (decimal n) n
-number_again n h =
-    let told = decimal_is_IsNumeral n (wide n h) in
-    record {
-      written = record { digits = told.0; few = length-decimal-le 19 n (omega arith) (omega arith) (wide n h); number_is = sym told.1 };
-      small = h;
-    }
+number_again n h = record { written = decimal_digits n h; small = h }
 
 from_again : (from : SpanFrom) → IsFrom from → FromText (from_text from) from
 from_again (Start start) h = number_again start h
@@ -180,12 +170,11 @@ span_again span h = record {
 abbrev Part : List ℕ → Type 0
 Part text = Plain text × All (λ (b : ℕ). b ≢ 37) text
 
-digits_no_percent : (text : List ℕ) → AllDigits 10 text → All (λ (b : ℕ). b ≢ 37) text
-digits_no_percent [] all = All-nil (λ (b : ℕ). b ≢ 37)
-digits_no_percent (b ∷ text) all = All-cons (λ (b : ℕ). b ≢ 37) b text (λ e. omega (arith, all.0, ap digit_value e)) (digits_no_percent text all.1)
-
 decimal_part : (n : ℕ) → n < 2 ^ 63 → Part (decimal n)
-decimal_part n h = (decimal_plain n (wide n h), digits_no_percent (decimal n) (decimal_is_IsNumeral n (wide n h)).0.1)
+decimal_part n h = (
+  decimal_plain n h,
+  digits_all (λ (b : ℕ). b ≢ 37) (λ b digit e. omega (arith, digit, ap digit_value e)) (decimal n) (decimal_digits n h).digits.1,
+)
 
 part_cons : (b : ℕ) (text : List ℕ) → is_plain b ≡ true → b ≢ 37 → Part text → Part (b ∷ text)
 part_cons b text plain other h = (All-cons (λ (b : ℕ). is_plain b ≡ true) b text plain h.0, All-cons (λ (b : ℕ). b ≢ 37) b text other h.1)
@@ -299,19 +288,19 @@ asked_again forms.Car scope (Some span) h law =
     subst (λ (s : Scope). asked_of (Some (params_of forms.Car s (Some span))) ≡ Ok (car_asked s (Some span))) (sym h.0) (with_range span h.1 read)
 
 scope_visible : (scope : Scope) → Visible (codes "format=car&dag-scope=" ++ scope_word scope)
-scope_visible scopes.Block = all_from is_visible (codes "format=car&dag-scope=block") refl
-scope_visible scopes.Entity = all_from is_visible (codes "format=car&dag-scope=entity") refl
-scope_visible scopes.All = all_from is_visible (codes "format=car&dag-scope=all") refl
+scope_visible scopes.Block = AllPass-from_list_all is_visible (codes "format=car&dag-scope=block") refl
+scope_visible scopes.Entity = AllPass-from_list_all is_visible (codes "format=car&dag-scope=entity") refl
+scope_visible scopes.All = AllPass-from_list_all is_visible (codes "format=car&dag-scope=all") refl
 
 span_visible : (scope : Scope) (span : Option SpanParts) → IfSome span (λ span. (scope ≡ scopes.Entity) × IsSpan span) → Visible (span_param span)
 span_visible scope None h = All-nil (λ (b : ℕ). is_visible b ≡ true)
 span_visible scope (Some span) h =
-    All-append (λ (b : ℕ). is_visible b ≡ true) (codes "&entity-bytes=") (span_text span) (all_from is_visible (codes "&entity-bytes=") refl)
+    All-append (λ (b : ℕ). is_visible b ≡ true) (codes "&entity-bytes=") (span_text span) (AllPass-from_list_all is_visible (codes "&entity-bytes=") refl)
     (plain_is_visible (span_text span) (span_part span h.1).0)
 
 pub params_visible : (form : Form) (scope : Scope) (span : Option SpanParts) → IfSome span (λ span. (scope ≡ scopes.Entity) × IsSpan span)
     → Visible (params_of form scope span)
-params_visible forms.Raw scope span h = all_from is_visible (codes "format=raw") refl
+params_visible forms.Raw scope span h = AllPass-from_list_all is_visible (codes "format=raw") refl
 params_visible forms.Car scope span h =
     subst Visible (append_assoc (codes "format=car&dag-scope=") (scope_word scope) (span_param span))
     (All-append (λ (b : ℕ). is_visible b ≡ true) (codes "format=car&dag-scope=" ++ scope_word scope) (span_param span) (scope_visible scope) (span_visible scope span h))

@@ -1,8 +1,8 @@
 -- Targets: what is computed is what the grammar says.
-use Rattle.std.proofs.Common.{All, Bool, Err, List, None, Ok, Option, Result, Some, [], ap, cond, false, inl, inr, refl, subst, sym, true, ℕ, ◌++◌, ◌∙◌, ◌∷◌, ◌≡◌, ◌≢◌}
+use Rattle.std.proofs.Common.{Bool, Err, List, None, Ok, Option, Result, Some, [], ap, false, refl, subst, sym, true, ℕ, ◌++◌, ◌∙◌, ◌∷◌, ◌≡◌}
 use Rattle.std.specs.List.{cons_option}
 use Rattle.std.specs.Prelude.{bytes_eq, codes, if◌then◌else◌, ◌↔◌}
-use Rattle.std.proofs.lemmas.Bool.{cond-false, cond-true, cond_both}
+use Rattle.std.proofs.lemmas.Bool.{cond-false, cond_both}
 use Rattle.std.proofs.lemmas.Slice.Eq.{bytes_eq-Decides}
 use Rattle.tg_cid.specs.Cid.{CidParts}
 use Rattle.tg_model.specs.Queries.{SpanParts}
@@ -10,16 +10,17 @@ use Rattle.tg_model.specs.declared.queries.Form.{Form}
 use Rattle.tg_model.specs.declared.queries.Form.TheVariants as forms
 use Rattle.tg_model.specs.declared.queries.Scope.{Scope}
 use Rattle.tg_model.specs.declared.queries.Scope.TheVariants as scopes
+use Rattle.tg_path.specs.AnswerLaws.{bind_ok}
 use Rattle.tg_path.specs.Answers.{unless, ◌>>=◌}
 use Rattle.tg_path.specs.Cuts.{IsCut, behind, behind_front, cut_first}
 use Rattle.tg_path.specs.Spans.{SpanText, span_of}
 use Rattle.tg_path.specs.WordTexts.{Rooted, RootedText, ipfs, rooted_of}
 use Rattle.tg_path.specs.declared.fault.QueryFault.{QueryFault}
-use Rattle.tg_path.specs.declared.fault.QueryFault.TheVariants.{BadFormat, BadPath, BadScope, Doubled}
+use Rattle.tg_path.specs.declared.fault.QueryFault.TheVariants.{BadFormat, BadScope, Doubled}
 use Rattle.tg_query.specs.Targets.{AsksFor, Param, TargetText, asked_of, behind_ipfs, form_of, form_word, is_given, nothing, pair_of, pieces_of, scope_of, scope_word, target_by, target_of, target_with, value_with, values_under, with_format, with_param, with_piece, with_pieces, with_scope, with_span}
 use Rattle.tg_query.specs.declared.targets.Asked.{Asked}
 use Rattle.tg_query.specs.declared.targets.Target.{Target}
-use Rattle.tg_query.proofs.GoodTargets.{SpanLaw, bind_ok, unless_ok}
+use Rattle.tg_query.proofs.GoodTargets.{SpanLaw, unless_ok}
 
 -- ---- one parameter
 

@@ -1,29 +1,17 @@
 -- Bytes of printed requests: visible ones, and those that are none of the marks that cut a target.
-use Rattle.std.proofs.Common.{◌≡◌, ◌≢◌, ◌⊎◌, ℕ, zero, suc, ◌+◌, ◌^◌, ◌<◌, ◌≤◌, Bool, true, false, All, List, [], ◌∷◌, ◌++◌, get_or, length, refl, sym, subst, ◌∙◌, inl, inr, arith, zero-add}
+use Rattle.std.proofs.Common.{◌≡◌, ◌≢◌, ℕ, ◌^◌, ◌<◌, ◌≤◌, Bool, true, false, All, List, [], ◌∷◌, refl, subst, inl, inr, arith}
 use Rattle.std.specs.Char.{digit_value}
-use Rattle.std.specs.List.{flat_map, list_all, range_with_len}
-use Rattle.std.specs.Prelude.{codes, decimal, nat_le, nat_lt, not, ◌&&◌, ◌||◌, ◌==◌}
-use Rattle.std.specs.Str.Parse.{AllDigits}
+use Rattle.std.specs.List.{list_all, range_with_len}
+use Rattle.std.specs.Prelude.{decimal, nat_le, nat_lt, not, ◌&&◌, ◌||◌, ◌==◌}
 use Rattle.httparse.specs.Grammar.{is_uri_byte, is_value_byte}
 use Rattle.std.proofs.lemmas.Bool.Decides.{nat_tests}
-use Rattle.std.proofs.lemmas.Bool.{and_from, and_parts, le-leb, leb-true, lt-ltb, ltb-true}
-use Rattle.std.proofs.lemmas.Fmt.{decimal_is_IsNumeral}
-use Rattle.std.proofs.lemmas.List.Elements.{All-append, All-cons, All-head, All-nil, All-tail, All-weaker}
-use Rattle.std.proofs.lemmas.List.FromFn.{get_or-range_with_len, length-range_with_len}
+use Rattle.std.proofs.lemmas.Bool.{and_from, and_parts, le-leb, leb-true, lt-ltb}
+use Rattle.std.proofs.lemmas.List.Elements.{All-append, All-head, All-nil, All-tail, All-weaker}
+use Rattle.std.proofs.lemmas.List.Sums.{AllPass-from_list_all}
 use Rattle.tg_base32.specs.Base32.{IsLetter}
+use Rattle.tg_digits.specs.DigitLaws.{decimal_digits, digits_all}
+use Rattle.tg_escape.specs.ByteTests.{by_table}
 use Rattle.tg_model.specs.Texts.{escaped, escaped_byte}
-
--- ---- tests over all bytes of ASCII
-
-agree_at : (test : ℕ → Bool) (xs : List ℕ) → list_all test xs ≡ true → (i : ℕ) → i < length xs → test (get_or xs i 0) ≡ true
-agree_at test [] t i inside = absurd (omega arith)
-agree_at test (x ∷ xs) t zero inside = (and_parts (test x) (list_all test xs) t).0
-agree_at test (x ∷ xs) t (suc i) inside = agree_at test xs (and_parts (test x) (list_all test xs) t).1 i (omega arith)
-
-by_table : (test : ℕ → Bool) (size : ℕ) → list_all test (range_with_len 0 size) ≡ true → (b : ℕ) → b < size → test b ≡ true
-by_table test size t b h =
-    subst (λ (n : ℕ). test n ≡ true) (get_or-range_with_len 0 size b 0 h ∙ zero-add b)
-    (agree_at test (range_with_len 0 size) t b (omega (arith, length-range_with_len 0 size, h)))
 
 implied : (x y : Bool) → (not x || y) ≡ true → x ≡ true → y ≡ true
 implied true y e h = e
@@ -43,12 +31,6 @@ Plain bytes = All (λ (b : ℕ). is_plain b ≡ true) bytes
 
 abbrev pub Visible : List ℕ → Type 0
 Visible bytes = All (λ (b : ℕ). is_visible b ≡ true) bytes
-
-pub all_from : (test : ℕ → Bool) (bytes : List ℕ) → list_all test bytes ≡ true → All (λ (b : ℕ). test b ≡ true) bytes
-all_from test [] t = All-nil (λ (b : ℕ). test b ≡ true)
-all_from test (b ∷ bytes) t =
-    let both = and_parts (test b) (list_all test bytes) t in
-    All-cons (λ (b : ℕ). test b ≡ true) b bytes both.0 (all_from test bytes both.1)
 
 visible_below : (b : ℕ) → is_visible b ≡ true → b < 128
 visible_below b h = let both = and_parts (nat_le 33 b) (nat_le b 126) h in omega (arith, leb-true b 126 both.1)
@@ -96,7 +78,7 @@ pub letters_plain : (text : List ℕ) → All IsLetter text → Plain text
 letters_plain text = All-weaker IsLetter (λ (b : ℕ). is_plain b ≡ true) letter_plain text
 
 escaped_byte_plain : (b : ℕ) → b < 256 → Plain (escaped_byte b)
-escaped_byte_plain b h = all_from is_plain (escaped_byte b) (by_table (λ b. list_all is_plain (escaped_byte b)) 256 refl b h)
+escaped_byte_plain b h = AllPass-from_list_all is_plain (escaped_byte b) (by_table (λ b. list_all is_plain (escaped_byte b)) 256 refl b h)
 
 pub escaped_plain : (name : List ℕ) → All (λ (b : ℕ). b < 256) name → Plain (escaped name)
 escaped_plain [] are = All-nil (λ (b : ℕ). is_plain b ≡ true)
@@ -111,12 +93,8 @@ digit_test b = not (nat_lt (digit_value b) 10) || is_plain b
 digit_low : (b : ℕ) → digit_value b < 10 → b < 128
 digit_low b h = grind (arith, nat_tests)
 
-digits_plain : (text : List ℕ) → AllDigits 10 text → Plain text
-digits_plain [] all = All-nil (λ (b : ℕ). is_plain b ≡ true)
-digits_plain (b ∷ text) all =
-    All-cons (λ (b : ℕ). is_plain b ≡ true) b text
-    (implied (nat_lt (digit_value b) 10) (is_plain b) (by_table digit_test 128 refl b (digit_low b all.0)) (lt-ltb (digit_value b) 10 all.0))
-    (digits_plain text all.1)
+digit_plain : (b : ℕ) → digit_value b < 10 → is_plain b ≡ true
+digit_plain b h = implied (nat_lt (digit_value b) 10) (is_plain b) (by_table digit_test 128 refl b (digit_low b h)) (lt-ltb (digit_value b) 10 h)
 
-pub decimal_plain : (n : ℕ) → n < 2 ^ 64 → Plain (decimal n)
-decimal_plain n h = digits_plain (decimal n) (decimal_is_IsNumeral n h).0.1
+pub decimal_plain : (n : ℕ) → n < 2 ^ 63 → Plain (decimal n)
+decimal_plain n h = digits_all (λ (b : ℕ). is_plain b ≡ true) digit_plain (decimal n) (decimal_digits n h).digits.1

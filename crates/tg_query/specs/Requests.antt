@@ -1,7 +1,7 @@
 -- The request that a client prints for a query (RFC 9112, section 3; Trustless Gateway specification), and its law.
 use Rattle.httparse.specs.Ascii.{crlf_bytes}
 use Rattle.std.specs.List.{flat_map}
-use Rattle.std.specs.Prelude.{All, Bool, List, None, Option, Some, [], codes, decimal, if◌then◌else◌, length, ℕ, ◌++◌, ◌<◌, ◌∷◌, ◌≡◌, ◌≤◌}
+use Rattle.std.specs.Prelude.{All, Bool, List, None, Option, Some, [], codes, decimal, if◌then◌else◌, length, ℕ, ◌++◌, ◌∷◌, ◌≡◌, ◌≤◌}
 use Rattle.std.specs.Str.Parse.{IsNumeral, digits_value}
 use Rattle.tg_ascii.specs.Ascii.{slash}
 use Rattle.tg_cid.specs.Computed.{cid_text}
@@ -13,7 +13,7 @@ use Rattle.tg_model.specs.declared.queries.Scope.{Scope}
 use Rattle.tg_model.specs.declared.queries.SpanFrom.{SpanFrom}
 use Rattle.tg_model.specs.declared.queries.SpanFrom.TheVariants.{Last, Start}
 use Rattle.tg_query.specs.Accepts.{car_type, raw_type}
-use Rattle.tg_query.specs.Targets.{form_word, scope_word}
+use Rattle.tg_query.specs.Targets.{scope_word}
 
 -- HOST:PORT as the program takes it: 3 to 255 visible bytes of ASCII, and behind the last colon the digits of a port
 pub record IsAddr (addr : List ℕ) : Type 0 where

@@ -2,9 +2,9 @@
 -- Trustless Gateway specifications).
 use Rattle.percent_encoding.specs.Percent.{percent_decode}
 use Rattle.std.specs.List.{filter_map}
-use Rattle.std.specs.Prelude.{All, Bool, Err, IfSome, List, MatchOption, None, Ok, Option, Result, Some, [], bytes_eq, codes, false, if◌then◌else◌, length, map, true, ℕ, ◌++◌, ◌∷◌, ◌≡◌, ◌≢◌, ◌≤◌}
+use Rattle.std.specs.Prelude.{All, Bool, Err, IfSome, List, None, Ok, Option, Result, Some, [], bytes_eq, codes, false, if◌then◌else◌, length, true, ℕ, ◌++◌, ◌∷◌, ◌≡◌, ◌≢◌, ◌≤◌}
 use Rattle.tg_model.specs.EntryNames.{IsGoodName}
-use Rattle.tg_model.specs.Queries.{IsSpan, SpanParts}
+use Rattle.tg_model.specs.Queries.{IsSpan}
 use Rattle.tg_model.specs.declared.queries.Form.{Form}
 use Rattle.tg_model.specs.declared.queries.Form.TheVariants as forms
 use Rattle.tg_model.specs.declared.queries.Scope.{Scope}

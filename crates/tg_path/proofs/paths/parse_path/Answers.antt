@@ -2,12 +2,11 @@ use Rattle.std.proofs.Common.{rules, tests, ap, arith, sym, Bool, List, length, 
 use Rattle.std.proofs.lemmas.Iterator.Consumers.{YieldsList-at, YieldsList-from_filter}
 use Rattle.std.proofs.lemmas.Iterator.Splits.{YieldsList-from_slice_split}
 use Rattle.std.proofs.lemmas.Result.{err_from_is_err_and}
-use Rattle.std.proofs.lemmas.Bool.{eqb-true}
 use Rattle.std.proofs.lemmas.List.{length-map}
 use Rattle.percent_encoding.specs.Percent.{percent_decode}
 use Rattle.tg_path.specs.Cuts.{parts_at}
+use Rattle.tg_path.specs.Roads.{end_by, turn_by}
 use Rattle.tg_path.proofs.PathTexts.{all_names, no_name, too_many}
-use Rattle.tg_path.proofs.Roads.{end_by, turn_by}
 use Rattle.tg_path.proofs.paths.parse_path.Goals as goal
 
 pub returns-then-as_slice-eq-MAX_SEGMENTS : goal.returns-then-as_slice-eq-MAX_SEGMENTS
@@ -50,4 +49,4 @@ returns c =
     (YieldsList-at c.filter-segments.ensures.source
     (YieldsList-from_slice_split _ (λ b. b == 47) text c.split.ensures.rest c.split.ensures.done c.split.ensures.closure (λ x b q k. search (rules, tests))))
     c.filter-segments.ensures.closure (λ x b q k. search (rules, tests)))) in
-    all_names text c.loop-segment.path c.loop-segment.yielded end c.loop-segment.invariant.2 c.loop-segment.invariant.3 c.loop-segment.invariant.4
+    all_names text c.loop-segment.path c.loop-segment.yielded end.0 c.loop-segment.invariant.2 c.loop-segment.invariant.3 c.loop-segment.invariant.4

@@ -1,4 +1,4 @@
-use Rattle.std.proofs.Common.{List, None, Option, Some, ap, ap₂, option_copied, sym, ℕ, ◌∙◌}
+use Rattle.std.proofs.Common.{ap, ap₂, option_copied, sym, ◌∙◌}
 use Rattle.tg_path.specs.Spans.{span_by, span_with}
 use Rattle.tg_path.proofs.SpanTexts.{parts_span}
 use Rattle.tg_path.proofs.spans.parse_span.Goals as goal

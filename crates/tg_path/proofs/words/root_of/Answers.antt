@@ -1,4 +1,4 @@
-use Rattle.std.proofs.Common.{Ok, subst}
+use Rattle.std.proofs.Common.{subst}
 use Rattle.std.proofs.lemmas.Result.{err_from_is_err_and}
 use Rattle.tg_path.specs.Answers.{Gives}
 use Rattle.tg_path.specs.CidAnswers.{CidAnswer, root_of, with_query_fault}

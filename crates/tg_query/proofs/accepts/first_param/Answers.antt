@@ -1,11 +1,10 @@
-use Rattle.std.proofs.Common.{rules, tests, ap, arith, length, option_copied, sym, ◌∙◌, ◌==◌}
+use Rattle.std.proofs.Common.{rules, tests, ap, arith, length, option_copied, sym, ◌≤◌, ◌∙◌, ◌==◌}
 use Rattle.std.proofs.lemmas.Iterator.Consumers.{YieldsList-at}
 use Rattle.std.proofs.lemmas.Iterator.Splits.{YieldsList-from_slice_split}
-use Rattle.std.proofs.lemmas.List.{length_push}
 use Rattle.tg_path.specs.Cuts.{cut_at}
-use Rattle.tg_query.specs.Accepts.{first_param, param_in}
+use Rattle.tg_path.specs.Roads.{end_by, turn_by}
+use Rattle.tg_query.specs.Accepts.{param_in}
 use Rattle.tg_query.proofs.Firsts.{first_here, first_nowhere, first_passed, one_more}
-use Rattle.tg_query.proofs.Roads.{end_by, turn_by}
 use Rattle.tg_query.proofs.accepts.first_param.Goals as goal
 
 pub returns-in-Some-value_under : goal.returns-in-Some-value_under
@@ -40,4 +39,5 @@ returns c =
     end_by (λ part. part.now) parts c.loop-param.yielded _ c.loop-param.yielded_by _ _ c.in-None.is c.next.ensures.steps
     (YieldsList-at c.into_iter-param-iterator.ensures.into_iter_gives
     (YieldsList-from_slice_split _ (λ b. b == 59) c.args.params.now c.split-param-items.ensures.rest c.split-param-items.ensures.done c.split-param-items.ensures.closure (λ x b q k. search (rules, tests)))) in
-    sym (c.loop-param.invariant.2 ∙ first_nowhere (param_in c.args.name.now) parts (length c.loop-param.yielded) end)
+    let past : length parts ≤ length c.loop-param.yielded = omega (arith, end.1) in
+    sym (c.loop-param.invariant.2 ∙ first_nowhere (param_in c.args.name.now) parts (length c.loop-param.yielded) past)

@@ -1,11 +1,10 @@
-use Rattle.std.proofs.Common.{rules, tests, arith, length, sym, ◌∙◌, ◌==◌}
+use Rattle.std.proofs.Common.{rules, tests, arith, length, sym, ◌≤◌, ◌∙◌, ◌==◌}
 use Rattle.std.proofs.lemmas.Iterator.Consumers.{YieldsList-at}
 use Rattle.std.proofs.lemmas.Iterator.Splits.{YieldsList-from_slice_split}
-use Rattle.std.proofs.lemmas.List.{length_push}
 use Rattle.tg_path.specs.Cuts.{cut_at}
-use Rattle.tg_query.specs.Accepts.{first_form, form_of_range}
+use Rattle.tg_path.specs.Roads.{end_by, turn_by}
+use Rattle.tg_query.specs.Accepts.{form_of_range}
 use Rattle.tg_query.proofs.Firsts.{first_here, first_nowhere, first_passed, one_more}
-use Rattle.tg_query.proofs.Roads.{end_by, turn_by}
 use Rattle.tg_query.proofs.accepts.form_in.Goals as goal
 
 pub returns-in-Some-form_of_range : goal.returns-in-Some-form_of_range
@@ -40,4 +39,5 @@ returns c =
     end_by (λ part. part.now) parts c.loop-range.yielded _ c.loop-range.yielded_by _ _ c.in-None.is c.next.ensures.steps
     (YieldsList-at c.into_iter-range-iterator.ensures.into_iter_gives
     (YieldsList-from_slice_split _ (λ b. b == 44) c.args.value.now c.split-range-items.ensures.rest c.split-range-items.ensures.done c.split-range-items.ensures.closure (λ x b q k. search (rules, tests)))) in
-    sym (c.loop-range.invariant.2 ∙ first_nowhere form_of_range parts (length c.loop-range.yielded) end)
+    let past : length parts ≤ length c.loop-range.yielded = omega (arith, end.1) in
+    sym (c.loop-range.invariant.2 ∙ first_nowhere form_of_range parts (length c.loop-range.yielded) past)

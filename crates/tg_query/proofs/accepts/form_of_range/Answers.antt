@@ -1,4 +1,4 @@
-use Rattle.std.proofs.Common.{List, Option, ap, sym, ℕ, ◌∙◌}
+use Rattle.std.proofs.Common.{List, Option, ap, ℕ, ◌∙◌}
 use Rattle.httparse.specs.Grammar.{trim_ows}
 use Rattle.tg_query.specs.Accepts.{form_of_range, form_of_type}
 use Rattle.tg_query.proofs.accepts.form_of_range.Goals as goal

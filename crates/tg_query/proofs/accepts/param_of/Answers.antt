@@ -1,4 +1,4 @@
-use Rattle.std.proofs.Common.{List, Option, Some, None, ap, option_copied, sym, ℕ, ◌∙◌}
+use Rattle.std.proofs.Common.{List, Option, ap, option_copied, sym, ℕ, ◌∙◌}
 use Rattle.tg_query.specs.Accepts.{first_param, or_else, param_of, params_in}
 use Rattle.tg_query.proofs.accepts.param_of.Goals as goal
 

@@ -1,4 +1,4 @@
-use Rattle.std.proofs.Common.{List, ap, inr, ℕ, ◌++◌, ◌∙◌}
+use Rattle.std.proofs.Common.{List, ap, ℕ, ◌++◌, ◌∙◌}
 use Rattle.tg_query.proofs.RootTexts.{text_is}
 use Rattle.tg_query.proofs.requests.push_root.Goals as goal
 

@@ -1,11 +1,11 @@
-use Rattle.std.proofs.Common.{rules, tests, ap, length, sym, ◌∙◌, ◌==◌}
+use Rattle.std.proofs.Common.{rules, tests, arith, length, ◌≤◌, ◌∙◌, ◌==◌}
 use Rattle.std.proofs.lemmas.Iterator.Consumers.{YieldsList-at}
 use Rattle.std.proofs.lemmas.Iterator.Splits.{YieldsList-from_slice_split}
 use Rattle.std.proofs.lemmas.Result.{err_from_is_err_and}
 use Rattle.tg_path.specs.Cuts.{cut_at}
+use Rattle.tg_path.specs.Roads.{end_by, turn_by}
 use Rattle.tg_query.specs.Targets.{nothing, with_pieces}
 use Rattle.tg_query.proofs.Pieces.{one_more, piece_refused, piece_taken, pieces_end}
-use Rattle.tg_query.proofs.Roads.{end_by, turn_by}
 use Rattle.tg_query.proofs.targets.parse_pieces.Goals as goal
 
 pub returns-in_err-asked : goal.returns-in_err-asked
@@ -40,4 +40,5 @@ returns c =
     end_by (λ part. part.now) parts c.loop-piece.yielded _ c.loop-piece.yielded_by _ _ c.in-None.is c.next.ensures.steps
     (YieldsList-at c.into_iter-piece-iterator.ensures.into_iter_gives
     (YieldsList-from_slice_split _ (λ b. b == 38) c.args.query.now c.split-piece-items.ensures.rest c.split-piece-items.ensures.done c.split-piece-items.ensures.closure (λ x b q k. search (rules, tests)))) in
-    pieces_end parts (length c.loop-piece.yielded) c.loop-piece.asked (with_pieces nothing parts) end c.loop-piece.invariant.2
+    let past : length parts ≤ length c.loop-piece.yielded = omega (arith, end.1) in
+    pieces_end parts (length c.loop-piece.yielded) c.loop-piece.asked (with_pieces nothing parts) past c.loop-piece.invariant.2

@@ -10,5 +10,5 @@ pub turn_by : {S A B : Type 0} {steps : S → Option A → S → Type 0} {s : S}
 turn_by v all xs t y r u x is step road = YieldsList-turn road xs t y r u x is step
 
 pub end_by : {S A B : Type 0} {steps : S → Option A → S → Type 0} {s : S} (v : A → B) (all : List B) (xs : List A) (t : S) (y : Yields steps s xs t)
-    → (r : Option A) (u : S) → r ≡ None → steps t r u → YieldsList steps v s all → map v xs ≡ all
-end_by v all xs t y r u is step road = (YieldsList-end road xs t y r u is step).0
+    → (r : Option A) (u : S) → r ≡ None → steps t r u → YieldsList steps v s all → (map v xs ≡ all) × (length xs ≡ length all)
+end_by v all xs t y r u is step road = YieldsList-end road xs t y r u is step
