@@ -1,25 +1,14 @@
 -- The line of an entry, and the lines of entries.
-use Rattle.std.proofs.Common.{add-one, append-nil, inr, suc, ◌+◌, ◌<◌, get_or, length, take, drop, ◌≡◌, List, [], ◌∷◌, ℕ, ◌++◌, append_assoc, ap, sym, take-append-drop, drop-cons, ◌∙◌}
+use Rattle.std.proofs.Common.{add-one, append-nil, suc, ◌+◌, ◌<◌, get_or, length, take, drop, ◌≡◌, List, [], ◌∷◌, ℕ, ◌++◌, append_assoc, ap, sym, take-append-drop, drop-cons, ◌∙◌}
 use Rattle.std.specs.List.{flat_map}
 use Rattle.std.specs.Prelude.{map}
 use Rattle.std.proofs.Math.Seq.{take-suc}
 use Rattle.std.proofs.lemmas.List.{map-append}
 use Rattle.std.proofs.lemmas.List.Concat.{flat_map-append}
-use Rattle.tg_cid.specs.Cid.{CidParts}
 use Rattle.tg_cid.specs.Computed.{cid_text}
-use Rattle.tg_cid.specs.Spelling.{CidBytes, CidText}
 use Rattle.tg_listing.specs.Listings.{named_entry}
 use Rattle.tg_model.specs.Texts.{escaped, listing_line}
 use Rattle.tg_model.specs.declared.kinds.Entry.{Entry}
-
--- the text of a CID's version 1 is the one that is computed
-pub text_is : ((a : CidParts) (s t : List ℕ) → CidText a s → CidText a t → s ≡ t)
-    → ((cid : CidParts) (bytes : List ℕ) → CidBytes cid bytes → CidText (record cid { version = 1 }) (cid_text cid))
-    → (cid : CidParts) (text : List ℕ) → CidText (record cid { version = 1 }) text → text ≡ cid_text cid
-unfolding cid_text
-text_is one computes cid text is =
-    let first : CidParts = record cid { version = 1 } in
-    one first text (cid_text cid) is (computes first is.bytes (inr is.in_bytes))
 
 -- a line in its four parts
 pub line_is : (old text shown : List ℕ) (entry : Entry) → text ≡ cid_text entry.cid → shown ≡ escaped entry.name

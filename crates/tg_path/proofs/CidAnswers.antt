@@ -5,13 +5,13 @@ use Rattle.std.specs.Bool.{Decides}
 use Rattle.std.specs.Prelude.{MatchResult, if◌then◌else◌, nat_le, nat_lt, ◌↔◌, ◌==◌}
 use Rattle.std.proofs.lemmas.Bool.{cond-false, cond-true, cond_both, eq-eqb, eqb-false, eqb-true, le-leb, le-ltb, leb-true, ltb-false, ltb-true}
 use Rattle.std.proofs.lemmas.Bool.Decides.{Decides-and, Decides-by_and, Decides-ltb}
-use Rattle.std.proofs.lemmas.List.{append-nil, append_assoc, length-append, length-take-le, take-append-drop}
+use Rattle.std.proofs.lemmas.List.{append_assoc, length-append, length-take-le, take-append-drop}
 use Rattle.std.proofs.lemmas.List.Elements.{All-take}
 use Rattle.tg_base32.specs.Base32.{Base32Text}
 use Rattle.tg_base32.specs.Laws.{TextLaws}
 use Rattle.tg_bytes.specs.Lists.{AreBytes, behind_parts, rest_bytes}
 use Rattle.tg_cid.specs.Cid.{CidParts}
-use Rattle.tg_cid.specs.CodeLaws.{code_is}
+use Rattle.tg_cid.specs.CodeLaws.{code_is, size_decides, varints_push}
 use Rattle.tg_cid.specs.Computed.{is_digest_size}
 use Rattle.tg_cid.specs.Faults.{Follows, HasBytesCause, HasTextCause, IsCodec, IsHash, IsVersionZero, MayBegin}
 use Rattle.tg_cid.specs.Spelling.{CidText, CidV1Bytes, IsDigestSize, IsTaken, MultibaseText, Varints, codec_code, hash_code}
@@ -31,12 +31,6 @@ use Rattle.tg_path.proofs.Letters.{letters_found, letters_told}
 
 -- ---- numbers one after another
 
--- one number more behind others
-varints_more : (numbers : List ℕ) (n : ℕ) (front a : List ℕ) → Varints numbers front → VarintSpelling n a → Varints (numbers ++ n ∷ []) (front ++ a)
-varints_more [] n front a e v = (a, [], ap (λ (l : List ℕ). l ++ a) e ∙ sym (append-nil a), v, refl)
-varints_more (m ∷ numbers) n front a h v =
-    (h.0, h.1 ++ a, ap (λ (l : List ℕ). l ++ a) h.2 ∙ append_assoc h.0 h.1 a, h.3, varints_more numbers n h.1 a h.4 v)
-
 -- the numbers stand at the front of bytes that are no CIDv0, and the rest follows them
 record Reached (numbers all rest : List ℕ) : Type 0 where
   other : IsVersionZero all → ⊥
@@ -53,7 +47,7 @@ more_reached numbers all rest n a after r e v = record {
     front = r.follows.front ++ a;
     whole = r.follows.whole ∙ (ap (λ (l : List ℕ). r.follows.front ++ l) e ∙ sym (append_assoc r.follows.front a after));
     at_is = refl;
-    spelled = varints_more numbers n r.follows.front a r.follows.spelled v;
+    spelled = varints_push numbers r.follows.front n a r.follows.spelled v;
   };
   are = rest_bytes a after (subst AreBytes e r.are);
 }
@@ -115,10 +109,6 @@ then_told laws numbers all rest r may next tell (Some found) e =
     tell found.0 found.1 (more_reached numbers all rest found.0 told.0 found.1 r told.1 told.2)
 
 -- ---- the steps, the last one first
-
-size_decides : (hash : HashKind) (size : ℕ) → Decides (is_digest_size hash size) (IsDigestSize hash size)
-size_decides Sha256 size = (eqb-true size 32, eq-eqb size 32)
-size_decides Identity size = (λ e. absurd cc, λ h. absurd h)
 
 abbrev numbers_of : Codec → HashKind → ℕ → List ℕ
 numbers_of codec hash size = 1 ∷ codec_code codec ∷ hash_code hash ∷ size ∷ []

@@ -1,6 +1,5 @@
 mod Firsts
 mod Pieces
-mod RootTexts
 mod Growing
 mod GoodTargets
 mod Visible
