@@ -6,7 +6,7 @@ ghost use Rattle.tg_app.specs.Blocks.{IsNoBlock, ReadBlock, refusal_for};
 
 use crate::refusal::Refusal;
 use std::alloc::{AllocError, Global};
-use tg_bytes::Bytes;
+use tg_bytes::{Bytes, zeros};
 use tg_cid::{Cid, MAX_BLOCK_LEN};
 use tg_streams::{Source, read_front};
 
@@ -61,11 +61,4 @@ pub fn block_buffer(alloc: Global) -> Result<Vec<u8>, AllocError>
     ensures { IfOk result (λ buffer. vec_len buffer ≡ max_block_len + 1) }
 {
     zeros(alloc, MAX_BLOCK_LEN + 1)
-}
-
-/// A buffer of this size.
-fn zeros(alloc: Global, size: usize) -> Result<Vec<u8>, AllocError>
-    ensures { IfOk result (λ buffer. vec_len buffer ≡ size) }
-{
-    vec![in alloc; 0; size]
 }

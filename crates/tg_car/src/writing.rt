@@ -7,7 +7,7 @@ ghost use Rattle.tg_car.specs.Writing.{HeaderOf};
 
 use crate::section::MAX_HEAD_LEN;
 use std::alloc::{AllocError, Global};
-use tg_bytes::Bytes;
+use tg_bytes::{Bytes, fill_front};
 use tg_cid::Cid;
 
 // The map up to the byte string of its one root, and behind it.
@@ -73,12 +73,4 @@ fn fill_both(room: &mut [u8], first: &[u8], second: &[u8])
     let (head, rest) = room.split_at_mut(first.len());
     head.copy_from_slice(first);
     fill_front(rest, second);
-}
-
-/// Copies the bytes into the front of the room.
-fn fill_front(room: &mut [u8], bytes: &[u8])
-    requires { length bytes.now ≤ length room.old }
-    ensures { room.new ≡ bytes.now ++ drop (length bytes.now) room.old }
-{
-    room[..bytes.len()].copy_from_slice(bytes);
 }

@@ -1,9 +1,7 @@
 //! `check`, `cid` and `node` over streams in memory.
-ghost use Rattle.std.specs.Prelude.{◌≡◌, IfOk, vec_len};
-
-use std::alloc::{AllocError, Global};
 use std::rt::HostRuntime;
 use std::test::Fail;
+use tg_bytes::zeros;
 use tg_runs::{Failing, NONE, run_over_streams};
 
 /// The raw CID of `hello world`, that of no bytes, and the dag-pb CID of the empty directory.
@@ -118,13 +116,6 @@ fn commands_answer(rt: HostRuntime) -> Result<(), Fail> {
         }
     }
     Ok(())
-}
-
-/// So many zero bytes.
-fn zeros(alloc: Global, size: usize) -> Result<Vec<u8>, AllocError>
-    ensures { IfOk result (λ bytes. vec_len bytes ≡ size) }
-{
-    vec![in alloc; 0; size]
 }
 
 #[test]

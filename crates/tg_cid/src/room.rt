@@ -3,6 +3,7 @@ ghost use Rattle.std.specs.Prelude.{◌≡◌, ◌+◌, ◌-◌, ◌<◌, ◌≤
 ghost use Rattle.tg_cid.specs.Limits.{max_cid_len, max_digest_len};
 
 use crate::limits::{MAX_CID_LEN, MAX_DIGEST_LEN};
+use tg_bytes::fill_front;
 
 /// The digest in the front of a room whose other bytes are zero.
 pub fn in_room(digest: &[u8]) -> [u8; MAX_DIGEST_LEN]
@@ -26,14 +27,6 @@ pub fn in_longest(codes: &[u8], size: &[u8], digest: &[u8]) -> ([u8; MAX_CID_LEN
     let mut room = [0; MAX_CID_LEN];
     fill_parts(&mut room, codes, size, digest);
     (room, codes.len() + size.len() + digest.len())
-}
-
-/// Copies the bytes into the front of the room.
-fn fill_front(room: &mut [u8], bytes: &[u8])
-    requires { length bytes.now ≤ length room.old }
-    ensures { room.new ≡ bytes.now ++ drop (length bytes.now) room.old }
-{
-    room[..bytes.len()].copy_from_slice(bytes);
 }
 
 /// Copies the three into the front of the room, one behind another.

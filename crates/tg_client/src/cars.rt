@@ -1,5 +1,5 @@
 //! A CAR on an input, verified.
-ghost use Rattle.std.specs.Prelude.{◌≡◌, ◌++◌, ◌<◌, ◌≤◌, ℕ, List as Items, Some, IfOk, length, true};
+ghost use Rattle.std.specs.Prelude.{◌≡◌, ◌++◌, ◌<◌, ◌≤◌, ℕ, List as Items, Some, length, true};
 ghost use Rattle.tg_client.specs.Body.{IsVerified};
 ghost use Rattle.tg_client.specs.Ends.{HasStreamCause, IsAcceptedElse, IsRefusedElse, Verifies};
 ghost use Rattle.tg_client.specs.Received.{HasReceived, IsCarOf};
@@ -16,7 +16,8 @@ ghost use Rattle.tg_verify.specs.State.{count_of};
 use crate::body::Body;
 use crate::fault::ClientFault;
 use crate::laws::received_sections;
-use std::alloc::{AllocError, Global};
+use std::alloc::Global;
+use tg_bytes::zeros;
 use tg_car::car_laws;
 use tg_laws::{front_sections, one_fit, own_sections};
 use tg_model::{Limits, Query};
@@ -103,11 +104,4 @@ fn hear<I: Source, S: Sink>(
         }
         body.feed(&buffer[..filled], out)?;
     }
-}
-
-/// So many zero bytes.
-fn zeros(alloc: Global, size: usize) -> Result<Vec<u8>, AllocError>
-    ensures { IfOk result (λ room. length room.items ≡ size) }
-{
-    vec![in alloc; 0u8; size]
 }

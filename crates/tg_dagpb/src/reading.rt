@@ -18,7 +18,8 @@ use crate::{LINK, Link, LinkPlaces, LinkSpan, NODE, Node};
 use std::alloc::{AllocError, Global};
 use tg_bytes::{Bytes, List};
 use tg_pbtable::{
-    Field, FieldCursor, Order, PbFault, Place, Value, field_at, place_laws, table_laws,
+    Field, FieldCursor, Order, PbFault, Place, Value, copied_bytes, field_at, place_laws,
+    table_laws,
 };
 
 /// The node that a block spells.
@@ -76,21 +77,6 @@ fn copied_link(alloc: Global, bytes: &[u8], places: LinkPlaces) -> Result<Link, 
         name: copied_bytes(alloc, bytes, places.name)?,
         tsize: places.tsize,
     })
-}
-
-/// The bytes at a place, where there is one. The error is want of memory.
-fn copied_bytes(
-    alloc: Global,
-    bytes: &[u8],
-    place: Option<Place>,
-) -> Result<Option<Bytes>, AllocError>
-    requires { AreInside bytes.now place }
-    ensures { IfOk result (λ copy. copy ≡ placed_bytes bytes.now place) }
-{
-    match place {
-        Some(place) => Ok(Some(Bytes::of(alloc, place.bytes_in(bytes))?)),
-        None => Ok(None),
-    }
 }
 
 /// Whether the bytes are a node's, with the answer of `decode`; it takes no memory.

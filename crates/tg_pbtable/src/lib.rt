@@ -2,6 +2,7 @@
 #![tactic(auto)]
 
 mod computed;
+mod copying;
 mod cursor;
 mod fault;
 mod laws;
@@ -12,6 +13,7 @@ mod table;
 mod writing;
 
 pub use computed::computes;
+pub use copying::copied_bytes;
 pub use cursor::FieldCursor;
 pub use fault::PbFault;
 pub use laws::{place_laws, table_laws};

@@ -10,7 +10,8 @@ use crate::key::Key;
 use crate::pack_store::UNFINISHED_HEADER;
 use crate::place::Place;
 use indexmap::IndexMap;
-use std::alloc::{AllocError, Global};
+use std::alloc::Global;
+use tg_bytes::zeros;
 use tg_car::{CarReader, Event, Section};
 use tg_cid::MAX_BLOCK_LEN;
 use tg_files::Pack;
@@ -51,13 +52,6 @@ pub(crate) fn scan<P: Pack>(alloc: Global, pack: &mut P) -> Result<Found, PackFa
         }
     }
     Err(PackFault::OutOfMemory)
-}
-
-/// So many zero bytes.
-fn zeros(alloc: Global, size: usize) -> Result<Vec<u8>, AllocError>
-    ensures { IfOk result (λ room. length room.items ≡ size) }
-{
-    vec![in alloc; 0u8; size]
 }
 
 impl Indexing {

@@ -3,7 +3,7 @@
 
 ghost use Rattle.std.specs.Prelude.{◌≡◌, ℕ, ◌⊎◌, [], List as Items, IfOk, IfErr, OnOk, MatchResult};
 ghost use Rattle.tg_pbtable.specs.Emitted.{FieldTexts, Puts, IsSizeOf};
-ghost use Rattle.tg_pbtable.specs.Place.{AreInside, placed_bytes};
+ghost use Rattle.tg_pbtable.specs.Place.{AreInside};
 ghost use Rattle.tg_unixfs.specs.Unix.{UnixText, CanonicalText, IsUnix};
 ghost use Rattle.tg_unixfs.specs.Faults.{HasUnixCause};
 ghost use Rattle.tg_unixfs.specs.Reading.{carried};
@@ -21,8 +21,8 @@ pub use places::{UnixPlaces, places_of, size_at};
 use std::alloc::{AllocError, Global};
 use tg_bytes::{Bytes, List};
 use tg_pbtable::{
-    PbFault, Place, Rule, Times, Wire, put_bytes, put_number, size_of_bytes, size_of_number,
-    table_laws,
+    PbFault, Place, Rule, Times, Wire, copied_bytes, put_bytes, put_number, size_of_bytes,
+    size_of_number, table_laws,
 };
 use thiserror::Error;
 
@@ -154,21 +154,6 @@ fn copied(alloc: Global, bytes: &[u8], places: UnixPlaces) -> Result<Unix, Alloc
         hash: places.hash,
         fanout: places.fanout,
     })
-}
-
-/// The bytes at a place, where there is one. The error is want of memory.
-fn copied_bytes(
-    alloc: Global,
-    bytes: &[u8],
-    place: Option<Place>,
-) -> Result<Option<Bytes>, AllocError>
-    requires { AreInside bytes.now place }
-    ensures { IfOk result (λ copy. copy ≡ placed_bytes bytes.now place) }
-{
-    match place {
-        Some(place) => Ok(Some(Bytes::of(alloc, place.bytes_in(bytes))?)),
-        None => Ok(None),
-    }
 }
 
 /// The blocksizes of the data that a payload spells, in order. The error is want of memory.
