@@ -3,6 +3,7 @@ use Rattle.std.proofs.Common.{◌≡◌, ◌≢◌, ℕ, suc, zero, inl, inr, Li
 use Rattle.std.specs.Prelude.{Contains, find, option_and_then, slice_get}
 use Rattle.std.specs.Str.{bytes_eq}
 use Rattle.std.proofs.lemmas.Slice.Eq.{bytes_eq-Decides}
+use Rattle.tg_bytes.specs.Lists.{other_bytes}
 use Rattle.tg_words.specs.Words.{Given, StandOnce, WordsSpelling, OptionGives}
 use Rattle.tg_words.specs.Operands.{ValueGives, value_at}
 use Rattle.tg_words.proofs.Known.{known}
@@ -14,13 +15,6 @@ HaveValues options = (o : Given) → Contains options o → o.1 ≢ None
 
 rest_once : (o : Given) (options : List Given) → StandOnce (o ∷ options) → StandOnce options
 rest_once o options once i j a b below at also = once (suc i) (suc j) a b (omega (arith, below)) at also
-
-other_name : (a b : List ℕ) → a ≢ b → bytes_eq a b ≡ false
-other_name a b differ = go (bytes_eq a b) refl
-  where
-    go : (t : Bool) → bytes_eq a b ≡ t → bytes_eq a b ≡ false
-    go true is = absurd (differ ((bytes_eq-Decides a b).0 is))
-    go false is = is
 
 place_of : {X : Type 0} (xs : List X) (x : X) → Contains xs x → (k : ℕ) × (slice_get xs k ≡ Some x)
 place_of [] x among = absurd (none_of x among)
@@ -36,13 +30,13 @@ value_where (o ∷ options) name text once among = elim (first_or_later o (name,
   | inl is ↦ subst (λ (p : Given). value_at (p ∷ options) name ≡ Some text) (sym is) (rw (bytes_same name) refl)
   | inr later ↦
       let k = place_of options (name, Some text) later in
-      rw (other_name o.0 name (once zero (suc k.0) o (name, Some text) (omega arith) refl k.1)) (value_where options name text (rest_once o options once) later)
+      rw (other_bytes o.0 name (once zero (suc k.0) o (name, Some text) (omega arith) refl k.1)) (value_where options name text (rest_once o options once) later)
 ]
 
 value_absent : (options : List Given) (name : List ℕ) → ((o : Given) → Contains options o → o.0 ≢ name) → value_at options name ≡ None
 value_absent [] name none = refl
 value_absent (o ∷ options) name none =
-    rw (other_name o.0 name (none o (at_first o o options refl))) (value_absent options name (λ p among. none p (later_too o p options among)))
+    rw (other_bytes o.0 name (none o (at_first o o options refl))) (value_absent options name (λ p among. none p (later_too o p options among)))
 
 value_stands : (options : List Given) (name text : List ℕ) → value_at options name ≡ Some text → Contains options (name, Some text)
 value_stands [] name text is = absurd (cc)

@@ -1,5 +1,6 @@
 -- The answers to the lines of a command whose positional words are of one form, as one word or two.
 use Rattle.std.proofs.Common.{◌≡◌, ℕ, List, [], ◌∷◌, Ok, Err, refl, sym, ap, ap₂, ◌∙◌, subst}
+use Rattle.tg_bytes.specs.Lists.{same_only}
 use Rattle.tg_words.specs.Words.{Names, Given, WordsSpelling}
 use Rattle.tg_words.specs.CommandLine.{CommandLine}
 use Rattle.tg_words.specs.Operands.{Answers, Exact}
@@ -22,14 +23,11 @@ pub record Writing (Words : Type 0) : Type 0 where
   pub texts : Words → List (List ℕ)
   pub one : (a b : Words) → texts a ≡ texts b → a ≡ b
 
-pub one_is : (a b : List ℕ) → a ∷ [] ≡ b ∷ [] → a ≡ b
-one_is a b same = cc
-
 pub two_are : (a b c d : List ℕ) → a ∷ b ∷ [] ≡ c ∷ d ∷ [] → (a ≡ c) × (b ≡ d)
 two_are a b c d same = let first : a ≡ c = cc in let second : b ≡ d = cc in (first, second)
 
 abbrev pub one_word : Writing (List ℕ)
-one_word = record { texts = λ word. word ∷ []; one = one_is }
+one_word = record { texts = λ word. word ∷ []; one = same_only }
 
 abbrev pub two_words : Writing (List ℕ × List ℕ)
 two_words = record {
@@ -72,6 +70,16 @@ other_words form rest texts options reads only none = record {
   found = tt;
   only = λ command line. let l = reads command line in absurd (none l.words (only (form.writing.texts l.words) l.options l.operands).0);
 }
+
+-- the operands that are found, seen as other lists that are the same
+pub only_seen : (names : Names) (rest texts : List (List ℕ)) (options seen : List Given) → seen ≡ options → OnlyThese names rest texts options
+    → OnlyThese names rest texts seen
+only_seen names rest texts options seen is only = λ texts_in others s. let both = only texts_in others s in (both.0, is ∙ both.1)
+
+pub spelling_seen : (names : Names) (rest texts texts_seen : List (List ℕ)) (options seen : List Given) → texts ≡ texts_seen → seen ≡ options
+    → WordsSpelling names rest texts options → WordsSpelling names rest texts_seen seen
+spelling_seen names rest texts texts_seen options seen are is s =
+    subst (λ o. WordsSpelling names rest texts_seen o) (sym is) (subst (λ t. WordsSpelling names rest t options) are s)
 
 -- what the line asks, said of the operands that are found
 asked_here : {Words Parts : Type 0} (form : Form Words Parts) (rest texts : List (List ℕ)) (options : List Given) (words : Words) (command : Command)

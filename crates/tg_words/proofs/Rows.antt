@@ -13,14 +13,11 @@ use Rattle.clap.specs.Walk.{Row, Text, at_row, default_rows, has_row, more_value
 use Rattle.clap.specs.declared.builder.action.ArgAction.TheVariants.{Set, SetTrue}
 use Rattle.clap.specs.declared.parser.matches.ValueSource.{ValueSource}
 use Rattle.clap.specs.declared.parser.matches.ValueSource.TheVariants.{CommandLine, DefaultValue}
+use Rattle.tg_bytes.specs.Lists.{neither}
 use Rattle.tg_words.specs.Words.{Names, Given}
 use Rattle.tg_words.specs.Parsing.{given_from, option_at, option_of, options_in, positional_in, row_at, value_in, values_of}
 use Rattle.tg_words.proofs.Names.{none_of, first_or_later, at_first, later_too, bytes_same, among_passes}
 use Rattle.tg_words.proofs.Rules.{args_for, option_arg, positional_arg}
-
-either : (a b : Bool) → (a || b) ≡ false → (a ≡ false) × (b ≡ false)
-either true b e = absurd (true≢false e)
-either false b e = (refl, e)
 
 -- the rows are of the words, and of no id are two
 abbrev pub AreClean : List Row → Type 0
@@ -54,7 +51,7 @@ ends_of flags rows positional options h = record { positional_is = h.positional_
 pub at_row_missing : (id : Text) (change : Row → List Row) (missing rows : List Row) → has_row id rows ≡ false → at_row id change missing rows ≡ rows ++ missing
 at_row_missing id change missing [] e = refl
 at_row_missing id change missing (r ∷ rs) e =
-    let p = either (bytes_eq r.id id) (has_row id rs) e in
+    let p = neither (bytes_eq r.id id) (has_row id rs) e in
     ap (λ b. cond b (change r ++ rs) (r ∷ at_row id change missing rs)) p.0 ∙ ap (λ xs. r ∷ xs) (at_row_missing id change missing rs p.1)
 
 pub without_missing : (id : Text) (rows : List Row) → has_row id rows ≡ false → without id rows ≡ rows
@@ -73,13 +70,13 @@ other_way a b e = go (bytes_eq b a) refl
 clean_more : (rows : List Row) (row : Row) → AreClean rows → row.source ≡ Some CommandLine → has_row row.id rows ≡ false → AreClean (rows ++ row ∷ [])
 clean_more [] row c source e = (source, refl, tt)
 clean_more (r ∷ rs) row c source e =
-    let p = either (bytes_eq r.id row.id) (has_row row.id rs) e in
+    let p = neither (bytes_eq r.id row.id) (has_row row.id rs) e in
     (c.0, no_row_more r.id rs row c.1 (other_way r.id row.id p.0), clean_more rs row c.2 source p.1)
 
 apart_more : (rows : List Row) (row : Row) → AreApart rows → has_row row.id rows ≡ false → AreApart (rows ++ row ∷ [])
 apart_more [] row c e = (refl, tt)
 apart_more (r ∷ rs) row c e =
-    let p = either (bytes_eq r.id row.id) (has_row row.id rs) e in
+    let p = neither (bytes_eq r.id row.id) (has_row row.id rs) e in
     (no_row_more r.id rs row c.0 (other_way r.id row.id p.0), apart_more rs row c.1 p.1)
 
 or-none : {X : Type 0} (o : Option X) → option_or o None ≡ o
@@ -149,7 +146,7 @@ options_same flags word (r ∷ rs) = go (bytes_eq r.id []) refl (options_same fl
 no_row_words : (word id : Text) (rows : List Row) → has_row id rows ≡ false → bytes_eq [] id ≡ false → has_row id (more_words word rows) ≡ false
 no_row_words word id [] e other = rw other refl
 no_row_words word id (r ∷ rs) e other =
-    let p = either (bytes_eq r.id id) (has_row id rs) e in
+    let p = neither (bytes_eq r.id id) (has_row id rs) e in
     go (bytes_eq r.id []) refl p.0 p.1 (no_row_words word id rs p.1 other)
   where
     go : (b : Bool) → bytes_eq r.id [] ≡ b → bytes_eq r.id id ≡ false → has_row id rs ≡ false → has_row id (more_words word rs) ≡ false

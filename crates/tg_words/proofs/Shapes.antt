@@ -1,12 +1,12 @@
 -- What a word is: the end of options, an option, a bundle of short options, or a plain word.
-use Rattle.std.proofs.Common.{◌≡◌, ◌≢◌, ℕ, suc, zero, List, [], ◌∷◌, ◌++◌, Bool, true, false, cond, ◌==◌, refl, sym, ap, ◌∙◌, subst, arith, inl, inr, Option, Some, None, true≢false, eqb-true}
+use Rattle.std.proofs.Common.{◌≡◌, ℕ, suc, zero, List, [], ◌∷◌, ◌++◌, Bool, true, false, cond, ◌==◌, refl, sym, ap, ◌∙◌, subst, arith, inl, inr, Option, Some, None, true≢false, eqb-true}
 use Rattle.std.specs.Prelude.{slice_get, option_and_then}
 use Rattle.std.specs.Str.{bytes_eq, chars, IsUtf8}
 use Rattle.std.proofs.Math.Utf8.{encodes}
 use Rattle.std.proofs.lemmas.Str.{IsUtf8-drop, IsCharBoundary-after_ascii, encodes-chars}
-use Rattle.std.proofs.lemmas.Slice.Eq.{bytes_eq-Decides}
 use Rattle.clap.specs.Lexer.{long_of, long_of_rest, name_and_value, short_of, short_of_rest, strip_byte}
 use Rattle.clap.proofs.LexerLemmas.{name_and_value-at, name_and_value-without}
+use Rattle.tg_bytes.specs.Lists.{other_bytes}
 use Rattle.tg_words.specs.Words.{IsPlain}
 use Rattle.tg_words.proofs.Readings.{assigned, named, LacksEquals}
 
@@ -23,13 +23,6 @@ pub data WordIs (word : List ℕ) : Type 0 where
   is_short : (y : ℕ) (ys : List ℕ) (x : ℕ) → bytes_eq word dashes ≡ false → long_of word ≡ None → short_of word ≡ Some (y ∷ ys) → slice_get (chars (y ∷ ys)) 0 ≡ Some x
       → word ≡ 45 ∷ y ∷ ys → (y == 45) ≡ false → WordIs word
   is_plain : IsPlain word → bytes_eq word dashes ≡ false → long_of word ≡ None → short_of word ≡ None → WordIs word
-
-pub not_same : (a b : List ℕ) → a ≢ b → bytes_eq a b ≡ false
-not_same a b other = go (bytes_eq a b) refl
-  where
-    go : (t : Bool) → bytes_eq a b ≡ t → t ≡ false
-    go true e = absurd (other ((bytes_eq-Decides a b).0 e))
-    go false e = refl
 
 -- a text is cut at its first `=`, or has none
 data Cut (text : List ℕ) : Type 0 where
@@ -78,7 +71,7 @@ after_dash y ys utf8 = go (y == 45) refl
     go false e =
         let first = first_char y ys utf8 in
         is_short y ys first.0
-        (not_same (45 ∷ y ∷ ys) dashes (λ same. let at : y ≡ 45 = cc in true≢false (sym (ap (λ t. t == 45) at) ∙ e)))
+        (other_bytes (45 ∷ y ∷ ys) dashes (λ same. let at : y ≡ 45 = cc in true≢false (sym (ap (λ t. t == 45) at) ∙ e)))
         (ap (λ b. option_and_then long_of_rest (cond b (Some ys) None)) e)
         (ap (λ b. cond b None (Some (y ∷ ys))) e) first.1 refl e
 
@@ -95,6 +88,6 @@ word_is (x ∷ xs) utf8 = go (x == 45) refl
         let at = eqb-true x 45 e in
         subst (λ t. WordIs (t ∷ xs)) (sym at) (one xs (subst (λ t. IsUtf8 (t ∷ xs)) at utf8))
     go false e = is_plain (inr e)
-        (not_same (x ∷ xs) dashes (λ same. let at : x ≡ 45 = cc in true≢false (sym (ap (λ t. t == 45) at) ∙ e)))
+        (other_bytes (x ∷ xs) dashes (λ same. let at : x ≡ 45 = cc in true≢false (sym (ap (λ t. t == 45) at) ∙ e)))
         (ap (λ b. option_and_then long_of_rest (option_and_then (strip_byte 45) (cond b (Some xs) None))) e)
         (ap (λ b. option_and_then short_of_rest (cond b (Some xs) None)) e)

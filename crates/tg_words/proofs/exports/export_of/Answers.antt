@@ -1,10 +1,9 @@
-use Rattle.std.proofs.Common.{[], ◌∷◌, map, string_bytes, Global, sym, ap, subst, ◌∙◌}
+use Rattle.std.proofs.Common.{[], ◌∷◌, map, string_bytes, Global, sym, ap, ◌∙◌}
 use Rattle.std.proofs.lemmas.Result.{err_from_is_err_and}
 use Rattle.tg_words.specs.Operands.{givens, texts_of}
-use Rattle.tg_words.specs.Words.{WordsSpelling}
 use Rattle.tg_words.specs.QueryWords.{query_names}
 use Rattle.tg_words.proofs.ExportAnswers.{export_by, export_form, export_line}
-use Rattle.tg_words.proofs.Positional.{no_memory, other_words, not_asked, is_asked}
+use Rattle.tg_words.proofs.Positional.{no_memory, only_seen, other_words, not_asked, is_asked, spelling_seen}
 use Rattle.tg_words.proofs.exports.export_of.Goals as goal
 
 pub returns-in_err-found : goal.returns-in_err-found
@@ -23,17 +22,24 @@ pub returns-in_err-export : goal.returns-in_err-export
 returns-in_err-export c =
     let p = err_from_is_err_and c.from_residual-in_err-export.result c.from_residual-in_err-export.ensures.1 in
     let rest = map (string_bytes {Z = Global}) c.args.words.now in
+    let found = texts_of c.in_ok-found.found.positional.items in
+    let seen = givens c.as_slice-2.result.now in
+    let same = ap givens c.as_slice-2.ensures.value in
+    let only = only_seen query_names rest found (givens c.in_ok-found.found.options.items) seen same c.in_ok-found.ensures.only in
     rw (p.1, p.2)
-    (not_asked export_form rest (texts_of c.in_ok-found.found.positional.items) (givens c.as_slice-2.result.now) (c.in-Some.pack.now, c.in-Some.target.now) _
-    (export_line rest) (λ texts options s. let both = c.in_ok-found.ensures.only texts options s in (both.0, ap givens c.as_slice-2.ensures.value ∙ both.1))
+    (not_asked export_form rest found seen (c.in-Some.pack.now, c.in-Some.target.now) _
+    (export_line rest) only
     (ap texts_of (sym c.as_slice.ensures.value) ∙ c.in-Some.ensures.some) c.in_err-export.ensures)
 
 pub returns : goal.returns
 returns c =
     let rest = map (string_bytes {Z = Global}) c.args.words.now in
     let are = ap texts_of (sym c.as_slice.ensures.value) ∙ c.in-Some.ensures.some in
-    let operands = subst (λ o. WordsSpelling query_names rest (c.in-Some.pack.now ∷ c.in-Some.target.now ∷ []) o) (ap givens (sym c.as_slice-2.ensures.value))
-    (subst (λ p. WordsSpelling query_names rest p (givens c.in_ok-found.found.options.items)) are c.in_ok-found.ensures.found) in
-    is_asked export_form rest (texts_of c.in_ok-found.found.positional.items) (givens c.as_slice-2.result.now) (c.in-Some.pack.now, c.in-Some.target.now)
-    c.in_ok-export.export (export_line rest) (λ texts options s. let both = c.in_ok-found.ensures.only texts options s in (both.0, ap givens c.as_slice-2.ensures.value ∙ both.1))
-    are c.in_ok-export.ensures (export_by rest c.in-Some.pack.now c.in-Some.target.now (givens c.as_slice-2.result.now) c.in_ok-export.export operands c.in_ok-export.ensures.found)
+    let found = texts_of c.in_ok-found.found.positional.items in
+    let seen = givens c.as_slice-2.result.now in
+    let same = ap givens c.as_slice-2.ensures.value in
+    let only = only_seen query_names rest found (givens c.in_ok-found.found.options.items) seen same c.in_ok-found.ensures.only in
+    let operands = spelling_seen query_names rest found (c.in-Some.pack.now ∷ c.in-Some.target.now ∷ []) (givens c.in_ok-found.found.options.items) seen are same c.in_ok-found.ensures.found in
+    is_asked export_form rest found seen (c.in-Some.pack.now, c.in-Some.target.now)
+    c.in_ok-export.export (export_line rest) only
+    are c.in_ok-export.ensures (export_by rest c.in-Some.pack.now c.in-Some.target.now seen c.in_ok-export.export operands c.in_ok-export.ensures.found)
