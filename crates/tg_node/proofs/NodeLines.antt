@@ -278,7 +278,3 @@ pub one_text_of : ((a b : CidParts) (u v x y : List ℕ) → CidBytes a u → Ci
     → ((a b : Node) (text : List ℕ) → NodeText a text → NodeText b text → a ≡ b)
     → (cid : CidParts) (block u v : List ℕ) → IsNodeTextOf cid block u → IsNodeTextOf cid block v → u ≡ v
 one_text_of no_front one_text one_unix one_node cid block u v p q = one_under no_front one_text one_unix one_node cid.codec block u v p q
-
--- text that was added piece after piece
-pub earlier : (before old piece rest : List ℕ) → before ≡ old ++ piece → before ++ rest ≡ old ++ (piece ++ rest)
-earlier before old piece rest e = ap (λ w. w ++ rest) e ∙ append_assoc old piece rest

@@ -1,6 +1,6 @@
 use Rattle.std.proofs.Common.{◌++◌, [], ◌∷◌, length, Some, codes, ◌∙◌}
+use Rattle.tg_bytes.specs.Lists.{behind_parts}
 use Rattle.tg_node.specs.NodeTexts.{labelled, inline_length}
-use Rattle.tg_node.proofs.NodeLines.{earlier}
 use Rattle.tg_node.proofs.text.push_unix.Goals as goal
 
 pub returns : goal.returns
@@ -16,9 +16,9 @@ returns c =
     let fanout = labelled (codes " fanout ") unix.fanout in
     let end = 10 ∷ [] in
     c.in_ok-push_all.ensures.ok
-    ∙ earlier c.push_number-6.new.text c.push_number-5.new.text fanout end c.in_ok-push_number-6.ensures
-    ∙ earlier c.push_number-5.new.text c.push_number-4.new.text hash (fanout ++ end) c.in_ok-push_number-5.ensures
-    ∙ earlier c.push_number-4.new.text c.push_number-3.new.text sizes (hash ++ (fanout ++ end)) fourth
-    ∙ earlier c.push_number-3.new.text c.push_number-2.new.text inline (sizes ++ (hash ++ (fanout ++ end))) third
-    ∙ earlier c.push_number-2.new.text c.push_number.new.text filesize (inline ++ (sizes ++ (hash ++ (fanout ++ end)))) c.in_ok-push_number-2.ensures
-    ∙ earlier c.push_number.new.text c.args.text.now kind (filesize ++ (inline ++ (sizes ++ (hash ++ (fanout ++ end))))) c.in_ok-push_number.ensures
+    ∙ behind_parts c.push_number-5.new.text fanout end c.push_number-6.new.text c.in_ok-push_number-6.ensures
+    ∙ behind_parts c.push_number-4.new.text hash (fanout ++ end) c.push_number-5.new.text c.in_ok-push_number-5.ensures
+    ∙ behind_parts c.push_number-3.new.text sizes (hash ++ (fanout ++ end)) c.push_number-4.new.text fourth
+    ∙ behind_parts c.push_number-2.new.text inline (sizes ++ (hash ++ (fanout ++ end))) c.push_number-3.new.text third
+    ∙ behind_parts c.push_number.new.text filesize (inline ++ (sizes ++ (hash ++ (fanout ++ end)))) c.push_number-2.new.text c.in_ok-push_number-2.ensures
+    ∙ behind_parts c.args.text.now kind (filesize ++ (inline ++ (sizes ++ (hash ++ (fanout ++ end))))) c.push_number.new.text c.in_ok-push_number.ensures
