@@ -23,7 +23,7 @@ lists_token token value = list_any (λ part. str_eq_ignore_ascii_case (trim_ows 
 abbrev pub closes : List (List ℕ × List ℕ) → Bool
 closes fields = list_any (lists_token (codes "close")) (values (codes "connection") fields)
 
-abbrev pub first : List (List ℕ) → Option (List ℕ)
+abbrev pub first : {A : Type 0} → List A → Option A
 first [] = None
 first (value ∷ more) = Some value
 

@@ -2,13 +2,14 @@
 use Rattle.std.proofs.Common.{◌≡◌, Bool, Bor, ℕ, ◌+◌, ◌<◌, ◌≤◌, List, [], ◌∷◌, ◌++◌, Option, Some, None, get_or, length, drop, refl, sym, ap, ◌∙◌}
 use Rattle.std.specs.List.{filter_map, cons_option}
 use Rattle.std.specs.Prelude.{find}
-use Rattle.std.specs.Option.{option_or}
+use Rattle.std.specs.Option.{option_or, unwrap_or}
 use Rattle.std.proofs.lemmas.List.{drop_all, drop_more, length_push}
 use Rattle.std.proofs.lemmas.List.Elements.{filter_map-append}
 use Rattle.std.proofs.lemmas.List.Folds.{find-append}
+use Rattle.tg_http.specs.Fields.{first as first_of}
 use Rattle.tg_model.specs.declared.queries.Form.{Form}
-use Rattle.tg_path.specs.Cuts.{cut_at}
-use Rattle.tg_query.specs.Accepts.{first_car, first_form, first_of, form_of_range, is_car_form, ranges_of}
+use Rattle.tg_path.specs.Cuts.{cut_at, cut_first}
+use Rattle.tg_query.specs.Accepts.{first_car, first_form, first_param, form_of_range, is_car_form, param_of, params_in, ranges_of}
 
 -- the element at n and those behind it
 drop_here : (xs : List (List ℕ)) (n : ℕ) (x : List ℕ) → (n < length xs) × (x ≡ get_or xs n x) → drop n xs ≡ x ∷ drop (n + 1) xs
@@ -79,3 +80,11 @@ car_here values i value range within is some =
 pub one_more : {A : Type 0} (h : List ℕ → Option A) (xs : List (List ℕ)) (seen : List (Bor (List ℕ))) (x : Bor (List ℕ))
     → first_of (filter_map h (drop (length seen + 1) xs)) ≡ first_of (filter_map h (drop (length (seen ++ x ∷ [])) xs))
 one_more h xs seen x = ap (λ (n : ℕ). first_of (filter_map h (drop n xs))) (sym (length_push seen x))
+
+-- ---- a parameter of a media range, or its default
+
+pub param_read : (range name default : List ℕ) (rest found : Option (List ℕ)) → rest ≡ (cut_first 59 range).1 → found ≡ first_param name (params_in rest)
+    → unwrap_or found default ≡ param_of range name default
+unfolding param_of
+param_read range name default rest found is own =
+    ap (λ (o : Option (List ℕ)). unwrap_or o default) own ∙ ap (λ (o : Option (List ℕ)). unwrap_or (first_param name (params_in o)) default) is

@@ -2,8 +2,10 @@
 -- commas and semicolons, whatever stands in quotes.
 use Rattle.httparse.specs.Grammar.{trim_ows}
 use Rattle.std.specs.List.{filter_map, flat_map}
+use Rattle.std.specs.Option.{unwrap_or}
 use Rattle.std.specs.Prelude.{Bool, List, None, Option, Some, [], codes, false, find, if◌then◌else◌, option_map, true, ℕ, ◌∷◌}
 use Rattle.std.specs.Str.{str_eq_ignore_ascii_case}
+use Rattle.tg_http.specs.Fields.{first as first_of}
 use Rattle.tg_model.specs.declared.queries.Form.{Form}
 use Rattle.tg_model.specs.declared.queries.Form.TheVariants.{Car, Raw}
 use Rattle.tg_path.specs.Cuts.{cut_at, cut_first}
@@ -37,10 +39,6 @@ form_of_type type =
 unfoldable pub form_of_range : List ℕ → Option Form
 form_of_range range = form_of_type (trim_ows (cut_first 59 range).0)
 
-abbrev pub first_of : {A : Type 0} → List A → Option A
-first_of [] = None
-first_of (x ∷ xs) = Some x
-
 abbrev pub is_car_form : Option Form → Bool
 is_car_form None = false
 is_car_form (Some Raw) = false
@@ -53,17 +51,13 @@ param_value name parts = if str_eq_ignore_ascii_case parts.0 name then Some (or_
 abbrev pub param_in : List ℕ → List ℕ → Option (List ℕ)
 param_in name param = param_value name (cut_first 61 (trim_ows param))
 
-abbrev pub or_else : {A : Type 0} → Option A → A → A
-or_else None default = default
-or_else (Some value) default = value
-
 -- the value of the first parameter of this name
 abbrev pub first_param : List ℕ → List (List ℕ) → Option (List ℕ)
 first_param name params = first_of (filter_map (param_in name) params)
 
 -- the same, or the default
 unfoldable pub param_of : List ℕ → List ℕ → List ℕ → List ℕ
-param_of range name default = or_else (first_param name (params_in (cut_first 59 range).1)) default
+param_of range name default = unwrap_or (first_param name (params_in (cut_first 59 range).1)) default
 
 -- the parameters of a CAR type
 abbrev pub choice_of : List ℕ → CarChoice

@@ -1,4 +1,5 @@
 -- The query that a target and `Accept` ask for together (Trustless Gateway specification).
+use Rattle.std.specs.Option.{unwrap_or}
 use Rattle.std.specs.Prelude.{Bool, Err, List, None, Ok, Option, Result, Some, [], bytes_eq, codes, if◌then◌else◌, length, true, ℕ, ◌&&◌, ◌==◌, ◌||◌}
 use Rattle.tg_model.specs.Queries.{QueryParts, SpanParts}
 use Rattle.tg_model.specs.declared.queries.Form.{Form}
@@ -7,7 +8,6 @@ use Rattle.tg_model.specs.declared.queries.Scope.{Scope}
 use Rattle.tg_model.specs.declared.queries.Scope.TheVariants as scopes
 use Rattle.tg_path.specs.declared.fault.QueryFault.{QueryFault}
 use Rattle.tg_path.specs.declared.fault.QueryFault.TheVariants.{BadParam, NoFormat, RawPath}
-use Rattle.tg_query.specs.Accepts.{or_else}
 use Rattle.tg_query.specs.declared.accepts.Accepted.{Accepted}
 use Rattle.tg_query.specs.declared.accepts.CarChoice.{CarChoice}
 use Rattle.tg_query.specs.declared.targets.Target.{Target}
@@ -30,7 +30,7 @@ raw_query target = record { root = target.root; path = []; form = forms.Raw; sco
 -- a range asks for the entity; without a scope all is asked
 abbrev pub scope_for : Option Scope → Option SpanParts → Scope
 scope_for scope (Some span) = scopes.Entity
-scope_for scope None = or_else scope scopes.All
+scope_for scope None = unwrap_or scope scopes.All
 
 abbrev pub car_query : Target → Bool → QueryParts
 car_query target dups = record {
@@ -64,7 +64,7 @@ format_for None first = first
 abbrev pub join_by : Option Form → Target → Option CarChoice → Result QueryParts QueryFault
 join_by None target car = Err NoFormat
 join_by (Some forms.Raw) target car = raw_or_fault target
-join_by (Some forms.Car) target car = car_or_fault target (or_else car default_choice)
+join_by (Some forms.Car) target car = car_or_fault target (unwrap_or car default_choice)
 
 abbrev pub join_of : Target → Accepted → Result QueryParts QueryFault
 join_of target accepted = join_by (format_for target.format accepted.first) target accepted.car

@@ -1,6 +1,6 @@
 //! A target and `Accept` as one query.
+ghost use Rattle.std.specs.Option.{unwrap_or};
 ghost use Rattle.std.specs.Prelude.{◌≡◌};
-ghost use Rattle.tg_query.specs.Accepts.{or_else};
 ghost use Rattle.tg_query.specs.Joins.{car_or_fault, default_choice, dups_of, format_for, is_either, is_served, join_of, raw_or_fault, scope_for};
 ghost use Rattle.tg_query.specs.Targets.{IsTarget};
 
@@ -50,7 +50,7 @@ fn raw_query(alloc: Global, target: Target) -> Result<Query, QueryFault>
 /// The query for a CAR with these parameters.
 fn car_query(target: Target, car: &Option<CarChoice>) -> Result<Query, QueryFault>
     requires { IsTarget target }
-    ensures { result ≡ car_or_fault target (or_else car.now default_choice) }
+    ensures { result ≡ car_or_fault target (unwrap_or car.now default_choice) }
 {
     let Some(dups) = dups_of(car) else {
         return Err(QueryFault::BadParam);
@@ -61,7 +61,7 @@ fn car_query(target: Target, car: &Option<CarChoice>) -> Result<Query, QueryFaul
 
 /// Whether repeats are sent, or none where the CAR isn't served.
 fn dups_of(car: &Option<CarChoice>) -> Option<bool>
-    ensures { result ≡ dups_of (or_else car.now default_choice) }
+    ensures { result ≡ dups_of (unwrap_or car.now default_choice) }
 {
     match car {
         None => Some(true),

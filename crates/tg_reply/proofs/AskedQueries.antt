@@ -4,6 +4,7 @@ use Rattle.percent_encoding.specs.Percent.{percent_decode}
 use Rattle.percent_encoding.proofs.PercentLemmas.{All-percent_decode}
 use Rattle.std.specs.Char.{encode_utf8}
 use Rattle.std.specs.List.{onto_first, slice_split}
+use Rattle.std.specs.Option.{unwrap_or}
 use Rattle.std.specs.Prelude.{if◌then◌else◌, nat_lt, not, ◌==◌, ◌||◌}
 use Rattle.std.specs.Str.{all_scalars, encode_utf8_all}
 use Rattle.std.proofs.Math.Utf8.{scalar_cases}
@@ -21,7 +22,7 @@ use Rattle.tg_path.specs.Cuts.{behind, cut_at, parts_at}
 use Rattle.tg_path.specs.Paths.{PathBehind, names_of}
 use Rattle.tg_path.specs.WordTexts.{RootedText, ipfs}
 use Rattle.tg_path.specs.declared.fault.QueryFault.{QueryFault}
-use Rattle.tg_query.specs.Accepts.{accepted_of, or_else}
+use Rattle.tg_query.specs.Accepts.{accepted_of}
 use Rattle.tg_query.specs.Joins.{car_with, default_choice, dups_of, format_for, join_by, join_of, raw_or_fault, raw_query}
 use Rattle.tg_query.specs.Laws.{asked_by}
 use Rattle.tg_query.specs.Targets.{TargetText, target_of}
@@ -158,7 +159,7 @@ car_of target (Some dups) q e = subst (IsOf target) (ok_same e) (record { root =
 joined_of : (form : Option Form) (target : Target) (car : Option CarChoice) (q : QueryParts) → join_by form target car ≡ Ok q → IsOf target q
 joined_of None target car q e = absurd (ok_not_err e)
 joined_of (Some forms.Raw) target car q e = raw_of target q e
-joined_of (Some forms.Car) target car q e = car_of target (dups_of (or_else car default_choice)) q e
+joined_of (Some forms.Car) target car q e = car_of target (dups_of (unwrap_or car default_choice)) q e
 
 of_spelled : (target : Target) (q : QueryParts) → IsOf target q → ((name : List ℕ) × CidBytes target.root name) × All AreBytes target.path → IsSpelledQuery q
 of_spelled target q o t = record {

@@ -1,5 +1,6 @@
 -- What is computed of a request never says that memory was wanted.
 use Rattle.std.proofs.Common.{◌≡◌, ◌≢◌, ℕ, Bool, true, false, List, [], ◌∷◌, Err, None, Ok, Option, Result, Some, cond, length, refl, sym, ap, ◌∙◌}
+use Rattle.std.specs.Option.{unwrap_or}
 use Rattle.std.specs.Prelude.{bytes_eq, codes, ◌==◌, ◌||◌}
 use Rattle.tg_cid.specs.Faults.{HasTextCause}
 use Rattle.tg_cid.specs.declared.fault.CidFault.{CidFault}
@@ -16,7 +17,7 @@ use Rattle.tg_path.specs.Spans.{span_of}
 use Rattle.tg_path.specs.WordTexts.{Rooted, rooted_of, rooted_with}
 use Rattle.tg_path.specs.declared.fault.QueryFault.{QueryFault}
 use Rattle.tg_path.specs.declared.fault.QueryFault.TheVariants as faults
-use Rattle.tg_query.specs.Accepts.{accepted_of, or_else}
+use Rattle.tg_query.specs.Accepts.{accepted_of}
 use Rattle.tg_query.specs.Joins.{car_query, car_with, default_choice, dups_of, format_for, join_by, join_of, raw_query}
 use Rattle.tg_query.specs.Laws.{asked_by}
 use Rattle.tg_query.specs.Targets.{asked_of, behind_ipfs, is_given, nothing, pair_of, pieces_of, form_of, scope_of, target_of, target_with, with_format, with_param, with_piece, with_pieces, with_scope, with_span}
@@ -129,7 +130,7 @@ module _ (roots : (text : List ℕ) (fault : QueryFault) → root_of text ≡ Er
   join_never None target car = never_err faults.NoFormat (λ e. absurd cc)
   join_never (Some forms.Raw) target car =
       never_cond (length target.path == 0) (Ok (raw_query target)) (Err faults.RawPath) (never_ok (raw_query target)) (never_err faults.RawPath (λ e. absurd cc))
-  join_never (Some forms.Car) target car = by_dups (dups_of (or_else car default_choice))
+  join_never (Some forms.Car) target car = by_dups (dups_of (unwrap_or car default_choice))
     where
       by_dups : (dups : Option Bool) → Never (car_with target dups)
       by_dups None = never_err faults.BadParam (λ e. absurd cc)
