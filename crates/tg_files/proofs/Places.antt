@@ -11,28 +11,15 @@ use Rattle.tg_tree.specs.declared.tree.Tree.{Tree}
 use Rattle.tg_tree.specs.declared.items.Item.{Item}
 use Rattle.tg_files.specs.Folders.{Leads}
 use Rattle.std.specs.Option.{MatchOption, option_and_then}
+use Rattle.tg_files.specs.PathLaws.{below_more}
 use Rattle.tg_tree.specs.Tree.{NamesDiffer, below, child, entries_of, item_of, items_of, names_of, sort_of, tree_at}
-
--- a name after a path
-alone : (o : Option Tree) → option_and_then (λ found. Some found) o ≡ o
-alone None = refl
-alone (Some found) = refl
-
-append_within : (path : List (List ℕ)) (name : List ℕ) → ((t : Tree) → below t (path ++ name ∷ []) ≡ option_and_then (λ found. child found name) (below t path))
-    → (o : Option Tree) → option_and_then (λ found. below found (path ++ name ∷ [])) o ≡ option_and_then (λ found. child found name) (option_and_then (λ found. below found path) o)
-append_within path name h None = refl
-append_within path name h (Some found) = h found
-
-pub below-append : (tree : Tree) (path : List (List ℕ)) (name : List ℕ) → below tree (path ++ name ∷ []) ≡ option_and_then (λ found. child found name) (below tree path)
-below-append tree [] name = alone (child tree name)
-below-append tree (next ∷ path) name = append_within path name (λ t. below-append t path name) (child tree next)
 
 -- in a folder in which the names differ each name leads to what has it
 entries_lead : (tree : Tree) (path : List (List ℕ)) (found : Tree) → below tree path ≡ Some found → IsDistinct bytes_eq (keys_of (entries_of found)) → All (λ e. Leads (Some tree) path (item_of e)) (entries_of found)
 entries_lead tree path found at h k d inside =
     let es = entries_of found in
     let e : List ℕ × Tree = get_or es k d in
-    let led : below tree (path ++ e.0 ∷ []) ≡ child found e.0 = below-append tree path e.0 ∙ ap (option_and_then (λ t. child t e.0)) at in
+    let led : below tree (path ++ e.0 ∷ []) ≡ child found e.0 = below_more tree path e.0 ∙ ap (option_and_then (λ t. child t e.0)) at in
     let here : child found e.0 ≡ Some e.1 = lookup_from_place nat_list_eq_equiv es k e.0 e.1 h (slice_get-get_or es k d inside) in
     ap (option_map sort_of) (led ∙ here)
 

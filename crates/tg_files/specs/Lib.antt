@@ -1,3 +1,4 @@
 pub mod Folders
 pub mod Packs
 pub mod Readers
+pub mod PathLaws

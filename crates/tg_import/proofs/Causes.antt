@@ -1,16 +1,21 @@
 -- Why an import of a folder stops, from why one of its steps did.
-use Rattle.std.proofs.Common.{Result, Ok, Err, ◌≡◌, ◌≢◌, ◌⊎◌, inl, inr, ⊎_elim, ℕ, zero, suc, ◌+◌, ◌-◌, ◌<◌, ◌≤◌, cond, List, Option, [], ◌∷◌, ◌++◌, length, get_or, take, drop, refl, ap, sym, ◌∙◌, subst, arith, add-one, drop-cons}
-use Rattle.std.specs.Prelude.{Contains, IfOk, OnOk, map, nat_lt}
+use Rattle.std.proofs.Common.{Result, Ok, Err, Some, None, ◌≡◌, ◌≢◌, ◌⊎◌, inl, inr, ⊎_elim, ℕ, zero, suc, ◌+◌, ◌-◌, ◌<◌, cond, List, Option, [], ◌∷◌, ◌++◌, length, get_or, take, drop, refl, ap, sym, ◌∙◌, subst, arith, map-id}
+use Rattle.std.specs.Prelude.{Contains, IfOk, OnOk, nat_lt}
 use Rattle.std.proofs.lemmas.List.Elements.{All-contains}
 use Rattle.std.proofs.lemmas.List.Sorted.{All-permutation}
-use Rattle.std.proofs.lemmas.List.{take-append-drop}
-use Rattle.tg_faults.specs.Faults.{Rose}
+use Rattle.std.specs.Iterator.{Yields}
+use Rattle.std.specs.Vec.Iter.{into_iter_items, into_iter_len, into_iter_steps}
+use Rattle.std.specs.declared.vec.IntoIter.{IntoIter}
+use Rattle.std.proofs.lemmas.Iterator.{YieldsList}
+use Rattle.std.proofs.lemmas.Iterator.Adapters.{YieldsList-from_vec}
+use Rattle.std.proofs.lemmas.Iterator.Consumers.{YieldsList-end, YieldsList-so_far, YieldsList-turn}
 use Rattle.tg_files.specs.Folders.{FolderMeaning, FolderQuiet, Leads, folder_step}
 use Rattle.tg_import.proofs.FoldersMade.{folder_blocks, folder_counts, folder_imported, sound_all, tsizes_listed}
 use Rattle.tg_dir.specs.Made.{IsMadeBy, MakesDirectory}
+use Rattle.tg_import.proofs.NamesInOrder.{around}
 use Rattle.tg_model.specs.declared.kinds.Made.{Made}
 use Rattle.tg_tree.specs.Tree.{HasFolderAt, IsAt}
-use Rattle.tg_writing.specs.KeepingSteps.{Joins, keeps_both, keeps_nothing, same_stops, stops_behind}
+use Rattle.tg_writing.specs.KeepingSteps.{Joins, counted_behind, counted_on, keeps_both, keeps_nothing, same_stops, stops_behind}
 use Rattle.tg_import.proofs.SoFar.{IsSoFar, weights}
 use Rattle.tg_import.specs.Counting.{counts_of_children, one_folder, one_sharded, plus}
 use Rattle.tg_import.specs.Imported.{AreEntryNames, AreItemsOf}
@@ -35,12 +40,6 @@ use Rattle.tg_writing.specs.Keeping.{Keeps}
 
 -- ---- a step behind others
 
-rose_on : (a b c : ℕ) → b ≡ a → Rose b c → Rose a c
-rose_on a b c e h = subst (λ (n : ℕ). Rose n c) e h
-
-counted_on : (a b c : ℕ) → b ≡ a → b ≤ c → a ≤ c
-counted_on a b c e h = omega arith
-
 module _ {S T : Type 0} (m : KeepMeaning S) (f : FolderMeaning T) (joins : Joins m) (stores : KeepingJoins) (k0 k1 k2 : S) (t0 t1 t2 : T) (u : List Section) (quiet : f.faults t1 ≡ f.faults t0)
     (keeps : Keeps u (kept_in m k0 k1)) where
   some_behind : KeepsSome (kept_in m k1 k2) → KeepsSome (kept_in m k0 k2)
@@ -52,7 +51,7 @@ module _ {S T : Type 0} (m : KeepMeaning S) (f : FolderMeaning T) (joins : Joins
   pub cause_behind : (Refused Wider : ImportFault → Type 0) (fault : ImportFault) → (Refused fault → Wider fault) → IsCauseBy Refused fault (folder_step f t1 t2) (kept_in m k1 k2)
       → IsCauseBy Wider fault (folder_step f t0 t2) (kept_in m k0 k2)
   cause_behind Refused Wider faults.Folder wider h =
-      (record { rose = rose_on (f.faults t0) (f.faults t1) (f.faults t2) quiet h.0.rose; counted = counted_on (f.faults t0) (f.faults t1) (f.faults t2) quiet h.0.counted }, some_behind h.1)
+      (record { rose = counted_on keep_faults.Failed (f.faults t0) (f.faults t1) (f.faults t2) quiet h.0.rose; counted = counted_behind (f.faults t0) (f.faults t1) (f.faults t2) quiet h.0.counted }, some_behind h.1)
   cause_behind Refused Wider faults.Keep wider h = (h.0 ∙ quiet, (u ++ h.1.0, stops_behind m joins stores k0 k1 k2 u h.1.0 keep_faults.Failed keeps h.1.1))
   cause_behind Refused Wider faults.OutOfMemory wider h = (h.0 ∙ quiet, (u ++ h.1.0, stops_behind m joins stores k0 k1 k2 u h.1.0 keep_faults.OutOfMemory keeps h.1.1))
   cause_behind Refused Wider (faults.TooDeep at) wider h = refused_behind (Refused (faults.TooDeep at)) (Wider (faults.TooDeep at)) wider h
@@ -103,8 +102,7 @@ list_cause m f rests k t0 t1 levels options path counted (faults.TooBig at) some
 pub split_at : (items taken : List Item) (item : Item) → length taken < length items → item ≡ get_or items (length taken) item → taken ≡ take (length taken) items
     → items ≡ taken ++ item ∷ drop (length taken + 1) items
 split_at items taken item lt is front =
-    sym (take-append-drop (length taken) items) ∙ ap (λ (l : List Item). l ++ drop (length taken) items) (sym front)
-    ∙ ap (λ (l : List Item). taken ++ l) (rw add-one (drop-cons items (length taken) item lt) ∙ ap (λ (x : Item). x ∷ drop (length taken + 1) items) (sym is))
+    around items (length taken) item lt is ∙ ap (λ (l : List Item). l ++ item ∷ drop (length taken + 1) items) (sym front)
 
 -- what is at fault in the entry at its place
 pub item_refused : {S T : Type 0} → (m : KeepMeaning S) (f : FolderMeaning T) (k0 k1 : S) (t0 t1 : T) (options : Options) (path : List (List ℕ)) (counted : Summary) (options_now : Options) (writer : FileWriterState)
@@ -238,12 +236,22 @@ pub record IsTurn (items taken : List Item) (item : Item) : Type 0 where
   pub is : item ≡ get_or items (length taken) item
   pub front : taken ≡ take (length taken) items
 
-map_same : (items : List Item) → map (λ (x : Item). x) items ≡ items
-map_same [] = refl
-map_same (item ∷ items) = ap (λ (l : List Item). item ∷ l) (map_same items)
+-- the items of a list that is taken apart
+module _ {Z : Type 0} (start : IntoIter Item Z) (items list : List Item) (len : ℕ) (gives : into_iter_items start ≡ list) (counts : into_iter_len start ≡ len) (whole : len ≡ length list) (same : list ≡ items) where
+  all_items : YieldsList (into_iter_steps {X = Item} {Z = Z}) (λ (x : Item). x) start items
+  all_items = YieldsList-from_vec {s = start} items (gives ∙ same) (counts ∙ whole ∙ ap length same)
 
-pub turn_of : (items taken : List Item) (item : Item) → (length taken < length items) × (item ≡ get_or items (length taken) item) → map (λ (x : Item). x) taken ≡ take (length taken) items → IsTurn items taken item
-turn_of items taken item at front = record { below = at.0; is = at.1; front = sym (map_same taken) ∙ front }
+  -- one comes in its turn
+  pub turn_at : (taken : List Item) (now : IntoIter Item Z) → Yields (into_iter_steps {X = Item} {Z = Z}) start taken now → (next : Option Item) (after : IntoIter Item Z) (item : Item)
+      → next ≡ Some item → into_iter_steps now next after → IsTurn items taken item
+  turn_at taken now by next after item is step =
+      let at = YieldsList-turn all_items taken now by next after item is step in
+      record { below = at.0; is = at.1; front = sym (map-id taken) ∙ YieldsList-so_far all_items taken now by }
+
+  -- none comes behind the last
+  pub taken_whole : (taken : List Item) (now : IntoIter Item Z) → Yields (into_iter_steps {X = Item} {Z = Z}) start taken now → (next : Option Item) (after : IntoIter Item Z)
+      → next ≡ None → into_iter_steps now next after → taken ≡ items
+  taken_whole taken now by next after none step = sym (map-id taken) ∙ (YieldsList-end all_items taken now by next after none step).0
 
 -- what the item's name leads to
 pub led_at : {S T : Type 0} → (m : KeepMeaning S) (f : FolderMeaning T) (k0 k1 : S) (t0 t1 : T) (options : Options) (path at : List (List ℕ)) (counted : Summary) (options_now : Options) (writer : FileWriterState)
@@ -280,8 +288,11 @@ pub ok_both : {X E : Type 0} {P Q : X → Type 0} {C : Type 0} → (r : Result X
 ok_both (Ok x) f h c = f x h c
 ok_both (Err e) f h c = tt
 
-pub end_of : (items taken : List Item) → map (λ (x : Item). x) taken ≡ items → taken ≡ items
-end_of items taken h = sym (map_same taken) ∙ h
+pub so_far_whole : {S T : Type 0} {m : KeepMeaning S} {f : FolderMeaning T} {k0 k1 : S} {t0 t1 : T} {options : Options} {path : List (List ℕ)} {counted : Summary} {options_now : Options} {writer : FileWriterState}
+    {summary : Summary} {taken items : List Item} {entries : List NewEntry} → taken ≡ items → IsSoFar m f k0 k1 t0 t1 options path counted options_now writer summary taken entries
+    → IsSoFar m f k0 k1 t0 t1 options path counted options_now writer summary items entries
+so_far_whole {S} {T} {m} {f} {k0} {k1} {t0} {t1} {options} {path} {counted} {options_now} {writer} {summary} {taken} {items} {entries} whole so_far =
+    subst (λ (l : List Item). IsSoFar m f k0 k1 t0 t1 options path counted options_now writer summary l entries) whole so_far
 
 pub done_of : {S T : Type 0} → (m : KeepMeaning S) (f : FolderMeaning T) (k1 k2 : S) (t1 t2 : T) (options_now options_later : Options) (writer : FileWriterState) (at place : List (List ℕ)) (summary summary_later : Summary)
     (made : Made) → at ≡ place → f.tree t2 ≡ f.tree t1 → f.faults t2 ≡ f.faults t1 → options_later ≡ options_now → IsWriterFor options_now writer

@@ -9,9 +9,10 @@ use Rattle.tg_import.specs.Steps.{ImportsAs}
 use Rattle.tg_import.specs.declared.summary.Options.{Options}
 use Rattle.tg_import.specs.declared.summary.Summary.{Summary}
 use Rattle.tg_import_file.specs.Files.{KeepsFile}
+use Rattle.tg_laws.specs.Contents.{no_content}
 use Rattle.tg_model.specs.Stores.{Keeping}
 use Rattle.tg_model.specs.Content.{content, content_of_children}
-use Rattle.tg_model.specs.Dag.{Children, Dag, IsWhole, bare, no_child, node, unopened, with_child}
+use Rattle.tg_model.specs.Dag.{Children, Dag, IsWhole, bare, node, unopened}
 use Rattle.tg_model.specs.ShowsTree.{Shows, target_within}
 use Rattle.tg_model.specs.declared.kinds.Kind.TheVariants.{Basic, File, Raw, Shard, Symlink}
 use Rattle.tg_model.specs.declared.kinds.Made.{Made}
@@ -42,10 +43,6 @@ file_shown None path d at has shows = tt
 file_shown (Some root) path d at has shows = shown_where d (below root path) at has shows
 
 -- ---- what it counts
-
-no_content : (children : Children) → content_of_children [] children ≡ []
-no_content no_child = refl
-no_content (with_child d children) = refl
 
 -- a file without a byte isn't shown by what is no file
 abbrev empty_file : Tree

@@ -1,20 +1,21 @@
 -- The directory of entries that were all imported is what was asked for.
-use Rattle.std.proofs.Common.{◌≡◌, ◌⊎◌, inl, inr, ⊎_elim, ℕ, ◌<◌, ◌≤◌, Bool, true, false, cond, List, None, Option, Some, [], ◌∷◌, ◌++◌, get_or, refl, ap, sym, ◌∙◌, subst, arith}
+use Rattle.std.proofs.Common.{◌≡◌, ◌⊎◌, inl, inr, ⊎_elim, ℕ, ◌<◌, ◌≤◌, Bool, true, false, cond, List, None, Option, Some, [], ◌∷◌, ◌++◌, get_or, refl, ap, sym, ◌∙◌, subst, arith, drop, ◌+◌}
 use Rattle.std.specs.List.Sorted.{IsPermutation}
 use Rattle.std.specs.List.{sum_by}
 use Rattle.std.specs.Map.{keys_of}
 use Rattle.std.specs.Option.{option_and_then}
 use Rattle.std.specs.Prelude.{All, Contains, IfSome, map, nat_lt, option_map, ◌↔◌}
 use Rattle.std.proofs.lemmas.Bool.{cases_lt, ltb-false, ltb-true}
-use Rattle.std.proofs.lemmas.List.Elements.{All-append, All-contains, All-nil, Contains-append_cases, Contains-append_left, Contains-append_right, Contains-get_or}
+use Rattle.std.proofs.lemmas.List.Elements.{All-append, All-contains, All-contains_itself, All-nil, All-weaker, Contains-append_cases, Contains-append_left, Contains-append_right}
 use Rattle.std.proofs.lemmas.List.Sorted.{All-permutation, Contains-permutation, IsPermutation-map, IsPermutation-sym, sum_by-IsPermutation}
 use Rattle.std.proofs.lemmas.List.Sums.{sum_by-cons}
 use Rattle.tg_dir.specs.Made.{IsBasic, IsMadeBy, IsSharded}
 use Rattle.tg_dir.specs.Weights.{weight_for}
 use Rattle.tg_files.specs.Folders.{Leads, Lists}
+use Rattle.tg_files.specs.PathLaws.{below_more}
 use Rattle.tg_hamt.specs.Directories.{AreLaidOut, AreSound, listed_for}
-use Rattle.tg_import.proofs.Listings.{IsShown, counted_in, entries_show, entry_blocks, first_is, named_counts, only_one, same_summary, slots_counts, slots_show}
-use Rattle.tg_import.specs.Counting.{counts_of, counts_of_children, one_folder, one_sharded, plus}
+use Rattle.tg_import.proofs.Listings.{IsShown, counted_in, entries_show, entry_blocks, first_is, named_counts, none_in, only_one, same_summary, slots_counts, slots_show}
+use Rattle.tg_import.specs.Counting.{counts_of, counts_of_children, nothing, one_folder, one_sharded, plus}
 use Rattle.tg_import.specs.Imported.{AreImported, AreItemsOf, IsImported, layout}
 use Rattle.tg_import.specs.Refused.{item_names}
 use Rattle.tg_import.specs.Steps.{tsizes_for}
@@ -36,21 +37,6 @@ use Rattle.tg_tree.specs.declared.items.Sort.TheVariants as sorts
 use Rattle.tg_tree.specs.declared.items.Sort.{Sort}
 use Rattle.tg_tree.specs.declared.tree.Tree.{Tree}
 use Rattle.tg_writing.specs.Nodes.{LeadTo}
-
--- ---- what stands at a path with one more name
-
-one_further : (found : Option Tree) → option_and_then (λ (t : Tree). Some t) found ≡ found
-one_further None = refl
-one_further (Some t) = refl
-
-behind : (found : Option Tree) (path : List (List ℕ)) (name : List ℕ) → ((t : Tree) → below t (path ++ name ∷ []) ≡ option_and_then (λ (found : Tree). child found name) (below t path))
-    → option_and_then (λ (t : Tree). below t (path ++ name ∷ [])) found ≡ option_and_then (λ (t : Tree). child t name) (option_and_then (λ (t : Tree). below t path) found)
-behind None path name more = refl
-behind (Some t) path name more = more t
-
-pub below_more : (root : Tree) (path : List (List ℕ)) (name : List ℕ) → below root (path ++ name ∷ []) ≡ option_and_then (λ (found : Tree). child found name) (below root path)
-below_more root [] name = one_further (child root name)
-below_more root (n ∷ path) name = behind (child root n) path name (λ t. below_more t path name)
 
 -- ---- the entries
 
@@ -80,24 +66,11 @@ pub record IsOfItem (options : Options) (told : Option Tree) (path : List (List 
   pub named : item.name ≡ e.name
   pub imported : IsImported options told (path ++ e.name ∷ []) e.dag
 
-first_of : List (List ℕ) → List ℕ
-first_of [] = []
-first_of (x ∷ xs) = x
-
-rest_of : List (List ℕ) → List (List ℕ)
-rest_of [] = []
-rest_of (x ∷ xs) = xs
-
 pub head_is : {x y : List ℕ} {xs ys : List (List ℕ)} → x ∷ xs ≡ y ∷ ys → x ≡ y
-unfolding first_of
-head_is e = ap first_of e
+head_is {x} e = ap (λ (list : List (List ℕ)). get_or list 0 x) e
 
 pub tail_is : {x y : List ℕ} {xs ys : List (List ℕ)} → x ∷ xs ≡ y ∷ ys → xs ≡ ys
-unfolding rest_of
-tail_is e = ap rest_of e
-
-none_in : {X : Type 0} → (x : X) → Contains [] x → ⊥
-none_in x has = absurd (omega (arith, has.1))
+tail_is e = ap (drop 1) e
 
 pub of_items : (options : Options) (told : Option Tree) (path : List (List ℕ)) (new : List NewEntry) (items : List Item) (children : Children) → AreImported options told path items children
     → LeadTo new children → map (λ (e : NewEntry). e.name) new ≡ item_names items → (e : DirEntry) → Contains (listed_for new children) e → IsOfItem options told path items e
@@ -148,29 +121,26 @@ tsizes_listed (entry ∷ new) (with_child d children) lead =
 
 -- ---- what they count, in any order
 
-files_in : (l : List DirEntry) → (counted_in l).files ≡ sum_by (λ (e : DirEntry). (counts_of e.dag).files) l
-files_in [] = refl
-files_in (e ∷ l) = (let rest = files_in l in let sums = sum_by-cons (λ (e : DirEntry). (counts_of e.dag).files) e l in omega (arith, rest, sums))
+-- one of the numbers, of all
+counted_sum : (number : Summary → ℕ) → number nothing ≡ 0 → ((a b : Summary) → number (plus a b) ≡ number a + number b) → (l : List DirEntry)
+    → number (counted_in l) ≡ sum_by (λ (e : DirEntry). number (counts_of e.dag)) l
+counted_sum number none both [] = none
+counted_sum number none both (e ∷ l) =
+    both (counts_of e.dag) (counted_in l) ∙ ap (λ (n : ℕ). number (counts_of e.dag) + n) (counted_sum number none both l)
+    ∙ sym (sum_by-cons (λ (x : DirEntry). number (counts_of x.dag)) e l)
 
-folders_in : (l : List DirEntry) → (counted_in l).folders ≡ sum_by (λ (e : DirEntry). (counts_of e.dag).folders) l
-folders_in [] = refl
-folders_in (e ∷ l) = (let rest = folders_in l in let sums = sum_by-cons (λ (e : DirEntry). (counts_of e.dag).folders) e l in omega (arith, rest, sums))
-
-shards_in : (l : List DirEntry) → (counted_in l).shards ≡ sum_by (λ (e : DirEntry). (counts_of e.dag).shards) l
-shards_in [] = refl
-shards_in (e ∷ l) = (let rest = shards_in l in let sums = sum_by-cons (λ (e : DirEntry). (counts_of e.dag).shards) e l in omega (arith, rest, sums))
-
-bytes_in : (l : List DirEntry) → (counted_in l).bytes ≡ sum_by (λ (e : DirEntry). (counts_of e.dag).bytes) l
-bytes_in [] = refl
-bytes_in (e ∷ l) = (let rest = bytes_in l in let sums = sum_by-cons (λ (e : DirEntry). (counts_of e.dag).bytes) e l in omega (arith, rest, sums))
+same_number : (number : Summary → ℕ) → number nothing ≡ 0 → ((a b : Summary) → number (plus a b) ≡ number a + number b) → (a b : List DirEntry) → IsPermutation a b
+    → number (counted_in b) ≡ number (counted_in a)
+same_number number none both a b p =
+    counted_sum number none both b ∙ sum_by-IsPermutation (λ (e : DirEntry). number (counts_of e.dag)) a b p ∙ sym (counted_sum number none both a)
 
 counted_permutation : (a b : List DirEntry) → IsPermutation a b → counted_in b ≡ counted_in a
 counted_permutation a b p =
     same_summary (counted_in b) (counted_in a)
-    (files_in b ∙ sum_by-IsPermutation (λ (e : DirEntry). (counts_of e.dag).files) a b p ∙ sym (files_in a))
-    (folders_in b ∙ sum_by-IsPermutation (λ (e : DirEntry). (counts_of e.dag).folders) a b p ∙ sym (folders_in a))
-    (shards_in b ∙ sum_by-IsPermutation (λ (e : DirEntry). (counts_of e.dag).shards) a b p ∙ sym (shards_in a))
-    (bytes_in b ∙ sum_by-IsPermutation (λ (e : DirEntry). (counts_of e.dag).bytes) a b p ∙ sym (bytes_in a))
+    (same_number (λ (s : Summary). s.files) refl (λ x y. refl) a b p)
+    (same_number (λ (s : Summary). s.folders) refl (λ x y. refl) a b p)
+    (same_number (λ (s : Summary). s.shards) refl (λ x y. refl) a b p)
+    (same_number (λ (s : Summary). s.bytes) refl (λ x y. refl) a b p)
 
 -- ---- the directory
 
@@ -281,9 +251,6 @@ folder_shown options (Some root) path items new children d at of lead names impo
 
 -- ---- all of it
 
-all_from_contains : {X : Type 0} → (P : X → Type 0) (xs : List X) → ((x : X) → Contains xs x → P x) → All P xs
-all_from_contains P xs h = λ k d lt. h (get_or xs k d) (Contains-get_or xs k d lt)
-
 around : (a b c : Summary) → plus (plus a b) c ≡ plus a (plus c b)
 around a b c = same_summary (plus (plus a b) c) (plus a (plus c b)) (omega arith) (omega arith) (omega arith) (omega arith)
 
@@ -318,11 +285,12 @@ folder_imported options told path items new children made sections d at of lead 
     record {
       sound = m.directory.sound;
       laid = m.laid (layout options) refl (laid_all options told path items children imported);
-      plain = all_from_contains HasPlainCid (blocks d)
+      plain = All-weaker (Contains (blocks d)) HasPlainCid
           (λ s has. ⊎_elim
           (λ (own : Contains sections s). All-contains HasPlainCid sections s m.directory.plain own)
           (λ (below : Contains (blocks_of_children children) s). All-contains HasPlainCid (blocks_of_children children) s plain_below below)
-          (m.directory.blocks_are s has));
+          (m.directory.blocks_are s has))
+          (blocks d) (All-contains_itself (blocks d));
       shows = folder_shown options told path items new children d at of lead names imported m.directory.lists m.directory.sound
           (made_which options.shard (weight_for new) d m.sharded m.basic);
     }

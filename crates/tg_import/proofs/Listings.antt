@@ -16,7 +16,7 @@ use Rattle.tg_tree.specs.declared.tree.Tree.{Tree}
 
 -- ---- lists
 
-none_in : {X : Type 0} → (x : X) → Contains [] x → ⊥
+pub none_in : {X : Type 0} → (x : X) → Contains [] x → ⊥
 none_in x has = absurd (omega (arith, has.1))
 
 pub only_one : {X : Type 0} → (x y : X) → Contains (x ∷ []) y → x ≡ y

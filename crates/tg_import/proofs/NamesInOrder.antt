@@ -1,20 +1,20 @@
 -- Items in the order of their names' bytes, of which the names so far may stand in one directory.
-use Rattle.std.proofs.Common.{◌≡◌, ◌≢◌, ⊎_elim, ℕ, ◌+◌, ◌-◌, ◌<◌, ◌≤◌, true, List, [], ◌∷◌, ◌++◌, length, get_or, take, drop, refl, ap, sym, ◌∙◌, subst, arith, add-one, drop-cons}
-use Rattle.std.proofs.Math.ListN.{get_or-map}
+use Rattle.std.proofs.Common.{◌≡◌, ⊎_elim, ℕ, ◌+◌, ◌-◌, ◌<◌, ◌≤◌, true, List, [], ◌∷◌, ◌++◌, length, get_or, take, drop, refl, ap, sym, ◌∙◌, subst, arith}
 use Rattle.std.proofs.Math.Nat.{eq-or-lt_of_le}
 use Rattle.std.proofs.Math.Seq.{take-length}
 use Rattle.std.proofs.lemmas.Bool.{false_from_ne_true}
-use Rattle.std.proofs.lemmas.List.{get_or-take, get_or_default, length-map, length-take, take-append-drop}
+use Rattle.std.proofs.lemmas.List.{drop_more, get_or-map, get_or-take, get_or_default, length-map, length-take, take-append-drop}
 use Rattle.std.proofs.lemmas.Map.Keys.{IsDistinct-from_apart, Less-from_sorted, sorted_from_all_adjacent}
 use Rattle.std.proofs.lemmas.Map.Lookups.{exact_bytes}
 use Rattle.std.proofs.lemmas.Slice.Eq.{bytes_eq-Decides}
 use Rattle.std.specs.Cmp.Lexicographic.{nat_list_cmp_total}
 use Rattle.std.specs.List.{IsDistinct}
-use Rattle.std.specs.Ordering.{is_le, ordering_reverse}
+use Rattle.std.specs.Ordering.{is_le}
 use Rattle.std.specs.Prelude.{Contains, bytes_eq}
 use Rattle.std.specs.declared.cmp.Ordering.{Ordering}
 use Rattle.std.specs.declared.cmp.Ordering.TheVariants.{Equal, Greater, Less}
 use Rattle.tg_bytes.specs.Order.{bytes_cmp}
+use Rattle.tg_bytes.specs.OrderLaws.{less_apart}
 use Rattle.tg_import.specs.Imported.{AreEntryNames, IsEntryName}
 use Rattle.tg_import.specs.Refused.{HasNameFault, IsNameFault, item_names}
 use Rattle.tg_import.specs.Steps.{StandsBefore}
@@ -61,16 +61,6 @@ one_more items i item up taken lt is here other = record {
       (eq-or-lt_of_le {n = k + 1} {m = i} (omega arith));
 }
 
-less_apart : (a b : List ℕ) → bytes_cmp a b ≡ Less → a ≢ b
-less_apart a b less same =
-    let turned : bytes_cmp a a ≡ Less = ap (bytes_cmp a) same ∙ less in
-    let other : Less ≡ Greater = sym turned ∙ nat_list_cmp_total.antisymm a a ∙ ap ordering_reverse turned in
-    absurd (cc)
-
-name_at : (items : List Item) (k : ℕ) (d : List ℕ) (e : Item) → k < length items → get_or (item_names items) k d ≡ (get_or items k e).name
-name_at items k d e lt =
-    get_or_default (item_names items) k d e.name (omega (arith, length-map items (λ (x : Item). x.name))) ∙ get_or-map (λ (x : Item). x.name) items k e
-
 -- names that rise differ
 names_differ : (names : List (List ℕ)) → ((k : ℕ) → k + 1 < length names → bytes_cmp (get_or names k []) (get_or names (k + 1) []) ≡ Less) → IsDistinct bytes_eq names
 names_differ names up =
@@ -86,18 +76,23 @@ names_taken items i item taken =
     let named = length-map (take i items) (λ (x : Item). x.name) in
     record {
       each = λ k d lt.
-          subst IsEntryName (sym (name_at (take i items) k d item (omega (arith, named)) ∙ ap (λ (x : Item). x.name) (get_or-take i items k item (omega (arith, named, count)))))
+          subst IsEntryName (sym (get_or-map (λ (x : Item). x.name) (take i items) k item d (omega (arith, named)) ∙ ap (λ (x : Item). x.name) (get_or-take i items k item (omega (arith, named, count)))))
           (taken.each k item (omega (arith, named, count, taken.inside)));
       differ = names_differ (item_names (take i items))
           (λ k lt.
-          let a = name_at (take i items) k [] item (omega (arith, named)) ∙ ap (λ (x : Item). x.name) (get_or-take i items k item (omega (arith, named, count))) in
-          let b = name_at (take i items) (k + 1) [] item (omega (arith, named)) ∙ ap (λ (x : Item). x.name) (get_or-take i items (k + 1) item (omega (arith, named, count))) in
+          let a = get_or-map (λ (x : Item). x.name) (take i items) k item [] (omega (arith, named)) ∙ ap (λ (x : Item). x.name) (get_or-take i items k item (omega (arith, named, count))) in
+          let b = get_or-map (λ (x : Item). x.name) (take i items) (k + 1) item [] (omega (arith, named)) ∙ ap (λ (x : Item). x.name) (get_or-take i items (k + 1) item (omega (arith, named, count))) in
           rw (a, b) (taken.rise k item (omega (arith, named, count))));
     }
 
 pub all_taken : (items : List Item) → AreTaken items (length items) → AreEntryNames (item_names items)
 all_taken [] taken = record { each = λ k d lt. absurd (omega arith); differ = names_differ [] (λ k lt. absurd (omega arith)) }
 all_taken (item ∷ items) taken = subst (λ (l : List Item). AreEntryNames (item_names l)) (take-length (item ∷ items)) (names_taken (item ∷ items) (length (item ∷ items)) item taken)
+
+-- an item with those before and behind it
+pub around : (items : List Item) (i : ℕ) (item : Item) → i < length items → item ≡ get_or items i item → items ≡ take i items ++ item ∷ drop (i + 1) items
+around items i item lt is =
+    sym (take-append-drop i items) ∙ ap (λ (l : List Item). take i items ++ l) (drop_more items i item lt ∙ ap (λ (x : Item). x ∷ drop (i + 1) items) (sym is))
 
 -- the first name that may not
 pub name_fault : (path : List (List ℕ)) (items : List Item) (i : ℕ) (item : Item) (fault : ImportFault) → AreTaken items i → i < length items → item ≡ get_or items i item
@@ -106,7 +101,7 @@ name_fault path items i item fault taken lt is what = record {
   before = take i items;
   item = item;
   after = drop (i + 1) items;
-  whole = sym (take-append-drop i items) ∙ ap (λ (l : List Item). take i items ++ l) (rw add-one (drop-cons items i item lt) ∙ ap (λ (x : Item). x ∷ drop (i + 1) items) (sym is));
+  whole = around items i item lt is;
   good = names_taken items i item taken;
   is = what;
 }
@@ -117,6 +112,6 @@ stood_before items i item lt is before =
     let named = length-map (take i items) (λ (x : Item). x.name) in (
       i - 1,
       omega (arith, named, count, before.0),
-      name_at (take i items) (i - 1) item.name item (omega (arith, count, before.0)) ∙ ap (λ (x : Item). x.name) (get_or-take i items (i - 1) item (omega (arith, before.0)))
+      get_or-map (λ (x : Item). x.name) (take i items) (i - 1) item item.name (omega (arith, count, before.0)) ∙ ap (λ (x : Item). x.name) (get_or-take i items (i - 1) item (omega (arith, before.0)))
           ∙ before.1 item ∙ ap (λ (x : Item). x.name) (sym is),
     )

@@ -8,10 +8,9 @@ use Rattle.std.proofs.lemmas.List.Elements.{All-cons, All-head, All-nil, All-pus
 use Rattle.tg_files.specs.Folders.{FolderMeaning}
 use Rattle.tg_writing.specs.KeepingSteps.{Joins, keeps_both, keeps_nothing}
 use Rattle.tg_cid.specs.Cid.{CidParts}
+use Rattle.tg_cid.specs.CodeLaws.{v1_length}
 use Rattle.tg_cid.specs.Computed.{v1_bytes}
 use Rattle.tg_cid.specs.Spelling.{IsDigestSize}
-use Rattle.tg_cid.specs.declared.cid.HashKind.TheVariants.{Sha256}
-use Rattle.tg_cid.specs.declared.cid.HashKind.{HashKind}
 use Rattle.tg_dir.specs.Weights.{weight_for, weight_in}
 use Rattle.tg_hamt.specs.Order.{IsGoodEntry}
 use Rattle.tg_import.proofs.DirectoryRoots.{root_plain}
@@ -32,6 +31,7 @@ use Rattle.tg_model.specs.declared.kinds.Made.{Made}
 use Rattle.tg_model.specs.declared.kinds.NewEntry.{NewEntry}
 use Rattle.tg_tree.specs.declared.items.Item.{Item}
 use Rattle.tg_tree.specs.declared.tree.Tree.{Tree}
+use Rattle.tg_writing.specs.DigestLaws.{digest_is}
 use Rattle.tg_writing.specs.Keeping.{Keeps}
 use Rattle.tg_writing.specs.Nodes.{LeadTo}
 
@@ -114,12 +114,6 @@ counts_more (with_child first children) d = ap (plus (counts_of first)) (counts_
 
 -- ---- one entry more
 
-digest_size : (hash : HashKind) (n : ℕ) → hash ≡ Sha256 → IsDigestSize hash n → n ≡ 32
-digest_size hash n e h = (subst (λ (k : HashKind). IsDigestSize k n) e h)
-
-v1_length : (cid : CidParts) → length cid.digest ≡ 32 → length (v1_bytes cid) ≡ 36
-v1_length cid e = rw e (omega (arith, e))
-
 pub so_far_next : {S T : Type 0} → (m : KeepMeaning S) (f : FolderMeaning T) → Joins m → KeepingJoins → (keep0 keep1 keep2 : S) (before now later : T) (options : Options) (path at : List (List ℕ)) (counted : Summary)
     (options_now options_later : Options) (writer writer_later : FileWriterState) (summary summary_later : Summary) (taken : List Item) (item : Item) (entries entries_later : List NewEntry) (made : Made)
     → IsSoFar m f keep0 keep1 before now options path counted options_now writer summary taken entries
@@ -146,7 +140,7 @@ so_far_next m f joins stores keep0 keep1 keep2 before now later options path at 
       lead = subst (λ (l : List NewEntry). LeadTo l (with_last so_far.children new.d)) (sym pushed) (lead_more entries so_far.children entry new.d so_far.lead new.cid new.tsize);
       names = ap (λ (l : List NewEntry). map (λ (e : NewEntry). e.name) l) pushed ∙ map-append (λ (e : NewEntry). e.name) entries (entry ∷ [])
           ∙ ap (λ (l : List (List ℕ)). l ++ item.name ∷ []) so_far.names ∙ sym (map-append (λ (x : Item). x.name) taken (item ∷ []));
-      sized = subst (All HasPlainLength) (sym pushed) (All-push HasPlainLength entries entry so_far.sized (record { length_is = v1_length made.cid (digest_size made.cid.hash (length made.cid.digest) (ap (λ (c : CidParts). c.hash) new.cid ∙ (root_plain new.d new.kept.imported.sound.whole new.kept.imported.plain).1) size) }));
+      sized = subst (All HasPlainLength) (sym pushed) (All-push HasPlainLength entries entry so_far.sized (record { length_is = v1_length made.cid (digest_is made.cid.hash (length made.cid.digest) size) }));
       all = λ s. (
         λ has. ⊎_elim
             (λ (h : Contains (blocks_of_children so_far.children) s). Contains-append_left so_far.sections new.kept.sections s ((so_far.all s).0 h))

@@ -1,12 +1,10 @@
 use Rattle.std.proofs.Common.{◌≡◌, ◌≢◌, ℕ, ◌-◌, ◌<◌, ◌++◌, ◌∷◌, [], List, length, refl, ap, sym, ◌∙◌, subst, arith}
-use Rattle.std.proofs.lemmas.Iterator.Adapters.{YieldsList-from_vec}
-use Rattle.std.proofs.lemmas.Iterator.Consumers.{YieldsList-end, YieldsList-so_far, YieldsList-turn}
 use Rattle.std.proofs.lemmas.Result.{IfErr-weaker, IfOk-weaker, err_from_is_err_and}
 use Rattle.tg_cid.specs.Spelling.{IsDigestSize}
 use Rattle.tg_dir.specs.Made.{MakesDirectory}
-use Rattle.tg_import.proofs.Causes.{IsDone, IsTurn, cause_behind, done_as, done_of, end_of, entries_cause, file_sort, folder_imports, folder_sort, item_refused, led_at, list_cause, memory_behind, memory_cause, ok_both, plain_sort, turn_of, writer_now}
+use Rattle.tg_import.proofs.Causes.{IsDone, cause_behind, done_as, done_of, entries_cause, file_sort, folder_imports, folder_sort, item_refused, led_at, list_cause, memory_behind, memory_cause, ok_both, plain_sort, so_far_whole, taken_whole, turn_at, writer_now}
 use Rattle.tg_import.proofs.DirectoryRoots.{directory_codec}
-use Rattle.tg_import.proofs.SoFar.{IsSoFar, new_entries, so_far_next, so_far_none}
+use Rattle.tg_import.proofs.SoFar.{new_entries, so_far_next, so_far_none}
 use Rattle.tg_import.proofs.folder.Importer.+folder.Goals.{in-File+in_ok-made-in-File, in-Folder+in_ok-made-in-Folder}
 use Rattle.tg_import.proofs.folder.Importer.+folder.Goals as goal
 use Rattle.tg_import.specs.Refused.{HasFolderFault, IsFileFault}
@@ -17,7 +15,6 @@ use Rattle.tg_import.specs.Counting.{plus}
 use Rattle.tg_import.specs.declared.summary.Summary.{Summary}
 use Rattle.tg_model.specs.Stores.{kept_in}
 use Rattle.tg_model.specs.declared.kinds.NewEntry.{NewEntry}
-use Rattle.tg_tree.specs.declared.items.Item.{Item}
 use Rattle.tg_tree.specs.declared.items.Sort.TheVariants as sorts
 
 below_next : (levels t : ℕ) → levels ≡ t → levels ≢ 0 → levels - 1 < t
@@ -47,26 +44,18 @@ loop-item-init g t c = (
 
 pub file-requires-clause-at : goal.file-requires-clause-at
 file-requires-clause-at g t c =
-    let all = YieldsList-from_vec {s = c.into_iter-item-iterator.result} c.in_ok-items.items (c.into_iter-item-iterator.ensures.into_iter_gives.0 ∙ c.into_vec-item-items.ensures)
-    (c.into_iter-item-iterator.ensures.into_iter_gives.1 ∙ c.into_vec-item-items.result.ok.0 ∙ ap length c.into_vec-item-items.ensures) in
-    let at = YieldsList-turn all c.loop-item.yielded c.loop-item.item-iterator c.loop-item.yielded_by c.next.result c.next.new.self c.in-Some.item c.in-Some.is c.next.ensures.steps in
-    let turn : IsTurn c.in_ok-items.items c.loop-item.yielded c.in-Some.item = turn_of c.in_ok-items.items c.loop-item.yielded c.in-Some.item at (YieldsList-so_far all c.loop-item.yielded c.loop-item.item-iterator c.loop-item.yielded_by) in
-    let lent : c.as_slice-in-File.result.now ≡ c.in_ok-at.at = c.as_slice-in-File.ensures in
-    let made : c.in_ok-at.at ≡ c.args.path.now ++ c.as_slice.result.now ∷ [] = c.in_ok-at.ensures in
-    let here : c.as_slice-in-File.result.now ≡ c.args.path.now ++ c.in-Some.item.name ∷ [] = lent ∙ made ∙ ap (λ (n : List ℕ). c.args.path.now ++ n ∷ []) c.as_slice.ensures in
+    let turn = turn_at c.into_iter-item-iterator.result c.in_ok-items.items _ _ c.into_iter-item-iterator.ensures.into_iter_gives.0 c.into_iter-item-iterator.ensures.into_iter_gives.1 c.into_vec-item-items.result.ok.0 c.into_vec-item-items.ensures
+    c.loop-item.yielded c.loop-item.item-iterator c.loop-item.yielded_by c.next.result c.next.new.self c.in-Some.item c.in-Some.is c.next.ensures.steps in
+    let here = c.as_slice-in-File.ensures ∙ c.in_ok-at.ensures ∙ ap (λ (n : List ℕ). c.args.path.now ++ n ∷ []) c.as_slice.ensures in
     led_at g.K.Keep.keeper g.F.Folder.folder c.args.keep.now c.loop-item.keep c.args.folder.now c.loop-item.folder c.args.self.now.options c.args.path.now c.as_slice-in-File.result.now c.args.self.now.summary
     c.loop-item.self.options c.loop-item.self.writer c.loop-item.self.summary c.loop-item.yielded c.in_ok-items.items c.in-Some.item c.loop-item.entries sorts.File c.loop-item.invariant.2
     c.in_ok-items.ensures.items turn here c.in-File.is
 
 pub returns-in_err-made-in-File-clause-cause : goal.returns-in_err-made-in-File-clause-cause
 returns-in_err-made-in-File-clause-cause g t c =
-    let all = YieldsList-from_vec {s = c.into_iter-item-iterator.result} c.in_ok-items.items (c.into_iter-item-iterator.ensures.into_iter_gives.0 ∙ c.into_vec-item-items.ensures)
-    (c.into_iter-item-iterator.ensures.into_iter_gives.1 ∙ c.into_vec-item-items.result.ok.0 ∙ ap length c.into_vec-item-items.ensures) in
-    let at = YieldsList-turn all c.loop-item.yielded c.loop-item.item-iterator c.loop-item.yielded_by c.next.result c.next.new.self c.in-Some.item c.in-Some.is c.next.ensures.steps in
-    let turn : IsTurn c.in_ok-items.items c.loop-item.yielded c.in-Some.item = turn_of c.in_ok-items.items c.loop-item.yielded c.in-Some.item at (YieldsList-so_far all c.loop-item.yielded c.loop-item.item-iterator c.loop-item.yielded_by) in
-    let lent : c.as_slice-in-File.result.now ≡ c.in_ok-at.at = c.as_slice-in-File.ensures in
-    let made : c.in_ok-at.at ≡ c.args.path.now ++ c.as_slice.result.now ∷ [] = c.in_ok-at.ensures in
-    let here : c.as_slice-in-File.result.now ≡ c.args.path.now ++ c.in-Some.item.name ∷ [] = lent ∙ made ∙ ap (λ (n : List ℕ). c.args.path.now ++ n ∷ []) c.as_slice.ensures in
+    let turn = turn_at c.into_iter-item-iterator.result c.in_ok-items.items _ _ c.into_iter-item-iterator.ensures.into_iter_gives.0 c.into_iter-item-iterator.ensures.into_iter_gives.1 c.into_vec-item-items.result.ok.0 c.into_vec-item-items.ensures
+    c.loop-item.yielded c.loop-item.item-iterator c.loop-item.yielded_by c.next.result c.next.new.self c.in-Some.item c.in-Some.is c.next.ensures.steps in
+    let here = c.as_slice-in-File.ensures ∙ c.in_ok-at.ensures ∙ ap (λ (n : List ℕ). c.args.path.now ++ n ∷ []) c.as_slice.ensures in
     let p = err_from_is_err_and c.from_residual-in_err-made-in-File.result c.from_residual-in_err-made-in-File.ensures.1 in
     rw (p.1, p.2)
     (cause_behind g.K.Keep.keeper g.F.Folder.folder g.met.K.Keep.joins c.kept_sections.ensures.joins c.args.keep.now c.loop-item.keep c.file.new.keep c.args.folder.now c.loop-item.folder c.file.new.folder
@@ -80,13 +69,9 @@ returns-in_err-made-in-File-clause-cause g t c =
 
 pub folder-requires : goal.folder-requires
 folder-requires g t c κs within =
-    let all = YieldsList-from_vec {s = c.into_iter-item-iterator.result} c.in_ok-items.items (c.into_iter-item-iterator.ensures.into_iter_gives.0 ∙ c.into_vec-item-items.ensures)
-    (c.into_iter-item-iterator.ensures.into_iter_gives.1 ∙ c.into_vec-item-items.result.ok.0 ∙ ap length c.into_vec-item-items.ensures) in
-    let at = YieldsList-turn all c.loop-item.yielded c.loop-item.item-iterator c.loop-item.yielded_by c.next.result c.next.new.self c.in-Some.item c.in-Some.is c.next.ensures.steps in
-    let turn : IsTurn c.in_ok-items.items c.loop-item.yielded c.in-Some.item = turn_of c.in_ok-items.items c.loop-item.yielded c.in-Some.item at (YieldsList-so_far all c.loop-item.yielded c.loop-item.item-iterator c.loop-item.yielded_by) in
-    let lent : c.as_slice-in-Folder.result.now ≡ c.in_ok-at.at = c.as_slice-in-Folder.ensures in
-    let made : c.in_ok-at.at ≡ c.args.path.now ++ c.as_slice.result.now ∷ [] = c.in_ok-at.ensures in
-    let here : c.as_slice-in-Folder.result.now ≡ c.args.path.now ++ c.in-Some.item.name ∷ [] = lent ∙ made ∙ ap (λ (n : List ℕ). c.args.path.now ++ n ∷ []) c.as_slice.ensures in
+    let turn = turn_at c.into_iter-item-iterator.result c.in_ok-items.items _ _ c.into_iter-item-iterator.ensures.into_iter_gives.0 c.into_iter-item-iterator.ensures.into_iter_gives.1 c.into_vec-item-items.result.ok.0 c.into_vec-item-items.ensures
+    c.loop-item.yielded c.loop-item.item-iterator c.loop-item.yielded_by c.next.result c.next.new.self c.in-Some.item c.in-Some.is c.next.ensures.steps in
+    let here = c.as_slice-in-Folder.ensures ∙ c.in_ok-at.ensures ∙ ap (λ (n : List ℕ). c.args.path.now ++ n ∷ []) c.as_slice.ensures in
     let so_far = c.loop-item.invariant.2 in (
       below_next c.args.levels t c.decreases c.if-levels-eq0.false,
       (
@@ -106,13 +91,9 @@ folder-requires g t c κs within =
 
 pub returns-in_err-made-in-Folder-clause-cause : goal.returns-in_err-made-in-Folder-clause-cause
 returns-in_err-made-in-Folder-clause-cause g t c =
-    let all = YieldsList-from_vec {s = c.into_iter-item-iterator.result} c.in_ok-items.items (c.into_iter-item-iterator.ensures.into_iter_gives.0 ∙ c.into_vec-item-items.ensures)
-    (c.into_iter-item-iterator.ensures.into_iter_gives.1 ∙ c.into_vec-item-items.result.ok.0 ∙ ap length c.into_vec-item-items.ensures) in
-    let at = YieldsList-turn all c.loop-item.yielded c.loop-item.item-iterator c.loop-item.yielded_by c.next.result c.next.new.self c.in-Some.item c.in-Some.is c.next.ensures.steps in
-    let turn : IsTurn c.in_ok-items.items c.loop-item.yielded c.in-Some.item = turn_of c.in_ok-items.items c.loop-item.yielded c.in-Some.item at (YieldsList-so_far all c.loop-item.yielded c.loop-item.item-iterator c.loop-item.yielded_by) in
-    let lent : c.as_slice-in-Folder.result.now ≡ c.in_ok-at.at = c.as_slice-in-Folder.ensures in
-    let made : c.in_ok-at.at ≡ c.args.path.now ++ c.as_slice.result.now ∷ [] = c.in_ok-at.ensures in
-    let here : c.as_slice-in-Folder.result.now ≡ c.args.path.now ++ c.in-Some.item.name ∷ [] = lent ∙ made ∙ ap (λ (n : List ℕ). c.args.path.now ++ n ∷ []) c.as_slice.ensures in
+    let turn = turn_at c.into_iter-item-iterator.result c.in_ok-items.items _ _ c.into_iter-item-iterator.ensures.into_iter_gives.0 c.into_iter-item-iterator.ensures.into_iter_gives.1 c.into_vec-item-items.result.ok.0 c.into_vec-item-items.ensures
+    c.loop-item.yielded c.loop-item.item-iterator c.loop-item.yielded_by c.next.result c.next.new.self c.in-Some.item c.in-Some.is c.next.ensures.steps in
+    let here = c.as_slice-in-Folder.ensures ∙ c.in_ok-at.ensures ∙ ap (λ (n : List ℕ). c.args.path.now ++ n ∷ []) c.as_slice.ensures in
     let p = err_from_is_err_and c.from_residual-in_err-made-in-Folder.result c.from_residual-in_err-made-in-Folder.ensures.1 in
     rw (p.1, p.2)
     (cause_behind g.K.Keep.keeper g.F.Folder.folder g.met.K.Keep.joins c.kept_sections.ensures.joins c.args.keep.now c.loop-item.keep c.folder.new.keep c.args.folder.now c.loop-item.folder c.folder.new.folder
@@ -126,12 +107,9 @@ returns-in_err-made-in-Folder-clause-cause g t c =
 
 pub returns-in-Symlink-clause-cause : goal.returns-in-Symlink-clause-cause
 returns-in-Symlink-clause-cause g t c =
-    let all = YieldsList-from_vec {s = c.into_iter-item-iterator.result} c.in_ok-items.items (c.into_iter-item-iterator.ensures.into_iter_gives.0 ∙ c.into_vec-item-items.ensures)
-    (c.into_iter-item-iterator.ensures.into_iter_gives.1 ∙ c.into_vec-item-items.result.ok.0 ∙ ap length c.into_vec-item-items.ensures) in
-    let at = YieldsList-turn all c.loop-item.yielded c.loop-item.item-iterator c.loop-item.yielded_by c.next.result c.next.new.self c.in-Some.item c.in-Some.is c.next.ensures.steps in
-    let turn : IsTurn c.in_ok-items.items c.loop-item.yielded c.in-Some.item = turn_of c.in_ok-items.items c.loop-item.yielded c.in-Some.item at (YieldsList-so_far all c.loop-item.yielded c.loop-item.item-iterator c.loop-item.yielded_by) in
-    let made : c.in_ok-at.at ≡ c.args.path.now ++ c.as_slice.result.now ∷ [] = c.in_ok-at.ensures in
-    let here : c.in_ok-at.at ≡ c.args.path.now ++ c.in-Some.item.name ∷ [] = made ∙ ap (λ (n : List ℕ). c.args.path.now ++ n ∷ []) c.as_slice.ensures in (
+    let turn = turn_at c.into_iter-item-iterator.result c.in_ok-items.items _ _ c.into_iter-item-iterator.ensures.into_iter_gives.0 c.into_iter-item-iterator.ensures.into_iter_gives.1 c.into_vec-item-items.result.ok.0 c.into_vec-item-items.ensures
+    c.loop-item.yielded c.loop-item.item-iterator c.loop-item.yielded_by c.next.result c.next.new.self c.in-Some.item c.in-Some.is c.next.ensures.steps in
+    let here = c.in_ok-at.ensures ∙ ap (λ (n : List ℕ). c.args.path.now ++ n ∷ []) c.as_slice.ensures in (
       c.loop-item.invariant.2.quiet,
       (c.loop-item.invariant.2.sections, c.loop-item.invariant.2.keeps),
       item_refused g.K.Keep.keeper g.F.Folder.folder c.args.keep.now c.loop-item.keep c.args.folder.now c.loop-item.folder c.args.self.now.options c.args.path.now c.args.self.now.summary
@@ -193,24 +171,18 @@ loop-item-preserved g t c =
 
 pub directory-requires-clause-entries : goal.directory-requires-clause-entries
 directory-requires-clause-entries g t c =
-    let all = YieldsList-from_vec {s = c.into_iter-item-iterator.result} c.in_ok-items.items (c.into_iter-item-iterator.ensures.into_iter_gives.0 ∙ c.into_vec-item-items.ensures)
-    (c.into_iter-item-iterator.ensures.into_iter_gives.1 ∙ c.into_vec-item-items.result.ok.0 ∙ ap length c.into_vec-item-items.ensures) in
-    let end = YieldsList-end all c.loop-item.yielded c.loop-item.item-iterator c.loop-item.yielded_by c.next.result c.next.new.self c.in-None.is c.next.ensures.steps in
-    let whole = end_of c.in_ok-items.items c.loop-item.yielded end.0 in
-    let so_far = subst (λ (l : List Item). IsSoFar g.K.Keep.keeper g.F.Folder.folder c.args.keep.now c.loop-item.keep c.args.folder.now c.loop-item.folder c.args.self.now.options c.args.path.now c.args.self.now.summary
-    c.loop-item.self.options c.loop-item.self.writer c.loop-item.self.summary l c.loop-item.entries) whole c.loop-item.invariant.2 in
+    let whole = taken_whole c.into_iter-item-iterator.result c.in_ok-items.items _ _ c.into_iter-item-iterator.ensures.into_iter_gives.0 c.into_iter-item-iterator.ensures.into_iter_gives.1 c.into_vec-item-items.result.ok.0 c.into_vec-item-items.ensures
+    c.loop-item.yielded c.loop-item.item-iterator c.loop-item.yielded_by c.next.result c.next.new.self c.in-None.is c.next.ensures.steps in
+    let so_far = so_far_whole whole c.loop-item.invariant.2 in
     subst AreNewEntries (sym c.as_slice-2.ensures)
     (new_entries c.args.self.now.options (g.F.Folder.folder.tree c.args.folder.now) c.args.path.now c.loop-item.entries c.in_ok-items.items so_far.children so_far.imported so_far.lead so_far.names
     c.in_ok-items.ensures.names c.in_ok-items.ensures.few)
 
 pub returns-clause-imported : goal.returns-clause-imported
 returns-clause-imported g t c =
-    let all = YieldsList-from_vec {s = c.into_iter-item-iterator.result} c.in_ok-items.items (c.into_iter-item-iterator.ensures.into_iter_gives.0 ∙ c.into_vec-item-items.ensures)
-    (c.into_iter-item-iterator.ensures.into_iter_gives.1 ∙ c.into_vec-item-items.result.ok.0 ∙ ap length c.into_vec-item-items.ensures) in
-    let end = YieldsList-end all c.loop-item.yielded c.loop-item.item-iterator c.loop-item.yielded_by c.next.result c.next.new.self c.in-None.is c.next.ensures.steps in
-    let whole = end_of c.in_ok-items.items c.loop-item.yielded end.0 in
-    let so_far = subst (λ (l : List Item). IsSoFar g.K.Keep.keeper g.F.Folder.folder c.args.keep.now c.loop-item.keep c.args.folder.now c.loop-item.folder c.args.self.now.options c.args.path.now c.args.self.now.summary
-    c.loop-item.self.options c.loop-item.self.writer c.loop-item.self.summary l c.loop-item.entries) whole c.loop-item.invariant.2 in
+    let whole = taken_whole c.into_iter-item-iterator.result c.in_ok-items.items _ _ c.into_iter-item-iterator.ensures.into_iter_gives.0 c.into_iter-item-iterator.ensures.into_iter_gives.1 c.into_vec-item-items.result.ok.0 c.into_vec-item-items.ensures
+    c.loop-item.yielded c.loop-item.item-iterator c.loop-item.yielded_by c.next.result c.next.new.self c.in-None.is c.next.ensures.steps in
+    let so_far = so_far_whole whole c.loop-item.invariant.2 in
     ok_both c.directory.result
     (λ made makes later. folder_imports g.K.Keep.keeper g.F.Folder.folder g.met.K.Keep.joins c.kept_sections.ensures.joins c.args.keep.now c.loop-item.keep c.directory.new.keep c.args.folder.now c.loop-item.folder
     c.args.self.now.options c.args.path.now c.args.self.now.summary c.loop-item.self.options c.loop-item.self.writer c.loop-item.self.summary c.directory.new.self.summary c.in_ok-items.items c.loop-item.entries made so_far
@@ -220,12 +192,9 @@ returns-clause-imported g t c =
 
 pub returns-clause-directory : goal.returns-clause-directory
 returns-clause-directory g t c =
-    let all = YieldsList-from_vec {s = c.into_iter-item-iterator.result} c.in_ok-items.items (c.into_iter-item-iterator.ensures.into_iter_gives.0 ∙ c.into_vec-item-items.ensures)
-    (c.into_iter-item-iterator.ensures.into_iter_gives.1 ∙ c.into_vec-item-items.result.ok.0 ∙ ap length c.into_vec-item-items.ensures) in
-    let end = YieldsList-end all c.loop-item.yielded c.loop-item.item-iterator c.loop-item.yielded_by c.next.result c.next.new.self c.in-None.is c.next.ensures.steps in
-    let whole = end_of c.in_ok-items.items c.loop-item.yielded end.0 in
-    let so_far = subst (λ (l : List Item). IsSoFar g.K.Keep.keeper g.F.Folder.folder c.args.keep.now c.loop-item.keep c.args.folder.now c.loop-item.folder c.args.self.now.options c.args.path.now c.args.self.now.summary
-    c.loop-item.self.options c.loop-item.self.writer c.loop-item.self.summary l c.loop-item.entries) whole c.loop-item.invariant.2 in
+    let whole = taken_whole c.into_iter-item-iterator.result c.in_ok-items.items _ _ c.into_iter-item-iterator.ensures.into_iter_gives.0 c.into_iter-item-iterator.ensures.into_iter_gives.1 c.into_vec-item-items.result.ok.0 c.into_vec-item-items.ensures
+    c.loop-item.yielded c.loop-item.item-iterator c.loop-item.yielded_by c.next.result c.next.new.self c.in-None.is c.next.ensures.steps in
+    let so_far = so_far_whole whole c.loop-item.invariant.2 in
     IfOk-weaker c.directory.result _ _
     (λ made makes. directory_codec c.args.self.now.options (g.F.Folder.folder.tree c.args.folder.now) c.args.path.now c.in_ok-items.items c.loop-item.entries so_far.children c.loop-item.self.options.shard made
     (kept_in g.K.Keep.keeper c.loop-item.keep c.directory.new.keep) so_far.imported so_far.lead
@@ -233,12 +202,9 @@ returns-clause-directory g t c =
 
 pub returns-clause-cause : goal.returns-clause-cause
 returns-clause-cause g t c =
-    let all = YieldsList-from_vec {s = c.into_iter-item-iterator.result} c.in_ok-items.items (c.into_iter-item-iterator.ensures.into_iter_gives.0 ∙ c.into_vec-item-items.ensures)
-    (c.into_iter-item-iterator.ensures.into_iter_gives.1 ∙ c.into_vec-item-items.result.ok.0 ∙ ap length c.into_vec-item-items.ensures) in
-    let end = YieldsList-end all c.loop-item.yielded c.loop-item.item-iterator c.loop-item.yielded_by c.next.result c.next.new.self c.in-None.is c.next.ensures.steps in
-    let whole = end_of c.in_ok-items.items c.loop-item.yielded end.0 in
-    let so_far = subst (λ (l : List Item). IsSoFar g.K.Keep.keeper g.F.Folder.folder c.args.keep.now c.loop-item.keep c.args.folder.now c.loop-item.folder c.args.self.now.options c.args.path.now c.args.self.now.summary
-    c.loop-item.self.options c.loop-item.self.writer c.loop-item.self.summary l c.loop-item.entries) whole c.loop-item.invariant.2 in
+    let whole = taken_whole c.into_iter-item-iterator.result c.in_ok-items.items _ _ c.into_iter-item-iterator.ensures.into_iter_gives.0 c.into_iter-item-iterator.ensures.into_iter_gives.1 c.into_vec-item-items.result.ok.0 c.into_vec-item-items.ensures
+    c.loop-item.yielded c.loop-item.item-iterator c.loop-item.yielded_by c.next.result c.next.new.self c.in-None.is c.next.ensures.steps in
+    let so_far = so_far_whole whole c.loop-item.invariant.2 in
     IfErr-weaker c.directory.result _ _
     (λ fault h. entries_cause g.K.Keep.keeper g.F.Folder.folder g.met.K.Keep.joins c.kept_sections.ensures.joins c.args.keep.now c.loop-item.keep c.directory.new.keep c.args.folder.now c.loop-item.folder
     c.args.self.now.options c.args.path.now c.args.self.now.summary c.loop-item.self.options c.loop-item.self.writer c.loop-item.self.summary c.in_ok-items.items c.loop-item.entries c.args.levels fault so_far
