@@ -1,26 +1,25 @@
 -- What is asked at the wanted place, and what the block there is read as.
 use Rattle.tg_frames.specs.declared.position.Ask.TheVariants as asks
 use Rattle.tg_frames.specs.declared.position.Position.TheVariants as positions
-use Rattle.tg_model.specs.declared.queries.Scope.TheVariants as scopes
-use Rattle.std.proofs.Common.{◌≡◌, ◌∙◌, ap, sym, subst, refl, Err, List, None, Ok, Option, Result, Some, [], get_or, drop, length, true, inl, inr, ℕ, ◌+◌, ◌<◌}
-use Rattle.std.proofs.lemmas.List.{drop_more}
+use Rattle.std.proofs.Common.{◌≡◌, ◌∙◌, ap, sym, subst, refl, Err, List, None, Ok, Option, Result, Some, [], length, true, inr, ℕ, ◌<◌}
+use Rattle.tg_cid.specs.Cid.{CidParts}
+use Rattle.tg_frames.proofs.StepsLeft.{segment_there}
 use Rattle.tg_frames.specs.Left.{IsFitting, IsOnPath, IsPlaceOnPath, IsReadAs, IsReadHere, LeftState, WantedAt, wanted_at}
 use Rattle.tg_frames.specs.Opening.{IsReadBy}
-use Rattle.tg_frames.specs.Places.{standing_of, step_want, want_of}
+use Rattle.tg_frames.specs.Places.{standing_of, want_of}
 use Rattle.tg_model.specs.Dag.{Section}
 use Rattle.tg_frames.specs.declared.position.Ask.{Ask}
 use Rattle.tg_frames.specs.declared.position.Place.{Place}
 use Rattle.tg_frames.specs.declared.position.Position.{Position}
 use Rattle.tg_model.specs.Computed.{read}
-use Rattle.tg_model.specs.Placed.{GivesPlaced, StandsForKind}
+use Rattle.tg_model.specs.Placed.{StandsForKind}
 use Rattle.tg_model.specs.Queries.{QueryParts}
-use Rattle.tg_model.specs.Sound.{position_fault, top}
+use Rattle.tg_model.specs.Sound.{position_fault}
 use Rattle.tg_model.specs.Sound.{Position as Standing}
 use Rattle.tg_model.specs.declared.fault.BlockFault.{BlockFault}
 use Rattle.tg_model.specs.declared.kinds.Kind.{Kind}
 use Rattle.tg_model.specs.declared.placed.PlacedKind.{PlacedKind}
-use Rattle.tg_model.specs.declared.queries.Scope.{Scope}
-use Rattle.tg_traverse.specs.Tasks.{Want, fault_at, is_read_at, segment_want, terminal_want}
+use Rattle.tg_traverse.specs.Tasks.{Task, Want, fault_at, is_read_at}
 
 -- ---- what is asked there
 
@@ -37,38 +36,18 @@ on_path_below i positions.Top n h = h
 on_path_below i (positions.Part size) n h = absurd h
 on_path_below i (positions.Child above) n h = h
 
-pub segment_step : (i : ℕ) (standing : Standing) (path : List (List ℕ)) (depth : ℕ) → i < length path
-    → step_want i standing (drop i path) depth ≡ segment_want i standing (get_or path i []) (drop (i + 1) path) depth
-segment_step i standing path depth h = ap (λ (names : List (List ℕ)). step_want i standing names depth) (drop_more path i [] h)
-
 -- a block is read there, but at a terminal
 pub is_read_segment : (q : QueryParts) (i : ℕ) (position : Position) (depth : ℕ) → IsOnPath (asks.Segment i position) (length q.path)
     → is_read_at q (want_of q.path (asks.Segment i position) depth) ≡ true
-is_read_segment q i position depth h = ap (is_read_at q) (segment_step i (standing_of position) q.path depth (on_path_below i position (length q.path) h))
+is_read_segment q i position depth h = ap (is_read_at q) (segment_there i (standing_of position) q.path depth _ [] (on_path_below i position (length q.path) h) refl)
 
 -- why a kind can't stand there
 pub segment_fault : (q : QueryParts) (i : ℕ) (position : Position) (depth : ℕ) (kind : Kind) → IsOnPath (asks.Segment i position) (length q.path)
     → fault_at q (want_of q.path (asks.Segment i position) depth) kind ≡ position_fault (standing_of position) kind
 segment_fault q i position depth kind h =
-    ap (λ (w : Want). fault_at q w kind) (segment_step i (standing_of position) q.path depth (on_path_below i position (length q.path) h))
-
-scope_fault : (scope : Scope) (q : QueryParts) (depth : ℕ) (kind : Kind) → q.scope ≡ scope → is_read_at q (terminal_want depth) ≡ true
-    → fault_at q (terminal_want depth) kind ≡ position_fault top kind
-scope_fault scopes.Block q depth kind e h = absurd (cc)
-scope_fault scopes.Entity q depth kind e h = rw e refl
-scope_fault scopes.All q depth kind e h = rw e refl
-
-pub terminal_fault_top : (q : QueryParts) (depth : ℕ) (kind : Kind) → is_read_at q (terminal_want depth) ≡ true
-    → fault_at q (terminal_want depth) kind ≡ position_fault top kind
-terminal_fault_top q depth kind h = scope_fault q.scope q depth kind refl h
+    ap (λ (w : Want). fault_at q w kind) (segment_there i (standing_of position) q.path depth _ [] (on_path_below i position (length q.path) h) refl)
 
 -- ---- what it is read as
-
-pub given_kind : (block : List ℕ) (found : PlacedKind) (computed : Result Kind BlockFault) → GivesPlaced block (Ok found) computed
-    → (kind : Kind) × (computed ≡ Ok kind) × StandsForKind block found kind
-given_kind block found (Ok kind) (inl h) = (kind, refl, h)
-given_kind block found (Err fault) (inl h) = absurd h
-given_kind block found computed (inr h) = absurd (let e = h.0 in cc)
 
 pub read_as : (q : QueryParts) (at : WantedAt) (block : List ℕ) (found : PlacedKind) (result : Result PlacedKind BlockFault) (standing : Standing) (kind : Kind)
     → read at.cid block ≡ Ok kind → StandsForKind block found kind → fault_at q at.want kind ≡ position_fault standing kind
@@ -102,12 +81,12 @@ ask_fault q (asks.Node reach other) position depth kind e h = ap (λ (p : Positi
 
 -- ---- what is opened there
 
-pub read_there : (q : QueryParts) (wanted : Option Place) (place : Place) (position : Position) (state : LeftState) (at : WantedAt) (section : Section) (kind : Kind) (found : PlacedKind) (held : List ℕ)
-    → wanted ≡ Some place → wanted_at q.path wanted ≡ state.wanted → q ≡ state.query → IsPlaceOnPath wanted (length q.path) → IsAskAt place.ask position
-    → IsReadHere state at section kind found held → IsReadBy position section kind found
-read_there q wanted place position state at section kind found held is e same on_path ask here =
-    let there : at ≡ at_place q.path place = place_wanted q.path wanted place state.wanted at is e here.wanted in
-    let fits : fault_at q at.want kind ≡ None = ap (λ (q : QueryParts). fault_at q at.want kind) same ∙ here.fits in
+pub read_there : (q : QueryParts) (position : Position) {wanted : Option Place} {place : Place} {later : List (Task CidParts)} {state : LeftState} {ask : Ask} {at : WantedAt} {section : Section}
+    {kind : Kind} {found : PlacedKind} {held : List ℕ} → wanted ≡ Some place → record { query = q; wanted = wanted_at q.path wanted; later = later } ≡ state → IsPlaceOnPath wanted (length q.path)
+    → place.ask ≡ ask → IsAskAt ask position → IsReadHere state at section kind found held → IsReadBy position section kind found
+read_there q position {wanted} {place} {later} {state} {ask} {at} {section} {kind} is view on_path ask_is stands here =
+    let there : at ≡ at_place q.path place = place_wanted q.path wanted place state.wanted at is (ap (λ (s : LeftState). s.wanted) view) here.wanted in
+    let fits : fault_at q at.want kind ≡ None = ap (λ (s : LeftState). fault_at s.query at.want kind) view ∙ here.fits in
     let asked : fault_at q at.want kind ≡ position_fault (standing_of position) kind = ap (λ (a : WantedAt). fault_at q a.want kind) there
-    ∙ ask_fault q place.ask position place.depth kind ask (place_on_path wanted place (length q.path) is on_path) in
+    ∙ ask_fault q place.ask position place.depth kind (subst (λ (a : Ask). IsAskAt a position) (sym ask_is) stands) (place_on_path wanted place (length q.path) is on_path) in
     record { reads = here.reads; fits = sym asked ∙ fits; stands = here.stands }

@@ -4,6 +4,7 @@ use Rattle.tg_frames.specs.declared.position.Position.TheVariants as positions
 use Rattle.tg_model.specs.declared.queries.Scope.TheVariants as scopes
 use Rattle.std.proofs.Common.{Err, List, None, Ok, Option, Result, Some, ap, append_assoc, false, length, refl, subst, sym, true, ℕ, ◌++◌, ◌∙◌, ◌≡◌, ◌≢◌}
 use Rattle.std.specs.Prelude.{Bool, OnOk}
+use Rattle.std.proofs.lemmas.Result.{on_ok_weaker}
 use Rattle.tg_model.specs.Fits.{is_block}
 use Rattle.tg_frames.specs.Left.{IsHeldFor}
 use Rattle.tg_frames.specs.Places.{reach_of}
@@ -17,7 +18,8 @@ use Rattle.tg_frames.specs.declared.position.Ask.{Ask}
 use Rattle.tg_frames.specs.declared.position.Miss.{Miss}
 use Rattle.tg_frames.specs.declared.position.Place.{Place}
 use Rattle.tg_frames.specs.declared.position.Position.{Position}
-use Rattle.tg_frames.proofs.Opened.{at_place, place_wanted, terminal_fault_top}
+use Rattle.tg_frames.proofs.Opened.{at_place, place_wanted}
+use Rattle.tg_frames.specs.FaultLaws.{fault_same}
 use Rattle.tg_model.specs.Dag.{Section, links_of}
 use Rattle.tg_model.specs.Queries.{QueryParts}
 use Rattle.tg_model.specs.declared.kinds.Kind.{Kind}
@@ -98,13 +100,9 @@ read_at_top q state place at section kind found held e w other here =
     let told : fault_at q (terminal_want place.depth) kind ≡ None = ap (λ (want : Want). fault_at q want kind) (sym w) ∙ ap (λ (p : QueryParts). fault_at p at.want kind) e ∙ here.fits in
     record {
       reads = here.reads;
-      fits = sym (terminal_fault_top q place.depth kind (read_terminal q.scope q place.depth refl other)) ∙ told;
+      fits = sym (fault_same q (terminal_want place.depth) kind (read_terminal q.scope q place.depth refl other)) ∙ told;
       stands = here.stands;
     }
-
-on_ok : {A E : Type 0} {P Q : Type 0} (result : Result A E) → (P → Q) → OnOk result P → OnOk result Q
-on_ok (Ok done) f h = f h
-on_ok (Err fault) f h = h
 
 pub terminal_left : {A E : Type 0} (q : QueryParts) (before after : Option Place) (place : Place) (gone : Option Miss) (stack now : List (Task CidParts)) (state : LeftState)
     (reach : Reach) (frame : List (Task CidParts)) (result : Result A E) (found : PlacedKind) (held : List ℕ)
@@ -127,7 +125,7 @@ terminal_left q before after place gone stack now state reach frame result found
     let wanted : tasks_of state.query at.want section kind (links_of kind) ≡ tasks_of q (terminal_want place.depth) section kind (links_of kind)
     = ap (λ (p : QueryParts). tasks_of p at.want section kind (links_of kind)) (sym query) ∙ ap (λ (w : Want). tasks_of q w section kind (links_of kind)) want in
     let none : missed_tasks gone ++ now ≡ now = ap (λ (m : Option Miss). missed_tasks m ++ now) (none_missed before place gone b one) in
-    on_ok result (λ (p : now ≡ frame ++ stack).
+    on_ok_weaker result (λ (p : now ≡ frame ++ stack).
     ap (λ (o : Option Place). wanted_tasks (wanted_at q.path o) ++ (missed_tasks gone ++ now)) n ∙ none ∙ p
     ∙ ap (λ (l : List (Task CidParts)). l ++ stack) (first ∙ sym wanted)
     ∙ ap (λ (l : List (Task CidParts)). tasks_of state.query at.want section kind (links_of kind) ++ l) behind) pushed

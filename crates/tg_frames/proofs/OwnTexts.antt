@@ -3,7 +3,8 @@ use Rattle.tg_frames.specs.declared.position.Ask.TheVariants as asks
 use Rattle.tg_model.specs.declared.placed.PlacedKind.TheVariants as placed
 use Rattle.std.proofs.Common.{◌≡◌, ◌∙◌, List, None, Option, Some, [], ap, inl, inr, length, refl, subst, sym, ℕ}
 use Rattle.std.specs.Option.{option_or}
-use Rattle.tg_frames.proofs.Opened.{on_path_below, segment_step}
+use Rattle.tg_frames.proofs.Opened.{on_path_below}
+use Rattle.tg_frames.proofs.StepsLeft.{segment_there}
 use Rattle.tg_frames.specs.Left.{IsOnPath}
 use Rattle.tg_frames.specs.PlaceTexts.{IsDiffering, IsOther, IsSame, IsSizeFault, content_size, part_size, standing_at, told_size}
 use Rattle.tg_frames.specs.Places.{standing_of, want_of}
@@ -87,10 +88,10 @@ no_content_asked span section (Symlink target) h = refl
 pub segment_text : (q : QueryParts) (i : ℕ) (position : Position) (depth : ℕ) (section : Section) (kind : Kind) → IsOnPath (asks.Segment i position) (length q.path)
     → text_at q (want_of q.path (asks.Segment i position) depth) section kind ≡ []
 segment_text q i position depth section kind h =
-    ap (λ (w : Want). text_at q w section kind) (segment_step i (standing_of position) q.path depth (on_path_below i position (length q.path) h))
+    ap (λ (w : Want). text_at q w section kind) (segment_there i (standing_of position) q.path depth _ [] (on_path_below i position (length q.path) h) refl)
 
 pub standing_there : (path : List (List ℕ)) (ask : Ask) (depth : ℕ) → IsOnPath ask (length path) → position_of (want_of path ask depth) ≡ standing_at ask
-standing_there path (asks.Segment i position) depth h = ap position_of (segment_step i (standing_of position) path depth (on_path_below i position (length path) h))
+standing_there path (asks.Segment i position) depth h = ap position_of (segment_there i (standing_of position) path depth _ [] (on_path_below i position (length path) h) refl)
 standing_there path asks.Terminal depth h = refl
 standing_there path (asks.Node reach position) depth h = refl
 

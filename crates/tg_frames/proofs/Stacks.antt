@@ -1,7 +1,7 @@
 -- The innermost frame's tasks come first.
 use Rattle.std.proofs.Common.{◌≡◌, ap₂, Bool, MatchOption, ℕ, ◌+◌, ◌<◌, All, length, length-append, List, Option, Some, None, [], ◌∷◌, ◌++◌, option_to_list, subst, arith, refl, sym, ap, ◌∙◌, append_assoc, append-nil}
 use Rattle.std.proofs.Math.Seq.{get_or-append_seam}
-use Rattle.std.proofs.lemmas.List.{get_or_append_left}
+use Rattle.std.proofs.lemmas.List.{get_or_append_left, nil_from_length}
 use Rattle.tg_cid.specs.Cid.{CidParts}
 use Rattle.tg_frames.specs.Frames.{AreVisited, IsDone, IsFrame, IsSomething, IsVisited, children_left, directory_of, frame_tasks, into_tasks, line_of, met_tasks}
 use Rattle.tg_frames.specs.Left.{IsStack, stack_tasks, top_tasks}
@@ -22,10 +22,6 @@ popped old new (Some f) e = ap stack_tasks e ∙ innermost new f
 
 -- ---- the frames below are frames
 
-no_items : (xs : List Frame) → length xs ≡ 0 → xs ≡ []
-no_items [] e = refl
-no_items (x ∷ xs) e = absurd (omega (arith, e))
-
 front_all : (xs ys : List Frame) → All IsFrame (xs ++ ys) → All IsFrame xs
 front_all xs ys h k d w =
     let within : k < length (xs ++ ys) = let e : length (xs ++ ys) ≡ length xs + length ys = length-append xs ys in omega arith in
@@ -37,7 +33,7 @@ last_all xs f h =
     subst (λ (x : Frame). IsFrame x) (get_or-append_seam xs f [] f) (h (length xs) f within)
 
 pub still_stack : (old new : List Frame) (top : Option Frame) → old ≡ new ++ option_to_list top → (top ≡ None → length new ≡ 0) → All IsFrame old → IsStack top new
-still_stack old new None e h g = no_items new (h refl)
+still_stack old new None e h g = nil_from_length new (h refl)
 still_stack old new (Some f) e h g =
     let all : All IsFrame (new ++ f ∷ []) = subst (λ (xs : List Frame). All IsFrame xs) e g in
     (last_all new f all, front_all new (f ∷ []) all)

@@ -13,8 +13,8 @@ use Rattle.tg_model.specs.Dag.{Section, links_of}
 use Rattle.tg_model.specs.PathWalk.{StepTo, absent, not_folder_here, step_of, to_child, to_entry}
 use Rattle.tg_model.specs.Placed.{StandsForKind}
 use Rattle.tg_model.specs.Queries.{QueryParts}
-use Rattle.tg_model.specs.Sound.{Position as Standing}
 use Rattle.tg_model.specs.Sound.{passed}
+use Rattle.tg_model.specs.Sound.{Position as Standing}
 use Rattle.tg_model.specs.StepAnswers.{IsStepOver}
 use Rattle.tg_model.specs.declared.kinds.Kind.{Kind}
 use Rattle.tg_model.specs.declared.kinds.Step.{Step}
@@ -90,19 +90,27 @@ segment_there i standing path depth name other h e =
     ap (λ (names : List (List ℕ)). step_want i standing names depth) (drop_more path i other h)
     ∙ ap (λ (n : List ℕ). segment_want i standing n (drop (i + 1) path) depth) (sym e)
 
+-- the step of a segment, and that the segment of the path has this name
 pub record IsStepThere (q : QueryParts) (i : ℕ) (standing : Standing) (depth : ℕ) (section : Section) (kind : Kind) (name : List ℕ) (answer : Step) : Type 0 where
   pub step : StepTo
   pub over : IsStepOver (links_of kind) step answer
   pub tasks : tasks_of q (step_want i standing (drop i q.path) depth) section kind (links_of kind)
       ≡ step_tasks i (path_want (i + 1) (drop (i + 1) q.path) (depth + 1)) (segment_want i (position_below standing name) name (drop (i + 1) q.path) (depth + 1)) step (links_of kind)
+  pub segment : (at : Standing) (below : ℕ) → step_want i at (drop i q.path) below ≡ segment_want i at name (drop (i + 1) q.path) below
 
-pub step_there : (q : QueryParts) (i : ℕ) (standing : Standing) (depth : ℕ) (section : Section) (kind : Kind) (found : PlacedKind) (folder : Kind) (above name other : List ℕ) (answer : Step)
-    → i < length q.path → name ≡ get_or q.path i other → above ≡ passed standing → folder ≡ directory_kind found → StandsForKind section.block found kind
-    → IsStepFrom folder (length above) name answer → IsStepThere q i standing depth section kind name answer
-step_there q i standing depth section kind found folder above name other answer h e a d stands over = record {
-  step = step_of kind (length (passed standing)) name;
-  over = step_from_kind section.block found kind (length (passed standing)) name answer stands
-      (subst (λ (k : Kind). IsStepFrom k (length (passed standing)) name answer) d
-      (subst (λ (above : List ℕ). IsStepFrom folder (length above) name answer) a over));
-  tasks = ap (λ (w : Want). tasks_of q w section kind (links_of kind)) (segment_there i standing q.path depth name other h e);
-}
+-- from what the calls give: the path, its segment, what was passed, the kind, and the answer
+pub step_there : (q : QueryParts) (i : ℕ) (standing : Standing) (depth : ℕ) (section : Section) (kind : Kind) (found : PlacedKind) (answer : Step)
+    (other : List ℕ) {folder : Kind} {above name : List ℕ} {path : List (List ℕ)} {given : Step} → i < length q.path → name ≡ get_or path i other → path ≡ q.path → above ≡ passed standing
+    → folder ≡ directory_kind found → StandsForKind section.block found kind → given ≡ answer → IsStepFrom folder (length above) name given
+    → IsStepThere q i standing depth section kind name answer
+step_there q i standing depth section kind found answer other {folder} {above} {name} {path} {given} inside named same passed_is folder_is stands is over =
+    let segment = λ (at : Standing) (below : ℕ). segment_there i at q.path below name other inside (named ∙ ap (λ (p : List (List ℕ)). get_or p i other) same) in
+    record {
+      step = step_of kind (length (passed standing)) name;
+      over = step_from_kind section.block found kind (length (passed standing)) name answer stands
+          (subst (λ (k : Kind). IsStepFrom k (length (passed standing)) name answer) folder_is
+          (subst (λ (above : List ℕ). IsStepFrom folder (length above) name answer) passed_is
+          (subst (λ (answer : Step). IsStepFrom folder (length above) name answer) is over)));
+      tasks = ap (λ (w : Want). tasks_of q w section kind (links_of kind)) (segment standing depth);
+      segment = segment;
+    }

@@ -3,3 +3,5 @@ pub mod Places
 pub mod Left
 pub mod Opening
 pub mod PlaceTexts
+pub mod SaidFaults
+pub mod FaultLaws

@@ -1,32 +1,22 @@
-use Rattle.std.proofs.Common.{◌≡◌, ◌∙◌, Some, ap, refl, subst, sym}
-use Rattle.tg_frames.proofs.Opened.{IsAskAt, read_there}
+use Rattle.std.proofs.Common.{◌∙◌, refl, sym}
+use Rattle.tg_frames.proofs.Opened.{read_there}
 use Rattle.tg_frames.proofs.OpenedPlaces.{not_block, parted_on_path, parted_one, stepped_left, terminal_left}
-use Rattle.tg_frames.specs.Left.{LeftState}
-use Rattle.tg_frames.specs.declared.position.Ask.{Ask}
 use Rattle.tg_frames.proofs.frames.Frames.open.Goals as goal
 
 pub step_from-stepped-requires-clause-read : goal.step_from-stepped-requires-clause-read
-step_from-stepped-requires-clause-read c =
-    let wanted_is : c.self.inside.wanted ≡ Some c.in-Some.field-0 = sym c.take.ensures.value ∙ c.in-Some.is in
-    let is_at : IsAskAt c.in-Some.field-0.ask c.in-Segment.position = subst (λ (ask : Ask). IsAskAt ask c.in-Segment.position) (sym c.in-Segment.is) refl in (
-      c.requires.here.1,
-      c.requires.here.2,
-      read_there c.self.inside.query c.self.inside.wanted c.in-Some.field-0 c.in-Segment.position c.args.self.now
-          c.requires.here.0 c.requires.here.1 c.requires.here.2 c.args.found c.args.block
-          wanted_is (ap (λ (s : LeftState). s.wanted) c.self.view_is) (ap (λ (s : LeftState). s.query) c.self.view_is) c.self.invariant.1 is_at c.requires.here.3,
-    )
+step_from-stepped-requires-clause-read c = (
+  c.requires.here.1,
+  c.requires.here.2,
+  read_there c.self.inside.query c.in-Segment.position (sym c.take.ensures.value ∙ c.in-Some.is) c.self.view_is c.self.invariant.1 c.in-Segment.is refl c.requires.here.3,
+)
 
 pub node_frame-requires-in-Node-clause-read : goal.node_frame-requires-in-Node-clause-read
-node_frame-requires-in-Node-clause-read c =
-    let wanted_is : c.self.inside.wanted ≡ Some c.in-Some.field-0 = sym c.take.ensures.value ∙ c.in-Some.is in
-    let is_at : IsAskAt c.in-Some.field-0.ask c.in-Node.position = subst (λ (ask : Ask). IsAskAt ask c.in-Node.position) (sym c.in-Node.is) refl in (
-      c.requires.here.1,
-      c.requires.here.2,
-      read_there c.self.inside.query c.self.inside.wanted c.in-Some.field-0 c.in-Node.position c.args.self.now
-          c.requires.here.0 c.requires.here.1 c.requires.here.2 c.args.found c.args.block
-          wanted_is (ap (λ (s : LeftState). s.wanted) c.self.view_is) (ap (λ (s : LeftState). s.query) c.self.view_is) c.self.invariant.1 is_at c.requires.here.3,
-      c.requires.here.3.held_for,
-    )
+node_frame-requires-in-Node-clause-read c = (
+  c.requires.here.1,
+  c.requires.here.2,
+  read_there c.self.inside.query c.in-Node.position (sym c.take.ensures.value ∙ c.in-Some.is) c.self.view_is c.self.invariant.1 c.in-Node.is refl c.requires.here.3,
+  c.requires.here.3.held_for,
+)
 
 pub returns-in_ok-reach-in-Terminal-clause-opened : goal.returns-in_ok-reach-in-Terminal-clause-opened
 returns-in_ok-reach-in-Terminal-clause-opened c =
@@ -36,11 +26,7 @@ returns-in_ok-reach-in-Terminal-clause-opened c =
 
 pub invariant_of-self : goal.invariant_of-self
 invariant_of-self c =
-    let wanted_is : c.self.inside.wanted ≡ Some c.in-Some.field-0 = sym c.take.ensures.value ∙ c.in-Some.is in
-    let is_at : IsAskAt c.in-Some.field-0.ask c.in-Segment.position = subst (λ (ask : Ask). IsAskAt ask c.in-Segment.position) (sym c.in-Segment.is) refl in
-    let read = read_there c.self.inside.query c.self.inside.wanted c.in-Some.field-0 c.in-Segment.position c.args.self.now
-    c.requires.here.0 c.requires.here.1 c.requires.here.2 c.args.found c.args.block
-    wanted_is (ap (λ (s : LeftState). s.wanted) c.self.view_is) (ap (λ (s : LeftState). s.query) c.self.view_is) c.self.invariant.1 is_at c.requires.here.3 in (
+    let read = read_there c.self.inside.query c.in-Segment.position (sym c.take.ensures.value ∙ c.in-Some.is) c.self.view_is c.self.invariant.1 c.in-Segment.is refl c.requires.here.3 in (
       parted_one c.step_from-stepped.result c.parted-wanted.result.0 c.parted-wanted.result.1 c.parted-wanted.ensures,
       parted_on_path c.self.inside.query c.in-Segment.index c.in-Segment.position c.in-Some.field-0.depth c.requires.here.1 c.requires.here.2 c.step_from-stepped.result
           c.parted-wanted.result.0 c.parted-wanted.result.1 (c.step_from-stepped.ensures c.requires.here.1 c.requires.here.2 read) c.parted-wanted.ensures,
@@ -48,10 +34,8 @@ invariant_of-self c =
 
 pub returns-in-Segment-clause-opened : goal.returns-in-Segment-clause-opened
 returns-in-Segment-clause-opened c =
-    let wanted_is : c.self.inside.wanted ≡ Some c.in-Some.field-0 = sym c.take.ensures.value ∙ c.in-Some.is in
-    let is_at : IsAskAt c.in-Some.field-0.ask c.in-Segment.position = subst (λ (ask : Ask). IsAskAt ask c.in-Segment.position) (sym c.in-Segment.is) refl in
+    let wanted_is = sym c.take.ensures.value ∙ c.in-Some.is in
     stepped_left c.self.inside.query c.self.inside.wanted c.in-Some.field-0 c.in-Segment.index c.in-Segment.position c.self.inside.missed c.self.inside.stack c.args.self.now
     c.step_from-stepped.result c.parted-wanted.result.0 c.parted-wanted.result.1 c.args.found c.args.block
     wanted_is c.in-Segment.is c.self.invariant.0 c.self.view_is c.step_from-stepped.ensures c.parted-wanted.ensures
-    (λ at section kind here. read_there c.self.inside.query c.self.inside.wanted c.in-Some.field-0 c.in-Segment.position c.args.self.now at section kind c.args.found c.args.block
-    wanted_is (ap (λ (s : LeftState). s.wanted) c.self.view_is) (ap (λ (s : LeftState). s.query) c.self.view_is) c.self.invariant.1 is_at here)
+    (λ at section kind here. read_there c.self.inside.query c.in-Segment.position wanted_is c.self.view_is c.self.invariant.1 c.in-Segment.is refl here)

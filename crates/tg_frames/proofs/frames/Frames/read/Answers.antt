@@ -1,6 +1,6 @@
 use Rattle.std.proofs.Common.{◌≡◌, ◌∙◌, Result, ap, inl, inr, length, refl, subst, sym}
 use Rattle.tg_frames.specs.Left.{IsReadAs, LeftState, WantedAt}
-use Rattle.tg_frames.proofs.Opened.{IsAskAt, ask_fault, at_place, given_kind, place_on_path, place_wanted, read_as, terminal_fault_top}
+use Rattle.tg_frames.proofs.Opened.{IsAskAt, ask_fault, at_place, place_on_path, place_wanted, read_as}
 use Rattle.tg_frames.specs.Places.{standing_of}
 use Rattle.tg_frames.specs.declared.position.Ask.{Ask}
 use Rattle.tg_frames.specs.declared.position.Place.{Place}
@@ -12,6 +12,8 @@ use Rattle.tg_model.specs.declared.fault.BlockFault.{BlockFault}
 use Rattle.tg_model.specs.declared.placed.PlacedKind.{PlacedKind}
 use Rattle.tg_traverse.specs.Tasks.{fault_at, is_read_at, terminal_want}
 use Rattle.tg_frames.proofs.frames.Frames.read.Goals as goal
+use Rattle.tg_frames.specs.FaultLaws.{fault_same}
+use Rattle.tg_model.specs.PlacedLaws.{kind_of}
 
 pub returns-in-Terminal : goal.returns-in-Terminal
 returns-in-Terminal c = λ at h is_read.
@@ -20,14 +22,14 @@ returns-in-Terminal c = λ at h is_read.
     let same_query = ap (λ (s : LeftState). s.query) c.self.view_is in
     let there : at ≡ at_place q.path place = subst (λ (q : QueryParts). at ≡ at_place q.path place) same_query
     (place_wanted c.self.inside.query.path c.self.inside.wanted place c.args.self.now.wanted at c.in-Some.is (ap (λ (s : LeftState). s.wanted) c.self.view_is) h) in
-    let found = given_kind c.args.block.now c.in_ok-found.found (read place.cid c.args.block.now)
+    let found = kind_of c.args.block.now c.in_ok-found.found (read place.cid c.args.block.now)
     (subst (λ (r : Result PlacedKind BlockFault). GivesPlaced c.args.block.now r (read place.cid c.args.block.now)) c.in_ok-found.was c.reads_in_place.ensures.given) in
     let asked : at ≡ record { want = terminal_want place.depth; cid = place.cid } =
     there ∙ ap (λ (ask : Ask). at_place q.path (record place { ask = ask })) c.in-Terminal.is in
     read_as q at c.args.block.now c.in_ok-found.found c.fitting.result top found.0
     (ap (λ (a : WantedAt). read a.cid c.args.block.now) there ∙ found.1) found.2
     (ap (λ (a : WantedAt). fault_at q a.want found.0) asked
-    ∙ terminal_fault_top q place.depth found.0 (sym (ap (λ (a : WantedAt). is_read_at q a.want) asked) ∙ is_read))
+    ∙ fault_same q (terminal_want place.depth) found.0 (sym (ap (λ (a : WantedAt). is_read_at q a.want) asked) ∙ is_read))
     (c.fitting.ensures c.args.block.now found.0 found.2)
 
 pub returns-in-Segment : goal.returns-in-Segment
@@ -37,7 +39,7 @@ returns-in-Segment c = λ at h is_read.
     let same_query = ap (λ (s : LeftState). s.query) c.self.view_is in
     let there : at ≡ at_place q.path place =
     place_wanted c.self.inside.query.path c.self.inside.wanted place c.args.self.now.wanted at c.in-Some.is (ap (λ (s : LeftState). s.wanted) c.self.view_is) h in
-    let found = given_kind c.args.block.now c.in_ok-found.found (read place.cid c.args.block.now)
+    let found = kind_of c.args.block.now c.in_ok-found.found (read place.cid c.args.block.now)
     (subst (λ (r : Result PlacedKind BlockFault). GivesPlaced c.args.block.now r (read place.cid c.args.block.now)) c.in_ok-found.was c.reads_in_place.ensures.given) in
     let on_path = place_on_path c.self.inside.wanted place (length q.path) c.in-Some.is c.self.invariant.1 in
     let is_at : IsAskAt place.ask c.in-Segment.position = elim c.in-Segment.is [
