@@ -18,7 +18,7 @@ use Rattle.tg_model.specs.declared.queries.Scope.TheVariants as scopes
 use Rattle.tg_model.specs.declared.queries.Scope.{Scope}
 use Rattle.tg_frames.specs.declared.position.Wanted.{Wanted}
 use Rattle.tg_traverse.specs.StoreWalks.{section_of}
-use Rattle.tg_traverse.specs.Tasks.{Task, Want, child_then, children_tasks, depth_of, entries_then, give_entries, give_text, link_tasks, node_tasks, node_want, open_block, path_want, segment_want, step_tasks, stop_at, tasks_of, tasks_then, terminal_tasks, terminal_want, text_last}
+use Rattle.tg_traverse.specs.Tasks.{Task, Want, child_then, children_tasks, depth_at_top, depth_of, entries_then, give_entries, give_text, link_tasks, node_tasks, node_want, open_block, segment_want, step_tasks, stop_at, tasks_of, tasks_then, terminal_tasks, terminal_want, text_last}
 use Rattle.tg_walk.specs.Walks.{HasFewer, IsNextPlace, blocks_from, blocks_over, placed_links}
 
 -- ---- the tasks that a block leaves
@@ -87,10 +87,6 @@ over-step most i depth entry inner (to_child k) cids e f = over-link most k i de
 over-step most i depth entry inner absent cids e f = omega arith
 over-step most i depth entry inner not_folder_here cids e f = omega arith
 
-path_depth : (i : ℕ) (path : List (List ℕ)) (depth : ℕ) → depth_of (path_want i path depth) ≡ depth
-path_depth i [] depth = refl
-path_depth i (name ∷ path) depth = refl
-
 over-terminal : (most depth : ℕ) (scope : Scope) (span : Option SpanParts) (section : Section) (kind : Kind) (cids : List CidParts)
     → blocks_over most (terminal_tasks scope span depth section kind cids) ≤ length cids * blocks_from (most + 1 - (depth + 1))
 over-terminal most depth scopes.Block span section kind cids = omega arith
@@ -100,7 +96,7 @@ over-terminal most depth scopes.All span section kind cids = over-node most dept
 over-tasks : (most : ℕ) (q : QueryParts) (w : Want) (section : Section) (kind : Kind) (cids : List CidParts)
     → blocks_over most (tasks_of q w section kind cids) ≤ length cids * blocks_from (most + 1 - (depth_of w + 1))
 over-tasks most q (segment_want i position name path depth) section kind cids =
-    over-step most i (depth + 1) _ _ (step_of kind _ name) cids (path_depth (i + 1) path (depth + 1)) refl
+    over-step most i (depth + 1) _ _ (step_of kind _ name) cids (depth_at_top (i + 1) path (depth + 1)) refl
 over-tasks most q (terminal_want depth) section kind cids = over-terminal most depth q.scope q.span section kind cids
 over-tasks most q (node_want reach position depth) section kind cids = over-node most depth reach position kind cids
 

@@ -1,51 +1,30 @@
 -- The block at the wanted place, as a walk opens it.
 use Rattle.std.proofs.Common.{Err, List, Ok, Result, Some, ap, arith, inl, inr, refl, subst, sym, true, ℕ, ◌+◌, ◌<◌, ◌^◌, ◌∙◌, ◌≡◌, ◌≤◌, ◌⊎◌}
+use Rattle.std.proofs.lemmas.Option.{same_Some}
 use Rattle.tg_cid.specs.Cid.{CidParts}
 use Rattle.tg_frames.specs.Left.{IsHeldFor, IsReadAs, IsReadHere, LeftState, WantedAt}
+use Rattle.tg_frames.specs.SaidFaults.{either_said}
 use Rattle.tg_walk.specs.Walks.{IsBadThere, IsWantedHere, fault_of_block}
 use Rattle.tg_walk.specs.declared.fault.WalkFault.{WalkFault}
 use Rattle.tg_walk.specs.declared.fault.WalkFault.TheVariants as faults
 use Rattle.tg_model.specs.Dag.{Section}
 use Rattle.tg_model.specs.declared.fault.BlockFault.{BlockFault}
-use Rattle.tg_model.specs.declared.fault.BlockFault.TheVariants as blocks
 use Rattle.tg_model.specs.declared.kinds.Kind.{Kind}
 use Rattle.tg_model.specs.declared.placed.PlacedKind.{PlacedKind}
 use Rattle.tg_traverse.specs.StoreWalks.{section_of}
 use Rattle.tg_traverse.specs.Tasks.{depth_of, is_read_at}
 
--- what is said of a fault: it is want of memory, or told with the CID
-said : (cid : CidParts) (fault : BlockFault) → (fault_of_block cid fault ≡ faults.OutOfMemory) ⊎ (fault_of_block cid fault ≡ faults.BadBlock cid fault)
-said cid (blocks.BadNode fault) = inr refl
-said cid (blocks.BadLink at) = inr refl
-said cid blocks.NoUnix = inr refl
-said cid (blocks.BadUnix fault) = inr refl
-said cid (blocks.BadSizes links sizes) = inr refl
-said cid blocks.HugeSizes = inr refl
-said cid (blocks.BadName at) = inr refl
-said cid (blocks.DoubledName at) = inr refl
-said cid (blocks.BadBits bits links) = inr refl
-said cid (blocks.BadSlot at) = inr refl
-said cid blocks.BadShape = inr refl
-said cid blocks.BelowEight = inr refl
-said cid (blocks.Misplaced at) = inr refl
-said cid blocks.NotShard = inr refl
-said cid blocks.NotPart = inr refl
-said cid blocks.OutOfMemory = inl refl
-
 -- what reading gives of the block there, in the wanted place's own words
 abbrev pub Reading : LeftState → List ℕ → Result PlacedKind BlockFault → Type 0
 Reading state block result = (at : WantedAt) → state.wanted ≡ Some at → is_read_at state.query at.want ≡ true → IsReadAs state.query at block result
 
-some_same : {A : Type 0} (x y : A) → Some x ≡ Some y → x ≡ y
-some_same x y e = cc
-
 same_cid : (state : LeftState) (cid : CidParts) (here : IsWantedHere state cid) (at : WantedAt) → state.wanted ≡ Some at → cid ≡ at.cid
-same_cid state cid here at e = sym here.cid_is ∙ ap (λ (w : WantedAt). w.cid) (some_same here.at at (sym here.wanted ∙ e))
+same_cid state cid here at e = sym here.cid_is ∙ ap (λ (w : WantedAt). w.cid) (same_Some here.at at (sym here.wanted ∙ e))
 
 bad_of : (state : LeftState) (at : WantedAt) (block : List ℕ) (fault : BlockFault) (given : WalkFault) → is_read_at state.query at.want ≡ true → given ≡ fault_of_block at.cid fault
     → IsReadAs state.query at block (Err fault) → (given ≡ faults.OutOfMemory) ⊎ ((bad : BlockFault) × (given ≡ faults.BadBlock at.cid bad) × IsBadThere state at block bad)
 bad_of state at block fault given r g (inl e) = inl (g ∙ ap (fault_of_block at.cid) e)
-bad_of state at block fault given r g (inr cause) = told (said at.cid fault)
+bad_of state at block fault given r g (inr cause) = told (either_said faults.OutOfMemory faults.BadBlock at.cid fault)
   where
     told : (fault_of_block at.cid fault ≡ faults.OutOfMemory) ⊎ (fault_of_block at.cid fault ≡ faults.BadBlock at.cid fault)
         → (given ≡ faults.OutOfMemory) ⊎ ((bad : BlockFault) × (given ≡ faults.BadBlock at.cid bad) × IsBadThere state at block bad)

@@ -1,5 +1,6 @@
 -- One step along a path over a store.
 use Rattle.std.proofs.Common.{Err, List, None, Ok, Option, Some, [], ap, arith, false, inl, inr, length, refl, subst, suc, sym, true, zero, ℕ, ◌++◌, ◌+◌, ◌∙◌, ◌∷◌, ◌≡◌, ◌≤◌, ◌⊎◌}
+use Rattle.std.proofs.lemmas.List.{append-nil}
 use Rattle.tg_cid.specs.Cid.{CidParts}
 use Rattle.tg_walk.proofs.PathPlaces.{first_place, next_on_path}
 use Rattle.tg_frames.specs.Left.{LeftState, WantedAt, tasks_left, wanted_tasks}
@@ -282,10 +283,6 @@ record IsPassed (root : CidParts) (path : List (List ℕ)) (at : WantedAt) (bloc
   fits : fault_at (path_query root path) at.want kind ≡ None
   tasks : tasks_left new ≡ tasks_of (path_query root path) at.want (section_of at.cid block) kind (links_of kind)
 
-behind_all : (tasks : List (Task CidParts)) → tasks ++ [] ≡ tasks
-behind_all [] = refl
-behind_all (task ∷ tasks) = ap (λ (more : List (Task CidParts)). task ∷ more) (behind_all tasks)
-
 passed_by : (root : CidParts) (path : List (List ℕ)) (told : Option Store) (passed : ℕ) (mid new : LeftState) (wanted : Wanted) (block : List ℕ) (there : IsPlaceAlong root path told passed mid wanted)
     → IsOpenedThere mid there.at block new → IsPassed root path there.at block new
 passed_by root path told passed mid new wanted block there h = record {
@@ -294,7 +291,7 @@ passed_by root path told passed mid new wanted block there h = record {
   reads = h.reads;
   fits = subst (λ (q : QueryParts). fault_at q there.at.want h.kind ≡ None) there.query h.fits;
   tasks = h.tasks ∙ ap (λ (later : List (Task CidParts)). tasks_of mid.query there.at.want (section_of there.at.cid block) h.kind (links_of h.kind) ++ later) there.later
-      ∙ behind_all (tasks_of mid.query there.at.want (section_of there.at.cid block) h.kind (links_of h.kind))
+      ∙ append-nil (tasks_of mid.query there.at.want (section_of there.at.cid block) h.kind (links_of h.kind))
       ∙ ap (λ (q : QueryParts). tasks_of q there.at.want (section_of there.at.cid block) h.kind (links_of h.kind)) there.query;
 }
 

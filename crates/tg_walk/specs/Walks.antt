@@ -4,9 +4,9 @@ use Rattle.tg_cid.specs.Cid.{CidParts}
 use Rattle.tg_cid.specs.Limits.{max_block_len}
 use Rattle.tg_cid.specs.Names.{Names}
 use Rattle.tg_frames.specs.declared.position.Miss.TheVariants as misses
-use Rattle.tg_model.specs.declared.fault.BlockFault.TheVariants as block_faults
 use Rattle.tg_frames.specs.Left.{LeftState, WantedAt, tasks_left}
 use Rattle.tg_frames.specs.Places.{missing_of}
+use Rattle.tg_frames.specs.SaidFaults.{fault_said}
 use Rattle.tg_frames.specs.declared.position.Miss.{Miss}
 use Rattle.tg_frames.specs.declared.position.Wanted.{Wanted}
 use Rattle.tg_model.specs.Computed.{read}
@@ -168,8 +168,7 @@ IsNextPlace old (Err fault) new =
 
 -- a fault of a block; its want of memory is the walk's
 abbrev pub fault_of_block : CidParts → BlockFault → WalkFault
-fault_of_block cid block_faults.OutOfMemory = faults.OutOfMemory
-fault_of_block cid fault = faults.BadBlock cid fault
+fault_of_block cid fault = fault_said faults.OutOfMemory faults.BadBlock cid fault
 
 -- the block was opened at the wanted place: passed over where the block alone is asked for, or read, with the tasks that it leaves before
 -- those that were left
