@@ -1,8 +1,10 @@
 -- The checks of a block that is read at the wanted place.
 use Rattle.std.proofs.Common.{Err, List, None, Ok, Option, Result, Some, ap, inl, inr, refl, subst, sym, true, ℕ, ◌∙◌, ◌≡◌, ◌⊎◌}
+use Rattle.std.proofs.lemmas.Option.{same_Some}
 use Rattle.tg_cid.specs.Cid.{CidParts}
 use Rattle.tg_frames.specs.Left.{IsReadAs, LeftState, WantedAt, told_wanted}
 use Rattle.tg_frames.specs.PlaceTexts.{IsBlockHere, IsSizeFault}
+use Rattle.tg_frames.specs.SaidFaults.{either_said}
 use Rattle.tg_frames.specs.declared.position.Wanted.{Wanted}
 use Rattle.tg_frames.specs.declared.text.SizeFault.{SizeFault}
 use Rattle.tg_model.specs.Computed.{read}
@@ -10,7 +12,6 @@ use Rattle.tg_model.specs.LimitNumbers.{LimitNumbers}
 use Rattle.tg_model.specs.Placed.{StandsForKind}
 use Rattle.tg_model.specs.Queries.{QueryParts}
 use Rattle.tg_model.specs.declared.fault.BlockFault.{BlockFault}
-use Rattle.tg_model.specs.declared.fault.BlockFault.TheVariants as blocks
 use Rattle.tg_model.specs.declared.kinds.Kind.{Kind}
 use Rattle.tg_model.specs.declared.placed.PlacedKind.{PlacedKind}
 use Rattle.tg_traverse.specs.Tasks.{depth_of, fault_at, is_read_at, position_of}
@@ -18,28 +19,6 @@ use Rattle.tg_verify.specs.Refusals.{HasSectionCause, IsReadBlock, IsWantedBlock
 use Rattle.tg_verify.specs.Steps.{IsCheckedAt, section_with}
 use Rattle.tg_verify.specs.declared.fault.Refusal.{Refusal}
 use Rattle.tg_verify.specs.declared.fault.Refusal.TheVariants as refusals
-
-pub some_same : {A : Type 0} (x y : A) → Some x ≡ Some y → x ≡ y
-some_same x y e = cc
-
--- what is said of a fault: it is want of memory, or told with the CID
-said : (cid : CidParts) (fault : BlockFault) → (refusal_of_block cid fault ≡ refusals.OutOfMemory) ⊎ (refusal_of_block cid fault ≡ refusals.BadBlock cid fault)
-said cid (blocks.BadNode fault) = inr refl
-said cid (blocks.BadLink at) = inr refl
-said cid blocks.NoUnix = inr refl
-said cid (blocks.BadUnix fault) = inr refl
-said cid (blocks.BadSizes links sizes) = inr refl
-said cid blocks.HugeSizes = inr refl
-said cid (blocks.BadName at) = inr refl
-said cid (blocks.DoubledName at) = inr refl
-said cid (blocks.BadBits bits links) = inr refl
-said cid (blocks.BadSlot at) = inr refl
-said cid blocks.BadShape = inr refl
-said cid blocks.BelowEight = inr refl
-said cid (blocks.Misplaced at) = inr refl
-said cid blocks.NotShard = inr refl
-said cid blocks.NotPart = inr refl
-said cid blocks.OutOfMemory = inl refl
 
 module _ (q : QueryParts) (limits : LimitNumbers) (at : WantedAt) (cid : CidParts) (block : List ℕ) (is_read : is_read_at q at.want ≡ true)
     (wanted : IsWantedBlock limits at (section_with cid block)) where
@@ -63,7 +42,7 @@ module _ (q : QueryParts) (limits : LimitNumbers) (at : WantedAt) (cid : CidPart
   pub read_bad : (fault : BlockFault) → IsReadAs q at block (Err fault) → IsCheckedAt q limits at (section_with cid block) (Err (refusal_of_block cid fault))
   read_bad fault (inl e) =
       subst (λ (f : BlockFault). HasSectionCause q limits at (section_with cid block) (refusal_of_block cid f)) (sym e) tt
-  read_bad fault (inr cause) = told fault cause (said cid fault)
+  read_bad fault (inr cause) = told fault cause (either_said refusals.OutOfMemory refusals.BadBlock cid fault)
 
   read_block : (kind : Kind) → read at.cid block ≡ Ok kind → fault_at q at.want kind ≡ None → IsReadBlock q limits at (section_with cid block) kind
   read_block kind reads fits = record { wanted = wanted; is_read = is_read; reads = own (Ok kind) reads; fits = fits }
@@ -91,4 +70,4 @@ module _ (q : QueryParts) (limits : LimitNumbers) (at : WantedAt) (cid : CidPart
 -- a place that is told is wanted
 pub told_at : (w : Option WantedAt) (x : Wanted) → told_wanted w ≡ Some x → (at : WantedAt) × (w ≡ Some at) × (x ≡ record { cid = at.cid; depth = depth_of at.want })
 told_at None x e = absurd (cc e)
-told_at (Some at) x e = (at, refl, sym (some_same _ _ e))
+told_at (Some at) x e = (at, refl, sym (same_Some _ _ e))

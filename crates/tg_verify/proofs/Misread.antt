@@ -1,13 +1,13 @@
 -- Blocks that have no kind, can't stand where they are wanted, or have wrong sizes aren't read there.
-use Rattle.std.proofs.Common.{◌≡◌, ◌⊎◌, ◌↔◌, ◌<◌, ℕ, true, All, Err, List, None, Ok, Option, Some, inl, inr, refl, sym, ap, ◌∙◌, subst}
-use Rattle.std.specs.Prelude.{IfSome, not}
+use Rattle.std.proofs.Common.{◌≡◌, ◌⊎◌, ◌↔◌, ◌<◌, ℕ, true, All, Err, List, None, Ok, Option, Some, inl, inr, sym, ap, ◌∙◌, subst}
+use Rattle.std.specs.Prelude.{IfSome}
 use Rattle.tg_cid.specs.Cid.{CidParts}
+use Rattle.tg_frames.specs.FaultLaws.{fault_same}
 use Rattle.tg_frames.specs.Left.{WantedAt}
 use Rattle.tg_frames.specs.PlaceTexts.{IsOther, IsSizeFault, part_size, told_size}
 use Rattle.tg_frames.specs.declared.text.SizeFault.{SizeFault}
 use Rattle.tg_model.specs.Computed.{read}
 use Rattle.tg_model.specs.Dag.{Section, total_of}
-use Rattle.tg_model.specs.Fits.{is_block}
 use Rattle.tg_model.specs.LimitNumbers.{LimitNumbers}
 use Rattle.tg_model.specs.Queries.{QueryParts}
 use Rattle.tg_model.specs.Reading.{Reads}
@@ -15,27 +15,13 @@ use Rattle.tg_model.specs.Sound.{IsOfSize, Position, TellsSize, child, part, pos
 use Rattle.tg_model.specs.declared.fault.BlockFault.{BlockFault}
 use Rattle.tg_model.specs.declared.kinds.Kind.{Kind}
 use Rattle.tg_model.specs.declared.kinds.Kind.TheVariants.{Basic, File, Raw, Shard, Symlink}
-use Rattle.tg_model.specs.declared.queries.Scope.{Scope}
-use Rattle.tg_model.specs.declared.queries.Scope.TheVariants as scopes
 use Rattle.tg_traverse.specs.Openings.{IsReadAt}
-use Rattle.tg_traverse.specs.Tasks.{Want, fault_at, is_read_at, node_want, position_of, segment_want, terminal_fault, terminal_want}
+use Rattle.tg_traverse.specs.Tasks.{fault_at, is_read_at, position_of}
 use Rattle.tg_verify.specs.Refusals.{IsBadBlock, IsMissized}
 
 -- of a block of bytes the kind is computed
 abbrev pub Computes : Type 0
 Computes = (cid : CidParts) (block : List ℕ) (kind : Kind) → All (λ b. b < 256) block → (read cid block ≡ Ok kind) ↔ Reads cid block kind
-
--- ---- where a block is read, it can't stand for the fault of its position
-
-terminal_same : (scope : Scope) (kind : Kind) → not (is_block scope) ≡ true → terminal_fault scope kind ≡ position_fault top kind
-terminal_same scopes.Block kind e = absurd (cc e)
-terminal_same scopes.Entity kind e = refl
-terminal_same scopes.All kind e = refl
-
-pub fault_same : (q : QueryParts) (w : Want) (kind : Kind) → is_read_at q w ≡ true → fault_at q w kind ≡ position_fault (position_of w) kind
-fault_same q (segment_want i position name path depth) kind e = refl
-fault_same q (terminal_want depth) kind e = terminal_same q.scope kind e
-fault_same q (node_want reach position depth) kind e = refl
 
 -- ---- a size that isn't the block's own
 

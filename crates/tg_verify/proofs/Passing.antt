@@ -22,6 +22,7 @@ use Rattle.tg_verify.proofs.Misread.{Computes, bad_isnt_read, missized_isnt_read
 use Rattle.tg_verify.specs.Laws.{IsOwnFault, IsWithinLimits}
 use Rattle.tg_verify.specs.Refusals.{HasRefused, IsBadBlock, IsMissized, IsRefusedAt}
 use Rattle.tg_verify.specs.Taken.{IsNowhere, IsUpTo}
+use Rattle.tg_verify.specs.WantsLaws.{none_next}
 use Rattle.tg_verify.specs.declared.fault.Refusal.{Refusal}
 use Rattle.tg_verify.specs.declared.fault.Refusal.TheVariants as refusals
 
@@ -34,10 +35,6 @@ is_named false w section named = named
 is_read : (test : Bool) (w : Want) (section : Section) → test ≡ true → PassesIf test w section → (kind : Kind) × IsReadAt (position_of w) section kind
 is_read true w section e h = h
 is_read false w section e h = absurd (cc e)
-
--- nothing is wanted behind the last section
-wants_none : (q : QueryParts) (section : Section) → WantsNext q [] section → ⊥
-wants_none q section h = absurd (let e = h.then_is in cc)
 
 -- the wanted section, and how it passes
 record IsWantedNext (q : QueryParts) (at : WantedAt) (section : Section) : Type 0 where
@@ -131,7 +128,7 @@ module _ (sent : RepeatsAreSent) (b : BesideLaws) (computes : Computes) (q : Que
   pub is_own_fault : (written : List ℕ) (fault : Refusal) → HasRefused q limits (sections ++ section ∷ []) written fault → IsOwnFault fault
   is_own_fault written (refusals.Extra number) h =
       let (front, last) = same_front sections h.taken section h.section h.received in
-      wants_none q section (wants h.through.given [] h.through.repeats (subst (λ (some : List Section). Verified q some h.through.given []) (sym front) h.through.verified))
+      none_next q section (wants h.through.given [] h.through.repeats (subst (λ (some : List Section). Verified q some h.through.given []) (sym front) h.through.verified))
   is_own_fault written (refusals.Limit kinds.Block number) h =
       let r = refused_next q sections section written _ h in
       let small = is_small in

@@ -6,3 +6,4 @@ pub mod Sound
 pub mod Laws
 pub mod Steps
 pub mod Own
+pub mod WantsLaws

@@ -4,12 +4,12 @@ use Rattle.tg_cid.specs.Cid.{CidParts}
 use Rattle.tg_cid.specs.Names.{Names}
 use Rattle.tg_frames.specs.Left.{WantedAt}
 use Rattle.tg_frames.specs.PlaceTexts.{IsSizeFault}
+use Rattle.tg_frames.specs.SaidFaults.{fault_said}
 use Rattle.tg_frames.specs.declared.text.SizeFault.{SizeFault}
 use Rattle.tg_model.specs.Computed.{read}
 use Rattle.tg_model.specs.Dag.{Section}
 use Rattle.tg_model.specs.LimitNumbers.{LimitNumbers}
 use Rattle.tg_model.specs.Queries.{QueryParts}
-use Rattle.tg_model.specs.declared.fault.BlockFault.TheVariants as block_faults
 use Rattle.tg_model.specs.declared.fault.BlockFault.{BlockFault}
 use Rattle.tg_model.specs.declared.kinds.Kind.{Kind}
 use Rattle.tg_model.specs.declared.limits.LimitKind.TheVariants as kinds
@@ -120,5 +120,4 @@ HasRefused q limits sections written fault = IsRefusedAt q sections written (λ 
 
 -- the refusal at a block with this fault; want of memory is the verifier's own
 abbrev pub refusal_of_block : CidParts → BlockFault → Refusal
-refusal_of_block cid block_faults.OutOfMemory = refusals.OutOfMemory
-refusal_of_block cid fault = refusals.BadBlock cid fault
+refusal_of_block cid fault = fault_said refusals.OutOfMemory refusals.BadBlock cid fault
