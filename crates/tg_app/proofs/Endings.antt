@@ -1,5 +1,5 @@
 -- What each exit status says, from how the words end.
-use Rattle.std.proofs.Common.{◌≡◌, ◌≢◌, ℕ, ◌<◌, ◌≤◌, ◌⊎◌, inl, inr, List, [], ◌∷◌, ◌++◌, length, Option, Some, None, Err, refl, sym, ap, ◌∙◌, subst, arith, append-nil, length-append}
+use Rattle.std.proofs.Common.{◌+◌, ◌≡◌, ◌≢◌, ℕ, ◌<◌, ◌≤◌, ◌⊎◌, inl, inr, List, [], ◌∷◌, ◌++◌, length, Option, Some, None, Err, refl, sym, ap, ◌∙◌, subst, arith, append-nil, length-append}
 use Rattle.std.proofs.lemmas.Bool.Decides.{eqb_tells}
 use Rattle.tg_bytes.specs.Told.{after_front, IsNothing}
 use Rattle.tg_cid.specs.Cid.{CidParts}
@@ -26,6 +26,7 @@ use Rattle.tg_store.specs.declared.fault.PackFault.TheVariants as packs
 use Rattle.tg_walk.specs.declared.fault.ResolveFault.TheVariants as paths
 use Rattle.tg_walk.specs.declared.fault.WalkFault.TheVariants as walks
 use Rattle.tg_streams.specs.Streams.{Input, InputQuiet, Output, InputRose, OutputQuiet, OutputRose}
+use Rattle.tg_cid.specs.Limits.{max_block_len}
 use Rattle.tg_app.specs.Lines.{status_of, exit_status}
 use Rattle.tg_app.specs.Blocks.{OutputUntouched, PassedLimit, TookBlock}
 use Rattle.tg_app.specs.Check.{Checked, CheckedOther, CheckEnds, CollisionPair, Agrees, CheckStatus}
@@ -443,14 +444,14 @@ block_is : (block bytes : List ℕ) (input : Input) → TookBlock block input �
 block_is block bytes input taken told = whole_is block bytes input.left_new (sym told ∙ taken.all.taken.left) taken.all.ended.nothing
 
 -- an input that goes on past the limit has more bytes than it
-longer : (taken bytes : List ℕ) (new : Option (List ℕ)) → Some bytes ≡ after_front taken new → length taken ≡ 2097153 → 2097152 < length bytes
+longer : (taken bytes : List ℕ) (new : Option (List ℕ)) → Some bytes ≡ after_front taken new → length taken ≡ max_block_len + 1 → max_block_len < length bytes
 longer taken bytes None e size = cc
 longer taken bytes (Some rest) e size =
     let same : bytes ≡ taken ++ rest = cc in
     let count = ap length same ∙ length-append taken rest in
     omega arith
 
-passed_limit : (bytes : List ℕ) (input : Input) → input.left_old ≡ Some bytes → PassedLimit input → 2097152 < length bytes
+passed_limit : (bytes : List ℕ) (input : Input) → input.left_old ≡ Some bytes → PassedLimit input → max_block_len < length bytes
 passed_limit bytes input told passed = longer passed.bytes bytes input.left_new (sym told ∙ passed.taken.left) passed.more
 
 -- ---- `check`
@@ -500,12 +501,12 @@ pub answered_of : (cid : CidParts) (bytes : List ℕ) (input : Input) (out : Out
     → (InputRose input → ⊥) → (OutputRose out → ⊥) → CheckEnds cid input out end → (exit_status end ≡ 8) ⊎ CheckStatus cid bytes (exit_status end)
 answered_of cid bytes input out None told no_in no_out done =
     let same = block_is done.block bytes input done.read.taken told in
-    inr (inl (refl, subst (λ (b : List ℕ). length b ≤ 2097152) same done.read.taken.within, subst (Names cid) same done.read.named))
+    inr (inl (refl, subst (λ (b : List ℕ). length b ≤ max_block_len) same done.read.taken.within, subst (Names cid) same done.read.named))
 answered_of cid bytes input out (Some Usage) told no_in no_out ends = absurd ends.0
 answered_of cid bytes input out (Some (BadDigest text)) told no_in no_out ends =
     let other = ends.0.1 in
     let same = block_is other.block bytes input other.taken told in
-    inr (inr (inl (refl, subst (λ (b : List ℕ). length b ≤ 2097152) same other.taken.within, λ named. other.other (subst (Names cid) (sym same) named))))
+    inr (inr (inl (refl, subst (λ (b : List ℕ). length b ≤ max_block_len) same other.taken.within, λ named. other.other (subst (Names cid) (sym same) named))))
 answered_of cid bytes input out (Some (BadBlock text fault)) told no_in no_out ends = absurd ends.0
 answered_of cid bytes input out (Some BlockLimit) told no_in no_out ends = inr (inr (inr (refl, passed_limit bytes input told ends.0)))
 answered_of cid bytes input out (Some InputFault) told no_in no_out ends = absurd (no_in ends.0.rose)
@@ -529,15 +530,15 @@ node_other_of cid input out (Some BlockLimit) e ends = cc
 node_other_of cid input out None e ends = cc
 node_other_of cid input out (Some refusal) e ends = absurd ends.0
 
-no_text : (cid : CidParts) (bytes block : List ℕ) → block ≡ bytes → length block ≤ 2097152 → HasNoText cid block → NodeStatus cid bytes 3
-no_text cid bytes block same within none = inr (inl (refl, subst (λ (b : List ℕ). length b ≤ 2097152) same within, subst (HasNoText cid) same none))
+no_text : (cid : CidParts) (bytes block : List ℕ) → block ≡ bytes → length block ≤ max_block_len → HasNoText cid block → NodeStatus cid bytes 3
+no_text cid bytes block same within none = inr (inl (refl, subst (λ (b : List ℕ). length b ≤ max_block_len) same within, subst (HasNoText cid) same none))
 
 pub node_answered_of : (cid : CidParts) (bytes : List ℕ) (input : Input) (out : Output) (end : Option Refusal) → input.left_old ≡ Some bytes
     → (InputRose input → ⊥) → (OutputRose out → ⊥) → NodeEnds cid input out end → (exit_status end ≡ 8) ⊎ NodeStatus cid bytes (exit_status end)
 node_answered_of cid bytes input out None told no_in no_out done =
     let same = block_is done.block bytes input done.read.taken told in
     let text : HasText cid done.block = ((done.text, done.text_is), done.good) in
-    inr (inl (refl, subst (λ (b : List ℕ). length b ≤ 2097152) same done.read.taken.within, subst (Names cid) same done.read.named, subst (HasText cid) same text))
+    inr (inl (refl, subst (λ (b : List ℕ). length b ≤ max_block_len) same done.read.taken.within, subst (Names cid) same done.read.named, subst (HasText cid) same text))
 node_answered_of cid bytes input out (Some Usage) told no_in no_out ends = absurd ends.0
 node_answered_of cid bytes input out (Some (BadDigest text)) told no_in no_out ends =
     let other = ends.0.1 in

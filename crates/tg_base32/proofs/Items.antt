@@ -4,16 +4,7 @@ use Rattle.std.specs.Prelude.{All}
 use Rattle.std.specs.List.{flat_map}
 use Rattle.std.proofs.lemmas.List.{length-append}
 use Rattle.std.proofs.lemmas.List.Elements.{All-head, All-tail}
-
-pub same_front : (a b c d : List ℕ) → length a ≡ length c → a ++ b ≡ c ++ d → (a ≡ c) × (b ≡ d)
-same_front [] b [] d l e = (refl, e)
-same_front [] b (y ∷ c) d l e = absurd (omega arith)
-same_front (x ∷ a) b [] d l e = absurd (omega arith)
-same_front (x ∷ a) b (y ∷ c) d l e =
-    let h = same_front a b c d (omega arith) cc in
-    let p : a ≡ c = h.0 in
-    let q : x ≡ y = cc in
-    (ap₂ (λ (z : ℕ) (zs : List ℕ). z ∷ zs) q p, h.1)
+use Rattle.tg_bytes.specs.Lists.{same_front}
 
 pub length_items : (f : ℕ → List ℕ) (width : ℕ) → ((x : ℕ) → length (f x) ≡ width) → (xs : List ℕ) → length (flat_map f xs) ≡ width * length xs
 length_items f width wide [] = omega arith
@@ -29,7 +20,7 @@ same_items f width P wide known (x ∷ xs) [] r q p s lr lq e =
     absurd (omega (arith, ap length e, length-append (f x ++ flat_map f xs) r, length-append (f x) (flat_map f xs), wide x))
 same_items f width P wide known (x ∷ xs) (y ∷ ys) r q p s lr lq e =
     let again : f x ++ (flat_map f xs ++ r) ≡ f y ++ (flat_map f ys ++ q) = sym (append_assoc (f x) (flat_map f xs) r) ∙ e ∙ append_assoc (f y) (flat_map f ys) q in
-    let h = same_front (f x) (flat_map f xs ++ r) (f y) (flat_map f ys ++ q) (wide x ∙ sym (wide y)) again in
+    let h = same_front (f x) (f y) (flat_map f xs ++ r) (flat_map f ys ++ q) (wide x ∙ sym (wide y)) again in
     let first = known x y (All-head P x xs p) (All-head P y ys s) h.0 in
     let others = same_items f width P wide known xs ys r q (All-tail P x xs p) (All-tail P y ys s) lr lq h.1 in
     ap₂ (λ (z : ℕ) (zs : List ℕ). z ∷ zs) first others

@@ -1,6 +1,7 @@
 //! What generic code knows of any store that keeps blocks, and what a concrete store still knows behind it.
 ghost use Rattle.std.specs.Prelude.{◌≡◌, ◌≤◌, ◌++◌, ◌∷◌, [], length, map, Option, Some, None, IfOk, IfSome, OnOk, OnErr, unwrap_or, refl, List, ◌⊎◌};
 ghost use Rattle.tg_cid.specs.Cid.{CidParts};
+ghost use Rattle.tg_cid.specs.Limits.{max_block_len};
 ghost use Rattle.tg_cid.specs.Names.{Names};
 ghost use Rattle.tg_faults.specs.Faults.{Rose};
 ghost use Rattle.tg_model.specs.Stores.{IsNamedBlock, Kept, LookedUp, as_v1, kept_in, looked_in};
@@ -38,7 +39,7 @@ fn keep_then_get<S: KeptBlocks>(
     block: &[u8],
 ) -> Result<Option<Bytes>, BlocksFault>
     requires named { Names cid block.now }
-    requires small { length block.now ≤ 2097152 }
+    requires small { length block.now ≤ max_block_len }
     ensures found { IfOk result (λ found. IfSome (S.Blocks.blocks.stored store.old) (λ held. found ≡ Some (unwrap_or (held cid) block.now))) }
     ensures first { IfOk result (λ found. IfSome (S.Blocks.blocks.stored store.old) (λ held. held cid ≡ None → found ≡ Some block.now)) }
     ensures any { IfOk result (λ found. IsNamedBlock cid found) }
@@ -70,7 +71,7 @@ fn has_both<B: Blocks>(blocks: &mut B, a: &Cid, b: &Cid) -> Result<bool, BlocksF
 /// section that was kept; and a look-up leaves it as it was.
 fn log_one(log: &mut BlockLog, cid: Cid, block: &[u8]) -> Result<bool, BlocksFault>
     requires named { Names cid block.now }
-    requires small { length block.now ≤ 2097152 }
+    requires small { length block.now ≤ max_block_len }
     ensures number { OnOk result (log.new.number ≡ log.old.number) }
     ensures logged { OnOk result (map section_of log.new.blocks
         ≡ map section_of log.old.blocks ++ record { cid = as_v1 cid; block = block.now } ∷ []) }

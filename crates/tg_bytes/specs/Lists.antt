@@ -1,6 +1,6 @@
 -- Lists of bytes and of lists: what two of them have in common, and what stands where.
 use Rattle.std.proofs.Common.{◌≡◌, ◌≢◌, ℕ, ◌+◌, ◌-◌, ◌<◌, ◌≤◌, Bool, true, false, List, [], ◌∷◌, ◌++◌, length, take, drop, get_or, refl, sym, ap, ap₂, ◌∙◌, append_assoc, arith}
-use Rattle.std.specs.Prelude.{All, bytes_eq, slice_range, ◌||◌}
+use Rattle.std.specs.Prelude.{All, Contains, bytes_eq, slice_range, ◌||◌}
 use Rattle.std.specs.List.{flat_map}
 use Rattle.std.specs.List.Sorted.{IsNonDecreasing}
 use Rattle.std.proofs.lemmas.List.{append-nil, drop_at, drop_more, get_or_default, take_at}
@@ -92,6 +92,10 @@ rises numbers n is last = IsNonDecreasingBy-push (λ (x : ℕ). x) numbers n is 
     let e : get_or numbers (length numbers - 1) d ≡ get_or numbers (length numbers - 1) 0 = get_or_default numbers (length numbers - 1) d 0 (omega arith) in
     let l = last p in
     omega arith)
+
+-- nothing is in no list
+pub none_in : {X : Type 0} (x : X) → Contains [] x → ⊥
+none_in x has = absurd (omega (arith, has.1))
 
 -- ---- tests
 

@@ -12,6 +12,7 @@ use Rattle.tg_cid.specs.Spelling.{CidBytes, CidV1Bytes, IsDigestSize}
 use Rattle.tg_cid.specs.declared.cid.HashKind.{HashKind}
 use Rattle.tg_cid.specs.declared.cid.HashKind.TheVariants.{Sha256}
 use Rattle.tg_dagpb.specs.declared.Link.{Link}
+use Rattle.tg_cid.specs.Limits.{max_block_len}
 use Rattle.tg_dir.specs.Weights.{weight_for, weight_in}
 use Rattle.tg_hamt.specs.Order.{IsGoodEntry}
 use Rattle.tg_model.specs.ImportLayout.{basic_unix}
@@ -55,7 +56,7 @@ links_least sizes (e ∷ es) (link ∷ links) are plain =
 abbrev pub HasRoom : Type 0
 HasRoom = (entries : List NewEntry) (unix : Unix) (block : List ℕ) → IsNodeOf entries unix block → All IsOfSha256 entries → length block ≤ node_room entries unix
 
-pub block_small : HasRoom → HasDigestSize → (es : List NewEntry) (block : List ℕ) → All IsOfSha256 es → weight_for es ≤ 1048576 → IsNodeOf es basic_unix block → length block ≤ 2097152
+pub block_small : HasRoom → HasDigestSize → (es : List NewEntry) (block : List ℕ) → All IsOfSha256 es → weight_for es ≤ 1048576 → IsNodeOf es basic_unix block → length block ≤ max_block_len
 block_small room sizes es block plain light written =
     let most = room es basic_unix block written plain in
     let links = links_weight sizes es written.links written.links_are plain in

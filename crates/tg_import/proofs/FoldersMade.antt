@@ -14,7 +14,8 @@ use Rattle.tg_dir.specs.Weights.{weight_for}
 use Rattle.tg_files.specs.Folders.{Leads, Lists}
 use Rattle.tg_files.specs.PathLaws.{below_more}
 use Rattle.tg_hamt.specs.Directories.{AreLaidOut, AreSound, listed_for}
-use Rattle.tg_import.proofs.Listings.{IsShown, counted_in, entries_show, entry_blocks, first_is, named_counts, none_in, only_one, same_summary, slots_counts, slots_show}
+use Rattle.tg_bytes.specs.Lists.{none_in}
+use Rattle.tg_import.proofs.Listings.{IsShown, counted_in, entries_show, entry_blocks, first_is, named_counts, only_one, same_summary, slots_counts, slots_show}
 use Rattle.tg_import.specs.Counting.{counts_of, counts_of_children, nothing, one_folder, one_sharded, plus}
 use Rattle.tg_import.specs.Imported.{AreImported, AreItemsOf, IsImported, layout}
 use Rattle.tg_import.specs.Refused.{item_names}

@@ -2,6 +2,7 @@
 use Rattle.std.proofs.Common.{◌≡◌, ⊎_elim, ℕ, List, None, Option, Some, [], ◌∷◌, ◌++◌, get_or, refl, ap, sym, ◌∙◌, subst, arith}
 use Rattle.std.specs.Prelude.{Contains, map}
 use Rattle.std.proofs.lemmas.List.Elements.{Contains-append_cases, Contains-append_left, Contains-append_right}
+use Rattle.tg_bytes.specs.Lists.{none_in}
 use Rattle.tg_import.specs.Counting.{counts_inside, counts_of, counts_of_children, counts_of_slots, nothing, plus, slot_counts}
 use Rattle.tg_import.specs.declared.summary.Summary.{Summary}
 use Rattle.tg_model.specs.Content.{DirEntry, entries, entries_of_slots, named_children, slot_entries}
@@ -15,9 +16,6 @@ use Rattle.tg_tree.specs.Tree.{child as child_named}
 use Rattle.tg_tree.specs.declared.tree.Tree.{Tree}
 
 -- ---- lists
-
-pub none_in : {X : Type 0} → (x : X) → Contains [] x → ⊥
-none_in x has = absurd (omega (arith, has.1))
 
 pub only_one : {X : Type 0} → (x y : X) → Contains (x ∷ []) y → x ≡ y
 only_one x y has =

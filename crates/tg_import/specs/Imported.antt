@@ -3,6 +3,7 @@ use Rattle.std.specs.List.Sorted.{IsPermutation}
 use Rattle.std.specs.List.{IsDistinct}
 use Rattle.std.specs.Prelude.{All, IfSome, List, Option, [], bytes_eq, length, ℕ, ⊤, ◌++◌, ◌∷◌, ◌≤◌}
 use Rattle.tg_files.specs.Folders.{Leads, Lists}
+use Rattle.tg_cid.specs.Limits.{max_block_len}
 use Rattle.tg_import.specs.declared.summary.Options.{Options}
 use Rattle.tg_import_file.specs.Files.{AreBlocksOf}
 use Rattle.tg_model.specs.Dag.{Children, Dag, Section, blocks, no_child, with_child}
@@ -19,7 +20,7 @@ use Rattle.tg_writing.specs.Keeping.{Keeps}
 -- chunks of 1 to 2,097,152 bytes, 2 to 4,096 links a node, and a threshold up to 1,048,576
 pub record AreOptions (options : Options) : Type 0 where
   pub chunk_low : 1 ≤ options.chunk
-  pub chunk_high : options.chunk ≤ 2097152
+  pub chunk_high : options.chunk ≤ max_block_len
   pub width_low : 2 ≤ options.width
   pub width_high : options.width ≤ 4096
   pub shard_high : options.shard ≤ 1048576

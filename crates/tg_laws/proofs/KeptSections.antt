@@ -8,6 +8,7 @@ use Rattle.tg_cid.specs.Names.{Names}
 use Rattle.tg_cid.specs.declared.cid.Codec.TheVariants as codecs
 use Rattle.tg_cid.specs.declared.cid.HashKind.TheVariants as hashes
 use Rattle.tg_model.specs.SameForm.{named_too, v1_or_not}
+use Rattle.tg_cid.specs.Limits.{max_block_len}
 use Rattle.tg_laws.proofs.OpenedDags.{one_hash}
 use Rattle.tg_laws.specs.Stores.{BlocksCollide, MayKeep}
 use Rattle.tg_model.specs.Dag.{Section}
@@ -61,7 +62,7 @@ one_store old new section is may adds = record {
   ];
   small = λ cid block e. elim (from_either old new section.cid cid section.block block is adds e) [
     | inl held ↦ is.small cid block held
-    | inr mine ↦ subst (λ (block : List ℕ). length block ≤ 2097152) mine.1 may.small
+    | inr mine ↦ subst (λ (block : List ℕ). length block ≤ max_block_len) mine.1 may.small
   ];
 }
 

@@ -2,6 +2,7 @@
 use Rattle.std.proofs.Common.{◌≡◌, ℕ, List, [], ◌∷◌, codes, Option, refl, sym, ap, ◌∙◌, subst}
 use Rattle.std.specs.Prelude.{Result}
 use Rattle.std.specs.Option.{unwrap_or}
+use Rattle.tg_cid.specs.Limits.{max_block_len}
 use Rattle.tg_words.specs.Words.{Given, StandOnce, WordsSpelling}
 use Rattle.tg_words.specs.CommandLine.{CommandLine}
 use Rattle.tg_words.specs.ImportLines.{ImportParts, NumberAsked, NumberText, import_names}
@@ -37,7 +38,7 @@ same_import a b folder pack chunk width shard =
 pub one_import : (pair : List ℕ × List ℕ) (options : List Given) (a b : ImportParts) → ImportGiven pair.0 pair.1 options a → ImportGiven pair.0 pair.1 options b → a ≡ b
 one_import pair options a b p q =
     same_import a b (p.folder_is ∙ sym q.folder_is) (p.pack_is ∙ sym q.pack_is)
-    (one_value (value_at options (codes "chunk")) 1 2097152 1048576 a.chunk b.chunk p.chunk q.chunk)
+    (one_value (value_at options (codes "chunk")) 1 max_block_len 1048576 a.chunk b.chunk p.chunk q.chunk)
     (one_value (value_at options (codes "width")) 2 4096 1024 a.width b.width p.width q.width)
     (one_value (value_at options (codes "shard")) 0 1048576 262144 a.shard b.shard p.shard q.shard)
 
@@ -76,7 +77,7 @@ import_by rest folder pack options parts operands is =
       };
       folder_named = λ none. is.folder_named (sym is.folder_is ∙ none);
       pack_named = λ none. is.pack_named (sym is.pack_is ∙ none);
-      chunk = asked_by options (codes "chunk") 1 2097152 1048576 parts.chunk have is.chunk;
+      chunk = asked_by options (codes "chunk") 1 max_block_len 1048576 parts.chunk have is.chunk;
       width = asked_by options (codes "width") 2 4096 1024 parts.width have is.width;
       shard = asked_by options (codes "shard") 0 1048576 262144 parts.shard have is.shard;
     }
@@ -100,7 +101,7 @@ import_line rest (Import parts) line =
         folder_named = line.folder_named;
         pack_is = refl;
         pack_named = line.pack_named;
-        chunk = given_by line.options (codes "chunk") 1 2097152 1048576 parts.chunk operands.once line.chunk;
+        chunk = given_by line.options (codes "chunk") 1 max_block_len 1048576 parts.chunk operands.once line.chunk;
         width = given_by line.options (codes "width") 2 4096 1024 parts.width operands.once line.width;
         shard = given_by line.options (codes "shard") 0 1048576 262144 parts.shard operands.once line.shard;
       };

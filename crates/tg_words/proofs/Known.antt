@@ -1,8 +1,9 @@
 -- The options that stand in words have the names of the command.
 use Rattle.std.proofs.Common.{ℕ, inl, inr, List, [], ◌∷◌, Option, Some, None, sym, subst}
 use Rattle.std.specs.Prelude.{Contains}
+use Rattle.tg_bytes.specs.Lists.{none_in}
 use Rattle.tg_words.specs.Words.{Names, Given, Item, positional, valued, flag, ItemsSpelling, options_of, WordsSpelling}
-use Rattle.tg_words.proofs.Names.{none_of, first_or_later}
+use Rattle.tg_words.proofs.Names.{first_or_later}
 
 -- each option of a command has one of the command's names, and a value where that name is one with a value
 abbrev pub IsKnown : Names → List ℕ → Option (List ℕ) → Type 0
@@ -13,7 +14,7 @@ abbrev pub AreKnown : Names → List Given → Type 0
 AreKnown names options = (o : Given) → Contains options o → IsKnown names o.0 o.1
 
 known_by : (names : Names) (items : List Item) (front : List (List ℕ)) → ItemsSpelling names items front → AreKnown names (options_of items)
-known_by names [] front spelled = λ o among. absurd (none_of o among)
+known_by names [] front spelled = λ o among. absurd (none_in o among)
 known_by names (positional word ∷ items) front spelled = known_by names items spelled.1 spelled.4
 known_by names (valued name value ∷ items) front spelled =
     let later_ones = known_by names items spelled.1 spelled.4 in

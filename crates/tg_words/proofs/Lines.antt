@@ -6,6 +6,7 @@ use Rattle.std.specs.Str.{bytes_eq}
 use Rattle.hex.specs.Hex.{decode_of}
 use Rattle.tg_cid.specs.Cid.{CidParts}
 use Rattle.tg_cid.specs.Spelling.{CidText, CidBytes}
+use Rattle.tg_bytes.specs.Lists.{none_in}
 use Rattle.tg_words.specs.Words.{Given, StandOnce, WordsSpelling}
 use Rattle.tg_words.specs.CommandLine.{CommandLine, OneCidLine, no_names, cid_names}
 use Rattle.tg_model.specs.Queries.{QueryParts}
@@ -23,7 +24,7 @@ use Rattle.tg_words.proofs.ExportAnswers.{export_form, export_line, one_export}
 use Rattle.tg_words.proofs.ImportAnswers.{import_form, import_line, one_import}
 use Rattle.tg_words.proofs.VerifyAnswers.{verify_form, verify_line}
 use Rattle.tg_words.proofs.Known.{AreKnown, known}
-use Rattle.tg_words.proofs.Names.{are_by, none_of, at_first, later_too, first_or_later}
+use Rattle.tg_words.proofs.Names.{are_by, at_first, later_too, first_or_later}
 
 -- `check` and `node`
 abbrev pub IsOneCid : (CidParts → Command) → List (List ℕ) → Command → Type 0
@@ -67,8 +68,8 @@ one_cid_ok name make rest cid reads line only = record {
 -- a command without options has none
 no_options_by : (options : List Given) → AreKnown no_names options → options ≡ []
 no_options_by [] known = refl
-no_options_by ((name, Some value) ∷ options) known = absurd (none_of name (known (name, Some value) (at_first (name, Some value) (name, Some value) options refl)))
-no_options_by ((name, None) ∷ options) known = absurd (none_of name (known (name, None) (at_first (name, None) (name, None) options refl)))
+no_options_by ((name, Some value) ∷ options) known = absurd (none_in name (known (name, Some value) (at_first (name, Some value) (name, Some value) options refl)))
+no_options_by ((name, None) ∷ options) known = absurd (none_in name (known (name, None) (at_first (name, None) (name, None) options refl)))
 
 pub no_options : (words texts_in : List (List ℕ)) (options : List Given) → WordsSpelling no_names words texts_in options → WordsSpelling no_names words texts_in []
 no_options words texts_in options s = subst (λ o. WordsSpelling no_names words texts_in o) (no_options_by options (known no_names words texts_in options s)) s
@@ -86,16 +87,16 @@ abbrev pub hex_value : List Given → Option (List ℕ)
 hex_value options = option_and_then (λ (o : Given). o.1) (find (λ (o : Given). bytes_eq o.0 (codes "hex")) options)
 
 is_hex : (name : List ℕ) → Contains cid_names.valued name → codes "hex" ≡ name
-is_hex name among = elim (first_or_later (codes "hex") name [] among) [ inl is ↦ is | inr later ↦ absurd (none_of name later) ]
+is_hex name among = elim (first_or_later (codes "hex") name [] among) [ inl is ↦ is | inr later ↦ absurd (none_in name later) ]
 
 hex_alone : (options : List Given) → StandOnce options → AreKnown cid_names options → HexIs (hex_value options) options
 hex_alone [] once known = refl
-hex_alone ((name, None) ∷ options) once known = absurd (none_of name (known (name, None) (at_first (name, None) (name, None) options refl)))
+hex_alone ((name, None) ∷ options) once known = absurd (none_in name (known (name, None) (at_first (name, None) (name, None) options refl)))
 hex_alone ((name, Some value) ∷ []) once known =
     let is = is_hex name (known (name, Some value) (at_first (name, Some value) (name, Some value) [] refl)) in
     subst (λ (n : List ℕ). HexIs (hex_value ((n, Some value) ∷ [])) ((n, Some value) ∷ [])) is refl
 hex_alone ((name, Some value) ∷ (other, None) ∷ options) once known =
-    absurd (none_of other (known (other, None) (later_too (name, Some value) (other, None) ((other, None) ∷ options) (at_first (other, None) (other, None) options refl))))
+    absurd (none_in other (known (other, None) (later_too (name, Some value) (other, None) ((other, None) ∷ options) (at_first (other, None) (other, None) options refl))))
 hex_alone ((name, Some value) ∷ (other, Some second) ∷ options) once known =
     let is = is_hex name (known (name, Some value) (at_first (name, Some value) (name, Some value) ((other, Some second) ∷ options) refl)) in
     let also = is_hex other (known (other, Some second) (later_too (name, Some value) (other, Some second) ((other, Some second) ∷ options) (at_first (other, Some second) (other, Some second) options refl))) in

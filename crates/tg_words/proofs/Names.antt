@@ -13,9 +13,6 @@ use Rattle.tg_bytes.specs.Lists.{neither}
 use Rattle.tg_words.specs.Words.{Names, are_names, is_name}
 use Rattle.tg_words.proofs.Readings.{AreNames, LacksEquals}
 
-pub none_of : {X : Type 0} (x : X) → Contains [] x → ⊥
-none_of x (k, below, is) = omega (arith, below)
-
 pub first_or_later : {X : Type 0} (y x : X) (ys : List X) → Contains (y ∷ ys) x → (y ≡ x) ⊎ Contains ys x
 first_or_later y x ys (zero, below, is) = inl is
 first_or_later y x ys (suc k, below, is) = inr (k, omega (arith, below), is)

@@ -3,11 +3,11 @@ use Rattle.std.proofs.Common.{◌≡◌, ◌≢◌, ℕ, suc, zero, inl, inr, Li
 use Rattle.std.specs.Prelude.{Contains, find, option_and_then, slice_get}
 use Rattle.std.specs.Str.{bytes_eq}
 use Rattle.std.proofs.lemmas.Slice.Eq.{bytes_eq-Decides}
-use Rattle.tg_bytes.specs.Lists.{other_bytes}
+use Rattle.tg_bytes.specs.Lists.{other_bytes, none_in}
 use Rattle.tg_words.specs.Words.{Given, StandOnce, WordsSpelling, OptionGives}
 use Rattle.tg_words.specs.Operands.{ValueGives, value_at}
 use Rattle.tg_words.proofs.Known.{known}
-use Rattle.tg_words.proofs.Names.{none_of, first_or_later, at_first, later_too, bytes_same}
+use Rattle.tg_words.proofs.Names.{first_or_later, at_first, later_too, bytes_same}
 
 -- each option has a value
 abbrev pub HaveValues : List Given → Type 0
@@ -17,7 +17,7 @@ rest_once : (o : Given) (options : List Given) → StandOnce (o ∷ options) →
 rest_once o options once i j a b below at also = once (suc i) (suc j) a b (omega (arith, below)) at also
 
 place_of : {X : Type 0} (xs : List X) (x : X) → Contains xs x → (k : ℕ) × (slice_get xs k ≡ Some x)
-place_of [] x among = absurd (none_of x among)
+place_of [] x among = absurd (none_in x among)
 place_of (y ∷ xs) x among = elim (first_or_later y x xs among) [
   | inl is ↦ (zero, ap Some is)
   | inr later ↦ let k = place_of xs x later in (suc k.0, k.1)
@@ -25,7 +25,7 @@ place_of (y ∷ xs) x among = elim (first_or_later y x xs among) [
 
 -- an option that stands is the first of its name
 value_where : (options : List Given) (name text : List ℕ) → StandOnce options → Contains options (name, Some text) → value_at options name ≡ Some text
-value_where [] name text once among = absurd (none_of (name, Some text) among)
+value_where [] name text once among = absurd (none_in (name, Some text) among)
 value_where (o ∷ options) name text once among = elim (first_or_later o (name, Some text) options among) [
   | inl is ↦ subst (λ (p : Given). value_at (p ∷ options) name ≡ Some text) (sym is) (rw (bytes_same name) refl)
   | inr later ↦
@@ -48,7 +48,7 @@ value_stands (o ∷ options) name text is = go (bytes_eq o.0 name) refl is (valu
     go false same here later = later_too o (name, Some text) options (later here)
 
 none_stands : (options : List Given) (name : List ℕ) → HaveValues options → value_at options name ≡ None → (o : Given) → Contains options o → o.0 ≢ name
-none_stands [] name have none o among = absurd (none_of o among)
+none_stands [] name have none o among = absurd (none_in o among)
 none_stands (p ∷ options) name have none o among = go (bytes_eq p.0 name) refl none (none_stands options name (λ q within. have q (later_too p q options within)))
   where
     go : (t : Bool) → bytes_eq p.0 name ≡ t → option_and_then (λ (q : Given). q.1) (cond t (Some p) (find (λ (q : Given). bytes_eq q.0 name) options)) ≡ None
@@ -88,4 +88,4 @@ pub have_values : (valued : List (List ℕ)) (words texts : List (List ℕ)) (op
     → WordsSpelling (record { valued = valued; flags = [] }) words texts options → HaveValues options
 have_values valued words texts options spelling (name, Some value) among is = absurd (cc)
 have_values valued words texts options spelling (name, None) among is =
-    none_of name (known (record { valued = valued; flags = [] }) words texts options spelling (name, None) among)
+    none_in name (known (record { valued = valued; flags = [] }) words texts options spelling (name, None) among)

@@ -13,10 +13,10 @@ use Rattle.clap.specs.Walk.{Row, Text, at_row, default_rows, has_row, more_value
 use Rattle.clap.specs.declared.builder.action.ArgAction.TheVariants.{Set, SetTrue}
 use Rattle.clap.specs.declared.parser.matches.ValueSource.{ValueSource}
 use Rattle.clap.specs.declared.parser.matches.ValueSource.TheVariants.{CommandLine, DefaultValue}
-use Rattle.tg_bytes.specs.Lists.{neither}
+use Rattle.tg_bytes.specs.Lists.{neither, none_in}
 use Rattle.tg_words.specs.Words.{Names, Given}
 use Rattle.tg_words.specs.Parsing.{given_from, option_at, option_of, options_in, positional_in, row_at, value_in, values_of}
-use Rattle.tg_words.proofs.Names.{none_of, first_or_later, at_first, later_too, bytes_same, among_passes}
+use Rattle.tg_words.proofs.Names.{first_or_later, at_first, later_too, bytes_same, among_passes}
 use Rattle.tg_words.proofs.Rules.{args_for, option_arg, positional_arg}
 
 -- the rows are of the words, and of no id are two
@@ -217,7 +217,7 @@ row_given flags (r ∷ rs) name c some e = go (bytes_eq r.id name) refl e (λ la
 
 -- and an option that stands has a row
 pub given_row : (flags : List Text) (rows : List Row) (o : Given) → Contains (filter_map (option_of flags) rows) o → has_row o.0 rows ≡ true
-given_row flags [] o among = absurd (none_of o among)
+given_row flags [] o among = absurd (none_in o among)
 given_row flags (r ∷ rs) o among = go (bytes_eq r.id []) refl r.source refl (given_row flags rs o)
   where
     later : has_row o.0 rs ≡ true → has_row o.0 (r ∷ rs) ≡ true
@@ -285,7 +285,7 @@ among_row : (rows : List Row) (r : Row) → Contains rows r → has_row r.id row
 among_row rows r among = among_passes (λ (x : Row). bytes_eq x.id r.id) rows r among (bytes_same r.id)
 
 own_row : (rows : List Row) (r : Row) → AreApart rows → Contains rows r → row_at rows r.id ≡ Some r
-own_row [] r apart among = absurd (none_of r among)
+own_row [] r apart among = absurd (none_in r among)
 own_row (y ∷ ys) r apart among = elim (first_or_later y r ys among) [
   | inl is ↦ ap (λ b. cond b (Some y) (row_at ys r.id)) ((bytes_eq-Decides y.id r.id).1 (ap (λ (x : Row). x.id) is)) ∙ ap (λ x. Some x) is
   | inr later ↦ go (bytes_eq y.id r.id) refl later (own_row ys r apart.1 later)

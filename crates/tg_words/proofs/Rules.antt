@@ -11,10 +11,11 @@ use Rattle.clap.specs.Simple.{App, Shape, on_top, with_rule, new_shape, built, i
 use Rattle.clap.specs.Faults.{is_free_app, is_simple_and_free}
 use Rattle.clap.specs.declared.builder.action.ArgAction.{ArgAction}
 use Rattle.clap.specs.declared.builder.action.ArgAction.TheVariants.{Set, SetTrue}
+use Rattle.tg_bytes.specs.Lists.{none_in}
 use Rattle.tg_words.specs.Words.{Names}
 use Rattle.tg_words.specs.Parsing.{positional_rule, option_rule, rules_for, app_for, with_rules}
 use Rattle.tg_words.specs.Operands.{texts_of}
-use Rattle.tg_words.proofs.Names.{none_of, first_or_later, at_first, later_too}
+use Rattle.tg_words.proofs.Names.{first_or_later, at_first, later_too}
 
 abbrev pub positional_arg : Rule
 positional_arg = with_index 1 (filled positional_rule)
@@ -139,7 +140,7 @@ or-false false = refl
 
 option_found : (p : Rule → Bool) (f : Text → Rule) (name : Text) (ns : List Text) (rest : List Rule) → ((n : Text) → p (f n) ≡ bytes_eq n name)
     → Contains ns name → find p (map f ns ++ rest) ≡ Some (f name)
-option_found p f name [] rest by among = absurd (none_of name among)
+option_found p f name [] rest by among = absurd (none_in name among)
 option_found p f name (n ∷ ns) rest by among = go (bytes_eq n name) refl (λ later. option_found p f name ns rest by later)
   where
     go : (b : Bool) → bytes_eq n name ≡ b → (Contains ns name → find p (map f ns ++ rest) ≡ Some (f name))
@@ -210,7 +211,7 @@ pub data IsOf (names : Names) (name : Text) : Type 0 where
   of_none : (Contains names.valued name → ⊥) → (Contains names.flags name → ⊥) → arg_by_long (args_for names) name ≡ None → IsOf names name
 
 among_or_not : (ns : List Text) (name : Text) → Contains ns name ⊎ (Contains ns name → ⊥)
-among_or_not [] name = inr (none_of name)
+among_or_not [] name = inr (none_in name)
 among_or_not (n ∷ ns) name = go (bytes_eq n name) refl (among_or_not ns name)
   where
     go : (b : Bool) → bytes_eq n name ≡ b → Contains ns name ⊎ (Contains ns name → ⊥) → Contains (n ∷ ns) name ⊎ (Contains (n ∷ ns) name → ⊥)

@@ -2,6 +2,7 @@
 use Rattle.std.specs.Prelude.{◌≡◌, ◌≢◌, ℕ, ◌≤◌, List, [], ◌∷◌, Option, length, codes}
 use Rattle.std.specs.Option.{unwrap_or}
 use Rattle.std.specs.Str.Parse.{IsNumeral, digits_value}
+use Rattle.tg_cid.specs.Limits.{max_block_len}
 use Rattle.tg_words.specs.Words.{Names, Given, Line, OptionGives}
 
 -- what is asked of an import: the paths of the folder and of the pack, and the numbers of the layout
@@ -34,6 +35,6 @@ pub record ImportLine (words : List (List ℕ)) (parts : ImportParts) : Type 0 w
   pub line : Line (codes "import") import_names words (parts.folder ∷ parts.pack ∷ []) options
   pub folder_named : parts.folder ≢ []
   pub pack_named : parts.pack ≢ []
-  pub chunk : NumberAsked options (codes "chunk") 1 2097152 1048576 parts.chunk
+  pub chunk : NumberAsked options (codes "chunk") 1 max_block_len 1048576 parts.chunk
   pub width : NumberAsked options (codes "width") 2 4096 1024 parts.width
   pub shard : NumberAsked options (codes "shard") 0 1048576 262144 parts.shard

@@ -6,6 +6,7 @@ use Rattle.hex.specs.declared.error.FromHexError.{FromHexError}
 use Rattle.hex.specs.declared.error.FromHexError.TheVariants as hex
 use Rattle.tg_cid.specs.declared.fault.CidFault.{CidFault}
 use Rattle.tg_cid.specs.declared.fault.CidFault.TheVariants as cids
+use Rattle.tg_cid.specs.Limits.{max_block_len}
 use Rattle.tg_words.specs.declared.Command.{Command}
 use Rattle.tg_words.specs.declared.WordsFault.{WordsFault}
 use Rattle.tg_words.specs.declared.WordsFault.TheVariants.{Usage, OutOfMemory}
@@ -88,7 +89,7 @@ pub record ImportGiven (folder pack : List ℕ) (options : List Given) (parts : 
   pub folder_named : folder ≢ []
   pub pack_is : parts.pack ≡ pack
   pub pack_named : pack ≢ []
-  pub chunk : NumberGiven (value_at options (codes "chunk")) 1 2097152 1048576 parts.chunk
+  pub chunk : NumberGiven (value_at options (codes "chunk")) 1 max_block_len 1048576 parts.chunk
   pub width : NumberGiven (value_at options (codes "width")) 2 4096 1024 parts.width
   pub shard : NumberGiven (value_at options (codes "shard")) 0 1048576 262144 parts.shard
 

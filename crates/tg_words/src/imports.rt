@@ -8,6 +8,7 @@ use crate::operands::{GivenOption, OptionNames, named, operands_of, two_words, v
 use crate::{Command, WordsFault};
 use std::alloc::Global;
 use std::marker::Model;
+use tg_cid::MAX_BLOCK_LEN;
 
 /// What is asked of an import: the paths of the folder and of the pack, and the numbers of the layout.
 #[derive(Debug, Drop)]
@@ -43,7 +44,7 @@ struct Setting {
 
 const CHUNK: Setting = Setting {
     low: 1,
-    high: 2_097_152,
+    high: MAX_BLOCK_LEN as u32,
     default: 1_048_576,
 };
 
