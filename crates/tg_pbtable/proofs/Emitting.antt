@@ -20,13 +20,6 @@ use Rattle.tg_pbtable.proofs.Spellings.{place_range}
 
 -- ---- what is put
 
-pub put_both : (P Q R : List ℕ → Type 0) → ((a b : List ℕ) → P a → Q b → R (a ++ b)) → (old mid new : List ℕ) → Puts P old mid → Puts Q mid new → Puts R old new
-put_both P Q R both old mid new p q = record {
-  bytes = p.bytes ++ q.bytes;
-  whole = q.whole ∙ ap (λ (t : List ℕ). t ++ q.bytes) p.whole ∙ append_assoc old p.bytes q.bytes;
-  spells = both p.bytes q.bytes p.spells q.spells;
-}
-
 pub number_both : (number value : ℕ) (a b : List ℕ) → KeySpelling number (wire_code Varint) a → VarintSpelling value b → NumberSpelling number value (a ++ b)
 number_both number value a b p q = record { key = a; amount = b; whole = refl; key_is = p; amount_is = q }
 

@@ -9,5 +9,6 @@ pub mod Values
 pub mod Computed
 pub mod Laws
 pub mod Place
+pub mod PutLaws
 pub mod TableRules
 pub mod Taking

@@ -1,11 +1,12 @@
 -- The text that is written for data is the data's.
-use Rattle.std.proofs.Common.{◌≡◌, ℕ, ◌+◌, ◌<◌, Option, Some, List, [], ◌++◌, length, take, get_or, refl, sym, ap, ◌∙◌, append_assoc, subst}
+use Rattle.std.proofs.Common.{◌≡◌, ℕ, ◌+◌, ◌<◌, Option, Some, List, [], ◌++◌, length, take, get_or, refl, sym, ◌∙◌, subst}
 use Rattle.std.proofs.lemmas.List.{append-nil}
 use Rattle.tg_pbtable.specs.declared.table.Field.{Field}
 use Rattle.tg_pbtable.specs.declared.table.Order.TheVariants.{Ascending}
 use Rattle.tg_pbtable.specs.Message.{NumberSpelling}
 use Rattle.tg_pbtable.specs.Emitted.{BytesSpelling, FieldTexts, Puts}
 use Rattle.tg_pbtable.specs.Laws.{TableLaws}
+use Rattle.tg_pbtable.specs.PutLaws.{put_both}
 use Rattle.tg_unixfs.specs.declared.TheConstants.{DATA}
 use Rattle.tg_unixfs.specs.declared.Unix.{Unix}
 use Rattle.tg_unixfs.specs.Unix.{IsUnix, UnixText}
@@ -27,11 +28,8 @@ inline_put inline bytes content old new is e p =
     (record { bytes = p.bytes; whole = p.whole; spells = (p.bytes, [], sym (append-nil p.bytes), spells, refl) })
 
 pub then_put : (laws : TableLaws) (source : List ℕ) (fs gs : List Field) (old mid new : List ℕ) → PutsFields source fs old mid → PutsFields source gs mid new → PutsFields source (fs ++ gs) old new
-then_put laws source fs gs old mid new p q = record {
-  bytes = p.bytes ++ q.bytes;
-  whole = q.whole ∙ ap (λ (t : List ℕ). t ++ q.bytes) p.whole ∙ append_assoc old p.bytes q.bytes;
-  spells = laws.writing.append source fs gs p.bytes q.bytes p.spells q.spells;
-}
+then_put laws source fs gs old mid new p q =
+    put_both (FieldTexts source fs) (FieldTexts source gs) (FieldTexts source (fs ++ gs)) (λ a b s t. laws.writing.append source fs gs a b s t) old mid new p q
 
 pub size_put : (laws : TableLaws) (source sizes : List ℕ) (i d : ℕ) (old mid new : List ℕ) → i < length sizes → PutsFields source (numbered 4 (as_numbers (take i sizes))) old mid
     → Puts (λ bytes. NumberSpelling 4 (get_or sizes i d) bytes) mid new → PutsFields source (numbered 4 (as_numbers (take (i + 1) sizes))) old new

@@ -1,5 +1,6 @@
 use Rattle.std.proofs.lemmas.Result.{on_ok_weaker}
-use Rattle.tg_pbtable.proofs.Emitting.{put_both, number_both}
+use Rattle.tg_pbtable.specs.PutLaws.{put_both}
+use Rattle.tg_pbtable.proofs.Emitting.{number_both}
 use Rattle.tg_pbtable.proofs.writing.put_number.Goals as goal
 
 pub returns : goal.returns
