@@ -16,6 +16,7 @@ use Rattle.tg_car.specs.declared.section.Section.{Section}
 use Rattle.tg_model.specs.Stores.{Store}
 use Rattle.tg_car.specs.LawLemmas.{none_in_header, none_in_section}
 use Rattle.tg_bytes.specs.Lists.{longer}
+use Rattle.tg_varint.specs.GroupLaws.{not_empty}
 use Rattle.tg_store.specs.declared.fault.PackFault.{PackFault}
 use Rattle.tg_store.specs.declared.fault.PackFault.TheVariants as faults
 use Rattle.tg_store.specs.Attaching.{AboveLimit, EndsInside, HasPackCause, HasUnfinishedHeader, IsAttached, IsNamed, IsSmall, IsSound, NoSection, WrongDigest}
@@ -70,14 +71,9 @@ Ends bytes above = IsAbove bytes
 Ends bytes inside = IsInSection bytes × (0 < length bytes) × IsWithin max_block_len bytes
 
 module _ (laws : CarLaws) (spellings : SpellingLaws) (cids : CidsOnce) where
-  some_spelling : (number : ℕ) (bytes : List ℕ) → VarintSpelling number bytes → 0 < length bytes
-  some_spelling number bytes v =
-      let parts : length bytes ≡ length v.front + 1 = ap length v.whole ∙ length-append v.front (v.last ∷ []) in
-      omega arith
-
   pub some_section : (section : Section) (text : List ℕ) → SectionText section text → 0 < length text
   some_section section text t =
-      let some : 0 < length t.size = some_spelling (length t.name + length section.block) t.size t.size_is in
+      let some : 0 < length t.size = not_empty (length t.name + length section.block) t.size t.size_is in
       let parts : length text ≡ length t.size + length (t.name ++ section.block) = ap length t.whole ∙ length-append t.size (t.name ++ section.block) in
       omega arith
 
@@ -171,7 +167,7 @@ module _ (laws : CarLaws) (spellings : SpellingLaws) (cids : CidsOnce) where
   whole_above : (bytes : List ℕ) → bytes ≡ [] → IsAbove bytes → ⊥
   whole_above bytes none a =
       let nothing : length bytes ≡ 0 = ap length none in
-      let some : 0 < length a.size = some_spelling (length a.name + a.number) a.size a.size_is in
+      let some : 0 < length a.size = not_empty (length a.name + a.number) a.size a.size_is in
       let parts : length bytes ≡ length (a.size ++ a.name) + length a.more = ap length a.whole_is ∙ length-append (a.size ++ a.name) a.more in
       omega (arith, length-append a.size a.name)
 

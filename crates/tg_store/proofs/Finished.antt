@@ -329,7 +329,7 @@ finished_attached laws spellings cids {P} m a b c sections root content new kept
     one = λ i. record { version = (sym version) i; codec = root.codec; hash = root.hash; digest = root.digest }
 
     size : length finished.header ≡ 59
-    size = header_size spellings root finished.name finished.header (is_sha256 root finished.name finished.spelled)
+    size = header_size root finished.name finished.header (is_sha256 root finished.name finished.spelled)
         (subst (λ (r : CidParts). CidBytes r finished.name) (sym one) finished.spelled) finished.text
 
     by : (old between : Option (List ℕ)) → ((held : List ℕ) → old ≡ Some held → HeaderText (unfinished_root ∷ []) held) → GrewBy old between a.places b.places sections

@@ -17,6 +17,7 @@ use Rattle.tg_files.specs.Packs.{Reaches, written}
 use Rattle.tg_files.specs.Packs.PackWrite.{append, overwrite}
 use Rattle.tg_bytes.specs.Told.{IsNothing}
 use Rattle.tg_cid.specs.CodeLaws.{codec_below}
+use Rattle.tg_varint.specs.GroupLaws.{one_long}
 use Rattle.tg_store.specs.declared.key.Key.{Key}
 use Rattle.tg_store.specs.declared.place.Place.{Place}
 use Rattle.tg_store.specs.Attaching.{unfinished_header}
@@ -51,15 +52,12 @@ unfinished_text laws = record {
 
 -- ---- how many bytes a header has
 
-one_byte_of : SpellingLaws → (n : ℕ) (bytes : List ℕ) → n < 128 → VarintSpelling n bytes → length bytes ≡ 1
-one_byte_of laws n bytes below v = ap length (laws.one_spelling n bytes (n ∷ []) v (laws.one_byte n below))
-
-four_bytes : SpellingLaws → (codec : Codec) (head : List ℕ) → Varints (1 ∷ codec_code codec ∷ 0x12 ∷ 32 ∷ []) head → length head ≡ 4
-four_bytes laws codec head v =
-    let a = one_byte_of laws 1 v.0 (omega arith) v.3 in
-    let b = one_byte_of laws (codec_code codec) v.4.0 (codec_below codec) v.4.3 in
-    let c = one_byte_of laws 0x12 v.4.4.0 (omega arith) v.4.4.3 in
-    let d = one_byte_of laws 32 v.4.4.4.0 (omega arith) v.4.4.4.3 in
+four_bytes : (codec : Codec) (head : List ℕ) → Varints (1 ∷ codec_code codec ∷ 0x12 ∷ 32 ∷ []) head → length head ≡ 4
+four_bytes codec head v =
+    let a = one_long 1 v.0 (omega arith) v.3 in
+    let b = one_long (codec_code codec) v.4.0 (codec_below codec) v.4.3 in
+    let c = one_long 0x12 v.4.4.0 (omega arith) v.4.4.3 in
+    let d = one_long 32 v.4.4.4.0 (omega arith) v.4.4.4.3 in
     let none : length v.4.4.4.1 ≡ 0 = ap length v.4.4.4.4 in
     let first : length head ≡ length v.0 + length v.1 = ap length v.2 ∙ length-append v.0 v.1 in
     let second : length v.1 ≡ length v.4.0 + length v.4.1 = ap length v.4.2 ∙ length-append v.4.0 v.4.1 in
@@ -68,13 +66,13 @@ four_bytes laws codec head v =
     omega arith
 
 -- a CIDv1 with sha2-256 has 36 bytes
-cid_size : SpellingLaws → (codec : Codec) (hash : HashKind) (digest name : List ℕ) → hash ≡ Sha256
+cid_size : (codec : Codec) (hash : HashKind) (digest name : List ℕ) → hash ≡ Sha256
     → CidBytes (record { version = 1; codec = codec; hash = hash; digest = digest }) name → length name ≡ 36
-cid_size laws codec Identity digest name e h = cc e
-cid_size laws codec Sha256 digest name e (inl zero) = absurd (omega (arith, zero.version))
-cid_size laws codec Sha256 digest name e (inr one) =
+cid_size codec Identity digest name e h = cc e
+cid_size codec Sha256 digest name e (inl zero) = absurd (omega (arith, zero.version))
+cid_size codec Sha256 digest name e (inr one) =
     let size : length digest ≡ 32 = one.size in
-    let head = four_bytes laws codec one.head (subst (λ (n : ℕ). Varints (1 ∷ codec_code codec ∷ 0x12 ∷ n ∷ []) one.head) size one.numbers) in
+    let head = four_bytes codec one.head (subst (λ (n : ℕ). Varints (1 ∷ codec_code codec ∷ 0x12 ∷ n ∷ []) one.head) size one.numbers) in
     let whole : length name ≡ length one.head + length digest = ap length one.whole ∙ length-append one.head digest in
     omega arith
 
@@ -91,12 +89,12 @@ map_size root e =
     let whole : length (flat_map root_text (root ∷ []) ++ back) ≡ 50 = length-append (flat_map root_text (root ∷ [])) back ∙ omega arith in
     omega arith
 
-pub header_size : SpellingLaws → (root : CidParts) (name header : List ℕ) → root.hash ≡ Sha256 → CidBytes (record root { version = 1 }) name
+pub header_size : (root : CidParts) (name header : List ℕ) → root.hash ≡ Sha256 → CidBytes (record root { version = 1 }) name
     → HeaderText ((0 ∷ name) ∷ []) header → length header ≡ 59
-header_size laws root name header sha spelled text =
-    let size : length name ≡ 36 = cid_size laws root.codec root.hash root.digest name sha spelled in
+header_size root name header sha spelled text =
+    let size : length name ≡ 36 = cid_size root.codec root.hash root.digest name sha spelled in
     let map : length (header_map ((0 ∷ name) ∷ [])) ≡ 58 = map_size (0 ∷ name) (omega arith) in
-    let one : length text.size ≡ 1 = one_byte_of laws 58 text.size (omega arith) (subst (λ (n : ℕ). VarintSpelling n text.size) map text.size_is) in
+    let one : length text.size ≡ 1 = one_long 58 text.size (omega arith) (subst (λ (n : ℕ). VarintSpelling n text.size) map text.size_is) in
     let whole : length header ≡ length text.size + length (header_map ((0 ∷ name) ∷ [])) = ap length text.whole ∙ length-append text.size (header_map ((0 ∷ name) ∷ [])) in
     omega arith
 

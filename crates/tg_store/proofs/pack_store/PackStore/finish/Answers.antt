@@ -10,14 +10,14 @@ use Rattle.tg_store.proofs.pack_store.PackStore.finish.Goals as goal
 pub write_at-requires : goal.write_at-requires
 write_at-requires g c =
     let fresh : c.self.inside.fresh ≡ true = ap (λ (s : PackStoreState g.row.P.Denot). s.fresh) c.self.view_is ∙ c.requires.fresh in
-    let size : length c.in-Ok.header ≡ 59 = header_size c.spelling_laws.ensures c.args.root c.in-Ok.ensures.0 c.in-Ok.header c.requires.hash c.in-Ok.ensures.1 c.in-Ok.ensures.2 in
+    let size : length c.in-Ok.header ≡ 59 = header_size c.args.root c.in-Ok.ensures.0 c.in-Ok.header c.requires.hash c.in-Ok.ensures.1 c.in-Ok.ensures.2 in
     header_there (g.P.Pack.pack.content c.self.inside.pack) c.self.inside.fresh c.self.inside.places.entries c.self.inside.end (length c.as_slice.result.now) fresh
     (ap length c.as_slice.ensures ∙ size) c.self.invariant.1
 
 pub invariant_of-self : goal.invariant_of-self
 invariant_of-self g c =
     let fresh : c.self.inside.fresh ≡ true = ap (λ (s : PackStoreState g.row.P.Denot). s.fresh) c.self.view_is ∙ c.requires.fresh in
-    let size : length c.in-Ok.header ≡ 59 = header_size c.spelling_laws.ensures c.args.root c.in-Ok.ensures.0 c.in-Ok.header c.requires.hash c.in-Ok.ensures.1 c.in-Ok.ensures.2 in
+    let size : length c.in-Ok.header ≡ 59 = header_size c.args.root c.in-Ok.ensures.0 c.in-Ok.header c.requires.hash c.in-Ok.ensures.1 c.in-Ok.ensures.2 in
     let text : HeaderText ((0 ∷ c.in-Ok.ensures.0) ∷ []) c.as_slice.result.now = subst (HeaderText ((0 ∷ c.in-Ok.ensures.0) ∷ [])) (sym c.as_slice.ensures) c.in-Ok.ensures.2 in (
       c.self.invariant.0,
       finished_in (g.P.Pack.pack.content c.self.inside.pack) (g.P.Pack.pack.content c.write_at.new.self) c.as_slice.result.now (0 ∷ c.in-Ok.ensures.0) c.self.inside.fresh c.self.inside.places.entries c.self.inside.end
@@ -28,7 +28,7 @@ pub returns-in-Ok-write_at-clause-finished : goal.returns-in-Ok-write_at-clause-
 returns-in-Ok-write_at-clause-finished g c =
     let fresh : c.self.inside.fresh ≡ true = ap (λ (s : PackStoreState g.row.P.Denot). s.fresh) c.self.view_is ∙ c.requires.fresh in
     let name : List ℕ = c.in-Ok.ensures.0 in
-    let size : length c.in-Ok.header ≡ 59 = header_size c.spelling_laws.ensures c.args.root name c.in-Ok.header c.requires.hash c.in-Ok.ensures.1 c.in-Ok.ensures.2 in
+    let size : length c.in-Ok.header ≡ 59 = header_size c.args.root name c.in-Ok.header c.requires.hash c.in-Ok.ensures.1 c.in-Ok.ensures.2 in
     let text : HeaderText ((0 ∷ name) ∷ []) c.as_slice.result.now = subst (HeaderText ((0 ∷ name) ∷ [])) (sym c.as_slice.ensures) c.in-Ok.ensures.2 in
     let one : (let root : CidParts = record c.args.root { version = 1 } in root) ≡ c.args.root =
     λ i. record { version = (sym c.requires.version) i; codec = c.args.root.codec; hash = c.args.root.hash; digest = c.args.root.digest } in
