@@ -305,17 +305,23 @@ const ACCEPTS: &[(&str, &[&str], &str)] = &[
     ("/a", &["text/html"], "NoFormat"),
 ];
 
+/// What a target of the root with this rest and the values of `Accept` ask for.
+fn shown_behind_root(
+    alloc: Global,
+    rest: &str,
+    values: &[&'static str],
+) -> Result<String, AllocError> {
+    let target = format!(in alloc; "/ipfs/@{rest}")?;
+    let target = with_root(alloc, target.as_str())?;
+    let accept = fields_of(alloc, values)?;
+    shown(alloc, asked(alloc, target.as_slice(), &accept))
+}
+
 #[test]
 fn accepts(rt: HostRuntime) -> Result<(), Fail> {
     let alloc = rt.alloc();
     for (rest, values, wanted) in ACCEPTS {
-        let target = format!(in alloc; "/ipfs/@{rest}")?;
-        let target = with_root(alloc, target.as_str())?;
-        let accept = fields_of(alloc, *values)?;
-        assert_eq!(rt;
-            shown(alloc, asked(alloc, target.as_slice(), &accept))?.as_str(),
-            *wanted
-        );
+        assert_eq!(rt; shown_behind_root(alloc, rest, *values)?.as_str(), *wanted);
     }
     Ok(())
 }
@@ -414,13 +420,7 @@ const CONFORMANCE: &[(&str, &[&str], &str)] = &[
 fn conformance(rt: HostRuntime) -> Result<(), Fail> {
     let alloc = rt.alloc();
     for (rest, values, wanted) in CONFORMANCE {
-        let target = format!(in alloc; "/ipfs/@{rest}")?;
-        let target = with_root(alloc, target.as_str())?;
-        let accept = fields_of(alloc, *values)?;
-        assert_eq!(rt;
-            shown(alloc, asked(alloc, target.as_slice(), &accept))?.as_str(),
-            *wanted
-        );
+        assert_eq!(rt; shown_behind_root(alloc, rest, *values)?.as_str(), *wanted);
     }
     Ok(())
 }
