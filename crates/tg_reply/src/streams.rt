@@ -20,6 +20,5 @@ pub fn one_writing()
     ensures one { OneWriting }
     ensures computes { WritingComputes }
 {
-    tg_http::line_laws();
     first_heads();
 }
