@@ -27,6 +27,7 @@ use Rattle.tg_client.specs.ReceivedLaws.{ReceivedLaws}
 use Rattle.tg_client.specs.declared.fault.ClientFault.{ClientFault}
 use Rattle.tg_client.specs.declared.fault.ClientFault.TheVariants as faults
 use Rattle.tg_client.proofs.Told.{IsLeft, all_heard, car_once, left_of}
+use Rattle.tg_verify.specs.WantsLaws.{none_next}
 
 -- ---- by what is wanted
 
@@ -36,9 +37,6 @@ pub record Wants (q : QueryParts) (all : List Section) : Type 0 where
 
 pub never_next : (q : QueryParts) (miss : Miss) (later : List (Task CidParts)) (section : Section) → WantsNext q (stop_at miss ∷ later) section → ⊥
 never_next q miss later section h = let e = h.then_is in absurd (cc e)
-
-pub none_next : (q : QueryParts) (section : Section) → WantsNext q [] section → ⊥
-none_next q section h = let e = h.then_is in absurd (cc e)
 
 -- a refusal at a section
 module _ (q : QueryParts) (limits : LimitNumbers) (all some rest : List Section) (text : List ℕ) (split : all ≡ some ++ rest)

@@ -1,6 +1,6 @@
 -- What a front of bytes gives, the bytes give too.
 use Rattle.std.proofs.Common.{◌≡◌, ℕ, List, [], ◌∷◌, ◌++◌, map, refl, ap, ap₂, sym, ◌∙◌, inl, inr}
-use Rattle.std.proofs.lemmas.List.{append_assoc, append_cancel_left}
+use Rattle.std.proofs.lemmas.List.{append_assoc, append_cancel_left, map-append}
 use Rattle.tg_car.specs.CarText.{HeaderText, SectionsText}
 use Rattle.tg_car.specs.Fronts.{IsInSection}
 use Rattle.tg_car.specs.History.{GoesOn}
@@ -10,7 +10,7 @@ use Rattle.tg_car.specs.declared.section.Section.{Section as CarSection}
 use Rattle.tg_model.specs.Dag.{Section}
 use Rattle.tg_car.specs.LawLemmas.{none_in_header, none_in_section}
 use Rattle.tg_client.specs.Received.{HasReceived, IsCarOf, in_car, out_of_car, sections_given}
-use Rattle.tg_client.proofs.Sections.{back_again, split_out, among_sections}
+use Rattle.tg_client.proofs.Sections.{back_again, among_sections}
 
 -- the sections at the front of bytes are the first of those with which the bytes go on to the inside of a section
 onward : CarLaws → (some all : List CarSection) (d e q r : List ℕ) → SectionsText some e → SectionsText all d → IsInSection r → d ++ r ≡ e ++ q
@@ -43,7 +43,7 @@ begun laws limit bytes given roots header e q some text h whole (inr a) =
     let rests : own.done ++ a.0 ≡ e ++ q =
     append_cancel_left header (own.done ++ a.0) (e ++ q) (ap (λ (l : List ℕ). l ++ (own.done ++ a.0)) (sym headers.0) ∙ both) in
     let behind = onward laws some a.1.sections own.done e q a.0 h own.sections_are a.1.inside rests in
-    (map out_of_car behind.0, among_sections limit bytes given a.0 a.1 ∙ (ap (map out_of_car) behind.1 ∙ split_out some behind.0))
+    (map out_of_car behind.0, among_sections limit bytes given a.0 a.1 ∙ (ap (map out_of_car) behind.1 ∙ map-append out_of_car some behind.0))
 
 going_on : CarLaws → (limit : ℕ) (heard more : List ℕ) (given other : List Event) → GoesOn limit heard given → GoesOn limit (heard ++ more) other
     → (rest : List Section) × (sections_given other ≡ sections_given given ++ rest)

@@ -1,6 +1,5 @@
 -- Sections of CARs and of DAGs, and those that a reader of a CAR gave.
-use Rattle.std.proofs.Common.{◌≡◌, ℕ, ◌+◌, ◌≤◌, List, [], ◌∷◌, ◌++◌, length, map, All, refl, ap, ◌∙◌}
-use Rattle.std.proofs.lemmas.List.Elements.{All-nil, All-cons, All-head, All-tail}
+use Rattle.std.proofs.Common.{◌≡◌, ℕ, ◌+◌, List, [], ◌∷◌, length, map, refl, ap, ◌∙◌}
 use Rattle.tg_car.specs.CarText.{SectionsText}
 use Rattle.tg_car.specs.Faults.{shown}
 use Rattle.tg_car.specs.History.{ArePlaced, IsAmongSections}
@@ -13,27 +12,6 @@ use Rattle.tg_client.specs.Received.{in_car, out_of_car, sections_given}
 pub back_again : (sections : List Section) → map out_of_car (map in_car sections) ≡ sections
 back_again [] = refl
 back_again (s ∷ sections) = ap (λ (l : List Section). s ∷ l) (back_again sections)
-
-pub split_out : (some rest : List CarSection) → map out_of_car (some ++ rest) ≡ map out_of_car some ++ map out_of_car rest
-split_out [] rest = refl
-split_out (s ∷ some) rest = ap (λ (l : List Section). out_of_car s ∷ l) (split_out some rest)
-
--- no block is above the limit
-pub within_out : (limit : ℕ) (sections : List CarSection) → All (λ section. length section.block ≤ limit) sections
-    → All (λ section. length section.block ≤ limit) (map out_of_car sections)
-within_out limit [] all = All-nil (λ (s : Section). length s.block ≤ limit)
-within_out limit (s ∷ sections) all =
-    All-cons (λ (x : Section). length x.block ≤ limit) (out_of_car s) (map out_of_car sections)
-    (All-head (λ (x : CarSection). length x.block ≤ limit) s sections all)
-    (within_out limit sections (All-tail (λ (x : CarSection). length x.block ≤ limit) s sections all))
-
-pub within_in : (limit : ℕ) (sections : List Section) → All (λ section. length section.block ≤ limit) sections
-    → All (λ section. length section.block ≤ limit) (map in_car sections)
-within_in limit [] all = All-nil (λ (s : CarSection). length s.block ≤ limit)
-within_in limit (s ∷ sections) all =
-    All-cons (λ (x : CarSection). length x.block ≤ limit) (in_car s) (map in_car sections)
-    (All-head (λ (x : Section). length x.block ≤ limit) s sections all)
-    (within_in limit sections (All-tail (λ (x : Section). length x.block ≤ limit) s sections all))
 
 -- the sections among what is given of texts of sections
 pub placed_sections : (at : ℕ) (sections : List CarSection) (bytes : List ℕ) (given : List Event) → ArePlaced at sections bytes given

@@ -26,8 +26,9 @@ use Rattle.tg_client.specs.Received.{HasReceived, IsCarOf}
 use Rattle.tg_client.specs.ReceivedLaws.{ReceivedLaws}
 use Rattle.tg_client.specs.declared.fault.ClientFault.{ClientFault}
 use Rattle.tg_client.specs.declared.fault.ClientFault.TheVariants as faults
-use Rattle.tg_client.proofs.Accepting.{fitting_done, fitting_nowhere, never_next, none_next, refused_at, wants_fitting}
+use Rattle.tg_client.proofs.Accepting.{fitting_done, fitting_nowhere, never_next, refused_at, wants_fitting}
 use Rattle.tg_client.proofs.Told.{IsLeft, all_heard, car_once, left_of}
+use Rattle.tg_verify.specs.WantsLaws.{none_next}
 
 -- ---- fronts of lists
 

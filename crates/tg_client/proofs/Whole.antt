@@ -1,7 +1,7 @@
 -- What is received of a whole CAR, and within the limit.
 use Rattle.std.proofs.Common.{◌≡◌, ℕ, ◌+◌, ◌^◌, ◌<◌, ◌≤◌, List, [], ◌∷◌, ◌++◌, length, map, All, refl, ap, sym, subst, ◌∙◌, inl, inr, arith}
 use Rattle.std.proofs.lemmas.List.{append-nil, length-append, length_push}
-use Rattle.std.proofs.lemmas.List.Elements.{All-nil}
+use Rattle.std.proofs.lemmas.List.Elements.{All-map, All-nil}
 use Rattle.tg_varint.specs.Computed.{varint}
 use Rattle.tg_varint.specs.Laws.{SpellingLaws}
 use Rattle.tg_cid.specs.Laws.{LengthLaws}
@@ -9,9 +9,10 @@ use Rattle.tg_car.specs.Fronts.{Declares, IsInSection}
 use Rattle.tg_car.specs.History.{GoesOn}
 use Rattle.tg_car.specs.declared.event.Event.{Event}
 use Rattle.tg_car.specs.declared.event.Event.TheVariants as events
+use Rattle.tg_car.specs.declared.section.Section.{Section as CarSection}
 use Rattle.tg_model.specs.Dag.{Section}
-use Rattle.tg_client.specs.Received.{HasReceived, IsCarOf, in_car, sections_given}
-use Rattle.tg_client.proofs.Sections.{back_again, within_out, within_in, placed_sections, placing, among_sections}
+use Rattle.tg_client.specs.Received.{HasReceived, IsCarOf, in_car, out_of_car, sections_given}
+use Rattle.tg_client.proofs.Sections.{back_again, placed_sections, placing, among_sections}
 
 -- some section begins behind the last one
 nothing_inside : SpellingLaws → LengthLaws → IsInSection []
@@ -62,7 +63,7 @@ whole varints lengths limit bytes sections c all =
             whole = text.whole ∙ ap (λ (l : List ℕ). text.header ++ l) (sym (append-nil text.rest));
             header_is = text.header_is;
             sections_are = text.sections_are;
-            within = within_in limit sections all;
+            within = All-map (λ (x : CarSection). length x.block ≤ limit) in_car sections all;
           };
           given_is = refl;
           placed_are = placed.1;
@@ -79,7 +80,7 @@ given_within limit bytes given (inl b) =
     subst (λ (l : List Section). All (λ section. length section.block ≤ limit) l) (sym (ap sections_given b.nothing_given))
     (All-nil (λ (s : Section). length s.block ≤ limit))
 given_within limit bytes given (inr a) =
-    subst (λ (l : List Section). All (λ section. length section.block ≤ limit) l) (sym (among_sections limit bytes given a.0 a.1)) (within_out limit a.1.sections a.1.reaches.within)
+    subst (λ (l : List Section). All (λ section. length section.block ≤ limit) l) (sym (among_sections limit bytes given a.0 a.1)) (All-map (λ (x : Section). length x.block ≤ limit) out_of_car a.1.sections a.1.reaches.within)
 
 -- no block that was received is above the limit
 pub within : (limit : ℕ) (bytes : List ℕ) (sections : List Section) → HasReceived limit bytes sections
