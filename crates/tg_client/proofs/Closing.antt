@@ -6,7 +6,6 @@ use Rattle.tg_car.specs.CarText.{CarText, SectionsText}
 use Rattle.tg_car.specs.Faults.{HasEndCause}
 use Rattle.tg_car.specs.Fronts.{IsInSection}
 use Rattle.tg_car.specs.History.{IsAmongSections, IsGivenOf, with_end}
-use Rattle.tg_car.specs.LawLemmas.{none_in_header}
 use Rattle.tg_car.specs.Laws.{CarLaws}
 use Rattle.tg_car.specs.State.{ReaderState, StandsFor}
 use Rattle.tg_car.specs.declared.event.Event.{Event}

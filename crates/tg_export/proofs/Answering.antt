@@ -1,17 +1,18 @@
 -- Where a store has the whole traversal, no end hides it.
-use Rattle.std.proofs.Common.{Err, List, None, Ok, Option, Some, ap, length, subst, sym, ℕ, ◌+◌, ◌∙◌, ◌≡◌}
+use Rattle.std.proofs.Common.{Err, List, None, Ok, Option, Some, ap, subst, sym, ℕ, ◌∙◌, ◌≡◌}
 use Rattle.std.specs.Prelude.{IfSome, Result, ⊤}
 use Rattle.tg_cid.specs.Cid.{CidParts}
 use Rattle.tg_export.specs.Cars.{CarEnds, HasCar, HasCarCause, HasOwnMemory, HasResolved, IsOtherwiseWhole, PutWhole}
 use Rattle.tg_export.specs.declared.fault.ExportFault.{ExportFault}
 use Rattle.tg_export.specs.declared.fault.ExportFault.TheVariants as faults
-use Rattle.tg_model.specs.Dag.{Dag, Section}
-use Rattle.tg_model.specs.PathWalk.{PathEnd, Stop, TraversalEnd, bad_block, gone, not_folder, not_reached, not_there, path_walk, spot_at, stopped, whole}
+use Rattle.tg_laws.specs.PathStops.{path_stops}
+use Rattle.tg_model.specs.Dag.{Section}
+use Rattle.tg_model.specs.PathWalk.{Stop, TraversalEnd, bad_block, gone, not_folder, not_reached, not_there, path_walk, spot_at, stopped, whole}
 use Rattle.tg_model.specs.Queries.{QueryParts}
 use Rattle.tg_model.specs.Sound.{top}
 use Rattle.tg_model.specs.StoreView.{opened_to, store_view, with_block}
 use Rattle.tg_model.specs.Stores.{Lookups, Store}
-use Rattle.tg_model.specs.Traversal.{Traversal, from_end, traversal}
+use Rattle.tg_model.specs.Traversal.{Traversal, traversal}
 use Rattle.tg_model.specs.declared.fault.BlockFault.{BlockFault}
 use Rattle.tg_model.specs.declared.stores.BlocksFault.TheVariants as store_faults
 use Rattle.tg_streams.specs.Streams.{Output}
@@ -34,13 +35,9 @@ not_both end stop e f = subst is_whole (sym e ∙ f) tt
 told_of : (told : Option Store) (store : Store) (holds : Store → Type 0) → told ≡ Some store → IfSome told holds → holds store
 told_of told store holds e h = subst (λ (t : Option Store). IfSome t holds) e h
 
--- the path's end is the traversal's
-stopped_path : (q : QueryParts) (d : Dag) (stop : Stop) → (path_walk q.path d).end ≡ not_reached stop → (traversal q d).end ≡ stopped stop
-stopped_path q d stop e = ap (λ (end : PathEnd). (from_end end q.scope q.span (length (path_walk q.path d).sections + 1)).end) e
-
 no_path : (q : QueryParts) (store : Store) (sections : List Section) (stop : Stop) → end_over store q.root q.path ≡ not_reached stop → HasEnded q store max_depth sections whole → ⊥
 no_path q store sections stop e h =
-    not_both (traversal q (store_view store q.root)).end stop (ap (λ (t : Traversal). t.end) h.ends.full) (stopped_path q (store_view store q.root) stop e)
+    not_both (traversal q (store_view store q.root)).end stop (ap (λ (t : Traversal). t.end) h.ends.full) (path_stops q (store_view store q.root) stop e)
 
 -- where the root isn't stored, the path stops at once
 stops_at_root : (path : List (List ℕ)) (store : Store) (root : CidParts) → store root ≡ None → end_over store root path ≡ not_reached (gone (spot_at root 1 top))
