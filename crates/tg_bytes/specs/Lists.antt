@@ -76,6 +76,12 @@ All-split P (x ∷ xs) ys h =
     let rest = All-split P xs ys (All-tail P x (xs ++ ys) h) in
     (All-cons P x xs (All-head P x (xs ++ ys) h) rest.0, rest.1)
 
+-- and of those before its last, and of that
+pub All-split_push : {X : Type 0} (P : X → Type 0) (xs : List X) (x : X) → All P (xs ++ x ∷ []) → All P xs × P x
+All-split_push P xs x h =
+    let parts = All-split P xs (x ∷ []) h in
+    (parts.0, All-head P x [] parts.1)
+
 -- what follows a front of bytes are bytes
 pub rest_bytes : (a rest : List ℕ) → AreBytes (a ++ rest) → AreBytes rest
 rest_bytes a rest are = (All-split (λ (b : ℕ). b < 256) a rest are).1

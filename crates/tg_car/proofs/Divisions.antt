@@ -2,8 +2,8 @@
 use Rattle.std.proofs.Common.{◌≡◌, ℕ, ◌<◌, ◌≤◌, List, [], ◌∷◌, ◌++◌, length, All, refl, ap, ap₂, sym, ◌∙◌, subst, inl, inr, arith}
 use Rattle.std.proofs.lemmas.Bool.{cases_lt}
 use Rattle.std.proofs.lemmas.List.{append_assoc, append-nil, append_cancel_left, length-append, length_push}
-use Rattle.std.proofs.lemmas.List.Elements.{All-head, All-tail}
-use Rattle.tg_bytes.specs.Lists.{longer}
+use Rattle.std.proofs.lemmas.List.Elements.{All-head}
+use Rattle.tg_bytes.specs.Lists.{longer, All-split}
 use Rattle.tg_car.specs.TextLaws.{TextLaws}
 use Rattle.tg_cid.specs.Cid.{CidParts}
 use Rattle.tg_car.specs.declared.section.Section.{Section}
@@ -154,10 +154,6 @@ none_above laws limit (s ∷ us) c number head more middle r h above text all wi
     let most : length s.block ≤ limit = All-head (λ (x : Section). length x.block ≤ limit) s us all in
     omega arith
 
-all_behind : (P : Section → Type 0) (ts us : List Section) → All P (ts ++ us) → All P us
-all_behind P [] us all = all
-all_behind P (t ∷ ts) us all = all_behind P ts us (All-tail P t (ts ++ us) all)
-
 limit_kept : TextLaws → (limit : ℕ) (fed : List ℕ) (given : List Event) (front more : List ℕ) (at : ℕ) → GoesOn limit fed given → fed ≡ front ++ more
     → PassesLimit limit front at → ⊥
 limit_kept laws limit fed given front more at (inl b) e p =
@@ -171,8 +167,8 @@ limit_kept laws limit fed given front more at (inr a) e p =
     let on = going_on laws limit own.roots own.header own.done r a.1.sections p.sections front more (p.size ++ p.name) own.header_is own.sections_are a.1.inside p.reaches (sym own.whole ∙ e) in
     let text : HeadText p.cid p.number (p.size ++ p.name) = record { size = p.size; name = p.name; whole = refl; size_is = p.size_is; name_is = p.name_is } in
     let within : All (λ s. length s.block ≤ limit) on.sections =
-    all_behind (λ (s : Section). length s.block ≤ limit) p.sections on.sections
-    (subst (λ (ss : List Section). All (λ s. length s.block ≤ limit) ss) on.sections_are own.within) in
+    (All-split (λ (s : Section). length s.block ≤ limit) p.sections on.sections
+    (subst (λ (ss : List Section). All (λ s. length s.block ≤ limit) ss) on.sections_are own.within)).1 in
     none_above laws limit on.sections p.cid p.number (p.size ++ p.name) more on.middle r text p.above on.text within a.1.within on.rest
 
 -- bytes that go on have no front that brings a fault

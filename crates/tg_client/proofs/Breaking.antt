@@ -1,7 +1,6 @@
 -- How a body is refused: by the reader of the CAR, or by the verifier.
 use Rattle.std.proofs.Common.{◌≡◌, ℕ, ◌<◌, ◌≤◌, List, [], ◌∷◌, ◌++◌, length, All, Err, refl, ap, sym, subst, ◌∙◌, inl, inr, append_assoc, arith}
 use Rattle.std.proofs.lemmas.List.{length-append}
-use Rattle.std.proofs.lemmas.List.Elements.{All-head, All-tail}
 use Rattle.tg_car.specs.Faults.{Brings, PassesLimit}
 use Rattle.tg_car.specs.History.{IsAmongSections}
 use Rattle.tg_car.specs.declared.event.Event.{Event}
@@ -21,6 +20,7 @@ use Rattle.tg_verify.specs.State.{count_of}
 use Rattle.tg_verify.specs.Taken.{IsThrough, IsUpTo}
 use Rattle.tg_verify.specs.declared.fault.Refusal.{Refusal}
 use Rattle.tg_verify.specs.declared.fault.Refusal.TheVariants as refusals
+use Rattle.tg_bytes.specs.Lists.{All-split_push}
 use Rattle.tg_client.specs.Body.{IsAfterWanted, IsLastWanted, IsStopped, unknown}
 use Rattle.tg_client.specs.Ends.{EndsBy, IsBrokenBy, SaysFor, fault_of_car, fault_of_refusal}
 use Rattle.tg_client.specs.Received.{HasReceived, sections_given}
@@ -70,10 +70,6 @@ last_same (x ∷ a) (y ∷ b) s t e =
     let (rest, last) = last_same a b s t tails in
     (cc (heads, rest), last)
 
-all_last : (P : Section → Type 0) (a : List Section) (s : Section) → All P (a ++ s ∷ []) → P s
-all_last P [] s all = All-head P s [] all
-all_last P (x ∷ a) s all = all_last P a s (All-tail P x (a ++ s ∷ []) all)
-
 -- what is said of a refusal
 pub refusal_says : (q : QueryParts) (d : Dag) (sections : List Section) (text : List ℕ) (fault : Refusal) → AnswersFor q d sections text (Err fault)
     → SaysFor q d sections text (Err (fault_of_refusal fault))
@@ -118,7 +114,7 @@ module _ (laws : AnswerLaws) (received : ReceivedLaws) (q : QueryParts) (limits 
   none_large number h =
       let all = received.within limits.block (heard ++ part) (sections ++ section ∷ []) after in
       let small : length h.section.block ≤ limits.block =
-      all_last (λ (s : Section). length s.block ≤ limits.block) h.taken h.section (subst (λ (l : List Section). All (λ (s : Section). length s.block ≤ limits.block) l) h.received all) in
+      (All-split_push (λ (s : Section). length s.block ≤ limits.block) h.taken h.section (subst (λ (l : List Section). All (λ (s : Section). length s.block ≤ limits.block) l) h.received all)).1 in
       let is : number ≡ limits.block = h.cause.number_is in
       let large : number < length h.section.block = h.cause.large in
       absurd (omega (arith, small, is, large))

@@ -1,41 +1,18 @@
 -- Entries in the order of their names' bytes.
-use Rattle.std.proofs.Common.{◌≡◌, inl, inr, ⊎_elim, ℕ, ◌+◌, ◌<◌, Bool, true, false, List, [], ◌∷◌, length, get_or, refl, ap, ap₂, sym, ◌∙◌, arith}
-use Rattle.std.specs.Cmp.{nat_cmp_is}
+use Rattle.std.proofs.Common.{◌≡◌, ℕ, ◌+◌, ◌<◌, List, [], length, get_or, ap, ap₂, sym, ◌∙◌, arith}
 use Rattle.std.specs.List.{IsDistinct}
 use Rattle.std.specs.List.Sorted.{IsSortedByKey}
-use Rattle.std.specs.Ordering.{ordering_then}
-use Rattle.std.specs.Prelude.{bytes_eq, if◌then◌else◌, map, nat_lt}
-use Rattle.std.specs.declared.cmp.Ordering.{Ordering}
-use Rattle.std.specs.declared.cmp.Ordering.TheVariants.{Less, Equal, Greater}
-use Rattle.std.proofs.lemmas.Bool.{cases_order, le-ltb, lt-ltb}
+use Rattle.std.specs.Prelude.{bytes_eq, map}
+use Rattle.std.specs.declared.cmp.Ordering.TheVariants.{Less}
 use Rattle.std.proofs.lemmas.List.{get_or-map, length-map}
 use Rattle.std.proofs.lemmas.Option.{get_or_from_slice_get, slice_get_within}
 use Rattle.tg_bytes.specs.Order.{bytes_cmp}
 use Rattle.tg_hamt.specs.NameLaws.{other_names}
 use Rattle.tg_model.specs.ImportLayout.{AreSorted}
-use Rattle.tg_model.specs.Texts.{is_before}
 use Rattle.tg_model.specs.declared.kinds.Entry.{Entry}
 use Rattle.tg_model.specs.declared.kinds.NewEntry.{NewEntry}
 use Rattle.tg_bytes.specs.OrderLaws.{other_way}
-
--- ---- one list of bytes before another
-
-before_from_less : (a b : List ℕ) → bytes_cmp a b ≡ Less → is_before a b ≡ true
-before_from_less [] [] less = absurd (cc)
-before_from_less [] (y ∷ b) less = refl
-before_from_less (x ∷ a) [] less = absurd (cc)
-before_from_less (x ∷ a) (y ∷ b) less = elim (cases_order x y) [
-  | inl same ↦
-      let equal : bytes_cmp a b ≡ bytes_cmp (x ∷ a) (y ∷ b) = ap (λ (o : Ordering). ordering_then o (bytes_cmp a b)) (nat_cmp_is x y Equal same) in
-      ap₂ (λ (p q : Bool). if p then true else (if q then false else is_before a b)) (le-ltb x y (omega (arith, same))) (le-ltb y x (omega (arith, same)))
-      ∙ before_from_less a b (equal ∙ less)
-  | inr other ↦ ⊎_elim
-      (λ (lt : x < y). ap (λ (p : Bool). if p then true else (if nat_lt y x then false else is_before a b)) (lt-ltb x y lt))
-      (λ (gt : y < x).
-      let more : Greater ≡ bytes_cmp (x ∷ a) (y ∷ b) = ap (λ (o : Ordering). ordering_then o (bytes_cmp a b)) (nat_cmp_is x y Greater gt) in
-      absurd (cc))
-      other
-]
+use Rattle.tg_model.specs.NameOrder.{before_from_less}
 
 -- ---- entries
 

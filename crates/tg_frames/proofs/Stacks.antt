@@ -1,8 +1,8 @@
 -- The innermost frame's tasks come first.
-use Rattle.std.proofs.Common.{◌≡◌, ap₂, Bool, MatchOption, ℕ, ◌+◌, ◌<◌, All, length, length-append, List, Option, Some, None, [], ◌∷◌, ◌++◌, option_to_list, subst, arith, refl, sym, ap, ◌∙◌, append_assoc, append-nil}
-use Rattle.std.proofs.Math.Seq.{get_or-append_seam}
-use Rattle.std.proofs.lemmas.List.{get_or_append_left, nil_from_length}
+use Rattle.std.proofs.Common.{◌≡◌, ap₂, Bool, MatchOption, ℕ, ◌+◌, All, length, List, Option, Some, None, [], ◌∷◌, ◌++◌, option_to_list, subst, refl, sym, ap, ◌∙◌, append_assoc, append-nil}
+use Rattle.std.proofs.lemmas.List.{nil_from_length}
 use Rattle.tg_cid.specs.Cid.{CidParts}
+use Rattle.tg_bytes.specs.Lists.{All-split_push}
 use Rattle.tg_frames.specs.Frames.{AreVisited, IsDone, IsFrame, IsSomething, IsVisited, children_left, directory_of, frame_tasks, into_tasks, line_of, met_tasks}
 use Rattle.tg_frames.specs.Left.{IsStack, stack_tasks, top_tasks}
 use Rattle.tg_frames.specs.declared.frame.Frame.{Frame}
@@ -22,21 +22,11 @@ popped old new (Some f) e = ap stack_tasks e ∙ innermost new f
 
 -- ---- the frames below are frames
 
-front_all : (xs ys : List Frame) → All IsFrame (xs ++ ys) → All IsFrame xs
-front_all xs ys h k d w =
-    let within : k < length (xs ++ ys) = let e : length (xs ++ ys) ≡ length xs + length ys = length-append xs ys in omega arith in
-    subst (λ (x : Frame). IsFrame x) (get_or_append_left xs ys d k w) (h k d within)
-
-last_all : (xs : List Frame) (f : Frame) → All IsFrame (xs ++ f ∷ []) → IsFrame f
-last_all xs f h =
-    let within : length xs < length (xs ++ f ∷ []) = let e : length (xs ++ f ∷ []) ≡ length xs + 1 = length-append xs (f ∷ []) in omega arith in
-    subst (λ (x : Frame). IsFrame x) (get_or-append_seam xs f [] f) (h (length xs) f within)
-
 pub still_stack : (old new : List Frame) (top : Option Frame) → old ≡ new ++ option_to_list top → (top ≡ None → length new ≡ 0) → All IsFrame old → IsStack top new
 still_stack old new None e h g = nil_from_length new (h refl)
 still_stack old new (Some f) e h g =
     let all : All IsFrame (new ++ f ∷ []) = subst (λ (xs : List Frame). All IsFrame xs) e g in
-    (last_all new f all, front_all new (f ∷ []) all)
+    (let parts = All-split_push IsFrame new f all in (parts.1, parts.0))
 
 pub none_new : (top : Option Frame) (n m : ℕ) (new : List Frame) → MatchOption top ((n ≡ 0) × (m ≡ 0)) (λ f. m + 1 ≡ n) → m ≡ length new → top ≡ None → length new ≡ 0
 none_new None n m new h g e = sym g ∙ h.1

@@ -1,43 +1,16 @@
 -- A list that is sorted by a test, and in which elements that tie keep their order, is the one that an insertion sort gives.
-use Rattle.std.proofs.Common.{◌≡◌, inl, inr, ⊎_elim, ℕ, suc, ◌<◌, ◌≤◌, Bool, true, false, List, [], ◌∷◌, length, get_or, refl, ap, ap₂, sym, ◌∙◌, arith}
-use Rattle.std.specs.Cmp.{IsStrictWeakOrder, nat_cmp_is}
+use Rattle.std.proofs.Common.{◌≡◌, ℕ, suc, ◌<◌, ◌≤◌, Bool, true, false, List, [], ◌∷◌, length, get_or, refl, ap, ap₂, sym, ◌∙◌, arith}
+use Rattle.std.specs.Cmp.{IsStrictWeakOrder}
 use Rattle.std.specs.List.{filter}
 use Rattle.std.specs.List.Sorted.{IsSortedBy, IsStableBy, ties}
-use Rattle.std.specs.Ordering.{is_lt, ordering_then}
-use Rattle.std.specs.Prelude.{⊤, if◌then◌else◌, map, nat_lt, not, ◌&&◌}
-use Rattle.std.specs.declared.cmp.Ordering.{Ordering}
-use Rattle.std.specs.declared.cmp.Ordering.TheVariants.{Less, Equal, Greater}
-use Rattle.std.proofs.lemmas.Bool.{cases_order, le-ltb, lt-ltb}
+use Rattle.std.specs.Ordering.{is_lt}
+use Rattle.std.specs.Prelude.{⊤, if◌then◌else◌, map, not, ◌&&◌}
 use Rattle.std.proofs.lemmas.List.Sorted.{sorted_far}
 use Rattle.tg_bytes.specs.Order.{bytes_cmp}
+use Rattle.tg_model.specs.NameOrder.{before_is_less}
 use Rattle.tg_listing.specs.Listings.{named_entry}
 use Rattle.tg_model.specs.Texts.{Named, inserted, is_before, sorted}
 use Rattle.tg_model.specs.declared.kinds.Entry.{Entry}
-
--- ---- one list of bytes before another
-
-before_is_less : (a b : List ℕ) → is_lt (bytes_cmp a b) ≡ is_before a b
-before_is_less [] [] = refl
-before_is_less [] (y ∷ b) = refl
-before_is_less (x ∷ a) [] = refl
-before_is_less (x ∷ a) (y ∷ b) = elim (cases_order x y) [
-  | inl same ↦
-      let left : is_lt (bytes_cmp a b) ≡ is_lt (bytes_cmp (x ∷ a) (y ∷ b)) = ap (λ (o : Ordering). is_lt (ordering_then o (bytes_cmp a b))) (nat_cmp_is x y Equal same) in
-      let right : is_before (x ∷ a) (y ∷ b) ≡ is_before a b =
-      ap₂ (λ (p q : Bool). if p then true else (if q then false else is_before a b)) (le-ltb x y (omega (arith, same))) (le-ltb y x (omega (arith, same))) in
-      sym left ∙ before_is_less a b ∙ sym right
-  | inr other ↦ ⊎_elim
-      (λ (lt : x < y).
-      let left : true ≡ is_lt (bytes_cmp (x ∷ a) (y ∷ b)) = ap (λ (o : Ordering). is_lt (ordering_then o (bytes_cmp a b))) (nat_cmp_is x y Less lt) in
-      let right : is_before (x ∷ a) (y ∷ b) ≡ true = ap (λ (p : Bool). if p then true else (if nat_lt y x then false else is_before a b)) (lt-ltb x y lt) in
-      sym left ∙ sym right)
-      (λ (gt : y < x).
-      let left : false ≡ is_lt (bytes_cmp (x ∷ a) (y ∷ b)) = ap (λ (o : Ordering). is_lt (ordering_then o (bytes_cmp a b))) (nat_cmp_is x y Greater gt) in
-      let right : is_before (x ∷ a) (y ∷ b) ≡ false =
-      ap₂ (λ (p q : Bool). if p then true else (if q then false else is_before a b)) (le-ltb x y (omega arith)) (lt-ltb y x gt) in
-      sym left ∙ sym right)
-      other
-]
 
 -- ---- sorts by a test
 

@@ -12,6 +12,7 @@ pub mod ImportLayout
 pub mod InnerFaults
 pub mod LimitNumbers
 pub mod Lookup
+pub mod NameOrder
 pub mod PathWalk
 pub mod Placed
 pub mod PlacedLaws

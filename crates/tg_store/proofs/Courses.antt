@@ -1,7 +1,7 @@
 -- How bytes are divided into a header and sections.
 use Rattle.std.proofs.Common.{◌≡◌, ◌≤◌, ℕ, List, [], ◌∷◌, ◌++◌, length, All, refl, ap, ap₂, sym, subst, ◌∙◌, arith}
 use Rattle.std.proofs.lemmas.List.{append-nil, append_assoc, append_cancel_left, length-append}
-use Rattle.std.proofs.lemmas.List.Elements.{All-cons, All-head, All-nil, All-tail}
+use Rattle.std.proofs.lemmas.List.Elements.{All-head, All-tail}
 use Rattle.tg_car.specs.CarText.{HeaderText, SectionText, SectionsText}
 use Rattle.tg_car.specs.Fronts.{IsInSection, Reaches}
 use Rattle.tg_car.specs.Laws.{CarLaws}
@@ -98,10 +98,3 @@ sections_join (s ∷ ss) ts u v h k = (h.0, h.1 ++ v, ap (λ (l : List ℕ). l +
 
 pub one_text : (section : Section) (text : List ℕ) → SectionText section text → SectionsText (section ∷ []) text
 one_text section text h = (text, [], sym (append-nil text), h, refl)
-
--- what holds of all but the last, and of it
-pub all_front : (P : Section → Type 0) (ss : List Section) (s : Section) → All P (ss ++ s ∷ []) → All P ss × P s
-all_front P [] s h = (All-nil P, All-head P s [] h)
-all_front P (t ∷ ss) s h =
-    let rest = all_front P ss s (All-tail P t (ss ++ s ∷ []) h) in
-    (All-cons P t ss (All-head P t (ss ++ s ∷ []) h) rest.0, rest.1)

@@ -19,10 +19,10 @@ use Rattle.tg_car.specs.declared.fault.CarFault.{CarFault}
 use Rattle.tg_car.specs.declared.fault.CarFault.TheVariants as car_faults
 use Rattle.tg_car.specs.declared.section.Section.{Section}
 use Rattle.tg_car.specs.LawLemmas.{none_in_header, none_in_section}
-use Rattle.tg_bytes.specs.Lists.{longer}
+use Rattle.tg_bytes.specs.Lists.{longer, All-split_push}
 use Rattle.tg_store.specs.Attaching.{AboveLimit, HasPackCause, HasStopCause, HasUnfinishedHeader, IsGoodEvent, IsNamed, IsSmall, IsSound, NoSection, WrongDigest, pack_fault, unfinished_header}
 use Rattle.tg_store.specs.Packs.{unfinished_root}
-use Rattle.tg_store.proofs.Courses.{all_front, compare, left_goes_on, right_goes_on, same, same_header, same_reach}
+use Rattle.tg_store.proofs.Courses.{compare, left_goes_on, right_goes_on, same, same_header, same_reach}
 use Rattle.tg_store.proofs.Events.{placed_named, placed_text}
 
 -- CIDs of which none begins another
@@ -302,7 +302,7 @@ module _ (laws : CarLaws) (unfinished : IsUnfinishedHeader) where
         whole = ap (λ (l : List ℕ). header ++ l) (sym (append-nil last.done));
         header_is = a.reaches.header_is;
         sections_are = placed_text (length header) last.before last.done front last.placed;
-        within = (all_front IsSmall last.before section small).0;
+        within = (All-split_push IsSmall last.before section small).0;
       } in
       record {
         front = header ++ last.done;
@@ -318,6 +318,6 @@ module _ (laws : CarLaws) (unfinished : IsUnfinishedHeader) where
           named = placed_named (length header) last.before last.done front last.placed (All-tail IsGoodEvent x front good);
         };
         text_is = last.text_is;
-        small = (all_front IsSmall last.before section small).1;
+        small = (All-split_push IsSmall last.before section small).1;
         wrong = wrong;
       }

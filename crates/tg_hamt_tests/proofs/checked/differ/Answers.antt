@@ -1,27 +1,18 @@
 use Rattle.std.proofs.Common.{◌≡◌, ◌<◌, ℕ, List, false, length, get_or, ap, sym, ◌∙◌, subst, ⊎_elim, arith}
 use Rattle.std.specs.List.{IsDistinct}
 use Rattle.std.specs.Prelude.{bytes_eq, map}
-use Rattle.std.proofs.Math.ListN.{get_or-map}
 use Rattle.std.proofs.Math.Nat.{eq-or-lt_of_le}
-use Rattle.std.proofs.lemmas.List.{get_or-take, get_or_default, length-map, length-take}
+use Rattle.std.proofs.lemmas.List.{get_or-map, get_or-take, get_or_default, length-map, length-take}
 use Rattle.std.proofs.lemmas.Map.Keys.{IsDistinct-from_apart}
 use Rattle.tg_hamt.specs.Order.{no_entry}
 use Rattle.tg_hamt_tests.proofs.checked.differ.Goals as goal
 use Rattle.tg_model.specs.declared.kinds.NewEntry.{NewEntry}
 
-name_of : NewEntry → List ℕ
-name_of e = e.name
-
-name_there : (es : List NewEntry) (i : ℕ) (d : List ℕ) → i < length es → get_or (map (λ (e : NewEntry). e.name) es) i d ≡ (get_or es i no_entry).name
-name_there es i d lt =
-    get_or_default (map (λ (e : NewEntry). e.name) es) i d (no_entry.name) (omega (arith, length-map es (λ (e : NewEntry). e.name)))
-    ∙ get_or-map (λ (e : NewEntry). e.name) es i no_entry
-
 distinct : (es : List NewEntry) → ((j k : ℕ) (d : NewEntry) → j < k → k < length es → bytes_eq (get_or es j d).name (get_or es k d).name ≡ false)
     → IsDistinct bytes_eq (map (λ (e : NewEntry). e.name) es)
 distinct es h = IsDistinct-from_apart bytes_eq (map (λ (e : NewEntry). e.name) es) (λ i j d lt inside.
     let count = length-map es (λ (e : NewEntry). e.name) in
-    rw (name_there es i d (omega (arith, count, inside, lt)), name_there es j d (omega (arith, count, inside))) (h i j no_entry lt (omega (arith, count, inside))))
+    rw (get_or-map (λ (e : NewEntry). e.name) es i no_entry d (omega (arith, count, inside, lt)), get_or-map (λ (e : NewEntry). e.name) es j no_entry d (omega (arith, count, inside))) (h i j no_entry lt (omega (arith, count, inside))))
 
 pub loop-i-preserved : goal.loop-i-preserved
 loop-i-preserved c = λ j k d lt below.
