@@ -1,7 +1,12 @@
 //! Worked folders, by Python's hashlib, and folders that aren't imported.
 ghost use Rattle.std.specs.Prelude.{◌≤◌};
+ghost use Rattle.tg_tree.specs.Tree.{IsFolderOfFiles};
 
-use crate::given::{has_names, numbers};
+use crate::given::{
+    Fails, Left, NONE, add, add_file, folder_of, has_names, in_folder, in_store, log_of,
+};
+use std::alloc::{AllocError, Global};
+use std::rt::HostRuntime;
 use std::test::Fail;
 use tg_bytes::{Bytes, List};
 use tg_cid::Cid;
@@ -10,80 +15,62 @@ use tg_import::{ImportFault, Options, Summary, import};
 use tg_numbered_log::NumberedLog;
 use tg_tree::Tree;
 
-/// What came of an import, how often the folder failed and the store, and how many bytes the blocks have that were kept.
-#[derive(Drop)]
-struct Imported {
-    result: Result<(Cid, Summary), ImportFault>,
-    folder_faults: u64,
-    store_faults: u64,
-    lengths: List<u64>,
-}
-
-/// The entry of that name.
-fn entry(rt: &HostRuntime, name: &[u8], tree: Tree) -> Result<(Bytes, Tree), Fail> {
-    Ok((Bytes::of(rt.alloc(), name)?, tree))
-}
-
-/// A file with these bytes.
-fn file(rt: &HostRuntime, bytes: &[u8]) -> Result<Tree, Fail> {
-    Ok(Tree::File(Bytes::of(rt.alloc(), bytes)?))
-}
-
-/// A folder with this entry alone.
-fn folder_of(rt: &HostRuntime, entry: (Bytes, Tree)) -> Result<Tree, Fail> {
-    let mut entries = List::new(rt.alloc());
-    entries.push(entry)?;
+/// The folder with an empty file and an empty folder.
+fn inner(alloc: Global) -> Result<Tree, AllocError> {
+    let mut entries = List::new(alloc);
+    add(&mut entries, alloc, b"y", Tree::Folder(Vec::new(alloc)))?;
+    add_file(&mut entries, alloc, b"x", b"")?;
     Ok(Tree::Folder(entries.into_vec()))
 }
 
-/// The folder with the files `a` and `b` and the folder `B`, which has an empty file and an empty folder. Its entries stand in no order.
-fn worked(rt: &HostRuntime) -> Result<Tree, Fail> {
-    let mut inner = List::new(rt.alloc());
-    inner.push(entry(rt, b"y", Tree::Folder(Vec::new(rt.alloc())))?)?;
-    inner.push(entry(rt, b"x", file(rt, b"")?)?)?;
-    let mut entries = List::new(rt.alloc());
-    entries.push(entry(rt, b"b", file(rt, b"hello world")?)?)?;
-    entries.push(entry(rt, b"B", Tree::Folder(inner.into_vec()))?)?;
-    entries.push(entry(rt, b"a", file(rt, b"abcd")?)?)?;
+/// The folder with the files `a` and `b` and that folder as `B`. Its entries stand in no order.
+fn worked(alloc: Global) -> Result<Tree, AllocError> {
+    let inner = inner(alloc)?;
+    let mut entries = List::new(alloc);
+    add_file(&mut entries, alloc, b"b", b"hello world")?;
+    add(&mut entries, alloc, b"B", inner)?;
+    add_file(&mut entries, alloc, b"a", b"abcd")?;
     Ok(Tree::Folder(entries.into_vec()))
 }
 
-/// So many folders, one in another.
-fn nested(rt: &HostRuntime, levels: u32) -> Result<Tree, Fail> {
-    let mut tree = Tree::Folder(Vec::new(rt.alloc()));
-    for _ in 1..levels {
-        tree = folder_of(rt, entry(rt, b"d", tree)?)?;
-    }
-    Ok(tree)
-}
+/// What came of an import, and what is left.
+type Imported = (Result<(Cid, Summary), ImportFault>, Left);
 
-/// Imports the folder with this threshold, where these calls of the folder and of the store fail.
-fn import_tree(
-    rt: &HostRuntime,
-    tree: Tree,
+/// Imports the folder with this threshold.
+fn import_into(
+    alloc: Global,
+    mut folder: MemFolder,
+    mut log: NumberedLog,
     shard: u64,
-    folder_fails: Option<u64>,
-    store_fails: Option<u64>,
-) -> Result<Imported, Fail>
+) -> Result<Imported, AllocError>
     requires { shard ≤ 1048576 }
 {
-    if !has_names(&tree) {
-        return Err(Fail::from("the folder"));
-    }
-    let mut folder = MemFolder::new(rt.alloc(), tree, numbers(rt, folder_fails)?);
-    let mut log = NumberedLog::new(rt.alloc(), numbers(rt, store_fails)?);
     let options = Options {
         chunk: 4,
         width: 1024,
         shard,
     };
-    let result = import(rt.alloc(), &mut folder, &mut log, options);
-    Ok(Imported {
-        result,
-        folder_faults: folder.count(),
-        store_faults: log.faults(),
-        lengths: log.lengths()?,
-    })
+    let found = import(alloc, &mut folder, &mut log, options);
+    let left = Left::of(&folder, &log)?;
+    Ok((found, left))
+}
+
+/// Imports the folder of a tree with this threshold, where these calls fail.
+fn import_from(alloc: Global, tree: Tree, shard: u64, fails: Fails) -> Result<Imported, AllocError>
+    requires names { IsFolderOfFiles tree }
+    requires shard { shard ≤ 1048576 }
+{
+    let folder = folder_of(alloc, tree, fails.folder)?;
+    let log = log_of(alloc, fails.store)?;
+    import_into(alloc, folder, log, shard)
+}
+
+/// Imports a tree with this threshold, where these calls fail.
+fn import_tree(alloc: Global, tree: Tree, shard: u64, fails: Fails) -> Result<Imported, Fail> {
+    if shard > 1_048_576 || !has_names(&tree) {
+        return Err(Fail::from("the folder"));
+    }
+    Ok(import_from(alloc, tree, shard, fails)?)
 }
 
 /// A threshold, and what is made of the worked folder: the root, how many folders are sharded, and how many bytes the blocks have that
@@ -97,7 +84,7 @@ struct Row<'a> {
 }
 
 // The root weighs 111, and the folder in it 74.
-const ROWS: [Row<'static>; 3] = [
+const ROWS: &[Row<'static>] = &[
     Row {
         shard: 111,
         root: b"bafybeig3bkf5dyfokuepk56jkouvafv4wnwb3leapatsfleae4b6smxwp4",
@@ -118,88 +105,210 @@ const ROWS: [Row<'static>; 3] = [
     },
 ];
 
+/// Whether the worked folder is imported as a row says.
+fn is_imported(alloc: Global, row: &Row<'_>) -> Result<bool, Fail> {
+    let cid = Cid::from_text(alloc, row.root)?;
+    let (found, left) = import_tree(alloc, worked(alloc)?, row.shard, NONE)?;
+    let want = Summary {
+        files: 3,
+        folders: 3,
+        shards: row.shards,
+        bytes: 15,
+    };
+    let is_so = match &found {
+        Ok((root, summary)) => *root == cid && *summary == want,
+        Err(_) => false,
+    };
+    Ok(is_so && left.failed(0, 0) && left.kept(row.kept))
+}
+
+/// Whether the block with this number stops the import where it isn't kept, behind those before it.
+fn stops_at_block(alloc: Global, row: &Row<'_>, number: usize) -> Result<bool, Fail> {
+    let fails = in_store(number as u64);
+    let (found, left) = import_tree(alloc, worked(alloc)?, row.shard, fails)?;
+    let before = row.kept.get(..number).unwrap_or(&[]);
+    let is_told = is_so(alloc, &found, Want::Fault(b"KeepFault"))?;
+    Ok(is_told && left.failed(0, 1) && left.kept(before))
+}
+
+/// Whether the call of the folder with this number stops the import where it fails.
+fn stops_at_call(alloc: Global, row: &Row<'_>, number: u64) -> Result<bool, Fail> {
+    let fails = in_folder(number);
+    let (found, left) = import_tree(alloc, worked(alloc)?, row.shard, fails)?;
+    let is_told = is_so(alloc, &found, Want::Fault(b"FolderFault"))?;
+    Ok(is_told && left.failed(1, 0))
+}
+
 #[test]
 fn folders_are_imported(rt: HostRuntime) -> Result<(), Fail> {
     for row in ROWS {
-        if row.shard > 1_048_576 {
-            return Err(Fail::from("the row"));
-        }
-        let whole = import_tree(&rt, worked(&rt)?, row.shard, None, None)?;
-        let (root, summary) = whole.result?;
-        assert_eq!(rt; root, Cid::from_text(rt.alloc(), row.root)?);
-        assert_eq!(rt; (summary.files, summary.folders), (3, 3));
-        assert_eq!(rt; (summary.shards, summary.bytes), (row.shards, 15));
-        assert_eq!(rt; whole.lengths.as_slice(), row.kept);
+        assert!(rt; is_imported(rt.alloc(), row)?, "{}", row.shard);
+    }
+    Ok(())
+}
 
-        // Each block that is kept fails in turn, and each call of the folder: three lists, and two reads of each file but the empty one.
-        for (number, _) in row.kept.iter().enumerate() {
-            let stopped = import_tree(&rt, worked(&rt)?, row.shard, None, Some(number as u64))?;
-            assert_eq!(rt; told(&rt, &stopped)?.as_slice(), b"KeepFault".as_slice());
-            assert_eq!(rt; stopped.lengths.as_slice(), &row.kept[..number]);
-        }
-        for number in 0..8 {
-            let stopped = import_tree(&rt, worked(&rt)?, row.shard, Some(number), None)?;
-            assert_eq!(rt; told(&rt, &stopped)?.as_slice(), b"FolderFault".as_slice());
-            assert_eq!(rt; (stopped.folder_faults, stopped.store_faults), (1, 0));
+#[test]
+fn each_block_fails_in_turn(rt: HostRuntime) -> Result<(), Fail> {
+    for row in ROWS {
+        for number in 0..row.kept.len() {
+            assert!(rt;
+                stops_at_block(rt.alloc(), row, number)?,
+                "{} {number}",
+                row.shard
+            );
         }
     }
     Ok(())
 }
 
-/// The fault, and the names of its path with a slash before each; nothing where the folder was imported.
-fn told(rt: &HostRuntime, imported: &Imported) -> Result<Bytes, Fail> {
-    let mut text = Bytes::new(rt.alloc());
-    let Err(fault) = &imported.result else {
-        return Ok(text);
-    };
-    let kind = format!(in rt.alloc(); "{fault}")?;
-    text.push_all(kind.as_bytes())?;
-    let path = match fault {
-        ImportFault::TooDeep { path }
-        | ImportFault::BadName { path }
-        | ImportFault::LongName { path }
-        | ImportFault::NotPlain { path }
-        | ImportFault::TooBig { path } => path.as_slice(),
-        _ => &[],
-    };
-    for name in path {
+// Three lists, and two reads of each file but the empty one.
+#[test]
+fn each_call_fails_in_turn(rt: HostRuntime) -> Result<(), Fail> {
+    for row in ROWS {
+        for number in 0..8 {
+            assert!(rt;
+                stops_at_call(rt.alloc(), row, number)?,
+                "{} {number}",
+                row.shard
+            );
+        }
+    }
+    Ok(())
+}
+
+/// The fault, and the names of its path with a slash before each.
+fn told(alloc: Global, fault: &ImportFault) -> Result<Bytes, AllocError> {
+    let kind = format!(in alloc; "{fault}")?;
+    let mut text = Bytes::of(alloc, kind.as_bytes())?;
+    for name in path_of(fault) {
         text.push_all(b"/")?;
         text.push_all(name.as_slice())?;
     }
     Ok(text)
 }
 
-#[test]
-fn folders_are_refused(rt: HostRuntime) -> Result<(), Fail> {
-    let link = Tree::Symlink(Bytes::of(rt.alloc(), b"a")?);
-    let inside = folder_of(&rt, entry(&rt, b"link", link)?)?;
-    let tree = folder_of(&rt, entry(&rt, b"d", inside)?)?;
-    let refused = import_tree(&rt, tree, 100, None, None)?;
-    assert_eq!(rt;
-        told(&rt, &refused)?.as_slice(),
-        b"NotPlain/d/link".as_slice()
-    );
+/// The path of a fault, or none.
+fn path_of(fault: &ImportFault) -> &[Bytes] {
+    match fault {
+        ImportFault::TooDeep { path }
+        | ImportFault::BadName { path }
+        | ImportFault::LongName { path }
+        | ImportFault::NotPlain { path }
+        | ImportFault::TooBig { path } => path.as_slice(),
+        _ => &[],
+    }
+}
 
+/// A folder with one entry, or two.
+#[derive(Clone, Copy, Debug)]
+enum Odd {
+    /// A folder `d` with a symbolic link.
+    Link,
+    /// A file, and behind it one with a slash in its name.
+    Slash,
+    /// A file whose name has so many bytes.
+    Long(usize),
+    /// So many folders, one in another, the first counted.
+    Deep(u32),
+}
+
+/// A folder with this entry alone.
+fn one_entry(alloc: Global, name: &[u8], tree: Tree) -> Result<Tree, AllocError> {
+    let mut entries = List::new(alloc);
+    add(&mut entries, alloc, name, tree)?;
+    Ok(Tree::Folder(entries.into_vec()))
+}
+
+fn with_link(alloc: Global) -> Result<Tree, AllocError> {
+    let target = Bytes::of(alloc, b"a")?;
+    let inside = one_entry(alloc, b"link", Tree::Symlink(target))?;
+    one_entry(alloc, b"d", inside)
+}
+
+fn with_slash(alloc: Global) -> Result<Tree, AllocError> {
+    let mut entries = List::new(alloc);
+    add_file(&mut entries, alloc, b"a", b"abcd")?;
+    add_file(&mut entries, alloc, b"b/c", b"abcd")?;
+    Ok(Tree::Folder(entries.into_vec()))
+}
+
+fn with_name(alloc: Global, size: usize) -> Result<Tree, AllocError> {
+    let name = vec![in alloc; b'n'; size]?;
+    let bytes = Bytes::of(alloc, b"abcd")?;
+    one_entry(alloc, name.as_slice(), Tree::File(bytes))
+}
+
+fn nested(alloc: Global, levels: u32) -> Result<Tree, AllocError> {
+    let mut tree = Tree::Folder(Vec::new(alloc));
+    for _ in 1..levels {
+        tree = one_entry(alloc, b"d", tree)?;
+    }
+    Ok(tree)
+}
+
+fn odd_tree(alloc: Global, odd: Odd) -> Result<Tree, AllocError> {
+    match odd {
+        Odd::Link => with_link(alloc),
+        Odd::Slash => with_slash(alloc),
+        Odd::Long(size) => with_name(alloc, size),
+        Odd::Deep(levels) => nested(alloc, levels),
+    }
+}
+
+/// What comes of an import.
+#[derive(Clone, Copy, Debug)]
+enum Want {
+    /// So many folders.
+    Folders(u64),
+    /// The fault with its path.
+    Fault(&'static [u8]),
+    /// A fault that has so many bytes with its path.
+    Size(usize),
+}
+
+/// A folder, the threshold, and what comes of its import.
+const ODD: &[(Odd, u64, Want)] = &[
+    (Odd::Link, 100, Want::Fault(b"NotPlain/d/link")),
     // The names are looked at before the file is read.
-    let mut entries = List::new(rt.alloc());
-    entries.push(entry(&rt, b"a", file(&rt, b"abcd")?)?)?;
-    entries.push(entry(&rt, b"b/c", file(&rt, b"abcd")?)?)?;
-    let refused = import_tree(&rt, Tree::Folder(entries.into_vec()), 100, None, None)?;
-    assert_eq!(rt; told(&rt, &refused)?.as_slice(), b"BadName/b/c".as_slice());
-    assert!(rt; refused.lengths.as_slice().is_empty());
+    (Odd::Slash, 100, Want::Fault(b"BadName/b/c")),
+    (Odd::Long(255), 1000, Want::Folders(1)),
+    (Odd::Long(256), 1000, Want::Size(8 + 1 + 256)),
+    (Odd::Deep(32), 1000, Want::Folders(32)),
+    (Odd::Deep(33), 1000, Want::Size(7 + 32 * 2)),
+];
 
-    let longest = [b'n'; 255];
-    let tree = folder_of(&rt, entry(&rt, &longest, file(&rt, b"abcd")?)?)?;
-    let taken = import_tree(&rt, tree, 1000, None, None)?;
-    assert!(rt; taken.result.is_ok());
-    let long = [b'n'; 256];
-    let tree = folder_of(&rt, entry(&rt, &long, file(&rt, b"abcd")?)?)?;
-    let refused = import_tree(&rt, tree, 1000, None, None)?;
-    assert_eq!(rt; told(&rt, &refused)?.as_slice().len(), 8 + 1 + 256);
+/// Whether an import ended so.
+fn is_so(
+    alloc: Global,
+    found: &Result<(Cid, Summary), ImportFault>,
+    want: Want,
+) -> Result<bool, AllocError> {
+    match found {
+        Ok((_, summary)) => Ok(
+            matches!(want, Want::Folders(folders) if folders == summary.folders),
+        ),
+        Err(fault) => {
+            let text = told(alloc, fault)?;
+            Ok(match want {
+                Want::Folders(_) => false,
+                Want::Fault(told) => text.as_slice() == told,
+                Want::Size(size) => text.as_slice().len() == size,
+            })
+        }
+    }
+}
 
-    let taken = import_tree(&rt, nested(&rt, 32)?, 1000, None, None)?;
-    assert_eq!(rt; taken.result?.1.folders, 32);
-    let refused = import_tree(&rt, nested(&rt, 33)?, 1000, None, None)?;
-    assert_eq!(rt; told(&rt, &refused)?.as_slice().len(), 7 + 32 * 2);
+/// Whether the import of a folder ends so, and no block is kept where it is refused.
+fn ends_so(alloc: Global, odd: Odd, shard: u64, want: Want) -> Result<bool, Fail> {
+    let tree = odd_tree(alloc, odd)?;
+    let (found, left) = import_tree(alloc, tree, shard, NONE)?;
+    Ok(is_so(alloc, &found, want)? && (found.is_ok() || left.kept(&[])))
+}
+
+#[test]
+fn odd_folders_end_so(rt: HostRuntime) -> Result<(), Fail> {
+    for (odd, shard, want) in ODD {
+        assert!(rt; ends_so(rt.alloc(), *odd, *shard, *want)?, "{odd:?}");
+    }
     Ok(())
 }

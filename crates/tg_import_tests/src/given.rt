@@ -1,10 +1,41 @@
-//! What the folders and the calls are, of which the tests import.
-ghost use Rattle.std.specs.Prelude.{IsTrue};
+//! What the tests import from and into, and what is left of it.
+ghost use Rattle.std.specs.Prelude.{◌≡◌, IfOk, IsTrue};
 ghost use Rattle.tg_tree.specs.Tree.{IsFolderOfFiles};
 
-use std::test::Fail;
-use tg_bytes::List;
+use std::alloc::{AllocError, Global};
+use tg_bytes::{Bytes, List};
+use tg_files::MemFolder;
+use tg_numbered_log::NumberedLog;
 use tg_tree::{Sort, Tree};
+
+/// The call of the folder that fails, and that of the store, by its number, or none.
+#[derive(Clone, Copy)]
+pub struct Fails {
+    pub folder: Option<u64>,
+    pub store: Option<u64>,
+}
+
+/// No call fails.
+pub const NONE: Fails = Fails {
+    folder: None,
+    store: None,
+};
+
+/// The call of the folder with this number fails.
+pub const fn in_folder(number: u64) -> Fails {
+    Fails {
+        folder: Some(number),
+        store: None,
+    }
+}
+
+/// The call of the store with this number fails.
+pub const fn in_store(number: u64) -> Fails {
+    Fails {
+        folder: None,
+        store: Some(number),
+    }
+}
 
 /// Whether the tree is a folder in which the names differ.
 pub fn has_names(tree: &Tree) -> bool
@@ -13,11 +44,78 @@ pub fn has_names(tree: &Tree) -> bool
     tree.sort() == Sort::Folder && tree.names_differ()
 }
 
+/// Adds an entry.
+pub fn add(
+    entries: &mut List<(Bytes, Tree)>,
+    alloc: Global,
+    name: &[u8],
+    tree: Tree,
+) -> Result<(), AllocError> {
+    let name = Bytes::of(alloc, name)?;
+    entries.push((name, tree))
+}
+
+/// Adds a file with these bytes.
+pub fn add_file(
+    entries: &mut List<(Bytes, Tree)>,
+    alloc: Global,
+    name: &[u8],
+    bytes: &[u8],
+) -> Result<(), AllocError> {
+    let bytes = Bytes::of(alloc, bytes)?;
+    add(entries, alloc, name, Tree::File(bytes))
+}
+
+/// A folder in memory, of which this call fails, or none.
+pub fn folder_of(alloc: Global, tree: Tree, call: Option<u64>) -> Result<MemFolder, AllocError>
+    requires { IsFolderOfFiles tree }
+    ensures { IfOk result (λ folder. folder.tree ≡ tree) }
+{
+    let fails = numbers(alloc, call)?;
+    Ok(MemFolder::new(alloc, tree, fails))
+}
+
+/// An empty log, of which this call fails, or none.
+pub fn log_of(alloc: Global, call: Option<u64>) -> Result<NumberedLog, AllocError> {
+    let fails = numbers(alloc, call)?;
+    Ok(NumberedLog::new(alloc, fails))
+}
+
 /// The numbers of the calls that fail: this one, or none.
-pub fn numbers(rt: &HostRuntime, call: Option<u64>) -> Result<List<u64>, Fail> {
-    let mut numbers = List::new(rt.alloc());
+fn numbers(alloc: Global, call: Option<u64>) -> Result<List<u64>, AllocError> {
+    let mut numbers = List::new(alloc);
     if let Some(number) = call {
         numbers.push(number)?;
     }
     Ok(numbers)
+}
+
+/// What is left of an import: how often the folder failed and the store, and how many bytes the blocks have that were kept.
+#[derive(Drop)]
+pub struct Left {
+    folder_faults: u64,
+    store_faults: u64,
+    lengths: List<u64>,
+}
+
+impl Left {
+    /// What the folder and the log tell.
+    pub fn of(folder: &MemFolder, log: &NumberedLog) -> Result<Left, AllocError> {
+        let lengths = log.lengths()?;
+        Ok(Left {
+            folder_faults: folder.count(),
+            store_faults: log.faults(),
+            lengths,
+        })
+    }
+
+    /// Whether the folder failed so often, and the store so often.
+    pub fn failed(&self, folder: u64, store: u64) -> bool {
+        self.folder_faults == folder && self.store_faults == store
+    }
+
+    /// Whether blocks with so many bytes each were kept.
+    pub fn kept(&self, lengths: &[u64]) -> bool {
+        self.lengths.as_slice() == lengths
+    }
 }
