@@ -1,11 +1,7 @@
 -- What generic code leaves of a pack in memory.
-use Rattle.std.proofs.Common.{◌≡◌, ℕ, List, [], ◌∷◌, ◌++◌, true, Option, Some, None, IfSome, Result, Ok, Err, OnOk}
+use Rattle.std.proofs.Common.{◌≡◌, ℕ, List, [], ◌∷◌, ◌++◌, true, Option, Some, None, IfSome}
 use Rattle.tg_files.specs.Packs.{written}
 use Rattle.tg_files.specs.Packs.PackWrite.{append, attach}
-
-pub on_ok : {T E P Q : Type 0} (r : Result T E) → (P → Q) → OnOk r P → OnOk r Q
-on_ok (Ok x) f h = f h
-on_ok (Err e) f h = tt
 
 -- a pack that was made fresh holds what was put into it since
 pub begun : (old new : Option (List ℕ)) (head body : List ℕ) → new ≡ written old (attach true ∷ append head ∷ append body ∷ []) → IfSome old (λ held. new ≡ Some (head ++ body))

@@ -1,7 +1,7 @@
 use Rattle.std.proofs.Common.{◌∷◌, [], true}
+use Rattle.std.proofs.lemmas.Result.{on_ok_weaker}
 use Rattle.tg_files.specs.Packs.{did_joins}
 use Rattle.tg_files.specs.Packs.PackWrite.{append, attach}
-use Rattle.tg_files_tests.proofs.Begun.{on_ok}
 use Rattle.tg_files_tests.proofs.packs.begin.Goals as goal
 
 pub returns : goal.returns
@@ -11,4 +11,4 @@ returns g c =
     let head = c.args.head.now in
     let body = c.args.body.now in
     let two = did_joins m joins c.args.pack.now c.attach.new.self c.append.new.self (attach true ∷ []) (append head ∷ []) c.in_ok-attach.ensures.did c.in_ok-append.ensures.did in
-    on_ok c.append-2.result (λ last. did_joins m joins c.args.pack.now c.append.new.self c.append-2.new.self (attach true ∷ append head ∷ []) (append body ∷ []) two last) c.append-2.ensures.did
+    on_ok_weaker c.append-2.result (λ last. did_joins m joins c.args.pack.now c.append.new.self c.append-2.new.self (attach true ∷ append head ∷ []) (append body ∷ []) two last) c.append-2.ensures.did
