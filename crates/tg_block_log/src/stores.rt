@@ -8,11 +8,13 @@ ghost use Rattle.tg_model.specs.Stores.{IsNamedBlock, Kept, LookedUp, as_v1, kep
 ghost use Rattle.tg_block_log.specs.BlockLogLaws.{searched_logs};
 ghost use Rattle.tg_block_log.specs.LoggedBlocks.{section_of};
 
+use crate::block_log::BlockLog;
+use std::alloc::Global;
+use std::rt::HostRuntime;
 use std::test::Fail;
 use tg_bytes::Bytes;
-use tg_cid::{Cid, Codec};
+use tg_cid::{Cid, Codec, MAX_BLOCK_LEN};
 use tg_model::{Blocks, BlocksFault, Keep, KeepFault};
-use crate::block_log::BlockLog;
 
 /// A store in which blocks are kept and looked up. A look-up keeps nothing.
 trait KeptBlocks: Blocks + Keep {
@@ -88,29 +90,54 @@ const TWIN: &[u8] = b"\x12\x20\x59\x94\x84\x39\x06\x5f\x29\x61\x9e\xf4\x12\x80\x
 
 const HELLO: &[u8] = b"hello world";
 
-// What is kept under one CID is found under its twin, and nothing else is; what is kept again is found as it was.
+/// Keeps the block under a CID, and says whether it is found there. None is kept under a CID that doesn't name it.
+fn is_found(store: &mut BlockLog, cid: Cid, block: &[u8]) -> Result<bool, BlocksFault> {
+    if block.len() > MAX_BLOCK_LEN || !cid.holds(block) {
+        return Ok(false);
+    }
+    match keep_then_get(store, cid, block)? {
+        Some(found) => Ok(found.as_slice() == block),
+        None => Ok(false),
+    }
+}
+
+/// Whether the store has this block under the CID.
+fn holds(store: &mut BlockLog, cid: &Cid, block: &[u8]) -> Result<bool, BlocksFault> {
+    match store.get(cid)? {
+        Some(found) => Ok(found.as_slice() == block),
+        None => Ok(false),
+    }
+}
+
+/// Whether a further block isn't there before it is kept, and then beside the one under these CIDs.
+fn stands_beside(store: &mut BlockLog, first: &Cid, second: &Cid) -> Result<bool, BlocksFault> {
+    let other = Cid::of_block(Codec::Raw, HELLO);
+    if has_both(store, first, &other)? || !log_one(store, other, HELLO)? {
+        return Ok(false);
+    }
+    Ok(has_both(store, second, &other)? && holds(store, &other, HELLO)?)
+}
+
+/// Whether what is kept under the first CID is found under the second, and not under the same digest with another codec, and what is
+/// kept again is found as it was.
+fn are_twins(alloc: Global, first: Cid, second: Cid) -> Result<bool, BlocksFault> {
+    let raw = Cid::of_block(Codec::Raw, BLOCK);
+    let mut store = BlockLog::new(alloc, 7);
+    if store.get(&first)?.is_some() || !is_found(&mut store, first, BLOCK)? {
+        return Ok(false);
+    }
+    if !is_found(&mut store, second, BLOCK)? || store.get(&raw)?.is_some() {
+        return Ok(false);
+    }
+    stands_beside(&mut store, &first, &second)
+}
+
 #[test]
 fn blocks_are_kept_and_found(rt: HostRuntime) -> Result<(), Fail> {
     let cid = Cid::of_block(Codec::DagPb, BLOCK);
     let twin = Cid::from_bytes(TWIN)?;
     assert_ne!(rt; cid, twin);
-    assert!(rt; twin.holds(BLOCK));
-    for (first, second) in [(cid, twin), (twin, cid)] {
-        let mut store = BlockLog::new(rt.alloc(), 7);
-        assert!(rt; store.get(&first)?.is_none());
-        assert!(rt; first.holds(BLOCK));
-        let found = keep_then_get(&mut store, first, BLOCK)?.ok_or("kept")?;
-        assert_eq!(rt; found.as_slice(), BLOCK);
-        assert!(rt; second.holds(BLOCK));
-        let found = keep_then_get(&mut store, second, BLOCK)?.ok_or("kept again")?;
-        assert_eq!(rt; found.as_slice(), BLOCK);
-        // The same digest under another codec, another digest, and a further block.
-        assert!(rt; store.get(&Cid::of_block(Codec::Raw, BLOCK))?.is_none());
-        let other = Cid::of_block(Codec::Raw, HELLO);
-        assert!(rt; !has_both(&mut store, &first, &other)?);
-        assert!(rt; log_one(&mut store, other, HELLO)?);
-        assert!(rt; has_both(&mut store, &second, &other)?);
-        assert_eq!(rt; store.get(&other)?.ok_or("held")?.as_slice(), HELLO);
-    }
+    assert!(rt; are_twins(rt.alloc(), cid, twin)?);
+    assert!(rt; are_twins(rt.alloc(), twin, cid)?);
     Ok(())
 }

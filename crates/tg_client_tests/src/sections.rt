@@ -5,75 +5,7 @@ use std::rt::HostRuntime;
 use std::test::Fail;
 use tg_cid::Cid;
 use tg_runs::{NONE, run_over_streams};
-use tg_test_dags::{
-    HELLO_SHARD, Shelf, chain, hello_file, hello_node, hello_shard, raw_cid, text_of,
-};
-
-/// A DAG.
-#[derive(Clone, Copy, Debug)]
-enum Shape {
-    /// The empty directory.
-    Empty,
-    /// The file `hello world` in chunks of 4 bytes: the root, and the leaves from 1 on.
-    Hello,
-    /// The leaves of that file behind a root with this data.
-    Sizes(&'static [u8]),
-    /// The leaf `aaaa`, and the file that has it twice.
-    Twins,
-    /// The file `hello world` as a raw block, and the directory that has it as `h`.
-    Folder,
-    /// That block, and the shard that has it as `hello`.
-    OneEntry,
-    /// The empty directory, and a file that has it as its part.
-    FolderAsPart,
-    /// The raw block, and a shard that has it in another slot than that of its name.
-    Misplaced,
-}
-
-/// Stores a DAG, and gives its root.
-fn store(shelf: &mut Shelf, shape: Shape) -> Result<Cid, AllocError> {
-    match shape {
-        Shape::Empty => shelf.node(&[], b"\x08\x01"),
-        Shape::Hello => hello_file(shelf),
-        Shape::Sizes(payload) => sizes(shelf, payload),
-        Shape::Twins => twins(shelf),
-        Shape::Folder => folder(shelf),
-        Shape::OneEntry => hello_shard(shelf),
-        Shape::FolderAsPart => folder_as_part(shelf),
-        Shape::Misplaced => misplaced(shelf),
-    }
-}
-
-fn sizes(shelf: &mut Shelf, payload: &[u8]) -> Result<Cid, AllocError> {
-    let root = hello_node(shelf, payload)?;
-    shelf.raw(b"hell")?;
-    shelf.raw(b"o wo")?;
-    shelf.raw(b"rld")?;
-    Ok(root)
-}
-
-fn twins(shelf: &mut Shelf) -> Result<Cid, AllocError> {
-    let leaf = shelf.raw(b"aaaa")?;
-    shelf.node(
-        &[("", leaf, 4), ("", leaf, 4)],
-        b"\x08\x02\x18\x08\x20\x04\x20\x04",
-    )
-}
-
-fn folder(shelf: &mut Shelf) -> Result<Cid, AllocError> {
-    let file = shelf.raw(b"hello world")?;
-    shelf.node(&[("h", file, 11)], b"\x08\x01")
-}
-
-fn folder_as_part(shelf: &mut Shelf) -> Result<Cid, AllocError> {
-    let folder = shelf.node(&[], b"\x08\x01")?;
-    shelf.node(&[("", folder, 4)], b"\x08\x02\x18\x04\x20\x04")
-}
-
-fn misplaced(shelf: &mut Shelf) -> Result<Cid, AllocError> {
-    let leaf = shelf.raw(b"hello world")?;
-    shelf.node(&[("CBhellp", leaf, 11)], HELLO_SHARD)
-}
+use tg_test_dags::{Shape, Shelf, chain, chain_down, text_of};
 
 /// What is asked of a DAG: the path behind its root, and the options.
 type Asked = (&'static str, &'static [&'static str]);
@@ -153,7 +85,7 @@ const ANSWERS: &[Row] = &[
     ),
     (Shape::Twins, &[1, 0, 0], FILE, 0, b"aaaaaaaa", ""),
     (
-        Shape::Folder,
+        Shape::SmallFolder,
         &[1, 0],
         ("", &["--scope", "all"]),
         0,
@@ -267,7 +199,7 @@ fn word_of(alloc: Global, root: Cid, path: &str) -> Result<String, AllocError> {
 fn ends_so(alloc: Global, row: &Row, piece: usize) -> Result<bool, AllocError> {
     let (shape, indexes, (path, options), status, out, err) = *row;
     let mut shelf = Shelf::new(alloc);
-    let root = store(&mut shelf, shape)?;
+    let root = shape.store(&mut shelf)?;
     let car = car_of(alloc, &root, &shelf, indexes)?;
     let word = word_of(alloc, root, path)?;
     let mut words = Vec::new(alloc);
@@ -315,7 +247,7 @@ const SIZES: &[(Shape, &[usize], usize)] = &[
 fn cars_have_these_sizes(rt: HostRuntime) -> Result<(), Fail> {
     for (shape, indexes, size) in SIZES {
         let mut shelf = Shelf::new(rt.alloc());
-        let root = store(&mut shelf, *shape)?;
+        let root = shape.store(&mut shelf)?;
         let car = car_of(rt.alloc(), &root, &shelf, indexes)?;
         assert_eq!(rt; car.as_slice().len(), *size, "{shape:?}");
     }
@@ -332,10 +264,7 @@ fn deep_ends_so(
 ) -> Result<bool, AllocError> {
     let mut shelf = Shelf::new(alloc);
     let root = chain(&mut shelf, nodes)?;
-    let mut indexes = Vec::new(alloc);
-    for index in 0..=nodes as usize {
-        indexes.push((nodes as usize).saturating_sub(index))?;
-    }
+    let indexes = chain_down(alloc, nodes)?;
     let car = car_of(alloc, &root, &shelf, indexes.as_slice())?;
     let word = text_of(alloc, root)?;
     let done = run_over_streams(alloc, &["verify", word.as_str()], car.as_slice(), 64, NONE)?;

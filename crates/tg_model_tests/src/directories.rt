@@ -1,73 +1,402 @@
 //! Directories, shards and symbolic links: paths, listings and bundles.
-use crate::expected::{PathEnd, RangeRow, Row, expect_below, expect_ranges, expect_rows};
+use crate::expected::{PathEnd, Row, are_given, gives};
+use crate::rows::{RangeRow, ShapeRow, has_range, has_row};
 use std::alloc::Global;
+use std::rt::HostRuntime;
 use std::test::Fail;
 use tg_cid::Cid;
 use tg_model::{Scope, SpanFrom};
 use tg_oracle::{End, Sent, car_size, evaluate, scoped_query};
-use tg_test_dags::{
-    Shelf, child_shard, hello_folder, hello_root, hello_shard, parent_shard, raw_cid, text_of,
-};
+use tg_test_dags::{Shape, Shelf, child_shard, hello_root, raw_cid, text_of};
 
 const LISTING: &[u8] = b"bafybeighmzuokpuzyho2ninhgybpych6atkhbn2o57c3hlyer2hntezxly h\n";
 
 const BUNDLE: &[u8] = b"dir /\nfile 11 /h\nhello world\n";
 
-const FOLDER: &[Row<'static>] = &[
+const HELLO_LISTING: &[u8] = b"bafkreifzjut3te2nhyekklss27nh3k72ysco7y32koao5eei66wof36n5e hello\n";
+
+const TWO_LEVELS_LISTING: &[u8] = b"bafkreicoa5aikyv63ofwbtqfyhpm7y5nc23semewpxqb6zalpzdstne7zy g\n\
+        bafkreidlq2zhh7zu7tqz224aj37vup2xi6w2j2vcf4outqa6klo3pb23jm m\n\
+        bafkreiguonpdujs6c3xoap2zogfzwxidagoapwfwyupzbwr2mzxoye5lgu q\n";
+
+// `cm` has the slots BC and A7, `fbj` has BC and 5D, `zz` has 98.
+const ROWS: &[ShapeRow] = &[
     (
+        Shape::Folder,
+        &["h"],
+        Scope::Entity,
+        &[4, 0, 1, 2, 3],
+        PathEnd::Whole,
+        b"hello world",
+    ),
+    (
+        Shape::Folder,
         &["h"],
         Scope::All,
         &[4, 0, 1, 2, 3],
         PathEnd::Whole,
         b"hello world",
     ),
-    (&[], Scope::Entity, &[4], PathEnd::Whole, LISTING),
-    (&[], Scope::All, &[4, 0, 1, 2, 3], PathEnd::Whole, BUNDLE),
-    (&["x"], Scope::Block, &[4], PathEnd::NotThere(0), b""),
-    (&["x"], Scope::Entity, &[4], PathEnd::NotThere(0), b""),
-    (&["x", "h"], Scope::All, &[4], PathEnd::NotThere(0), b""),
     (
+        Shape::Folder,
+        &[],
+        Scope::Entity,
+        &[4],
+        PathEnd::Whole,
+        LISTING,
+    ),
+    (
+        Shape::Folder,
+        &[],
+        Scope::All,
+        &[4, 0, 1, 2, 3],
+        PathEnd::Whole,
+        BUNDLE,
+    ),
+    (
+        Shape::Folder,
+        &["x"],
+        Scope::Block,
+        &[4],
+        PathEnd::NotThere(0),
+        b"",
+    ),
+    (
+        Shape::Folder,
+        &["x"],
+        Scope::Entity,
+        &[4],
+        PathEnd::NotThere(0),
+        b"",
+    ),
+    (
+        Shape::Folder,
+        &["x", "h"],
+        Scope::All,
+        &[4],
+        PathEnd::NotThere(0),
+        b"",
+    ),
+    (
+        Shape::Folder,
         &["h", "x"],
         Scope::Block,
         &[4, 0],
         PathEnd::NotFolder(1),
         b"",
     ),
-    (&["h", "x"], Scope::All, &[4, 0], PathEnd::NotFolder(1), b""),
+    (
+        Shape::Folder,
+        &["h", "x"],
+        Scope::All,
+        &[4, 0],
+        PathEnd::NotFolder(1),
+        b"",
+    ),
+    (
+        Shape::Empty,
+        &[],
+        Scope::Block,
+        &[0],
+        PathEnd::Whole,
+        b"\x0a\x02\x08\x01",
+    ),
+    (Shape::Empty, &[], Scope::Entity, &[0], PathEnd::Whole, b""),
+    (
+        Shape::Empty,
+        &[],
+        Scope::All,
+        &[0],
+        PathEnd::Whole,
+        b"dir /\n",
+    ),
+    (
+        Shape::Empty,
+        &["x"],
+        Scope::All,
+        &[0],
+        PathEnd::NotThere(0),
+        b"",
+    ),
+    (
+        Shape::OneEntry,
+        &[],
+        Scope::Entity,
+        &[1],
+        PathEnd::Whole,
+        HELLO_LISTING,
+    ),
+    (
+        Shape::OneEntry,
+        &[],
+        Scope::All,
+        &[1, 0],
+        PathEnd::Whole,
+        b"dir /\nfile 11 /hello\nhello world\n",
+    ),
+    (
+        Shape::OneEntry,
+        &["hello"],
+        Scope::Entity,
+        &[1, 0],
+        PathEnd::Whole,
+        b"hello world",
+    ),
+    (
+        Shape::OneEntry,
+        &["hellp"],
+        Scope::Entity,
+        &[1],
+        PathEnd::NotThere(0),
+        b"",
+    ),
+    (
+        Shape::OneEntry,
+        &["hello", "x"],
+        Scope::Entity,
+        &[1, 0],
+        PathEnd::NotFolder(1),
+        b"",
+    ),
+    (
+        Shape::TwoLevels,
+        &[],
+        Scope::Entity,
+        &[4, 0],
+        PathEnd::Whole,
+        TWO_LEVELS_LISTING,
+    ),
+    (
+        Shape::TwoLevels,
+        &[],
+        Scope::All,
+        &[4, 1, 0, 2, 3],
+        PathEnd::Whole,
+        b"dir /\nfile 1 /m\n1\nfile 1 /q\n2\nfile 1 /g\n3\n",
+    ),
+    (
+        Shape::TwoLevels,
+        &["m"],
+        Scope::Entity,
+        &[4, 1],
+        PathEnd::Whole,
+        b"1",
+    ),
+    (
+        Shape::TwoLevels,
+        &["q"],
+        Scope::Entity,
+        &[4, 0, 2],
+        PathEnd::Whole,
+        b"2",
+    ),
+    (
+        Shape::TwoLevels,
+        &["g"],
+        Scope::Block,
+        &[4, 0, 3],
+        PathEnd::Whole,
+        b"3",
+    ),
+    (
+        Shape::TwoLevels,
+        &["q", "x"],
+        Scope::All,
+        &[4, 0, 2],
+        PathEnd::NotFolder(1),
+        b"",
+    ),
+    (
+        Shape::TwoLevels,
+        &["cm"],
+        Scope::All,
+        &[4, 0],
+        PathEnd::NotThere(0),
+        b"",
+    ),
+    (
+        Shape::TwoLevels,
+        &["fbj"],
+        Scope::All,
+        &[4, 0],
+        PathEnd::NotThere(0),
+        b"",
+    ),
+    (
+        Shape::TwoLevels,
+        &["zz"],
+        Scope::All,
+        &[4],
+        PathEnd::NotThere(0),
+        b"",
+    ),
+    (
+        Shape::Link,
+        &[],
+        Scope::Entity,
+        &[0],
+        PathEnd::Whole,
+        b"target",
+    ),
+    (
+        Shape::Link,
+        &[],
+        Scope::All,
+        &[0],
+        PathEnd::Whole,
+        b"target",
+    ),
+    (
+        Shape::Link,
+        &[],
+        Scope::Block,
+        &[0],
+        PathEnd::Whole,
+        b"\x0a\x0a\x08\x04\x12\x06target",
+    ),
+    (
+        Shape::Links,
+        &[],
+        Scope::All,
+        &[3, 0, 1, 2],
+        PathEnd::Whole,
+        b"dir /\nlink 6 /s\ntarget\nlink 0 /t\n\nfile 1 /u\nx\n",
+    ),
+    (
+        Shape::Links,
+        &["s", "x"],
+        Scope::All,
+        &[3, 0],
+        PathEnd::NotFolder(1),
+        b"",
+    ),
 ];
 
-// A range of a directory is ignored.
-const FOLDER_RANGE: &[RangeRow<'static>] = &[(SpanFrom::Start(5), Some(6), &[4], 146, LISTING)];
-
-const ENTRY_RANGE: &[RangeRow<'static>] = &[(SpanFrom::Start(5), Some(6), &[4, 0, 2], 369, b" w")];
+const RANGES: &[RangeRow] = &[
+    // A range of a directory, of a shard or of a symbolic link is ignored. The shard's block has 88 bytes.
+    (
+        Shape::Folder,
+        &[],
+        (SpanFrom::Start(5), Some(6)),
+        &[4],
+        146,
+        LISTING,
+    ),
+    (
+        Shape::Folder,
+        &["h"],
+        (SpanFrom::Start(5), Some(6)),
+        &[4, 0, 2],
+        369,
+        b" w",
+    ),
+    (
+        Shape::OneEntry,
+        &[],
+        (SpanFrom::Start(0), Some(0)),
+        &[1],
+        184,
+        HELLO_LISTING,
+    ),
+    (
+        Shape::TwoLevels,
+        &[],
+        (SpanFrom::Last(1), None),
+        &[4, 0],
+        380,
+        TWO_LEVELS_LISTING,
+    ),
+    (
+        Shape::Link,
+        &[],
+        (SpanFrom::Start(1), Some(2)),
+        &[0],
+        108,
+        b"target",
+    ),
+    (Shape::Empty, &[], (SpanFrom::Last(1), None), &[0], 100, b""),
+];
 
 #[test]
-fn a_directory(rt: HostRuntime) -> Result<(), Fail> {
-    let mut shelf = Shelf::new(rt.alloc());
-    let root = hello_folder(&mut shelf)?;
-    assert_eq!(rt;
-        text_of(rt.alloc(), root)?.as_str(),
-        "bafybeihtdtunwt2sx7qvwdcknhnwretbb4zmjieise77ebt4pqxbabimfy"
-    );
-    let asked: (&[&str], Scope) = (&["h"], Scope::Entity);
-    let size = expect_below(
-        &rt,
-        &shelf,
-        root,
-        asked,
-        &[4, 0, 1, 2, 3],
-        &End::Whole,
-        b"hello world",
-    )?;
-    assert_eq!(rt; size, 450);
-    expect_rows(&rt, &shelf, root, FOLDER)?;
-    expect_ranges(&rt, &shelf, root, &[], FOLDER_RANGE)?;
-    expect_ranges(&rt, &shelf, root, &["h"], ENTRY_RANGE)
+fn rows_of_directories(rt: HostRuntime) -> Result<(), Fail> {
+    for row in ROWS {
+        assert!(rt; has_row(rt.alloc(), row)?, "{row:?}");
+    }
+    Ok(())
 }
 
 #[test]
-fn a_bundle_that_breaks_off(rt: HostRuntime) -> Result<(), Fail> {
-    let mut shelf = Shelf::new(rt.alloc());
+fn ranges_of_directories(rt: HostRuntime) -> Result<(), Fail> {
+    for row in RANGES {
+        assert!(rt; has_range(rt.alloc(), row)?, "{row:?}");
+    }
+    Ok(())
+}
+
+/// A DAG, a path and a scope in it, and the size of the CAR.
+type SizeRow = (Shape, &'static [&'static str], Scope, u64);
+
+const SIZES: &[SizeRow] = &[
+    (Shape::Folder, &["h"], Scope::Entity, 450),
+    (Shape::Empty, &[], Scope::Block, 100),
+    (Shape::Twins, &[], Scope::Entity, 277),
+];
+
+/// Whether a CAR has this size.
+fn has_size(alloc: Global, row: &SizeRow) -> Result<bool, Fail> {
+    let (shape, path, scope, size) = *row;
+    let mut shelf = Shelf::new(alloc);
+    let root = shape.store(&mut shelf)?;
+    let query = scoped_query(alloc, root, path, scope)?;
+    let found = evaluate(alloc, shelf.blocks.as_slice(), &query)?;
+    Ok(car_size(found.sent.as_slice()) == size)
+}
+
+#[test]
+fn sizes_of_cars(rt: HostRuntime) -> Result<(), Fail> {
+    for row in SIZES {
+        assert!(rt; has_size(rt.alloc(), row)?, "{row:?}");
+    }
+    Ok(())
+}
+
+// The roots of DAGs, by Python's hashlib.
+const ROOTS: &[(Shape, &str)] = &[
+    (
+        Shape::Folder,
+        "bafybeihtdtunwt2sx7qvwdcknhnwretbb4zmjieise77ebt4pqxbabimfy",
+    ),
+    (
+        Shape::Empty,
+        "bafybeiczsscdsbs7ffqz55asqdf3smv6klcw3gofszvwlyarci47bgf354",
+    ),
+    (
+        Shape::TwoLevels,
+        "bafybeihz4si63rhffhi7vb4ymotyint2trrwdsdxmy26cxe2knvvws5tma",
+    ),
+    (
+        Shape::Hello,
+        "bafybeighmzuokpuzyho2ninhgybpych6atkhbn2o57c3hlyer2hntezxly",
+    ),
+];
+
+/// Whether the root of a DAG has this text.
+fn has_root(alloc: Global, shape: Shape, want: &str) -> Result<bool, Fail> {
+    let root = shape.store(&mut Shelf::new(alloc))?;
+    Ok(text_of(alloc, root)?.as_str() == want)
+}
+
+#[test]
+fn roots_of_dags(rt: HostRuntime) -> Result<(), Fail> {
+    for (shape, want) in ROOTS {
+        assert!(rt; has_root(rt.alloc(), *shape, want)?, "{shape:?}");
+    }
+    Ok(())
+}
+
+/// Whether a bundle breaks off behind the first of a file's leaves, which alone is stored.
+fn breaks_off(alloc: Global) -> Result<bool, Fail> {
+    let mut shelf = Shelf::new(alloc);
     let file = hello_root(&mut shelf)?;
     let root = shelf.node(&[("h", file, 155)], b"\x08\x01")?;
     shelf.raw(b"hell")?;
@@ -76,30 +405,43 @@ fn a_bundle_that_breaks_off(rt: HostRuntime) -> Result<(), Fail> {
         depth: 3,
     };
     let text = b"dir /\nfile 11 /h\nhell";
-    let asked: (&[&str], Scope) = (&[], Scope::All);
-    expect_below(&rt, &shelf, root, asked, &[1, 0, 2], &end, text)?;
-    Ok(())
+    gives(&shelf, root, (&[], Scope::All), &[1, 0, 2], &end, text)
 }
 
-// Each CAR has 100 bytes.
-const EMPTY: &[Row<'static>] = &[
-    (&[], Scope::Block, &[0], PathEnd::Whole, b"\x0a\x02\x08\x01"),
-    (&[], Scope::Entity, &[0], PathEnd::Whole, b""),
-    (&[], Scope::All, &[0], PathEnd::Whole, b"dir /\n"),
-    (&["x"], Scope::All, &[0], PathEnd::NotThere(0), b""),
+// A path and a scope in the shard without its child, the blocks that are sent, and the text: a listing gives no line, and a bundle what
+// comes before.
+const NO_CHILD: &[(&[&str], Scope, &[usize], &[u8])] = &[
+    (&[], Scope::Entity, &[3], b""),
+    (&["q"], Scope::All, &[3], b""),
+    (&[], Scope::All, &[3, 0], b"dir /\nfile 1 /m\n1\n"),
 ];
 
+/// Whether the child is wanted.
+fn child_is_wanted(
+    alloc: Global,
+    asked: (&[&str], Scope),
+    indexes: &[usize],
+    text: &[u8],
+) -> Result<bool, Fail> {
+    let mut shelf = Shelf::new(alloc);
+    let root = Shape::NoChild.store(&mut shelf)?;
+    let end = End::Gone {
+        cid: child_shard(&mut Shelf::new(alloc))?,
+        depth: 2,
+    };
+    gives(&shelf, root, asked, indexes, &end, text)
+}
+
 #[test]
-fn an_empty_directory(rt: HostRuntime) -> Result<(), Fail> {
-    let mut shelf = Shelf::new(rt.alloc());
-    let root = shelf.node(&[], b"\x08\x01")?;
-    assert_eq!(rt;
-        text_of(rt.alloc(), root)?.as_str(),
-        "bafybeiczsscdsbs7ffqz55asqdf3smv6klcw3gofszvwlyarci47bgf354"
-    );
-    expect_rows(&rt, &shelf, root, EMPTY)?;
-    let rows: [RangeRow<'_>; 1] = [(SpanFrom::Last(1), None, &[0], 100, b"")];
-    expect_ranges(&rt, &shelf, root, &[], &rows)
+fn blocks_that_are_gone(rt: HostRuntime) -> Result<(), Fail> {
+    assert!(rt; breaks_off(rt.alloc())?);
+    for (path, scope, indexes, text) in NO_CHILD {
+        assert!(rt;
+            child_is_wanted(rt.alloc(), (path, *scope), indexes, text)?,
+            "{path:?}"
+        );
+    }
+    Ok(())
 }
 
 // The names are those of a directory with `a b`, `é` and `+`, of which `a b` is a directory with `%` and `-._~`.
@@ -126,174 +468,20 @@ const ESCAPED: &[Row<'static>] = &[
     (&["\u{e9}"], Scope::All, &[2, 0], PathEnd::Whole, b"x"),
 ];
 
-#[test]
-fn names_that_are_escaped(rt: HostRuntime) -> Result<(), Fail> {
-    let mut shelf = Shelf::new(rt.alloc());
+/// Whether the rows are given of that directory.
+fn are_escaped(alloc: Global) -> Result<bool, Fail> {
+    let mut shelf = Shelf::new(alloc);
     let leaf = shelf.raw(b"x")?;
     let inner = shelf.node(&[("%", leaf, 1), ("-._~", leaf, 1)], b"\x08\x01")?;
     let links = [("a b", inner, 1), ("\u{e9}", leaf, 1), ("+", leaf, 1)];
     let outer = shelf.node(&links, b"\x08\x01")?;
-    expect_rows(&rt, &shelf, outer, ESCAPED)
-}
-
-const HELLO_LISTING: &[u8] = b"bafkreifzjut3te2nhyekklss27nh3k72ysco7y32koao5eei66wof36n5e hello\n";
-
-const ONE_ENTRY: &[Row<'static>] = &[
-    (&[], Scope::Entity, &[1], PathEnd::Whole, HELLO_LISTING),
-    (
-        &[],
-        Scope::All,
-        &[1, 0],
-        PathEnd::Whole,
-        b"dir /\nfile 11 /hello\nhello world\n",
-    ),
-    (
-        &["hello"],
-        Scope::Entity,
-        &[1, 0],
-        PathEnd::Whole,
-        b"hello world",
-    ),
-    (&["hellp"], Scope::Entity, &[1], PathEnd::NotThere(0), b""),
-    (
-        &["hello", "x"],
-        Scope::Entity,
-        &[1, 0],
-        PathEnd::NotFolder(1),
-        b"",
-    ),
-];
-
-// A range of a shard is ignored; its block has 88 bytes.
-const SHARD_RANGE: &[RangeRow<'static>] = &[(
-    SpanFrom::Start(0),
-    Some(0),
-    &[1],
-    184,
-    HELLO_LISTING,
-)];
-
-#[test]
-fn a_shard_of_one_entry(rt: HostRuntime) -> Result<(), Fail> {
-    let mut shelf = Shelf::new(rt.alloc());
-    let shard = hello_shard(&mut shelf)?;
-    expect_rows(&rt, &shelf, shard, ONE_ENTRY)?;
-    expect_ranges(&rt, &shelf, shard, &[], SHARD_RANGE)
-}
-
-const TWO_LEVELS_LISTING: &[u8] = b"bafkreicoa5aikyv63ofwbtqfyhpm7y5nc23semewpxqb6zalpzdstne7zy g\n\
-        bafkreidlq2zhh7zu7tqz224aj37vup2xi6w2j2vcf4outqa6klo3pb23jm m\n\
-        bafkreiguonpdujs6c3xoap2zogfzwxidagoapwfwyupzbwr2mzxoye5lgu q\n";
-
-// `cm` has the slots BC and A7, `fbj` has BC and 5D, `zz` has 98.
-const TWO_LEVELS: &[Row<'static>] = &[
-    (
-        &[],
-        Scope::Entity,
-        &[4, 0],
-        PathEnd::Whole,
-        TWO_LEVELS_LISTING,
-    ),
-    (
-        &[],
-        Scope::All,
-        &[4, 1, 0, 2, 3],
-        PathEnd::Whole,
-        b"dir /\nfile 1 /m\n1\nfile 1 /q\n2\nfile 1 /g\n3\n",
-    ),
-    (&["m"], Scope::Entity, &[4, 1], PathEnd::Whole, b"1"),
-    (&["q"], Scope::Entity, &[4, 0, 2], PathEnd::Whole, b"2"),
-    (&["g"], Scope::Block, &[4, 0, 3], PathEnd::Whole, b"3"),
-    (
-        &["q", "x"],
-        Scope::All,
-        &[4, 0, 2],
-        PathEnd::NotFolder(1),
-        b"",
-    ),
-    (&["cm"], Scope::All, &[4, 0], PathEnd::NotThere(0), b""),
-    (&["fbj"], Scope::All, &[4, 0], PathEnd::NotThere(0), b""),
-    (&["zz"], Scope::All, &[4], PathEnd::NotThere(0), b""),
-];
-
-const TWO_LEVELS_RANGE: &[RangeRow<'static>] = &[(
-    SpanFrom::Last(1),
-    None,
-    &[4, 0],
-    380,
-    TWO_LEVELS_LISTING,
-)];
-
-#[test]
-fn a_shard_with_a_child(rt: HostRuntime) -> Result<(), Fail> {
-    let mut shelf = Shelf::new(rt.alloc());
-    let child = child_shard(&mut shelf)?;
-    let root = parent_shard(&mut shelf, child)?;
-    assert_eq!(rt;
-        text_of(rt.alloc(), root)?.as_str(),
-        "bafybeihz4si63rhffhi7vb4ymotyint2trrwdsdxmy26cxe2knvvws5tma"
-    );
-    expect_rows(&rt, &shelf, root, TWO_LEVELS)?;
-    expect_ranges(&rt, &shelf, root, &[], TWO_LEVELS_RANGE)
+    are_given(&shelf, outer, ESCAPED)
 }
 
 #[test]
-fn a_shard_without_its_child(rt: HostRuntime) -> Result<(), Fail> {
-    let mut shelf = Shelf::new(rt.alloc());
-    let child = child_shard(&mut Shelf::new(rt.alloc()))?;
-    let root = parent_shard(&mut shelf, child)?;
-    let end = End::Gone {
-        cid: child,
-        depth: 2,
-    };
-    // A listing gives no line, and a bundle what comes before.
-    let asked: (&[&str], Scope) = (&[], Scope::Entity);
-    expect_below(&rt, &shelf, root, asked, &[3], &end, b"")?;
-    let asked: (&[&str], Scope) = (&["q"], Scope::All);
-    expect_below(&rt, &shelf, root, asked, &[3], &end, b"")?;
-    let text = b"dir /\nfile 1 /m\n1\n";
-    let asked: (&[&str], Scope) = (&[], Scope::All);
-    expect_below(&rt, &shelf, root, asked, &[3, 0], &end, text)?;
+fn names_that_are_escaped(rt: HostRuntime) -> Result<(), Fail> {
+    assert!(rt; are_escaped(rt.alloc())?);
     Ok(())
-}
-
-const LINK: &[Row<'static>] = &[
-    (&[], Scope::Entity, &[0], PathEnd::Whole, b"target"),
-    (&[], Scope::All, &[0], PathEnd::Whole, b"target"),
-    (
-        &[],
-        Scope::Block,
-        &[0],
-        PathEnd::Whole,
-        b"\x0a\x0a\x08\x04\x12\x06target",
-    ),
-];
-
-// A range of a symbolic link is ignored.
-const LINK_RANGE: &[RangeRow<'static>] = &[(SpanFrom::Start(1), Some(2), &[0], 108, b"target")];
-
-const LINKS: &[Row<'static>] = &[
-    (
-        &[],
-        Scope::All,
-        &[3, 0, 1, 2],
-        PathEnd::Whole,
-        b"dir /\nlink 6 /s\ntarget\nlink 0 /t\n\nfile 1 /u\nx\n",
-    ),
-    (&["s", "x"], Scope::All, &[3, 0], PathEnd::NotFolder(1), b""),
-];
-
-#[test]
-fn symbolic_links(rt: HostRuntime) -> Result<(), Fail> {
-    let mut shelf = Shelf::new(rt.alloc());
-    let link = shelf.node(&[], b"\x08\x04\x12\x06target")?;
-    let nowhere = shelf.node(&[], b"\x08\x04")?;
-    let leaf = shelf.raw(b"x")?;
-    let links = [("s", link, 0), ("t", nowhere, 0), ("u", leaf, 1)];
-    let folder = shelf.node(&links, b"\x08\x01")?;
-    expect_rows(&rt, &shelf, link, LINK)?;
-    expect_ranges(&rt, &shelf, link, &[], LINK_RANGE)?;
-    expect_rows(&rt, &shelf, folder, LINKS)
 }
 
 const OLD_LISTING: &[Row<'static>] = &[(
@@ -321,6 +509,20 @@ fn is_second(sent: &[Sent], cid: Cid) -> bool {
     }
 }
 
+/// Whether the blocks of the path `e` are sent with the second one under this CID.
+fn sends_under(shelf: &Shelf, root: Cid, cid: Cid) -> Result<bool, Fail> {
+    let query = scoped_query(shelf.alloc(), root, &["e"], Scope::All)?;
+    let found = evaluate(shelf.alloc(), shelf.blocks.as_slice(), &query)?;
+    // The folder has 47 bytes, and the CIDv0 has 34.
+    let size = 59 + (1 + 36 + 47) + (1 + 34 + 4);
+    let sent = found.sent.as_slice();
+    Ok(
+        found.text.as_slice() == b"dir /\n".as_slice()
+            && is_second(sent, cid)
+            && car_size(sent) == size,
+    )
+}
+
 // An entry whose CID is the CIDv0 of the empty directory.
 #[test]
 fn a_link_of_version_0(rt: HostRuntime) -> Result<(), Fail> {
@@ -329,15 +531,7 @@ fn a_link_of_version_0(rt: HostRuntime) -> Result<(), Fail> {
     let old = old_form(rt.alloc(), empty)?;
     assert_ne!(rt; old, empty);
     let root = shelf.node(&[("e", old, 4)], b"\x08\x01")?;
-    expect_rows(&rt, &shelf, root, OLD_LISTING)?;
-    let query = scoped_query(rt.alloc(), root, &["e"], Scope::All)?;
-    let found = evaluate(rt.alloc(), shelf.blocks.as_slice(), &query)?;
-    assert_eq!(rt; found.text.as_slice(), b"dir /\n".as_slice());
-    assert!(rt; is_second(found.sent.as_slice(), old));
-    // The folder has 47 bytes, and the CIDv0 has 34.
-    assert_eq!(rt;
-        car_size(found.sent.as_slice()),
-        59 + (1 + 36 + 47) + (1 + 34 + 4)
-    );
+    assert!(rt; are_given(&shelf, root, OLD_LISTING)?);
+    assert!(rt; sends_under(&shelf, root, old)?);
     Ok(())
 }

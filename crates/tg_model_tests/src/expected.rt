@@ -1,55 +1,68 @@
-//! What tests expect of a query over stored blocks.
-use crate::walks::expect_walk;
-use std::process::Abort;
+//! What a query over stored blocks is to give.
+use crate::walks::walks_so;
 use std::test::Fail;
 use tg_cid::Cid;
-use tg_model::{Query, Scope, SpanFrom, Step, reads, step};
-use tg_oracle::{End, EvaluationFault, car_size, evaluate, ranged_query, scoped_query};
+use tg_model::{Query, Scope, Step, reads, step};
+use tg_oracle::{End, EvaluationFault, Sent, car_size, evaluate, scoped_query};
 use tg_test_dags::Shelf;
 
-/// Expects that a query sends the stored blocks with these indexes, ends so and gives this text. It gives back the size of the
-/// CAR.
-pub fn expect(
-    rt: &impl Abort,
+/// The size of the CAR, where a query sends the stored blocks with these indexes, ends so and gives this text, and a walk does so too.
+pub fn size_of(
     shelf: &Shelf,
     query: &Query,
     indexes: &[usize],
     end: &End,
     text: &[u8],
-) -> Result<u64, Fail> {
+) -> Result<Option<u64>, Fail> {
     let found = evaluate(shelf.alloc(), shelf.blocks.as_slice(), query)?;
     let sent = found.sent.as_slice();
-    assert_eq!(rt; &found.end, end, "{query:?}");
-    assert_eq!(rt; found.text.as_slice(), text, "{query:?}");
-    assert_eq!(rt; sent.len(), indexes.len(), "{query:?}");
-    for (section, index) in sent.iter().zip(indexes) {
-        assert_eq!(rt; section.index, *index, "{query:?}");
-        if let Some(stored) = shelf.blocks.as_slice().get(*index) {
-            assert_eq!(rt; section.cid, stored.cid, "{query:?}");
-            let size = stored.block.as_slice().len() as u64;
-            assert_eq!(rt; section.size, size, "{query:?}");
-        }
+    if found.end != *end || found.text.as_slice() != text || !are_sent(shelf, sent, indexes) {
+        return Ok(None);
     }
-    expect_walk(rt, shelf, query, &found)?;
-    Ok(car_size(sent))
+    if !walks_so(shelf, query, &found)? {
+        return Ok(None);
+    }
+    Ok(Some(car_size(sent)))
 }
 
-/// Expects the same of the query for what is below a path.
-pub fn expect_below(
-    rt: &impl Abort,
+/// Whether the query for what is below a path sends these blocks, ends so and gives this text.
+pub fn gives(
     shelf: &Shelf,
     root: Cid,
     asked: (&[&str], Scope),
     indexes: &[usize],
     end: &End,
     text: &[u8],
-) -> Result<u64, Fail> {
+) -> Result<bool, Fail> {
     let query = scoped_query(shelf.alloc(), root, asked.0, asked.1)?;
-    expect(rt, shelf, &query, indexes, end, text)
+    Ok(size_of(shelf, &query, indexes, end, text)?.is_some())
+}
+
+/// Whether just the stored blocks with these indexes are sent, in this order.
+fn are_sent(shelf: &Shelf, sent: &[Sent], indexes: &[usize]) -> bool {
+    if sent.len() != indexes.len() {
+        return false;
+    }
+    for (section, index) in sent.iter().zip(indexes) {
+        if section.index != *index || !is_stored(shelf, section) {
+            return false;
+        }
+    }
+    true
+}
+
+/// Whether the block that is sent is stored with its index.
+fn is_stored(shelf: &Shelf, section: &Sent) -> bool {
+    match shelf.blocks.as_slice().get(section.index) {
+        Some(stored) => {
+            section.cid == stored.cid && section.size == stored.block.as_slice().len() as u64
+        }
+        None => false,
+    }
 }
 
 /// An end that tells no CID.
-#[derive(Clone, Copy)]
+#[derive(Clone, Copy, Debug)]
 pub enum PathEnd {
     /// All that is asked for is sent.
     Whole,
@@ -111,37 +124,22 @@ fn block_under(shelf: &Shelf, cid: Cid) -> Option<&[u8]> {
 /// A path and a scope, the indexes of the blocks that are sent, the end, and the text.
 pub type Row<'a> = (&'a [&'a str], Scope, &'a [usize], PathEnd, &'a [u8]);
 
-/// Expects each row of queries for what is below paths, and of `step` that its walk ends so too.
-pub fn expect_rows(
-    rt: &impl Abort,
-    shelf: &Shelf,
-    root: Cid,
-    rows: &[Row<'_>],
-) -> Result<(), Fail> {
-    for (path, scope, indexes, end, text) in rows {
-        let end = end_of(*end);
-        expect_below(rt, shelf, root, (path, *scope), indexes, &end, text)?;
-        let walked = end_by_steps(shelf, 1_100, root, 0, 0, path)?;
-        assert_eq!(rt; walked, end, "{path:?}");
+/// Whether the query of a row gives what it says, and the walk of `step` along the path ends so too.
+pub fn is_given(shelf: &Shelf, root: Cid, row: &Row<'_>) -> Result<bool, Fail> {
+    let (path, scope, indexes, end, text) = *row;
+    let end = end_of(end);
+    if !gives(shelf, root, (path, scope), indexes, &end, text)? {
+        return Ok(false);
     }
-    Ok(())
+    Ok(end_by_steps(shelf, 1_100, root, 0, 0, path)? == end)
 }
 
-/// A range of a file, the indexes of the blocks that are sent, the size of the CAR, and the text.
-pub type RangeRow<'a> = (SpanFrom, Option<u64>, &'a [usize], u64, &'a [u8]);
-
-/// Expects each row of queries for ranges of the file at a path, all of which come through.
-pub fn expect_ranges(
-    rt: &impl Abort,
-    shelf: &Shelf,
-    root: Cid,
-    path: &[&str],
-    rows: &[RangeRow<'_>],
-) -> Result<(), Fail> {
-    for (from, to, indexes, size, text) in rows {
-        let query = ranged_query(shelf.alloc(), root, path, *from, *to)?;
-        let found = expect(rt, shelf, &query, indexes, &End::Whole, text)?;
-        assert_eq!(rt; found, *size, "{query:?}");
+/// Whether each row is so.
+pub fn are_given(shelf: &Shelf, root: Cid, rows: &[Row<'_>]) -> Result<bool, Fail> {
+    for row in rows {
+        if !is_given(shelf, root, row)? {
+            return Ok(false);
+        }
     }
-    Ok(())
+    Ok(true)
 }

@@ -1,7 +1,7 @@
 //! Blocks without a kind, and blocks that can't stand where they stand.
-use crate::expected::{PathEnd, Row, expect_below, expect_rows};
+use crate::expected::{PathEnd, Row, are_given, gives, is_given};
 use std::alloc::Global;
-use std::process::Abort;
+use std::rt::HostRuntime;
 use std::test::Fail;
 use tg_bytes::{Bytes, List};
 use tg_cid::{Cid, Codec};
@@ -9,7 +9,7 @@ use tg_dagpb::{Link, Node};
 use tg_model::{BlockFault, Kind, Scope, check_shard, reads};
 use tg_oracle::{End, evaluate, scoped_query};
 use tg_pbtable::PbFault;
-use tg_test_dags::{CHILD_SHARD, HELLO_SHARD, PARENT_SHARD, Shelf, node_block, raw_cid};
+use tg_test_dags::{CHILD_SHARD, HELLO_SHARD, Shelf, parent_shard, raw_cid};
 use tg_unixfs::UnixFault;
 
 // The CID of the raw block `hell`, by Python's hashlib.
@@ -86,14 +86,11 @@ fn block_of(
 /// The names of a node's links, its data, and its fault, or none.
 type FaultRow<'a> = (&'a [Option<&'a str>], &'a [u8], Option<BlockFault>);
 
-/// Expects each row of nodes.
-fn expect_faults(rt: &impl Abort, alloc: Global, rows: &[FaultRow<'_>]) -> Result<(), Fail> {
-    for (names, payload, fault) in rows {
-        let block = block_of(alloc, names, CID, payload)?;
-        let found = fault_of(alloc, block.as_slice());
-        assert_eq!(rt; found, *fault, "{names:?} {payload:?}");
-    }
-    Ok(())
+/// Whether a node has its fault, or none.
+fn has_fault(alloc: Global, row: &FaultRow<'_>) -> Result<bool, Fail> {
+    let (names, payload, fault) = *row;
+    let block = block_of(alloc, names, CID, payload)?;
+    Ok(fault_of(alloc, block.as_slice()) == fault)
 }
 
 // Of two causes the earlier is told: a wrong number of sizes before huge ones, a fault of the node before one of a link's hash,
@@ -271,9 +268,16 @@ const SHARDS: &[FaultRow<'static>] = &[
 
 #[test]
 fn nodes_without_a_kind(rt: HostRuntime) -> Result<(), Fail> {
-    expect_faults(&rt, rt.alloc(), FILES)?;
-    expect_faults(&rt, rt.alloc(), FOLDERS)?;
-    expect_faults(&rt, rt.alloc(), SHARDS)
+    for row in FILES {
+        assert!(rt; has_fault(rt.alloc(), row)?, "{row:?}");
+    }
+    for row in FOLDERS {
+        assert!(rt; has_fault(rt.alloc(), row)?, "{row:?}");
+    }
+    for row in SHARDS {
+        assert!(rt; has_fault(rt.alloc(), row)?, "{row:?}");
+    }
+    Ok(())
 }
 
 /// The names of a shard's links, its data, the slots that were passed, and why it can't stand there, if it can't.
@@ -327,150 +331,152 @@ const PLACED: &[ShardRow<'static>] = &[
     ),
 ];
 
+/// Whether a shard can stand behind these slots, or why not, as its row says.
+fn stands_so(alloc: Global, row: &ShardRow<'_>) -> Result<bool, Fail> {
+    let (names, payload, above, want) = *row;
+    let block = block_of(alloc, names, CID, payload)?;
+    let kind = read(alloc, block.as_slice())?;
+    Ok(check_shard(&kind, above) == want)
+}
+
 #[test]
 fn shards_that_are_misplaced(rt: HostRuntime) -> Result<(), Fail> {
-    let alloc = rt.alloc();
-    for (names, payload, above, want) in PLACED {
-        let block = block_of(alloc, names, CID, payload)?;
-        let kind = read(alloc, block.as_slice())?;
-        assert_eq!(rt; check_shard(&kind, above), *want, "{names:?} {above:?}");
+    for row in PLACED {
+        assert!(rt; stands_so(rt.alloc(), row)?, "{row:?}");
     }
     Ok(())
 }
 
-/// Expects that a part with these links and this data ends the traversal of a file with the fault, whose first part comes before.
-fn expect_no_part(
-    rt: &impl Abort,
-    alloc: Global,
-    links: &[(&str, Cid, u64)],
-    payload: &[u8],
-    fault: BlockFault,
-) -> Result<(), Fail> {
+/// The end at a block that can't stand there.
+fn bad(cid: Cid, depth: u32, fault: BlockFault) -> End {
+    End::BadBlock { cid, depth, fault }
+}
+
+const ENTITY: (&[&str], Scope) = (&[], Scope::Entity);
+
+const ALL: (&[&str], Scope) = (&[], Scope::All);
+
+/// The links of a part, its data, and its fault.
+type PartRow = (&'static [&'static str], &'static [u8], BlockFault);
+
+// A shard that is misplaced besides is told so, since that is the first of its faults.
+const PARTS: &[PartRow] = &[
+    (&[], FOLDER, BlockFault::NotPart),
+    (&[], b"\x08\x04", BlockFault::NotPart),
+    (&[], NO_SLOT, BlockFault::NotPart),
+    (&["00m"], SLOT_0, BlockFault::Misplaced { at: 0 }),
+];
+
+/// Stores a node whose links have these names and lead to one raw block.
+fn put_part(shelf: &mut Shelf, names: &[&str], payload: &[u8]) -> Result<Cid, Fail> {
+    match names {
+        [name] => Ok(shelf.node(&[(*name, raw_cid(b"1"), 1)], payload)?),
+        _ => Ok(shelf.node(&[], payload)?),
+    }
+}
+
+/// Whether a part ends the traversal of a file with its fault, whose first part comes before.
+fn ends_at_part(alloc: Global, row: &PartRow) -> Result<bool, Fail> {
+    let (names, payload, fault) = *row;
     let mut shelf = Shelf::new(alloc);
-    let part = shelf.node(links, payload)?;
+    let part = put_part(&mut shelf, names, payload)?;
     let hell = shelf.raw(b"hell")?;
     let links = [("", hell, 4), ("", part, 4)];
     let root = shelf.node(&links, b"\x08\x02\x20\x04\x20\x04")?;
     let folder = shelf.node(&[("f", root, 8)], FOLDER)?;
-    let end = End::BadBlock {
-        cid: part,
-        depth: 2,
-        fault,
-    };
-    expect_below(
-        rt,
-        &shelf,
-        root,
-        (&[], Scope::Entity),
-        &[2, 1],
-        &end,
-        b"hell",
-    )?;
+    if !gives(&shelf, root, ENTITY, &[2, 1], &bad(part, 2, fault), b"hell")? {
+        return Ok(false);
+    }
     let text = b"dir /\nfile 8 /f\nhell";
-    let end = End::BadBlock {
-        cid: part,
-        depth: 3,
-        fault,
-    };
-    expect_below(
-        rt,
-        &shelf,
-        folder,
-        (&[], Scope::All),
-        &[3, 2, 1],
-        &end,
-        text,
-    )?;
-    Ok(())
+    gives(&shelf, folder, ALL, &[3, 2, 1], &bad(part, 3, fault), text)
 }
 
 #[test]
 fn parts_that_are_no_files(rt: HostRuntime) -> Result<(), Fail> {
-    let links = [("00m", raw_cid(b"1"), 1)];
-    // A shard that is misplaced besides is told so, since that is the first of its faults.
-    expect_no_part(&rt, rt.alloc(), &[], FOLDER, BlockFault::NotPart)?;
-    expect_no_part(&rt, rt.alloc(), &[], b"\x08\x04", BlockFault::NotPart)?;
-    expect_no_part(&rt, rt.alloc(), &[], NO_SLOT, BlockFault::NotPart)?;
-    let misplaced = BlockFault::Misplaced { at: 0 };
-    expect_no_part(&rt, rt.alloc(), &links, SLOT_0, misplaced)
-}
-
-/// Expects that a child with this data ends the traversal of a shard, in which an entry comes before.
-fn expect_no_shard(rt: &impl Abort, alloc: Global, payload: &[u8]) -> Result<(), Fail> {
-    let mut shelf = Shelf::new(alloc);
-    let child = shelf.node(&[], payload)?;
-    let leaf = shelf.raw(b"1")?;
-    let root = shelf.node(&[("91m", leaf, 1), ("BC", child, 4)], PARENT_SHARD)?;
-    let end = End::BadBlock {
-        cid: child,
-        depth: 2,
-        fault: BlockFault::NotShard,
-    };
-    expect_below(rt, &shelf, root, (&[], Scope::Entity), &[2], &end, b"")?;
-    expect_below(rt, &shelf, root, (&["q"], Scope::All), &[2], &end, b"")?;
-    let text = b"dir /\nfile 1 /m\n1\n";
-    expect_below(rt, &shelf, root, (&[], Scope::All), &[2, 1], &end, text)?;
+    for row in PARTS {
+        assert!(rt; ends_at_part(rt.alloc(), row)?, "{row:?}");
+    }
     Ok(())
 }
+
+/// A path and a scope, the indexes of the blocks that are sent, and the text.
+type BadRow = (
+    &'static [&'static str],
+    Scope,
+    &'static [usize],
+    &'static [u8],
+);
+
+/// Whether each row ends so.
+fn end_so(shelf: &Shelf, root: Cid, end: &End, rows: &[BadRow]) -> Result<bool, Fail> {
+    for row in rows {
+        let (path, scope, indexes, text) = *row;
+        if !gives(shelf, root, (path, scope), indexes, end, text)? {
+            return Ok(false);
+        }
+    }
+    Ok(true)
+}
+
+const AT_CHILD: &[BadRow] = &[
+    (&[], Scope::Entity, &[4], b""),
+    (&["q"], Scope::All, &[4], b""),
+    (&[], Scope::All, &[4, 1], b"dir /\nfile 1 /m\n1\n"),
+];
+
+/// Whether a child with this data ends the traversal of a shard, in which an entry comes before.
+fn ends_at_child(alloc: Global, payload: &[u8]) -> Result<bool, Fail> {
+    let mut shelf = Shelf::new(alloc);
+    let child = shelf.node(&[], payload)?;
+    let root = parent_shard(&mut shelf, child)?;
+    end_so(&shelf, root, &bad(child, 2, BlockFault::NotShard), AT_CHILD)
+}
+
+const NO_SHARDS: &[&[u8]] = &[FOLDER, b"\x08\x04", b"\x08\x02"];
 
 #[test]
 fn children_that_are_no_shards(rt: HostRuntime) -> Result<(), Fail> {
-    expect_no_shard(&rt, rt.alloc(), FOLDER)?;
-    expect_no_shard(&rt, rt.alloc(), b"\x08\x04")?;
-    expect_no_shard(&rt, rt.alloc(), b"\x08\x02")
+    for payload in NO_SHARDS {
+        assert!(rt; ends_at_child(rt.alloc(), payload)?, "{payload:?}");
+    }
+    Ok(())
 }
 
 // A block without a kind that is asked for alone is sent.
-const ODD: &[Row<'static>] = &[(&["o"], Scope::Block, &[1, 0], PathEnd::Whole, b"\x1a\0")];
+const ODD: Row<'static> = (&["o"], Scope::Block, &[1, 0], PathEnd::Whole, b"\x1a\0");
 
-#[test]
-fn a_block_without_a_kind(rt: HostRuntime) -> Result<(), Fail> {
-    let mut shelf = Shelf::new(rt.alloc());
+const AT_ODD: &[BadRow] = &[
+    (&["o"], Scope::Entity, &[1], b""),
+    (&["o", "x"], Scope::Block, &[1], b""),
+    (&[], Scope::All, &[1], b"dir /\n"),
+];
+
+/// Whether a block without a kind is sent alone, and ends each other traversal.
+fn ends_at_odd(alloc: Global) -> Result<bool, Fail> {
+    let mut shelf = Shelf::new(alloc);
     let odd = shelf.put(Codec::DagPb, b"\x1a\0")?;
     let root = shelf.node(&[("o", odd, 1)], FOLDER)?;
-    let end = End::BadBlock {
-        cid: odd,
-        depth: 2,
-        fault: BlockFault::BadNode(PbFault::Unknown { at: 0, number: 3 }),
-    };
-    expect_rows(&rt, &shelf, root, ODD)?;
-    expect_below(&rt, &shelf, root, (&["o"], Scope::Entity), &[1], &end, b"")?;
-    expect_below(
-        &rt,
-        &shelf,
-        root,
-        (&["o", "x"], Scope::Block),
-        &[1],
-        &end,
-        b"",
-    )?;
-    expect_below(&rt, &shelf, root, (&[], Scope::All), &[1], &end, b"dir /\n")?;
-    Ok(())
+    if !is_given(&shelf, root, &ODD)? {
+        return Ok(false);
+    }
+    let fault = BlockFault::BadNode(PbFault::Unknown { at: 0, number: 3 });
+    end_so(&shelf, root, &bad(odd, 2, fault), AT_ODD)
 }
 
-#[test]
-fn a_misplaced_entry(rt: HostRuntime) -> Result<(), Fail> {
-    let mut shelf = Shelf::new(rt.alloc());
+const AT_MISPLACED: &[BadRow] = &[
+    (&["s", "m"], Scope::Block, &[2], b""),
+    (&["s"], Scope::Entity, &[2], b""),
+    (&[], Scope::All, &[2], b"dir /\n"),
+];
+
+/// Whether a shard with an entry in another slot than that of its name ends each traversal.
+fn ends_at_misplaced(alloc: Global) -> Result<bool, Fail> {
+    let mut shelf = Shelf::new(alloc);
     let leaf = shelf.raw(b"1")?;
     let shard = shelf.node(&[("00m", leaf, 1)], SLOT_0)?;
     let root = shelf.node(&[("s", shard, 1)], FOLDER)?;
-    let end = End::BadBlock {
-        cid: shard,
-        depth: 2,
-        fault: BlockFault::Misplaced { at: 0 },
-    };
-    expect_below(
-        &rt,
-        &shelf,
-        root,
-        (&["s", "m"], Scope::Block),
-        &[2],
-        &end,
-        b"",
-    )?;
-    expect_below(&rt, &shelf, root, (&["s"], Scope::Entity), &[2], &end, b"")?;
-    expect_below(&rt, &shelf, root, (&[], Scope::All), &[2], &end, b"dir /\n")?;
-    Ok(())
+    let fault = BlockFault::Misplaced { at: 0 };
+    end_so(&shelf, root, &bad(shard, 2, fault), AT_MISPLACED)
 }
 
 const EIGHT_LEVELS: &[Row<'static>] = &[
@@ -490,24 +496,36 @@ const EIGHT_LEVELS: &[Row<'static>] = &[
     ),
 ];
 
-#[test]
-fn shards_below_level_seven(rt: HostRuntime) -> Result<(), Fail> {
-    let mut shelf = Shelf::new(rt.alloc());
+const BELOW_EIGHT: &[BadRow] = &[
+    (&[], Scope::Entity, &[8, 7, 6, 5, 4, 3, 2, 1], b""),
+    (&[], Scope::All, &[8, 7, 6, 5, 4, 3, 2, 1], b"dir /\n"),
+];
+
+/// Whether shards stand up to level seven, and a further one ends each traversal.
+fn ends_below_seven(alloc: Global) -> Result<bool, Fail> {
+    let mut shelf = Shelf::new(alloc);
     let bottom = shelf.node(&[], NO_SLOT)?;
     let mut shard = bottom;
     for _ in 0..7 {
         shard = shelf.node(&[("00", shard, 1)], SLOT_0)?;
     }
-    expect_rows(&rt, &shelf, shard, EIGHT_LEVELS)?;
+    if !are_given(&shelf, shard, EIGHT_LEVELS)? {
+        return Ok(false);
+    }
     let root = shelf.node(&[("00", shard, 1)], SLOT_0)?;
-    let end = End::BadBlock {
-        cid: bottom,
-        depth: 9,
-        fault: BlockFault::BelowEight,
-    };
-    let sent = &[8, 7, 6, 5, 4, 3, 2, 1];
-    expect_below(&rt, &shelf, root, (&[], Scope::Entity), sent, &end, b"")?;
-    expect_below(&rt, &shelf, root, (&[], Scope::All), sent, &end, b"dir /\n")?;
+    end_so(
+        &shelf,
+        root,
+        &bad(bottom, 9, BlockFault::BelowEight),
+        BELOW_EIGHT,
+    )
+}
+
+#[test]
+fn blocks_that_cannot_stand_there(rt: HostRuntime) -> Result<(), Fail> {
+    assert!(rt; ends_at_odd(rt.alloc())?);
+    assert!(rt; ends_at_misplaced(rt.alloc())?);
+    assert!(rt; ends_below_seven(rt.alloc())?);
     Ok(())
 }
 

@@ -1,12 +1,16 @@
 //! Files, their parts and byte ranges.
-use crate::expected::{PathEnd, RangeRow, Row, expect, expect_below, expect_ranges, expect_rows};
+use crate::expected::{PathEnd, gives, size_of};
+use crate::rows::{RangeRow, ShapeRow, has_range, has_row};
+use std::alloc::Global;
+use std::rt::HostRuntime;
 use std::test::Fail;
 use tg_model::{Scope, SpanFrom};
 use tg_oracle::{End, car_size, evaluate, ranged_query, scoped_query};
-use tg_test_dags::{Shelf, hello_file, hello_root, raw_cid, text_of};
+use tg_test_dags::{Shape, Shelf, hello_root, raw_cid};
 
-const HELLO: &[Row<'static>] = &[
+const ROWS: &[ShapeRow] = &[
     (
+        Shape::Hello,
         &[],
         Scope::Entity,
         &[0, 1, 2, 3],
@@ -14,24 +18,250 @@ const HELLO: &[Row<'static>] = &[
         b"hello world",
     ),
     (
+        Shape::Hello,
         &[],
         Scope::All,
         &[0, 1, 2, 3],
         PathEnd::Whole,
         b"hello world",
     ),
-    (&["x"], Scope::All, &[0], PathEnd::NotFolder(0), b""),
+    (
+        Shape::Hello,
+        &["x"],
+        Scope::All,
+        &[0],
+        PathEnd::NotFolder(0),
+        b"",
+    ),
+    (
+        Shape::PartedTwins,
+        &[],
+        Scope::Entity,
+        &[2, 0, 1, 0],
+        PathEnd::Whole,
+        b"hellhell",
+    ),
+    (
+        Shape::Twins,
+        &[],
+        Scope::Entity,
+        &[1, 0, 0],
+        PathEnd::Whole,
+        b"aaaaaaaa",
+    ),
+    (
+        Shape::FileInFile,
+        &[],
+        Scope::Entity,
+        &[4, 3, 0, 1, 2],
+        PathEnd::Whole,
+        b"> hello world",
+    ),
+];
+
+const RANGES: &[RangeRow] = &[
+    (
+        Shape::Hello,
+        &[],
+        (SpanFrom::Start(5), Some(6)),
+        &[0, 2],
+        282,
+        b" w",
+    ),
+    (
+        Shape::Hello,
+        &[],
+        (SpanFrom::Start(3), Some(8)),
+        &[0, 1, 2, 3],
+        363,
+        b"lo wor",
+    ),
+    (
+        Shape::Hello,
+        &[],
+        (SpanFrom::Start(3), Some(4)),
+        &[0, 1, 2],
+        323,
+        b"lo",
+    ),
+    (
+        Shape::Hello,
+        &[],
+        (SpanFrom::Start(4), Some(7)),
+        &[0, 2],
+        282,
+        b"o wo",
+    ),
+    (
+        Shape::Hello,
+        &[],
+        (SpanFrom::Start(0), Some(0)),
+        &[0, 1],
+        282,
+        b"h",
+    ),
+    (
+        Shape::Hello,
+        &[],
+        (SpanFrom::Start(10), None),
+        &[0, 3],
+        281,
+        b"d",
+    ),
+    (
+        Shape::Hello,
+        &[],
+        (SpanFrom::Start(11), None),
+        &[0],
+        241,
+        b"",
+    ),
+    (
+        Shape::Hello,
+        &[],
+        (SpanFrom::Start(100), Some(200)),
+        &[0],
+        241,
+        b"",
+    ),
+    (
+        Shape::Hello,
+        &[],
+        (SpanFrom::Last(3), None),
+        &[0, 3],
+        281,
+        b"rld",
+    ),
+    (
+        Shape::Hello,
+        &[],
+        (SpanFrom::Last(3), Some(8)),
+        &[0, 3],
+        281,
+        b"r",
+    ),
+    (
+        Shape::Hello,
+        &[],
+        (SpanFrom::Last(3), Some(5)),
+        &[0],
+        241,
+        b"",
+    ),
+    (Shape::Hello, &[], (SpanFrom::Last(0), None), &[0], 241, b""),
+    (
+        Shape::Hello,
+        &[],
+        (SpanFrom::Last(50), None),
+        &[0, 1, 2, 3],
+        363,
+        b"hello world",
+    ),
+    (
+        Shape::OneLeaf,
+        &[],
+        (SpanFrom::Start(5), Some(6)),
+        &[1, 0],
+        282,
+        b" w",
+    ),
+    // The root has 144 bytes.
+    (
+        Shape::PartedTwins,
+        &[],
+        (SpanFrom::Start(2), Some(5)),
+        &[2, 0, 0],
+        323,
+        b"llhe",
+    ),
+    // The root has 102 bytes, the file in it 98, and the leaves have 4, 4 and 3.
+    (
+        Shape::FileInFile,
+        &[],
+        (SpanFrom::Start(0), Some(1)),
+        &[4],
+        199,
+        b"> ",
+    ),
+    (
+        Shape::FileInFile,
+        &[],
+        (SpanFrom::Start(1), Some(2)),
+        &[4, 3, 0],
+        376,
+        b" h",
+    ),
+    (
+        Shape::FileInFile,
+        &[],
+        (SpanFrom::Start(7), Some(8)),
+        &[4, 3, 1],
+        376,
+        b" w",
+    ),
+    (
+        Shape::FileInFile,
+        &[],
+        (SpanFrom::Start(8), Some(10)),
+        &[4, 3, 1, 2],
+        416,
+        b"wor",
+    ),
+    (
+        Shape::FileInFile,
+        &[],
+        (SpanFrom::Start(10), Some(100)),
+        &[4, 2],
+        239,
+        b"rld",
+    ),
+    (
+        Shape::FileInFile,
+        &[],
+        (SpanFrom::Start(13), Some(13)),
+        &[4],
+        199,
+        b"",
+    ),
+    (
+        Shape::Raw(b""),
+        &[],
+        (SpanFrom::Last(5), None),
+        &[0],
+        96,
+        b"",
+    ),
+    (
+        Shape::Raw(b"hello world"),
+        &[],
+        (SpanFrom::Start(5), Some(6)),
+        &[0],
+        107,
+        b" w",
+    ),
 ];
 
 #[test]
-fn a_file_in_chunks(rt: HostRuntime) -> Result<(), Fail> {
+fn rows_of_files(rt: HostRuntime) -> Result<(), Fail> {
+    for row in ROWS {
+        assert!(rt; has_row(rt.alloc(), row)?, "{row:?}");
+    }
+    Ok(())
+}
+
+#[test]
+fn ranges_of_files(rt: HostRuntime) -> Result<(), Fail> {
+    for row in RANGES {
+        assert!(rt; has_range(rt.alloc(), row)?, "{row:?}");
+    }
+    Ok(())
+}
+
+// A block that is asked for alone is the text.
+#[test]
+fn a_block_alone(rt: HostRuntime) -> Result<(), Fail> {
     let mut shelf = Shelf::new(rt.alloc());
-    let root = hello_file(&mut shelf)?;
-    assert_eq!(rt;
-        text_of(rt.alloc(), root)?.as_str(),
-        "bafybeighmzuokpuzyho2ninhgybpych6atkhbn2o57c3hlyer2hntezxly"
-    );
-    expect_rows(&rt, &shelf, root, HELLO)?;
+    let root = Shape::Hello.store(&mut shelf)?;
     let query = scoped_query(rt.alloc(), root, &[], Scope::Block)?;
     let found = evaluate(rt.alloc(), shelf.blocks.as_slice(), &query)?;
     assert_eq!(rt; found.text.as_slice().len(), 144);
@@ -39,145 +269,49 @@ fn a_file_in_chunks(rt: HostRuntime) -> Result<(), Fail> {
     Ok(())
 }
 
-const HELLO_RANGES: &[RangeRow<'static>] = &[
-    (SpanFrom::Start(5), Some(6), &[0, 2], 282, b" w"),
-    (SpanFrom::Start(3), Some(8), &[0, 1, 2, 3], 363, b"lo wor"),
-    (SpanFrom::Start(3), Some(4), &[0, 1, 2], 323, b"lo"),
-    (SpanFrom::Start(4), Some(7), &[0, 2], 282, b"o wo"),
-    (SpanFrom::Start(0), Some(0), &[0, 1], 282, b"h"),
-    (SpanFrom::Start(10), None, &[0, 3], 281, b"d"),
-    (SpanFrom::Start(11), None, &[0], 241, b""),
-    (SpanFrom::Start(100), Some(200), &[0], 241, b""),
-    (SpanFrom::Last(3), None, &[0, 3], 281, b"rld"),
-    (SpanFrom::Last(3), Some(8), &[0, 3], 281, b"r"),
-    (SpanFrom::Last(3), Some(5), &[0], 241, b""),
-    (SpanFrom::Last(0), None, &[0], 241, b""),
-    (SpanFrom::Last(50), None, &[0, 1, 2, 3], 363, b"hello world"),
-];
-
-#[test]
-fn ranges_of_a_file_in_chunks(rt: HostRuntime) -> Result<(), Fail> {
-    let mut shelf = Shelf::new(rt.alloc());
-    let root = hello_file(&mut shelf)?;
-    expect_ranges(&rt, &shelf, root, &[], HELLO_RANGES)
+/// The end where a raw block isn't stored that lies below the root.
+fn gone(leaf: &[u8]) -> End {
+    End::Gone {
+        cid: raw_cid(leaf),
+        depth: 2,
+    }
 }
 
-#[test]
-fn leaves_that_are_not_stored(rt: HostRuntime) -> Result<(), Fail> {
-    let mut shelf = Shelf::new(rt.alloc());
+const ALL: (&[&str], Scope) = (&[], Scope::Entity);
+
+/// Whether the first leaf that isn't stored is told, one after another.
+fn leaves_are_wanted(alloc: Global) -> Result<bool, Fail> {
+    let mut shelf = Shelf::new(alloc);
     let root = hello_root(&mut shelf)?;
     shelf.raw(b"rld")?;
-    let all: (&[&str], Scope) = (&[], Scope::Entity);
-    let hell = End::Gone {
-        cid: raw_cid(b"hell"),
-        depth: 2,
-    };
-    let o_wo = End::Gone {
-        cid: raw_cid(b"o wo"),
-        depth: 2,
-    };
-    let part = ranged_query(rt.alloc(), root, &[], SpanFrom::Start(5), Some(6))?;
-    expect_below(&rt, &shelf, root, all, &[0], &hell, b"")?;
-    expect(&rt, &shelf, &part, &[0], &o_wo, b"")?;
+    let part = ranged_query(alloc, root, &[], SpanFrom::Start(5), Some(6))?;
+    if !gives(&shelf, root, ALL, &[0], &gone(b"hell"), b"")? {
+        return Ok(false);
+    }
+    if size_of(&shelf, &part, &[0], &gone(b"o wo"), b"")?.is_none() {
+        return Ok(false);
+    }
     shelf.raw(b"hell")?;
-    expect_below(&rt, &shelf, root, all, &[0, 2], &o_wo, b"hell")?;
-    Ok(())
+    gives(&shelf, root, ALL, &[0, 2], &gone(b"o wo"), b"hell")
 }
 
-#[test]
-fn one_leaf_alone_is_stored(rt: HostRuntime) -> Result<(), Fail> {
-    let mut shelf = Shelf::new(rt.alloc());
-    let all: (&[&str], Scope) = (&[], Scope::Entity);
-    shelf.raw(b"o wo")?;
-    let root = hello_root(&mut shelf)?;
-    let rows: [RangeRow<'_>; 1] = [(SpanFrom::Start(5), Some(6), &[1, 0], 282, b" w")];
-    expect_ranges(&rt, &shelf, root, &[], &rows)?;
-    let hell = End::Gone {
-        cid: raw_cid(b"hell"),
-        depth: 2,
-    };
-    expect_below(&rt, &shelf, root, all, &[1], &hell, b"")?;
-    let nothing = Shelf::new(rt.alloc());
+/// Whether the first leaf is wanted where the second one alone is stored, and the root where nothing is.
+fn root_is_wanted(alloc: Global) -> Result<bool, Fail> {
+    let mut shelf = Shelf::new(alloc);
+    let root = Shape::OneLeaf.store(&mut shelf)?;
     let end = End::Gone {
         cid: root,
         depth: 1,
     };
-    expect_below(&rt, &nothing, root, all, &[], &end, b"")?;
+    if !gives(&Shelf::new(alloc), root, ALL, &[], &end, b"")? {
+        return Ok(false);
+    }
+    gives(&shelf, root, ALL, &[1], &gone(b"hell"), b"")
+}
+
+#[test]
+fn blocks_that_are_not_stored(rt: HostRuntime) -> Result<(), Fail> {
+    assert!(rt; leaves_are_wanted(rt.alloc())?);
+    assert!(rt; root_is_wanted(rt.alloc())?);
     Ok(())
-}
-
-#[test]
-fn parts_without_length(rt: HostRuntime) -> Result<(), Fail> {
-    let mut shelf = Shelf::new(rt.alloc());
-    let hell = shelf.raw(b"hell")?;
-    let nothing = shelf.raw(b"")?;
-    let links = [("", hell, 4), ("", nothing, 0), ("", hell, 4)];
-    let root = shelf.node(&links, b"\x08\x02\x18\x08\x20\x04\x20\x00\x20\x04")?;
-    let rows: [Row<'_>; 1] = [(
-        &[],
-        Scope::Entity,
-        &[2, 0, 1, 0],
-        PathEnd::Whole,
-        b"hellhell",
-    )];
-    expect_rows(&rt, &shelf, root, &rows)?;
-    let query = ranged_query(rt.alloc(), root, &[], SpanFrom::Start(2), Some(5))?;
-    expect(&rt, &shelf, &query, &[2, 0, 0], &End::Whole, b"llhe")?;
-    Ok(())
-}
-
-#[test]
-fn equal_parts(rt: HostRuntime) -> Result<(), Fail> {
-    // `aaaaaaaa` in chunks of 4 bytes: a root of 98 bytes and one leaf at two places.
-    let mut shelf = Shelf::new(rt.alloc());
-    let leaf = shelf.raw(b"aaaa")?;
-    let links = [("", leaf, 4), ("", leaf, 4)];
-    let root = shelf.node(&links, b"\x08\x02\x18\x08\x20\x04\x20\x04")?;
-    let all: (&[&str], Scope) = (&[], Scope::Entity);
-    let size = expect_below(&rt, &shelf, root, all, &[1, 0, 0], &End::Whole, b"aaaaaaaa")?;
-    assert_eq!(rt; size, 277);
-    Ok(())
-}
-
-// The root has 102 bytes, the file in it 98, and the leaves have 4, 4 and 3.
-const NESTED_RANGES: &[RangeRow<'static>] = &[
-    (SpanFrom::Start(0), Some(1), &[4], 199, b"> "),
-    (SpanFrom::Start(1), Some(2), &[4, 3, 0], 376, b" h"),
-    (SpanFrom::Start(7), Some(8), &[4, 3, 1], 376, b" w"),
-    (SpanFrom::Start(8), Some(10), &[4, 3, 1, 2], 416, b"wor"),
-    (SpanFrom::Start(10), Some(100), &[4, 2], 239, b"rld"),
-    (SpanFrom::Start(13), Some(13), &[4], 199, b""),
-];
-
-#[test]
-fn files_in_files(rt: HostRuntime) -> Result<(), Fail> {
-    let mut shelf = Shelf::new(rt.alloc());
-    let hell = shelf.raw(b"hell")?;
-    let o_wo = shelf.raw(b"o wo")?;
-    let rld = shelf.raw(b"rld")?;
-    let links = [("", hell, 4), ("", o_wo, 4)];
-    let front = shelf.node(&links, b"\x08\x02\x18\x08\x20\x04\x20\x04")?;
-    // With the inline bytes `> ` before all.
-    let links = [("", front, 100), ("", rld, 3)];
-    let root = shelf.node(&links, b"\x08\x02\x12\x02> \x18\x0d\x20\x08\x20\x03")?;
-    let rows: [Row<'_>; 1] = [(
-        &[],
-        Scope::Entity,
-        &[4, 3, 0, 1, 2],
-        PathEnd::Whole,
-        b"> hello world",
-    )];
-    expect_rows(&rt, &shelf, root, &rows)?;
-    expect_ranges(&rt, &shelf, root, &[], NESTED_RANGES)
-}
-
-#[test]
-fn raw_blocks(rt: HostRuntime) -> Result<(), Fail> {
-    let mut shelf = Shelf::new(rt.alloc());
-    let nothing = shelf.raw(b"")?;
-    let hello = shelf.raw(b"hello world")?;
-    let rows: [RangeRow<'_>; 1] = [(SpanFrom::Last(5), None, &[0], 96, b"")];
-    expect_ranges(&rt, &shelf, nothing, &[], &rows)?;
-    let rows: [RangeRow<'_>; 1] = [(SpanFrom::Start(5), Some(6), &[1], 107, b" w")];
-    expect_ranges(&rt, &shelf, hello, &[], &rows)
 }

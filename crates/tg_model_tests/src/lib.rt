@@ -13,4 +13,6 @@ mod faults;
 #[cfg(test)]
 mod files;
 #[cfg(test)]
+mod rows;
+#[cfg(test)]
 mod walks;

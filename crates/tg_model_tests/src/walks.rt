@@ -1,11 +1,10 @@
 //! Walks over a store, beside the evaluator.
-use std::process::Abort;
 use std::rt::HostRuntime;
 use std::test::Fail;
 use tg_cid::{Cid, MAX_BLOCK_LEN};
 use tg_frames::copied_path;
 use tg_model::{Keep, Query, Scope};
-use tg_oracle::{End, Evaluation, evaluate, scoped_query};
+use tg_oracle::{End, Evaluation, Sent, evaluate, scoped_query};
 use tg_store::MemStore;
 use tg_test_dags::{Shelf, chain};
 use tg_walk::{ResolveFault, Walk, WalkFault, resolve};
@@ -23,57 +22,61 @@ fn store_of(shelf: &Shelf) -> Result<Option<MemStore>, Fail> {
     Ok(Some(store))
 }
 
-/// Expects that a walk over the blocks gives what the evaluator sends, and ends as the evaluation does, and that the path leads where it
-/// does. Nothing is expected where a CID doesn't name its block.
-pub fn expect_walk(
-    rt: &impl Abort,
+/// Whether a walk gives the block that is stored with this index next, under this CID.
+fn gives(
+    walk: &mut Walk,
+    store: &mut MemStore,
     shelf: &Shelf,
-    query: &Query,
-    found: &Evaluation,
-) -> Result<(), Fail> {
+    sent: &Sent,
+) -> Result<bool, WalkFault> {
+    let Some((cid, block)) = walk.next(store)? else {
+        return Ok(false);
+    };
+    Ok(match shelf.blocks.as_slice().get(sent.index) {
+        Some(stored) => cid == sent.cid && block.as_slice() == stored.block.as_slice(),
+        None => false,
+    })
+}
+
+/// Whether a walk ends as an evaluation, and does so again.
+fn ends_so(walk: &mut Walk, store: &mut MemStore, end: &End) -> bool {
+    let want = walk_end(end);
+    let last = walk.next(store).map(|last| last.is_some());
+    let again = walk.next(store).map(|last| last.is_some());
+    last == want && again == want
+}
+
+/// Whether a walk over the blocks gives what the evaluator sends, and ends as the evaluation does, and the path leads where it does. It
+/// counts as so where a CID doesn't name its block.
+pub fn walks_so(shelf: &Shelf, query: &Query, found: &Evaluation) -> Result<bool, Fail> {
     let Some(mut store) = store_of(shelf)? else {
-        return Ok(());
+        return Ok(true);
     };
     let mut walk = Walk::new(shelf.alloc(), query)?;
     for sent in found.sent.as_slice() {
-        let Some((cid, block)) = walk.next(&mut store)? else {
-            return Err(Fail::new("the walk ended too soon"));
-        };
-        assert_eq!(rt; cid, sent.cid, "{query:?}");
-        let stored = shelf
-            .blocks
-            .as_slice()
-            .get(sent.index)
-            .map(|stored| stored.block.as_slice());
-        assert_eq!(rt; Some(block.as_slice()), stored, "{query:?}");
+        if !gives(&mut walk, &mut store, shelf, sent)? {
+            return Ok(false);
+        }
     }
-    let end = walk.next(&mut store).map(|last| last.is_some());
-    assert_eq!(rt; end, walk_end(&found.end), "{query:?}");
-    let again = walk.next(&mut store).map(|last| last.is_some());
-    assert_eq!(rt; again, end, "{query:?}");
-    expect_resolved(rt, shelf, &mut store, query)
+    Ok(ends_so(&mut walk, &mut store, &found.end) && leads_so(shelf, &mut store, query)?)
 }
 
-/// Expects that the path of a query leads to the block which the evaluator sends last for it, or ends as its evaluation does.
-fn expect_resolved(
-    rt: &impl Abort,
-    shelf: &Shelf,
-    store: &mut MemStore,
-    query: &Query,
-) -> Result<(), Fail> {
+/// Whether the path of a query leads to the block which the evaluator sends last for it, or ends as its evaluation does.
+fn leads_so(shelf: &Shelf, store: &mut MemStore, query: &Query) -> Result<bool, Fail> {
     let alloc = shelf.alloc();
     let path = copied_path(alloc, query.path())?;
     let block = Query::car(query.root(), path, Scope::Block, None, true);
     let found = evaluate(alloc, shelf.blocks.as_slice(), &block)?;
-    match resolve(alloc, store, &query.root(), query.path()) {
-        Ok(cid) => {
-            let last = found.sent.as_slice().last().map(|sent| sent.cid);
-            assert_eq!(rt; found.end, End::Whole, "{query:?}");
-            assert_eq!(rt; Some(cid), last, "{query:?}");
-        }
-        Err(fault) => assert_eq!(rt; Some(fault), refusal_at(&found.end), "{query:?}"),
-    }
-    Ok(())
+    Ok(match resolve(alloc, store, &query.root(), query.path()) {
+        Ok(cid) => found.end == End::Whole && last_cid(&found) == Some(cid),
+        Err(fault) => refusal_at(&found.end) == Some(fault),
+    })
+}
+
+/// The CID of the block that is sent last, or none.
+fn last_cid(found: &Evaluation) -> Option<Cid> {
+    let last = found.sent.as_slice().last()?;
+    Some(last.cid)
 }
 
 /// Why a path leads to no stored block, where it doesn't.

@@ -1,6 +1,9 @@
 //! Blocks that tests make, and small DAGs of them.
 #![tactic(auto)]
 
+mod shapes;
+
+pub use shapes::Shape;
 use std::alloc::{AllocError, Global};
 use tg_bytes::{Bytes, List};
 use tg_cid::{Cid, Codec};
@@ -59,11 +62,7 @@ impl Shelf {
 }
 
 /// The block of a node with this data.
-pub fn node_block(
-    alloc: Global,
-    links: &[Linked<'_>],
-    payload: &[u8],
-) -> Result<Bytes, AllocError> {
+fn node_block(alloc: Global, links: &[Linked<'_>], payload: &[u8]) -> Result<Bytes, AllocError> {
     let mut list = List::new(alloc);
     for (name, cid, tsize) in links {
         list.push(Link {
@@ -98,26 +97,47 @@ pub fn hello_node(shelf: &mut Shelf, payload: &[u8]) -> Result<Cid, AllocError> 
 
 /// Stores the root of that file.
 pub fn hello_root(shelf: &mut Shelf) -> Result<Cid, AllocError> {
-    hello_node(shelf, b"\x08\x02\x18\x0b\x20\x04\x20\x04\x20\x03")
+    hello_node(shelf, HELLO_FILE)
 }
 
 /// Stores that root and its leaves in order.
 pub fn hello_file(shelf: &mut Shelf) -> Result<Cid, AllocError> {
-    let root = hello_root(shelf)?;
+    hello_leaves(shelf, HELLO_FILE)
+}
+
+/// Stores such a node with this data, and behind it the leaves in order.
+fn hello_leaves(shelf: &mut Shelf, payload: &[u8]) -> Result<Cid, AllocError> {
+    let root = hello_node(shelf, payload)?;
     shelf.raw(b"hell")?;
     shelf.raw(b"o wo")?;
     shelf.raw(b"rld")?;
     Ok(root)
 }
 
+/// Stores the empty directory, and behind it a file that has it as its part.
+fn folder_as_part(shelf: &mut Shelf) -> Result<Cid, AllocError> {
+    let folder = shelf.node(&[], b"\x08\x01")?;
+    shelf.node(&[("", folder, 4)], b"\x08\x02\x18\x04\x20\x04")
+}
+
 /// Stores the file `hello world` as a raw block, and behind it a shard with the entry `hello` for it.
 pub fn hello_shard(shelf: &mut Shelf) -> Result<Cid, AllocError> {
+    shard_of_one(shelf, "CBhello")
+}
+
+/// Stores the same of the entry `hellp`, in the slot of `hello` and not in its own.
+fn misplaced_shard(shelf: &mut Shelf) -> Result<Cid, AllocError> {
+    shard_of_one(shelf, "CBhellp")
+}
+
+/// Stores the file `hello world` as a raw block, and behind it a shard with a link of this name to it.
+fn shard_of_one(shelf: &mut Shelf, name: &str) -> Result<Cid, AllocError> {
     let hello = shelf.raw(b"hello world")?;
-    shelf.node(&[("CBhello", hello, 11)], HELLO_SHARD)
+    shelf.node(&[(name, hello, 11)], HELLO_SHARD)
 }
 
 /// Stores the file `hello world` in chunks, of five blocks, and behind them a directory with the entry `h` for it.
-pub fn hello_folder(shelf: &mut Shelf) -> Result<Cid, AllocError> {
+fn hello_folder(shelf: &mut Shelf) -> Result<Cid, AllocError> {
     let file = hello_file(shelf)?;
     shelf.node(&[("h", file, 155)], b"\x08\x01")
 }
@@ -147,18 +167,30 @@ pub fn chain(shelf: &mut Shelf, nodes: u32) -> Result<Cid, AllocError> {
     Ok(below)
 }
 
+/// The numbers of the blocks that a shelf has of such a chain alone, from the root down.
+pub fn chain_down(alloc: Global, nodes: u32) -> Result<Vec<usize>, AllocError> {
+    let mut indexes = Vec::new(alloc);
+    for index in 0..=nodes as usize {
+        indexes.push((nodes as usize).saturating_sub(index))?;
+    }
+    Ok(indexes)
+}
+
 /// The text of a CID.
 pub fn text_of(alloc: Global, cid: Cid) -> Result<String, AllocError> {
     let text = cid.to_text(alloc)?;
     String::from_utf8_lossy(alloc, text.as_slice())
 }
 
+/// The data of the file `hello world` in chunks of 4 bytes.
+const HELLO_FILE: &[u8] = b"\x08\x02\x18\x0b\x20\x04\x20\x04\x20\x03";
+
 /// The data of a shard with the slot CB. Slot `i` is the bit `i` of the number that the bytes behind `\x12` and the length are.
 pub const HELLO_SHARD: &[u8] =
     b"\x08\x05\x12\x1a\x08\0\0\0\0\0\0\0\0\0\0\0\0\0\0\0\0\0\0\0\0\0\0\0\0\0\x28\x22\x30\x80\x02";
 
 /// The data of a shard with the slots 91 and BC.
-pub const PARENT_SHARD: &[u8] =
+const PARENT_SHARD: &[u8] =
     b"\x08\x05\x12\x18\x10\0\0\0\0\x02\0\0\0\0\0\0\0\0\0\0\0\0\0\0\0\0\0\0\x28\x22\x30\x80\x02";
 
 /// The data of a shard with the slots 3E and 5D.

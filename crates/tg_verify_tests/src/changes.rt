@@ -1,7 +1,7 @@
 //! Each change of one byte of one section: the verifier refuses that section, and has put what the evaluator gives where its block isn't
 //! stored.
-use crate::dags::{Asked, Row, Shape, query_of, store};
-use crate::feeding::{feed, front_of};
+use crate::dags::{Asked, Row, query_of};
+use crate::feeding::{feed, numbers_of, sections_of};
 use std::alloc::{AllocError, Global};
 use std::rt::HostRuntime;
 use std::test::Fail;
@@ -9,7 +9,7 @@ use tg_bytes::Bytes;
 use tg_cid::Cid;
 use tg_model::{Query, Scope};
 use tg_oracle::{End, Evaluation, Sent, evaluate};
-use tg_test_dags::Shelf;
+use tg_test_dags::{Shape, Shelf};
 use tg_verify::Refusal;
 
 /// The section whose bytes, the CID's and then the block's, differ in one place by these bits; none where the CID is none any more.
@@ -72,13 +72,12 @@ fn ends_at(end: &End, cid: &Cid) -> bool {
     }
 }
 
-/// What is fed before the section that changes, and what is put for it.
+/// The numbers of the blocks that are fed before the section that changes, and what is put for them.
 #[derive(Clone, Copy)]
 struct Place<'a> {
     shelf: &'a Shelf,
     query: &'a Query,
-    sent: &'a [Sent],
-    count: usize,
+    before: &'a [usize],
     text: &'a [u8],
 }
 
@@ -99,7 +98,7 @@ fn refuses(
     } else {
         Refusal::BadDigest { cid: got }
     };
-    let mut sections = front_of(alloc, place.shelf, place.sent, place.count)?;
+    let mut sections = sections_of(alloc, place.shelf, place.before)?;
     sections.push((got, block))?;
     let done = feed(alloc, place.query, &sections, &[])?;
     Ok(done.is(&Err(fault), place.text))
@@ -139,11 +138,11 @@ fn refuses_section(
     if !ends_at(&before.end, &section.cid) {
         return Ok(false);
     }
+    let numbers = numbers_of(alloc, sent)?;
     let place = Place {
         shelf,
         query,
-        sent,
-        count,
+        before: numbers.get(..count).unwrap_or(&[]),
         text: before.text.as_slice(),
     };
     let block = stored.block.as_slice();
@@ -158,7 +157,7 @@ fn refuses_section(
 /// Whether each change of one byte of one of so many sections of a row is refused.
 fn refuses_changes(alloc: Global, row: &Row, sections: usize) -> Result<bool, Fail> {
     let mut shelf = Shelf::new(alloc);
-    let root = store(&mut shelf, row.0)?;
+    let root = row.0.store(&mut shelf)?;
     let query = query_of(alloc, root, row)?;
     let found = evaluate(alloc, shelf.blocks.as_slice(), &query)?;
     let sent = found.sent.as_slice();

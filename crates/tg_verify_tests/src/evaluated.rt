@@ -1,14 +1,14 @@
 //! The verifier beside the evaluator of queries: it takes what the evaluator sends, section by section, puts the text of the evaluation,
 //! and ends as the evaluation does.
-use crate::dags::{Asked, Row, Shape, query_of, store};
-use crate::feeding::{VerifyEnd, feed, front_of};
+use crate::dags::{Asked, Row, query_of};
+use crate::feeding::{VerifyEnd, feed, numbers_of, sections_of};
 use std::alloc::{AllocError, Global};
 use std::rt::HostRuntime;
 use std::test::Fail;
 use tg_bytes::Bytes;
 use tg_model::{Query, Scope, SpanFrom};
 use tg_oracle::{End, Evaluation, evaluate};
-use tg_test_dags::Shelf;
+use tg_test_dags::{Shape, Shelf};
 use tg_verify::Refusal;
 
 const BLOCK: Asked = Asked::Scope(Scope::Block);
@@ -45,31 +45,35 @@ const FILES: &[Row] = &[
         Asked::Bytes(SpanFrom::Start(5), Some(6)),
     ),
     (Shape::NoLeaves, &[], Asked::Bytes(SpanFrom::Last(2), None)),
-    (Shape::Twins, &[], ENTITY),
-    (Shape::Twins, &[], Asked::Bytes(SpanFrom::Start(2), Some(5))),
-    (Shape::Nested, &[], ENTITY),
+    (Shape::PartedTwins, &[], ENTITY),
     (
-        Shape::Nested,
+        Shape::PartedTwins,
+        &[],
+        Asked::Bytes(SpanFrom::Start(2), Some(5)),
+    ),
+    (Shape::FileInFile, &[], ENTITY),
+    (
+        Shape::FileInFile,
         &[],
         Asked::Bytes(SpanFrom::Start(0), Some(1)),
     ),
     (
-        Shape::Nested,
+        Shape::FileInFile,
         &[],
         Asked::Bytes(SpanFrom::Start(1), Some(2)),
     ),
     (
-        Shape::Nested,
+        Shape::FileInFile,
         &[],
         Asked::Bytes(SpanFrom::Start(7), Some(8)),
     ),
     (
-        Shape::Nested,
+        Shape::FileInFile,
         &[],
         Asked::Bytes(SpanFrom::Start(8), Some(10)),
     ),
     (
-        Shape::Nested,
+        Shape::FileInFile,
         &[],
         Asked::Bytes(SpanFrom::Start(10), Some(100)),
     ),
@@ -145,37 +149,37 @@ fn segment_at(at: u64) -> u32 {
     u32::try_from(at).unwrap_or(u32::MAX)
 }
 
-/// Whether the verifier takes the first sections that the evaluator sends, so many, wants the next one, and has put a front of the text; and
-/// where these are all, ends as the evaluation does with its text.
+/// Whether the verifier takes the blocks with these numbers, the first that the evaluator sends, wants the next one, and has put a front of
+/// the text; and where these are all, ends as the evaluation does with its text.
 fn takes_front(
     alloc: Global,
     shelf: &Shelf,
     query: &Query,
     found: &Evaluation,
-    count: usize,
+    front: &[usize],
 ) -> Result<bool, AllocError> {
-    let sent = found.sent.as_slice();
     let text = found.text.as_slice();
-    let sections = front_of(alloc, shelf, sent, count)?;
+    let sections = sections_of(alloc, shelf, front)?;
     let done = feed(alloc, query, &sections, &[])?;
-    Ok(match sent.get(count) {
+    Ok(match found.sent.as_slice().get(front.len()) {
         Some(next) => done.end == Ok(Some(next.cid)) && text.starts_with(done.text.as_slice()),
         None => done.is(&end_of(&found.end), text),
     })
 }
 
-/// Whether the verifier refuses the block that the evaluator can't read, or that can't stand there, with its fault.
+/// Whether the verifier refuses the block that the evaluator can't read, or that can't stand there, with its fault, behind those with these
+/// numbers.
 fn refuses_bad(
     alloc: Global,
     shelf: &Shelf,
     query: &Query,
     found: &Evaluation,
+    sent: &[usize],
 ) -> Result<bool, AllocError> {
     let End::BadBlock { cid, fault, .. } = found.end else {
         return Ok(true);
     };
-    let sent = found.sent.as_slice();
-    let mut sections = front_of(alloc, shelf, sent, sent.len())?;
+    let mut sections = sections_of(alloc, shelf, sent)?;
     for stored in shelf.blocks.as_slice() {
         if stored.cid == cid {
             sections.push((cid, Bytes::of(alloc, stored.block.as_slice())?))?;
@@ -191,15 +195,17 @@ fn refuses_bad(
 /// Whether the verifier does as the evaluator says on a row.
 fn does_as_evaluated(alloc: Global, row: &Row) -> Result<bool, Fail> {
     let mut shelf = Shelf::new(alloc);
-    let root = store(&mut shelf, row.0)?;
+    let root = row.0.store(&mut shelf)?;
     let query = query_of(alloc, root, row)?;
     let found = evaluate(alloc, shelf.blocks.as_slice(), &query)?;
-    for count in 0..=found.sent.as_slice().len() {
-        if !takes_front(alloc, &shelf, &query, &found, count)? {
+    let sent = numbers_of(alloc, found.sent.as_slice())?;
+    for count in 0..=sent.len() {
+        let front = sent.get(..count).unwrap_or(&[]);
+        if !takes_front(alloc, &shelf, &query, &found, front)? {
             return Ok(false);
         }
     }
-    Ok(refuses_bad(alloc, &shelf, &query, &found)?)
+    Ok(refuses_bad(alloc, &shelf, &query, &found, sent.as_slice())?)
 }
 
 #[test]

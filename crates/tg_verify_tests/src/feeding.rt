@@ -39,32 +39,24 @@ pub fn feed(
     Ok(Verified { end, text })
 }
 
-/// The first sections that the evaluator sends, so many.
-pub fn front_of(
-    alloc: Global,
-    shelf: &Shelf,
-    sent: &[Sent],
-    count: usize,
-) -> Result<List<(Cid, Bytes)>, AllocError> {
-    let mut sections = List::new(alloc);
-    for section in sent.iter().take(count) {
-        if let Some(stored) = shelf.blocks.as_slice().get(section.index) {
-            let block = Bytes::of(alloc, stored.block.as_slice())?;
-            sections.push((section.cid, block))?;
-        }
+/// The numbers of the blocks that the evaluator sends.
+pub fn numbers_of(alloc: Global, sent: &[Sent]) -> Result<Vec<usize>, AllocError> {
+    let mut numbers = Vec::new(alloc);
+    for section in sent {
+        numbers.push(section.index)?;
     }
-    Ok(sections)
+    Ok(numbers)
 }
 
 /// The stored blocks with these numbers as sections.
-pub fn stored_sections(
+pub fn sections_of(
     alloc: Global,
     shelf: &Shelf,
-    indexes: &[usize],
+    numbers: &[usize],
 ) -> Result<List<(Cid, Bytes)>, AllocError> {
     let mut sections = List::new(alloc);
-    for index in indexes {
-        if let Some(stored) = shelf.blocks.as_slice().get(*index) {
+    for number in numbers {
+        if let Some(stored) = shelf.blocks.as_slice().get(*number) {
             let block = Bytes::of(alloc, stored.block.as_slice())?;
             sections.push((stored.cid, block))?;
         }

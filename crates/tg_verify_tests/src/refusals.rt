@@ -1,27 +1,21 @@
 //! Sections that are refused, with what was put before.
-use crate::feeding::{VerifyEnd, feed, stored_sections};
+use crate::feeding::{VerifyEnd, feed, sections_of};
 use std::alloc::{AllocError, Global};
 use std::rt::HostRuntime;
 use std::test::Fail;
 use tg_cid::Cid;
 use tg_model::{BlockFault, LimitKind, Scope};
 use tg_oracle::scoped_query;
-use tg_test_dags::{HELLO_SHARD, Shelf, chain, hello_file, hello_node, hello_root, raw_cid};
+use tg_test_dags::{Shape, Shelf, chain, chain_down, hello_root, raw_cid};
 use tg_verify::Refusal;
 
-/// Sections of a file or of a shard.
+/// What is fed.
 #[derive(Clone, Copy, Debug)]
 enum Fed {
-    /// Stored blocks of the file `hello world` in chunks of 4 bytes, by their numbers: the root, and the leaves from 1 on.
-    Hello(&'static [usize]),
-    /// The same, of which the first leaf's block is `Lell`.
+    /// Stored blocks of a DAG, by their numbers.
+    Stored(Shape, &'static [usize]),
+    /// The same of the file `hello world` in chunks, of which the first leaf's block is `Lell`.
     Changed(&'static [usize]),
-    /// The same, of which the root has other data.
-    Sizes(&'static [u8], &'static [usize]),
-    /// A file whose part is the empty directory.
-    FolderAsPart,
-    /// A shard whose entry stands in another slot than that of its name.
-    Misplaced,
     /// A raw block of so many bytes.
     Large(usize),
     /// A file whose leaf lies so many blocks below the root, the root counted.
@@ -35,8 +29,8 @@ fn numbers(alloc: Global, indexes: &[usize]) -> Result<Vec<usize>, AllocError> {
     Vec::from_slice(alloc, indexes)
 }
 
-fn hello(shelf: &mut Shelf, indexes: &[usize]) -> Result<Stored, AllocError> {
-    let root = hello_file(shelf)?;
+fn stored(shelf: &mut Shelf, shape: Shape, indexes: &[usize]) -> Result<Stored, AllocError> {
+    let root = shape.store(shelf)?;
     Ok((root, numbers(shelf.alloc(), indexes)?))
 }
 
@@ -48,26 +42,6 @@ fn changed(shelf: &mut Shelf, indexes: &[usize]) -> Result<Stored, AllocError> {
     Ok((root, numbers(shelf.alloc(), indexes)?))
 }
 
-fn sizes(shelf: &mut Shelf, payload: &[u8], indexes: &[usize]) -> Result<Stored, AllocError> {
-    let root = hello_node(shelf, payload)?;
-    shelf.raw(b"hell")?;
-    shelf.raw(b"o wo")?;
-    shelf.raw(b"rld")?;
-    Ok((root, numbers(shelf.alloc(), indexes)?))
-}
-
-fn folder_as_part(shelf: &mut Shelf) -> Result<Stored, AllocError> {
-    let folder = shelf.node(&[], b"\x08\x01")?;
-    let root = shelf.node(&[("", folder, 4)], b"\x08\x02\x18\x04\x20\x04")?;
-    Ok((root, numbers(shelf.alloc(), &[1, 0])?))
-}
-
-fn misplaced(shelf: &mut Shelf) -> Result<Stored, AllocError> {
-    let leaf = shelf.raw(b"hello world")?;
-    let root = shelf.node(&[("CBhellp", leaf, 11)], HELLO_SHARD)?;
-    Ok((root, numbers(shelf.alloc(), &[1])?))
-}
-
 fn large(shelf: &mut Shelf, size: usize) -> Result<Stored, AllocError> {
     let alloc = shelf.alloc();
     let block = vec![in alloc; 0; size]?;
@@ -75,24 +49,16 @@ fn large(shelf: &mut Shelf, size: usize) -> Result<Stored, AllocError> {
     Ok((root, numbers(alloc, &[0])?))
 }
 
-/// The chain's blocks stand from its leaf up.
 fn deep(shelf: &mut Shelf, nodes: u32) -> Result<Stored, AllocError> {
     let root = chain(shelf, nodes)?;
-    let mut indexes = Vec::new(shelf.alloc());
-    for index in 0..=nodes as usize {
-        indexes.push((nodes as usize).saturating_sub(index))?;
-    }
-    Ok((root, indexes))
+    Ok((root, chain_down(shelf.alloc(), nodes)?))
 }
 
 /// Stores what is fed.
 fn store(shelf: &mut Shelf, fed: Fed) -> Result<Stored, AllocError> {
     match fed {
-        Fed::Hello(indexes) => hello(shelf, indexes),
+        Fed::Stored(shape, indexes) => stored(shelf, shape, indexes),
         Fed::Changed(indexes) => changed(shelf, indexes),
-        Fed::Sizes(payload, indexes) => sizes(shelf, payload, indexes),
-        Fed::FolderAsPart => folder_as_part(shelf),
-        Fed::Misplaced => misplaced(shelf),
         Fed::Large(size) => large(shelf, size),
         Fed::Deep(nodes) => deep(shelf, nodes),
     }
@@ -160,49 +126,74 @@ const OWN_SIZE: &[u8] = b"\x08\x02\x18\x0c\x20\x04\x20\x04\x20\x03";
 const PART_SIZE: &[u8] = b"\x08\x02\x18\x0c\x20\x04\x20\x05\x20\x03";
 
 const ROWS: &[Row] = &[
-    (Fed::Hello(&[]), &[], Ended::Wants(0), b""),
-    (Fed::Hello(&[0]), &[], Ended::Wants(1), b""),
-    (Fed::Hello(&[0, 1]), &[], Ended::Wants(2), b"hell"),
-    (Fed::Hello(&[0, 1, 2, 3]), &[], Ended::Done, b"hello world"),
+    (Fed::Stored(Shape::Hello, &[]), &[], Ended::Wants(0), b""),
+    (Fed::Stored(Shape::Hello, &[0]), &[], Ended::Wants(1), b""),
+    (
+        Fed::Stored(Shape::Hello, &[0, 1]),
+        &[],
+        Ended::Wants(2),
+        b"hell",
+    ),
+    (
+        Fed::Stored(Shape::Hello, &[0, 1, 2, 3]),
+        &[],
+        Ended::Done,
+        b"hello world",
+    ),
     // A block behind the last, another first, two that change places, one left out, and the root once more.
     (
-        Fed::Hello(&[0, 1, 2, 3, 1]),
+        Fed::Stored(Shape::Hello, &[0, 1, 2, 3, 1]),
         &[],
         Ended::Extra(4),
         b"hello world",
     ),
-    (Fed::Hello(&[1]), &[], Ended::WrongBlock(0, 1), b""),
     (
-        Fed::Hello(&[0, 1, 3, 2]),
+        Fed::Stored(Shape::Hello, &[1]),
+        &[],
+        Ended::WrongBlock(0, 1),
+        b"",
+    ),
+    (
+        Fed::Stored(Shape::Hello, &[0, 1, 3, 2]),
         &[],
         Ended::WrongBlock(2, 3),
         b"hell",
     ),
     (
-        Fed::Hello(&[0, 1, 3]),
+        Fed::Stored(Shape::Hello, &[0, 1, 3]),
         &[],
         Ended::WrongBlock(2, 3),
         b"hell",
     ),
-    (Fed::Hello(&[0, 0]), &[], Ended::WrongBlock(1, 0), b""),
+    (
+        Fed::Stored(Shape::Hello, &[0, 0]),
+        &[],
+        Ended::WrongBlock(1, 0),
+        b"",
+    ),
     (Fed::Changed(&[0, 1]), &[], Ended::BadDigest(1), b""),
     // A block that isn't wanted either is told as one that its CID doesn't name.
     (Fed::Changed(&[1]), &[], Ended::BadDigest(1), b""),
-    (Fed::Sizes(OWN_SIZE, &[0]), &[], Ended::BadSize(12, 11), b""),
     (
-        Fed::Sizes(PART_SIZE, &[0, 1, 2, 3]),
+        Fed::Stored(Shape::Sizes(OWN_SIZE), &[0]),
+        &[],
+        Ended::BadSize(12, 11),
+        b"",
+    ),
+    (
+        Fed::Stored(Shape::Sizes(PART_SIZE), &[0, 1, 2, 3]),
         &[],
         Ended::BadSize(5, 4),
         b"hell",
     ),
     (
-        Fed::FolderAsPart,
+        Fed::Stored(Shape::FolderAsPart, &[1, 0]),
         &[],
         Ended::BadBlock(0, BlockFault::NotPart),
         b"",
     ),
     (
-        Fed::Misplaced,
+        Fed::Stored(Shape::Misplaced, &[1]),
         &[],
         Ended::BadBlock(1, BlockFault::Misplaced { at: 0 }),
         b"",
@@ -221,15 +212,30 @@ const ROWS: &[Row] = &[
         b"",
     ),
     // Out fails at each of its three puts; there is no fourth.
-    (Fed::Hello(&[0, 1, 2, 3]), &[0], Ended::SinkFault, b""),
-    (Fed::Hello(&[0, 1, 2, 3]), &[1], Ended::SinkFault, b"hell"),
     (
-        Fed::Hello(&[0, 1, 2, 3]),
+        Fed::Stored(Shape::Hello, &[0, 1, 2, 3]),
+        &[0],
+        Ended::SinkFault,
+        b"",
+    ),
+    (
+        Fed::Stored(Shape::Hello, &[0, 1, 2, 3]),
+        &[1],
+        Ended::SinkFault,
+        b"hell",
+    ),
+    (
+        Fed::Stored(Shape::Hello, &[0, 1, 2, 3]),
         &[2],
         Ended::SinkFault,
         b"hello wo",
     ),
-    (Fed::Hello(&[0, 1, 2, 3]), &[3], Ended::Done, b"hello world"),
+    (
+        Fed::Stored(Shape::Hello, &[0, 1, 2, 3]),
+        &[3],
+        Ended::Done,
+        b"hello world",
+    ),
 ];
 
 /// Whether the verifier ends so.
@@ -238,7 +244,7 @@ fn ends_so(alloc: Global, row: &Row) -> Result<bool, Fail> {
     let mut shelf = Shelf::new(alloc);
     let (root, indexes) = store(&mut shelf, fed)?;
     let query = scoped_query(alloc, root, &[], Scope::Entity)?;
-    let sections = stored_sections(alloc, &shelf, indexes.as_slice())?;
+    let sections = sections_of(alloc, &shelf, indexes.as_slice())?;
     let done = feed(alloc, &query, &sections, fails)?;
     Ok(done.is(&end_of(&shelf, root, ended), text))
 }
