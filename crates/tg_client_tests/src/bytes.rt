@@ -4,7 +4,7 @@ use std::alloc::{AllocError, Global};
 use std::rt::HostRuntime;
 use std::test::Fail;
 use tg_bytes::Bytes;
-use tg_runs::{Failing, NONE, run_over_streams};
+use tg_runs::{Failing, NONE, Outcome, run_over_streams};
 use tg_test_dags::{Shelf, hello_file, raw_cid};
 
 const F: &str = "bafybeighmzuokpuzyho2ninhgybpych6atkhbn2o57c3hlyer2hntezxly";
@@ -190,62 +190,61 @@ fn each_cut_ends_so(rt: HostRuntime) -> Result<(), Fail> {
     Ok(())
 }
 
-/// Whether a run whose call fails is told so with a front of the answer.
-fn fails_so(
+/// The calls of a run: takes of the input, or puts into out.
+#[derive(Clone, Copy, Debug)]
+enum Calls {
+    Takes,
+    Puts,
+}
+
+/// A run over the CAR in pieces of 16 bytes, in which the call with this number fails.
+fn run_failing(
     alloc: Global,
     car: &[u8],
-    failing: Failing<'_>,
-    line: &str,
-) -> Result<bool, AllocError> {
-    let done = run_over_streams(alloc, &["verify", F], car, 16, failing)?;
-    Ok(
-        done.status == 6
-            && done.err.as_slice() == line.as_bytes()
-            && HELLO.starts_with(done.out.as_slice()),
-    )
+    calls: Calls,
+    number: u64,
+) -> Result<Outcome, AllocError> {
+    let numbers = [number];
+    let failing: Failing<'_> = match calls {
+        Calls::Takes => [&numbers, &[], &[]],
+        Calls::Puts => [&[], &numbers, &[]],
+    };
+    run_over_streams(alloc, &["verify", F], car, 16, failing)
 }
+
+/// The calls, how many there are, and what stands on err where one of them fails.
+type FaultRow = (Calls, u64, &'static str);
 
 // 23 takes of 16 bytes at most give the CAR, and the one behind them its end; three puts give the answer.
-#[test]
-fn each_take_fails_in_turn(rt: HostRuntime) -> Result<(), Fail> {
-    let car = hello_car(rt.alloc())?;
-    for call in 0..24u64 {
-        let calls = [call];
-        let failing: Failing<'_> = [&calls, &[], &[]];
-        assert!(rt;
-            fails_so(rt.alloc(), car.as_slice(), failing, "tgate: InputFault\n")?,
-            "{call}"
-        );
+const FAULTS: &[FaultRow] = &[
+    (Calls::Takes, 24, "tgate: InputFault\n"),
+    (Calls::Puts, 3, "tgate: SinkFault\n"),
+];
+
+/// Whether each call that fails is told with a front of the answer, and there is no further one.
+fn faults_are_told(alloc: Global, car: &[u8], row: &FaultRow) -> Result<bool, AllocError> {
+    let (calls, count, line) = *row;
+    for number in 0..count {
+        let done = run_failing(alloc, car, calls, number)?;
+        if done.status != 6
+            || done.err.as_slice() != line.as_bytes()
+            || !HELLO.starts_with(done.out.as_slice())
+        {
+            return Ok(false);
+        }
     }
-    let done = run_over_streams(
-        rt.alloc(),
-        &["verify", F],
-        car.as_slice(),
-        16,
-        [&[24], &[], &[]],
-    )?;
-    assert!(rt; done.is(0, HELLO, ""));
-    Ok(())
+    let done = run_failing(alloc, car, calls, count)?;
+    Ok(done.is(0, HELLO, ""))
 }
 
 #[test]
-fn each_put_fails_in_turn(rt: HostRuntime) -> Result<(), Fail> {
+fn each_call_fails_in_turn(rt: HostRuntime) -> Result<(), Fail> {
     let car = hello_car(rt.alloc())?;
-    for call in 0..3u64 {
-        let calls = [call];
-        let failing: Failing<'_> = [&[], &calls, &[]];
+    for row in FAULTS {
         assert!(rt;
-            fails_so(rt.alloc(), car.as_slice(), failing, "tgate: SinkFault\n")?,
-            "{call}"
+            faults_are_told(rt.alloc(), car.as_slice(), row)?,
+            "{row:?}"
         );
     }
-    let done = run_over_streams(
-        rt.alloc(),
-        &["verify", F],
-        car.as_slice(),
-        16,
-        [&[], &[3], &[]],
-    )?;
-    assert!(rt; done.is(0, HELLO, ""));
     Ok(())
 }
