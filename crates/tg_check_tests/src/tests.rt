@@ -1,8 +1,9 @@
 //! `check`, `cid` and `node` over streams in memory.
+use std::alloc::{AllocError, Global};
 use std::rt::HostRuntime;
 use std::test::Fail;
 use tg_bytes::zeros;
-use tg_runs::{Failing, NONE, run_over_streams};
+use tg_runs::{Failing, NONE, Outcome, run_over_streams};
 
 /// The raw CID of `hello world`, that of no bytes, and the dag-pb CID of the empty directory.
 const H: &str = "bafkreifzjut3te2nhyekklss27nh3k72ysco7y32koao5eei66wof36n5e";
@@ -118,17 +119,21 @@ fn commands_answer(rt: HostRuntime) -> Result<(), Fail> {
     Ok(())
 }
 
+/// A command over so many zero bytes.
+fn run_over_zeros(alloc: Global, command: &str, size: usize) -> Result<Outcome, AllocError> {
+    let bytes = zeros(alloc, size)?;
+    run_over_streams(alloc, &[command, H], bytes.as_slice(), 65_536, NONE)
+}
+
 #[test]
 fn blocks_are_limited(rt: HostRuntime) -> Result<(), Fail> {
-    let one_more = zeros(rt.alloc(), 2_097_153)?;
-    let largest = zeros(rt.alloc(), 2_097_152)?;
     for command in ["check", "node"] {
-        let over = run_over_streams(rt.alloc(), &[command, H], one_more.as_slice(), 65_536, NONE)?;
+        let over = run_over_zeros(rt.alloc(), command, 2_097_153)?;
         assert!(rt;
             over.is(7, b"", "tgate: Limit Block 2097152\n"),
             "{command}: {over:?}"
         );
-        let exact = run_over_streams(rt.alloc(), &[command, H], largest.as_slice(), 65_536, NONE)?;
+        let exact = run_over_zeros(rt.alloc(), command, 2_097_152)?;
         assert!(rt;
             exact.status == 3 && exact.out.is_empty(),
             "{command}: {exact:?}"

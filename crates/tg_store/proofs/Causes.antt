@@ -224,15 +224,15 @@ pub record Course (content : List ℕ) : Type 0 where
   pub sound : IsSound roots sections
 
 -- a content of which a front reaches these sections, with what is behind them
-course_of : (content : List ℕ) {front : List ℕ} {sections : List Section} {left rest : List ℕ} → (r : Reaches max_block_len front sections left) → IsSound r.roots sections
-    → content ≡ r.header ++ (r.done ++ rest) → Course content
-course_of content {sections = sections} {rest = rest} r sound whole = record {
+abbrev course_of : (content : List ℕ) {front : List ℕ} {sections : List Section} {left : List ℕ} (rest : List ℕ) → (r : Reaches max_block_len front sections left)
+    → IsSound r.roots sections → content ≡ r.header ++ (r.done ++ rest) → Course content
+course_of content {sections = sections} rest r sound parts = record {
   roots = r.roots;
   header = r.header;
   sections = sections;
   done = r.done;
   rest = rest;
-  whole_is = whole;
+  whole_is = parts;
   header_is = r.header_is;
   sections_are = r.sections_are;
   small = r.within;
@@ -366,7 +366,7 @@ module _ (laws : CarLaws) (spellings : SpellingLaws) (cids : CidsOnce) where
       n.whole ∙ (ap (λ (l : List ℕ). l ++ n.more) (b.whole ∙ ap (λ (l : List ℕ). l ++ b.last ∷ []) r.whole)
       ∙ (append_assoc (r.header ++ (r.done ++ b.rest)) (b.last ∷ []) n.more
       ∙ (append_assoc r.header (r.done ++ b.rest) (b.last ∷ n.more) ∙ ap (λ (l : List ℕ). r.header ++ l) (append_assoc r.done b.rest (b.last ∷ n.more))))) in
-      let course : Course content = course_of content r n.sound whole_is in
+      let course : Course content = course_of content rest r n.sound whole_is in
       let none : (section : Section) (behind : List ℕ) → SectionText section ((b.rest ++ b.last ∷ []) ++ behind) → ⊥ = λ section behind text.
       b.hopeless (
         r.roots,
@@ -399,7 +399,7 @@ module _ (laws : CarLaws) (spellings : SpellingLaws) (cids : CidsOnce) where
       let rest : List ℕ = head ++ n.more in
       let whole_is : content ≡ r.header ++ (r.done ++ rest) =
       n.whole ∙ (ap (λ (l : List ℕ). l ++ n.more) r.whole ∙ (append_assoc r.header (r.done ++ head) n.more ∙ ap (λ (l : List ℕ). r.header ++ l) (append_assoc r.done head n.more))) in
-      let course : Course content = course_of content r n.sound whole_is in
+      let course : Course content = course_of content rest r n.sound whole_is in
       let size : length content ≡ length n.front + length n.more = ap length n.whole ∙ length-append n.front n.more in
       let left : length rest ≡ length head + length n.more = length-append head n.more in
       let place_is : n.place ≡ length n.front - length head = p.at_is in
@@ -414,7 +414,7 @@ module _ (laws : CarLaws) (spellings : SpellingLaws) (cids : CidsOnce) where
       let r = n.reaches in
       let rest : List ℕ = n.text ++ n.more in
       let front_is : n.front ≡ r.header ++ r.done = r.whole ∙ ap (λ (l : List ℕ). r.header ++ l) (append-nil r.done) in
-      let course : Course content = course_of content r n.sound (n.whole ∙ (ap (λ (l : List ℕ). l ++ rest) front_is ∙ append_assoc r.header r.done rest)) in
+      let course : Course content = course_of content rest r n.sound (n.whole ∙ (ap (λ (l : List ℕ). l ++ rest) front_is ∙ append_assoc r.header r.done rest)) in
       let size : length content ≡ length n.front + length rest = ap length n.whole ∙ length-append n.front rest in
       let place : length content - length rest ≡ length n.front = omega arith in (
         ends (length rest) wrong,
@@ -426,7 +426,7 @@ module _ (laws : CarLaws) (spellings : SpellingLaws) (cids : CidsOnce) where
   shows_inside content at n =
       let e = n.ends in
       let r = e.reaches in
-      let course : Course content = course_of content r n.sound r.whole in
+      let course : Course content = course_of content e.rest r n.sound r.whole in
       let place : length content - length e.rest ≡ n.place = sym e.at_is in (
         ends (length e.rest) inside,
         (course, refl, (e.inside, e.begun, n.within)),

@@ -32,7 +32,7 @@ returns-in_err-body-clause-verifies g c dups =
 
 pub loop-filled-init : goal.loop-filled-init
 loop-filled-init g c = record {
-  room = omega arith;
+  room = omega (arith, c.in_ok-room.ensures.size);
   query = c.in_ok-body.ensures.query;
   limits = c.in_ok-body.ensures.limits;
   fresh = c.in_ok-body.ensures.fresh;

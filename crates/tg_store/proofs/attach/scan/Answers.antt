@@ -1,4 +1,4 @@
-use Rattle.std.proofs.Common.{[], ℕ, List, Option, refl, subst, ◌∙◌, arith}
+use Rattle.std.proofs.Common.{[], ℕ, List, Option, refl, subst, sym, ◌∙◌, arith}
 use Rattle.std.proofs.lemmas.Result.{MatchResult-weaker, err_from_is_err_and}
 use Rattle.tg_bytes.specs.Told.{IsNothing}
 use Rattle.tg_files.specs.Packs.{did_joins, pack_step, rest_at}
@@ -9,11 +9,16 @@ use Rattle.tg_store.proofs.attach.scan.Goals as goal
 
 pub loop-init : goal.loop-init
 loop-init g c = record {
-  room = omega arith;
+  room = omega (arith, c.in-Ok.ensures.size);
   same = did_nothing g.P.Pack.pack g.met.P.Pack.rests g.met.P.Pack.joins c.args.pack.now;
   quiet = refl;
   read = begun c.new-indexing.result.reader c.new-indexing.result.found.places.entries (g.P.Pack.pack.content c.args.pack.now) c.new-indexing.result.found.end c.new-indexing.ensures.0 c.new-indexing.ensures.1;
 }
+
+pub read_on-requires-clause-before : goal.read_on-requires-clause-before
+read_on-requires-clause-before g c =
+    subst (λ (o : Option (List ℕ)). IsReadTo c.loop.indexing.reader c.loop.indexing.found.places.entries o c.loop.indexing.found.end)
+    (sym c.loop.invariant.same.content) c.loop.invariant.read
 
 pub returns-in_err-count-clause-same : goal.returns-in_err-count-clause-same
 returns-in_err-count-clause-same g c = did_joins g.P.Pack.pack g.met.P.Pack.joins c.args.pack.now c.loop.pack c.read_on.new.pack [] [] c.loop.invariant.same c.read_on.ensures.same
