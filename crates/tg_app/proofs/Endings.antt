@@ -36,11 +36,11 @@ use Rattle.tg_app.specs.Commands.{AllUntouched, CommandEnds, Ends, IsNoCommand, 
 use Rattle.tg_app.specs.Exports.{ExportAnswers, Exported, ExportedNothing, HasAnswer, IsExportRefusal, IsRisen, LeadsNowhere, TellsExport}
 use Rattle.tg_app.specs.Imports.{ImportAnswers, Imported, IsGoodFolder, IsImportRefusal, options_of, refusal_of_import}
 use Rattle.tg_app.specs.Objects.{Files, Objects, SameFiles}
-use Rattle.tg_app.specs.declared.refusal.Refusal.{Refusal}
-use Rattle.tg_app.specs.declared.refusal.Refusal.TheVariants.{Usage, BadDigest, BadBlock, BlockLimit, InputFault, SinkFault, OutOfMemory}
+use Rattle.tg_app.specs.declared.fault.CommandFault.{CommandFault}
+use Rattle.tg_app.specs.declared.fault.CommandFault.TheVariants.{Usage, BadDigest, BadBlock, BlockLimit, InputFault, SinkFault, OutOfMemory}
 use Rattle.tg_app.proofs.Statuses.{not_zero}
 use Rattle.tg_app.proofs.VerifyEndings.{no_verify_usage, unverified, verify_fault, verify_quiet}
-use Rattle.tg_traverse.specs.Verified.{VerifiedStarts}
+use Rattle.tg_traversal_laws.specs.Verified.{VerifiedStarts}
 
 -- ---- the command that the words spell
 
@@ -62,7 +62,7 @@ memory_ends words (Export parts) objects starts line all =
 memory_ends words (Import parts) objects starts line all = (all.streams.untaken, not_imported (options_of parts) objects.files objects.out all.files all.streams.unput)
 memory_ends words (Verify q) objects starts line all = (all.files, unverified q objects.input objects.out starts line.asked.dups all.streams)
 
-pub ends_of : VerifiedStarts → (words : List (List ℕ)) (command : Command) (objects : Objects) (end : Option Refusal) → CommandLine words command
+pub ends_of : VerifiedStarts → (words : List (List ℕ)) (command : Command) (objects : Objects) (end : Option CommandFault) → CommandLine words command
     → Ends words objects end → CommandEnds command objects end
 ends_of starts words command objects end line (inl none) = absurd (none.none command line)
 ends_of starts words command objects end line (inr (inl memory)) =
@@ -71,18 +71,18 @@ ends_of starts words command objects end line (inr (inr did)) = subst (λ (k : C
 
 -- ---- ends by their status
 
-eight_is : (end : Option Refusal) → exit_status end ≡ 8 → end ≡ Some OutOfMemory
+eight_is : (end : Option CommandFault) → exit_status end ≡ 8 → end ≡ Some OutOfMemory
 eight_is (Some OutOfMemory) e = refl
 eight_is end e = cc
 
-two_is : (end : Option Refusal) → exit_status end ≡ 2 → end ≡ Some Usage
+two_is : (end : Option CommandFault) → exit_status end ≡ 2 → end ≡ Some Usage
 two_is (Some Usage) e = refl
 two_is end e = cc
 
-usage_has_2 : (end : Option Refusal) → end ≡ Some Usage → exit_status end ≡ 8 → ⊥
+usage_has_2 : (end : Option CommandFault) → end ≡ Some Usage → exit_status end ≡ 8 → ⊥
 usage_has_2 end e eight = let two : exit_status (Some Usage) ≡ 8 = sym (ap exit_status e) ∙ eight in cc
 
-pub memory_of : (words : List (List ℕ)) (objects : Objects) (end : Option Refusal) → exit_status end ≡ 8 → Ends words objects end → WantsMemory words objects
+pub memory_of : (words : List (List ℕ)) (objects : Objects) (end : Option CommandFault) → exit_status end ≡ 8 → Ends words objects end → WantsMemory words objects
 memory_of words objects end e (inl none) = absurd (usage_has_2 end none.end_is e)
 memory_of words objects end e (inr (inl memory)) = inl memory.untouched
 memory_of words objects end e (inr (inr did)) = inr (did.command, did.the, subst (CommandEnds did.command objects) (eight_is end e) did.ends)
@@ -156,28 +156,28 @@ no_usage (Export parts) objects ends = no_export_usage parts.query objects.files
 no_usage (Import parts) objects ends = no_import_usage (options_of parts) objects.files objects.out ends.1
 no_usage (Verify q) objects ends = no_verify_usage q objects.input objects.out ends.1
 
-memory_isnt_2 : (end : Option Refusal) → end ≡ Some OutOfMemory → exit_status end ≡ 2 → ⊥
+memory_isnt_2 : (end : Option CommandFault) → end ≡ Some OutOfMemory → exit_status end ≡ 2 → ⊥
 memory_isnt_2 end e two = let eight : exit_status (Some OutOfMemory) ≡ 2 = sym (ap exit_status e) ∙ two in cc
 
-no_command_of : (words : List (List ℕ)) (objects : Objects) (end : Option Refusal) → exit_status end ≡ 2 → Ends words objects end → NoCommandEnds words objects end
+no_command_of : (words : List (List ℕ)) (objects : Objects) (end : Option CommandFault) → exit_status end ≡ 2 → Ends words objects end → NoCommandEnds words objects end
 no_command_of words objects end e (inl none) = none
 no_command_of words objects end e (inr (inl memory)) = absurd (memory_isnt_2 end memory.end_is e)
 no_command_of words objects end e (inr (inr did)) = absurd (no_usage did.command objects (subst (CommandEnds did.command objects) (two_is end e) did.ends))
 
-pub usage_of : (words : List (List ℕ)) (objects : Objects) (end : Option Refusal) → exit_status end ≡ 2 → Ends words objects end → IsNoCommand words
+pub usage_of : (words : List (List ℕ)) (objects : Objects) (end : Option CommandFault) → exit_status end ≡ 2 → Ends words objects end → IsNoCommand words
 usage_of words objects end e ends = (no_command_of words objects end e ends).none
 
-pub untouched_of : (words : List (List ℕ)) (objects : Objects) (end : Option Refusal) → exit_status end ≡ 2 → Ends words objects end → AllUntouched objects
+pub untouched_of : (words : List (List ℕ)) (objects : Objects) (end : Option CommandFault) → exit_status end ≡ 2 → Ends words objects end → AllUntouched objects
 untouched_of words objects end e ends = (no_command_of words objects end e ends).untouched
 
-pub refused_of : (words : List (List ℕ)) (objects : Objects) (end : Option Refusal) → IsNoCommand words → Ends words objects end → (exit_status end ≡ 2) ⊎ (exit_status end ≡ 8)
+pub refused_of : (words : List (List ℕ)) (objects : Objects) (end : Option CommandFault) → IsNoCommand words → Ends words objects end → (exit_status end ≡ 2) ⊎ (exit_status end ≡ 8)
 refused_of words objects end never (inl none) = inl (ap exit_status none.end_is)
 refused_of words objects end never (inr (inl memory)) = inr (ap exit_status memory.end_is)
 refused_of words objects end never (inr (inr did)) = absurd (never did.command did.the.spelled)
 
 -- ---- commands over blocks
 
-pub kept_of : (command : Command) (objects : Objects) (end : Option Refusal) → UsesNoFiles command → CommandEnds command objects end → SameFiles objects.files
+pub kept_of : (command : Command) (objects : Objects) (end : Option CommandFault) → UsesNoFiles command → CommandEnds command objects end → SameFiles objects.files
 kept_of (Check cid) objects end uses ends = ends.0
 kept_of (Node cid) objects end uses ends = ends.0
 kept_of (CidToHex cid) objects end uses ends = ends.0
@@ -186,7 +186,7 @@ kept_of (Verify q) objects end uses ends = ends.0
 kept_of (Export parts) objects end uses ends = absurd uses
 kept_of (Import parts) objects end uses ends = absurd uses
 
-check_fault : (cid : CidParts) (input : Input) (out : Output) (end : Option Refusal) → exit_status end ≡ 6 → CheckEnds cid input out end → InputRose input ⊎ OutputRose out
+check_fault : (cid : CidParts) (input : Input) (out : Output) (end : Option CommandFault) → exit_status end ≡ 6 → CheckEnds cid input out end → InputRose input ⊎ OutputRose out
 check_fault cid input out (Some InputFault) e ends = inl ends.0.rose
 check_fault cid input out (Some SinkFault) e ends = inr ends.front.rose
 check_fault cid input out (Some OutOfMemory) e ends = cc
@@ -195,7 +195,7 @@ check_fault cid input out (Some (BadDigest text)) e ends = cc
 check_fault cid input out None e ends = cc
 check_fault cid input out (Some refusal) e ends = absurd ends.0
 
-node_fault : (cid : CidParts) (input : Input) (out : Output) (end : Option Refusal) → exit_status end ≡ 6 → NodeEnds cid input out end → InputRose input ⊎ OutputRose out
+node_fault : (cid : CidParts) (input : Input) (out : Output) (end : Option CommandFault) → exit_status end ≡ 6 → NodeEnds cid input out end → InputRose input ⊎ OutputRose out
 node_fault cid input out (Some InputFault) e ends = inl ends.0.rose
 node_fault cid input out (Some SinkFault) e ends = inr ends.front.rose
 node_fault cid input out (Some OutOfMemory) e ends = cc
@@ -205,13 +205,13 @@ node_fault cid input out (Some (BadBlock text fault)) e ends = cc
 node_fault cid input out None e ends = cc
 node_fault cid input out (Some refusal) e ends = absurd ends.0
 
-print_fault : (IsLine : List ℕ → Type 0) (out : Output) (end : Option Refusal) → exit_status end ≡ 6 → PrintEnds IsLine out end → OutputRose out
+print_fault : (IsLine : List ℕ → Type 0) (out : Output) (end : Option CommandFault) → exit_status end ≡ 6 → PrintEnds IsLine out end → OutputRose out
 print_fault IsLine out (Some SinkFault) e ends = ends.front.rose
 print_fault IsLine out (Some OutOfMemory) e ends = cc
 print_fault IsLine out None e ends = cc
 print_fault IsLine out (Some refusal) e ends = absurd ends
 
-pub fault_of : (command : Command) (objects : Objects) (end : Option Refusal) → UsesNoFiles command → exit_status end ≡ 6 → CommandEnds command objects end
+pub fault_of : (command : Command) (objects : Objects) (end : Option CommandFault) → UsesNoFiles command → exit_status end ≡ 6 → CommandEnds command objects end
     → InputRose objects.input ⊎ OutputRose objects.out
 fault_of (Check cid) objects end uses e ends = check_fault cid objects.input objects.out end e ends.1
 fault_of (Node cid) objects end uses e ends = node_fault cid objects.input objects.out end e ends.1
@@ -221,7 +221,7 @@ fault_of (Verify q) objects end uses e ends = verify_fault q objects.input objec
 fault_of (Export parts) objects end uses e ends = absurd uses
 fault_of (Import parts) objects end uses e ends = absurd uses
 
-check_passed : (cid : CidParts) (input : Input) (out : Output) (end : Option Refusal) → exit_status end ≡ 7 → CheckEnds cid input out end → PassedLimit input × OutputUntouched out
+check_passed : (cid : CidParts) (input : Input) (out : Output) (end : Option CommandFault) → exit_status end ≡ 7 → CheckEnds cid input out end → PassedLimit input × OutputUntouched out
 check_passed cid input out (Some InputFault) e ends = cc
 check_passed cid input out (Some SinkFault) e ends = cc
 check_passed cid input out (Some OutOfMemory) e ends = cc
@@ -230,7 +230,7 @@ check_passed cid input out (Some (BadDigest text)) e ends = cc
 check_passed cid input out None e ends = cc
 check_passed cid input out (Some refusal) e ends = absurd ends.0
 
-node_passed : (cid : CidParts) (input : Input) (out : Output) (end : Option Refusal) → exit_status end ≡ 7 → NodeEnds cid input out end → PassedLimit input × OutputUntouched out
+node_passed : (cid : CidParts) (input : Input) (out : Output) (end : Option CommandFault) → exit_status end ≡ 7 → NodeEnds cid input out end → PassedLimit input × OutputUntouched out
 node_passed cid input out (Some InputFault) e ends = cc
 node_passed cid input out (Some SinkFault) e ends = cc
 node_passed cid input out (Some OutOfMemory) e ends = cc
@@ -240,7 +240,7 @@ node_passed cid input out (Some (BadBlock text fault)) e ends = cc
 node_passed cid input out None e ends = cc
 node_passed cid input out (Some refusal) e ends = absurd ends.0
 
-pub passed_of : (command : Command) (objects : Objects) (end : Option Refusal) → ReadsBlock command → exit_status end ≡ 7 → CommandEnds command objects end
+pub passed_of : (command : Command) (objects : Objects) (end : Option CommandFault) → ReadsBlock command → exit_status end ≡ 7 → CommandEnds command objects end
     → PassedLimit objects.input × OutputUntouched objects.out
 passed_of (Check cid) objects end reads e ends = check_passed cid objects.input objects.out end e ends.1
 passed_of (Node cid) objects end reads e ends = node_passed cid objects.input objects.out end e ends.1
@@ -256,7 +256,7 @@ passed_of (Verify q) objects end reads e ends = absurd reads
 AreQuiet : Input → Output → Type 0
 AreQuiet input out = InputQuiet input × OutputQuiet out
 
-check_quiet : (cid : CidParts) (input : Input) (out : Output) (end : Option Refusal) → exit_status end ≢ 6 → CheckEnds cid input out end → InputQuiet input × OutputQuiet out
+check_quiet : (cid : CidParts) (input : Input) (out : Output) (end : Option CommandFault) → exit_status end ≢ 6 → CheckEnds cid input out end → InputQuiet input × OutputQuiet out
 check_quiet cid input out None ne ends = (ends.read.taken.quiet, ends.put.quiet)
 check_quiet cid input out (Some SinkFault) ne ends = absurd (ne refl)
 check_quiet cid input out (Some OutOfMemory) ne ends = (ends.untaken.quiet, ends.unput.quiet)
@@ -265,7 +265,7 @@ check_quiet cid input out (Some BlockLimit) ne ends = (ends.0.quiet, ends.1.quie
 check_quiet cid input out (Some (BadDigest text)) ne ends = (ends.0.1.taken.quiet, ends.1.quiet)
 check_quiet cid input out (Some refusal) ne ends = absurd ends.0
 
-node_quiet : (cid : CidParts) (input : Input) (out : Output) (end : Option Refusal) → exit_status end ≢ 6 → NodeEnds cid input out end → InputQuiet input × OutputQuiet out
+node_quiet : (cid : CidParts) (input : Input) (out : Output) (end : Option CommandFault) → exit_status end ≢ 6 → NodeEnds cid input out end → InputQuiet input × OutputQuiet out
 node_quiet cid input out None ne ends = (ends.read.taken.quiet, ends.put.quiet)
 node_quiet cid input out (Some SinkFault) ne ends = absurd (ne refl)
 node_quiet cid input out (Some OutOfMemory) ne ends =
@@ -276,7 +276,7 @@ node_quiet cid input out (Some (BadDigest text)) ne ends = (ends.0.1.taken.quiet
 node_quiet cid input out (Some (BadBlock text fault)) ne ends = (ends.1.read.taken.quiet, ends.1.unput.quiet)
 node_quiet cid input out (Some refusal) ne ends = absurd ends.0
 
-print_quiet : (IsLine : List ℕ → Type 0) (out : Output) (end : Option Refusal) → exit_status end ≢ 6 → PrintEnds IsLine out end → OutputQuiet out
+print_quiet : (IsLine : List ℕ → Type 0) (out : Output) (end : Option CommandFault) → exit_status end ≢ 6 → PrintEnds IsLine out end → OutputQuiet out
 print_quiet IsLine out None ne ends = ends.put.quiet
 print_quiet IsLine out (Some SinkFault) ne ends = absurd (ne refl)
 print_quiet IsLine out (Some OutOfMemory) ne ends = ends.quiet
@@ -299,21 +299,21 @@ export_ends_quiet q step out exports.OutOfMemory never ends =
     elim ends [ inl nothing ↦ nothing.quiet | inr attached ↦ car_quiet q attached.told out exports.OutOfMemory never attached.ends ]
 
 -- a fault of out is refused with status 6
-sink_is_6 : (fault : ExportFault) (refusal : Refusal) → fault ≡ exports.SinkFault → IsExportRefusal fault refusal → status_of refusal ≡ 6
+sink_is_6 : (fault : ExportFault) (refusal : CommandFault) → fault ≡ exports.SinkFault → IsExportRefusal fault refusal → status_of refusal ≡ 6
 sink_is_6 fault refusal e h = by (subst (λ (f : ExportFault). IsExportRefusal f refusal) e h)
   where
     by : IsExportRefusal exports.SinkFault refusal → status_of refusal ≡ 6
     by (inl tells) = ap status_of tells
     by (inr memory) = absurd memory.0
 
-export_quiet : (q : QueryParts) (step : PackStep) (same : Type 0) (out : Output) (end : Option Refusal) → exit_status end ≢ 6 → ExportAnswers q step same out end → OutputQuiet out
+export_quiet : (q : QueryParts) (step : PackStep) (same : Type 0) (out : Output) (end : Option CommandFault) → exit_status end ≢ 6 → ExportAnswers q step same out end → OutputQuiet out
 export_quiet q step same out None ne ends = ends.ends.ends.is_done.quiet
 export_quiet q step same out (Some refusal) ne (inl refused) =
     export_ends_quiet q step out refused.fault (λ sink. ne (sink_is_6 refused.fault refusal sink refused.tells)) refused.ends
 export_quiet q step same out (Some refusal) ne (inr (inl none)) = none.unput.quiet
 export_quiet q step same out (Some refusal) ne (inr (inr unbegun)) = unbegun.unput.quiet
 
-import_quiet : (options : Options) (files : Files) (out : Output) (end : Option Refusal) → exit_status end ≢ 6 → ImportAnswers options files out end → OutputQuiet out
+import_quiet : (options : Options) (files : Files) (out : Output) (end : Option CommandFault) → exit_status end ≢ 6 → ImportAnswers options files out end → OutputQuiet out
 import_quiet options files out None ne ends = ends.is_said.is_put.quiet
 import_quiet options files out (Some refusal) ne (inl (inl refused)) = refused.unput.quiet
 import_quiet options files out (Some refusal) ne (inr (inl none)) = none.unput.quiet
@@ -322,7 +322,7 @@ import_quiet options files out (Some refusal) ne (inl (inr (inr (inl unput)))) =
 import_quiet options files out (Some refusal) ne (inl (inr (inr (inr unsaid)))) = unsaid.in_pack.is_said.quiet
 import_quiet options files out (Some refusal) ne (inr (inr unbegun)) = unbegun.unput.quiet
 
-command_quiet : (command : Command) (objects : Objects) (end : Option Refusal) → exit_status end ≢ 6 → CommandEnds command objects end
+command_quiet : (command : Command) (objects : Objects) (end : Option CommandFault) → exit_status end ≢ 6 → CommandEnds command objects end
     → InputQuiet objects.input × OutputQuiet objects.out
 command_quiet (Check cid) objects end ne ends = check_quiet cid objects.input objects.out end ne ends.1
 command_quiet (Node cid) objects end ne ends = node_quiet cid objects.input objects.out end ne ends.1
@@ -332,7 +332,7 @@ command_quiet (Export parts) objects end ne ends = (ends.1.quiet, export_quiet p
 command_quiet (Import parts) objects end ne ends = (ends.0.quiet, import_quiet (options_of parts) objects.files objects.out end ne ends.1)
 command_quiet (Verify q) objects end ne ends = verify_quiet q objects.input objects.out end ne ends.1
 
-pub quiet_of : (words : List (List ℕ)) (objects : Objects) (end : Option Refusal) → exit_status end ≢ 6 → Ends words objects end
+pub quiet_of : (words : List (List ℕ)) (objects : Objects) (end : Option CommandFault) → exit_status end ≢ 6 → Ends words objects end
     → InputQuiet objects.input × OutputQuiet objects.out
 quiet_of words objects end ne (inl none) = (none.untouched.streams.untaken.quiet, none.untouched.streams.unput.quiet)
 quiet_of words objects end ne (inr (inl memory)) = (memory.untouched.streams.untaken.quiet, memory.untouched.streams.unput.quiet)
@@ -340,11 +340,11 @@ quiet_of words objects end ne (inr (inr did)) = command_quiet did.command object
 
 -- ---- `export`
 
-pub exported_of : (q : QueryParts) (step : PackStep) (same : Type 0) (out : Output) (end : Option Refusal) → exit_status end ≡ 0 → ExportAnswers q step same out end → Exported q step out
+pub exported_of : (q : QueryParts) (step : PackStep) (same : Type 0) (out : Output) (end : Option CommandFault) → exit_status end ≡ 0 → ExportAnswers q step same out end → Exported q step out
 exported_of q step same out None e ends = ends
 exported_of q step same out (Some refusal) e ends = absurd (not_zero refusal e)
 
-tells_9 : (fault : ExportFault) (refusal : Refusal) → status_of refusal ≡ 9 → TellsExport fault refusal → LeadsNowhere fault
+tells_9 : (fault : ExportFault) (refusal : CommandFault) → status_of refusal ≡ 9 → TellsExport fault refusal → LeadsNowhere fault
 tells_9 (exports.Pack (packs.NotCar at)) refusal e h = let k = sym (ap status_of h) ∙ e in cc
 tells_9 (exports.Pack (packs.BadDigest at)) refusal e h = let k = sym (ap status_of h) ∙ e in cc
 tells_9 (exports.Pack packs.Unfinished) refusal e h = let k = sym (ap status_of h) ∙ e in cc
@@ -373,11 +373,11 @@ tells_9 (exports.Resolve (paths.NotFolder segment)) refusal e h = tt
 tells_9 (exports.Walk (walks.NotThere segment)) refusal e h = tt
 tells_9 (exports.Walk (walks.NotFolder segment)) refusal e h = tt
 
-nine_refused : (fault : ExportFault) (refusal : Refusal) → status_of refusal ≡ 9 → IsExportRefusal fault refusal → LeadsNowhere fault
+nine_refused : (fault : ExportFault) (refusal : CommandFault) → status_of refusal ≡ 9 → IsExportRefusal fault refusal → LeadsNowhere fault
 nine_refused fault refusal e (inl tells) = tells_9 fault refusal e tells
 nine_refused fault refusal e (inr memory) = let k = sym (ap status_of memory.1) ∙ e in cc
 
-pub nowhere_of : (q : QueryParts) (step : PackStep) (same : Type 0) (out : Output) (end : Option Refusal) → exit_status end ≡ 9 → ExportAnswers q step same out end → ExportedNothing q step out
+pub nowhere_of : (q : QueryParts) (step : PackStep) (same : Type 0) (out : Output) (end : Option CommandFault) → exit_status end ≡ 9 → ExportAnswers q step same out end → ExportedNothing q step out
 nowhere_of q step same out None e ends = cc
 nowhere_of q step same out (Some refusal) e (inl refused) =
     record { fault = refused.fault; nowhere = nine_refused refused.fault refusal e refused.tells; ends = refused.ends }
@@ -385,7 +385,7 @@ nowhere_of q step same out (Some refusal) e (inr (inl none)) = let k = sym (ap s
 nowhere_of q step same out (Some refusal) e (inr (inr unbegun)) = let k = sym (ap status_of unbegun.is) ∙ e in cc
 
 -- want of memory alone is left
-else_8 : (q : QueryParts) (step : PackStep) (out : Output) (fault : ExportFault) (refusal : Refusal) → (IsRisen step → ⊥) → (OutputRose out → ⊥)
+else_8 : (q : QueryParts) (step : PackStep) (out : Output) (fault : ExportFault) (refusal : CommandFault) → (IsRisen step → ⊥) → (OutputRose out → ⊥)
     → IsExportedElse (Err fault) → IsExportRefusal fault refusal → ExportEnds q step out (Err fault) → HasPackedCause step (Err fault) → status_of refusal ≡ 8
 else_8 q step out (exports.Pack packs.Failed) refusal no_pack no_out k tells ends cause = absurd (no_pack ends.0.rose)
 else_8 q step out (exports.Resolve (paths.Store stores.Failed)) refusal no_pack no_out k tells ends cause = absurd (no_pack cause)
@@ -395,7 +395,7 @@ else_8 q step out exports.OutOfMemory refusal no_pack no_out k (inl tells) ends 
 else_8 q step out exports.OutOfMemory refusal no_pack no_out k (inr memory) ends cause = absurd memory.0
 else_8 q step out fault refusal no_pack no_out k tells ends cause = absurd k
 
-pub export_answered_of : (q : QueryParts) (step : PackStep) (same : Type 0) (out : Output) (end : Option Refusal) → HasAnswer q step.content_old
+pub export_answered_of : (q : QueryParts) (step : PackStep) (same : Type 0) (out : Output) (end : Option CommandFault) → HasAnswer q step.content_old
     → (IsRisen step → ⊥) → (OutputRose out → ⊥) → ExportAnswers q step same out end → (exit_status end ≡ 8) ⊎ (exit_status end ≡ 0)
 export_answered_of q step same out None answer no_pack no_out ends = inr refl
 export_answered_of q step same out (Some refusal) answer no_pack no_out (inl refused) =
@@ -405,11 +405,11 @@ export_answered_of q step same out (Some refusal) answer no_pack no_out (inr (in
 
 -- ---- `import`
 
-pub imported_of : (options : Options) (files : Files) (out : Output) (end : Option Refusal) → exit_status end ≡ 0 → ImportAnswers options files out end → Imported options files out
+pub imported_of : (options : Options) (files : Files) (out : Output) (end : Option CommandFault) → exit_status end ≡ 0 → ImportAnswers options files out end → Imported options files out
 imported_of options files out None e ends = ends
 imported_of options files out (Some refusal) e ends = absurd (not_zero refusal e)
 
-good_8 : (options : Options) (files : Files) (fault : ImportFault) (refusal : Refusal) → IsGoodFolder options files.folder.tree_new
+good_8 : (options : Options) (files : Files) (fault : ImportFault) (refusal : CommandFault) → IsGoodFolder options files.folder.tree_new
     → (FolderRose files.folder → ⊥) → (PackRose files.pack → ⊥) → IsPackingCause options files.folder.tree_new fault files.folder files.pack
     → IsImportRefusal fault refusal → status_of refusal ≡ 8
 good_8 options files imports.Folder refusal good no_folder no_pack cause is = absurd (no_folder cause.0)
@@ -418,7 +418,7 @@ good_8 options files imports.OutOfMemory refusal good no_folder no_pack cause (i
 good_8 options files imports.OutOfMemory refusal good no_folder no_pack cause (inr memory) = absurd memory.0
 good_8 options files fault refusal good no_folder no_pack cause is = absurd (good fault cause.2)
 
-pub import_answered_of : (options : Options) (files : Files) (out : Output) (end : Option Refusal) → IsGoodFolder options files.folder.tree_new
+pub import_answered_of : (options : Options) (files : Files) (out : Output) (end : Option CommandFault) → IsGoodFolder options files.folder.tree_new
     → (FolderRose files.folder → ⊥) → (PackRose files.pack → ⊥) → (OutputRose out → ⊥) → ImportAnswers options files out end
     → (exit_status end ≡ 8) ⊎ (exit_status end ≡ 0)
 import_answered_of options files out None good no_folder no_pack no_out ends = inr refl
@@ -456,11 +456,11 @@ passed_limit bytes input told passed = longer passed.bytes bytes input.left_new 
 
 -- ---- `check`
 
-pub checked_of : (cid : CidParts) (input : Input) (out : Output) (end : Option Refusal) → exit_status end ≡ 0 → CheckEnds cid input out end → Checked cid input out
+pub checked_of : (cid : CidParts) (input : Input) (out : Output) (end : Option CommandFault) → exit_status end ≡ 0 → CheckEnds cid input out end → Checked cid input out
 checked_of cid input out None e ends = ends
 checked_of cid input out (Some refusal) e ends = absurd (not_zero refusal e)
 
-pub other_of : (cid : CidParts) (input : Input) (out : Output) (end : Option Refusal) → exit_status end ≡ 3 → CheckEnds cid input out end → CheckedOther cid input out
+pub other_of : (cid : CidParts) (input : Input) (out : Output) (end : Option CommandFault) → exit_status end ≡ 3 → CheckEnds cid input out end → CheckedOther cid input out
 other_of cid input out (Some (BadDigest text)) e ends = record { read = ends.0.1; unput = ends.1 }
 other_of cid input out (Some InputFault) e ends = cc
 other_of cid input out (Some SinkFault) e ends = cc
@@ -497,7 +497,7 @@ agrees cid block input out named done = record {
   same = agree_by cid.hash cid.digest done.block block done.read.named named;
 }
 
-pub answered_of : (cid : CidParts) (bytes : List ℕ) (input : Input) (out : Output) (end : Option Refusal) → input.left_old ≡ Some bytes
+pub answered_of : (cid : CidParts) (bytes : List ℕ) (input : Input) (out : Output) (end : Option CommandFault) → input.left_old ≡ Some bytes
     → (InputRose input → ⊥) → (OutputRose out → ⊥) → CheckEnds cid input out end → (exit_status end ≡ 8) ⊎ CheckStatus cid bytes (exit_status end)
 answered_of cid bytes input out None told no_in no_out done =
     let same = block_is done.block bytes input done.read.taken told in
@@ -516,11 +516,11 @@ answered_of cid bytes input out (Some refusal) told no_in no_out ends = absurd e
 
 -- ---- `node`
 
-pub noded_of : (cid : CidParts) (input : Input) (out : Output) (end : Option Refusal) → exit_status end ≡ 0 → NodeEnds cid input out end → Noded cid input out
+pub noded_of : (cid : CidParts) (input : Input) (out : Output) (end : Option CommandFault) → exit_status end ≡ 0 → NodeEnds cid input out end → Noded cid input out
 noded_of cid input out None e ends = ends
 noded_of cid input out (Some refusal) e ends = absurd (not_zero refusal e)
 
-pub node_other_of : (cid : CidParts) (input : Input) (out : Output) (end : Option Refusal) → exit_status end ≡ 3 → NodeEnds cid input out end → NodedOther cid input out
+pub node_other_of : (cid : CidParts) (input : Input) (out : Output) (end : Option CommandFault) → exit_status end ≡ 3 → NodeEnds cid input out end → NodedOther cid input out
 node_other_of cid input out (Some (BadDigest text)) e ends = inl (record { read = ends.0.1; unput = ends.1 })
 node_other_of cid input out (Some (BadBlock text fault)) e ends = inr (fault, ends.1)
 node_other_of cid input out (Some InputFault) e ends = cc
@@ -533,7 +533,7 @@ node_other_of cid input out (Some refusal) e ends = absurd ends.0
 no_text : (cid : CidParts) (bytes block : List ℕ) → block ≡ bytes → length block ≤ max_block_len → HasNoText cid block → NodeStatus cid bytes 3
 no_text cid bytes block same within none = inr (inl (refl, subst (λ (b : List ℕ). length b ≤ max_block_len) same within, subst (HasNoText cid) same none))
 
-pub node_answered_of : (cid : CidParts) (bytes : List ℕ) (input : Input) (out : Output) (end : Option Refusal) → input.left_old ≡ Some bytes
+pub node_answered_of : (cid : CidParts) (bytes : List ℕ) (input : Input) (out : Output) (end : Option CommandFault) → input.left_old ≡ Some bytes
     → (InputRose input → ⊥) → (OutputRose out → ⊥) → NodeEnds cid input out end → (exit_status end ≡ 8) ⊎ NodeStatus cid bytes (exit_status end)
 node_answered_of cid bytes input out None told no_in no_out done =
     let same = block_is done.block bytes input done.read.taken told in
@@ -554,6 +554,6 @@ node_answered_of cid bytes input out (Some refusal) told no_in no_out ends = abs
 
 -- ---- `cid`
 
-pub printed_of : (IsLine : List ℕ → Type 0) (out : Output) (end : Option Refusal) → exit_status end ≡ 0 → PrintEnds IsLine out end → PutsLine IsLine out
+pub printed_of : (IsLine : List ℕ → Type 0) (out : Output) (end : Option CommandFault) → exit_status end ≡ 0 → PrintEnds IsLine out end → PutsLine IsLine out
 printed_of IsLine out None e ends = ends
 printed_of IsLine out (Some refusal) e ends = absurd (not_zero refusal e)

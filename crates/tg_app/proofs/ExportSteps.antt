@@ -2,7 +2,7 @@
 use Rattle.std.proofs.Common.{◌≡◌, ℕ, inl, inr, [], ◌∷◌, List, Option, Some, Ok, Err, sym, ◌∙◌, subst, ◌++◌, ◌≤◌}
 use Rattle.std.specs.Prelude.{false, ⊤}
 use Rattle.tg_app.specs.Exports.{ExportRefused, Exported, IsAttachedPack, IsExportRefusal}
-use Rattle.tg_app.specs.declared.refusal.Refusal.{Refusal}
+use Rattle.tg_app.specs.declared.fault.CommandFault.{CommandFault}
 use Rattle.tg_export.specs.Packed.{ExportEnds, HasPackedCause, IsExportedElse, IsStoreCause, StoreEnds}
 use Rattle.tg_export.specs.declared.fault.ExportFault.{ExportFault}
 use Rattle.tg_export.specs.declared.fault.ExportFault.TheVariants as faults
@@ -77,7 +77,7 @@ module _ {P : Type 0} (m : PackMeaning P) (a b c : P) (same : m.content b ≡ m.
   cause_moved faults.SinkFault h = quiet_moved h
   cause_moved faults.OutOfMemory h = quiet_moved h
 
-  pub refused_step : (q : QueryParts) (out : Output) (fault : ExportFault) (refusal : Refusal) → IsAttachedPack (pack_step m a c) → IsExportRefusal fault refusal
+  pub refused_step : (q : QueryParts) (out : Output) (fault : ExportFault) (refusal : CommandFault) → IsAttachedPack (pack_step m a c) → IsExportRefusal fault refusal
       → ExportEnds q (pack_step m b c) out (Err fault) → HasPackedCause (pack_step m b c) (Err fault)
       → ((content : List ℕ) (store : Store) (sections : List Section) → m.content b ≡ Some content → IsAttached content store → HasEnded q store max_depth sections whole
       → IsExportedElse (Err fault)) → ExportRefused q (pack_step m a c) out refusal

@@ -6,8 +6,8 @@ use Rattle.tg_app.specs.Blocks.{OutputUntouched}
 use Rattle.tg_app.specs.Imports.{AttachedAnswers, AttachedRefused, ImportAnswers, ImportLines, IsImportRefusal, IsInPack, LinesEnd, PutsLines, summary_line}
 use Rattle.tg_app.specs.Lines.{PutAll}
 use Rattle.tg_app.specs.Objects.{Files, files_between}
-use Rattle.tg_app.specs.declared.refusal.Refusal.{Refusal}
-use Rattle.tg_app.specs.declared.refusal.Refusal.TheVariants as refusals
+use Rattle.tg_app.specs.declared.fault.CommandFault.{CommandFault}
+use Rattle.tg_app.specs.declared.fault.CommandFault.TheVariants as refusals
 use Rattle.tg_bytes.specs.Told.{IsNothing}
 use Rattle.tg_faults.specs.Faults.{Rose}
 use Rattle.tg_files.specs.Folders.{FolderMeaning, FolderQuiet, FolderRose, TellsFolder, folder_step}
@@ -20,7 +20,7 @@ use Rattle.tg_import.specs.declared.summary.Options.{Options}
 use Rattle.tg_import_pack.specs.Packing.{IsPacked, IsPackingCause, IsUnfinished}
 use Rattle.tg_streams.specs.Streams.{Output, PutFront}
 use Rattle.tg_tree.specs.declared.tree.Tree.{Tree}
-use Rattle.tg_ascii.specs.Ascii.{line_feed}
+use Rattle.tg_bytes.specs.Ascii.{line_feed}
 use Rattle.tg_cid.specs.Cid.{CidParts}
 use Rattle.tg_cid.specs.Spelling.{CidText}
 use Rattle.tg_import.specs.declared.summary.Summary.{Summary}
@@ -80,7 +80,7 @@ module _ {F P : Type 0} (fm : FolderMeaning F) (m : PackMeaning P) (f f' : F) (a
     is_said = is_said;
   }
 
-  pub attached_ends : (root : CidParts) (summary : Summary) (out : Output) (end : Option Refusal) → FolderQuiet (folder_step fm f f')
+  pub attached_ends : (root : CidParts) (summary : Summary) (out : Output) (end : Option CommandFault) → FolderQuiet (folder_step fm f f')
       → IsPacked options (fm.tree f) root summary (pack_step m b c) → LinesEnd root summary out end
       → AttachedAnswers options (files_between fm m f f' (Some a) (Some c)) out end
   attached_ends root summary out None folder_quiet packed ends = in_pack (λ root summary. PutsLines root summary (λ text. PutAll text out)) root summary folder_quiet packed ends
@@ -102,7 +102,7 @@ module _ {F P : Type 0} (fm : FolderMeaning F) (m : PackMeaning P) (f f' : F) (a
   cause_moved fault cause =
       (cause.0, cause.1 ∙ quiet, subst (λ (told : Option Tree). HasFolderFault max_levels options told [] nothing fault) (sym same) cause.2)
 
-  pub attached_refused : (fault : ImportFault) (refusal : Refusal) (out : Output) → IsImportRefusal fault refusal
+  pub attached_refused : (fault : ImportFault) (refusal : CommandFault) (out : Output) → IsImportRefusal fault refusal
       → IsPackingCause options (fm.tree f) fault (folder_step fm f f') (pack_step m b c) → IfSome (m.content c) IsUnfinished → OutputUntouched out
       → AttachedRefused options (files_between fm m f f' (Some a) (Some c)) out refusal
   attached_refused fault refusal out is cause unfinished unput = inl (record {
@@ -137,7 +137,7 @@ module _ {F P : Type 0} (fm : FolderMeaning F) (m : PackMeaning P) (f g h : F) (
   packing_moved told faults.OutOfMemory step cause = (cause.0 ∙ quiet, cause.1)
   packing_moved told fault step cause = (cause.0 ∙ quiet, cause.1, cause.2)
 
-  pub folder_first : (out : Output) (end : Option Refusal) → AttachedAnswers options (files_between fm m g h pack pack') out end
+  pub folder_first : (out : Output) (end : Option CommandFault) → AttachedAnswers options (files_between fm m g h pack pack') out end
       → ImportAnswers options (files_between fm m f h pack pack') out end
   folder_first out None ends = in_pack_moved (λ root summary. PutsLines root summary (λ text. PutAll text out)) ends
   folder_first out (Some refusal) (inl refused) = inl (inl (record {

@@ -1,10 +1,10 @@
 -- The statuses of refusals.
 use Rattle.std.proofs.Common.{◌≡◌}
 use Rattle.tg_app.specs.Lines.{status_of}
-use Rattle.tg_app.specs.declared.refusal.Refusal.{Refusal}
-use Rattle.tg_app.specs.declared.refusal.Refusal.TheVariants.{Usage}
+use Rattle.tg_app.specs.declared.fault.CommandFault.{CommandFault}
+use Rattle.tg_app.specs.declared.fault.CommandFault.TheVariants.{Usage}
 
 -- none has that of a command that is done
-pub not_zero : (refusal : Refusal) → status_of refusal ≡ 0 → ⊥
+pub not_zero : (refusal : CommandFault) → status_of refusal ≡ 0 → ⊥
 not_zero Usage e = cc
 not_zero other e = cc

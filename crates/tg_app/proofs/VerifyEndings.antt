@@ -4,8 +4,8 @@ use Rattle.std.specs.Prelude.{Ok, Result, true, ⊤}
 use Rattle.tg_app.specs.Blocks.{Untouched}
 use Rattle.tg_app.specs.Lines.{exit_status, status_of}
 use Rattle.tg_app.specs.Verify.{IsGoodCar, IsNoAnswer, IsVerifyRefusal, NotAccepted, ShowsSome, TellsVerify, VerifiedInput, VerifyEnds, Vouched}
-use Rattle.tg_app.specs.declared.refusal.Refusal.{Refusal}
-use Rattle.tg_app.specs.declared.refusal.Refusal.TheVariants.{OutOfMemory, Usage}
+use Rattle.tg_app.specs.declared.fault.CommandFault.{CommandFault}
+use Rattle.tg_app.specs.declared.fault.CommandFault.TheVariants.{OutOfMemory, Usage}
 use Rattle.tg_app.proofs.Statuses.{not_zero}
 use Rattle.tg_bytes.specs.Told.{after_front, grown}
 use Rattle.tg_car.specs.CarText.{header_map}
@@ -13,7 +13,7 @@ use Rattle.tg_car.specs.Fronts.{IsInHeader}
 use Rattle.tg_client.specs.Ends.{HasStreamCause, IsOwnEnd, SaysFor, Verifies}
 use Rattle.tg_client.specs.declared.fault.ClientFault.{ClientFault}
 use Rattle.tg_client.specs.declared.fault.ClientFault.TheVariants as clients
-use Rattle.tg_frames.specs.Left.{WantedAt}
+use Rattle.tg_traversal.specs.Left.{WantedAt}
 use Rattle.tg_model.specs.Answer.{answer}
 use Rattle.tg_model.specs.Dag.{Dag, Section, root_cid}
 use Rattle.tg_model.specs.Fits.{CollisionPair, IsFrontOfAnswer}
@@ -21,9 +21,9 @@ use Rattle.tg_model.specs.LimitNumbers.{standard}
 use Rattle.tg_model.specs.Queries.{QueryParts}
 use Rattle.tg_model.specs.Sound.{IsSound}
 use Rattle.tg_streams.specs.Streams.{Input, InputQuiet, InputRose, Output, OutputQuiet, OutputRose, Took}
-use Rattle.tg_traverse.specs.Stages.{nothing_given}
-use Rattle.tg_traverse.specs.Tasks.{path_want}
-use Rattle.tg_traverse.specs.Verified.{VerifiedStarts}
+use Rattle.tg_traversal_laws.specs.Stages.{nothing_given}
+use Rattle.tg_traversal_laws.specs.Tasks.{path_want}
+use Rattle.tg_traversal_laws.specs.Verified.{VerifiedStarts}
 use Rattle.tg_verify.specs.Laws.{AnswerIsFront, ThroughFits}
 use Rattle.tg_verify.specs.Sound.{IsItsAnswer, IsItsFront}
 use Rattle.tg_verify.specs.Taken.{IsUpTo}
@@ -43,7 +43,7 @@ status_for (clients.BadCar fault) = 3
 status_for clients.InputFault = 6
 status_for clients.OutOfMemory = 8
 
-tells_status : (fault : ClientFault) (refusal : Refusal) → TellsVerify fault refusal → status_of refusal ≡ status_for fault
+tells_status : (fault : ClientFault) (refusal : CommandFault) → TellsVerify fault refusal → status_of refusal ≡ status_for fault
 tells_status (clients.Refused (verifiers.Extra sections)) refusal h = ap status_of h
 tells_status (clients.Refused (verifiers.Limit kind number)) refusal h = ap status_of h
 tells_status (clients.Refused (verifiers.BadDigest cid)) refusal (text, is_text, h) = ap status_of h
@@ -60,10 +60,10 @@ tells_status clients.InputFault refusal h = ap status_of h
 tells_status clients.OutOfMemory refusal h = ap status_of h
 
 -- the refusal has the status of its fault, or memory was wanted for its line
-abbrev HasStatus : ClientFault → Refusal → Type 0
+abbrev HasStatus : ClientFault → CommandFault → Type 0
 HasStatus fault refusal = (status_of refusal ≡ status_for fault) ⊎ (ShowsSome fault × (status_of refusal ≡ 8))
 
-has_status : (fault : ClientFault) (refusal : Refusal) → IsVerifyRefusal fault refusal → HasStatus fault refusal
+has_status : (fault : ClientFault) (refusal : CommandFault) → IsVerifyRefusal fault refusal → HasStatus fault refusal
 has_status fault refusal (inl tells) = inl (tells_status fault refusal tells)
 has_status fault refusal (inr memory) = inr (memory.0, ap status_of memory.1)
 
@@ -89,12 +89,12 @@ rose_at_6 input out (clients.Refused verifiers.SinkFault) e cause = inr cause.1
 rose_at_6 input out (clients.Refused fault) e cause = cc
 rose_at_6 input out fault e cause = cc
 
-rose_of : (input : Input) (out : Output) (fault : ClientFault) (refusal : Refusal) → status_of refusal ≡ 6 → HasStatus fault refusal
+rose_of : (input : Input) (out : Output) (fault : ClientFault) (refusal : CommandFault) → status_of refusal ≡ 6 → HasStatus fault refusal
     → HasStreamCause input out (Err fault) → InputRose input ⊎ OutputRose out
 rose_of input out fault refusal e (inl h) cause = rose_at_6 input out fault (sym h ∙ e) cause
 rose_of input out fault refusal e (inr h) cause = let k = sym h.1 ∙ e in cc
 
-pub verify_fault : (q : QueryParts) (input : Input) (out : Output) (end : Option Refusal) → exit_status end ≡ 6 → VerifyEnds q input out end → InputRose input ⊎ OutputRose out
+pub verify_fault : (q : QueryParts) (input : Input) (out : Output) (end : Option CommandFault) → exit_status end ≡ 6 → VerifyEnds q input out end → InputRose input ⊎ OutputRose out
 verify_fault q input out None e ends = cc
 verify_fault q input out (Some refusal) e ends = rose_of input out ends.fault refusal e (has_status ends.fault refusal ends.tells) ends.cause
 
@@ -110,12 +110,12 @@ some_shown (clients.Refused verifiers.SinkFault) some e = absurd some
 some_shown (clients.Refused fault) some e = cc
 some_shown fault some e = cc
 
-quiet_for : (input : Input) (out : Output) (fault : ClientFault) (refusal : Refusal) → status_of refusal ≢ 6 → HasStatus fault refusal
+quiet_for : (input : Input) (out : Output) (fault : ClientFault) (refusal : CommandFault) → status_of refusal ≢ 6 → HasStatus fault refusal
     → HasStreamCause input out (Err fault) → InputQuiet input × OutputQuiet out
 quiet_for input out fault refusal ne (inl h) cause = quiet_else input out fault (λ six. ne (h ∙ six)) cause
 quiet_for input out fault refusal ne (inr h) cause = quiet_else input out fault (some_shown fault h.0) cause
 
-pub verify_quiet : (q : QueryParts) (input : Input) (out : Output) (end : Option Refusal) → exit_status end ≢ 6 → VerifyEnds q input out end → InputQuiet input × OutputQuiet out
+pub verify_quiet : (q : QueryParts) (input : Input) (out : Output) (end : Option CommandFault) → exit_status end ≢ 6 → VerifyEnds q input out end → InputQuiet input × OutputQuiet out
 verify_quiet q input out None ne ends = ends.cause
 verify_quiet q input out (Some refusal) ne ends = quiet_for input out ends.fault refusal ne (has_status ends.fault refusal ends.tells) ends.cause
 
@@ -124,7 +124,7 @@ verify_quiet q input out (Some refusal) ne ends = quiet_for input out ends.fault
 all_heard : (heard unheard : List ℕ) → unheard ≡ [] → heard ++ unheard ≡ heard
 all_heard heard unheard e = ap (λ xs. heard ++ xs) e ∙ append-nil heard
 
-pub verified_of : (q : QueryParts) (input : Input) (out : Output) (end : Option Refusal) → ThroughFits → exit_status end ≡ 0 → VerifyEnds q input out end → VerifiedInput q input out
+pub verified_of : (q : QueryParts) (input : Input) (out : Output) (end : Option CommandFault) → ThroughFits → exit_status end ≡ 0 → VerifyEnds q input out end → VerifiedInput q input out
 verified_of q input out None law e ends =
     let did = ends.verifies in
     record {
@@ -144,7 +144,7 @@ verified_of q input out (Some refusal) law e ends = absurd (not_zero refusal e)
 -- ---- a good CAR
 
 -- a counted fault or want of memory is left
-own_8 : (input : Input) (out : Output) (fault : ClientFault) (refusal : Refusal) → (InputRose input → ⊥) → (OutputRose out → ⊥) → IsOwnEnd fault
+own_8 : (input : Input) (out : Output) (fault : ClientFault) (refusal : CommandFault) → (InputRose input → ⊥) → (OutputRose out → ⊥) → IsOwnEnd fault
     → IsVerifyRefusal fault refusal → HasStreamCause input out (Err fault) → status_of refusal ≡ 8
 own_8 input out clients.InputFault refusal no_in no_out own tells cause = absurd (no_in cause.0)
 own_8 input out (clients.Refused verifiers.SinkFault) refusal no_in no_out own tells cause = absurd (no_out cause.1)
@@ -153,7 +153,7 @@ own_8 input out clients.OutOfMemory refusal no_in no_out own (inr memory) cause 
 own_8 input out (clients.Refused fault) refusal no_in no_out own tells cause = absurd own
 own_8 input out fault refusal no_in no_out own tells cause = absurd own
 
-pub verify_answered_of : (q : QueryParts) (bytes : List ℕ) (input : Input) (out : Output) (end : Option Refusal) → input.left_old ≡ Some bytes → IsGoodCar q bytes
+pub verify_answered_of : (q : QueryParts) (bytes : List ℕ) (input : Input) (out : Output) (end : Option CommandFault) → input.left_old ≡ Some bytes → IsGoodCar q bytes
     → (InputRose input → ⊥) → (OutputRose out → ⊥) → VerifyEnds q input out end → (exit_status end ≡ 8) ⊎ (exit_status end ≡ 0)
 verify_answered_of q bytes input out None told good no_in no_out ends = inr refl
 verify_answered_of q bytes input out (Some refusal) told good no_in no_out ends =
@@ -172,7 +172,7 @@ nowhere_at_9 q d sections text (clients.Refused (verifiers.NotFolder segment)) e
 nowhere_at_9 q d sections text (clients.Refused fault) e says = cc
 nowhere_at_9 q d sections text fault e says = cc
 
-nowhere_for : (q : QueryParts) (d : Dag) (sections : List Section) (text : List ℕ) (fault : ClientFault) (refusal : Refusal) → status_of refusal ≡ 9 → HasStatus fault refusal
+nowhere_for : (q : QueryParts) (d : Dag) (sections : List Section) (text : List ℕ) (fault : ClientFault) (refusal : CommandFault) → status_of refusal ≡ 9 → HasStatus fault refusal
     → SaysFor q d sections text (Err fault) → IsNoAnswer q d ⊎ CollisionPair sections d
 nowhere_for q d sections text fault refusal e (inl h) says = nowhere_at_9 q d sections text fault (sym h ∙ e) says
 nowhere_for q d sections text fault refusal e (inr h) says = let k = sym h.1 ∙ e in cc
@@ -193,7 +193,7 @@ vouched_at q d input out result status did accepted front nowhere = record {
   nowhere = nowhere;
 }
 
-vouched_by : AnswerIsFront → (q : QueryParts) (d : Dag) (input : Input) (out : Output) (end : Option Refusal) → IsSound d → root_cid d ≡ q.root → VerifyEnds q input out end
+vouched_by : AnswerIsFront → (q : QueryParts) (d : Dag) (input : Input) (out : Output) (end : Option CommandFault) → IsSound d → root_cid d ≡ q.root → VerifyEnds q input out end
     → Vouched q d input out (exit_status end)
 vouched_by law q d input out None sound root ends =
     let did = ends.verifies in
@@ -205,7 +205,7 @@ vouched_by law q d input out (Some refusal) sound root ends =
     vouched_at q d input out (Err ends.fault) (status_of refusal) did (λ e. absurd (not_zero refusal e)) (front_at_fault q d did.sections did.text ends.fault says)
     (λ e. nowhere_for q d did.sections did.text ends.fault refusal e (has_status ends.fault refusal ends.tells) says)
 
-pub vouched_of : AnswerIsFront → (q : QueryParts) (d : Dag) (input : Input) (out : Output) (end : Option Refusal) (status : ℕ) → status ≡ exit_status end → IsSound d → root_cid d ≡ q.root
+pub vouched_of : AnswerIsFront → (q : QueryParts) (d : Dag) (input : Input) (out : Output) (end : Option CommandFault) (status : ℕ) → status ≡ exit_status end → IsSound d → root_cid d ≡ q.root
     → VerifyEnds q input out end → Vouched q d input out status
 vouched_of law q d input out end status e sound root ends = subst (Vouched q d input out) (sym e) (vouched_by law q d input out end sound root ends)
 

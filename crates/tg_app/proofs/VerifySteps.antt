@@ -2,7 +2,7 @@
 use Rattle.std.proofs.Common.{◌≡◌, ℕ, ◌≤◌, inl, inr, List, length, Some, Ok, Err, sym, subst}
 use Rattle.std.specs.Prelude.{Result, ⊤}
 use Rattle.tg_app.specs.Verify.{Accepted, IsGoodCar, IsVerifyRefusal, NotAccepted}
-use Rattle.tg_app.specs.declared.refusal.Refusal.{Refusal}
+use Rattle.tg_app.specs.declared.fault.CommandFault.{CommandFault}
 use Rattle.tg_client.specs.Ends.{HasStreamCause, IsAcceptedElse, Verifies}
 use Rattle.tg_client.specs.Received.{IsCarOf}
 use Rattle.tg_client.specs.declared.fault.ClientFault.{ClientFault}
@@ -41,7 +41,7 @@ module _ (q : QueryParts) (limits : LimitNumbers) (input : Input) (out : Output)
         | inr car ↦ fitting car.d car.sections bytes car.text told car.fits car.is_car (within car.d car.within) few
       ]
 
-  pub not_accepted : (fault : ClientFault) (refusal : Refusal) → result ≡ Err fault → IsVerifyRefusal fault refusal
+  pub not_accepted : (fault : ClientFault) (refusal : CommandFault) → result ≡ Err fault → IsVerifyRefusal fault refusal
       → ((d : Dag) (bytes text : List ℕ) → input.left_old ≡ Some bytes → IsSound d → root_cid d ≡ q.root → answer q d ≡ Some text
       → IsCarOf bytes (block_list q d) → IsWithinLimits q limits d → length bytes ≤ limits.received → IsAcceptedElse result)
       → ((d : Dag) (sections : List Section) (bytes text : List ℕ) → input.left_old ≡ Some bytes → Fits d q sections text

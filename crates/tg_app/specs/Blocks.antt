@@ -7,8 +7,8 @@ use Rattle.tg_cid.specs.Spelling.{CidText}
 use Rattle.tg_streams.specs.Streams.{Input, Output, InputQuiet, InputRose, OutputQuiet, Took, TookAll, Untaken, Unput}
 use Rattle.tg_app.specs.declared.blocks.InputRefusal.{InputRefusal}
 use Rattle.tg_app.specs.declared.blocks.InputRefusal.TheVariants as reading
-use Rattle.tg_app.specs.declared.refusal.Refusal.{Refusal}
-use Rattle.tg_app.specs.declared.refusal.Refusal.TheVariants.{BadDigest, BlockLimit, InputFault}
+use Rattle.tg_app.specs.declared.fault.CommandFault.{CommandFault}
+use Rattle.tg_app.specs.declared.fault.CommandFault.TheVariants.{BadDigest, BlockLimit, InputFault}
 
 -- nothing was taken, and no fault of the input counted
 pub record InputUntouched (input : Input) : Type 0 where
@@ -66,13 +66,13 @@ abbrev pub IsTextOf : CidParts → List ℕ → Type 0
 IsTextOf cid text = CidText (record cid { version = 1 }) text
 
 -- the refusal of such an input, with the text of the CID
-abbrev pub refusal_for : InputRefusal → List ℕ → Refusal
+abbrev pub refusal_for : InputRefusal → List ℕ → CommandFault
 refusal_for reading.Fault text = InputFault
 refusal_for reading.Limit text = BlockLimit
 refusal_for reading.BadDigest text = BadDigest text
 
 -- what stands after the refusal of such an input
-abbrev pub NoBlockEnds : CidParts → Input → Refusal → Type 0
+abbrev pub NoBlockEnds : CidParts → Input → CommandFault → Type 0
 NoBlockEnds cid input InputFault = InputFailed input
 NoBlockEnds cid input BlockLimit = PassedLimit input
 NoBlockEnds cid input (BadDigest text) = IsTextOf cid text × OtherBlock cid input

@@ -7,8 +7,8 @@ use Rattle.tg_cid.specs.Names.{Names}
 use Rattle.tg_streams.specs.Streams.{Input, Output, PutFront}
 use Rattle.tg_app.specs.Lines.{PutAll}
 use Rattle.tg_app.specs.Blocks.{OutputUntouched, Untouched, TookBlock, ReadBlock, OtherBlock, NoBlockEnds}
-use Rattle.tg_app.specs.declared.refusal.Refusal.{Refusal}
-use Rattle.tg_app.specs.declared.refusal.Refusal.TheVariants.{SinkFault, OutOfMemory}
+use Rattle.tg_app.specs.declared.fault.CommandFault.{CommandFault}
+use Rattle.tg_app.specs.declared.fault.CommandFault.TheVariants.{SinkFault, OutOfMemory}
 
 -- the whole input is a block that the CID names, and out grew by it
 pub record Checked (cid : CidParts) (input : Input) (out : Output) : Type 0 where
@@ -28,7 +28,7 @@ pub record CheckedOther (cid : CidParts) (input : Input) (out : Output) : Type 0
   pub unput : OutputUntouched out
 
 -- how `check` ends
-abbrev pub CheckEnds : CidParts → Input → Output → Option Refusal → Type 0
+abbrev pub CheckEnds : CidParts → Input → Output → Option CommandFault → Type 0
 CheckEnds cid input out None = Checked cid input out
 CheckEnds cid input out (Some SinkFault) = CheckedFront cid input out
 CheckEnds cid input out (Some OutOfMemory) = Untouched input out

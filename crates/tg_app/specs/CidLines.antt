@@ -1,14 +1,14 @@
 -- `cid`: a line that shows a CID's bytes or its text goes to out.
 use Rattle.std.specs.Prelude.{◌≡◌, ℕ, List, [], ◌∷◌, ◌++◌, Option, Some, None}
-use Rattle.tg_ascii.specs.Ascii.{line_feed}
+use Rattle.tg_bytes.specs.Ascii.{line_feed}
 use Rattle.hex.specs.Hex.{encode_lower}
 use Rattle.tg_cid.specs.Cid.{CidParts}
 use Rattle.tg_cid.specs.Spelling.{CidBytes, CidText}
 use Rattle.tg_streams.specs.Streams.{Output, PutFront}
 use Rattle.tg_app.specs.Lines.{PutAll}
 use Rattle.tg_app.specs.Blocks.{OutputUntouched}
-use Rattle.tg_app.specs.declared.refusal.Refusal.{Refusal}
-use Rattle.tg_app.specs.declared.refusal.Refusal.TheVariants.{SinkFault, OutOfMemory}
+use Rattle.tg_app.specs.declared.fault.CommandFault.{CommandFault}
+use Rattle.tg_app.specs.declared.fault.CommandFault.TheVariants.{SinkFault, OutOfMemory}
 
 -- the CID's bytes in lower-case hexadecimal, and a line feed
 pub record HexLine (cid : CidParts) (line : List ℕ) : Type 0 where
@@ -34,7 +34,7 @@ pub record PutsFront (IsLine : List ℕ → Type 0) (out : Output) : Type 0 wher
   pub front : PutFront line out
 
 -- how a command ends that prints such a line
-abbrev pub PrintEnds : (List ℕ → Type 0) → Output → Option Refusal → Type 0
+abbrev pub PrintEnds : (List ℕ → Type 0) → Output → Option CommandFault → Type 0
 PrintEnds IsLine out None = PutsLine IsLine out
 PrintEnds IsLine out (Some SinkFault) = PutsFront IsLine out
 PrintEnds IsLine out (Some OutOfMemory) = OutputUntouched out

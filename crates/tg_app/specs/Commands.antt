@@ -13,11 +13,11 @@ use Rattle.tg_app.specs.Exports.{ExportAnswers}
 use Rattle.tg_app.specs.Imports.{ImportAnswers, options_of}
 use Rattle.tg_app.specs.Objects.{Objects, SameFiles}
 use Rattle.tg_app.specs.Verify.{VerifyEnds}
-use Rattle.tg_app.specs.declared.refusal.Refusal.{Refusal}
-use Rattle.tg_app.specs.declared.refusal.Refusal.TheVariants.{Usage, OutOfMemory}
+use Rattle.tg_app.specs.declared.fault.CommandFault.{CommandFault}
+use Rattle.tg_app.specs.declared.fault.CommandFault.TheVariants.{Usage, OutOfMemory}
 
 -- how a command ends
-abbrev pub CommandEnds : Command → Objects → Option Refusal → Type 0
+abbrev pub CommandEnds : Command → Objects → Option CommandFault → Type 0
 CommandEnds (Check cid) objects end = SameFiles objects.files × CheckEnds cid objects.input objects.out end
 CommandEnds (Node cid) objects end = SameFiles objects.files × NodeEnds cid objects.input objects.out end
 CommandEnds (CidToHex cid) objects end = SameFiles objects.files × InputUntouched objects.input × PrintEnds (HexLine cid) objects.out end
@@ -58,26 +58,26 @@ abbrev pub IsNoCommand : List (List ℕ) → Type 0
 IsNoCommand words = (command : Command) → CommandLine words command → ⊥
 
 -- the words are no command; or no memory was found for them; or they are a command, and it ended
-pub record NoCommandEnds (words : List (List ℕ)) (objects : Objects) (end : Option Refusal) : Type 0 where
+pub record NoCommandEnds (words : List (List ℕ)) (objects : Objects) (end : Option CommandFault) : Type 0 where
   pub none : IsNoCommand words
   pub end_is : end ≡ Some Usage
   pub untouched : AllUntouched objects
 
-pub record NoMemoryEnds (objects : Objects) (end : Option Refusal) : Type 0 where
+pub record NoMemoryEnds (objects : Objects) (end : Option CommandFault) : Type 0 where
   pub end_is : end ≡ Some OutOfMemory
   pub untouched : AllUntouched objects
 
-pub record TheCommandEnds (words : List (List ℕ)) (objects : Objects) (end : Option Refusal) : Type 0 where
+pub record TheCommandEnds (words : List (List ℕ)) (objects : Objects) (end : Option CommandFault) : Type 0 where
   pub command : Command
   pub the : TheCommand words command
   pub ends : CommandEnds command objects end
 
-abbrev pub Ends : List (List ℕ) → Objects → Option Refusal → Type 0
+abbrev pub Ends : List (List ℕ) → Objects → Option CommandFault → Type 0
 Ends words objects end = NoCommandEnds words objects end ⊎ (NoMemoryEnds objects end ⊎ TheCommandEnds words objects end)
 
 -- the exit status and err say an end of which this holds
-abbrev pub Answers : (Option Refusal → Type 0) → ℕ → Output → Type 0
-Answers Holds status err = (end : Option Refusal) × (status ≡ exit_status end) × Holds end × Says end err
+abbrev pub Answers : (Option CommandFault → Type 0) → ℕ → Output → Type 0
+Answers Holds status err = (end : Option CommandFault) × (status ≡ exit_status end) × Holds end × Says end err
 
 -- memory was wanted: before anything was done, or by the command, which says what it did before
 abbrev pub WantsMemory : List (List ℕ) → Objects → Type 0

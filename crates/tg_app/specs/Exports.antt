@@ -1,8 +1,8 @@
 -- `export`: the CAR of a query goes from a pack to out.
 use Rattle.std.specs.Prelude.{◌≡◌, ◌⊎◌, ℕ, ⊤, [], ◌∷◌, List, Option, Some, None, Ok, Err, false}
 use Rattle.tg_app.specs.Blocks.{IsTextOf, OutputUntouched}
-use Rattle.tg_app.specs.declared.refusal.Refusal.{Refusal}
-use Rattle.tg_app.specs.declared.refusal.Refusal.TheVariants as refusals
+use Rattle.tg_app.specs.declared.fault.CommandFault.{CommandFault}
+use Rattle.tg_app.specs.declared.fault.CommandFault.TheVariants as refusals
 use Rattle.tg_cid.specs.Cid.{CidParts}
 use Rattle.tg_export.specs.Packed.{ExportEnds, HasPackedCause, IsExportedElse, StoreEnds}
 use Rattle.tg_export.specs.declared.fault.ExportFault.{ExportFault}
@@ -24,21 +24,21 @@ use Rattle.tg_walk.specs.declared.fault.ResolveFault.TheVariants as paths
 use Rattle.tg_walk.specs.declared.fault.WalkFault.TheVariants as walks
 
 -- a refusal that shows a CID, by its text in version 1
-abbrev pub ShowsCid : (List ℕ → Refusal) → CidParts → Refusal → Type 0
+abbrev pub ShowsCid : (List ℕ → CommandFault) → CidParts → CommandFault → Type 0
 ShowsCid of cid refusal = (text : List ℕ) × IsTextOf cid text × (refusal ≡ of text)
 
 -- or memory is wanted for it
-abbrev pub ShowsOrWants : (List ℕ → Refusal) → CidParts → Refusal → Type 0
+abbrev pub ShowsOrWants : (List ℕ → CommandFault) → CidParts → CommandFault → Type 0
 ShowsOrWants of cid refusal = ShowsCid of cid refusal ⊎ (refusal ≡ refusals.OutOfMemory)
 
 -- the refusal for a fault of the store
-abbrev pub store_refusal : BlocksFault → Refusal
+abbrev pub store_refusal : BlocksFault → CommandFault
 store_refusal (stores.Changed want got) = refusals.Changed
 store_refusal stores.Failed = refusals.PackFault
 store_refusal stores.OutOfMemory = refusals.OutOfMemory
 
 -- the refusal that tells why an export ended: by its kind alone, with its place, segment or CID
-abbrev pub TellsExport : ExportFault → Refusal → Type 0
+abbrev pub TellsExport : ExportFault → CommandFault → Type 0
 TellsExport (faults.Pack (packs.NotCar at)) refusal = refusal ≡ refusals.NotCar at
 TellsExport (faults.Pack (packs.BadDigest at)) refusal = refusal ≡ refusals.BadPack at
 TellsExport (faults.Pack packs.Unfinished) refusal = refusal ≡ refusals.Unfinished
@@ -72,7 +72,7 @@ HasCid (faults.Walk (walks.Gone cid)) = ⊤
 HasCid other = ⊥
 
 -- the refusal of an export that ended with this fault
-abbrev pub IsExportRefusal : ExportFault → Refusal → Type 0
+abbrev pub IsExportRefusal : ExportFault → CommandFault → Type 0
 IsExportRefusal fault refusal = TellsExport fault refusal ⊎ (HasCid fault × (refusal ≡ refusals.OutOfMemory))
 
 -- the pack was attached as it stands at its path, and nothing more was done to it
@@ -93,7 +93,7 @@ abbrev pub IsNotForMissing : QueryParts → PackStep → ExportFault → Type 0
 IsNotForMissing q step fault = HasAnswer q step.content_old → IsExportedElse (Err fault)
 
 -- the export ended with a fault
-pub record ExportRefused (q : QueryParts) (step : PackStep) (out : Output) (refusal : Refusal) : Type 0 where
+pub record ExportRefused (q : QueryParts) (step : PackStep) (out : Output) (refusal : CommandFault) : Type 0 where
   pub attached : IsAttachedPack step
   pub fault : ExportFault
   pub tells : IsExportRefusal fault refusal
@@ -102,7 +102,7 @@ pub record ExportRefused (q : QueryParts) (step : PackStep) (out : Output) (refu
   pub else : IsNotForMissing q step fault
 
 -- the pack can't be attached at its path
-pub record NotAttached (step : PackStep) (out : Output) (refusal : Refusal) : Type 0 where
+pub record NotAttached (step : PackStep) (out : Output) (refusal : CommandFault) : Type 0 where
   pub same : SameContent step
   pub rose : PackRose step
   pub unput : OutputUntouched out
@@ -116,13 +116,13 @@ pub record Exported (q : QueryParts) (step : PackStep) (out : Output) : Type 0 w
   pub quiet : PackQuiet step
 
 -- nothing was done for want of memory
-pub record ExportUnbegun (same_pack : Type 0) (out : Output) (refusal : Refusal) : Type 0 where
+pub record ExportUnbegun (same_pack : Type 0) (out : Output) (refusal : CommandFault) : Type 0 where
   pub same : same_pack
   pub unput : OutputUntouched out
   pub is : refusal ≡ refusals.OutOfMemory
 
 -- how `export` ends
-abbrev pub ExportAnswers : QueryParts → PackStep → Type 0 → Output → Option Refusal → Type 0
+abbrev pub ExportAnswers : QueryParts → PackStep → Type 0 → Output → Option CommandFault → Type 0
 ExportAnswers q step same_pack out None = Exported q step out
 ExportAnswers q step same_pack out (Some refusal) =
     ExportRefused q step out refusal ⊎ (NotAttached step out refusal ⊎ ExportUnbegun same_pack out refusal)

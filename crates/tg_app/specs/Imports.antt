@@ -5,9 +5,9 @@ use Rattle.tg_app.specs.Blocks.{OutputUntouched}
 use Rattle.tg_app.specs.CidLines.{TextLine}
 use Rattle.tg_app.specs.Lines.{PutAll}
 use Rattle.tg_app.specs.Objects.{Files}
-use Rattle.tg_app.specs.declared.refusal.Refusal.{Refusal}
-use Rattle.tg_app.specs.declared.refusal.Refusal.TheVariants as refusals
-use Rattle.tg_ascii.specs.Ascii.{line_feed, slash}
+use Rattle.tg_app.specs.declared.fault.CommandFault.{CommandFault}
+use Rattle.tg_app.specs.declared.fault.CommandFault.TheVariants as refusals
+use Rattle.tg_bytes.specs.Ascii.{line_feed, slash}
 use Rattle.tg_cid.specs.Cid.{CidParts}
 use Rattle.tg_files.specs.Folders.{FolderQuiet, FolderRose, TellsFolder}
 use Rattle.tg_files.specs.Packs.{PackRose, SameContent}
@@ -43,7 +43,7 @@ pub record PutsLines (root : CidParts) (summary : Summary) (put : List ℕ → T
   pub lines : ImportLines root summary text
   pub is_put : put text
 
-abbrev pub LinesEnd : CidParts → Summary → Output → Option Refusal → Type 0
+abbrev pub LinesEnd : CidParts → Summary → Output → Option CommandFault → Type 0
 LinesEnd root summary out None = PutsLines root summary (λ text. PutAll text out)
 LinesEnd root summary out (Some refusals.SinkFault) = PutsLines root summary (λ text. PutFront text out)
 LinesEnd root summary out (Some refusals.OutOfMemory) = OutputUntouched out
@@ -64,7 +64,7 @@ path_text [] = []
 path_text (name ∷ path) = escaped name ++ flat_map (λ next. slash ∷ escaped next) path
 
 -- the refusal that tells why an import ended
-abbrev pub refusal_of_import : ImportFault → Refusal
+abbrev pub refusal_of_import : ImportFault → CommandFault
 refusal_of_import faults.Folder = refusals.FolderFault
 refusal_of_import faults.Keep = refusals.PackFault
 refusal_of_import (faults.TooDeep path) = refusals.DeepFolder (path_text path)
@@ -83,18 +83,18 @@ HasText faults.OutOfMemory = ⊥
 HasText fault = ⊤
 
 -- the refusal of an import that ended with this fault; memory may be wanted for the text of a path or of a name
-abbrev pub IsImportRefusal : ImportFault → Refusal → Type 0
+abbrev pub IsImportRefusal : ImportFault → CommandFault → Type 0
 IsImportRefusal fault refusal = (refusal ≡ refusal_of_import fault) ⊎ (HasText fault × (refusal ≡ refusals.OutOfMemory))
 
 -- the folder can't be attached; the pack is the one that it was
-pub record NoFolder (files : Files) (out : Output) (refusal : Refusal) : Type 0 where
+pub record NoFolder (files : Files) (out : Output) (refusal : CommandFault) : Type 0 where
   pub same : files.same_pack
   pub rose : FolderRose files.folder
   pub unput : OutputUntouched out
   pub is : refusal ≡ refusals.FolderFault
 
 -- the pack can't be attached
-pub record NoPack (files : Files) (out : Output) (refusal : Refusal) : Type 0 where
+pub record NoPack (files : Files) (out : Output) (refusal : CommandFault) : Type 0 where
   pub quiet : FolderQuiet files.folder
   pub same : SameContent files.pack
   pub rose : PackRose files.pack
@@ -102,7 +102,7 @@ pub record NoPack (files : Files) (out : Output) (refusal : Refusal) : Type 0 wh
   pub is : refusal ≡ refusals.PackFault
 
 -- the import was refused; the pack, as far as it is told, isn't finished
-pub record ImportRefused (options : Options) (files : Files) (out : Output) (refusal : Refusal) : Type 0 where
+pub record ImportRefused (options : Options) (files : Files) (out : Output) (refusal : CommandFault) : Type 0 where
   pub fault : ImportFault
   pub is : IsImportRefusal fault refusal
   pub tells : TellsFolder files.folder.tree_new
@@ -111,19 +111,19 @@ pub record ImportRefused (options : Options) (files : Files) (out : Output) (ref
   pub unput : OutputUntouched out
 
 -- memory was wanted for the lines behind an import that was done
-pub record ImportUnsaid (options : Options) (files : Files) (out : Output) (refusal : Refusal) : Type 0 where
+pub record ImportUnsaid (options : Options) (files : Files) (out : Output) (refusal : CommandFault) : Type 0 where
   pub in_pack : IsInPack options files (λ root summary. OutputUntouched out)
   pub is : refusal ≡ refusals.OutOfMemory
 
 -- nothing was done for want of memory
-pub record ImportUnbegun (files : Files) (out : Output) (refusal : Refusal) : Type 0 where
+pub record ImportUnbegun (files : Files) (out : Output) (refusal : CommandFault) : Type 0 where
   pub same_folder : files.same_folder
   pub same_pack : files.same_pack
   pub unput : OutputUntouched out
   pub is : refusal ≡ refusals.OutOfMemory
 
 -- out failed in the lines behind an import that was done
-pub record ImportUnput (options : Options) (files : Files) (out : Output) (refusal : Refusal) : Type 0 where
+pub record ImportUnput (options : Options) (files : Files) (out : Output) (refusal : CommandFault) : Type 0 where
   pub in_pack : IsInPack options files (λ root summary. PutsLines root summary (λ text. PutFront text out))
   pub is : refusal ≡ refusals.SinkFault
 
@@ -132,16 +132,16 @@ abbrev pub Imported : Options → Files → Output → Type 0
 Imported options files out = IsInPack options files (λ root summary. PutsLines root summary (λ text. PutAll text out))
 
 -- why the import of an attached folder was refused
-abbrev pub AttachedRefused : Options → Files → Output → Refusal → Type 0
+abbrev pub AttachedRefused : Options → Files → Output → CommandFault → Type 0
 AttachedRefused options files out refusal =
     ImportRefused options files out refusal ⊎ (NoPack files out refusal ⊎ (ImportUnput options files out refusal ⊎ ImportUnsaid options files out refusal))
 
 -- how the import of an attached folder ends, and `import`
-abbrev pub AttachedAnswers : Options → Files → Output → Option Refusal → Type 0
+abbrev pub AttachedAnswers : Options → Files → Output → Option CommandFault → Type 0
 AttachedAnswers options files out None = Imported options files out
 AttachedAnswers options files out (Some refusal) = AttachedRefused options files out refusal
 
-abbrev pub ImportAnswers : Options → Files → Output → Option Refusal → Type 0
+abbrev pub ImportAnswers : Options → Files → Output → Option CommandFault → Type 0
 ImportAnswers options files out None = Imported options files out
 ImportAnswers options files out (Some refusal) = AttachedRefused options files out refusal ⊎ (NoFolder files out refusal ⊎ ImportUnbegun files out refusal)
 

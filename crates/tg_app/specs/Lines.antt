@@ -1,29 +1,29 @@
 -- How a command ends: done, or refused; its exit status, and its line on err.
 use Rattle.std.specs.Prelude.{ℕ, List, [], ◌∷◌, ◌++◌, codes, decimal, Option, Some, None, Result, Ok, Err}
-use Rattle.tg_ascii.specs.Ascii.{line_feed, space}
+use Rattle.tg_bytes.specs.Ascii.{line_feed, space}
 use Rattle.tg_streams.specs.Streams.{Output, Put, PutFront, PutOrFront, OutputQuiet}
 use Rattle.tg_app.specs.Blocks.{OutputUntouched}
 use Rattle.tg_words.specs.declared.WordsFault.{WordsFault}
 use Rattle.tg_words.specs.declared.WordsFault.TheVariants as words
 use Rattle.tg_node.specs.declared.fault.NodeFault.{NodeFault}
 use Rattle.tg_node.specs.declared.fault.NodeFault.TheVariants.{BadNode, BadLink, BadUnix}
-use Rattle.tg_app.specs.declared.refusal.Refusal.{Refusal}
-use Rattle.tg_app.specs.declared.refusal.Refusal.TheVariants.{Usage, BadDigest, BadBlock, BlockLimit, InputFault, SinkFault, OutOfMemory, PackFault, FolderFault, NotCar, BadPack, Unfinished, TornPack, PackLimit, WrongBlock, BadReceived, BadSize, Truncated, Extra, BadCar, Limit, NoRoot, NotThere, NotFolder, BadStored, Gone, Changed, TooDeep, DeepFolder, BadName, LongName, SameHash, NotPlain, TooBig}
+use Rattle.tg_app.specs.declared.fault.CommandFault.{CommandFault}
+use Rattle.tg_app.specs.declared.fault.CommandFault.TheVariants.{Usage, BadDigest, BadBlock, BlockLimit, InputFault, SinkFault, OutOfMemory, PackFault, FolderFault, NotCar, BadPack, Unfinished, TornPack, PackLimit, WrongBlock, BadReceived, BadSize, Truncated, Extra, BadCar, Limit, NoRoot, NotThere, NotFolder, BadStored, Gone, Changed, TooDeep, DeepFolder, BadName, LongName, SameHash, NotPlain, TooBig}
 use Rattle.tg_model.specs.declared.fault.BlockFault.{BlockFault}
 use Rattle.tg_model.specs.declared.fault.BlockFault.TheVariants as blocks
 use Rattle.tg_model.specs.declared.limits.LimitKind.{LimitKind}
 use Rattle.tg_model.specs.declared.limits.LimitKind.TheVariants as kinds
 
-abbrev pub refusal_of : WordsFault → Refusal
+abbrev pub refusal_of : WordsFault → CommandFault
 refusal_of words.Usage = Usage
 refusal_of words.OutOfMemory = OutOfMemory
 
 -- the end of a command by its answer: none is a refusal where it is done
-abbrev pub end_of : {T : Type 0} → Result T Refusal → Option Refusal
+abbrev pub end_of : {T : Type 0} → Result T CommandFault → Option CommandFault
 end_of (Ok done) = None
 end_of (Err refusal) = Some refusal
 
-abbrev pub status_of : Refusal → ℕ
+abbrev pub status_of : CommandFault → ℕ
 status_of Usage = 2
 status_of (BadDigest cid) = 3
 status_of (BadBlock cid fault) = 3
@@ -66,7 +66,7 @@ cause_of BadLink = codes " BadLink"
 cause_of BadUnix = codes " BadUnix"
 
 -- the numbers that the line of a refusal shows, and 0 where it shows none
-abbrev pub numbers_in : Refusal → ℕ × ℕ
+abbrev pub numbers_in : CommandFault → ℕ × ℕ
 numbers_in (NotCar at) = (at, 0)
 numbers_in (BadPack at) = (at, 0)
 numbers_in (TornPack at) = (at, 0)
@@ -111,7 +111,7 @@ fault_word blocks.NotPart = codes " NotPart"
 fault_word blocks.OutOfMemory = codes " OutOfMemory"
 
 -- the refusal's word, and the detail behind it
-abbrev pub word_of : Refusal → List ℕ
+abbrev pub word_of : CommandFault → List ℕ
 word_of Usage = codes "usage"
 word_of (BadDigest cid) = codes "BadDigest " ++ cid
 word_of (BadBlock cid fault) = codes "BadBlock " ++ (cid ++ cause_of fault)
@@ -148,15 +148,15 @@ word_of (NotPlain path) = codes "NotPlain " ++ path
 word_of (TooBig path) = codes "TooBig " ++ path
 
 -- the line: the program's name, the word with its detail, a line feed
-abbrev pub line_of : Refusal → List ℕ
+abbrev pub line_of : CommandFault → List ℕ
 line_of refusal = codes "tgate: " ++ (word_of refusal ++ line_feed ∷ [])
 
 -- the exit status of an end, and what it says on err
-abbrev pub exit_status : Option Refusal → ℕ
+abbrev pub exit_status : Option CommandFault → ℕ
 exit_status None = 0
 exit_status (Some refusal) = status_of refusal
 
-abbrev pub Says : Option Refusal → Output → Type 0
+abbrev pub Says : Option CommandFault → Output → Type 0
 Says None err = OutputUntouched err
 Says (Some refusal) err = PutOrFront (line_of refusal) err
 
@@ -166,7 +166,7 @@ pub record PutAll (bytes : List ℕ) (out : Output) : Type 0 where
   pub quiet : OutputQuiet out
 
 -- how it ends to put a text: all of it went to out, or out failed after a front of it
-abbrev pub PutEnds : List ℕ → Output → Option Refusal → Type 0
+abbrev pub PutEnds : List ℕ → Output → Option CommandFault → Type 0
 PutEnds text out None = PutAll text out
 PutEnds text out (Some SinkFault) = PutFront text out
 PutEnds text out (Some other) = ⊥

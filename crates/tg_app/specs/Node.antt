@@ -9,8 +9,8 @@ use Rattle.tg_streams.specs.Streams.{Input, Output, PutFront}
 use Rattle.tg_app.specs.Lines.{PutAll}
 use Rattle.tg_app.specs.Blocks.{OutputUntouched, Untouched, ReadBlock, IsTextOf, NoBlockEnds}
 use Rattle.tg_app.specs.Check.{CheckedOther}
-use Rattle.tg_app.specs.declared.refusal.Refusal.{Refusal}
-use Rattle.tg_app.specs.declared.refusal.Refusal.TheVariants.{BadBlock, SinkFault, OutOfMemory}
+use Rattle.tg_app.specs.declared.fault.CommandFault.{CommandFault}
+use Rattle.tg_app.specs.declared.fault.CommandFault.TheVariants.{BadBlock, SinkFault, OutOfMemory}
 
 -- the whole input is a block that the CID names, and out grew by the text of its fields; no cause of a fault holds
 pub record Noded (cid : CidParts) (input : Input) (out : Output) : Type 0 where
@@ -44,7 +44,7 @@ pub record NodedNothing (cid : CidParts) (input : Input) (out : Output) : Type 0
   pub unput : OutputUntouched out
 
 -- how `node` ends: memory is wanted before anything was taken, or for the text of a block that was read
-abbrev pub NodeEnds : CidParts → Input → Output → Option Refusal → Type 0
+abbrev pub NodeEnds : CidParts → Input → Output → Option CommandFault → Type 0
 NodeEnds cid input out None = Noded cid input out
 NodeEnds cid input out (Some (BadBlock text fault)) = IsTextOf cid text × NodedBad cid fault input out
 NodeEnds cid input out (Some SinkFault) = NodedFront cid input out

@@ -2,8 +2,8 @@
 use Rattle.std.specs.Prelude.{◌≡◌, ◌⊎◌, ◌≤◌, ℕ, ⊤, List, Option, Some, None, Ok, Err, length, ◌++◌}
 use Rattle.tg_app.specs.Blocks.{IsTextOf}
 use Rattle.tg_app.specs.Exports.{ShowsCid}
-use Rattle.tg_app.specs.declared.refusal.Refusal.{Refusal}
-use Rattle.tg_app.specs.declared.refusal.Refusal.TheVariants as refusals
+use Rattle.tg_app.specs.declared.fault.CommandFault.{CommandFault}
+use Rattle.tg_app.specs.declared.fault.CommandFault.TheVariants as refusals
 use Rattle.tg_cid.specs.Cid.{CidParts}
 use Rattle.tg_client.specs.Ends.{HasStreamCause, IsOwnEnd, Verifies}
 use Rattle.tg_client.specs.Received.{HasReceived, IsCarOf}
@@ -24,11 +24,11 @@ use Rattle.tg_verify.specs.Sound.{ForEachSound, IsItsAnswer, IsItsFront}
 use Rattle.tg_verify.specs.declared.fault.Refusal.TheVariants as verifiers
 
 -- a refusal that shows two CIDs, by their texts in version 1
-abbrev pub ShowsCids : (List ℕ → List ℕ → Refusal) → CidParts → CidParts → Refusal → Type 0
+abbrev pub ShowsCids : (List ℕ → List ℕ → CommandFault) → CidParts → CidParts → CommandFault → Type 0
 ShowsCids of first second refusal = (a : List ℕ) × (b : List ℕ) × IsTextOf first a × IsTextOf second b × (refusal ≡ of a b)
 
 -- the refusal that tells why a CAR isn't accepted: by its kind alone, with its CIDs, numbers or segment
-abbrev pub TellsVerify : ClientFault → Refusal → Type 0
+abbrev pub TellsVerify : ClientFault → CommandFault → Type 0
 TellsVerify (clients.Refused (verifiers.Extra sections)) refusal = refusal ≡ refusals.Extra sections
 TellsVerify (clients.Refused (verifiers.Limit kind number)) refusal = refusal ≡ refusals.Limit kind number
 TellsVerify (clients.Refused (verifiers.BadDigest cid)) refusal = ShowsCid refusals.BadDigest cid refusal
@@ -53,7 +53,7 @@ ShowsSome (clients.Refused (verifiers.Truncated want sections)) = ⊤
 ShowsSome other = ⊥
 
 -- the refusal of a CAR with this fault
-abbrev pub IsVerifyRefusal : ClientFault → Refusal → Type 0
+abbrev pub IsVerifyRefusal : ClientFault → CommandFault → Type 0
 IsVerifyRefusal fault refusal = TellsVerify fault refusal ⊎ (ShowsSome fault × (refusal ≡ refusals.OutOfMemory))
 
 -- the CAR was accepted
@@ -84,7 +84,7 @@ abbrev pub IsGoodCar : QueryParts → List ℕ → Type 0
 IsGoodCar q bytes = (IsOwnCar q bytes ⊎ IsFittingCar q bytes) × (length bytes ≤ standard.received)
 
 -- or refused, and not so where the input is a good CAR
-pub record NotAccepted (q : QueryParts) (input : Input) (out : Output) (refusal : Refusal) : Type 0 where
+pub record NotAccepted (q : QueryParts) (input : Input) (out : Output) (refusal : CommandFault) : Type 0 where
   pub fault : ClientFault
   pub tells : IsVerifyRefusal fault refusal
   pub verifies : Verifies q standard input out (Err fault)
@@ -92,7 +92,7 @@ pub record NotAccepted (q : QueryParts) (input : Input) (out : Output) (refusal 
   pub else : (bytes : List ℕ) → input.left_old ≡ Some bytes → IsGoodCar q bytes → IsOwnEnd fault
 
 -- how `verify` ends
-abbrev pub VerifyEnds : QueryParts → Input → Output → Option Refusal → Type 0
+abbrev pub VerifyEnds : QueryParts → Input → Output → Option CommandFault → Type 0
 VerifyEnds q input out None = Accepted q input out
 VerifyEnds q input out (Some refusal) = NotAccepted q input out refusal
 

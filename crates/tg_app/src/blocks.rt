@@ -4,7 +4,7 @@ ghost use Rattle.std.specs.Prelude.{◌≡◌, ◌+◌, ◌≤◌, length, take,
 ghost use Rattle.tg_streams.specs.Streams.{through};
 ghost use Rattle.tg_app.specs.Blocks.{IsNoBlock, ReadBlock, refusal_for};
 
-use crate::refusal::Refusal;
+use crate::fault::CommandFault;
 use std::alloc::{AllocError, Global};
 use tg_bytes::{Bytes, zeros};
 use tg_cid::{Cid, MAX_BLOCK_LEN};
@@ -22,13 +22,13 @@ pub enum InputRefusal {
 }
 
 /// The refusal of a command over a block, with the text of the CID.
-pub fn refusal_for(why: InputRefusal, cid: Bytes) -> Refusal
+pub fn refusal_for(why: InputRefusal, cid: Bytes) -> CommandFault
     ensures { result ≡ refusal_for why cid }
 {
     match why {
-        InputRefusal::Fault => Refusal::InputFault,
-        InputRefusal::Limit => Refusal::BlockLimit,
-        InputRefusal::BadDigest => Refusal::BadDigest { cid },
+        InputRefusal::Fault => CommandFault::InputFault,
+        InputRefusal::Limit => CommandFault::BlockLimit,
+        InputRefusal::BadDigest => CommandFault::BadDigest { cid },
     }
 }
 

@@ -7,7 +7,7 @@ ghost use Rattle.tg_app.specs.Blocks.{IsTextOf};
 ghost use Rattle.tg_app.specs.Check.{CheckEnds};
 
 use crate::blocks::{block_buffer, read_block, refusal_for};
-use crate::refusal::{Refusal, put_text};
+use crate::fault::{CommandFault, put_text};
 use std::alloc::Global;
 use tg_bytes::Bytes;
 use tg_cid::Cid;
@@ -19,7 +19,7 @@ pub fn check<I: Source, O: Sink>(
     cid: &Cid,
     input: &mut I,
     out: &mut O,
-) -> Result<(), Refusal>
+) -> Result<(), CommandFault>
     ensures { CheckEnds cid.now (through I.source input.old input.new) (into O.sink out.old out.new) (end_of result) }
 {
     let text = cid.to_text(alloc)?;
@@ -34,7 +34,7 @@ fn check_in<I: Source, O: Sink>(
     text: Bytes,
     input: &mut I,
     out: &mut O,
-) -> Result<(), Refusal>
+) -> Result<(), CommandFault>
     requires room { length buffer.old ≡ max_block_len + 1 }
     requires text { IsTextOf cid.now text }
     ensures { CheckEnds cid.now (through I.source input.old input.new) (into O.sink out.old out.new) (end_of result) }

@@ -6,7 +6,7 @@ ghost use Rattle.tg_app.specs.Objects.{given_back};
 ghost use Rattle.tg_files.specs.Packs.{pack_step};
 ghost use Rattle.tg_streams.specs.Streams.{into};
 
-use crate::refusal::Refusal;
+use crate::fault::CommandFault;
 use std::alloc::Global;
 use tg_cid::Cid;
 use tg_export::ExportFault;
@@ -23,7 +23,7 @@ pub fn export<P: Pack, O: Sink>(
     asked: &Export,
     pack: &mut Option<P>,
     out: &mut O,
-) -> Result<(), Refusal>
+) -> Result<(), CommandFault>
     requires { IsSome pack.old }
     ensures back { IsSome pack.new }
     ensures ends { ExportAnswers asked.now.query (given_back P.pack pack.old pack.new) (pack.new ≡ pack.old) (into O.sink out.old out.new) (end_of result) }
@@ -44,12 +44,12 @@ fn export_from<P: Pack, O: Sink>(
     asked: &Export,
     pack: P,
     out: &mut O,
-) -> (P, Result<(), Refusal>)
+) -> (P, Result<(), CommandFault>)
     ensures { ExportAnswers asked.now.query (pack_step P.pack pack result.0) (Some result.0 ≡ Some pack) (into O.sink out.old out.new) (end_of result.1) }
 {
     let mut pack = pack;
     let Ok(()) = pack.attach(asked.pack.as_str(), false) else {
-        return (pack, Err(Refusal::PackFault));
+        return (pack, Err(CommandFault::PackFault));
     };
     let (pack, end) = tg_export::export(alloc, &asked.query, pack, out);
     match end {
@@ -59,90 +59,90 @@ fn export_from<P: Pack, O: Sink>(
 }
 
 /// The refusal for the fault of an export.
-fn refusal_of(alloc: Global, fault: ExportFault) -> Refusal
+fn refusal_of(alloc: Global, fault: ExportFault) -> CommandFault
     ensures { IsExportRefusal fault result }
 {
     match fault {
         ExportFault::Pack(fault) => refusal_of_pack(fault),
         ExportFault::Resolve(fault) => refusal_of_path(alloc, fault),
         ExportFault::Walk(fault) => refusal_of_walk(alloc, fault),
-        ExportFault::SinkFault => Refusal::SinkFault,
-        ExportFault::OutOfMemory => Refusal::OutOfMemory,
+        ExportFault::SinkFault => CommandFault::SinkFault,
+        ExportFault::OutOfMemory => CommandFault::OutOfMemory,
     }
 }
 
 /// The refusal for a pack that can't be attached.
-fn refusal_of_pack(fault: PackFault) -> Refusal
+fn refusal_of_pack(fault: PackFault) -> CommandFault
     ensures { IsExportRefusal (ExportFault.Pack fault) result }
 {
     match fault {
-        PackFault::NotCar { at } => Refusal::NotCar { at },
-        PackFault::BadDigest { at } => Refusal::BadPack { at },
-        PackFault::Unfinished => Refusal::Unfinished,
-        PackFault::Truncated { at } => Refusal::TornPack { at },
-        PackFault::Failed => Refusal::PackFault,
-        PackFault::BlockLimit { at } => Refusal::PackLimit { at },
-        PackFault::OutOfMemory => Refusal::OutOfMemory,
+        PackFault::NotCar { at } => CommandFault::NotCar { at },
+        PackFault::BadDigest { at } => CommandFault::BadPack { at },
+        PackFault::Unfinished => CommandFault::Unfinished,
+        PackFault::Truncated { at } => CommandFault::TornPack { at },
+        PackFault::Failed => CommandFault::PackFault,
+        PackFault::BlockLimit { at } => CommandFault::PackLimit { at },
+        PackFault::OutOfMemory => CommandFault::OutOfMemory,
     }
 }
 
 /// The refusal for a path that doesn't lead to a stored block.
-fn refusal_of_path(alloc: Global, fault: ResolveFault) -> Refusal
+fn refusal_of_path(alloc: Global, fault: ResolveFault) -> CommandFault
     ensures { IsExportRefusal (ExportFault.Resolve fault) result }
 {
     match fault {
-        ResolveFault::NoRoot => Refusal::NoRoot,
-        ResolveFault::NotThere { segment } => Refusal::NotThere { segment },
-        ResolveFault::NotFolder { segment } => Refusal::NotFolder { segment },
+        ResolveFault::NoRoot => CommandFault::NoRoot,
+        ResolveFault::NotThere { segment } => CommandFault::NotThere { segment },
+        ResolveFault::NotFolder { segment } => CommandFault::NotFolder { segment },
         ResolveFault::BadBlock { cid, fault } => bad_stored(alloc, &cid, fault),
         ResolveFault::Gone { cid } => gone(alloc, &cid),
         ResolveFault::Store(fault) => refusal_of_store(fault),
-        ResolveFault::OutOfMemory => Refusal::OutOfMemory,
+        ResolveFault::OutOfMemory => CommandFault::OutOfMemory,
     }
 }
 
 /// The refusal for a walk that ended before the last block.
-fn refusal_of_walk(alloc: Global, fault: WalkFault) -> Refusal
+fn refusal_of_walk(alloc: Global, fault: WalkFault) -> CommandFault
     ensures { IsExportRefusal (ExportFault.Walk fault) result }
 {
     match fault {
         WalkFault::BadBlock { cid, fault } => bad_stored(alloc, &cid, fault),
         WalkFault::Gone { cid } => gone(alloc, &cid),
-        WalkFault::TooDeep => Refusal::TooDeep,
+        WalkFault::TooDeep => CommandFault::TooDeep,
         WalkFault::Store(fault) => refusal_of_store(fault),
-        WalkFault::NotThere { segment } => Refusal::NotThere { segment },
-        WalkFault::NotFolder { segment } => Refusal::NotFolder { segment },
-        WalkFault::OutOfMemory => Refusal::OutOfMemory,
+        WalkFault::NotThere { segment } => CommandFault::NotThere { segment },
+        WalkFault::NotFolder { segment } => CommandFault::NotFolder { segment },
+        WalkFault::OutOfMemory => CommandFault::OutOfMemory,
     }
 }
 
 /// The refusal for a fault of the store.
-fn refusal_of_store(fault: BlocksFault) -> Refusal
+fn refusal_of_store(fault: BlocksFault) -> CommandFault
     ensures { result ≡ store_refusal fault }
 {
     match fault {
-        BlocksFault::Changed { .. } => Refusal::Changed,
-        BlocksFault::Failed => Refusal::PackFault,
-        BlocksFault::OutOfMemory => Refusal::OutOfMemory,
+        BlocksFault::Changed { .. } => CommandFault::Changed,
+        BlocksFault::Failed => CommandFault::PackFault,
+        BlocksFault::OutOfMemory => CommandFault::OutOfMemory,
     }
 }
 
 /// The refusal for a stored block without a kind, or for want of memory for its CID's text.
-fn bad_stored(alloc: Global, cid: &Cid, fault: BlockFault) -> Refusal
-    ensures { ShowsOrWants (λ text. Refusal.BadStored text fault) cid.now result }
+fn bad_stored(alloc: Global, cid: &Cid, fault: BlockFault) -> CommandFault
+    ensures { ShowsOrWants (λ text. CommandFault.BadStored text fault) cid.now result }
 {
     match cid.to_text(alloc) {
-        Ok(cid) => Refusal::BadStored { cid, fault },
-        Err(_) => Refusal::OutOfMemory,
+        Ok(cid) => CommandFault::BadStored { cid, fault },
+        Err(_) => CommandFault::OutOfMemory,
     }
 }
 
 /// The refusal for a block that isn't stored, or for want of memory for its CID's text.
-fn gone(alloc: Global, cid: &Cid) -> Refusal
-    ensures { ShowsOrWants Refusal.Gone cid.now result }
+fn gone(alloc: Global, cid: &Cid) -> CommandFault
+    ensures { ShowsOrWants CommandFault.Gone cid.now result }
 {
     match cid.to_text(alloc) {
-        Ok(cid) => Refusal::Gone { cid },
-        Err(_) => Refusal::OutOfMemory,
+        Ok(cid) => CommandFault::Gone { cid },
+        Err(_) => CommandFault::OutOfMemory,
     }
 }

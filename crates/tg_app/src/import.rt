@@ -8,7 +8,7 @@ ghost use Rattle.tg_import.specs.Imported.{AreOptions};
 ghost use Rattle.tg_model.specs.Texts.{escaped};
 ghost use Rattle.tg_streams.specs.Streams.{into};
 
-use crate::refusal::Refusal;
+use crate::fault::CommandFault;
 use itoa::Buffer;
 use std::alloc::{AllocError, Global};
 use tg_bytes::Bytes;
@@ -27,7 +27,7 @@ pub fn import<F: Folder, P: Pack, O: Sink>(
     folder: &mut F,
     pack: &mut Option<P>,
     out: &mut O,
-) -> Result<(), Refusal>
+) -> Result<(), CommandFault>
     requires there { IsSome pack.old }
     requires options { AreOptions (options_of asked.now) }
     ensures back { IsSome pack.new }
@@ -35,7 +35,7 @@ pub fn import<F: Folder, P: Pack, O: Sink>(
         (into O.sink out.old out.new) (end_of result) }
 {
     let Ok(()) = folder.attach(asked.folder.as_str()) else {
-        return Err(Refusal::FolderFault);
+        return Err(CommandFault::FolderFault);
     };
     let Some(attached) = pack.take() else {
         unreachable!()
@@ -54,7 +54,7 @@ fn import_into<F: Folder, P: Pack, O: Sink>(
     folder: &mut F,
     pack: P,
     out: &mut O,
-) -> (P, Result<(), Refusal>)
+) -> (P, Result<(), CommandFault>)
     requires options { AreOptions (options_of asked.now) }
     requires tells { TellsFolder (F.folder.tree folder.old) }
     ensures { AttachedAnswers (options_of asked.now) (files_between F.folder P.pack folder.old folder.new (Some pack) (Some result.0))
@@ -62,7 +62,7 @@ fn import_into<F: Folder, P: Pack, O: Sink>(
 {
     let mut pack = pack;
     let Ok(()) = pack.attach(asked.pack.as_str(), true) else {
-        return (pack, Err(Refusal::PackFault));
+        return (pack, Err(CommandFault::PackFault));
     };
     let options = Options {
         chunk: asked.chunk,
@@ -82,13 +82,13 @@ fn put_lines<O: Sink>(
     root: &Cid,
     summary: &Summary,
     out: &mut O,
-) -> Result<(), Refusal>
+) -> Result<(), CommandFault>
     ensures { LinesEnd root.now summary.now (into O.sink out.old out.new) (end_of result) }
 {
     let text = lines(alloc, root, summary)?;
     match put_all(out, text.as_slice()) {
         Ok(()) => Ok(()),
-        Err(_) => Err(Refusal::SinkFault),
+        Err(_) => Err(CommandFault::SinkFault),
     }
 }
 
@@ -114,42 +114,42 @@ fn push_number(text: &mut Bytes, label: &[u8], number: u64) -> Result<(), AllocE
 }
 
 /// The refusal for the fault of an import.
-fn refusal_of(alloc: Global, fault: ImportFault) -> Refusal
+fn refusal_of(alloc: Global, fault: ImportFault) -> CommandFault
     ensures { IsImportRefusal fault result }
 {
     match refusal_in(alloc, fault) {
         Ok(refusal) => refusal,
-        Err(_) => Refusal::OutOfMemory,
+        Err(_) => CommandFault::OutOfMemory,
     }
 }
 
 /// The refusal for the fault of an import, with the text of its path or of its names, for which memory may be wanted.
-fn refusal_in(alloc: Global, fault: ImportFault) -> Result<Refusal, AllocError>
+fn refusal_in(alloc: Global, fault: ImportFault) -> Result<CommandFault, AllocError>
     ensures ok { IfOk result (λ refusal. refusal ≡ refusal_of_import fault) }
     ensures err { OnErr result (HasText fault) }
 {
     Ok(match fault {
-        ImportFault::Folder => Refusal::FolderFault,
-        ImportFault::Keep => Refusal::PackFault,
-        ImportFault::TooDeep { path } => Refusal::DeepFolder {
+        ImportFault::Folder => CommandFault::FolderFault,
+        ImportFault::Keep => CommandFault::PackFault,
+        ImportFault::TooDeep { path } => CommandFault::DeepFolder {
             path: path_text(alloc, path.as_slice())?,
         },
-        ImportFault::BadName { path } => Refusal::BadName {
+        ImportFault::BadName { path } => CommandFault::BadName {
             path: path_text(alloc, path.as_slice())?,
         },
-        ImportFault::LongName { path } => Refusal::LongName {
+        ImportFault::LongName { path } => CommandFault::LongName {
             path: path_text(alloc, path.as_slice())?,
         },
-        ImportFault::SameHash { first, second } => Refusal::SameHash {
+        ImportFault::SameHash { first, second } => CommandFault::SameHash {
             names: both_escaped(alloc, &first, &second)?,
         },
-        ImportFault::NotPlain { path } => Refusal::NotPlain {
+        ImportFault::NotPlain { path } => CommandFault::NotPlain {
             path: path_text(alloc, path.as_slice())?,
         },
-        ImportFault::TooBig { path } => Refusal::TooBig {
+        ImportFault::TooBig { path } => CommandFault::TooBig {
             path: path_text(alloc, path.as_slice())?,
         },
-        ImportFault::OutOfMemory => Refusal::OutOfMemory,
+        ImportFault::OutOfMemory => CommandFault::OutOfMemory,
     })
 }
 

@@ -5,11 +5,11 @@ mod blocks;
 mod check;
 mod cid;
 mod export;
+mod fault;
 mod import;
 mod node;
-mod refusal;
 mod top;
 mod verify;
 
-pub use refusal::Refusal;
+pub use fault::CommandFault;
 pub use top::{out_of_memory, run};

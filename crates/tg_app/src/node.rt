@@ -7,7 +7,7 @@ ghost use Rattle.tg_app.specs.Blocks.{IsTextOf};
 ghost use Rattle.tg_app.specs.Node.{NodeEnds};
 
 use crate::blocks::{block_buffer, read_block, refusal_for};
-use crate::refusal::{Refusal, put_text};
+use crate::fault::{CommandFault, put_text};
 use std::alloc::Global;
 use tg_bytes::Bytes;
 use tg_cid::Cid;
@@ -20,7 +20,7 @@ pub fn node<I: Source, O: Sink>(
     cid: &Cid,
     input: &mut I,
     out: &mut O,
-) -> Result<(), Refusal>
+) -> Result<(), CommandFault>
     ensures { NodeEnds cid.now (through I.source input.old input.new) (into O.sink out.old out.new) (end_of result) }
 {
     let text = cid.to_text(alloc)?;
@@ -36,7 +36,7 @@ fn node_in<I: Source, O: Sink>(
     text: Bytes,
     input: &mut I,
     out: &mut O,
-) -> Result<(), Refusal>
+) -> Result<(), CommandFault>
     requires room { length buffer.old ≡ max_block_len + 1 }
     requires text { IsTextOf cid.now text }
     ensures { NodeEnds cid.now (through I.source input.old input.new) (into O.sink out.old out.new) (end_of result) }
@@ -47,7 +47,7 @@ fn node_in<I: Source, O: Sink>(
     };
     match node_text(alloc, cid, &buffer[..filled]) {
         Ok(lines) => put_text(out, lines.as_slice()),
-        Err(TextFault::Block(fault)) => Err(Refusal::BadBlock { cid: text, fault }),
-        Err(TextFault::OutOfMemory) => Err(Refusal::OutOfMemory),
+        Err(TextFault::Block(fault)) => Err(CommandFault::BadBlock { cid: text, fault }),
+        Err(TextFault::OutOfMemory) => Err(CommandFault::OutOfMemory),
     }
 }

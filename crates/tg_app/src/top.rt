@@ -23,20 +23,18 @@ ghost use Rattle.tg_app.specs.Verify.{IsGoodCar, VerifiedInput, Vouched};
 ghost use Rattle.tg_model.specs.Dag.{Dag, root_cid};
 ghost use Rattle.tg_model.specs.Queries.{QueryParts};
 ghost use Rattle.tg_model.specs.Sound.{IsSound};
-ghost use Rattle.tg_app.specs.declared.refusal.Refusal.{Refusal};
+ghost use Rattle.tg_app.specs.declared.fault.CommandFault.{CommandFault};
 
 use crate::check::check;
 use crate::cid::{cid_to_hex, cid_to_text};
 use crate::export::export;
+use crate::fault::CommandFault;
 use crate::import::import;
 use crate::node::node;
-use crate::refusal::Refusal;
 use crate::verify::verify;
 use std::alloc::Global;
 use tg_files::{Folder, Pack};
 use tg_streams::{Sink, Source};
-use tg_traverse::verified_sections;
-use tg_verify::verified_answers;
 use tg_words::Command;
 
 /// Does what the words ask for, the words being those after the program's name, and answers the exit status.
@@ -178,8 +176,8 @@ pub fn run<F: Folder, P: Pack, I: Source, O: Sink, E: Sink>(
     ensures vouched_answer { (q : QueryParts) (d : Dag) → CommandLine (map string_bytes words.now) (Verify q) → IsSound d → root_cid d ≡ q.root
         → Vouched q d (through I.source input.old input.new) (into O.sink out.old out.new) result }
 {
-    verified_answers();
-    verified_sections();
+    tg_verify::laws::verified_answers();
+    tg_traversal_laws::verified_sections();
     let end = command(alloc, words, folder, pack, input, out);
     tell(&end, err)
 }
@@ -192,7 +190,7 @@ fn command<F: Folder, P: Pack, I: Source, O: Sink>(
     pack: &mut Option<P>,
     input: &mut I,
     out: &mut O,
-) -> Result<(), Refusal>
+) -> Result<(), CommandFault>
     requires { IsSome pack.old }
     ensures back { IsSome pack.new }
     ensures ends { Ends (map string_bytes words.now)
@@ -211,7 +209,7 @@ fn command<F: Folder, P: Pack, I: Source, O: Sink>(
 }
 
 /// Says on err why a command was refused, and answers the exit status. A fault of err changes nothing.
-fn tell<E: Sink>(end: &Result<(), Refusal>, err: &mut E) -> u8
+fn tell<E: Sink>(end: &Result<(), CommandFault>, err: &mut E) -> u8
     ensures status { result ≡ exit_status (end_of end.now) }
     ensures line { Says (end_of end.now) (into E.sink err.old err.new) }
 {
@@ -227,8 +225,8 @@ fn tell<E: Sink>(end: &Result<(), Refusal>, err: &mut E) -> u8
 /// Says on err that no memory was found for the words, and answers the exit status 8.
 pub fn out_of_memory<E: Sink>(err: &mut E) -> u8
     ensures status { result ≡ 8 }
-    ensures line { Says (Some Refusal.OutOfMemory) (into E.sink err.old err.new) }
+    ensures line { Says (Some CommandFault.OutOfMemory) (into E.sink err.old err.new) }
 {
-    let _ = Refusal::OutOfMemory.report(err);
-    Refusal::OutOfMemory.status()
+    let _ = CommandFault::OutOfMemory.report(err);
+    CommandFault::OutOfMemory.status()
 }

@@ -7,7 +7,7 @@ ghost use Rattle.tg_app.specs.Verify.{IsVerifyRefusal, ShowsCids, VerifyEnds};
 ghost use Rattle.tg_client.specs.declared.fault.ClientFault.{ClientFault};
 ghost use Rattle.tg_streams.specs.Streams.{into, through};
 
-use crate::refusal::Refusal;
+use crate::fault::CommandFault;
 use std::alloc::{AllocError, Global};
 use tg_bytes::Bytes;
 use tg_cid::Cid;
@@ -22,7 +22,7 @@ pub fn verify<I: Source, O: Sink>(
     query: &Query,
     input: &mut I,
     out: &mut O,
-) -> Result<(), Refusal>
+) -> Result<(), CommandFault>
     requires { query.now.dups ≡ true }
     ensures { VerifyEnds query.now (through I.source input.old input.new) (into O.sink out.old out.new) (end_of result) }
 {
@@ -33,53 +33,53 @@ pub fn verify<I: Source, O: Sink>(
 }
 
 /// The refusal for a CAR that isn't accepted.
-fn refusal_of(alloc: Global, fault: ClientFault) -> Refusal
+fn refusal_of(alloc: Global, fault: ClientFault) -> CommandFault
     ensures { IsVerifyRefusal fault result }
 {
     match fault {
         ClientFault::Refused(fault) => refusal_of_verifier(alloc, fault),
-        ClientFault::BadCar(_) => Refusal::BadCar,
-        ClientFault::InputFault => Refusal::InputFault,
-        ClientFault::OutOfMemory => Refusal::OutOfMemory,
+        ClientFault::BadCar(_) => CommandFault::BadCar,
+        ClientFault::InputFault => CommandFault::InputFault,
+        ClientFault::OutOfMemory => CommandFault::OutOfMemory,
     }
 }
 
 /// The refusal for one of the verifier.
-fn refusal_of_verifier(alloc: Global, fault: VerifierRefusal) -> Refusal
+fn refusal_of_verifier(alloc: Global, fault: VerifierRefusal) -> CommandFault
     ensures { IsVerifyRefusal (ClientFault.Refused fault) result }
 {
     match fault {
-        VerifierRefusal::Extra { sections } => Refusal::Extra { sections },
-        VerifierRefusal::Limit { kind, number } => Refusal::Limit { kind, number },
+        VerifierRefusal::Extra { sections } => CommandFault::Extra { sections },
+        VerifierRefusal::Limit { kind, number } => CommandFault::Limit { kind, number },
         VerifierRefusal::BadDigest { cid } => bad_digest(alloc, &cid),
         VerifierRefusal::WrongBlock { want, got } => wrong_block(alloc, &want, &got),
         VerifierRefusal::BadBlock { cid, fault } => bad_received(alloc, &cid, fault),
-        VerifierRefusal::BadSize { declared, actual } => Refusal::BadSize { declared, actual },
-        VerifierRefusal::NotFolder { segment } => Refusal::NotFolder { segment },
-        VerifierRefusal::NotThere { segment } => Refusal::NotThere { segment },
-        VerifierRefusal::SinkFault => Refusal::SinkFault,
+        VerifierRefusal::BadSize { declared, actual } => CommandFault::BadSize { declared, actual },
+        VerifierRefusal::NotFolder { segment } => CommandFault::NotFolder { segment },
+        VerifierRefusal::NotThere { segment } => CommandFault::NotThere { segment },
+        VerifierRefusal::SinkFault => CommandFault::SinkFault,
         VerifierRefusal::Truncated { want, sections } => truncated(alloc, &want, sections),
-        VerifierRefusal::OutOfMemory => Refusal::OutOfMemory,
+        VerifierRefusal::OutOfMemory => CommandFault::OutOfMemory,
     }
 }
 
 /// The refusal for a block that its CID doesn't name, or for want of memory for the CID's text.
-fn bad_digest(alloc: Global, cid: &Cid) -> Refusal
-    ensures { ShowsOrWants Refusal.BadDigest cid.now result }
+fn bad_digest(alloc: Global, cid: &Cid) -> CommandFault
+    ensures { ShowsOrWants CommandFault.BadDigest cid.now result }
 {
     match cid.to_text(alloc) {
-        Ok(cid) => Refusal::BadDigest { cid },
-        Err(_) => Refusal::OutOfMemory,
+        Ok(cid) => CommandFault::BadDigest { cid },
+        Err(_) => CommandFault::OutOfMemory,
     }
 }
 
 /// The refusal for another block than the wanted one, or for want of memory for a CID's text.
-fn wrong_block(alloc: Global, want: &Cid, got: &Cid) -> Refusal
-    ensures { ShowsCids Refusal.WrongBlock want.now got.now result ⊎ (result ≡ Refusal.OutOfMemory) }
+fn wrong_block(alloc: Global, want: &Cid, got: &Cid) -> CommandFault
+    ensures { ShowsCids CommandFault.WrongBlock want.now got.now result ⊎ (result ≡ CommandFault.OutOfMemory) }
 {
     match shown(alloc, want, got) {
-        Ok((want, got)) => Refusal::WrongBlock { want, got },
-        Err(_) => Refusal::OutOfMemory,
+        Ok((want, got)) => CommandFault::WrongBlock { want, got },
+        Err(_) => CommandFault::OutOfMemory,
     }
 }
 
@@ -91,21 +91,21 @@ fn shown(alloc: Global, first: &Cid, second: &Cid) -> Result<(Bytes, Bytes), All
 }
 
 /// The refusal for a block without a kind, or for want of memory for its CID's text.
-fn bad_received(alloc: Global, cid: &Cid, fault: BlockFault) -> Refusal
-    ensures { ShowsOrWants (λ text. Refusal.BadReceived text fault) cid.now result }
+fn bad_received(alloc: Global, cid: &Cid, fault: BlockFault) -> CommandFault
+    ensures { ShowsOrWants (λ text. CommandFault.BadReceived text fault) cid.now result }
 {
     match cid.to_text(alloc) {
-        Ok(cid) => Refusal::BadReceived { cid, fault },
-        Err(_) => Refusal::OutOfMemory,
+        Ok(cid) => CommandFault::BadReceived { cid, fault },
+        Err(_) => CommandFault::OutOfMemory,
     }
 }
 
 /// The refusal for a CAR that ends before the last section, or for want of memory for the text of the wanted CID.
-fn truncated(alloc: Global, want: &Cid, sections: u64) -> Refusal
-    ensures { ShowsOrWants (λ text. Refusal.Truncated text sections) want.now result }
+fn truncated(alloc: Global, want: &Cid, sections: u64) -> CommandFault
+    ensures { ShowsOrWants (λ text. CommandFault.Truncated text sections) want.now result }
 {
     match want.to_text(alloc) {
-        Ok(want) => Refusal::Truncated { want, sections },
-        Err(_) => Refusal::OutOfMemory,
+        Ok(want) => CommandFault::Truncated { want, sections },
+        Err(_) => CommandFault::OutOfMemory,
     }
 }

@@ -1,5 +1,13 @@
-//! Tests of the program's commands over folders and packs in memory, and of the real ones.
+//! Tests of the program's commands through `run`: over streams, and over folders and packs in memory.
 #![tactic(auto)]
 
 #[cfg(test)]
-mod tests;
+mod blocks;
+#[cfg(test)]
+mod car_bytes;
+#[cfg(test)]
+mod car_sections;
+#[cfg(test)]
+mod cars;
+#[cfg(test)]
+mod files;

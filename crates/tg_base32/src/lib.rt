@@ -7,9 +7,8 @@ ghost use Rattle.tg_base32.specs.Held.{IsHeld, bits_of, Reads, TakesLetter, Take
 ghost use Rattle.tg_base32.specs.declared.Base32Fault.{Base32Fault};
 ghost use Rattle.tg_base32.specs.declared.Base32Fault.TheVariants.{OutOfMemory};
 
-mod laws;
+pub mod laws;
 
-pub use laws::text_laws;
 use std::alloc::{AllocError, Global};
 use thiserror::Error;
 

@@ -7,7 +7,7 @@ ghost use Rattle.tg_block_log.specs.LoggedBlocks.{are_good, section_of};
 use crate::logged_block::LoggedBlock;
 use std::alloc::{AllocError, Global};
 use tg_bytes::{Bytes, List};
-use tg_cid::{Cid, equality};
+use tg_cid::Cid;
 use tg_model::{Blocks, BlocksFault, Keep, KeepFault};
 
 /// A store in memory that logs each block that is kept in it, in order, and tells the first of each CID. It counts how often
@@ -97,7 +97,7 @@ fn first_block(
 ) -> Result<Option<Bytes>, AllocError>
     ensures { IfOk result (λ found. found ≡ first_block (map section_of blocks.now) cid.now) }
 {
-    equality();
+    tg_cid::laws::equality();
     let form = cid.to_v1();
     for held in blocks {
         if held.cid.to_v1() == form {

@@ -7,5 +7,5 @@ ghost use Rattle.tg_body.specs.Laws.{BodyLaws};
 pub fn body_laws()
     ensures { BodyLaws }
 {
-    tg_http::line_laws();
+    tg_http::laws::line_laws();
 }

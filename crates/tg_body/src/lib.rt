@@ -2,13 +2,12 @@
 #![tactic(auto)]
 
 mod body;
-mod laws;
+pub mod laws;
 mod reader;
 mod stage;
 mod text;
 
 pub use body::Body;
-pub use laws::body_laws;
 pub use reader::BodyReader;
 
 #[cfg(test)]

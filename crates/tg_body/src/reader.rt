@@ -73,7 +73,7 @@ impl BodyReader {
             (λ fault. self.new.refused ≡ Some fault) }
         ensures framing { self.new.framing ≡ self.old.framing }
     {
-        tg_http::line_laws();
+        tg_http::laws::line_laws();
         if let Some(fault) = self.refused {
             return Err(fault);
         }

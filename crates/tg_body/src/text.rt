@@ -42,7 +42,7 @@ pub(crate) fn stated_size(line: &[u8]) -> Option<u64>
     ensures { IsLine line.now → length line.now ≤ 16384
         → MatchOption result ((size : ℕ) → SizeLine size line.now → ⊥) (λ size. SizeLine size line.now) }
 {
-    tg_http::line_laws();
+    tg_http::laws::line_laws();
     match parse_chunk_size(line) {
         Ok(Status::Complete((_, size))) => { if size < 1 << 63 { Some(size) } else { None } }
         Ok(Status::Partial) => None,

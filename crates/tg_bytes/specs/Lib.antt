@@ -1,3 +1,6 @@
+pub mod Ascii
+pub mod DigitLaws
+pub mod Digits
 pub mod Lists
 pub mod Order
 pub mod OrderLaws

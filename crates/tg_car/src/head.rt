@@ -4,7 +4,7 @@ ghost use Rattle.tg_varint.specs.Varint.{VarintSpelling};
 ghost use Rattle.tg_car.specs.Heads.{IsInHead};
 ghost use Rattle.tg_car.specs.Filling.{Fills, IsFront};
 
-use crate::laws::text_laws;
+use crate::laws;
 use crate::room::Room;
 use tg_cid::Cid;
 use tg_varint::VarintFault;
@@ -31,7 +31,7 @@ pub(crate) enum Front {
 pub(crate) fn front_of(bytes: &[u8]) -> Front
     ensures { IsFront bytes.now result }
 {
-    text_laws();
+    laws::text_laws();
     match tg_varint::read(bytes) {
         Ok((size, at)) => behind_size(size, &bytes[at..]),
         Err(VarintFault::Short) => Front::Open,
@@ -44,7 +44,7 @@ pub(crate) fn front_of(bytes: &[u8]) -> Front
 fn behind_size(size: u64, name: &[u8]) -> Front
     ensures { (spelling : List ℕ) → VarintSpelling size spelling → IsFront (spelling ++ name.now) result }
 {
-    text_laws();
+    laws::text_laws();
     let Some(count) = Cid::fewest(name) else {
         return Front::Broken;
     };
@@ -63,19 +63,12 @@ fn behind_size(size: u64, name: &[u8]) -> Front
     }
 }
 
-/// Nothing is a front of a section's length and CID.
-pub(crate) fn nothing_in_head()
-    ensures { IsInHead [] }
-{
-    text_laws();
-}
-
 /// Takes bytes of the piece into a section's length and CID up to their end, and says how many and what they are then.
 pub(crate) fn fill(head: &mut Room, piece: &[u8]) -> (usize, Front)
     requires { IsInHead head.old }
     ensures { Fills head.old head.new piece.now result.0 result.1 }
 {
-    text_laws();
+    laws::text_laws();
     for (at, byte) in piece.iter().enumerate() {
         head.push(*byte);
         match front_of(head.as_slice()) {

@@ -16,7 +16,14 @@ pub fn car_laws()
 pub(crate) fn text_laws()
     ensures { TextLaws }
 {
-    tg_varint::spelling_laws();
-    tg_cid::one_spelling();
-    tg_cid::length_laws();
+    tg_varint::laws::spelling_laws();
+    tg_cid::laws::one_spelling();
+    tg_cid::laws::length_laws();
+}
+
+/// Nothing is a front of a section's length and CID.
+pub(crate) fn nothing_in_head()
+    ensures { IsInHead [] }
+{
+    text_laws();
 }

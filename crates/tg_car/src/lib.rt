@@ -5,7 +5,7 @@ mod event;
 mod fault;
 mod head;
 mod header_state;
-mod laws;
+pub mod laws;
 mod part;
 mod reader;
 mod room;
@@ -14,7 +14,6 @@ mod writing;
 
 pub use event::Event;
 pub use fault::CarFault;
-pub use laws::car_laws;
 pub use reader::CarReader;
 pub use section::Section;
 pub use writing::{header, section_head};

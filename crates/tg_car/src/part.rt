@@ -4,8 +4,8 @@ ghost use Rattle.tg_car.specs.Faults.{shown};
 ghost use Rattle.tg_car.specs.Filling.{IsPart, StopsPart, Takes, TakesBlock, TakesHead, came_of};
 ghost use Rattle.tg_car.specs.Heads.{HeadText};
 
-use crate::head::{Declared, Front, fill, nothing_in_head};
-use crate::laws::text_laws;
+use crate::head::{Declared, Front, fill};
+use crate::laws;
 use crate::room::Room;
 use crate::section::Section;
 use std::alloc::{AllocError, Global};
@@ -37,7 +37,7 @@ impl Part {
         ensures part { IsPart result }
         ensures nothing { came_of result ≡ [] }
     {
-        nothing_in_head();
+        laws::nothing_in_head();
         Part {
             head: Room::new(),
             declared: None,
@@ -74,7 +74,7 @@ impl Part {
         ensures took { MatchResult result (λ found. Takes limit (came_of self.old) (came_of self.new) piece.now found.0 found.1)
             (λ fault. StopsPart limit (came_of self.old) piece.now fault) }
     {
-        text_laws();
+        laws::text_laws();
         if let Some(declared) = self.declared {
             return Ok(self.take_block(alloc, declared, piece));
         }
@@ -97,7 +97,7 @@ impl Part {
         ensures { MatchResult result (λ found. TakesHead limit self.old self.new piece.now found.0 found.1)
             (λ fault. IsPart self.new × StopsPart limit self.old.head piece.now fault) }
     {
-        text_laws();
+        laws::text_laws();
         let (taken, front) = fill(&mut self.head, piece);
         let declared = match front {
             Front::Open => return Ok((taken, None)),
@@ -135,7 +135,7 @@ impl Part {
         ensures part { IsPart self.new }
         ensures took { TakesBlock declared self.old self.new piece.now result.0 result.1 }
     {
-        nothing_in_head();
+        laws::nothing_in_head();
         let left = declared.number - self.block.len() as u64;
         let taken = left.min(piece.len() as u64) as usize;
         if self.block.extend_from_slice(&piece[..taken]).is_err() {

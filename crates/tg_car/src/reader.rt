@@ -9,7 +9,7 @@ ghost use Rattle.tg_car.specs.Steps.{IsTaken, Steps, Stops, TakesHeader};
 use crate::event::Event;
 use crate::fault::CarFault;
 use crate::header_state::HeaderState;
-use crate::laws::text_laws;
+use crate::laws;
 use crate::part::{Part, PartFault};
 use std::alloc::{AllocError, Global};
 use std::marker::Model;
@@ -67,7 +67,7 @@ impl CarReader {
         ensures stands { StandsFor result nothing }
         ensures limit { result.limit ≡ limit }
     {
-        text_laws();
+        laws::text_laws();
         CarReader {
             alloc,
             limit,
@@ -159,7 +159,7 @@ impl CarReader {
         ensures { MatchResult result (λ found. Steps self.old self.new piece.now found.0 found.1)
             (λ fault. Stops self.old self.new piece.now fault) }
     {
-        text_laws();
+        laws::text_laws();
         let Some(found) = follow(self.header, piece) else {
             return Err(CarFault::BadHeader { at: 0 });
         };
@@ -180,7 +180,7 @@ impl CarReader {
         ensures { MatchResult result (λ found. Steps self.old self.new piece.now found.0 found.1)
             (λ fault. Stops self.old self.new piece.now fault) }
     {
-        text_laws();
+        laws::text_laws();
         let came = self.part.len();
         match self.part.take(self.alloc, self.limit, piece) {
             Ok((taken, None)) => Ok((taken, Event::Need)),

@@ -2,6 +2,7 @@
 //! compared with an independent program in python3, which sums the sizes that roots can have.
 use super::*;
 use crate::header_state::HeaderState;
+use crate::laws;
 use std::alloc::{AllocError, Global};
 use std::process::Abort;
 use std::test::Fail;
@@ -357,7 +358,7 @@ fn written(rt: HostRuntime) -> Result<(), Fail> {
     let (head, size) = section_head(&one, 2_097_152);
     assert_eq!(rt; &head[..4], b"\xa4\x80\x80\x01".as_slice());
     assert_eq!(rt; size, 40);
-    car_laws();
+    laws::car_laws();
     Ok(())
 }
 

@@ -21,7 +21,7 @@ const BACK: [u8; 9] = [0x67, b'v', b'e', b'r', b's', b'i', b'o', b'n', 1];
 pub fn header(alloc: Global, root: &Cid) -> Result<Bytes, AllocError>
     ensures { IfOk result (λ bytes. HeaderOf root.now bytes) }
 {
-    tg_cid::length_laws();
+    tg_cid::laws::length_laws();
     let one = root.to_v1();
     let (name, size) = one.spelling();
     let (head, head_size) = string_head(size as u8 + 1);

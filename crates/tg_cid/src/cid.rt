@@ -135,7 +135,7 @@ impl Cid {
         ensures cause { IfErr result (λ fault. HasPrefixCause bytes.now fault) }
         ensures given { (fault : CidFault) → HasPrefixCause bytes.now fault → result ≡ Err fault }
     {
-        tg_varint::spelling_laws();
+        tg_varint::laws::spelling_laws();
         match bytes {
             [0x12] => Err(CidFault::Short { at: 1 }),
             [0x12, 0x20, ..] => with_digest(
@@ -180,8 +180,8 @@ impl Cid {
         ensures given { (fault : CidFault) → HasTextCause text.now fault
             → (result ≡ Err fault) ⊎ (result ≡ Err CidFault.OutOfMemory) }
     {
-        tg_varint::spelling_laws();
-        tg_base32::text_laws();
+        tg_varint::laws::spelling_laws();
+        tg_base32::laws::text_laws();
         let [b'b', letters @ ..] = text else {
             return Err(CidFault::BadText);
         };
@@ -303,7 +303,7 @@ impl Cid {
         ensures spelled { CidV1Bytes (record self.now { version = 1 }) (take result.1 result.0) }
         ensures rest { drop result.1 result.0 ≡ replicate (133 - result.1) 0 }
     {
-        tg_varint::spelling_laws();
+        tg_varint::laws::spelling_laws();
         let digest = self.digest();
         let (length, size) = tg_varint::write(digest.len() as u64);
         let codes = [1, code_of_codec(self.codec), code_of_hash(self.hash)];

@@ -14,6 +14,6 @@ pub fn computes()
     ensures text { (cid : CidParts) (bytes : List ℕ) → CidBytes cid bytes
         → CidText (record cid { version = 1 }) (cid_text cid) }
 {
-    tg_varint::spelling_laws();
-    tg_base32::text_laws();
+    tg_varint::laws::spelling_laws();
+    tg_base32::laws::text_laws();
 }

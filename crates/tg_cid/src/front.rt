@@ -18,7 +18,7 @@ impl Cid {
     pub fn fewest(bytes: &[u8]) -> Option<usize>
         ensures { MatchOption result (IsNoName bytes.now) (λ count. IsFewest bytes.now count) }
     {
-        tg_varint::spelling_laws();
+        tg_varint::laws::spelling_laws();
         let Some(count) = by_head(bytes) else {
             return None;
         };

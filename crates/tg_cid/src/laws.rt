@@ -7,6 +7,7 @@ ghost use Rattle.tg_cid.specs.Names.{Names};
 ghost use Rattle.tg_cid.specs.Spelling.{CidBytes, IsDigestSize};
 
 use crate::cid::Cid;
+pub use crate::computed::computes;
 use std::hash::Hash;
 
 /// No CID's bytes begin another's, a CID is spelled by one list of bytes, and a CIDv1 has one text, which is that of no
@@ -16,8 +17,8 @@ use std::hash::Hash;
 pub fn one_spelling()
     ensures { OneSpelling }
 {
-    tg_varint::spelling_laws();
-    tg_base32::text_laws();
+    tg_varint::laws::spelling_laws();
+    tg_base32::laws::text_laws();
 }
 
 /// The bytes of a CID are bytes, there are 1 to 133 of them, and there is a CID.
@@ -26,7 +27,7 @@ pub fn one_spelling()
 pub fn length_laws()
     ensures { LengthLaws }
 {
-    tg_varint::spelling_laws();
+    tg_varint::laws::spelling_laws();
 }
 
 /// A CID that is spelled has a digest of the size that its hash gives, 32 bytes for sha2-256 and at most 128 for any; and

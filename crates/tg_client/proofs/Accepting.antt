@@ -4,7 +4,7 @@ use Rattle.std.specs.Prelude.{Result, ⊤, ◌⊎◌}
 use Rattle.std.proofs.lemmas.List.{length-append}
 use Rattle.tg_car.specs.Laws.{CarLaws}
 use Rattle.tg_cid.specs.Cid.{CidParts}
-use Rattle.tg_frames.specs.Left.{WantedAt}
+use Rattle.tg_traversal.specs.Left.{WantedAt}
 use Rattle.tg_model.specs.Dag.{Dag, Section}
 use Rattle.tg_model.specs.Fits.{Fits, IsInProgress}
 use Rattle.tg_model.specs.LimitNumbers.{LimitNumbers}
@@ -12,9 +12,9 @@ use Rattle.tg_model.specs.PathWalk.{Spot}
 use Rattle.tg_model.specs.Queries.{QueryParts}
 use Rattle.tg_model.specs.declared.limits.LimitKind.TheVariants as kinds
 use Rattle.tg_streams.specs.Streams.{Input, Output}
-use Rattle.tg_traverse.specs.Stages.{Given}
-use Rattle.tg_traverse.specs.Tasks.{Miss, Task, no_directory, no_entry, open_block, stop_at}
-use Rattle.tg_traverse.specs.Verified.{Verified, VerifiedLaws, WantsNext}
+use Rattle.tg_traversal_laws.specs.Stages.{Given}
+use Rattle.tg_traversal_laws.specs.Tasks.{Miss, Task, no_directory, no_entry, open_block, stop_at}
+use Rattle.tg_traversal_laws.specs.Verified.{Verified, VerifiedLaws, WantsNext}
 use Rattle.tg_verify.specs.Laws.{IsOwnFault}
 use Rattle.tg_verify.specs.Refusals.{HasRefused, IsCutShort, IsRefusedAt}
 use Rattle.tg_verify.specs.State.{count_of}

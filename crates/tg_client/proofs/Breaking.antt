@@ -6,7 +6,7 @@ use Rattle.tg_car.specs.History.{IsAmongSections}
 use Rattle.tg_car.specs.declared.event.Event.{Event}
 use Rattle.tg_car.specs.declared.fault.CarFault.{CarFault}
 use Rattle.tg_car.specs.declared.fault.CarFault.TheVariants as cars
-use Rattle.tg_frames.specs.Left.{WantedAt}
+use Rattle.tg_traversal.specs.Left.{WantedAt}
 use Rattle.tg_model.specs.Dag.{Dag, Section}
 use Rattle.tg_model.specs.LimitNumbers.{LimitNumbers}
 use Rattle.tg_model.specs.Queries.{QueryParts}

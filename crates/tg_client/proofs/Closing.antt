@@ -12,7 +12,7 @@ use Rattle.tg_car.specs.declared.event.Event.{Event}
 use Rattle.tg_car.specs.declared.fault.CarFault.{CarFault}
 use Rattle.tg_car.specs.declared.fault.CarFault.TheVariants as cars
 use Rattle.tg_car.specs.declared.section.Section.{Section as CarSection}
-use Rattle.tg_frames.specs.Left.{WantedAt}
+use Rattle.tg_traversal.specs.Left.{WantedAt}
 use Rattle.tg_model.specs.Dag.{Section}
 use Rattle.tg_verify.specs.Laws.{AnswerLaws}
 use Rattle.tg_verify.specs.declared.fault.Refusal.TheVariants as refusals

@@ -6,15 +6,15 @@ use Rattle.std.proofs.lemmas.List.Elements.{All-nil}
 use Rattle.tg_car.specs.CarText.{IsRoot, header_map}
 use Rattle.tg_car.specs.Fronts.{IsInHeader}
 use Rattle.tg_faults.specs.Faults.{Rose}
-use Rattle.tg_frames.specs.Left.{WantedAt}
+use Rattle.tg_traversal.specs.Left.{WantedAt}
 use Rattle.tg_model.specs.Dag.{Section}
 use Rattle.tg_model.specs.LimitNumbers.{LimitNumbers}
 use Rattle.tg_model.specs.Queries.{QueryParts}
 use Rattle.tg_model.specs.declared.limits.LimitKind.TheVariants as kinds
 use Rattle.tg_streams.specs.Streams.{Ended, Input, Output, OutputQuiet, Put, SinkMeaning, Took, into}
-use Rattle.tg_traverse.specs.Stages.{nothing_given}
-use Rattle.tg_traverse.specs.Tasks.{path_want}
-use Rattle.tg_traverse.specs.Verified.{VerifiedLaws}
+use Rattle.tg_traversal_laws.specs.Stages.{nothing_given}
+use Rattle.tg_traversal_laws.specs.Tasks.{path_want}
+use Rattle.tg_traversal_laws.specs.Verified.{VerifiedLaws}
 use Rattle.tg_varint.specs.Computed.{varint}
 use Rattle.tg_varint.specs.Laws.{SpellingLaws}
 use Rattle.tg_verify.specs.Laws.{AnswerLaws}

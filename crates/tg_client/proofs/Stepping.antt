@@ -8,7 +8,7 @@ use Rattle.tg_car.specs.declared.event.Event.TheVariants as events
 use Rattle.tg_car.specs.declared.fault.CarFault.{CarFault}
 use Rattle.tg_car.specs.declared.section.Section.{Section as CarSection}
 use Rattle.tg_cid.specs.Cid.{CidParts}
-use Rattle.tg_frames.specs.Left.{WantedAt}
+use Rattle.tg_traversal.specs.Left.{WantedAt}
 use Rattle.tg_model.specs.Dag.{Section}
 use Rattle.tg_model.specs.LimitNumbers.{LimitNumbers}
 use Rattle.tg_model.specs.Queries.{QueryParts}

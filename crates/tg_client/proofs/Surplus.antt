@@ -3,8 +3,8 @@ use Rattle.std.proofs.Common.{◌≡◌, ◌≢◌, ℕ, ◌<◌, ◌≤◌, Boo
 use Rattle.std.specs.Prelude.{Result, ⊤, ◌⊎◌}
 use Rattle.std.proofs.lemmas.List.{append_cancel_left, length-append}
 use Rattle.tg_car.specs.Laws.{CarLaws}
-use Rattle.tg_frames.specs.Left.{WantedAt}
-use Rattle.tg_laws.specs.Fronts.{FitsByFronts, IsNew, ProgressByFronts}
+use Rattle.tg_traversal.specs.Left.{WantedAt}
+use Rattle.tg_model_laws.specs.Fronts.{FitsByFronts, IsNew, ProgressByFronts}
 use Rattle.tg_model.specs.Dag.{Dag, Section}
 use Rattle.tg_model.specs.Fits.{Fits, IfOnce, IsInProgress}
 use Rattle.tg_model.specs.LimitNumbers.{LimitNumbers}
@@ -12,8 +12,8 @@ use Rattle.tg_model.specs.PathWalk.{Spot}
 use Rattle.tg_model.specs.Queries.{QueryParts}
 use Rattle.tg_model.specs.declared.limits.LimitKind.TheVariants as kinds
 use Rattle.tg_streams.specs.Streams.{Input, Output}
-use Rattle.tg_traverse.specs.Tasks.{Miss, no_directory, no_entry, stop_at}
-use Rattle.tg_traverse.specs.Verified.{VerifiedLaws}
+use Rattle.tg_traversal_laws.specs.Tasks.{Miss, no_directory, no_entry, stop_at}
+use Rattle.tg_traversal_laws.specs.Verified.{VerifiedLaws}
 use Rattle.tg_verify.specs.Laws.{AnswerLaws, IsOwnFault, IsWithinLimits}
 use Rattle.tg_verify.specs.Refusals.{HasRefused, IsRefusedAt}
 use Rattle.tg_verify.specs.State.{count_of}

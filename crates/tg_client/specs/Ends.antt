@@ -7,7 +7,7 @@ use Rattle.tg_client.specs.Received.{HasReceived, IsCarOf}
 use Rattle.tg_client.specs.ReceivedLaws.{IsNoCar}
 use Rattle.tg_client.specs.declared.fault.ClientFault.{ClientFault}
 use Rattle.tg_client.specs.declared.fault.ClientFault.TheVariants as faults
-use Rattle.tg_frames.specs.Left.{WantedAt}
+use Rattle.tg_traversal.specs.Left.{WantedAt}
 use Rattle.tg_model.specs.Dag.{Dag, Section}
 use Rattle.tg_model.specs.LimitNumbers.{LimitNumbers}
 use Rattle.tg_model.specs.Queries.{QueryParts}

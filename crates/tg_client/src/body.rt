@@ -6,12 +6,12 @@ ghost use Rattle.tg_streams.specs.Streams.{OutputQuiet, into};
 ghost use Rattle.tg_verify.specs.State.{next_cid};
 
 use crate::fault::ClientFault;
-use crate::laws::received_sections;
+use crate::laws;
 use std::alloc::{AllocError, Global};
-use tg_car::{CarReader, Event, car_laws};
+use tg_car::{CarReader, Event};
 use tg_model::{LimitKind, Limits, Query};
 use tg_streams::Sink;
-use tg_verify::{Refusal, Verifier, verified_answers};
+use tg_verify::{Refusal, Verifier};
 
 /// The body of an answer to a query: a CAR, of which each section is verified as soon as its last byte came. No byte of it is kept but
 /// those of the section at hand.
@@ -70,8 +70,8 @@ impl Body {
         ensures stands { (heard : Items ℕ) (sections : Items Section) (written : Items ℕ) → IsBody self.old heard sections written
             → HasEnded self.old.verifier.left.query self.old.verifier.limits heard sections written result }
     {
-        car_laws();
-        verified_answers();
+        tg_car::laws::car_laws();
+        tg_verify::laws::verified_answers();
         self.verifier.finish()?;
         match self.reader.end() {
             Ok(()) => Ok(()),
@@ -95,8 +95,8 @@ impl Body {
             (λ n. WentOn self.new (heard ++ take n piece.now) written (into S.sink out.old out.new))
             (λ fault. IsStopped self.old.verifier.left.query self.old.verifier.limits (heard ++ piece.now) written (into S.sink out.old out.new) fault) }
     {
-        verified_answers();
-        received_sections();
+        tg_verify::laws::verified_answers();
+        laws::received_sections();
         if self.heard >= self.most {
             return Err(ClientFault::Refused(Refusal::Limit {
                 kind: LimitKind::Received,

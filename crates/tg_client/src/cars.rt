@@ -15,16 +15,12 @@ ghost use Rattle.tg_verify.specs.State.{count_of};
 
 use crate::body::Body;
 use crate::fault::ClientFault;
-use crate::laws::received_sections;
+use crate::laws;
 use std::alloc::Global;
 use tg_bytes::zeros;
-use tg_car::car_laws;
-use tg_laws::{front_sections, one_fit, own_sections};
 use tg_model::{Limits, Query};
 use tg_streams::{Sink, Source, take_piece};
-use tg_traverse::verified_sections;
-use tg_varint::spelling_laws;
-use tg_verify::{Refusal, own_sections_taken, verified_answers};
+use tg_verify::Refusal;
 
 /// How many bytes are taken from the input at once, at most.
 const PIECE_LEN: usize = 65_536;
@@ -67,14 +63,14 @@ pub fn verify_car<I: Source, S: Sink>(
         → IsWithinLimits query.now limits d → length (car ++ more) ≤ limits.received
         → IsRefusedElse (Refusal.Extra (count_of sections)) result }
 {
-    car_laws();
-    one_fit();
-    front_sections();
-    own_sections();
-    verified_sections();
-    verified_answers();
-    own_sections_taken();
-    received_sections();
+    tg_car::laws::car_laws();
+    tg_model_laws::one_fit();
+    tg_model_laws::front_sections();
+    tg_model_laws::own_sections();
+    tg_traversal_laws::verified_sections();
+    tg_verify::laws::verified_answers();
+    tg_verify::laws::own_sections_taken();
+    laws::received_sections();
     hear(alloc, query, limits, input, out)
 }
 
@@ -89,9 +85,9 @@ fn hear<I: Source, S: Sink>(
     ensures verifies { query.now.dups ≡ true → IsVerified query.now limits (through I.source input.old input.new) (into S.sink out.old out.new) result }
     ensures cause { HasStreamCause (through I.source input.old input.new) (into S.sink out.old out.new) result }
 {
-    spelling_laws();
-    verified_sections();
-    verified_answers();
+    tg_varint::laws::spelling_laws();
+    tg_traversal_laws::verified_sections();
+    tg_verify::laws::verified_answers();
     let mut room = zeros(alloc, PIECE_LEN)?;
     let buffer = room.as_mut_slice();
     let mut body = Body::new(alloc, query, limits)?;

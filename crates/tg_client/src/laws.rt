@@ -1,8 +1,6 @@
 //! What holds of the sections that stand whole in the bytes of a CAR.
 ghost use Rattle.tg_client.specs.ReceivedLaws.{ReceivedLaws};
 
-use tg_car::car_laws;
-
 /// The sections that stand whole in the bytes of a CAR are determined by the bytes; of a front of them fewer stand whole; and where a CAR
 /// goes on with the bytes none of their fronts is refused.
 ///
@@ -10,7 +8,7 @@ use tg_car::car_laws;
 pub fn received_sections()
     ensures { ReceivedLaws }
 {
-    car_laws();
-    tg_cid::length_laws();
-    tg_varint::spelling_laws();
+    tg_car::laws::car_laws();
+    tg_cid::laws::length_laws();
+    tg_varint::laws::spelling_laws();
 }

@@ -4,8 +4,7 @@
 mod body;
 mod cars;
 mod fault;
-mod laws;
+pub mod laws;
 
 pub use cars::verify_car;
 pub use fault::ClientFault;
-pub use laws::received_sections;

@@ -6,8 +6,6 @@ ghost use Rattle.tg_dagpb.specs.Faults.{HasNodeCause};
 ghost use Rattle.tg_dagpb.specs.Computed.{node_of};
 ghost use Rattle.tg_dagpb.specs.declared.Node.{Node};
 
-use tg_pbtable::table_laws;
-
 /// A text of bytes has just the node, or just the fault, that `node_of` computes.
 pub fn computes()
     ensures node { (text : List ℕ) (node : Node) → All (λ b. b < 256) text
@@ -15,5 +13,5 @@ pub fn computes()
     ensures fault { (text : List ℕ) (fault : PbFault) → All (λ b. b < 256) text
         → (node_of text ≡ Err fault) ↔ HasNodeCause text fault }
 {
-    table_laws();
+    tg_pbtable::laws::table_laws();
 }

@@ -2,6 +2,7 @@
 #![tactic(auto)]
 
 mod computed;
+pub mod laws;
 mod reading;
 mod writing;
 
@@ -10,10 +11,9 @@ ghost use Rattle.tg_dagpb.specs.Node.{NodeText, CanonicalText, DataFirstText};
 ghost use Rattle.tg_dagpb.specs.Cursor.{IsBetween};
 ghost use Rattle.tg_dagpb.specs.declared.Node.{Node};
 
-pub use computed::computes;
 pub use reading::{check, decode, link_at, link_places_at, payload_at};
 use tg_bytes::{Bytes, List};
-use tg_pbtable::{Place, Rule, Times, Wire, table_laws};
+use tg_pbtable::{Place, Rule, Times, Wire};
 pub use writing::encode;
 
 /// The table of a node, of which the fields of one number stand together: 1 Data, 2 Links.
@@ -86,18 +86,4 @@ pub struct LinkPlaces {
     pub hash: Place,
     pub name: Option<Place>,
     pub tsize: Option<u64>,
-}
-
-/// A text is of one node, and a node has one canonical text and at most one other: that with the data before all links.
-pub fn one_text()
-    ensures one_node { (a b : Node) (text : Items ℕ) → NodeText a text → NodeText b text → a ≡ b }
-    ensures canonical { (node : Node) (s t : Items ℕ) → CanonicalText node s → CanonicalText node t → s ≡ t }
-    ensures other { (node : Node) (s t : Items ℕ) → DataFirstText node s → DataFirstText node t → s ≡ t }
-    // Links never stand on both sides of the data.
-    ensures orders { (node : Node) (text : Items ℕ) → NodeText node text
-        → CanonicalText node text ⊎ DataFirstText node text }
-    // A cursor over the links begins at the front.
-    ensures start { (node : Node) (text : Items ℕ) → NodeText node text → IsBetween text 0 [] node.links }
-{
-    table_laws();
 }

@@ -17,10 +17,7 @@ ghost use Rattle.tg_dagpb.specs.declared.Link.{Link};
 use crate::{LINK, Link, LinkPlaces, LinkSpan, NODE, Node};
 use std::alloc::{AllocError, Global};
 use tg_bytes::{Bytes, List};
-use tg_pbtable::{
-    Field, FieldCursor, Order, PbFault, Place, Value, copied_bytes, field_at, place_laws,
-    table_laws,
-};
+use tg_pbtable::{Field, FieldCursor, Order, PbFault, Place, Value, copied_bytes, field_at};
 
 /// The node that a block spells.
 ///
@@ -111,7 +108,7 @@ pub fn payload_at(bytes: &[u8]) -> Result<Option<Place>, PbFault>
     ensures cause { IfErr result (λ e. HasNodeCause bytes.now e) }
     ensures given { (fault : PbFault) → HasNodeCause bytes.now fault → result ≡ Err fault }
 {
-    table_laws();
+    tg_pbtable::laws::table_laws();
     let mut bad = None;
     let mut payload = None;
     let mut cursor = FieldCursor::new();
@@ -176,7 +173,7 @@ pub fn link_places_at(bytes: &[u8], at: usize) -> Option<(LinkPlaces, usize)>
     ensures cursor { IfSome result (λ found. IsCursor bytes.now found.1) }
     ensures forward { IfSome result (λ found. (at < found.1) × (found.1 ≤ length bytes.now)) }
 {
-    table_laws();
+    tg_pbtable::laws::table_laws();
     let mut from = at;
     while let Ok((field, next)) = field_at(NODE, bytes, from) {
         if let Some((start, end)) = link_place(&field) {
@@ -235,7 +232,7 @@ fn link_in(bytes: &[u8], start: usize, end: usize) -> Result<LinkPlaces, PbFault
     ensures { MatchResult result (λ places. IsLinkBetween bytes.now start end places)
         (λ e. HasCause LINK.now Ascending (slice_range bytes.now start end) e) }
 {
-    table_laws();
+    tg_pbtable::laws::table_laws();
     let mut places = LinkPlaces {
         hash: Place { start, end: start },
         name: None,
@@ -263,7 +260,7 @@ fn with_part(
         (placed_link bytes.now result) }
     ensures inside { LieInside bytes.now places → LieInside bytes.now result }
 {
-    place_laws();
+    tg_pbtable::laws::place_laws();
     let mut new = places;
     match field.value {
         Value::Number(value) => {

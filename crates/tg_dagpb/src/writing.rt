@@ -8,7 +8,7 @@ ghost use Rattle.tg_dagpb.specs.Writing.{BytesTexts, NumberTexts, LinkContent, L
 use crate::{Link, Node};
 use std::alloc::{AllocError, Global};
 use tg_bytes::Bytes;
-use tg_pbtable::{put_bytes, put_head, put_number, size_of_bytes, size_of_number, table_laws};
+use tg_pbtable::{put_bytes, put_head, put_number, size_of_bytes, size_of_number};
 
 /// The canonical text of a node: all links, and then the data. An empty name is written, and an absent one isn't. The error
 /// is want of memory.
@@ -17,7 +17,7 @@ use tg_pbtable::{put_bytes, put_head, put_number, size_of_bytes, size_of_number,
 pub fn encode(alloc: Global, node: &Node) -> Result<Bytes, AllocError>
     ensures { IfOk result (λ text. CanonicalText node.now text) }
 {
-    table_laws();
+    tg_pbtable::laws::table_laws();
     let mut text = Vec::with_capacity(alloc, size_of_node(node))?;
     for link in node.links.as_slice() {
         put_link(&mut text, link)?;
@@ -68,7 +68,7 @@ fn size_of_tsize(tsize: Option<u64>) -> usize
 fn put_link(text: &mut Vec<u8>, link: &Link) -> Result<(), AllocError>
     ensures { OnOk result (Puts (λ bytes. LinkField link.now bytes) text.old.items text.new.items) }
 {
-    table_laws();
+    tg_pbtable::laws::table_laws();
     put_head(text, 2, size_of_link(link))?;
     put_content(text, link)
 }

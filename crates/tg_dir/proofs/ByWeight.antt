@@ -26,8 +26,8 @@ use Rattle.tg_model.specs.Sound.{top}
 use Rattle.tg_model.specs.Stores.{Keeping}
 use Rattle.tg_model.specs.declared.kinds.Made.{Made}
 use Rattle.tg_model.specs.declared.kinds.NewEntry.{NewEntry}
-use Rattle.tg_writing.specs.Nodes.{IsNodeOf, LeadTo, NodeLaws}
-use Rattle.tg_writing.specs.Keeping.{section_of}
+use Rattle.tg_node_writing.specs.Nodes.{IsNodeOf, LeadTo, NodeLaws}
+use Rattle.tg_node_writing.specs.Keeping.{section_of}
 use Rattle.tg_cid.specs.declared.cid.Codec.TheVariants.{DagPb}
 
 -- ---- weights

@@ -17,8 +17,8 @@ use Rattle.tg_model.specs.Sound.{AreCheckedAt, IsSound, top}
 use Rattle.tg_model.specs.declared.kinds.Entry.{Entry}
 use Rattle.tg_model.specs.declared.kinds.Kind.TheVariants.{Basic}
 use Rattle.tg_model.specs.declared.kinds.NewEntry.{NewEntry}
-use Rattle.tg_writing.specs.Nodes.{IsNodeOf, LeadTo, NodeLaws}
-use Rattle.tg_writing.specs.Keeping.{section_of}
+use Rattle.tg_node_writing.specs.Nodes.{IsNodeOf, LeadTo, NodeLaws}
+use Rattle.tg_node_writing.specs.Keeping.{section_of}
 use Rattle.tg_cid.specs.declared.cid.Codec.TheVariants.{DagPb}
 
 -- the links are read as the entries

@@ -13,7 +13,7 @@ use Rattle.tg_model.specs.Dag.{Children, Dag, Section, blocks, blocks_of_childre
 use Rattle.tg_model.specs.ImportLayout.{IsLaidAt, LayoutOptions, tsize_of}
 use Rattle.tg_model.specs.Sound.{IsSound, top}
 use Rattle.tg_model.specs.declared.kinds.NewEntry.{NewEntry}
-use Rattle.tg_writing.specs.Nodes.{LeadTo}
+use Rattle.tg_node_writing.specs.Nodes.{LeadTo}
 
 -- an entry with a DAG
 pub record EntryDag : Type 0 where

@@ -18,7 +18,7 @@ use Rattle.tg_hamt.specs.Order.{IsGoodEntry}
 use Rattle.tg_model.specs.ImportLayout.{basic_unix}
 use Rattle.tg_model.specs.declared.kinds.NewEntry.{NewEntry}
 use Rattle.tg_unixfs.specs.declared.Unix.{Unix}
-use Rattle.tg_writing.specs.Nodes.{AreLinksFor, IsNodeOf, IsOfSha256, link_room, node_room}
+use Rattle.tg_node_writing.specs.Nodes.{AreLinksFor, IsNodeOf, IsOfSha256, link_room, node_room}
 
 pub all_plain : (es : List NewEntry) → All IsGoodEntry es → All IsOfSha256 es
 all_plain es good = All-weaker IsGoodEntry IsOfSha256 (λ e h. h.plain) es good

@@ -8,8 +8,8 @@ use Rattle.tg_model.specs.ImportLayout.{basic_unix}
 use Rattle.tg_model.specs.Stores.{Keeping}
 use Rattle.tg_model.specs.declared.kinds.Made.{Made}
 use Rattle.tg_model.specs.declared.kinds.NewEntry.{NewEntry}
-use Rattle.tg_writing.specs.Keeping.{Keeps, section_of}
-use Rattle.tg_writing.specs.Nodes.{IsNodeOf}
+use Rattle.tg_node_writing.specs.Keeping.{Keeps, section_of}
+use Rattle.tg_node_writing.specs.Nodes.{IsNodeOf}
 
 -- the block of the directory with these entries, its links in their order, was kept, and of it this is told
 pub record IsKeptBlock (sorted : List NewEntry) (made : Made) (keeping : Keeping) : Type 0 where

@@ -14,8 +14,8 @@ use Rattle.tg_model.specs.declared.kinds.Made.{Made}
 use Rattle.tg_model.specs.declared.kinds.NewEntry.{NewEntry}
 use Rattle.tg_model.specs.declared.kinds.Slot.{Slot}
 use Rattle.tg_model.specs.declared.stores.KeepFault.TheVariants.{Failed, OutOfMemory}
-use Rattle.tg_writing.specs.Keeping.{Keeps, StopsAfter}
-use Rattle.tg_writing.specs.Nodes.{LeadTo}
+use Rattle.tg_node_writing.specs.Keeping.{Keeps, StopsAfter}
+use Rattle.tg_node_writing.specs.Nodes.{LeadTo}
 
 -- the directory's root is a shard, or holds all of the entries
 abbrev pub IsSharded : Dag → Type 0

@@ -9,16 +9,16 @@ ghost use Rattle.tg_dir.specs.Weights.{weight_for};
 ghost use Rattle.tg_hamt.specs.Directories.{AreGoodEntries, IsCountedBy};
 ghost use Rattle.tg_model.specs.ImportLayout.{basic_unix};
 ghost use Rattle.tg_model.specs.Stores.{KeepingQuiet, kept_in};
-ghost use Rattle.tg_writing.specs.Keeping.{StopsAfter};
-ghost use Rattle.tg_writing.specs.Nodes.{IsNodeOf, IsOfSha256};
+ghost use Rattle.tg_node_writing.specs.Keeping.{StopsAfter};
+ghost use Rattle.tg_node_writing.specs.Nodes.{IsNodeOf, IsOfSha256};
 
 use std::alloc::{AllocError, Global};
 use tg_bytes::{Bytes, List};
-use tg_cid::{Codec, digest_laws};
+use tg_cid::Codec;
 use tg_hamt::HamtFault;
 use tg_model::{Keep, KeepFault, Made, NewEntry};
+use tg_node_writing::{keep_block, node_block};
 use tg_unixfs::Unix;
-use tg_writing::{keep_block, node_block, written_nodes};
 
 /// The UnixFS type of a directory in one block.
 const DIRECTORY: u64 = 1;
@@ -87,8 +87,8 @@ fn keep_sorted<K: Keep>(
     ensures stops { IfErr result (λ fault. StopsAfter [] fault (kept_in K.keeper keep.old keep.new)) }
     ensures err_counted { OnErr result (K.keeper.faults keep.old ≤ K.keeper.faults keep.new) }
 {
-    written_nodes();
-    digest_laws();
+    tg_node_writing::laws::written_nodes();
+    tg_cid::laws::digest_laws();
     let Ok(block) = basic_block(alloc, entries) else {
         return Err(KeepFault::OutOfMemory);
     };

@@ -7,10 +7,8 @@ ghost use Rattle.tg_model.specs.Stores.{KeepingQuiet, kept_in};
 
 use crate::basic::keep_basic;
 use std::alloc::Global;
-use tg_cid::{computes, one_spelling};
 use tg_hamt::HamtFault;
 use tg_model::{Keep, Made, NewEntry};
-use tg_writing::written_nodes;
 
 /// The weight of a directory with these entries in bytes: the lengths of their names and of their CIDs in version 1. The entries are those
 /// of `build`. It takes no memory.
@@ -18,8 +16,8 @@ pub fn weight(entries: &[NewEntry]) -> u64
     requires { AreGoodEntries entries.now }
     ensures { result ≡ weight_for entries.now }
 {
-    computes();
-    one_spelling();
+    tg_cid::laws::computes();
+    tg_cid::laws::one_spelling();
     let mut weight = 0;
     for entry in entries {
         let (_, cid) = entry.cid.to_v1().spelling();
@@ -51,7 +49,7 @@ pub fn build<K: Keep>(
     ensures same_hash { (first second : List ℕ) → threshold < weight_for entries.now → HaveSameHash entries.now first second
         → MatchResult result (λ _. ⊥) IsSameHashFault }
 {
-    written_nodes();
+    tg_node_writing::laws::written_nodes();
     if weight(entries) > threshold {
         tg_hamt::build(alloc, entries, keep)
     } else {

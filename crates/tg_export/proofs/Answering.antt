@@ -5,7 +5,7 @@ use Rattle.tg_cid.specs.Cid.{CidParts}
 use Rattle.tg_export.specs.Cars.{CarEnds, HasCar, HasCarCause, HasOwnMemory, HasResolved, IsOtherwiseWhole, PutWhole}
 use Rattle.tg_export.specs.declared.fault.ExportFault.{ExportFault}
 use Rattle.tg_export.specs.declared.fault.ExportFault.TheVariants as faults
-use Rattle.tg_laws.specs.PathStops.{path_stops}
+use Rattle.tg_model_laws.specs.PathStops.{path_stops}
 use Rattle.tg_model.specs.Dag.{Section}
 use Rattle.tg_model.specs.PathWalk.{Stop, TraversalEnd, bad_block, gone, not_folder, not_reached, not_there, path_walk, spot_at, stopped, whole}
 use Rattle.tg_model.specs.Queries.{QueryParts}
@@ -16,8 +16,8 @@ use Rattle.tg_model.specs.Traversal.{Traversal, traversal}
 use Rattle.tg_model.specs.declared.fault.BlockFault.{BlockFault}
 use Rattle.tg_model.specs.declared.stores.BlocksFault.TheVariants as store_faults
 use Rattle.tg_streams.specs.Streams.{Output}
-use Rattle.tg_traverse.specs.StoreWalks.{cut_view}
-use Rattle.tg_traverse.specs.Tasks.{spot_of}
+use Rattle.tg_traversal_laws.specs.StoreWalks.{cut_view}
+use Rattle.tg_traversal_laws.specs.Tasks.{spot_of}
 use Rattle.tg_walk.specs.Resolving.{IsResolvedTo, StopsAt, end_over}
 use Rattle.tg_walk.specs.Walks.{HasEnded, HasStoppedDeep, HasWalkCause, max_depth}
 use Rattle.tg_walk.specs.declared.fault.ResolveFault.TheVariants as refusals

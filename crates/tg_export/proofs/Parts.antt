@@ -21,7 +21,7 @@ use Rattle.tg_model.specs.declared.stores.BlocksFault.TheVariants as store_fault
 use Rattle.tg_store.specs.Packs.{in_car}
 use Rattle.tg_streams.specs.Joining.{SinkJoins, put_front_more, put_nothing}
 use Rattle.tg_streams.specs.Streams.{Output, PutFront, SinkMeaning, into}
-use Rattle.tg_traverse.specs.StoreWalks.{WalkLaws, section_of}
+use Rattle.tg_traversal_laws.specs.StoreWalks.{WalkLaws, section_of}
 use Rattle.tg_walk.specs.Resolving.{IsResolvedTo}
 use Rattle.tg_walk.specs.Walks.{HasEnded, HasStepped, HasWalkCause, IsFront, IsNamedFound, IsOnWalk, StandsBy, StandsFor, WalkState, max_depth}
 use Rattle.tg_walk.specs.declared.fault.ResolveFault.{ResolveFault}

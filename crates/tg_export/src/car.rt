@@ -7,7 +7,7 @@ ghost use Rattle.tg_model.specs.Dag.{Section};
 ghost use Rattle.tg_model.specs.PathWalk.{TraversalEnd, whole};
 ghost use Rattle.tg_model.specs.Stores.{LookedUp, Store, looked_in};
 ghost use Rattle.tg_streams.specs.Streams.{into};
-ghost use Rattle.tg_traverse.specs.StoreWalks.{section_of};
+ghost use Rattle.tg_traversal_laws.specs.StoreWalks.{section_of};
 ghost use Rattle.tg_walk.specs.Walks.{HasEnded, StandsFor, max_depth};
 
 use crate::fault::ExportFault;
@@ -16,7 +16,6 @@ use tg_car::{header, section_head};
 use tg_cid::Cid;
 use tg_model::{Blocks, Query};
 use tg_streams::{Sink, put_all};
-use tg_traverse::store_walks;
 use tg_walk::{Walk, resolve};
 
 /// Writes the CAR of a query over a store: its header, with the query's root, and then the section of each block that the query asks
@@ -40,7 +39,7 @@ pub fn write_car<B: Blocks, S: Sink>(
     ensures answered { (store : Store) (sections : List Section) → B.blocks.stored blocks.old ≡ Some store
         → HasEnded query.now store max_depth sections whole → IsOtherwiseWhole result }
 {
-    store_walks();
+    tg_traversal_laws::store_walks();
     resolve(alloc, blocks, &query.root(), query.path())?;
     let header = header(alloc, &query.root())?;
     let mut walk = Walk::new(alloc, query)?;
@@ -63,7 +62,7 @@ fn write_sections<B: Blocks, S: Sink>(
     ensures cause { HasCarCause (B.blocks.stored blocks.old) (looked_in B.blocks blocks.old blocks.new) result }
     ensures memory { HasOwnMemory result }
 {
-    store_walks();
+    tg_traversal_laws::store_walks();
     while let Some((cid, block)) = walk.next(blocks)? {
         put_section(out, cid, block.as_slice())?;
     }

@@ -39,8 +39,8 @@ pub fn export<P: Pack, S: Sink>(
     ensures answered { (content : List ℕ) (store : Store) (sections : List Section) → P.pack.content pack ≡ Some content
         → IsAttached content store → HasEnded query.now store max_depth sections whole → IsExportedElse result.1 }
 {
-    tg_store::one_cause();
-    tg_store::finished_packs::<P>();
+    tg_store::laws::one_cause();
+    tg_store::laws::finished_packs::<P>();
     match PackStore::attach_pack(alloc, pack) {
         Ok(store) => {
             let mut store = store;

@@ -1,7 +1,7 @@
 -- A value without a chunk.
 use Rattle.std.proofs.Common.{◌≡◌, ◌+◌, ◌≤◌, ℕ, List, Option, None, [], ◌∷◌, ◌++◌, length, refl, sym, ap, ◌∙◌, subst, arith, length-append}
 use Rattle.tg_bytes.specs.Lists.{joined, joined_push}
-use Rattle.tg_writing.specs.Keeping.{Keeps}
+use Rattle.tg_node_writing.specs.Keeping.{Keeps}
 use Rattle.tg_filedag.specs.Linking.{HasRoom, TakesLeaf}
 use Rattle.tg_filedag.specs.State.{BalancedState, HasNoFullLevel, IsGrowing, StandsFor}
 use Rattle.tg_filedag.specs.declared.subtree.Subtree.{Subtree}

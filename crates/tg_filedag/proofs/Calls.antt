@@ -15,7 +15,7 @@ use Rattle.tg_filedag.specs.declared.subtree.Subtree.{Subtree}
 use Rattle.tg_model.specs.Dag.{Section}
 use Rattle.tg_model.specs.Stores.{KeepMeaning, Keeping}
 use Rattle.tg_model.specs.declared.kinds.Made.{Made}
-use Rattle.tg_writing.specs.Keeping.{Keeps, KeepsBlock, section_of}
+use Rattle.tg_node_writing.specs.Keeping.{Keeps, KeepsBlock, section_of}
 
 abbrev leaf_of_size : List ℕ → ℕ → Made
 leaf_of_size chunk n = record { cid = (section_of Raw chunk).cid; content = length chunk; tsize = n }

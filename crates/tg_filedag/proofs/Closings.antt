@@ -24,7 +24,7 @@ use Rattle.tg_model.specs.ImportLayout.{HasLeavesAt, IsLeaf, leaves, leaves_of_c
 use Rattle.tg_model.specs.Stores.{Keeping}
 use Rattle.tg_model.specs.declared.kinds.Kind.TheVariants.{Basic, File, Raw, Shard, Symlink}
 use Rattle.tg_model.specs.declared.kinds.Made.{Made}
-use Rattle.tg_writing.specs.Keeping.{section_of}
+use Rattle.tg_node_writing.specs.Keeping.{section_of}
 
 -- a growing forest is one whose last may not be full
 pub growing_closing : (width : ℕ) (ss : List Subtree) (chunks : List (List ℕ)) (kept : List Section) → IsGrowing width ss chunks kept → IsClosing width ss chunks kept

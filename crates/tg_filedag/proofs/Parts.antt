@@ -23,8 +23,8 @@ use Rattle.tg_model.specs.declared.kinds.Kind.TheVariants.{Basic, File, Raw, Sha
 use Rattle.tg_model.specs.declared.kinds.NewEntry.{NewEntry}
 use Rattle.tg_model.specs.declared.kinds.Part.{Part}
 use Rattle.tg_unixfs.specs.declared.Unix.{Unix}
-use Rattle.tg_writing.specs.Nodes.{IsNodeOf, LeadTo}
-use Rattle.tg_writing.specs.Keeping.{section_of}
+use Rattle.tg_node_writing.specs.Nodes.{IsNodeOf, LeadTo}
+use Rattle.tg_node_writing.specs.Keeping.{section_of}
 
 -- ---- one part
 

@@ -10,7 +10,7 @@ use Rattle.tg_filedag.specs.declared.subtree.Subtree.{Subtree}
 use Rattle.tg_model.specs.ImportLayout.{file_unix}
 use Rattle.tg_model.specs.declared.kinds.NewEntry.{NewEntry}
 use Rattle.tg_unixfs.specs.declared.Unix.{Unix}
-use Rattle.tg_writing.specs.Nodes.{IsNodeOf, IsOfSha256, link_room, node_room}
+use Rattle.tg_node_writing.specs.Nodes.{IsNodeOf, IsOfSha256, link_room, node_room}
 
 entries_plain : (ss : List Subtree) → All IsPlain ss → All IsOfSha256 (map entry_for ss)
 entries_plain [] h = All-nil IsOfSha256

@@ -8,17 +8,17 @@ use Rattle.tg_filedag.proofs.Closings.{BeginsAt, IsOpen, MayClose, closed, close
 use Rattle.tg_filedag.proofs.Falling.{at_end}
 use Rattle.tg_filedag.proofs.Files.{made_file}
 use Rattle.tg_filedag.proofs.Meanwhile.{Closed, Raised}
-use Rattle.tg_writing.specs.KeepingSteps.{Joins, keeps_both, keeps_nothing, stops_behind}
+use Rattle.tg_node_writing.specs.KeepingSteps.{Joins, keeps_both, keeps_nothing, stops_behind}
 use Rattle.tg_filedag.proofs.Parts.{NodeLaws}
 use Rattle.tg_filedag.proofs.Shapes.{HaveHeight, full_last, leaf_subtree}
 use Rattle.tg_filedag.proofs.Steps.{heights_closed, heights_count, leaf_pushed}
-use Rattle.tg_writing.specs.Keeping.{Keeps, StopsAfter, section_of}
+use Rattle.tg_node_writing.specs.Keeping.{Keeps, StopsAfter, section_of}
 use Rattle.tg_filedag.specs.Linking.{Closes, HasFullLevel, MakesFile, Raises, StopsLeaf, StopsLinking, TakesLeaf}
 use Rattle.tg_filedag.specs.MadeFile.{IsMadeFile}
 use Rattle.tg_filedag.specs.State.{HasNoFullLevel, IsClosing, IsFrontFor, IsGrowing, heights}
 use Rattle.tg_filedag.specs.Trees.{AreTrees, IsSubtree, bottom_up, bottom_up_of_children, leaf_made, leaf_of}
 use Rattle.tg_filedag.specs.declared.subtree.Subtree.{Subtree}
-use Rattle.tg_laws.specs.Stores.{KeepingJoins}
+use Rattle.tg_model_laws.specs.Stores.{KeepingJoins}
 use Rattle.tg_model.specs.Dag.{Children, Dag, Section, no_child, with_child}
 use Rattle.tg_model.specs.ImportLayout.{leaves_of_children}
 use Rattle.tg_model.specs.Stores.{KeepMeaning, Keeping, kept_in}

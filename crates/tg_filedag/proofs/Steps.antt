@@ -15,7 +15,7 @@ use Rattle.tg_filedag.specs.Trees.{IsSubtree, bottom_up, bottom_up_of_children, 
 use Rattle.tg_filedag.specs.declared.subtree.Subtree.{Subtree}
 use Rattle.tg_model.specs.Dag.{Dag, Section, no_child, with_child}
 use Rattle.tg_model.specs.ImportLayout.{leaves_of_children}
-use Rattle.tg_writing.specs.Keeping.{section_of}
+use Rattle.tg_node_writing.specs.Keeping.{section_of}
 
 -- ---- heights
 

@@ -2,7 +2,7 @@
 use Rattle.std.specs.Prelude.{List, [], length, slice_index, take, drop, ℕ, ◌++◌, ◌+◌, ◌-◌, ◌∷◌, ◌≡◌, ◌≤◌}
 use Rattle.tg_bytes.specs.Lists.{joined}
 use Rattle.tg_cid.specs.declared.cid.Codec.TheVariants.{DagPb}
-use Rattle.tg_writing.specs.Keeping.{Keeps, StopsAfter, section_of}
+use Rattle.tg_node_writing.specs.Keeping.{Keeps, StopsAfter, section_of}
 use Rattle.tg_filedag.specs.MadeFile.{IsMadeFile}
 use Rattle.tg_filedag.specs.State.{HasNoFullLevel, IsFrontFor, IsGrowing, heights}
 use Rattle.tg_filedag.specs.Trees.{IsFileBlock, bottom_up, node_made}

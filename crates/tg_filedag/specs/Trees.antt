@@ -14,8 +14,8 @@ use Rattle.tg_model.specs.declared.kinds.Kind.TheVariants.{File, Raw}
 use Rattle.tg_model.specs.declared.kinds.Made.{Made}
 use Rattle.tg_model.specs.declared.kinds.NewEntry.{NewEntry}
 use Rattle.tg_model.specs.declared.kinds.Part.{Part}
-use Rattle.tg_writing.specs.Keeping.{section_of}
-use Rattle.tg_writing.specs.Nodes.{IsNodeOf}
+use Rattle.tg_node_writing.specs.Keeping.{section_of}
+use Rattle.tg_node_writing.specs.Nodes.{IsNodeOf}
 
 -- ---- blocks
 

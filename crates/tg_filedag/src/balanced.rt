@@ -1,7 +1,7 @@
 //! A file whose chunks are linked while they come.
 ghost use Rattle.std.specs.Prelude.{◌≡◌, ◌<◌, ◌≤◌, ◌+◌, ◌++◌, ◌∷◌, ℕ, List, [], IfErr, IfOk, None, OnErr, OnOk, Some, length};
 ghost use Rattle.tg_cid.specs.Limits.{max_block_len};
-ghost use Rattle.tg_writing.specs.Keeping.{IsCountedBy, Keeps, StopsAfter};
+ghost use Rattle.tg_node_writing.specs.Keeping.{IsCountedBy, Keeps, StopsAfter};
 ghost use Rattle.tg_filedag.specs.MadeFile.{IsMadeFile};
 ghost use Rattle.tg_filedag.specs.State.{IsFrontFor, StandsFor};
 ghost use Rattle.tg_filedag.specs.Trees.{bottom_up};

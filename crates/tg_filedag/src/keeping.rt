@@ -2,7 +2,7 @@
 ghost use Rattle.std.specs.Prelude.{◌≡◌, ◌≤◌, [], ◌∷◌, All, IfOk, IfErr, OnErr, length, map};
 ghost use Rattle.std.specs.List.{sum_by};
 ghost use Rattle.tg_cid.specs.Limits.{max_block_len};
-ghost use Rattle.tg_writing.specs.Keeping.{Keeps, StopsAfter, section_of};
+ghost use Rattle.tg_node_writing.specs.Keeping.{Keeps, StopsAfter, section_of};
 ghost use Rattle.tg_filedag.specs.Linking.{IsKeptNode};
 ghost use Rattle.tg_filedag.specs.Trees.{IsFileBlock, IsPlain, content_in, entry_for, leaf_made, tsize_in};
 ghost use Rattle.tg_cid.specs.declared.cid.Codec.TheVariants.{Raw};
@@ -13,8 +13,8 @@ use std::alloc::{AllocError, Global};
 use tg_bytes::{Bytes, List};
 use tg_cid::Codec;
 use tg_model::{Keep, KeepFault, Made, NewEntry};
+use tg_node_writing::{keep_block, node_block};
 use tg_unixfs::Unix;
-use tg_writing::{keep_block, node_block, written_nodes};
 
 /// The UnixFS type of a file.
 const FILE: u64 = 2;
@@ -46,7 +46,7 @@ pub(crate) fn keep_node<K: Keep>(
     ensures stops { IfErr result (λ fault. StopsAfter [] fault (kept_in K.keeper keep.old keep.new)) }
     ensures err_counted { OnErr result (K.keeper.faults keep.old ≤ K.keeper.faults keep.new) }
 {
-    written_nodes();
+    tg_node_writing::laws::written_nodes();
     let (content, tsizes) = totals(links);
     let Ok(block) = file_block(alloc, links, content) else {
         return Err(KeepFault::OutOfMemory);

@@ -4,10 +4,9 @@
 mod balanced;
 mod chunker;
 mod keeping;
-mod laws;
+pub mod laws;
 mod linking;
 mod subtree;
 
 pub use balanced::Balanced;
 pub use chunker::Chunker;
-pub use laws::{cut_chunks, kept_bytes};

@@ -2,7 +2,7 @@
 ghost use Rattle.std.specs.Prelude.{◌≡◌, ◌≢◌, ◌↔◌, ◌<◌, ◌≤◌, ◌+◌, ◌-◌, ℕ, List, [], ◌∷◌, ◌++◌, All, IfOk, IfErr, IsTrue, OnErr, OnOk, drop, length, slice_index};
 ghost use Rattle.std.specs.List.{sum_by};
 ghost use Rattle.tg_cid.specs.Limits.{max_block_len};
-ghost use Rattle.tg_writing.specs.Keeping.{StopsAfter};
+ghost use Rattle.tg_node_writing.specs.Keeping.{StopsAfter};
 ghost use Rattle.tg_filedag.specs.Linking.{Closes, HasFullLevel, HasRoom, MakesFile, Raises, StopsLeaf, StopsLinking, TakesLeaf};
 ghost use Rattle.tg_filedag.specs.State.{HasNoFullLevel, IsGrowing, heights};
 ghost use Rattle.tg_filedag.specs.Trees.{IsPlain, content_in, tsize_in};
@@ -12,9 +12,7 @@ ghost use Rattle.tg_model.specs.Stores.{kept_in};
 use crate::keeping::{keep_leaf, keep_node};
 use crate::subtree::Subtree;
 use std::alloc::Global;
-use tg_laws::kept_sections;
 use tg_model::{Keep, KeepFault, Made};
-use tg_writing::{file_nodes, written_nodes};
 
 /// Keeps the chunk as a raw leaf, and links what is full with it. Errors: those of the store, and want of memory.
 pub(crate) fn link_leaf<K: Keep>(
@@ -32,7 +30,7 @@ pub(crate) fn link_leaf<K: Keep>(
     ensures stops { IfErr result (λ fault. StopsLeaf width subtrees.old.items chunk.now fault (kept_in K.keeper keep.old keep.new)) }
     ensures err_counted { OnErr result (K.keeper.faults keep.old ≤ K.keeper.faults keep.new) }
 {
-    kept_sections();
+    tg_model_laws::kept_sections();
     let made = keep_leaf(chunk, keep)?;
     push(subtrees, Subtree { height: 0, made })?;
     raise(alloc, width, subtrees, keep)
@@ -82,9 +80,9 @@ fn raise<K: Keep>(
     ensures stops { IfErr result (λ fault. StopsLinking width subtrees.old.items fault (kept_in K.keeper keep.old keep.new)) }
     ensures err_counted { OnErr result (K.keeper.faults keep.old ≤ K.keeper.faults keep.new) }
 {
-    kept_sections();
-    written_nodes();
-    file_nodes();
+    tg_model_laws::kept_sections();
+    tg_node_writing::laws::written_nodes();
+    tg_node_writing::laws::file_nodes();
     while has_full_level(width, subtrees.as_slice()) {
         let start = subtrees.len() - width;
         let height = subtrees[start].height + 1;
@@ -108,9 +106,9 @@ fn close_all<K: Keep>(
     ensures stops { IfErr result (λ fault. StopsLinking width subtrees.old.items fault (kept_in K.keeper keep.old keep.new)) }
     ensures err_counted { OnErr result (K.keeper.faults keep.old ≤ K.keeper.faults keep.new) }
 {
-    kept_sections();
-    written_nodes();
-    file_nodes();
+    tg_model_laws::kept_sections();
+    tg_node_writing::laws::written_nodes();
+    tg_node_writing::laws::file_nodes();
     while subtrees.len() > 1 {
         let lowest = subtrees[subtrees.len() - 1].height;
         let start = first_of_height(subtrees.as_slice(), lowest);

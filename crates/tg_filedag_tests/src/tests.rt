@@ -5,9 +5,9 @@ use tg_bytes::{Bytes, List};
 use tg_cid::Cid;
 use tg_filedag::Balanced;
 use tg_model::{KeepFault, NewEntry};
+use tg_node_writing::node_block;
 use tg_numbered_log::NumberedLog;
 use tg_unixfs::Unix;
-use tg_writing::node_block;
 
 /// A file, its chunk size and width, and what is made of it: the root, the Tsize, and how many bytes the blocks have that are kept.
 #[derive(Clone, Copy)]

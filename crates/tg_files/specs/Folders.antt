@@ -2,7 +2,7 @@
 use Rattle.std.specs.Prelude.{◌≡◌, ◌≢◌, ℕ, ◌≤◌, List, [], ◌∷◌, ◌++◌, Contains, Option, Some, None, option_map, ⊤}
 use Rattle.std.specs.List.Sorted.{IsPermutation}
 use Rattle.std.specs.Option.{ForSome}
-use Rattle.tg_ascii.specs.Ascii.{slash}
+use Rattle.tg_bytes.specs.Ascii.{slash}
 use Rattle.tg_files.specs.declared.folders.FolderFault.{FolderFault}
 use Rattle.tg_files.specs.declared.folders.FolderFault.TheVariants.{Failed, OutOfMemory}
 use Rattle.tg_tree.specs.declared.items.Item.{Item}

@@ -7,15 +7,15 @@ use Rattle.std.proofs.Math.Seq.{take-length}
 use Rattle.std.proofs.lemmas.List.Elements.{All-push, Contains-append_cases, Contains-append_left, Contains-append_right}
 use Rattle.std.proofs.lemmas.List.Sums.{sum_by-take-le}
 use Rattle.tg_cid.specs.Cid.{CidParts}
-use Rattle.tg_writing.specs.KeepingSteps.{Joins, keeps_both}
+use Rattle.tg_node_writing.specs.KeepingSteps.{Joins, keeps_both}
 use Rattle.tg_hamt.proofs.MadeSlots.{MadeSlot, all_checked, all_blocks, all_cids, all_laid, all_listed, all_named, all_own, all_own_blocks, all_plain, all_read, all_stand, all_tsizes, all_whole, children_in, links_lead, links_of, numbers_in, own_in, roots_are, runs_in, slots_in}
 use Rattle.tg_hamt.proofs.Making.{IsMaking, IsSoFar}
 use Rattle.tg_hamt.specs.Links.{IsKeptShard, tsize_in}
 use Rattle.tg_hamt.specs.Order.{IsHashed, entry_at, tsizes_in}
 use Rattle.tg_hamt.specs.Shards.{AreLaidIn, IsBelow, IsMadeShard, MakesShard, listed_as, shard_room}
 use Rattle.tg_hamt.specs.declared.order.Hashed.{Hashed}
-use Rattle.tg_laws.specs.Places.{IsFaultlessShard}
-use Rattle.tg_laws.specs.Stores.{KeepingJoins}
+use Rattle.tg_model_laws.specs.Places.{IsFaultlessShard}
+use Rattle.tg_model_laws.specs.Stores.{KeepingJoins}
 use Rattle.tg_model.specs.Dag.{Dag, Section, blocks_of_children}
 use Rattle.tg_model.specs.ImportLayout.{HasPlainCid, IsShardWritten, IsWritten, shard_unix}
 use Rattle.tg_model.specs.Reading.{AreSlots, ReadsNode}
@@ -24,9 +24,9 @@ use Rattle.tg_model.specs.declared.kinds.Kind.TheVariants.{Shard}
 use Rattle.tg_model.specs.declared.kinds.Made.{Made}
 use Rattle.tg_model.specs.declared.kinds.NewEntry.{NewEntry}
 use Rattle.tg_model.specs.declared.kinds.Slot.{Slot}
-use Rattle.tg_writing.specs.Nodes.{LeadTo, NodeLaws}
+use Rattle.tg_node_writing.specs.Nodes.{LeadTo, NodeLaws}
 use Rattle.tg_cid.specs.declared.cid.Codec.TheVariants.{DagPb}
-use Rattle.tg_writing.specs.Keeping.{section_of}
+use Rattle.tg_node_writing.specs.Keeping.{section_of}
 
 numbers_of_slots : (ms : List MadeSlot) → numbers_in ms ≡ map (λ (s : Slot). s.slot) (slots_in ms)
 numbers_of_slots [] = refl

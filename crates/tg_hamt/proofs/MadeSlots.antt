@@ -12,7 +12,7 @@ use Rattle.tg_hamt.specs.Links.{child_link_of, entry_link_of, tsize_in}
 use Rattle.tg_hamt.specs.Order.{IsGoodEntry, entry_at}
 use Rattle.tg_hamt.specs.Shards.{AreLaidIn, IsBelow, IsMadeShard, IsOfShard, LeadsTo, in_child, listed_as, shards_of, shards_of_slots}
 use Rattle.tg_hamt.specs.declared.order.Hashed.{Hashed}
-use Rattle.tg_laws.specs.Places.{StandsBehind}
+use Rattle.tg_model_laws.specs.Places.{StandsBehind}
 use Rattle.tg_model.specs.Content.{DirEntry, entries, entries_of_slots, slot_entries}
 use Rattle.tg_model.specs.Dag.{AreWhole, Children, Dag, IsWhole, Section, blocks, blocks_of_children, no_child, node, root_cid, root_cids, with_child}
 use Rattle.tg_model.specs.ImportLayout.{AreLaidAt, HasPlainCid, IsLaidAt, LayoutOptions, link_name, tsize_of, tsizes_of}
@@ -22,7 +22,7 @@ use Rattle.tg_model.specs.declared.kinds.Kind.TheVariants.{Shard}
 use Rattle.tg_model.specs.declared.kinds.Made.{Made}
 use Rattle.tg_model.specs.declared.kinds.NewEntry.{NewEntry}
 use Rattle.tg_model.specs.declared.kinds.Slot.{Slot}
-use Rattle.tg_writing.specs.Nodes.{LeadTo}
+use Rattle.tg_node_writing.specs.Nodes.{LeadTo}
 
 -- a used slot: the entries in it, the link that was written for it, what it is read as, the DAG under it, and its child shard's sections
 pub record MadeSlot : Type 0 where

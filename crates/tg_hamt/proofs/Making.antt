@@ -9,15 +9,15 @@ use Rattle.std.proofs.lemmas.Grind.{flat_map-append}
 use Rattle.std.proofs.lemmas.Option.{get_or_from_slice_get, slice_get_within}
 use Rattle.tg_cid.specs.declared.cid.HashKind.TheVariants.{Sha256}
 use Rattle.tg_hamt.proofs.BitFields.{at_least}
-use Rattle.tg_writing.specs.KeepingSteps.{Joins, keeps_both, keeps_nothing, same_stops, stops_behind}
+use Rattle.tg_node_writing.specs.KeepingSteps.{Joins, keeps_both, keeps_nothing, same_stops, stops_behind}
 use Rattle.tg_hamt.proofs.MadeSlots.{IsMadeSlot, MadeSlot, all_of_shards, child_made, child_slot, entry_made, entry_slot, links_of, numbers_in, of_shards, own_in, runs_in, shard_dag}
 use Rattle.tg_hamt.proofs.Runs.{HashesFit, all_range, length_range, next_higher, range_joins, range_of_one, run_deeper, run_order, run_passed}
 use Rattle.tg_hamt.specs.Links.{IsShardLink, child_link_of, entry_link_of, tsize_in}
 use Rattle.tg_hamt.specs.Order.{IsGoodEntry, IsOrder, IsPassed, IsRun, entry_at, slot_in, slots_of, tsizes_in}
 use Rattle.tg_hamt.specs.Shards.{IsOfShard, LeadsTo, MakesShard, StopsShard, shard_room}
 use Rattle.tg_hamt.specs.declared.order.Hashed.{Hashed}
-use Rattle.tg_laws.specs.Places.{StandsBehind}
-use Rattle.tg_laws.specs.Stores.{KeepingJoins}
+use Rattle.tg_model_laws.specs.Places.{StandsBehind}
+use Rattle.tg_model_laws.specs.Stores.{KeepingJoins}
 use Rattle.tg_model.specs.Dag.{Dag, Section}
 use Rattle.tg_model.specs.Reading.{big_endian, used_slots}
 use Rattle.tg_model.specs.Stores.{KeepMeaning, kept_in}
@@ -26,7 +26,7 @@ use Rattle.tg_model.specs.declared.kinds.NewEntry.{NewEntry}
 use Rattle.tg_model.specs.declared.stores.KeepFault.{KeepFault}
 use Rattle.tg_model.specs.declared.stores.KeepFault.TheVariants as faults
 use Rattle.tg_murmur.specs.NameHash.{name_hash, slot_of}
-use Rattle.tg_writing.specs.Keeping.{Keeps, StopsAfter}
+use Rattle.tg_node_writing.specs.Keeping.{Keeps, StopsAfter}
 
 -- the slots that were made of the entries before `start`
 pub record IsSoFar (es : List NewEntry) (dags : ℕ → Dag) (above : List ℕ) (order : List Hashed) (start : ℕ) (links : List NewEntry) (bits : List ℕ) (sections : List Section) : Type 0 where

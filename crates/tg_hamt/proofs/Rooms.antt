@@ -8,7 +8,7 @@ use Rattle.tg_hamt.specs.Links.{IsShardLink}
 use Rattle.tg_model.specs.ImportLayout.{shard_unix}
 use Rattle.tg_model.specs.declared.kinds.NewEntry.{NewEntry}
 use Rattle.tg_unixfs.specs.declared.Unix.{Unix}
-use Rattle.tg_writing.specs.Nodes.{IsNodeOf, IsOfSha256, link_room, node_room}
+use Rattle.tg_node_writing.specs.Nodes.{IsNodeOf, IsOfSha256, link_room, node_room}
 
 links_plain : (links : List NewEntry) → All IsShardLink links → All IsOfSha256 links
 links_plain [] h = All-nil IsOfSha256

@@ -20,8 +20,8 @@ use Rattle.tg_model.specs.declared.kinds.NewEntry.{NewEntry}
 use Rattle.tg_model.specs.declared.kinds.Slot.{Slot}
 use Rattle.tg_model.specs.declared.stores.KeepFault.{KeepFault}
 use Rattle.tg_model.specs.declared.stores.KeepFault.TheVariants.{Failed, OutOfMemory}
-use Rattle.tg_writing.specs.Keeping.{Keeps, StopsAfter}
-use Rattle.tg_writing.specs.Nodes.{LeadTo}
+use Rattle.tg_node_writing.specs.Keeping.{Keeps, StopsAfter}
+use Rattle.tg_node_writing.specs.Nodes.{LeadTo}
 use Rattle.tg_murmur.specs.NameHash.{name_hash}
 
 -- the entries of a directory: each may stand there, and the names differ; they are few, and their Tsizes small

@@ -8,8 +8,8 @@ use Rattle.tg_model.specs.Reading.{slot_digits, used_slots}
 use Rattle.tg_model.specs.Stores.{Keeping}
 use Rattle.tg_model.specs.declared.kinds.Made.{Made}
 use Rattle.tg_model.specs.declared.kinds.NewEntry.{NewEntry}
-use Rattle.tg_writing.specs.Keeping.{Keeps, section_of}
-use Rattle.tg_writing.specs.Nodes.{IsNodeOf}
+use Rattle.tg_node_writing.specs.Keeping.{Keeps, section_of}
+use Rattle.tg_node_writing.specs.Nodes.{IsNodeOf}
 
 -- the link of a slot that holds an entry, and of one that holds a child shard
 abbrev pub entry_link_of : ℕ → NewEntry → NewEntry

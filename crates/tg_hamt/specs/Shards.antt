@@ -12,7 +12,7 @@ use Rattle.tg_model.specs.declared.kinds.Made.{Made}
 use Rattle.tg_model.specs.declared.kinds.NewEntry.{NewEntry}
 use Rattle.tg_model.specs.declared.kinds.Slot.{Slot}
 use Rattle.tg_model.specs.declared.stores.KeepFault.{KeepFault}
-use Rattle.tg_writing.specs.Keeping.{Keeps, StopsAfter}
+use Rattle.tg_node_writing.specs.Keeping.{Keeps, StopsAfter}
 
 -- the blocks of a directory's shards with their CIDs, each behind those of its child shards
 abbrev pub in_child : Option (List ℕ) → List Section → List Section

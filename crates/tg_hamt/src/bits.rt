@@ -3,8 +3,6 @@ ghost use Rattle.std.specs.Prelude.{◌≡◌, ◌<◌, ◌≤◌, ◌+◌, ◌^
 ghost use Rattle.tg_model.specs.ImportLayout.{HasNoLeadingZero};
 ghost use Rattle.tg_model.specs.Reading.{big_endian, used_slots};
 
-use tg_model::big_endians;
-
 /// Sets the bit of the slot, above those that are set.
 ///
 /// UnixFS specification, HAMTDirectory: the bytes are one big-endian number.
@@ -13,7 +11,7 @@ pub(crate) fn set_slot(bits: &mut [u8; 32], slot: u8)
     ensures used { used_slots bits.new ≡ used_slots bits.old ++ slot ∷ [] }
     ensures below { big_endian bits.new < 2 ^ (slot + 1) }
 {
-    big_endians();
+    tg_model::laws::big_endians();
     bits[31 - (slot / 8) as usize] += 1 << (slot % 8);
 }
 
@@ -24,7 +22,7 @@ pub(crate) fn shortest(bits: &[u8]) -> &[u8]
     ensures shortest { HasNoLeadingZero result.now }
     ensures few { length result.now ≤ 32 }
 {
-    big_endians();
+    tg_model::laws::big_endians();
     for (i, byte) in bits.iter().enumerate() {
         if *byte != 0 {
             return &bits[i..];

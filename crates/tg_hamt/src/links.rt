@@ -4,19 +4,19 @@ ghost use Rattle.std.specs.List.{sum_by};
 ghost use Rattle.std.specs.Fmt.{digit_glyph};
 ghost use Rattle.std.specs.Prelude.{true};
 ghost use Rattle.tg_model.specs.ImportLayout.{shard_unix};
-ghost use Rattle.tg_writing.specs.Nodes.{IsNodeOf};
+ghost use Rattle.tg_node_writing.specs.Nodes.{IsNodeOf};
 ghost use Rattle.tg_hamt.specs.Links.{IsShardLink, IsKeptShard, entry_link_of, child_link_of};
 ghost use Rattle.tg_model.specs.Reading.{big_endian, slot_digits, used_slots};
 ghost use Rattle.tg_model.specs.Stores.{kept_in};
-ghost use Rattle.tg_writing.specs.Keeping.{StopsAfter};
+ghost use Rattle.tg_node_writing.specs.Keeping.{StopsAfter};
 
 use crate::bits::{set_slot, shortest};
 use std::alloc::{AllocError, Global};
 use tg_bytes::{Bytes, List};
 use tg_cid::Codec;
 use tg_model::{Keep, KeepFault, Made, NewEntry};
+use tg_node_writing::{keep_block, node_block};
 use tg_unixfs::Unix;
-use tg_writing::{keep_block, node_block, written_nodes};
 
 /// The UnixFS type of a shard.
 const SHARD: u64 = 5;
@@ -151,7 +151,7 @@ pub(crate) fn keep_links<K: Keep>(
     ensures stops { IfErr result (λ fault. StopsAfter [] fault (kept_in K.keeper keep.old keep.new)) }
     ensures err_counted { OnErr result (K.keeper.faults keep.old ≤ K.keeper.faults keep.new) }
 {
-    written_nodes();
+    tg_node_writing::laws::written_nodes();
     let links = shard.links.as_slice();
     let Ok(block) = shard_block(alloc, links, shortest(&shard.bits)) else {
         return Err(KeepFault::OutOfMemory);

@@ -9,7 +9,6 @@ use crate::shards::keep_shard;
 use std::alloc::Global;
 use tg_bytes::Bytes;
 use tg_model::{Keep, KeepFault, Made, NewEntry};
-use tg_murmur::slots_are_bytes;
 
 /// Keeps the shards of the directory with these entries, each behind its child shards, and says what was made. The names are good,
 /// differ and have at most 255 bytes, the CIDs are of sha2-256, there are fewer than 2^32 entries, and their Tsizes sum to at most 2^62.
@@ -27,7 +26,7 @@ pub fn build<K: Keep>(alloc: Global, entries: &[NewEntry], keep: &mut K) -> Resu
     // Two names with one hash are never passed over.
     ensures same_hash { (first second : List ℕ) → HaveSameHash entries.now first second → MatchResult result (λ _. ⊥) IsSameHashFault }
 {
-    slots_are_bytes();
+    tg_murmur::laws::slots_are_bytes();
     let order = ordered(alloc, entries)?;
     if let Some(i) = same_hash(order.as_slice()) {
         return Err(same_hash_fault(

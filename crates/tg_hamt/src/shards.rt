@@ -8,10 +8,8 @@ ghost use Rattle.tg_model.specs.Stores.{kept_in};
 use crate::links::{add_child, add_entry, keep_links, no_link};
 use crate::order::{Hashed, run_end};
 use std::alloc::Global;
-use tg_laws::{kept_sections, placed_shards};
 use tg_model::{Keep, KeepFault, Made, NewEntry};
-use tg_murmur::{slot, slots_are_bytes};
-use tg_writing::written_nodes;
+use tg_murmur::slot;
 
 /// Keeps the shard at this level of the entries in this order, each child shard before it. Errors: those of the store, and want of
 /// memory.
@@ -36,10 +34,10 @@ pub(crate) fn keep_shard<K: Keep>(
     ensures stops { IfErr result (λ fault. StopsShard entries.now order.now level fault (kept_in K.keeper keep.old keep.new)) }
     ensures err_counted { OnErr result (K.keeper.faults keep.old ≤ K.keeper.faults keep.new) }
 {
-    kept_sections();
-    placed_shards();
-    written_nodes();
-    slots_are_bytes();
+    tg_model_laws::kept_sections();
+    tg_model_laws::placed_shards();
+    tg_node_writing::laws::written_nodes();
+    tg_murmur::laws::slots_are_bytes();
     let mut shard = no_link(alloc);
     let mut start = 0;
     while start < order.len() {

@@ -3,7 +3,7 @@ use Rattle.std.specs.Prelude.{◌≡◌, ℕ, ◌^◌, ◌<◌, ◌⊎◌, List,
 use Rattle.std.specs.Str.{str_eq_ignore_ascii_case}
 use Rattle.tg_http.specs.declared.framing.Framing.{Framing}
 use Rattle.tg_http.specs.declared.framing.Framing.TheVariants.{Length, Chunked, UntilClose, Broken}
-use Rattle.tg_digits.specs.Digits.{IsDigits}
+use Rattle.tg_bytes.specs.Digits.{IsDigits}
 use Rattle.tg_http.specs.Fields.{values}
 
 abbrev pub codings : List (List ℕ × List ℕ) → List (List ℕ)

@@ -6,7 +6,7 @@ ghost use Rattle.tg_http.specs.Framing.{codings, lengths, IsFramingOf, HasNoBody
 
 use crate::fields::{FieldValue, value_of};
 use httparse::spans::HeaderSpan;
-use tg_digits::number_of;
+use tg_bytes::number_of;
 
 /// How a body is framed.
 ///

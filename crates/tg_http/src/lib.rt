@@ -6,7 +6,7 @@ mod fault;
 mod fields;
 mod framing;
 mod head_text;
-mod laws;
+pub mod laws;
 mod reply;
 mod request;
 
@@ -15,6 +15,5 @@ pub use fault::HttpFault;
 pub use fields::without_spaces;
 pub use framing::Framing;
 pub use head_text::{MAX_FIELDS, MAX_TEXT, is_empty_line, line_length};
-pub use laws::{line_laws, longer_bytes, request_heads};
 pub use reply::{ReplyHead, read_reply};
 pub use request::{RequestHead, read_request};

@@ -15,7 +15,7 @@ use Rattle.tg_dir.specs.Made.{IsMadeBy, MakesDirectory}
 use Rattle.tg_import.proofs.NamesInOrder.{around}
 use Rattle.tg_model.specs.declared.kinds.Made.{Made}
 use Rattle.tg_tree.specs.Tree.{HasFolderAt, IsAt}
-use Rattle.tg_writing.specs.KeepingSteps.{Joins, counted_behind, counted_on, keeps_both, keeps_nothing, same_stops, stops_behind}
+use Rattle.tg_node_writing.specs.KeepingSteps.{Joins, counted_behind, counted_on, keeps_both, keeps_nothing, same_stops, stops_behind}
 use Rattle.tg_import.proofs.SoFar.{IsSoFar, weights}
 use Rattle.tg_import.specs.Counting.{counts_of_children, one_folder, one_sharded, plus}
 use Rattle.tg_import.specs.Imported.{AreEntryNames, AreItemsOf}
@@ -27,7 +27,7 @@ use Rattle.tg_import.specs.declared.folder.Importer.{Importer}
 use Rattle.tg_import.specs.declared.summary.Options.{Options}
 use Rattle.tg_import.specs.declared.summary.Summary.{Summary}
 use Rattle.tg_import_file.specs.Files.{FileWriterState}
-use Rattle.tg_laws.specs.Stores.{KeepingJoins}
+use Rattle.tg_model_laws.specs.Stores.{KeepingJoins}
 use Rattle.tg_model.specs.Dag.{Section}
 use Rattle.tg_model.specs.Stores.{KeepMeaning, kept_in}
 use Rattle.tg_model.specs.declared.kinds.NewEntry.{NewEntry}
@@ -36,7 +36,7 @@ use Rattle.tg_tree.specs.declared.items.Item.{Item}
 use Rattle.tg_tree.specs.declared.items.Sort.TheVariants as sorts
 use Rattle.tg_tree.specs.declared.items.Sort.{Sort}
 use Rattle.tg_tree.specs.declared.tree.Tree.{Tree}
-use Rattle.tg_writing.specs.Keeping.{Keeps}
+use Rattle.tg_node_writing.specs.Keeping.{Keeps}
 
 -- ---- a step behind others
 

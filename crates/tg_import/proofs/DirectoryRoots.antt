@@ -23,7 +23,7 @@ use Rattle.tg_model.specs.declared.kinds.Made.{Made}
 use Rattle.tg_model.specs.declared.kinds.NewEntry.{NewEntry}
 use Rattle.tg_tree.specs.declared.items.Item.{Item}
 use Rattle.tg_tree.specs.declared.tree.Tree.{Tree}
-use Rattle.tg_writing.specs.Nodes.{LeadTo}
+use Rattle.tg_node_writing.specs.Nodes.{LeadTo}
 
 -- under a raw CID a block reads as raw alone
 read_under_dag_pb : (codec : Codec) (block : List ℕ) (kind : Kind) → kind ≢ Raw → ReadsUnder codec block kind → codec ≡ codecs.DagPb

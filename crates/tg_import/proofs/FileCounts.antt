@@ -9,7 +9,7 @@ use Rattle.tg_import.specs.Steps.{ImportsAs}
 use Rattle.tg_import.specs.declared.summary.Options.{Options}
 use Rattle.tg_import.specs.declared.summary.Summary.{Summary}
 use Rattle.tg_import_file.specs.Files.{KeepsFile}
-use Rattle.tg_laws.specs.Contents.{no_content}
+use Rattle.tg_model_laws.specs.Contents.{no_content}
 use Rattle.tg_model.specs.Stores.{Keeping}
 use Rattle.tg_model.specs.Content.{content, content_of_children}
 use Rattle.tg_model.specs.Dag.{Children, Dag, IsWhole, bare, node, unopened}

@@ -37,7 +37,7 @@ use Rattle.tg_tree.specs.declared.items.Item.{Item}
 use Rattle.tg_tree.specs.declared.items.Sort.TheVariants as sorts
 use Rattle.tg_tree.specs.declared.items.Sort.{Sort}
 use Rattle.tg_tree.specs.declared.tree.Tree.{Tree}
-use Rattle.tg_writing.specs.Nodes.{LeadTo}
+use Rattle.tg_node_writing.specs.Nodes.{LeadTo}
 
 -- ---- the entries
 

@@ -6,7 +6,7 @@ use Rattle.std.proofs.lemmas.List.Sums.{sum_by-cons}
 use Rattle.std.proofs.lemmas.List.{append-nil, length-map, map-append}
 use Rattle.std.proofs.lemmas.List.Elements.{All-cons, All-head, All-nil, All-push, All-tail, Contains-append_cases, Contains-append_left, Contains-append_right}
 use Rattle.tg_files.specs.Folders.{FolderMeaning}
-use Rattle.tg_writing.specs.KeepingSteps.{Joins, keeps_both, keeps_nothing}
+use Rattle.tg_node_writing.specs.KeepingSteps.{Joins, keeps_both, keeps_nothing}
 use Rattle.tg_cid.specs.Cid.{CidParts}
 use Rattle.tg_cid.specs.CodeLaws.{v1_length}
 use Rattle.tg_cid.specs.Computed.{v1_bytes}
@@ -23,7 +23,7 @@ use Rattle.tg_import.specs.Steps.{AreNewEntries, ImportsAs, IsWriterFor}
 use Rattle.tg_import.specs.declared.summary.Options.{Options}
 use Rattle.tg_import.specs.declared.summary.Summary.{Summary}
 use Rattle.tg_import_file.specs.Files.{FileWriterState}
-use Rattle.tg_laws.specs.Stores.{KeepingJoins}
+use Rattle.tg_model_laws.specs.Stores.{KeepingJoins}
 use Rattle.tg_model.specs.Dag.{Children, Dag, Section, blocks, blocks_of_children, no_child, root_cid, with_child}
 use Rattle.tg_model.specs.ImportLayout.{tsize_of}
 use Rattle.tg_model.specs.Stores.{KeepMeaning, kept_in}
@@ -31,9 +31,9 @@ use Rattle.tg_model.specs.declared.kinds.Made.{Made}
 use Rattle.tg_model.specs.declared.kinds.NewEntry.{NewEntry}
 use Rattle.tg_tree.specs.declared.items.Item.{Item}
 use Rattle.tg_tree.specs.declared.tree.Tree.{Tree}
-use Rattle.tg_writing.specs.DigestLaws.{digest_is}
-use Rattle.tg_writing.specs.Keeping.{Keeps}
-use Rattle.tg_writing.specs.Nodes.{LeadTo}
+use Rattle.tg_node_writing.specs.DigestLaws.{digest_is}
+use Rattle.tg_node_writing.specs.Keeping.{Keeps}
+use Rattle.tg_node_writing.specs.Nodes.{LeadTo}
 
 -- the CID has 36 bytes in version 1
 pub record HasPlainLength (entry : NewEntry) : Type 0 where

@@ -15,7 +15,7 @@ use Rattle.tg_model.specs.Stores.{Keeping}
 use Rattle.tg_tree.specs.Tree.{NamesRise, tree_at}
 use Rattle.tg_tree.specs.declared.items.Item.{Item}
 use Rattle.tg_tree.specs.declared.tree.Tree.{Tree}
-use Rattle.tg_writing.specs.Keeping.{Keeps}
+use Rattle.tg_node_writing.specs.Keeping.{Keeps}
 
 -- chunks of 1 to 2,097,152 bytes, 2 to 4,096 links a node, and a threshold up to 1,048,576
 pub record AreOptions (options : Options) : Type 0 where

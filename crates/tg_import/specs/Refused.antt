@@ -22,7 +22,7 @@ use Rattle.tg_tree.specs.declared.items.Item.{Item}
 use Rattle.tg_tree.specs.declared.items.Sort.TheVariants as sorts
 use Rattle.tg_tree.specs.declared.items.Sort.{Sort}
 use Rattle.tg_tree.specs.declared.tree.Tree.{Tree}
-use Rattle.tg_writing.specs.Keeping.{Keeps, StopsAfter}
+use Rattle.tg_node_writing.specs.Keeping.{Keeps, StopsAfter}
 
 -- how many levels of folders are imported at most, the root being the first; how large a number of the summary and the Tsizes of a
 -- directory are at most; and how many entries a directory has at most, and one

@@ -21,7 +21,7 @@ use Rattle.tg_model.specs.declared.kinds.NewEntry.{NewEntry}
 use Rattle.tg_model.specs.declared.stores.KeepFault.TheVariants as keep_faults
 use Rattle.tg_tree.specs.declared.items.Item.{Item}
 use Rattle.tg_tree.specs.declared.tree.Tree.{Tree}
-use Rattle.tg_writing.specs.Keeping.{Keeps, StopsAfter}
+use Rattle.tg_node_writing.specs.Keeping.{Keeps, StopsAfter}
 
 -- the writer of files is ready, for files as these options want them
 pub record IsWriterFor (options : Options) (writer : FileWriterState) : Type 0 where

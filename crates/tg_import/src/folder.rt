@@ -19,7 +19,6 @@ use tg_cid::MAX_DIGEST_LEN;
 use tg_dir::HamtFault;
 use tg_files::Folder;
 use tg_import_file::{FileFault, FileWriter};
-use tg_laws::kept_sections;
 use tg_model::{Keep, Made, NewEntry};
 use tg_tree::{Sort, path_of_entry};
 
@@ -71,7 +70,7 @@ impl Importer {
             (folder_step F.folder folder.old folder.new) (kept_in K.keeper keep.old keep.new)) }
         ensures err_counted { OnErr result (K.keeper.faults keep.old ≤ K.keeper.faults keep.new) }
     {
-        kept_sections();
+        tg_model_laws::kept_sections();
         if levels == 0 {
             return Err(ImportFault::TooDeep {
                 path: copy_of(self.alloc, path)?,

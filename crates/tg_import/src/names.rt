@@ -10,7 +10,7 @@ use crate::fault::ImportFault;
 use std::alloc::{AllocError, Global};
 use tg_bytes::{Bytes, List};
 use tg_files::{Folder, FolderFault};
-use tg_model::{Path, good_names, is_good_name};
+use tg_model::{Path, is_good_name};
 use tg_tree::{Item, path_of_entry, sort_by_name};
 
 /// How many bytes a name in a directory has at most.
@@ -56,7 +56,7 @@ fn check_names(alloc: Global, path: &[Bytes], items: &[Item]) -> Result<(), Impo
     ensures names { OnOk result (AreEntryNames (item_names items.now)) }
     ensures cause { IfErr result (λ fault. IsNamesCause path.now items.now fault) }
 {
-    good_names();
+    tg_model::laws::good_names();
     for i in 0..items.len() {
         let name = items[i].name.as_slice();
         if !is_good_name(name) || stands_before(items, i) {

@@ -6,18 +6,18 @@ use Rattle.tg_filedag.specs.State.{BalancedState}
 use Rattle.tg_filedag.specs.Trees.{bottom_up}
 use Rattle.tg_files.specs.Folders.{FolderQuiet, FolderStep}
 use Rattle.tg_import_file.proofs.Closing.{are_blocks}
-use Rattle.tg_writing.specs.KeepingSteps.{Joins, keeps_both}
+use Rattle.tg_node_writing.specs.KeepingSteps.{Joins, keeps_both}
 use Rattle.tg_import_file.proofs.PieceSteps.{stops_on}
 use Rattle.tg_import_file.specs.Files.{IsFileCause, IsFileOf, KeepsFile, fault_of_keep}
 use Rattle.tg_import_file.specs.Taking.{MakesFile, Stops, TakesFile}
-use Rattle.tg_laws.specs.Stores.{KeepingJoins}
+use Rattle.tg_model_laws.specs.Stores.{KeepingJoins}
 use Rattle.tg_model.specs.Content.{content}
 use Rattle.tg_model.specs.Dag.{Dag, Section}
 use Rattle.tg_model.specs.Stores.{KeepMeaning, Keeping, kept_in}
 use Rattle.tg_model.specs.declared.kinds.Made.{Made}
 use Rattle.tg_model.specs.declared.stores.KeepFault.{KeepFault}
 use Rattle.tg_model.specs.declared.stores.KeepFault.TheVariants as faults
-use Rattle.tg_writing.specs.Keeping.{Keeps}
+use Rattle.tg_node_writing.specs.Keeping.{Keeps}
 
 -- a fault of keeping
 pub keep_cause : (file : Option (List ℕ)) (fault : KeepFault) (step : FolderStep) (keeping : Keeping) → FolderQuiet step → Stops fault keeping

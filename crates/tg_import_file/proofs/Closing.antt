@@ -7,11 +7,11 @@ use Rattle.tg_filedag.specs.Chunks.{AreChunks, ChunkerState}
 use Rattle.tg_filedag.specs.MadeFile.{IsMadeFile, leaves_for}
 use Rattle.tg_filedag.specs.State.{BalancedState, StandsFor}
 use Rattle.tg_filedag.specs.Trees.{bottom_up, bottom_up_of_children}
-use Rattle.tg_writing.specs.KeepingSteps.{Joins, keeps_both}
+use Rattle.tg_node_writing.specs.KeepingSteps.{Joins, keeps_both}
 use Rattle.tg_import_file.specs.Files.{AreBlocksOf, IsFileOf}
 use Rattle.tg_import_file.specs.Taking.{HasLinked, LinksLast, MakesFile}
-use Rattle.tg_laws.specs.Contents.{no_content}
-use Rattle.tg_laws.specs.Stores.{KeepingJoins}
+use Rattle.tg_model_laws.specs.Contents.{no_content}
+use Rattle.tg_model_laws.specs.Stores.{KeepingJoins}
 use Rattle.tg_model.specs.Content.{content}
 use Rattle.tg_model.specs.Dag.{Children, Dag, IsWhole, Section, bare, blocks, blocks_of_children, no_child, node, unopened, with_child}
 use Rattle.tg_model.specs.ImportLayout.{leaves}
@@ -21,7 +21,7 @@ use Rattle.tg_model.specs.declared.kinds.Kind.TheVariants.{Basic, File, Raw, Sha
 use Rattle.tg_model.specs.declared.kinds.Made.{Made}
 use Rattle.tg_tree.specs.Tree.{bytes_of}
 use Rattle.tg_tree.specs.declared.tree.Tree.{Tree}
-use Rattle.tg_writing.specs.Keeping.{Keeps}
+use Rattle.tg_node_writing.specs.Keeping.{Keeps}
 
 -- ---- what is kept are the blocks
 

@@ -3,14 +3,14 @@ use Rattle.std.proofs.Common.{◌≡◌, ◌-◌, ℕ, List, [], ◌++◌, lengt
 use Rattle.std.proofs.lemmas.List.{append-nil, length-append, length-drop, take-append-drop, take_all}
 use Rattle.tg_filedag.specs.Chunks.{ChunkerState}
 use Rattle.tg_filedag.specs.State.{BalancedState}
-use Rattle.tg_writing.specs.KeepingSteps.{Joins, stops_behind}
+use Rattle.tg_node_writing.specs.KeepingSteps.{Joins, stops_behind}
 use Rattle.tg_import_file.proofs.Taken.{takes_nothing, takes_on}
 use Rattle.tg_import_file.specs.Taking.{MayTake, Stops, TakesPiece}
-use Rattle.tg_laws.specs.Stores.{KeepingJoins}
+use Rattle.tg_model_laws.specs.Stores.{KeepingJoins}
 use Rattle.tg_model.specs.Dag.{Section}
 use Rattle.tg_model.specs.Stores.{KeepMeaning, kept_in}
 use Rattle.tg_model.specs.declared.stores.KeepFault.{KeepFault}
-use Rattle.tg_writing.specs.Keeping.{Keeps}
+use Rattle.tg_node_writing.specs.Keeping.{Keeps}
 
 -- of a piece all but the rest was taken
 pub record Taking {S : Type 0} (m : KeepMeaning S) (before now : S) (c : ChunkerState) (b : BalancedState) (c' : ChunkerState) (b' : BalancedState) (piece rest : List ℕ) : Type 0 where

@@ -9,15 +9,15 @@ use Rattle.tg_filedag.specs.Chunks.{ChunkerState}
 use Rattle.tg_filedag.specs.State.{BalancedState}
 use Rattle.tg_files.specs.Folders.{FolderMeaning, FolderQuiet, SameTree, folder_step}
 use Rattle.tg_files.specs.Packs.{ReadAt, rest_at}
-use Rattle.tg_writing.specs.KeepingSteps.{Joins, keeps_both, keeps_nothing}
+use Rattle.tg_node_writing.specs.KeepingSteps.{Joins, keeps_both, keeps_nothing}
 use Rattle.tg_import_file.specs.Files.{max_file_len}
 use Rattle.tg_import_file.specs.Taking.{HasTaken, MayTake, TakesFile, TakesPiece}
-use Rattle.tg_laws.specs.Stores.{KeepingJoins}
+use Rattle.tg_model_laws.specs.Stores.{KeepingJoins}
 use Rattle.tg_model.specs.Dag.{Section}
 use Rattle.tg_model.specs.Stores.{KeepMeaning, kept_in}
 use Rattle.tg_tree.specs.Tree.{HasFileAt, bytes_of, tree_at}
 use Rattle.tg_tree.specs.declared.tree.Tree.{Tree}
-use Rattle.tg_writing.specs.Keeping.{Keeps}
+use Rattle.tg_node_writing.specs.Keeping.{Keeps}
 
 -- ---- the bytes
 

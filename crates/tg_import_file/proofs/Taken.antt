@@ -8,13 +8,13 @@ use Rattle.tg_bytes.specs.Lists.{joined, joined_push}
 use Rattle.tg_filedag.specs.Chunks.{ChunkerState, FullAreChunks, LastIsChunk, cleared, fed_with, taken_of}
 use Rattle.tg_filedag.specs.State.{BalancedState, StandsFor}
 use Rattle.tg_import_file.proofs.Cuts.{full_count}
-use Rattle.tg_writing.specs.KeepingSteps.{Joins, keeps_both, keeps_nothing}
+use Rattle.tg_node_writing.specs.KeepingSteps.{Joins, keeps_both, keeps_nothing}
 use Rattle.tg_import_file.specs.Files.{max_file_len}
 use Rattle.tg_import_file.specs.Taking.{HasLinked, HasTaken, LinksLast, MayTake, TakesPiece}
-use Rattle.tg_laws.specs.Stores.{KeepingJoins}
+use Rattle.tg_model_laws.specs.Stores.{KeepingJoins}
 use Rattle.tg_model.specs.Dag.{Section}
 use Rattle.tg_model.specs.Stores.{KeepMeaning, Keeping, kept_in}
-use Rattle.tg_writing.specs.Keeping.{Keeps}
+use Rattle.tg_node_writing.specs.Keeping.{Keeps}
 
 -- nothing was taken by a writer that is ready
 pub ready_taken : (c : ChunkerState) (b : BalancedState) → c.bytes ≡ [] → 1 ≤ c.size → StandsFor b [] [] → HasTaken c b [] []

@@ -16,7 +16,7 @@ use Rattle.tg_model.specs.declared.stores.KeepFault.{KeepFault}
 use Rattle.tg_model.specs.declared.stores.KeepFault.TheVariants as keep_faults
 use Rattle.tg_tree.specs.Tree.{bytes_of}
 use Rattle.tg_tree.specs.declared.tree.Tree.{Tree}
-use Rattle.tg_writing.specs.Keeping.{Keeps, StopsAfter}
+use Rattle.tg_node_writing.specs.Keeping.{Keeps, StopsAfter}
 
 -- how many bytes an imported file has at most: 2^40
 abbrev pub max_file_len : ℕ

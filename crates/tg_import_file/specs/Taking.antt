@@ -9,7 +9,7 @@ use Rattle.tg_model.specs.Dag.{Dag, Section}
 use Rattle.tg_model.specs.Stores.{Keeping}
 use Rattle.tg_model.specs.declared.kinds.Made.{Made}
 use Rattle.tg_model.specs.declared.stores.KeepFault.{KeepFault}
-use Rattle.tg_writing.specs.Keeping.{Keeps, StopsAfter}
+use Rattle.tg_node_writing.specs.Keeping.{Keeps, StopsAfter}
 
 -- these bytes of a file were taken, and these sections kept: the chunks that were linked are full, and the one at hand isn't
 pub record HasTaken (chunker : ChunkerState) (balanced : BalancedState) (bytes : List ℕ) (kept : List Section) : Type 0 where

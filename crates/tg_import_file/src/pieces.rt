@@ -10,9 +10,8 @@ ghost use Rattle.tg_tree.specs.Tree.{HasFileAt, bytes_of, tree_at};
 
 use crate::fault::FileFault;
 use tg_bytes::Bytes;
-use tg_filedag::{Balanced, Chunker, cut_chunks};
+use tg_filedag::{Balanced, Chunker};
 use tg_files::Folder;
-use tg_laws::kept_sections;
 use tg_model::{Keep, KeepFault, Made};
 
 /// How many bytes an imported file has at most: 2^40.
@@ -42,7 +41,7 @@ pub(crate) fn take_file<F: Folder, K: Keep>(
         (folder_step F.folder folder.old folder.new) (kept_in K.keeper keep.old keep.new)) }
     ensures err_counted { OnErr result (K.keeper.faults keep.old ≤ K.keeper.faults keep.new) }
 {
-    kept_sections();
+    tg_model_laws::kept_sections();
     let mut offset = 0;
     loop {
         let n = folder.read_at(path, offset, piece)?;
@@ -81,7 +80,7 @@ fn take_piece<K: Keep>(
     ensures stops { IfErr result (λ fault. Stops fault (kept_in K.keeper keep.old keep.new)) }
     ensures err_counted { OnErr result (K.keeper.faults keep.old ≤ K.keeper.faults keep.new) }
 {
-    kept_sections();
+    tg_model_laws::kept_sections();
     let mut rest = piece;
     while !rest.is_empty() {
         let n = fill_chunk(chunker, balanced, rest, keep)?;
@@ -132,7 +131,7 @@ pub(crate) fn close_file<K: Keep>(
     ensures stops { IfErr result (λ fault. Stops fault (kept_in K.keeper keep.old keep.new)) }
     ensures err_counted { OnErr result (K.keeper.faults keep.old ≤ K.keeper.faults keep.new) }
 {
-    kept_sections();
+    tg_model_laws::kept_sections();
     link_last(chunker, balanced, keep)?;
     balanced.finish(keep)
 }
@@ -151,7 +150,7 @@ fn link_last<K: Keep>(
     ensures stops { IfErr result (λ fault. Stops fault (kept_in K.keeper keep.old keep.new)) }
     ensures err_counted { OnErr result (K.keeper.faults keep.old ≤ K.keeper.faults keep.new) }
 {
-    cut_chunks();
+    tg_filedag::laws::cut_chunks();
     if chunker.chunk().is_empty() {
         return Ok(());
     }

@@ -13,7 +13,6 @@ use std::marker::Model;
 use tg_bytes::Bytes;
 use tg_filedag::{Balanced, Chunker};
 use tg_files::Folder;
-use tg_laws::kept_sections;
 use tg_model::{Keep, Made};
 
 /// How many bytes of a file are read at once.
@@ -84,7 +83,7 @@ impl FileWriter {
             (folder_step F.folder folder.old folder.new) (kept_in K.keeper keep.old keep.new)) }
         ensures err_counted { OnErr result (K.keeper.faults keep.old ≤ K.keeper.faults keep.new) }
     {
-        kept_sections();
+        tg_model_laws::kept_sections();
         take_file(
             folder,
             path,

@@ -11,7 +11,7 @@ use std::alloc::Global;
 use tg_cid::Cid;
 use tg_files::{Folder, Pack};
 use tg_import::{ImportFault, Options, Summary, import};
-use tg_store::{PackFault, PackStore, pack_laws};
+use tg_store::{PackFault, PackStore};
 
 /// Imports a folder into an empty pack, and gives the pack back: a CAR whose root is the folder's, and which has each block of its DAG once.
 ///
@@ -61,7 +61,7 @@ fn fill<F: Folder, P: Pack>(
         (folder_step F.folder folder.old folder.new) (pack_step P.pack store.old.pack store.new.pack)) }
     ensures unfinished { OnErr result (IfSome (P.pack.content store.new.pack) IsUnfinished) }
 {
-    pack_laws::<P>();
+    tg_store::laws::pack_laws::<P>();
     let (root, summary) = import(alloc, folder, store, options)?;
     match store.finish(root) {
         Ok(()) => Ok((root, summary)),

@@ -8,7 +8,6 @@ ghost use Rattle.tg_streams.specs.Streams.{OutputQuiet, Put, into};
 use crate::fault::ListingFault;
 use std::alloc::{AllocError, Global};
 use tg_bytes::{Bytes, List};
-use tg_cid::{computes, one_spelling};
 use tg_escape::push_escaped;
 use tg_model::Entry;
 use tg_streams::{Sink, put_all};
@@ -78,8 +77,8 @@ fn put_line<S: Sink>(
 fn push_line(alloc: Global, entry: &Entry, lines: &mut Bytes) -> Result<(), AllocError>
     ensures { OnOk result (lines.new ≡ lines.old ++ listing_line (named_entry entry.now)) }
 {
-    one_spelling();
-    computes();
+    tg_cid::laws::one_spelling();
+    tg_cid::laws::computes();
     let cid = entry.cid.to_text(alloc)?;
     lines.push_all(cid.as_slice())?;
     lines.push_all(b" ")?;

@@ -1,7 +1,7 @@
 -- The answer of a DAG to a query, by its content, its entries and its paths (Trustless Gateway specification, dag-scope; the
 -- texts of listings and bundles are this project's own).
 use Rattle.tg_model.specs.declared.queries.Scope.TheVariants as scopes
-use Rattle.tg_ascii.specs.Ascii.{line_feed, slash}
+use Rattle.tg_bytes.specs.Ascii.{line_feed, slash}
 use Rattle.std.specs.Prelude.{Bool, false, List, None, Option, Some, [], length, map, ℕ, ◌++◌, ◌∷◌}
 use Rattle.tg_model.specs.ByteRanges.{slice_of}
 use Rattle.tg_model.specs.Content.{DirEntry, content, content_of_children, entries, part_positions}

@@ -1,6 +1,6 @@
 -- The kind of a block under its CID, or its first fault, computed. The faults are tried in the order of `BlockFault`.
 use Rattle.tg_cid.specs.declared.cid.Codec.TheVariants as codecs
-use Rattle.tg_ascii.specs.Ascii.{slash}
+use Rattle.tg_bytes.specs.Ascii.{slash}
 use Rattle.tg_model.specs.declared.fault.BlockFault.TheVariants as faults
 use Rattle.std.specs.List.{list_all, list_any}
 use Rattle.std.specs.Prelude.{min, ◌-◌, Bool, Err, List, None, Ok, Option, Result, Some, [], bytes_eq, drop, false, if◌then◌else◌, length, map, nat_lt, not, sum, take, true, ℕ, ◌&&◌, ◌+◌, ◌==◌, ◌^◌, ◌∷◌, ◌≡◌, ◌⊎◌}

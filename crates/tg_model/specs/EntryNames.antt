@@ -1,7 +1,7 @@
 -- Names of entries, which are also the segments of paths (UnixFS specification, Directory; Path Gateway specification, Path
 -- Resolution): not empty, without `/` and the zero byte, and neither `.` nor `..`.
 use Rattle.std.specs.Prelude.{All, List, [], length, ℕ, ◌<◌, ◌∷◌, ◌≢◌}
-use Rattle.tg_ascii.specs.Ascii.{slash}
+use Rattle.tg_bytes.specs.Ascii.{slash}
 
 pub record IsGoodName (name : List ℕ) : Type 0 where
   pub not_empty : 0 < length name

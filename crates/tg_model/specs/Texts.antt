@@ -1,6 +1,6 @@
 -- Texts of answers: escaped names, listings and the lines of bundles (this project's own).
 use Rattle.std.specs.Fmt.{digit_glyph}
-use Rattle.tg_ascii.specs.Ascii.{line_feed, slash, space}
+use Rattle.tg_bytes.specs.Ascii.{line_feed, slash, space}
 use Rattle.std.specs.List.{flat_map}
 use Rattle.std.specs.Prelude.{Bool, List, [], bytes_eq, codes, decimal, false, if◌then◌else◌, nat_le, nat_lt, true, ℕ, ◌%◌, ◌&&◌, ◌++◌, ◌/◌, ◌==◌, ◌||◌, ◌∷◌}
 use Rattle.tg_cid.specs.Cid.{CidParts}

@@ -1,7 +1,7 @@
 -- The traversal of a DAG for a query: the places that are sent, in preorder and in the order of the links, with the text
 -- that they give and the entries that are met (Trustless Gateway specification: dag-scope, entity-bytes, order dfs).
 use Rattle.tg_model.specs.declared.queries.Scope.TheVariants as scopes
-use Rattle.tg_ascii.specs.Ascii.{line_feed, slash}
+use Rattle.tg_bytes.specs.Ascii.{line_feed, slash}
 use Rattle.std.specs.Prelude.{Bool, List, None, Option, Some, [], drop, if◌then◌else◌, length, map, nat_lt, take, ℕ, ◌&&◌, ◌++◌, ◌+◌, ◌-◌, ◌∷◌}
 use Rattle.tg_cid.specs.Cid.{CidParts}
 use Rattle.tg_model.specs.ByteRanges.{high_of, low_of}

@@ -20,12 +20,12 @@ pub fn readings()
     ensures inner { (cid : CidParts) (block : List ℕ) (fault : BlockFault) → All (λ b. b < 256) block
         → read cid block ≡ Err fault → IsNoWantOfMemory fault }
 {
-    tg_dagpb::one_text();
-    tg_dagpb::computes();
-    tg_unixfs::one_data();
-    tg_unixfs::computes();
-    tg_cid::one_spelling();
-    tg_cid::computes();
+    tg_dagpb::laws::one_text();
+    tg_dagpb::laws::computes();
+    tg_unixfs::laws::one_data();
+    tg_unixfs::laws::computes();
+    tg_cid::laws::one_spelling();
+    tg_cid::laws::computes();
 }
 
 /// The bits of a shard are one number, of which the first byte is the most significant: that byte stands above the number of the others,

@@ -5,7 +5,7 @@
 mod fault;
 mod folders;
 mod kinds;
-mod laws;
+pub mod laws;
 mod limits;
 mod links;
 mod placed;
@@ -19,7 +19,6 @@ mod windows;
 pub use fault::BlockFault;
 pub use folders::is_good_name;
 pub use kinds::{Entry, Kind, Made, NewEntry, Part, Slot, Step};
-pub use laws::{big_endians, good_names, readings};
 pub use limits::{LimitKind, Limits};
 pub use links::part_at;
 pub use placed::{FilePlaces, PartCursor, PlacedKind, reads_in_place};

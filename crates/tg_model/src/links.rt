@@ -82,7 +82,7 @@ fn cid_of(hash: &[u8]) -> Option<Cid>
     ensures found { IfSome result (λ cid. CidBytes cid hash.now) }
     ensures computed { result ≡ cid_of hash.now }
 {
-    tg_cid::computes();
+    tg_cid::laws::computes();
     Cid::from_bytes(hash).ok()
 }
 

@@ -15,12 +15,12 @@ ghost use Rattle.tg_unixfs.specs.Computed.{unix_of};
 use crate::fault::BlockFault;
 use crate::folders::{basic_kind, shard_kind};
 use crate::kinds::{Entry, Slot};
-use crate::laws::readings;
+use crate::laws;
 use crate::links::count_links;
 use std::alloc::Global;
 use tg_bytes::List;
 use tg_cid::{Cid, Codec};
-use tg_pbtable::{Place, place_laws};
+use tg_pbtable::Place;
 use tg_unixfs::{UnixPlaces, places_of, size_at};
 
 /// A place between two parts of a file, in the node of its block. It takes no memory.
@@ -93,7 +93,7 @@ pub fn reads_in_place(alloc: Global, cid: &Cid, block: &[u8]) -> Result<PlacedKi
     ensures given { GivesPlaced block.now result (read cid.now block.now) }
     ensures inner { IfErr result (λ fault. (fault ≡ BlockFault.OutOfMemory) ⊎ IsNoWantOfMemory fault) }
 {
-    readings();
+    laws::readings();
     placed_block(alloc, cid, block)
 }
 
@@ -123,8 +123,8 @@ fn payload_of(block: &[u8]) -> Result<Option<Place>, BlockFault>
         (λ place. AreInside block.now place × IsNodeWith block.now (placed_bytes block.now place))
         (λ e. node_or_fault (node_of block.now) ≡ Err e) }
 {
-    tg_dagpb::one_text();
-    tg_dagpb::computes();
+    tg_dagpb::laws::one_text();
+    tg_dagpb::laws::computes();
     Ok(tg_dagpb::payload_at(block)?)
 }
 
@@ -135,7 +135,7 @@ fn data_of(block: &[u8], payload: Option<Place>) -> Result<DataPlaces, BlockFaul
         (λ places. (payload ≡ Some places.payload) × IsDataAt block.now places)
         (λ e. unix_or_fault (placed_bytes block.now payload) ≡ Err e) }
 {
-    tg_unixfs::computes();
+    tg_unixfs::laws::computes();
     let Some(payload) = payload else {
         return Err(BlockFault::NoUnix);
     };
@@ -170,7 +170,7 @@ fn inline_at(block: &[u8], places: DataPlaces) -> Place
     requires { AreDataPlaces block.now places }
     ensures { LieAt block.now result (inline_of (data_unix block.now places)) }
 {
-    place_laws();
+    tg_pbtable::laws::place_laws();
     let start = places.payload.start;
     match places.unix.inline {
         Some(inline) => Place {

@@ -9,7 +9,7 @@ ghost use Rattle.tg_model.specs.declared.kinds.Part.{Part};
 
 use crate::fault::BlockFault;
 use crate::kinds::{Kind, Part};
-use crate::laws::readings;
+use crate::laws;
 use crate::links::part_at;
 use crate::placed::{FilePlaces, PartCursor, PlacedKind, reads_in_place};
 use std::alloc::{AllocError, Global};
@@ -30,7 +30,7 @@ pub fn reads(alloc: Global, cid: &Cid, block: &[u8]) -> Result<Kind, BlockFault>
     ensures given { Gives (read cid.now block.now) result }
     ensures inner { IfErr result (λ fault. (fault ≡ BlockFault.OutOfMemory) ⊎ IsNoWantOfMemory fault) }
 {
-    readings();
+    laws::readings();
     read_block(alloc, cid, block)
 }
 

@@ -2,11 +2,11 @@
 use std::rt::HostRuntime;
 use std::test::Fail;
 use tg_cid::{Cid, MAX_BLOCK_LEN};
-use tg_frames::copied_path;
 use tg_model::{Keep, Query, Scope};
 use tg_oracle::{End, Evaluation, Sent, evaluate, scoped_query};
 use tg_store::MemStore;
 use tg_test_dags::{Shelf, chain};
+use tg_traversal::copied_path;
 use tg_walk::{ResolveFault, Walk, WalkFault, resolve};
 
 /// A store that holds the blocks, or none where a CID doesn't name its block.

@@ -3,13 +3,13 @@
 
 ghost use Rattle.std.specs.Prelude.{◌≡◌, ℕ, ◌-◌, ◌^◌, ◌<◌, List, ◌++◌, length, replicate, slice_index};
 ghost use Rattle.std.specs.Int.{w64, to_be_bytes};
-ghost use Rattle.tg_murmur.specs.Laws.{SameSlots};
 ghost use Rattle.tg_murmur.specs.NameHash.{name_hash, slot_of, scrambled1, scrambled2, first_word, second_word, with_block, with_rest, final_mix, finished};
 
-use std::marker::Model;
-
+pub mod laws;
 #[cfg(test)]
 mod tests;
+
+use std::marker::Model;
 
 const C1: u64 = 0x87c3_7b91_1142_53d5;
 
@@ -40,20 +40,6 @@ pub fn slot(hash: u64, level: u8) -> u8
 {
     hash.to_be_bytes()[level as usize]
 }
-
-/// A slot is below 256, and a name's hash is below 2 ^ 64.
-#[tactic(auto, unfolding(crate::specs::NameHash::name_hash, crate::specs::NameHash::finished))]
-pub fn slots_are_bytes()
-    ensures hash { (name : List ℕ) → name_hash name < 2 ^ 64 }
-    ensures slot { (name : List ℕ) (level : ℕ) → level < 8 → slot_of name level < 256 }
-{}
-
-/// Names whose slots are equal at all eight levels have one hash.
-///
-/// UnixFS specification, HAMTDirectory.
-pub fn same_slots()
-    ensures { SameSlots }
-{}
 
 // The two words that the hash carries along.
 #[derive(Clone, Copy)]

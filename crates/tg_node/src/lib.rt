@@ -2,10 +2,11 @@
 #![tactic(auto)]
 
 mod fault;
+pub mod laws;
 mod text;
 
 pub use fault::{NodeFault, TextFault};
-pub use text::{node_text, one_node_text};
+pub use text::node_text;
 
 #[cfg(test)]
 mod tests;

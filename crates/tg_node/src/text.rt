@@ -5,10 +5,11 @@ ghost use Rattle.tg_cid.specs.Cid.{CidParts};
 ghost use Rattle.tg_node.specs.NodeTexts.{Exact, IsNodeTextOf, HasNodeTextCause, NodeLines, HasDagPbCause, LinesOfNode, HasLinesCause, IsCaused, LinkLine, LinkLines, HasLinkCause, PayloadLines, HasBadPayload, HasPayloadCause, count_line, size_line, unix_line, link_line, labelled, name_text, inline_length};
 
 use crate::fault::{NodeFault, TextFault};
+use crate::laws;
 use itoa::Buffer;
 use std::alloc::{AllocError, Global};
 use tg_bytes::Bytes;
-use tg_cid::{Cid, Codec, one_spelling};
+use tg_cid::{Cid, Codec};
 use tg_dagpb::{Link, Node};
 use tg_escape::push_escaped;
 use tg_unixfs::Unix;
@@ -26,15 +27,6 @@ pub fn node_text(alloc: Global, cid: &Cid, block: &[u8]) -> Result<Bytes, TextFa
     }
 }
 
-/// A block of a CID has one text.
-pub fn one_node_text()
-    ensures { (cid : CidParts) (block a b : List ℕ) → IsNodeTextOf cid block a → IsNodeTextOf cid block b → a ≡ b }
-{
-    tg_dagpb::one_text();
-    tg_unixfs::one_data();
-    one_spelling();
-}
-
 /// The line of a raw block.
 fn raw_text(alloc: Global, block: &[u8]) -> Result<Bytes, TextFault>
     ensures { MatchResult result (λ text. text ≡ count_line (codes "raw ") (length block.now))
@@ -49,7 +41,7 @@ fn raw_text(alloc: Global, block: &[u8]) -> Result<Bytes, TextFault>
 fn dag_pb_text(alloc: Global, block: &[u8]) -> Result<Bytes, TextFault>
     ensures { Exact (NodeLines block.now) (HasDagPbCause block.now) result }
 {
-    one_node_text();
+    laws::one_node_text();
     let node = tg_dagpb::decode(alloc, block)?;
     lines_of(alloc, &node)
 }

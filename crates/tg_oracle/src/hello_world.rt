@@ -18,8 +18,6 @@ ghost use Rattle.tg_model.specs.StoreView.{store_view};
 ghost use Rattle.tg_model.specs.Traversal.{block_list, traversal};
 ghost use Rattle.tg_model.specs.declared.queries.Scope.TheVariants as scopes;
 
-use tg_model::readings;
-
 /// The blocks are read as a file of three parts and as a directory with it.
 pub fn example_blocks()
     ensures file { read f_cid f_block ≡ Ok f_kind }
@@ -49,7 +47,7 @@ pub fn example_whole()
         ≡ Some (codes "dir /" ++ 10 ∷ codes "file 11 /h" ++ 10 ∷ codes "hello world" ++ 10 ∷ []) }
 {
     example_blocks();
-    readings();
+    tg_model::laws::readings();
 }
 
 /// With one leaf opened of the three, the range that meets it comes through and fits; with none, that leaf is wanted; and
@@ -69,7 +67,7 @@ pub fn example_partial()
     ensures view { store_view holding d_cid ≡ middle_dag }
 {
     example_blocks();
-    readings();
+    tg_model::laws::readings();
 }
 
 /// The whole DAG shows a folder with the one file `h`, and is the layout that an import with chunks of 4 bytes gives it.
@@ -77,8 +75,8 @@ pub fn example_import()
     ensures shows { (tree file : Tree) → IsHelloFolder tree file → Shows whole_dag tree }
     ensures layout { (tree file : Tree) → IsHelloFolder tree file → IsImportLayout whole_dag tree options_of_four }
 {
-    tg_pbtable::computes();
-    tg_dagpb::computes();
-    tg_unixfs::computes();
-    tg_cid::computes();
+    tg_pbtable::laws::computes();
+    tg_dagpb::laws::computes();
+    tg_unixfs::laws::computes();
+    tg_cid::laws::computes();
 }

@@ -7,8 +7,8 @@ use Rattle.std.proofs.lemmas.Bool.{cond-true, cond_both, le-leb, leb-true, lt-lt
 use Rattle.std.proofs.lemmas.Bool.Decides.{Decides-and, Decides-ltb}
 use Rattle.std.specs.Prelude.{None, Option, Some, nat_le, nat_lt, ◌&&◌}
 use Rattle.std.specs.Str.Parse.{AllDigits, digits_value}
-use Rattle.tg_digits.specs.DigitLaws.{digits_decide}
-use Rattle.tg_digits.specs.Digits.{IsDigits}
+use Rattle.tg_bytes.specs.DigitLaws.{digits_decide}
+use Rattle.tg_bytes.specs.Digits.{IsDigits}
 use Rattle.tg_path.specs.Spans.{NumberText, is_number, number_of}
 
 -- numbers of 1 to 19 digits: the test says what the relation says

@@ -2,7 +2,7 @@
 use Rattle.std.proofs.Common.{All, Err, List, None, Ok, Option, Some, ap, arith, inl, inr, refl, subst, sym, ℕ, ◌++◌, ◌∙◌, ◌≡◌, ◌≢◌, ◌⊎◌}
 use Rattle.std.specs.Prelude.{◌↔◌}
 use Rattle.std.proofs.lemmas.List.Elements.{All-cons, All-weaker}
-use Rattle.tg_ascii.specs.Ascii.{slash}
+use Rattle.tg_bytes.specs.Ascii.{slash}
 use Rattle.tg_base32.specs.Base32.{IsLetter}
 use Rattle.tg_base32.specs.Laws.{TextLaws}
 use Rattle.tg_cid.specs.Cid.{CidParts}

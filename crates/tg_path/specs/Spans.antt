@@ -3,7 +3,7 @@ use Rattle.std.specs.Char.{is_digit}
 use Rattle.std.specs.List.{list_all}
 use Rattle.std.specs.Prelude.{Bool, Err, List, None, Ok, Option, Result, Some, [], bytes_eq, if◌then◌else◌, length, nat_le, nat_lt, option_map, true, ℕ, ◌&&◌, ◌++◌, ◌<◌, ◌^◌, ◌∷◌, ◌≡◌}
 use Rattle.std.specs.Str.Parse.{digits_value}
-use Rattle.tg_digits.specs.Digits.{IsDigits}
+use Rattle.tg_bytes.specs.Digits.{IsDigits}
 use Rattle.tg_model.specs.Queries.{IsSpan, SpanParts}
 use Rattle.tg_model.specs.declared.queries.SpanFrom.{SpanFrom}
 use Rattle.tg_model.specs.declared.queries.SpanFrom.TheVariants.{Last, Start}

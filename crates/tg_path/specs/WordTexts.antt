@@ -1,6 +1,6 @@
 -- Words ROOT/PATH of the command line (this project's own): a target without a query, whose front `/ipfs/` may be left out.
 use Rattle.std.specs.Prelude.{List, None, Ok, Option, Result, Some, codes, ℕ, ◌++◌, ◌≡◌, ◌⊎◌}
-use Rattle.tg_ascii.specs.Ascii.{slash}
+use Rattle.tg_bytes.specs.Ascii.{slash}
 use Rattle.tg_cid.specs.Cid.{CidParts}
 use Rattle.tg_cid.specs.Spelling.{CidText}
 use Rattle.tg_path.specs.Answers.{◌>>=◌}

@@ -25,7 +25,7 @@ pub fn paths_read()
     ensures path { (text : List ℕ) (path : List (List ℕ)) → (path_of text ≡ Ok path) ↔ PathText text path }
     ensures fault { (text : List ℕ) (fault : QueryFault) → path_of text ≡ Err fault → fault ≡ QueryFault.BadPath }
 {
-    tg_model::good_names();
+    tg_model::laws::good_names();
 }
 
 /// What is computed of a root, of a root with a path and of a word is what the grammar says, and a root is refused by the
@@ -39,9 +39,9 @@ pub fn roots_read()
     ensures rooted { (text : List ℕ) (root : CidParts) (path : List (List ℕ)) → (rooted_of text ≡ Ok (root, path)) ↔ RootedText text root path }
     ensures word { (word : List ℕ) (root : CidParts) (path : List (List ℕ)) → (word_of word ≡ Ok (root, path)) ↔ WordText word root path }
 {
-    tg_varint::spelling_laws();
-    tg_base32::text_laws();
-    tg_model::good_names();
+    tg_varint::laws::spelling_laws();
+    tg_base32::laws::text_laws();
+    tg_model::laws::good_names();
 }
 
 /// What is computed of a range is what its grammar says, and its one fault is `BadRange`.

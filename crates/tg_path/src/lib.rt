@@ -3,14 +3,13 @@
 
 mod cuts;
 mod fault;
-mod laws;
+pub mod laws;
 mod paths;
 mod spans;
 mod words;
 
 pub use cuts::cut_first;
 pub use fault::QueryFault;
-pub use laws::{cuts_read, paths_read, roots_read, spans_read};
 pub use paths::{MAX_SEGMENTS, parse_behind, parse_path};
 pub use spans::parse_span;
 pub use words::{behind_front, parse_rooted, parse_word};

@@ -7,8 +7,7 @@ ghost use Rattle.tg_path.specs.Paths.{name_of, path_of, path_behind};
 use crate::fault::QueryFault;
 use percent_encoding::percent_decode;
 use std::alloc::Global;
-use tg_ascii::SLASH;
-use tg_bytes::{Bytes, List};
+use tg_bytes::{Bytes, List, SLASH};
 use tg_model::{Path, is_good_name};
 
 /// How many segments a path has at most.

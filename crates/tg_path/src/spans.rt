@@ -72,6 +72,6 @@ fn number_of(text: &[u8]) -> Option<u64>
     ensures number { result ≡ number_of text.now }
     ensures small { IfSome result (λ number. number < 2 ^ 63) }
 {
-    let number = tg_digits::number_of(text)?;
+    let number = tg_bytes::number_of(text)?;
     (number < 1 << 63).then_some(number)
 }

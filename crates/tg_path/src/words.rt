@@ -10,7 +10,7 @@ use crate::cuts::cut_first;
 use crate::fault::QueryFault;
 use crate::paths::parse_behind;
 use std::alloc::Global;
-use tg_ascii::SLASH;
+use tg_bytes::SLASH;
 use tg_cid::Cid;
 use tg_model::Path;
 
@@ -51,7 +51,7 @@ pub fn behind_front(text: &[u8]) -> Option<&[u8]>
 fn root_of(alloc: Global, text: &[u8]) -> Result<Cid, QueryFault>
     ensures { Gives (root_of text.now) result }
 {
-    tg_varint::spelling_laws();
-    tg_base32::text_laws();
+    tg_varint::laws::spelling_laws();
+    tg_base32::laws::text_laws();
     Ok(Cid::from_text(alloc, text)?)
 }

@@ -11,12 +11,12 @@ use Rattle.std.proofs.lemmas.List.{append-nil}
 use Rattle.std.proofs.lemmas.List.Elements.{All-append, All-cons, All-head, All-nil, All-tail, All-weaker}
 use Rattle.std.proofs.lemmas.List.Splits.{length-slice_split, slice_split_at, slice_split_none}
 use Rattle.std.proofs.lemmas.List.Sums.{AllPass-from_list_all}
-use Rattle.tg_ascii.specs.Ascii.{slash}
+use Rattle.tg_bytes.specs.Ascii.{slash}
 use Rattle.tg_bytes.specs.Lists.{AreBytes}
 use Rattle.tg_cid.specs.Cid.{CidParts}
 use Rattle.tg_cid.specs.Computed.{cid_text}
 use Rattle.tg_cid.specs.Spelling.{CidText}
-use Rattle.tg_digits.specs.DigitLaws.{decimal_digits, digits_all}
+use Rattle.tg_bytes.specs.DigitLaws.{decimal_digits, digits_all}
 use Rattle.tg_model.specs.EntryNames.{IsGoodName}
 use Rattle.tg_model.specs.Queries.{IsFrom, IsSpan, IsUpTo, SpanParts}
 use Rattle.tg_model.specs.Texts.{escaped, escaped_byte, is_unreserved}

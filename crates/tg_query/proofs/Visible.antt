@@ -9,7 +9,7 @@ use Rattle.std.proofs.lemmas.Bool.{and_from, and_parts, le-leb, leb-true, lt-ltb
 use Rattle.std.proofs.lemmas.List.Elements.{All-append, All-head, All-nil, All-tail, All-weaker}
 use Rattle.std.proofs.lemmas.List.Sums.{AllPass-from_list_all}
 use Rattle.tg_base32.specs.Base32.{IsLetter}
-use Rattle.tg_digits.specs.DigitLaws.{decimal_digits, digits_all}
+use Rattle.tg_bytes.specs.DigitLaws.{decimal_digits, digits_all}
 use Rattle.tg_escape.specs.ByteTests.{by_table}
 use Rattle.tg_model.specs.Texts.{escaped, escaped_byte}
 

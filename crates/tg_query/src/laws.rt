@@ -13,11 +13,11 @@ ghost use Rattle.tg_query.specs.declared.targets.Target.{Target};
 pub fn printed_requests()
     ensures { (q : QueryParts) (addr : List ℕ) → IsPrintable q addr → IsOneHead q (request_text q addr) }
 {
-    tg_path::cuts_read();
-    tg_path::roots_read();
-    tg_path::spans_read();
-    tg_cid::computes();
-    tg_http::request_heads();
+    tg_path::laws::cuts_read();
+    tg_path::laws::roots_read();
+    tg_path::laws::spans_read();
+    tg_cid::laws::computes();
+    tg_http::laws::request_heads();
 }
 
 /// What is computed of a target is what its grammar says.
@@ -26,7 +26,7 @@ pub fn printed_requests()
 pub fn targets_read()
     ensures { (text : List ℕ) (target : Target) → (target_of text ≡ Ok target) ↔ TargetText text target }
 {
-    tg_path::cuts_read();
-    tg_path::roots_read();
-    tg_path::spans_read();
+    tg_path::laws::cuts_read();
+    tg_path::laws::roots_read();
+    tg_path::laws::spans_read();
 }

@@ -3,13 +3,12 @@
 
 mod accepts;
 mod joins;
-mod laws;
+pub mod laws;
 mod requests;
 mod targets;
 
 pub use accepts::{Accepted, CarChoice, parse_accept};
 pub use joins::join;
-pub use laws::{printed_requests, targets_read};
 pub use requests::print_request;
 pub use targets::{Target, parse_target};
 pub use tg_path::{QueryFault, parse_span, parse_word};

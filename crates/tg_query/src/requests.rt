@@ -8,7 +8,7 @@ ghost use Rattle.tg_query.specs.Targets.{scope_word};
 use itoa::Buffer;
 use std::alloc::{AllocError, Global};
 use tg_bytes::Bytes;
-use tg_cid::{Cid, computes, one_spelling};
+use tg_cid::Cid;
 use tg_escape::push_escaped;
 use tg_model::{Form, Query, Scope, Span, SpanFrom};
 
@@ -47,8 +47,8 @@ fn push_target(text: &mut Bytes, alloc: Global, query: &Query) -> Result<(), All
 fn push_root(text: &mut Bytes, alloc: Global, root: Cid) -> Result<(), AllocError>
     ensures { OnOk result (text.new ≡ text.old ++ cid_text root) }
 {
-    computes();
-    one_spelling();
+    tg_cid::laws::computes();
+    tg_cid::laws::one_spelling();
     let shown = root.to_text(alloc)?;
     text.push_all(shown.as_slice())?;
     Ok(())

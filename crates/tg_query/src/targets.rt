@@ -9,9 +9,7 @@ use percent_encoding::percent_decode;
 use std::alloc::{AllocError, Global};
 use tg_cid::Cid;
 use tg_model::{Form, Path, Scope, Span};
-use tg_path::{
-    QueryFault, behind_front, cut_first, parse_rooted, parse_span, roots_read, spans_read,
-};
+use tg_path::{QueryFault, behind_front, cut_first, parse_rooted, parse_span};
 
 /// What a target asks for: a root, a path from there, and the format, scope and range where they are given.
 ///
@@ -55,8 +53,8 @@ pub fn parse_target(alloc: Global, target: &[u8]) -> Result<Target, QueryFault>
     ensures target { Gives (target_of target.now) result }
     ensures good { IfOk result IsTarget }
 {
-    roots_read();
-    spans_read();
+    tg_path::laws::roots_read();
+    tg_path::laws::spans_read();
     let Some(rest) = behind_front(target) else {
         return Err(QueryFault::BadPath);
     };

@@ -11,7 +11,7 @@ use Rattle.std.proofs.Math.Utf8.{scalar_cases}
 use Rattle.std.proofs.lemmas.Bool.{and_parts, cond_both, ltb-true}
 use Rattle.std.proofs.lemmas.List.{take_at}
 use Rattle.std.proofs.lemmas.List.Elements.{All-append, All-cons, All-filter, All-head, All-map, All-nil, All-tail, All-take, All-weaker}
-use Rattle.tg_ascii.specs.Ascii.{slash}
+use Rattle.tg_bytes.specs.Ascii.{slash}
 use Rattle.tg_bytes.specs.Lists.{AreBytes, rest_bytes}
 use Rattle.tg_cid.specs.Cid.{CidParts}
 use Rattle.tg_cid.specs.Spelling.{CidBytes}

@@ -3,7 +3,7 @@ use Rattle.std.proofs.Common.{◌≡◌, ◌⊎◌, ℕ, zero, suc, ◌+◌, ◌
 use Rattle.std.specs.Prelude.{nat_lt}
 use Rattle.std.proofs.lemmas.Bool.{cases_lt, le-ltb, lt-ltb}
 use Rattle.std.proofs.lemmas.List.Elements.{All-append, All-cons, All-head, All-nil, All-tail}
-use Rattle.tg_laws.specs.Depths.{children_down_to, down_to}
+use Rattle.tg_model_laws.specs.Depths.{children_down_to, down_to}
 use Rattle.tg_model.specs.Dag.{Children, Dag, Section, bare, no_child, node, unopened, with_child}
 use Rattle.tg_model.specs.PathWalk.{PathWalk, child_below, not_folder, not_there, step_of, stopped_at, Spot, Stop, StepTo, TraversalEnd, bad_block, behind, gone, spot_at, stopped, terminal, to_child, to_entry, absent, not_folder_here, unless_misfit, walk_child, walk_from, walk_step, whole}
 use Rattle.tg_model.specs.Queries.{SpanParts}

@@ -13,8 +13,8 @@ use Rattle.std.proofs.lemmas.Option.{same_Some}
 use Rattle.std.proofs.lemmas.Slice.Eq.{bytes_eq-Decides}
 use Rattle.std.proofs.lemmas.Str.{IsUtf8-from_is_utf8, is_utf8-from_IsUtf8}
 use Rattle.tg_bytes.specs.Lists.{joined}
-use Rattle.tg_digits.specs.DigitLaws.{digits_decide}
-use Rattle.tg_digits.specs.Digits.{IsDigits}
+use Rattle.tg_bytes.specs.DigitLaws.{digits_decide}
+use Rattle.tg_bytes.specs.Digits.{IsDigits}
 use Rattle.tg_http.specs.Framing.{HasNoBody, codings, lengths}
 use Rattle.tg_http.specs.HeadText.{BeginsHead, HeadText}
 use Rattle.tg_http.specs.Heads.{IsNoRequest, TellsRequest}

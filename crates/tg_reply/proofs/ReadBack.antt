@@ -9,8 +9,8 @@ use Rattle.std.specs.Str.Parse.{AllDigits, digits_value}
 use Rattle.std.proofs.lemmas.Bool.{ne_eqb}
 use Rattle.std.proofs.lemmas.List.Elements.{All-head}
 use Rattle.tg_bytes.specs.Lists.{same_only}
-use Rattle.tg_digits.specs.DigitLaws.{decimal_digits, digits_all}
-use Rattle.tg_digits.specs.Digits.{IsDigits}
+use Rattle.tg_bytes.specs.DigitLaws.{decimal_digits, digits_all}
+use Rattle.tg_bytes.specs.Digits.{IsDigits}
 use Rattle.tg_http.specs.Fields.{coding_of, first, values}
 use Rattle.tg_http.specs.Framing.{HasFraming, IsFramingOf}
 use Rattle.tg_http.specs.declared.framing.Framing.{Framing}

@@ -7,7 +7,7 @@ use Rattle.std.specs.Prelude.{decimal}
 use Rattle.std.proofs.lemmas.List.{length-append}
 use Rattle.std.proofs.lemmas.List.Elements.{All-append, All-cons, All-nil}
 use Rattle.std.proofs.lemmas.List.Sums.{AllPass-from_list_all}
-use Rattle.tg_digits.specs.DigitLaws.{decimal_digits}
+use Rattle.tg_bytes.specs.DigitLaws.{decimal_digits}
 use Rattle.tg_http.specs.GrammarLines.{token}
 use Rattle.tg_http.specs.Fields.{values}
 use Rattle.tg_http.specs.Framing.{HasFraming}

@@ -9,7 +9,7 @@ use Rattle.tg_cid.specs.Spelling.{CidBytes}
 use Rattle.tg_cid.specs.declared.cid.Codec.{Codec}
 use Rattle.tg_cid.specs.declared.cid.Codec.TheVariants as codecs
 use Rattle.tg_dagpb.specs.declared.Link.{Link}
-use Rattle.tg_laws.specs.Depths.{children_down_to, down_to}
+use Rattle.tg_model_laws.specs.Depths.{children_down_to, down_to}
 use Rattle.tg_model.specs.Answer.{block_of}
 use Rattle.tg_model.specs.Computed.{read}
 use Rattle.tg_model.specs.Dag.{Children, Dag, Section, bare, links_of, no_child, node, unopened, with_child}

@@ -1,6 +1,6 @@
 -- What a traversal gives that is cut at a depth: the places before the first deeper one.
 use Rattle.std.specs.Prelude.{All, List, [], if◌then◌else◌, nat_lt, ℕ, ◌↔◌, ◌∷◌, ◌≡◌, ◌≤◌}
-use Rattle.tg_laws.specs.Depths.{down_to}
+use Rattle.tg_model_laws.specs.Depths.{down_to}
 use Rattle.tg_model.specs.Dag.{Dag}
 use Rattle.tg_model.specs.PathWalk.{whole}
 use Rattle.tg_model.specs.Queries.{QueryParts}

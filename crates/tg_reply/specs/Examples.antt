@@ -2,7 +2,7 @@
 use Rattle.httparse.specs.Ascii.{crlf_bytes}
 use Rattle.std.specs.List.{flat_map}
 use Rattle.std.specs.Prelude.{List, None, Option, Some, [], bytes_eq, codes, false, if◌then◌else◌, true, ℕ, ◌++◌, ◌∷◌}
-use Rattle.tg_ascii.specs.Ascii.{line_feed}
+use Rattle.tg_bytes.specs.Ascii.{line_feed}
 use Rattle.tg_cid.specs.Cid.{CidParts}
 use Rattle.tg_http.specs.declared.request.RequestHead.{RequestHead}
 use Rattle.tg_model.specs.Stores.{Store}

@@ -2,7 +2,7 @@
 use Rattle.httparse.specs.Ascii.{crlf_bytes}
 use Rattle.std.specs.List.{flat_map}
 use Rattle.std.specs.Prelude.{Bool, List, [], codes, decimal, if◌then◌else◌, length, ℕ, ◌++◌, ◌==◌, ◌∷◌}
-use Rattle.tg_ascii.specs.Ascii.{line_feed, space}
+use Rattle.tg_bytes.specs.Ascii.{line_feed, space}
 use Rattle.tg_cid.specs.Computed.{cid_text}
 use Rattle.tg_model.specs.Queries.{QueryParts}
 use Rattle.tg_query.specs.Accepts.{raw_type}

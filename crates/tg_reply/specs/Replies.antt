@@ -4,7 +4,7 @@ use Rattle.std.specs.Prelude.{Bool, Err, List, None, Ok, Option, Result, Some, [
 use Rattle.tg_bytes.specs.Lists.{joined}
 use Rattle.tg_cid.specs.Cid.{CidParts}
 use Rattle.tg_http.specs.declared.request.RequestHead.{RequestHead}
-use Rattle.tg_laws.specs.Depths.{down_to}
+use Rattle.tg_model_laws.specs.Depths.{down_to}
 use Rattle.tg_model.specs.Answer.{block_of}
 use Rattle.tg_model.specs.Dag.{Dag, Section}
 use Rattle.tg_model.specs.PathWalk.{PathEnd, Stop, TraversalEnd, bad_block, gone, not_folder, not_reached, not_there, path_walk, stopped, terminal, whole}

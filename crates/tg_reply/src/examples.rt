@@ -59,7 +59,7 @@ pub fn text_replies()
 pub fn two_replies()
     ensures { Replies three_roots (request_lines first_target ++ request_lines second_target) (first_bytes ++ second_bytes) }
 {
-    tg_http::request_heads();
+    tg_http::laws::request_heads();
 }
 
 /// The same two replies, computed from the bytes; the first alone, where the second request isn't whole; and behind it that of

@@ -43,9 +43,9 @@ pub fn reply_bodies()
 pub fn car_bytes()
     ensures { CarsInParts }
 {
-    tg_cid::computes();
-    tg_cid::length_laws();
-    tg_varint::spelling_laws();
+    tg_cid::laws::computes();
+    tg_cid::laws::length_laws();
+    tg_varint::laws::spelling_laws();
 }
 
 /// The path that a head tells is bytes of a field, where the root is spelled and the names are bytes.
@@ -55,16 +55,16 @@ pub fn told_paths()
     ensures { (q : QueryParts) (name : List ℕ) → CidBytes q.root name → All (λ name. All (λ b. b < 256) name) q.path
         → AllPass is_value_byte (asked_path q) }
 {
-    tg_cid::computes();
+    tg_cid::laws::computes();
 }
 
 /// A request is never refused for want of memory.
 pub fn no_memory()
     ensures { (head : RequestHead) (fault : QueryFault) → asked head ≡ Err (Refusal.Query fault) → fault ≢ QueryFault.OutOfMemory }
 {
-    tg_path::roots_read();
-    tg_path::paths_read();
-    tg_path::spans_read();
+    tg_path::laws::roots_read();
+    tg_path::laws::paths_read();
+    tg_path::laws::spans_read();
 }
 
 /// What a reader makes of the replies to `GET`: a refusal is its text, a raw block is the block, and a CAR that isn't cut is the
@@ -103,7 +103,7 @@ pub fn request_targets()
 pub fn asked_queries()
     ensures { AskedSpells }
 {
-    tg_query::targets_read();
+    tg_query::laws::targets_read();
 }
 
 /// The sections that a store of bytes gives for a query whose root is spelled are spelled: each is the root's, or its CID was read
@@ -113,7 +113,7 @@ pub fn asked_queries()
 pub fn sent_sections()
     ensures { SentSpelled }
 {
-    tg_model::readings();
+    tg_model::laws::readings();
 }
 
 /// What a reader makes of the reply to `GET` for a query that is asked, over a store of bytes, where the head of the reply fits a
@@ -123,7 +123,7 @@ pub fn sent_sections()
 pub fn asked_replies_read()
     ensures { AskedRepliesRead }
 {
-    tg_model::readings();
+    tg_model::laws::readings();
     replies_read();
     request_targets();
     asked_queries();

@@ -10,7 +10,7 @@ ghost use Rattle.tg_reply.specs.Written.{WritingComputes};
 pub fn first_heads()
     ensures { FirstHeads }
 {
-    tg_http::line_laws();
+    tg_http::laws::line_laws();
 }
 
 /// What a gateway writes for bytes is determined by the bytes and by what its store has, and can be computed from them.

@@ -118,9 +118,9 @@ impl Indexing {
         ensures taken { IfOk result (λ taken. (taken ≤ length piece.now) × (0 < taken)) }
         ensures end { self.new.found.end ≡ self.old.found.end }
     {
-        tg_varint::spelling_laws();
-        tg_car::car_laws();
-        tg_cid::one_spelling();
+        tg_varint::laws::spelling_laws();
+        tg_car::laws::car_laws();
+        tg_cid::laws::one_spelling();
         let (taken, event) = self.reader.feed(piece)?;
         note(&mut self.found.places, event)?;
         Ok(taken)
@@ -131,8 +131,8 @@ impl Indexing {
         ensures { (fed : List ℕ) → IsAlong self.reader self.found.places.entries fed → length fed ≡ self.found.end → MatchResult result
             (λ found. IsFound (Some fed) found.places.entries found.end) (λ fault. HasPackCause fed fault) }
     {
-        tg_varint::spelling_laws();
-        tg_car::car_laws();
+        tg_varint::laws::spelling_laws();
+        tg_car::laws::car_laws();
         let mut reader = self.reader;
         reader.end()?;
         Ok(self.found)

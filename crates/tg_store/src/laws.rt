@@ -35,9 +35,9 @@ pub fn finished_packs<P: Pack>()
         → IsAttached content (store_of (block_at content) c.places) × ((fault : PackFault) → HasPackCause content fault → ⊥) }
     ensures same { (content : List ℕ) (s t : Store) (cid : CidParts) → IsAttached content s → IsAttached content t → s cid ≡ t cid }
 {
-    tg_varint::spelling_laws();
-    tg_car::car_laws();
-    tg_cid::one_spelling();
+    tg_varint::laws::spelling_laws();
+    tg_car::laws::car_laws();
+    tg_cid::laws::one_spelling();
     one_cause();
 }
 
@@ -48,7 +48,7 @@ pub fn one_cause()
     ensures one { (content : List ℕ) (f g : PackFault) → HasPackCause content f → HasPackCause content g → f ≡ g }
     ensures none { (content : List ℕ) (store : Store) (fault : PackFault) → IsAttached content store → HasPackCause content fault → ⊥ }
 {
-    tg_varint::spelling_laws();
-    tg_car::car_laws();
-    tg_cid::one_spelling();
+    tg_varint::laws::spelling_laws();
+    tg_car::laws::car_laws();
+    tg_cid::laws::one_spelling();
 }

@@ -4,7 +4,7 @@
 mod attach;
 mod fault;
 mod key;
-mod laws;
+pub mod laws;
 mod mem_store;
 mod pack_store;
 mod place;
@@ -12,6 +12,5 @@ mod reading;
 mod writing;
 
 pub use fault::{PackFault, PackRefused};
-pub use laws::{finished_packs, one_cause, pack_laws};
 pub use mem_store::MemStore;
 pub use pack_store::PackStore;

@@ -15,7 +15,7 @@ ghost use Rattle.tg_store.specs.PackLaws.{kept_joins, kept_rests, searched_joins
 use crate::attach::scan;
 use crate::fault::{PackFault, PackRefused};
 use crate::key::Key;
-use crate::laws::one_cause;
+use crate::laws;
 use crate::place::Place;
 use crate::reading::read_block;
 use crate::writing::add_section;
@@ -71,7 +71,7 @@ impl<P: Pack> PackStore<P> {
         ensures created { IfOk result (λ store. IsCreated P.pack pack store) }
         ensures refused { IfErr result (λ refused. IsNotCreated P.pack pack refused) }
     {
-        tg_varint::spelling_laws();
+        tg_varint::laws::spelling_laws();
         let mut pack = pack;
         let Ok(()) = pack.append(&UNFINISHED_HEADER) else {
             return Err(PackRefused {
@@ -100,8 +100,8 @@ impl<P: Pack> PackStore<P> {
         ensures finished { OnOk result (IsFinished P.pack self.old self.new root) }
         ensures failed { IfErr result (λ fault. IsNotFinished P.pack self.old self.new fault) }
     {
-        tg_varint::spelling_laws();
-        tg_car::car_laws();
+        tg_varint::laws::spelling_laws();
+        tg_car::laws::car_laws();
         let Ok(header) = header(self.alloc, &root) else {
             return Err(PackFault::OutOfMemory);
         };
@@ -125,7 +125,7 @@ impl<P: Pack> PackStore<P> {
         ensures given { IfSome (P.pack.content pack) (λ content. (fault : PackFault) → HasPackCause content fault
             → MatchResult result (λ _. ⊥) (λ refused. IsGivenFor fault refused.fault)) }
     {
-        one_cause();
+        laws::one_cause();
         let mut pack = pack;
         match scan(alloc, &mut pack) {
             Ok(found) => Ok(PackStore {

@@ -6,8 +6,6 @@ ghost use Rattle.tg_unixfs.specs.Computed.{unix_of};
 ghost use Rattle.tg_unixfs.specs.declared.Unix.{Unix};
 ghost use Rattle.tg_unixfs.specs.declared.UnixFault.{UnixFault};
 
-use tg_pbtable::table_laws;
-
 /// A text of bytes has just the data, or just the fault, that `unix_of` computes.
 pub fn computes()
     ensures data { (text : List ℕ) (unix : Unix) → All (λ b. b < 256) text
@@ -15,5 +13,5 @@ pub fn computes()
     ensures fault { (text : List ℕ) (fault : UnixFault) → All (λ b. b < 256) text
         → (unix_of text ≡ Err fault) ↔ HasUnixCause text fault }
 {
-    table_laws();
+    tg_pbtable::laws::table_laws();
 }

@@ -14,15 +14,15 @@ ghost use Rattle.tg_unixfs.specs.declared.Unix.{Unix};
 ghost use Rattle.tg_unixfs.specs.declared.UnixFault.{UnixFault};
 
 mod computed;
+pub mod laws;
 mod places;
 
-pub use computed::computes;
 pub use places::{UnixPlaces, places_of, size_at};
 use std::alloc::{AllocError, Global};
 use tg_bytes::{Bytes, List};
 use tg_pbtable::{
     PbFault, Place, Rule, Times, Wire, copied_bytes, put_bytes, put_number, size_of_bytes,
-    size_of_number, table_laws,
+    size_of_number,
 };
 use thiserror::Error;
 
@@ -177,7 +177,7 @@ pub fn encode(alloc: Global, unix: &Unix) -> Result<Bytes, AllocError>
     requires { IsUnix unix.now }
     ensures { IfOk result (λ text. CanonicalText unix.now text) }
 {
-    table_laws();
+    tg_pbtable::laws::table_laws();
     let mut text = Vec::with_capacity(alloc, size_of_text(unix))?;
     put_number(&mut text, 1, unix.kind)?;
     put_inline(&mut text, &unix.inline)?;
@@ -240,23 +240,9 @@ fn put_sizes(text: &mut Vec<u8>, sizes: &[u64]) -> Result<(), AllocError>
     ensures { (source : Items ℕ) → OnOk result (Puts (λ bytes. FieldTexts source (numbered 4 (as_numbers sizes.now)) bytes)
         text.old.items text.new.items) }
 {
-    table_laws();
+    tg_pbtable::laws::table_laws();
     for size in sizes {
         put_number(text, 4, *size)?;
     }
     Ok(())
-}
-
-/// Data has one canonical text.
-pub fn one_text()
-    ensures { (unix : Unix) (s t : Items ℕ) → CanonicalText unix s → CanonicalText unix t → s ≡ t }
-{
-    table_laws();
-}
-
-/// A text is of one data.
-pub fn one_data()
-    ensures { (a b : Unix) (text : Items ℕ) → UnixText a text → UnixText b text → a ≡ b }
-{
-    table_laws();
 }

@@ -11,7 +11,7 @@ ghost use Rattle.tg_unixfs.specs.declared.Unix.{Unix};
 ghost use Rattle.tg_unixfs.specs.declared.UnixFault.{UnixFault};
 
 use crate::{DATA, FANOUT, MURMUR, UnixFault};
-use tg_pbtable::{Field, FieldCursor, Order, Place, Value, field_at, table_laws};
+use tg_pbtable::{Field, FieldCursor, Order, Place, Value, field_at};
 
 /// UnixFS data without its blocksizes, of which the inline bytes lie at a place of the payload.
 ///
@@ -40,7 +40,7 @@ pub fn places_of(bytes: &[u8]) -> Result<UnixPlaces, UnixFault>
     ensures cause { IfErr result (λ e. HasUnixCause bytes.now e) }
     ensures given { (fault : UnixFault) → HasUnixCause bytes.now fault → result ≡ Err fault }
 {
-    table_laws();
+    tg_pbtable::laws::table_laws();
     let mut places = UnixPlaces {
         kind: 0,
         inline: None,
@@ -119,7 +119,7 @@ pub fn size_at(bytes: &[u8], at: usize) -> Option<(u64, usize)>
     ensures cursor { IfSome result (λ found. IsCursor bytes.now found.1) }
     ensures forward { IfSome result (λ found. (at < found.1) × (found.1 ≤ length bytes.now)) }
 {
-    table_laws();
+    tg_pbtable::laws::table_laws();
     let mut from = at;
     while let Ok((field, next)) = field_at(DATA, bytes, from) {
         if let Some(size) = size_of(&field) {

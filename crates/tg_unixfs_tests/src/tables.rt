@@ -6,9 +6,7 @@ use std::alloc::Global;
 use std::process::Abort;
 use std::test::Fail;
 use tg_dagpb::NODE;
-use tg_pbtable::{
-    Field, FieldCursor, Order, PbFault, Rule, Value, emit, field_at, scan, table_laws,
-};
+use tg_pbtable::{Field, FieldCursor, Order, PbFault, Rule, Value, emit, field_at, scan};
 use tg_unixfs::DATA;
 
 const fn number(number: u32, value: u64) -> Field {
@@ -153,7 +151,7 @@ const NODE_FAULTS: &[FaultRow] = &[
 
 #[test]
 fn faults_of_texts(rt: HostRuntime) -> Result<(), Fail> {
-    table_laws();
+    tg_pbtable::laws::table_laws();
     for (text, fault) in DATA_FAULTS {
         expect(&rt, rt.alloc(), DATA, Order::Ascending, text, Err(*fault))?;
     }
@@ -165,7 +163,7 @@ fn faults_of_texts(rt: HostRuntime) -> Result<(), Fail> {
 
 #[test]
 fn fields_of_texts(rt: HostRuntime) -> Result<(), Fail> {
-    table_laws();
+    tg_pbtable::laws::table_laws();
     let alloc = rt.alloc();
     let text = b"\x08\x05\x12\x02hi\x18\xac\x02\x20\x00\x20\x07";
     let whole = [
@@ -204,7 +202,7 @@ const NO_PLACES: &[(usize, PbFault)] = &[
 
 #[test]
 fn places(rt: HostRuntime) {
-    table_laws();
+    tg_pbtable::laws::table_laws();
     for (at, fault) in NO_PLACES {
         expect_at(&rt, DATA, PLACED, *at, Err(*fault));
     }
@@ -218,7 +216,7 @@ fn places(rt: HostRuntime) {
 // A cursor gives the fields one by one, and a fault again.
 #[test]
 fn a_cursor(rt: HostRuntime) -> Result<(), Fail> {
-    table_laws();
+    tg_pbtable::laws::table_laws();
     let text: &[u8] = b"\x08\x05\x08\x07";
     let mut cursor = FieldCursor::new();
     assert_eq!(rt;

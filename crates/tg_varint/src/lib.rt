@@ -4,11 +4,10 @@
 ghost use Rattle.std.specs.Prelude.{◌≡◌, ℕ, ◌-◌, ◌^◌, ◌<◌, ◌≤◌, ◌↔◌, List, ◌++◌, length, take, drop, replicate, IfOk, IsErrOf};
 ghost use Rattle.tg_varint.specs.Varint.{VarintSpelling, EndsInside, PassesNine, EndsInZero};
 
-mod laws;
+pub mod laws;
 #[cfg(test)]
 mod tests;
 
-pub use laws::spelling_laws;
 use thiserror::Error;
 
 // The place of the last byte of the longest spelling.

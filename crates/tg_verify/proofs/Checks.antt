@@ -2,11 +2,11 @@
 use Rattle.std.proofs.Common.{Err, List, None, Ok, Option, Result, Some, ap, inl, inr, refl, subst, sym, true, ℕ, ◌∙◌, ◌≡◌, ◌⊎◌}
 use Rattle.std.proofs.lemmas.Option.{same_Some}
 use Rattle.tg_cid.specs.Cid.{CidParts}
-use Rattle.tg_frames.specs.Left.{IsReadAs, LeftState, WantedAt, told_wanted}
-use Rattle.tg_frames.specs.PlaceTexts.{IsBlockHere, IsSizeFault}
-use Rattle.tg_frames.specs.SaidFaults.{either_said}
-use Rattle.tg_frames.specs.declared.position.Wanted.{Wanted}
-use Rattle.tg_frames.specs.declared.text.SizeFault.{SizeFault}
+use Rattle.tg_traversal.specs.Left.{IsReadAs, LeftState, WantedAt, told_wanted}
+use Rattle.tg_traversal.specs.PlaceTexts.{IsBlockHere, IsSizeFault}
+use Rattle.tg_traversal.specs.SaidFaults.{either_said}
+use Rattle.tg_traversal.specs.declared.position.Wanted.{Wanted}
+use Rattle.tg_traversal.specs.declared.text.SizeFault.{SizeFault}
 use Rattle.tg_model.specs.Computed.{read}
 use Rattle.tg_model.specs.LimitNumbers.{LimitNumbers}
 use Rattle.tg_model.specs.Placed.{StandsForKind}
@@ -14,7 +14,7 @@ use Rattle.tg_model.specs.Queries.{QueryParts}
 use Rattle.tg_model.specs.declared.fault.BlockFault.{BlockFault}
 use Rattle.tg_model.specs.declared.kinds.Kind.{Kind}
 use Rattle.tg_model.specs.declared.placed.PlacedKind.{PlacedKind}
-use Rattle.tg_traverse.specs.Tasks.{depth_of, fault_at, is_read_at, position_of}
+use Rattle.tg_traversal_laws.specs.Tasks.{depth_of, fault_at, is_read_at, position_of}
 use Rattle.tg_verify.specs.Refusals.{HasSectionCause, IsReadBlock, IsWantedBlock, refusal_of_block}
 use Rattle.tg_verify.specs.Steps.{IsCheckedAt, section_with}
 use Rattle.tg_verify.specs.declared.fault.Refusal.{Refusal}

@@ -1,13 +1,13 @@
 -- Once all sections that fit, or are in progress, were taken.
 use Rattle.std.proofs.Common.{◌≡◌, ◌++◌, ◌∷◌, ℕ, List, [], None, Option, Some, refl, sym, ap, ◌∙◌, append-nil}
 use Rattle.tg_cid.specs.Cid.{CidParts}
-use Rattle.tg_frames.specs.Left.{WantedAt, tasks_left, wanted_tasks}
+use Rattle.tg_traversal.specs.Left.{WantedAt, tasks_left, wanted_tasks}
 use Rattle.tg_model.specs.Dag.{Dag, Section}
 use Rattle.tg_model.specs.Fits.{Fits, IsInProgress, output_so_far}
 use Rattle.tg_model.specs.PathWalk.{Spot, TraversalEnd, gone, stopped, whole}
-use Rattle.tg_traverse.specs.Stages.{Given, up_to_next}
-use Rattle.tg_traverse.specs.Tasks.{Miss, Task, no_directory, no_entry, open_block, spot_of, stop_of, tasks_then}
-use Rattle.tg_traverse.specs.Verified.{VerifiedLaws, WantsAt, written_whole}
+use Rattle.tg_traversal_laws.specs.Stages.{Given, up_to_next}
+use Rattle.tg_traversal_laws.specs.Tasks.{Miss, Task, no_directory, no_entry, open_block, spot_of, stop_of, tasks_then}
+use Rattle.tg_traversal_laws.specs.Verified.{VerifiedLaws, WantsAt, written_whole}
 use Rattle.tg_verify.specs.State.{VerifierState}
 use Rattle.tg_verify.specs.Taken.{IsGoing, IsWrittenAt}
 

@@ -1,7 +1,7 @@
 -- What a verifier's answer says that no more sections come.
 use Rattle.std.proofs.Common.{Err, List, None, Ok, Option, Some, refl, subst, sym, ℕ, ◌≡◌}
 use Rattle.std.specs.Prelude.{MatchResult, Result, ⊤}
-use Rattle.tg_frames.specs.Left.{WantedAt}
+use Rattle.tg_traversal.specs.Left.{WantedAt}
 use Rattle.tg_model.specs.Dag.{Section}
 use Rattle.tg_verify.proofs.Opened.{going_through, going_up_to}
 use Rattle.tg_verify.proofs.Sections.{is_going, stands_by}

@@ -3,15 +3,15 @@ use Rattle.std.proofs.Common.{Err, List, None, Ok, Option, Some, [], ap, append-
 use Rattle.std.specs.Prelude.{MatchResult, Result}
 use Rattle.tg_cid.specs.Cid.{CidParts}
 use Rattle.tg_faults.specs.Faults.{Rose}
-use Rattle.tg_frames.specs.Left.{WantedAt, tasks_left, wanted_tasks}
+use Rattle.tg_traversal.specs.Left.{WantedAt, tasks_left, wanted_tasks}
 use Rattle.tg_model.specs.Dag.{Section}
 use Rattle.tg_model.specs.LimitNumbers.{LimitNumbers}
 use Rattle.tg_model.specs.Queries.{QueryParts}
 use Rattle.tg_streams.specs.Joining.{SinkJoins, put_nothing, put_put}
 use Rattle.tg_streams.specs.Streams.{Output, OutputQuiet, SinkMeaning, into}
-use Rattle.tg_traverse.specs.Stages.{nothing_given}
-use Rattle.tg_traverse.specs.Tasks.{Task, start}
-use Rattle.tg_traverse.specs.Verified.{VerifiedLaws}
+use Rattle.tg_traversal_laws.specs.Stages.{nothing_given}
+use Rattle.tg_traversal_laws.specs.Tasks.{Task, start}
+use Rattle.tg_traversal_laws.specs.Verified.{VerifiedLaws}
 use Rattle.tg_verify.proofs.Opened.{going_through, going_up_to}
 use Rattle.tg_verify.proofs.Sections.{is_going}
 use Rattle.tg_verify.specs.History.{AllEnd, HasPut, HasPutCause, HasWritten, StandsBy, StandsFor}

@@ -2,10 +2,10 @@
 use Rattle.std.proofs.Common.{◌≡◌, ◌⊎◌, ◌↔◌, ◌<◌, ℕ, true, All, Err, List, None, Ok, Option, Some, inl, inr, sym, ap, ◌∙◌, subst}
 use Rattle.std.specs.Prelude.{IfSome}
 use Rattle.tg_cid.specs.Cid.{CidParts}
-use Rattle.tg_frames.specs.FaultLaws.{fault_same}
-use Rattle.tg_frames.specs.Left.{WantedAt}
-use Rattle.tg_frames.specs.PlaceTexts.{IsOther, IsSizeFault, part_size, told_size}
-use Rattle.tg_frames.specs.declared.text.SizeFault.{SizeFault}
+use Rattle.tg_traversal.specs.FaultLaws.{fault_same}
+use Rattle.tg_traversal.specs.Left.{WantedAt}
+use Rattle.tg_traversal.specs.PlaceTexts.{IsOther, IsSizeFault, part_size, told_size}
+use Rattle.tg_traversal.specs.declared.text.SizeFault.{SizeFault}
 use Rattle.tg_model.specs.Computed.{read}
 use Rattle.tg_model.specs.Dag.{Section, total_of}
 use Rattle.tg_model.specs.LimitNumbers.{LimitNumbers}
@@ -15,8 +15,8 @@ use Rattle.tg_model.specs.Sound.{IsOfSize, Position, TellsSize, child, part, pos
 use Rattle.tg_model.specs.declared.fault.BlockFault.{BlockFault}
 use Rattle.tg_model.specs.declared.kinds.Kind.{Kind}
 use Rattle.tg_model.specs.declared.kinds.Kind.TheVariants.{Basic, File, Raw, Shard, Symlink}
-use Rattle.tg_traverse.specs.Openings.{IsReadAt}
-use Rattle.tg_traverse.specs.Tasks.{fault_at, is_read_at, position_of}
+use Rattle.tg_traversal_laws.specs.Openings.{IsReadAt}
+use Rattle.tg_traversal_laws.specs.Tasks.{fault_at, is_read_at, position_of}
 use Rattle.tg_verify.specs.Refusals.{IsBadBlock, IsMissized}
 
 -- of a block of bytes the kind is computed

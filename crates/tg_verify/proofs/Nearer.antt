@@ -3,11 +3,11 @@ use Rattle.std.proofs.Common.{Err, List, Ok, [], ap, append_assoc, refl, subst, 
 use Rattle.std.specs.Prelude.{Result}
 use Rattle.tg_cid.specs.Cid.{CidParts}
 use Rattle.tg_faults.specs.Faults.{Rose}
-use Rattle.tg_frames.specs.Left.{tasks_left}
+use Rattle.tg_traversal.specs.Left.{tasks_left}
 use Rattle.tg_model.specs.Texts.{Named}
 use Rattle.tg_streams.specs.Joining.{SinkJoins, put_nothing, put_put}
 use Rattle.tg_streams.specs.Streams.{Output, OutputQuiet, OutputRose, Put, SinkMeaning, into}
-use Rattle.tg_traverse.specs.Tasks.{Miss, Task, tasks_then, text_now}
+use Rattle.tg_traversal_laws.specs.Tasks.{Miss, Task, tasks_then, text_now}
 use Rattle.tg_verify.specs.State.{VerifierState}
 use Rattle.tg_verify.specs.Steps.{IsNearer, IsSettled, PutFrontOf, StopsThere, late_text, names_then, text_then}
 use Rattle.tg_verify.specs.declared.fault.Refusal.{Refusal}

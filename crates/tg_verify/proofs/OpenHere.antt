@@ -1,15 +1,15 @@
 -- The block at the wanted place, as it is opened.
 use Rattle.std.proofs.Common.{Err, List, None, Option, Some, [], append-nil, ap, arith, inr, refl, subst, sym, ℕ, ◌+◌, ◌++◌, ◌<◌, ◌^◌, ◌∙◌, ◌≡◌, ◌≤◌}
 use Rattle.tg_cid.specs.Cid.{CidParts}
-use Rattle.tg_frames.specs.Left.{IsHeldFor, IsReadHere, WantedAt}
-use Rattle.tg_frames.specs.PlaceTexts.{IsBlockHere}
+use Rattle.tg_traversal.specs.Left.{IsHeldFor, IsReadHere, WantedAt}
+use Rattle.tg_traversal.specs.PlaceTexts.{IsBlockHere}
 use Rattle.tg_model.specs.Dag.{Section}
 use Rattle.tg_model.specs.Placed.{StandsForKind}
 use Rattle.tg_model.specs.declared.kinds.Kind.{Kind}
 use Rattle.tg_model.specs.declared.placed.PlacedKind.{PlacedKind}
 use Rattle.tg_model.specs.declared.placed.PlacedKind.TheVariants as placed
 use Rattle.tg_streams.specs.Streams.{Output, OutputQuiet, Put}
-use Rattle.tg_traverse.specs.Tasks.{Task, depth_of, text_at}
+use Rattle.tg_traversal_laws.specs.Tasks.{Task, depth_of, text_at}
 use Rattle.tg_verify.proofs.Puts.{front_of}
 use Rattle.tg_verify.specs.State.{VerifierState}
 use Rattle.tg_verify.specs.Steps.{IsOpenedAt, IsPassingHere, PutEnds, text_of}

@@ -2,8 +2,8 @@
 use Rattle.std.proofs.Common.{All, List, None, Option, Some, [], length, map, refl, subst, sym, true, ap, ℕ, ◌+◌, ◌++◌, ◌<◌, ◌∙◌, ◌∷◌, ◌≡◌}
 use Rattle.std.specs.Prelude.{zero, suc}
 use Rattle.tg_cid.specs.Cid.{CidParts}
-use Rattle.tg_frames.specs.FaultLaws.{fault_same}
-use Rattle.tg_frames.specs.Left.{WantedAt, wanted_tasks}
+use Rattle.tg_traversal.specs.FaultLaws.{fault_same}
+use Rattle.tg_traversal.specs.Left.{WantedAt, wanted_tasks}
 use Rattle.tg_listing.specs.Listings.{named_entry}
 use Rattle.tg_model.specs.Dag.{Section, links_of}
 use Rattle.tg_model.specs.LimitNumbers.{LimitNumbers}
@@ -16,10 +16,10 @@ use Rattle.tg_model.specs.declared.kinds.Kind.{Kind}
 use Rattle.tg_model.specs.declared.placed.PlacedKind.{PlacedKind}
 use Rattle.tg_model.specs.declared.queries.Scope.{Scope}
 use Rattle.tg_model.specs.declared.queries.Scope.TheVariants as scopes
-use Rattle.tg_traverse.specs.Openings.{IsReadAt}
-use Rattle.tg_traverse.specs.Stages.{Given}
-use Rattle.tg_traverse.specs.Tasks.{Miss, Task, Want, child_then, children_tasks, entries_then, give_entries, give_text, link_tasks, no_directory, no_entry, node_tasks, node_want, open_block, path_want, position_below, position_of, segment_want, step_tasks, stop_at, tasks_of, tasks_then, terminal_tasks, terminal_want, text_at, text_last}
-use Rattle.tg_traverse.specs.Verified.{Verified, VerifiedLaws}
+use Rattle.tg_traversal_laws.specs.Openings.{IsReadAt}
+use Rattle.tg_traversal_laws.specs.Stages.{Given}
+use Rattle.tg_traversal_laws.specs.Tasks.{Miss, Task, Want, child_then, children_tasks, entries_then, give_entries, give_text, link_tasks, no_directory, no_entry, node_tasks, node_want, open_block, path_want, position_below, position_of, segment_want, step_tasks, stop_at, tasks_of, tasks_then, terminal_tasks, terminal_want, text_at, text_last}
+use Rattle.tg_traversal_laws.specs.Verified.{Verified, VerifiedLaws}
 use Rattle.tg_verify.proofs.Misread.{Computes}
 use Rattle.tg_verify.specs.Refusals.{IsReadBlock}
 use Rattle.tg_verify.specs.State.{VerifierState, listed_of}

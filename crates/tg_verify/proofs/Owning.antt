@@ -12,10 +12,10 @@ use Rattle.tg_model.specs.PathWalk as walk
 use Rattle.tg_model.specs.Queries.{QueryParts}
 use Rattle.tg_model.specs.Sound.{IsSound}
 use Rattle.tg_model.specs.Traversal.{block_list, opened_list, traversal}
-use Rattle.tg_traverse.specs.BesideSound.{BesideLaws}
-use Rattle.tg_traverse.specs.Stages.{Given}
-use Rattle.tg_traverse.specs.Tasks.{Task}
-use Rattle.tg_traverse.specs.Verified.{Verified, VerifiedLaws, WantsNext}
+use Rattle.tg_traversal_laws.specs.BesideSound.{BesideLaws}
+use Rattle.tg_traversal_laws.specs.Stages.{Given}
+use Rattle.tg_traversal_laws.specs.Tasks.{Task}
+use Rattle.tg_traversal_laws.specs.Verified.{Verified, VerifiedLaws, WantsNext}
 use Rattle.tg_verify.proofs.Endings.{fit_ends, not_whole}
 use Rattle.tg_verify.proofs.Misread.{Computes}
 use Rattle.tg_verify.proofs.Passing.{is_own_fault}

@@ -2,7 +2,7 @@
 use Rattle.std.proofs.Common.{◌≡◌, ◌<◌, ◌≤◌, ◌++◌, ◌∷◌, ℕ, Bool, true, false, All, List, [], length, map, refl, sym, ap, ◌∙◌, append_assoc, subst, arith}
 use Rattle.tg_cid.specs.Cid.{CidParts}
 use Rattle.tg_cid.specs.Names.{Names}
-use Rattle.tg_frames.specs.Left.{WantedAt}
+use Rattle.tg_traversal.specs.Left.{WantedAt}
 use Rattle.tg_model.specs.Counts.{greatest}
 use Rattle.tg_model.specs.Dag.{Dag, Section, root_cid}
 use Rattle.tg_model.specs.LimitNumbers.{LimitNumbers}
@@ -12,11 +12,11 @@ use Rattle.tg_model.specs.Sound.{IsChecked}
 use Rattle.tg_model.specs.Traversal.{Place, Traversal, block_list, opened_list, traversal}
 use Rattle.tg_model.specs.declared.kinds.Kind.{Kind}
 use Rattle.tg_model.specs.declared.limits.LimitKind.TheVariants as kinds
-use Rattle.tg_traverse.specs.BesideSound.{BesideLaws, IsBeside, Passes, PassesIf}
-use Rattle.tg_traverse.specs.Openings.{IsReadAt, opened_by}
-use Rattle.tg_traverse.specs.Stages.{Given, place_of, tasks_give, with_place}
-use Rattle.tg_traverse.specs.Tasks.{Miss, Task, Want, depth_of, is_read_at, no_directory, no_entry, open_block, position_of, stop_of}
-use Rattle.tg_traverse.specs.Verified.{RepeatsAreSent, Verified, WantsNext}
+use Rattle.tg_traversal_laws.specs.BesideSound.{BesideLaws, IsBeside, Passes, PassesIf}
+use Rattle.tg_traversal_laws.specs.Openings.{IsReadAt, opened_by}
+use Rattle.tg_traversal_laws.specs.Stages.{Given, place_of, tasks_give, with_place}
+use Rattle.tg_traversal_laws.specs.Tasks.{Miss, Task, Want, depth_of, is_read_at, no_directory, no_entry, open_block, position_of, stop_of}
+use Rattle.tg_traversal_laws.specs.Verified.{RepeatsAreSent, Verified, WantsNext}
 use Rattle.tg_verify.proofs.Fronts.{greatest_at, same_front}
 use Rattle.tg_verify.proofs.Misread.{Computes, bad_isnt_read, missized_isnt_read}
 use Rattle.tg_verify.specs.Laws.{IsOwnFault, IsWithinLimits}

@@ -2,7 +2,7 @@
 use Rattle.std.proofs.Common.{◌≡◌, ◌⊎◌, ◌<◌, ◌≤◌, ◌++◌, ◌∷◌, ℕ, List, [], inl, inr, ⊎_elim, map, sym, ap, subst, arith}
 use Rattle.tg_cid.specs.Cid.{CidParts}
 use Rattle.tg_cid.specs.Names.{Names}
-use Rattle.tg_frames.specs.Left.{WantedAt}
+use Rattle.tg_traversal.specs.Left.{WantedAt}
 use Rattle.tg_model.specs.Answer.{answer}
 use Rattle.tg_model.specs.Counts.{counts, greatest}
 use Rattle.tg_model.specs.Dag.{Dag, Section, root_cid}
@@ -13,11 +13,11 @@ use Rattle.tg_model.specs.Sound.{IsSound}
 use Rattle.tg_model.specs.Traversal.{Place, traversal}
 use Rattle.tg_model.specs.declared.kinds.Kind.{Kind}
 use Rattle.tg_model.specs.declared.limits.LimitKind.TheVariants as kinds
-use Rattle.tg_traverse.specs.BesideSound.{BesideLaws, IsNext}
-use Rattle.tg_traverse.specs.Openings.{IsReadAt}
-use Rattle.tg_traverse.specs.Stages.{place_of}
-use Rattle.tg_traverse.specs.Tasks.{depth_of, no_directory, no_entry, open_block, position_of}
-use Rattle.tg_traverse.specs.Verified.{Verified, VerifiedLaws}
+use Rattle.tg_traversal_laws.specs.BesideSound.{BesideLaws, IsNext}
+use Rattle.tg_traversal_laws.specs.Openings.{IsReadAt}
+use Rattle.tg_traversal_laws.specs.Stages.{place_of}
+use Rattle.tg_traversal_laws.specs.Tasks.{depth_of, no_directory, no_entry, open_block, position_of}
+use Rattle.tg_traversal_laws.specs.Verified.{Verified, VerifiedLaws}
 use Rattle.tg_verify.proofs.Fronts.{greatest_at, or_pair_more, pair_more}
 use Rattle.tg_verify.proofs.Misread.{Computes, bad_isnt_read, missized_isnt_read}
 use Rattle.tg_verify.proofs.Shown.{PeerLaws, answer_front, no_directory_says, no_entry_says, nowhere_front, through_sound, up_to_sound, written_front}

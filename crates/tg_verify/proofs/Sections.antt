@@ -1,12 +1,12 @@
 -- What a verifier's answer to a section says.
 use Rattle.std.proofs.Common.{Err, List, None, Ok, Option, Some, refl, subst, sym, ℕ, ◌++◌, ◌≡◌, ◌≢◌}
 use Rattle.std.specs.Prelude.{IfErr, IfOk, MatchResult, Result}
-use Rattle.tg_frames.specs.Left.{WantedAt}
+use Rattle.tg_traversal.specs.Left.{WantedAt}
 use Rattle.tg_model.specs.Dag.{Section}
 use Rattle.tg_model.specs.LimitNumbers.{LimitNumbers}
 use Rattle.tg_model.specs.Queries.{QueryParts}
 use Rattle.tg_streams.specs.Streams.{Output}
-use Rattle.tg_traverse.specs.Tasks.{no_directory, no_entry}
+use Rattle.tg_traversal_laws.specs.Tasks.{no_directory, no_entry}
 use Rattle.tg_verify.proofs.Opened.{going_through, going_up_to}
 use Rattle.tg_verify.specs.History.{HasTaken, HasWritten, IsProgress, ShowsFor, StandsAfter, StandsBy, StandsFor}
 use Rattle.tg_verify.specs.Laws.{AnswerLaws, IsOwnFault}

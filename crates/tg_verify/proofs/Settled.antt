@@ -3,7 +3,7 @@ use Rattle.std.proofs.Common.{Err, List, None, Ok, Option, Some, [], ap, append-
 use Rattle.std.proofs.lemmas.List.{map-append}
 use Rattle.std.specs.Prelude.{Result}
 use Rattle.tg_cid.specs.Cid.{CidParts}
-use Rattle.tg_frames.specs.Left.{LeftState, WantedAt, tasks_left, wanted_tasks}
+use Rattle.tg_traversal.specs.Left.{LeftState, WantedAt, tasks_left, wanted_tasks}
 use Rattle.tg_listing.specs.Listings.{named_entry}
 use Rattle.tg_model.specs.Dag.{Section}
 use Rattle.tg_model.specs.Queries.{QueryParts}
@@ -14,9 +14,9 @@ use Rattle.tg_model.specs.declared.queries.Scope.{Scope}
 use Rattle.tg_model.specs.declared.queries.Scope.TheVariants as scopes
 use Rattle.tg_streams.specs.Joining.{SinkJoins, put_put}
 use Rattle.tg_streams.specs.Streams.{Output, Put, SinkMeaning, into}
-use Rattle.tg_traverse.specs.Stages.{Given, up_to_next}
-use Rattle.tg_traverse.specs.Tasks.{Miss, Task, entries_now, no_directory, no_entry, open_block, stop_at, tasks_then, text_now}
-use Rattle.tg_traverse.specs.Verified.{Verified, VerifiedLaws, listing_at_end, written_whole}
+use Rattle.tg_traversal_laws.specs.Stages.{Given, up_to_next}
+use Rattle.tg_traversal_laws.specs.Tasks.{Miss, Task, entries_now, no_directory, no_entry, open_block, stop_at, tasks_then, text_now}
+use Rattle.tg_traversal_laws.specs.Verified.{Verified, VerifiedLaws, listing_at_end, written_whole}
 use Rattle.tg_verify.proofs.Opened.{IsTakenUpTo, Leads, leads_nowhere, leads_on, no_stop_then}
 use Rattle.tg_verify.specs.History.{HasPutCause, HasTaken}
 use Rattle.tg_verify.specs.State.{VerifierState, count_of, listed_of}

@@ -1,8 +1,8 @@
 -- What was taken of a query's sections, what is written for them, and both beside a sound DAG.
 use Rattle.std.proofs.Common.{◌≡◌, ◌≢◌, ◌⊎◌, ◌++◌, ◌∷◌, ℕ, Bool, Contains, List, [], Some, inl, inr, ⊎_elim, refl, sym, true, ap, ◌∙◌, subst}
 use Rattle.tg_cid.specs.Cid.{CidParts}
-use Rattle.tg_frames.specs.Left.{WantedAt}
-use Rattle.tg_laws.specs.PartialDags.{WriteFronts}
+use Rattle.tg_traversal.specs.Left.{WantedAt}
+use Rattle.tg_model_laws.specs.PartialDags.{WriteFronts}
 use Rattle.tg_model.specs.Answer.{answer}
 use Rattle.tg_model.specs.Dag.{Dag, Section, blocks, root_cid}
 use Rattle.tg_model.specs.Ends.{StopsAlike}
@@ -13,9 +13,9 @@ use Rattle.tg_model.specs.PathWalk.{Spot, not_folder, not_there, stopped}
 use Rattle.tg_model.specs.Queries.{QueryParts}
 use Rattle.tg_model.specs.Sound.{IsSound}
 use Rattle.tg_model.specs.Traversal.{Traversal, block_list, traversal}
-use Rattle.tg_traverse.specs.Stages.{Given, up_to_next}
-use Rattle.tg_traverse.specs.Tasks.{Miss, Task, no_directory, no_entry, spot_of, tasks_then, text_now}
-use Rattle.tg_traverse.specs.Verified.{GoesOn, IsAccepted, LeadsNowhere, Then, Verified, VerifiedLaws, listing_at_end, then_block, then_none, then_stop, written_whole}
+use Rattle.tg_traversal_laws.specs.Stages.{Given, up_to_next}
+use Rattle.tg_traversal_laws.specs.Tasks.{Miss, Task, no_directory, no_entry, spot_of, tasks_then, text_now}
+use Rattle.tg_traversal_laws.specs.Verified.{GoesOn, IsAccepted, LeadsNowhere, Then, Verified, VerifiedLaws, listing_at_end, then_block, then_none, then_stop, written_whole}
 use Rattle.tg_verify.proofs.Fronts.{front_of_front, whole_is_front}
 use Rattle.tg_verify.specs.Laws.{IsFitOf, IsNowhereOf, IsProgressOf}
 use Rattle.tg_verify.specs.Sound.{IsItsAnswer, IsItsFront}

@@ -1,16 +1,16 @@
 -- A verifier before its first section.
 use Rattle.std.proofs.Common.{List, Option, Some, [], ap, map, refl, subst, sym, true, ◌++◌, ◌∙◌, ◌∷◌, ◌≡◌}
 use Rattle.tg_cid.specs.Cid.{CidParts}
-use Rattle.tg_frames.specs.Left.{WantedAt, tasks_left, told_wanted, wanted_tasks}
-use Rattle.tg_frames.specs.declared.position.Wanted.{Wanted}
+use Rattle.tg_traversal.specs.Left.{WantedAt, tasks_left, told_wanted, wanted_tasks}
+use Rattle.tg_traversal.specs.declared.position.Wanted.{Wanted}
 use Rattle.tg_listing.specs.Listings.{named_entry}
 use Rattle.tg_model.specs.Queries.{QueryParts}
 use Rattle.tg_model.specs.declared.kinds.Entry.{Entry}
 use Rattle.tg_model.specs.declared.queries.Scope.{Scope}
 use Rattle.tg_model.specs.declared.queries.Scope.TheVariants as scopes
-use Rattle.tg_traverse.specs.Stages.{nothing_given}
-use Rattle.tg_traverse.specs.Tasks.{Task, start}
-use Rattle.tg_traverse.specs.Verified.{Verified, VerifiedLaws}
+use Rattle.tg_traversal_laws.specs.Stages.{nothing_given}
+use Rattle.tg_traversal_laws.specs.Tasks.{Task, start}
+use Rattle.tg_traversal_laws.specs.Verified.{Verified, VerifiedLaws}
 use Rattle.tg_verify.proofs.Checks.{told_at}
 use Rattle.tg_verify.specs.State.{VerifierState, listed_of}
 use Rattle.tg_verify.specs.Taken.{HasNoStop, IsGoing, IsWrittenAt}

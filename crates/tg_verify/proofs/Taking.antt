@@ -1,7 +1,7 @@
 -- A section that is taken, or refused before anything was put.
 use Rattle.std.proofs.Common.{All, Err, List, None, Ok, Option, Some, [], append-nil, arith, inl, length-append, refl, subst, sym, ℕ, ◌+◌, ◌-◌, ◌++◌, ◌<◌, ◌^◌, ◌∷◌, ◌≡◌}
 use Rattle.std.specs.Prelude.{Result, min}
-use Rattle.tg_frames.specs.Left.{WantedAt}
+use Rattle.tg_traversal.specs.Left.{WantedAt}
 use Rattle.tg_model.specs.Dag.{Section}
 use Rattle.tg_model.specs.declared.kinds.Kind.{Kind}
 use Rattle.tg_model.specs.declared.placed.PlacedKind.{PlacedKind}

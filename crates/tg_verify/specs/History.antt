@@ -1,12 +1,12 @@
 -- What a verifier stands for: the sections that it received and what it wrote for them.
 use Rattle.std.specs.Prelude.{Err, List, None, Ok, Option, Result, Some, [], ⊤, ℕ, ◌++◌, ◌≡◌, ◌≢◌}
 use Rattle.tg_cid.specs.Cid.{CidParts}
-use Rattle.tg_frames.specs.Left.{WantedAt}
+use Rattle.tg_traversal.specs.Left.{WantedAt}
 use Rattle.tg_model.specs.Dag.{Section}
 use Rattle.tg_model.specs.LimitNumbers.{LimitNumbers}
 use Rattle.tg_model.specs.Queries.{QueryParts}
 use Rattle.tg_streams.specs.Streams.{Output, OutputQuiet, OutputRose, Put}
-use Rattle.tg_traverse.specs.Tasks.{no_directory, no_entry, spot_of}
+use Rattle.tg_traversal_laws.specs.Tasks.{no_directory, no_entry, spot_of}
 use Rattle.tg_verify.specs.Laws.{IsFitOf, IsNowhereOf, IsProgressOf}
 use Rattle.tg_verify.specs.Refusals.{HasRefused}
 use Rattle.tg_verify.specs.Sound.{AnswersFor, ForEachSound}

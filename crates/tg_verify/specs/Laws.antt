@@ -1,6 +1,6 @@
 -- What follows from what a verifier stands for.
 use Rattle.std.specs.Prelude.{List, None, Some, [], ⊤, ℕ, ◌++◌, ◌∷◌, ◌≡◌, ◌≤◌}
-use Rattle.tg_frames.specs.Left.{WantedAt}
+use Rattle.tg_traversal.specs.Left.{WantedAt}
 use Rattle.tg_model.specs.Counts.{counts}
 use Rattle.tg_model.specs.Dag.{Dag, Section, root_cid}
 use Rattle.tg_model.specs.Fits.{Fits, IsInProgress, IsOpenedFor, output_so_far}
@@ -9,7 +9,7 @@ use Rattle.tg_model.specs.PathWalk.{Spot, stopped}
 use Rattle.tg_model.specs.Queries.{QueryParts}
 use Rattle.tg_model.specs.Sound.{IsSound}
 use Rattle.tg_model.specs.Traversal.{block_list, traversal}
-use Rattle.tg_traverse.specs.Tasks.{Miss, spot_of, stop_of}
+use Rattle.tg_traversal_laws.specs.Tasks.{Miss, spot_of, stop_of}
 use Rattle.tg_verify.specs.Refusals.{HasRefused}
 use Rattle.tg_verify.specs.Sound.{IsItsAnswer, IsItsFront, SaysOfDag}
 use Rattle.tg_verify.specs.State.{VerifierState}

@@ -2,10 +2,10 @@
 use Rattle.std.specs.Prelude.{All, Err, List, None, Ok, Some, [], length, true, ⊤, ℕ, ◌++◌, ◌<◌, ◌∷◌, ◌≡◌, ◌≢◌, ◌≤◌, ◌⊎◌}
 use Rattle.tg_cid.specs.Cid.{CidParts}
 use Rattle.tg_cid.specs.Names.{Names}
-use Rattle.tg_frames.specs.Left.{WantedAt}
-use Rattle.tg_frames.specs.PlaceTexts.{IsSizeFault}
-use Rattle.tg_frames.specs.SaidFaults.{fault_said}
-use Rattle.tg_frames.specs.declared.text.SizeFault.{SizeFault}
+use Rattle.tg_traversal.specs.Left.{WantedAt}
+use Rattle.tg_traversal.specs.PlaceTexts.{IsSizeFault}
+use Rattle.tg_traversal.specs.SaidFaults.{fault_said}
+use Rattle.tg_traversal.specs.declared.text.SizeFault.{SizeFault}
 use Rattle.tg_model.specs.Computed.{read}
 use Rattle.tg_model.specs.Dag.{Section}
 use Rattle.tg_model.specs.LimitNumbers.{LimitNumbers}
@@ -13,7 +13,7 @@ use Rattle.tg_model.specs.Queries.{QueryParts}
 use Rattle.tg_model.specs.declared.fault.BlockFault.{BlockFault}
 use Rattle.tg_model.specs.declared.kinds.Kind.{Kind}
 use Rattle.tg_model.specs.declared.limits.LimitKind.TheVariants as kinds
-use Rattle.tg_traverse.specs.Tasks.{depth_of, fault_at, is_read_at, no_directory, no_entry, position_of}
+use Rattle.tg_traversal_laws.specs.Tasks.{depth_of, fault_at, is_read_at, no_directory, no_entry, position_of}
 use Rattle.tg_verify.specs.State.{count_of}
 use Rattle.tg_verify.specs.Taken.{IsFrontWritten, IsNowhere, IsThrough, IsUpTo}
 use Rattle.tg_verify.specs.declared.fault.Refusal.{Refusal}

@@ -1,7 +1,7 @@
 -- What contracts see of a verifier.
 use Rattle.std.specs.Prelude.{List, None, Option, Some, [], length, map, min, ℕ, ◌-◌, ◌^◌}
 use Rattle.tg_cid.specs.Cid.{CidParts}
-use Rattle.tg_frames.specs.Left.{LeftState, WantedAt}
+use Rattle.tg_traversal.specs.Left.{LeftState, WantedAt}
 use Rattle.tg_model.specs.Dag.{Section}
 use Rattle.tg_model.specs.LimitNumbers.{LimitNumbers}
 use Rattle.tg_model.specs.Texts.{Named}

@@ -1,10 +1,10 @@
 -- How a section is taken: it is checked, its text is put and its block opened, and then what comes before the next place is given.
 use Rattle.std.specs.Prelude.{Err, List, None, Ok, Option, Result, Some, [], false, length, map, ⊤, ℕ, ◌++◌, ◌<◌, ◌∷◌, ◌≡◌}
 use Rattle.tg_cid.specs.Cid.{CidParts}
-use Rattle.tg_frames.specs.Left.{WantedAt, tasks_left}
-use Rattle.tg_frames.specs.PlaceTexts.{IsSizeFault}
-use Rattle.tg_frames.specs.declared.position.Miss.{Miss as FrameMiss}
-use Rattle.tg_frames.specs.declared.position.Miss.TheVariants as misses
+use Rattle.tg_traversal.specs.Left.{WantedAt, tasks_left}
+use Rattle.tg_traversal.specs.PlaceTexts.{IsSizeFault}
+use Rattle.tg_traversal.specs.declared.position.Miss.{Miss as FrameMiss}
+use Rattle.tg_traversal.specs.declared.position.Miss.TheVariants as misses
 use Rattle.tg_listing.specs.Listings.{named_entry}
 use Rattle.tg_listing.specs.declared.fault.ListingFault.{ListingFault}
 use Rattle.tg_listing.specs.declared.fault.ListingFault.TheVariants as listings
@@ -19,7 +19,7 @@ use Rattle.tg_model.specs.declared.placed.PlacedKind.{PlacedKind}
 use Rattle.tg_model.specs.declared.queries.Scope.TheVariants as scopes
 use Rattle.tg_model.specs.declared.queries.Scope.{Scope}
 use Rattle.tg_streams.specs.Streams.{Output, OutputQuiet, OutputRose, Put, PutFront}
-use Rattle.tg_traverse.specs.Tasks.{Miss, Task, entries_now, is_read_at, no_directory, no_entry, position_of, stop_at, tasks_of, tasks_then, text_at, text_now}
+use Rattle.tg_traversal_laws.specs.Tasks.{Miss, Task, entries_now, is_read_at, no_directory, no_entry, position_of, stop_at, tasks_of, tasks_then, text_at, text_now}
 use Rattle.tg_verify.specs.Refusals.{HasSectionCause, IsReadBlock, IsWantedBlock}
 use Rattle.tg_verify.specs.State.{VerifierState, listed_of}
 use Rattle.tg_verify.specs.declared.fault.Refusal.{Refusal}

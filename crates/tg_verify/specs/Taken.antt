@@ -1,13 +1,13 @@
 -- What was taken of a query's sections, and what is written for them.
 use Rattle.std.specs.Prelude.{List, None, Option, Some, [], map, true, ⊤, ℕ, ◌++◌, ◌∷◌, ◌≡◌}
 use Rattle.tg_cid.specs.Cid.{CidParts}
-use Rattle.tg_frames.specs.Left.{WantedAt, tasks_left}
+use Rattle.tg_traversal.specs.Left.{WantedAt, tasks_left}
 use Rattle.tg_listing.specs.Listings.{named_entry}
 use Rattle.tg_model.specs.Dag.{Section}
 use Rattle.tg_model.specs.Queries.{QueryParts}
-use Rattle.tg_traverse.specs.Stages.{Given}
-use Rattle.tg_traverse.specs.Tasks.{Miss, Task, give_entries, give_text, open_block, stop_at}
-use Rattle.tg_traverse.specs.Verified.{Verified, written_whole}
+use Rattle.tg_traversal_laws.specs.Stages.{Given}
+use Rattle.tg_traversal_laws.specs.Tasks.{Miss, Task, give_entries, give_text, open_block, stop_at}
+use Rattle.tg_traversal_laws.specs.Verified.{Verified, written_whole}
 use Rattle.tg_verify.specs.State.{VerifierState, count_of, listed_of}
 
 -- these sections were taken, this is written for them, and a block is wanted here

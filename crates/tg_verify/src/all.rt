@@ -10,7 +10,6 @@ use tg_bytes::{Bytes, List};
 use tg_cid::Cid;
 use tg_model::{Limits, Query};
 use tg_streams::Sink;
-use tg_traverse::verified_sections;
 
 /// Verifies the sections of a query with repeats, from the first one on, and puts what they say. It answers the CID of the block that is
 /// wanted behind them, or none where they are all that the query asks for. Each block is copied.
@@ -25,7 +24,7 @@ pub fn verify_all<S: Sink>(
 ) -> Result<Option<Cid>, Refusal>
     ensures { query.now.dups ≡ true → AllEnd query.now limits (map section_of_pair sections.now) (into S.sink out.old out.new) result }
 {
-    verified_sections();
+    tg_traversal_laws::verified_sections();
     let mut verifier = Verifier::new(alloc, query, limits)?;
     for (cid, block) in sections.as_slice() {
         let block = Bytes::of(alloc, block.as_slice())?;

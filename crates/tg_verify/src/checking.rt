@@ -1,7 +1,7 @@
 //! The checks of a section.
 ghost use Rattle.std.specs.Prelude.{◌≡◌, ◌<◌, All, Err, None, Some, true};
-ghost use Rattle.tg_frames.specs.Left.{WantedAt};
-ghost use Rattle.tg_traverse.specs.Tasks.{is_read_at};
+ghost use Rattle.tg_traversal.specs.Left.{WantedAt};
+ghost use Rattle.tg_traversal_laws.specs.Tasks.{is_read_at};
 ghost use Rattle.tg_verify.specs.Refusals.{IsWantedBlock, refusal_of_block};
 ghost use Rattle.tg_verify.specs.Steps.{IsCheckedAt, section_with};
 

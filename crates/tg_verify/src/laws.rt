@@ -2,10 +2,6 @@
 ghost use Rattle.tg_verify.specs.Laws.{AnswerLaws};
 ghost use Rattle.tg_verify.specs.Own.{OwnLaws};
 
-use tg_laws::{against_every_peer, own_sections, paths, traversals};
-use tg_model::readings;
-use tg_traverse::{beside_dags, verified_sections};
-
 /// What follows from what a verifier stands for: the sections are in progress, or fit, and their text is written; beside each sound DAG
 /// with the query's root it is the DAG's answer, or a front of it, or a received block and one of the DAG are different bytes with one
 /// SHA-256; and sections that fit, or are in progress, are taken. A verifier that goes on is up to the wanted block, or through where
@@ -15,10 +11,10 @@ use tg_traverse::{beside_dags, verified_sections};
 pub fn verified_answers()
     ensures { AnswerLaws }
 {
-    readings();
-    against_every_peer();
-    beside_dags();
-    verified_sections();
+    tg_model::laws::readings();
+    tg_model_laws::against_every_peer();
+    tg_traversal_laws::beside_dags();
+    tg_traversal_laws::verified_sections();
 }
 
 /// The sections of a sound DAG's own traversal, where its query has an answer, are taken one by one, and what is then written is the
@@ -28,10 +24,10 @@ pub fn verified_answers()
 pub fn own_sections_taken()
     ensures { OwnLaws }
 {
-    readings();
-    paths();
-    traversals();
-    own_sections();
-    beside_dags();
-    verified_sections();
+    tg_model::laws::readings();
+    tg_model_laws::paths();
+    tg_model_laws::traversals();
+    tg_model_laws::own_sections();
+    tg_traversal_laws::beside_dags();
+    tg_traversal_laws::verified_sections();
 }

@@ -4,11 +4,10 @@
 mod all;
 mod checking;
 mod fault;
-mod laws;
+pub mod laws;
 mod settling;
 mod verifier;
 
 pub use all::verify_all;
 pub use fault::Refusal;
-pub use laws::{own_sections_taken, verified_answers};
 pub use verifier::{Progress, Verifier};

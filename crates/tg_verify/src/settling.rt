@@ -9,10 +9,10 @@ use crate::fault::Refusal;
 use crate::verifier::{Progress, Verifier, put_from};
 use std::mem::replace;
 use tg_bytes::List;
-use tg_frames::{Miss, Next};
 use tg_listing::put_listing;
 use tg_model::{Entry, Scope};
 use tg_streams::Sink;
+use tg_traversal::{Miss, Next};
 
 impl Verifier {
     /// Gives what comes before the next place: ends of lines are put, entries of a listing are kept. Where no place is left, the listing is

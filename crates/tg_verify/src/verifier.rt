@@ -1,6 +1,6 @@
 //! A verifier that is handed a query's sections one by one.
 ghost use Rattle.std.specs.Prelude.{◌≡◌, ◌++◌, ◌∷◌, [], ℕ, List as Items, None, Ok, Option, Some, IfErr, IfOk, MatchResult, OnErr, OnOk, true};
-ghost use Rattle.tg_frames.specs.Left.{WantedAt};
+ghost use Rattle.tg_traversal.specs.Left.{WantedAt};
 ghost use Rattle.tg_model.specs.Dag.{Dag, Section};
 ghost use Rattle.tg_model.specs.Fits.{Fits, IsInProgress};
 ghost use Rattle.tg_model.specs.PathWalk.{Spot};
@@ -15,15 +15,14 @@ ghost use Rattle.tg_verify.specs.Taken.{IsGoing};
 
 use crate::checking::are_bytes;
 use crate::fault::Refusal;
-use crate::laws::verified_answers;
+use crate::laws;
 use std::alloc::{AllocError, Global};
 use std::marker::Model;
 use tg_bytes::{Bytes, List};
 use tg_cid::Cid;
-use tg_frames::Frames;
-use tg_model::{Entry, LimitKind, Limits, PlacedKind, Query, Scope, readings};
+use tg_model::{Entry, LimitKind, Limits, PlacedKind, Query, Scope};
 use tg_streams::{Sink, put_pieces};
-use tg_traverse::verified_sections;
+use tg_traversal::Frames;
 
 /// Whether a verifier wants more sections.
 #[derive(Clone, Copy, Debug, PartialEq, Eq)]
@@ -73,7 +72,7 @@ impl Verifier {
         ensures wanted { IfOk result (λ v. next_cid v.refused v.left.wanted ≡ Some query.now.root) }
         ensures stands { IfOk result (λ v. query.now.dups ≡ true → StandsFor v [] []) }
     {
-        verified_sections();
+        tg_traversal_laws::verified_sections();
         Ok(Verifier {
             alloc,
             frames: Frames::new(alloc, query)?,
@@ -134,7 +133,7 @@ impl Verifier {
             → (result ≡ Err fault) × (self.new ≡ self.old) × (out.new ≡ out.old) }
         ensures refused { MatchResult result (λ _. self.new.refused ≡ None) (λ fault. self.new.refused ≡ Some fault) }
     {
-        verified_answers();
+        laws::verified_answers();
         if let Some(fault) = self.refused {
             return Err(fault);
         }
@@ -162,7 +161,7 @@ impl Verifier {
         ensures again { (fault : Refusal) → self.old.refused ≡ Some fault → (result ≡ Err fault) × (self.new ≡ self.old) }
         ensures refused { MatchResult result (λ _. self.new.refused ≡ None) (λ fault. self.new.refused ≡ Some fault) }
     {
-        verified_answers();
+        laws::verified_answers();
         if let Some(fault) = self.refused {
             return Err(fault);
         }
@@ -195,8 +194,8 @@ impl Verifier {
         ensures progress { IfOk result (λ progress. IsProgress progress self.new) }
         ensures cause { HasPutCause result (into S.sink out.old out.new) }
     {
-        readings();
-        verified_sections();
+        tg_model::laws::readings();
+        tg_traversal_laws::verified_sections();
         are_bytes(block.as_slice());
         let found = self.checked(&cid, block.as_slice())?;
         self.open(found, block, out)?;

@@ -3,7 +3,7 @@ use Rattle.std.proofs.Common.{List, None, Ok, Option, Some, [], ap, arith, lengt
 use Rattle.std.proofs.Math.Nat.{mul-lt-mul_of_pos_right, suc-mul}
 use Rattle.std.proofs.lemmas.List.{length-map}
 use Rattle.tg_cid.specs.Cid.{CidParts}
-use Rattle.tg_frames.specs.Left.{IsHeldFor, IsReadAs, IsReadHere, LeftState, WantedAt, tasks_left, wanted_tasks}
+use Rattle.tg_traversal.specs.Left.{IsHeldFor, IsReadAs, IsReadHere, LeftState, WantedAt, tasks_left, wanted_tasks}
 use Rattle.tg_model.specs.Dag.{Section, links_of}
 use Rattle.tg_model.specs.PathWalk.{StepTo, absent, not_folder_here, step_of, to_child, to_entry}
 use Rattle.tg_model.specs.Placed.{StandsForKind}
@@ -16,9 +16,9 @@ use Rattle.tg_model.specs.declared.placed.PlacedKind.TheVariants as placed
 use Rattle.tg_model.specs.declared.placed.PlacedKind.{PlacedKind}
 use Rattle.tg_model.specs.declared.queries.Scope.TheVariants as scopes
 use Rattle.tg_model.specs.declared.queries.Scope.{Scope}
-use Rattle.tg_frames.specs.declared.position.Wanted.{Wanted}
-use Rattle.tg_traverse.specs.StoreWalks.{section_of}
-use Rattle.tg_traverse.specs.Tasks.{Task, Want, child_then, children_tasks, depth_at_top, depth_of, entries_then, give_entries, give_text, link_tasks, node_tasks, node_want, open_block, segment_want, step_tasks, stop_at, tasks_of, tasks_then, terminal_tasks, terminal_want, text_last}
+use Rattle.tg_traversal.specs.declared.position.Wanted.{Wanted}
+use Rattle.tg_traversal_laws.specs.StoreWalks.{section_of}
+use Rattle.tg_traversal_laws.specs.Tasks.{Task, Want, child_then, children_tasks, depth_at_top, depth_of, entries_then, give_entries, give_text, link_tasks, node_tasks, node_want, open_block, segment_want, step_tasks, stop_at, tasks_of, tasks_then, terminal_tasks, terminal_want, text_last}
 use Rattle.tg_walk.specs.Walks.{HasFewer, IsNextPlace, blocks_from, blocks_over, placed_links}
 
 -- ---- the tasks that a block leaves

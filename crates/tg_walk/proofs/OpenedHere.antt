@@ -2,8 +2,8 @@
 use Rattle.std.proofs.Common.{Err, List, Ok, Result, Some, ap, arith, inl, inr, refl, subst, sym, true, ℕ, ◌+◌, ◌<◌, ◌^◌, ◌∙◌, ◌≡◌, ◌≤◌, ◌⊎◌}
 use Rattle.std.proofs.lemmas.Option.{same_Some}
 use Rattle.tg_cid.specs.Cid.{CidParts}
-use Rattle.tg_frames.specs.Left.{IsHeldFor, IsReadAs, IsReadHere, LeftState, WantedAt}
-use Rattle.tg_frames.specs.SaidFaults.{either_said}
+use Rattle.tg_traversal.specs.Left.{IsHeldFor, IsReadAs, IsReadHere, LeftState, WantedAt}
+use Rattle.tg_traversal.specs.SaidFaults.{either_said}
 use Rattle.tg_walk.specs.Walks.{IsBadThere, IsWantedHere, fault_of_block}
 use Rattle.tg_walk.specs.declared.fault.WalkFault.{WalkFault}
 use Rattle.tg_walk.specs.declared.fault.WalkFault.TheVariants as faults
@@ -11,8 +11,8 @@ use Rattle.tg_model.specs.Dag.{Section}
 use Rattle.tg_model.specs.declared.fault.BlockFault.{BlockFault}
 use Rattle.tg_model.specs.declared.kinds.Kind.{Kind}
 use Rattle.tg_model.specs.declared.placed.PlacedKind.{PlacedKind}
-use Rattle.tg_traverse.specs.StoreWalks.{section_of}
-use Rattle.tg_traverse.specs.Tasks.{depth_of, is_read_at}
+use Rattle.tg_traversal_laws.specs.StoreWalks.{section_of}
+use Rattle.tg_traversal_laws.specs.Tasks.{depth_of, is_read_at}
 
 -- what reading gives of the block there, in the wanted place's own words
 abbrev pub Reading : LeftState → List ℕ → Result PlacedKind BlockFault → Type 0

@@ -3,15 +3,15 @@ use Rattle.std.proofs.Common.{Err, List, None, Ok, Option, Some, [], ap, arith, 
 use Rattle.std.proofs.lemmas.List.{append-nil}
 use Rattle.tg_cid.specs.Cid.{CidParts}
 use Rattle.tg_walk.proofs.PathPlaces.{first_place, next_on_path}
-use Rattle.tg_frames.specs.Left.{LeftState, WantedAt, tasks_left, wanted_tasks}
-use Rattle.tg_frames.specs.Places.{missing_of}
+use Rattle.tg_traversal.specs.Left.{LeftState, WantedAt, tasks_left, wanted_tasks}
+use Rattle.tg_traversal.specs.Places.{missing_of}
 use Rattle.tg_walk.specs.Resolving.{HasResolveCause, IsPathPlace, IsResolvedTo, IsStoredRoot, LeadsTo, refusal_of_store, refusal_of_walk}
 use Rattle.tg_walk.specs.Walks.{IsNextPlace, IsOpened, IsOpenedThere, IsWantedHere, fault_of_miss}
 use Rattle.tg_walk.specs.declared.fault.ResolveFault.TheVariants as refusals
 use Rattle.tg_walk.specs.declared.fault.WalkFault.{WalkFault}
-use Rattle.tg_frames.specs.declared.position.Miss.{Miss}
-use Rattle.tg_frames.specs.declared.position.Miss.TheVariants as misses
-use Rattle.tg_frames.specs.declared.position.Wanted.{Wanted}
+use Rattle.tg_traversal.specs.declared.position.Miss.{Miss}
+use Rattle.tg_traversal.specs.declared.position.Miss.TheVariants as misses
+use Rattle.tg_traversal.specs.declared.position.Wanted.{Wanted}
 use Rattle.tg_model.specs.Computed.{read}
 use Rattle.tg_model.specs.Dag.{Section, links_of}
 use Rattle.tg_model.specs.PathWalk.{spot_at}
@@ -23,9 +23,9 @@ use Rattle.tg_model.specs.declared.queries.Form.TheVariants as forms
 use Rattle.tg_model.specs.declared.queries.Scope.TheVariants as scopes
 use Rattle.tg_model.specs.declared.stores.BlocksFault.{BlocksFault}
 use Rattle.tg_model.specs.declared.stores.BlocksFault.TheVariants as store_faults
-use Rattle.tg_traverse.specs.PathStages.{IsResolved, ResolveLaws}
-use Rattle.tg_traverse.specs.StoreWalks.{section_of, shown_at}
-use Rattle.tg_traverse.specs.Tasks.{Task, Want, depth_of, fault_at, give_entries, give_text, is_read_at, node_want, open_block, path_want, segment_want, spot_of, start, stop_at, tasks_of, tasks_then, terminal_want}
+use Rattle.tg_traversal_laws.specs.PathStages.{IsResolved, ResolveLaws}
+use Rattle.tg_traversal_laws.specs.StoreWalks.{section_of, shown_at}
+use Rattle.tg_traversal_laws.specs.Tasks.{Task, Want, depth_of, fault_at, give_entries, give_text, is_read_at, node_want, open_block, path_want, segment_want, spot_of, start, stop_at, tasks_of, tasks_then, terminal_want}
 
 -- the query by which a path is followed
 abbrev pub path_query : CidParts → List (List ℕ) → QueryParts

@@ -2,20 +2,20 @@
 use Rattle.std.proofs.Common.{Err, List, None, Ok, Option, Some, [], ap, inl, inr, refl, subst, sym, ℕ, ◌++◌, ◌<◌, ◌∙◌, ◌∷◌, ◌≡◌, ◌≤◌}
 use Rattle.tg_cid.specs.Cid.{CidParts}
 use Rattle.tg_walk.proofs.Walking.{HasWalked, front_of, is_bad, is_done, is_gone, is_missing, moved_on, on_walk, opened, passed_over, too_deep, walked_of}
-use Rattle.tg_frames.specs.Left.{LeftState, WantedAt, tasks_left, wanted_tasks}
-use Rattle.tg_frames.specs.Places.{missing_of}
+use Rattle.tg_traversal.specs.Left.{LeftState, WantedAt, tasks_left, wanted_tasks}
+use Rattle.tg_traversal.specs.Places.{missing_of}
 use Rattle.tg_walk.specs.Walks.{HasEnded, HasWalkCause, IsFront, IsNextPlace, IsOnWalk, IsOpened, fault_of_store}
 use Rattle.tg_walk.specs.declared.fault.WalkFault.{WalkFault}
 use Rattle.tg_walk.specs.declared.fault.WalkFault.TheVariants as faults
-use Rattle.tg_frames.specs.declared.position.Wanted.{Wanted}
+use Rattle.tg_traversal.specs.declared.position.Wanted.{Wanted}
 use Rattle.tg_model.specs.Dag.{Section, links_of}
 use Rattle.tg_model.specs.PathWalk.{whole}
 use Rattle.tg_model.specs.Queries.{QueryParts}
 use Rattle.tg_model.specs.Stores.{IsGotten, IsStoredIn, Store}
 use Rattle.tg_model.specs.declared.stores.BlocksFault.TheVariants as store_faults
 use Rattle.tg_model.specs.declared.stores.BlocksFault.{BlocksFault}
-use Rattle.tg_traverse.specs.StoreWalks.{WalkLaws, section_of}
-use Rattle.tg_traverse.specs.Tasks.{Task, depth_of, open_block, stop_at, tasks_of, tasks_then}
+use Rattle.tg_traversal_laws.specs.StoreWalks.{WalkLaws, section_of}
+use Rattle.tg_traversal_laws.specs.Tasks.{Task, depth_of, open_block, stop_at, tasks_of, tasks_then}
 
 -- behind the texts and entries that were passed over
 walked_then : (laws : WalkLaws) (most : ℕ) (old new : LeftState) (store : Store) (sections : List Section) → new.query ≡ old.query → IsOnWalk most old store sections

@@ -2,11 +2,11 @@
 use Rattle.std.proofs.Common.{Err, List, None, Ok, Some, [], ap, false, refl, inl, inr, subst, sym, true, ℕ, ◌++◌, ◌<◌, ◌∙◌, ◌∷◌, ◌≡◌, ◌≤◌, ◌⊎◌}
 use Rattle.std.proofs.lemmas.List.{map-append}
 use Rattle.tg_cid.specs.Cid.{CidParts}
-use Rattle.tg_frames.specs.Left.{LeftState, WantedAt, tasks_left}
-use Rattle.tg_frames.specs.Places.{missing_of}
+use Rattle.tg_traversal.specs.Left.{LeftState, WantedAt, tasks_left}
+use Rattle.tg_traversal.specs.Places.{missing_of}
 use Rattle.tg_walk.specs.declared.fault.WalkFault.TheVariants as faults
-use Rattle.tg_frames.specs.declared.position.Miss.{Miss}
-use Rattle.tg_frames.specs.declared.position.Miss.TheVariants as misses
+use Rattle.tg_traversal.specs.declared.position.Miss.{Miss}
+use Rattle.tg_traversal.specs.declared.position.Miss.TheVariants as misses
 use Rattle.tg_walk.specs.Walks.{HasEnded, HasGiven, HasWalkCause, IsFront, IsOnWalk, fault_of_miss}
 use Rattle.tg_model.specs.Computed.{read}
 use Rattle.tg_model.specs.Dag.{Section, links_of}
@@ -14,9 +14,9 @@ use Rattle.tg_model.specs.PathWalk.{whole}
 use Rattle.tg_model.specs.Queries.{QueryParts}
 use Rattle.tg_model.specs.Stores.{Store}
 use Rattle.tg_model.specs.declared.fault.BlockFault.{BlockFault}
-use Rattle.tg_traverse.specs.StoreWalks.{IsWalked, WalkLaws, section_of}
-use Rattle.tg_traverse.specs.Stages.{Given, nothing_given, place_of, up_to_next, with_place}
-use Rattle.tg_traverse.specs.Tasks.{Task, depth_of, fault_at, is_read_at, open_block, spot_of, start, stop_at, tasks_of, tasks_then, text_at}
+use Rattle.tg_traversal_laws.specs.StoreWalks.{IsWalked, WalkLaws, section_of}
+use Rattle.tg_traversal_laws.specs.Stages.{Given, nothing_given, place_of, up_to_next, with_place}
+use Rattle.tg_traversal_laws.specs.Tasks.{Task, depth_of, fault_at, is_read_at, open_block, spot_of, start, stop_at, tasks_of, tasks_then, text_at}
 
 -- a walk that has given these sections, with these tasks left
 pub record HasWalked (q : QueryParts) (most : ℕ) (store : Store) (sections : List Section) (tasks : List (Task CidParts)) : Type 0 where

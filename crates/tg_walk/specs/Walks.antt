@@ -3,12 +3,12 @@ use Rattle.std.specs.Prelude.{Err, List, None, Ok, Option, Result, Some, [], fal
 use Rattle.tg_cid.specs.Cid.{CidParts}
 use Rattle.tg_cid.specs.Limits.{max_block_len}
 use Rattle.tg_cid.specs.Names.{Names}
-use Rattle.tg_frames.specs.declared.position.Miss.TheVariants as misses
-use Rattle.tg_frames.specs.Left.{LeftState, WantedAt, tasks_left}
-use Rattle.tg_frames.specs.Places.{missing_of}
-use Rattle.tg_frames.specs.SaidFaults.{fault_said}
-use Rattle.tg_frames.specs.declared.position.Miss.{Miss}
-use Rattle.tg_frames.specs.declared.position.Wanted.{Wanted}
+use Rattle.tg_traversal.specs.declared.position.Miss.TheVariants as misses
+use Rattle.tg_traversal.specs.Left.{LeftState, WantedAt, tasks_left}
+use Rattle.tg_traversal.specs.Places.{missing_of}
+use Rattle.tg_traversal.specs.SaidFaults.{fault_said}
+use Rattle.tg_traversal.specs.declared.position.Miss.{Miss}
+use Rattle.tg_traversal.specs.declared.position.Wanted.{Wanted}
 use Rattle.tg_model.specs.Computed.{read}
 use Rattle.tg_model.specs.Dag.{links_of}
 use Rattle.tg_model.specs.declared.fault.BlockFault.{BlockFault}
@@ -25,9 +25,9 @@ use Rattle.tg_model.specs.StoreView.{store_view}
 use Rattle.tg_model.specs.Stores.{IsCauseOf, LookedUp, Lookups, LookupsQuiet, Store}
 use Rattle.tg_model.specs.Traversal.{Traversal, and_then, traversal}
 use Rattle.tg_model.specs.declared.stores.BlocksFault.{BlocksFault}
-use Rattle.tg_traverse.specs.StoreWalks.{IsWalked, WalkEnds, WalkTooDeep, section_of}
-use Rattle.tg_traverse.specs.Stages.{Given, ending}
-use Rattle.tg_traverse.specs.Tasks.{Task, Want, depth_of, fault_at, give_entries, give_text, is_read_at, open_block, stop_at, tasks_of, tasks_then}
+use Rattle.tg_traversal_laws.specs.StoreWalks.{IsWalked, WalkEnds, WalkTooDeep, section_of}
+use Rattle.tg_traversal_laws.specs.Stages.{Given, ending}
+use Rattle.tg_traversal_laws.specs.Tasks.{Task, Want, depth_of, fault_at, give_entries, give_text, is_read_at, open_block, stop_at, tasks_of, tasks_then}
 
 -- how many blocks there are at most from the root to a block that a walk gives, both counted
 abbrev pub max_depth : ℕ

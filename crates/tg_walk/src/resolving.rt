@@ -9,9 +9,8 @@ use crate::fault::ResolveFault;
 use crate::walk::{next_place, open};
 use std::alloc::Global;
 use tg_cid::Cid;
-use tg_frames::{Frames, copied_path};
 use tg_model::{Blocks, Path, Query, Scope};
-use tg_traverse::resolved_paths;
+use tg_traversal::{Frames, copied_path};
 
 /// How many places a path of 128 segments has at most: 1,025 blocks, which are eight shards a segment and the root, and one where the
 /// last segment leads nowhere.
@@ -35,7 +34,7 @@ pub fn resolve<B: Blocks>(
     ensures looked { (cids : List CidParts) × LookedUp cids (looked_in B.blocks blocks.old blocks.new) }
     ensures cause { HasResolveCause result (B.blocks.stored blocks.old) (looked_in B.blocks blocks.old blocks.new) }
 {
-    resolved_paths();
+    tg_traversal_laws::resolved_paths();
     let query = Query::car(*root, copied_path(alloc, path)?, Scope::Block, None, true);
     let mut frames = Frames::new(alloc, &query)?;
     let mut last = *root;

@@ -1,6 +1,6 @@
 //! A walk over the blocks of a store.
 ghost use Rattle.std.specs.Prelude.{◌≡◌, ◌≤◌, ◌<◌, ◌^◌, List, [], None, Some, IfOk, IfSome, MatchResult, OnOk};
-ghost use Rattle.tg_frames.specs.Left.{IsHeldFor, WantedAt, tasks_left};
+ghost use Rattle.tg_traversal.specs.Left.{IsHeldFor, WantedAt, tasks_left};
 ghost use Rattle.tg_walk.specs.Walks.{HasFewer, HasGone, HasLookedUp, HasStepped, HasStoreCause, IsNamedFound, IsNextPlace, IsOnWalk, IsOpened, IsWantedHere, StandsFor, blocks_left, blocks_over, fault_of_block, fault_of_miss, placed_links};
 ghost use Rattle.tg_model.specs.Dag.{Section};
 ghost use Rattle.tg_model.specs.Stores.{Store, looked_in};
@@ -10,9 +10,8 @@ use std::alloc::{AllocError, Global};
 use std::marker::Model;
 use tg_bytes::Bytes;
 use tg_cid::Cid;
-use tg_frames::{Frames, Miss, Next, Wanted};
 use tg_model::{BlockFault, Blocks, PlacedKind, Query};
-use tg_traverse::store_walks;
+use tg_traversal::{Frames, Miss, Next, Wanted};
 
 /// How many blocks there are at most from the root to a block that a walk gives, both counted.
 pub const MAX_DEPTH: u64 = 512;
@@ -43,7 +42,7 @@ impl Walk {
         ensures fresh { IfOk result (λ walk. walk.refused ≡ None) }
         ensures stands { IfOk result (λ walk. (store : Store) → StandsFor walk store []) }
     {
-        store_walks();
+        tg_traversal_laws::store_walks();
         Ok(Walk {
             alloc,
             frames: Frames::new(alloc, query)?,
@@ -103,7 +102,7 @@ fn step<B: Blocks>(
     ensures looked { HasLookedUp result (looked_in B.blocks blocks.old blocks.new) }
     ensures cause { HasStoreCause result (B.blocks.stored blocks.old) (looked_in B.blocks blocks.old blocks.new) }
 {
-    store_walks();
+    tg_traversal_laws::store_walks();
     let Some(place) = next_place(frames)? else {
         return Ok(None);
     };

@@ -27,9 +27,9 @@ use imports::import_of;
 pub use operands::{GivenOption, Operands, OptionNames, operands_of};
 use operands::{one_word, value_of};
 use std::alloc::{AllocError, Global};
-use tg_cid::{Cid, CidFault, one_spelling};
+use tg_cid::{Cid, CidFault};
 use tg_model::Query;
-use tg_path::{QueryFault, roots_read, spans_read};
+use tg_path::QueryFault;
 use thiserror::Error;
 use verifies::verify_of;
 
@@ -182,9 +182,9 @@ pub fn read(alloc: Global, words: &[String]) -> Result<Command, WordsFault>
 pub fn one_command()
     ensures { (words : List (List ℕ)) (a b : Command) → CommandLine words a → CommandLine words b → a ≡ b }
 {
-    one_spelling();
-    roots_read();
-    spans_read();
+    tg_cid::laws::one_spelling();
+    tg_path::laws::roots_read();
+    tg_path::laws::spans_read();
 }
 
 /// The command of this name with these words behind it.

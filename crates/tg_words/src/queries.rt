@@ -14,7 +14,7 @@ use crate::operands::{GivenOption, OptionNames, value_of};
 use std::alloc::Global;
 use tg_cid::Cid;
 use tg_model::{Path, Query, Scope, Span};
-use tg_path::{parse_span, parse_word, roots_read, spans_read};
+use tg_path::{parse_span, parse_word};
 
 /// The options that a query is asked by.
 pub const QUERY_NAMES: OptionNames<'static> = OptionNames {
@@ -42,8 +42,8 @@ fn query_of(
 ) -> Result<Query, WordsFault>
     ensures { Exact (QueryGiven target.now (option_map (λ text. text.now) scope.entry) (option_map (λ text. text.now) bytes.entry)) result }
 {
-    roots_read();
-    spans_read();
+    tg_path::laws::roots_read();
+    tg_path::laws::spans_read();
     let asked = scope_given(scope)?;
     let span = span_given(bytes)?;
     let (root, path) = parse_word(alloc, target.as_bytes())?;
@@ -96,7 +96,7 @@ fn scope_of(word: &str) -> Option<Scope>
 fn span_given(value: Option<&str>) -> Result<Option<Span>, WordsFault>
     ensures { Exact (ValueGives SpanText (option_map (λ text. text.now) value.entry)) result }
 {
-    spans_read();
+    tg_path::laws::spans_read();
     let Some(text) = value else {
         return Ok(None);
     };

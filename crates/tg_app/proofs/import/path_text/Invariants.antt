@@ -1,6 +1,6 @@
 use Rattle.std.proofs.Common.{◌≡◌, ◌++◌, ◌∷◌, take}
 use Rattle.std.specs.List.{flat_map}
-use Rattle.tg_ascii.specs.Ascii.{slash}
+use Rattle.tg_bytes.specs.Ascii.{slash}
 use Rattle.tg_model.specs.Texts.{escaped}
 use Rattle.tg_app.proofs.import.path_text.Given as goal
 

@@ -2,13 +2,13 @@ use Rattle.std.proofs.Common.{◌≡◌, Option, List, ℕ, map, inr, subst, ref
 use Rattle.std.specs.Prelude.{string_bytes}
 use Rattle.tg_app.specs.Commands.{CommandEnds, Ends, TheCommand}
 use Rattle.tg_app.specs.Objects.{Objects}
-use Rattle.tg_app.specs.declared.refusal.Refusal.{Refusal}
+use Rattle.tg_app.specs.declared.fault.CommandFault.{CommandFault}
 use Rattle.tg_words.specs.CommandLine.{CommandLine}
 use Rattle.tg_words.specs.declared.Command.{Command}
 use Rattle.tg_app.proofs.top.command.Goals as goal
 
 -- the words spell the command that was read alone, and it ended so
-the_ends : {words : List (List ℕ)} {objects : Objects} {end : Option Refusal} {read command : Command} → CommandLine words read → ((other : Command) → CommandLine words other → read ≡ other)
+the_ends : {words : List (List ℕ)} {objects : Objects} {end : Option CommandFault} {read command : Command} → CommandLine words read → ((other : Command) → CommandLine words other → read ≡ other)
     → read ≡ command → CommandEnds command objects end → Ends words objects end
 the_ends {words} {objects} {end} {read} {command} spelled only is ends =
     inr (inr (record { command = command; the = subst (TheCommand words) is (record { spelled = spelled; only = only }); ends = ends }))

@@ -6,7 +6,7 @@ use Rattle.tg_dir.proofs.Weighing.{all_plain}
 use Rattle.tg_dir.proofs.basic.keep_basic.Goals as goal
 use Rattle.tg_dir.specs.Weights.{weight_for, weight_in}
 use Rattle.tg_model.specs.declared.kinds.NewEntry.{NewEntry}
-use Rattle.tg_writing.specs.Nodes.{IsOfSha256}
+use Rattle.tg_node_writing.specs.Nodes.{IsOfSha256}
 
 pub keep_sorted-requires-clause-plain : goal.keep_sorted-requires-clause-plain
 keep_sorted-requires-clause-plain g c =

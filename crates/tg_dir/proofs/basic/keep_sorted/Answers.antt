@@ -9,7 +9,7 @@ use Rattle.tg_dir.specs.Basic.{IsKeptBlock}
 use Rattle.tg_model.specs.Stores.{kept_in}
 use Rattle.tg_model.specs.declared.kinds.Made.{Made}
 use Rattle.tg_model.specs.declared.kinds.NewEntry.{NewEntry}
-use Rattle.tg_writing.specs.KeepingSteps.{keeps_as}
+use Rattle.tg_node_writing.specs.KeepingSteps.{keeps_as}
 
 pub keep_block-requires-clause-small : goal.keep_block-requires-clause-small
 keep_block-requires-clause-small g c =

@@ -3,7 +3,7 @@ use Rattle.std.proofs.lemmas.Result.{IfOk-weaker}
 use Rattle.tg_dir.proofs.ByWeight.{basic_made, sharded_made}
 use Rattle.tg_dir.proofs.directory.build.Goals as goal
 use Rattle.tg_model.specs.Stores.{kept_in}
-use Rattle.tg_writing.specs.Nodes.{NodeLaws}
+use Rattle.tg_node_writing.specs.Nodes.{NodeLaws}
 
 pub returns-then-weight-threshold-clause-made : goal.returns-then-weight-threshold-clause-made
 returns-then-weight-threshold-clause-made g c =

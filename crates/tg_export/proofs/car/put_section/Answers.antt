@@ -2,7 +2,7 @@ use Rattle.std.proofs.Common.{◌<◌, ℕ, refl, rules, take}
 use Rattle.std.proofs.lemmas.List.Elements.{All-from_get_or}
 use Rattle.std.proofs.lemmas.Result.{err_from_is_err_and}
 use Rattle.tg_export.proofs.Parts.{section_ends, section_stops}
-use Rattle.tg_traverse.specs.StoreWalks.{section_of}
+use Rattle.tg_traversal_laws.specs.StoreWalks.{section_of}
 use Rattle.tg_export.proofs.car.put_section.Goals as goal
 
 pub returns-in_err-put : goal.returns-in_err-put

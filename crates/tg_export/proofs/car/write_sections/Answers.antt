@@ -6,7 +6,7 @@ use Rattle.tg_export.proofs.Parts.{HasNext, none_put, puts_more, sink_ends, walk
 use Rattle.tg_export.specs.Cars.{HasText, PutWhole}
 use Rattle.tg_model.specs.Stores.{looked_in}
 use Rattle.tg_streams.specs.Streams.{PutFront, into}
-use Rattle.tg_traverse.specs.StoreWalks.{section_of}
+use Rattle.tg_traversal_laws.specs.StoreWalks.{section_of}
 use Rattle.tg_walk.specs.Walks.{HasLookedUp, IsNamedFound}
 use Rattle.tg_export.proofs.car.write_sections.Goals as goal
 

@@ -3,7 +3,7 @@ use Rattle.std.proofs.lemmas.Result.{IfOk-weaker}
 use Rattle.std.specs.List.{sum_by}
 use Rattle.tg_cid.specs.declared.cid.Codec.TheVariants.{DagPb}
 use Rattle.tg_filedag.proofs.Calls.{node_kept}
-use Rattle.tg_writing.specs.KeepingSteps.{keeps_as, same_stops}
+use Rattle.tg_node_writing.specs.KeepingSteps.{keeps_as, same_stops}
 use Rattle.tg_filedag.proofs.Rooms.{block_small}
 use Rattle.tg_filedag.proofs.keeping.keep_node.Goals as goal
 use Rattle.tg_filedag.specs.Trees.{content_in, tsize_in}

@@ -1,7 +1,7 @@
 use Rattle.std.proofs.Common.{◌≡◌, List, [], ◌∷◌, ◌++◌, refl, sym, ap, ◌∙◌, subst, inl}
 use Rattle.std.proofs.lemmas.Result.{IfErr-weaker, err_from_is_err_and, on_ok_weaker}
 use Rattle.tg_cid.specs.declared.cid.Codec.TheVariants.{Raw}
-use Rattle.tg_writing.specs.KeepingSteps.{same_stops}
+use Rattle.tg_node_writing.specs.KeepingSteps.{same_stops}
 use Rattle.tg_filedag.proofs.Runs.{at_once, leaf_stops, leaf_taken}
 use Rattle.tg_filedag.proofs.Steps.{leaf_pushed}
 use Rattle.tg_filedag.proofs.linking.link_leaf.Goals as goal
@@ -11,7 +11,7 @@ use Rattle.tg_filedag.specs.declared.subtree.Subtree.{Subtree}
 use Rattle.tg_model.specs.Dag.{Section}
 use Rattle.tg_model.specs.declared.kinds.Made.{Made}
 use Rattle.tg_model.specs.declared.stores.KeepFault.TheVariants.{OutOfMemory}
-use Rattle.tg_writing.specs.Keeping.{section_of}
+use Rattle.tg_node_writing.specs.Keeping.{section_of}
 
 pub returns-in_err-made-clause-stops : goal.returns-in_err-made-clause-stops
 returns-in_err-made-clause-stops g c =

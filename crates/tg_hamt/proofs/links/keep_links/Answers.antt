@@ -1,7 +1,7 @@
 use Rattle.std.proofs.Common.{List, refl, length, ap, ◌∙◌, subst, arith}
 use Rattle.std.proofs.lemmas.Result.{IfOk-weaker}
 use Rattle.tg_cid.specs.declared.cid.Codec.TheVariants.{DagPb}
-use Rattle.tg_writing.specs.KeepingSteps.{keeps_as, same_stops}
+use Rattle.tg_node_writing.specs.KeepingSteps.{keeps_as, same_stops}
 use Rattle.tg_hamt.proofs.Rooms.{shard_small}
 use Rattle.tg_hamt.proofs.links.keep_links.Goals as goal
 use Rattle.std.specs.List.{sum_by}
@@ -10,7 +10,7 @@ use Rattle.tg_model.specs.ImportLayout.{shard_unix}
 use Rattle.tg_model.specs.Stores.{kept_in}
 use Rattle.tg_model.specs.declared.kinds.Made.{Made}
 use Rattle.tg_model.specs.declared.kinds.NewEntry.{NewEntry}
-use Rattle.tg_writing.specs.Nodes.{IsNodeOf}
+use Rattle.tg_node_writing.specs.Nodes.{IsNodeOf}
 
 pub keep_block-requires-clause-small : goal.keep_block-requires-clause-small
 keep_block-requires-clause-small g c =

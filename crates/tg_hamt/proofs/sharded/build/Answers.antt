@@ -1,7 +1,7 @@
 use Rattle.std.proofs.Common.{◌≡◌, ℕ, List, ◌+◌, ◌*◌, ◌<◌, get_or, length, refl, ap, sym, ◌∙◌, subst, arith}
 use Rattle.std.proofs.lemmas.List.{get_or_default}
 use Rattle.tg_hamt.proofs.Directory.{directory_made, directory_stops, none_passed_over, sorted_few, pair_cause, pair_differs, read_hashed, read_name, sorted_order, sorted_tsizes}
-use Rattle.tg_writing.specs.KeepingSteps.{keeps_nothing, same_stops}
+use Rattle.tg_node_writing.specs.KeepingSteps.{keeps_nothing, same_stops}
 use Rattle.tg_hamt.proofs.sharded.build.Goals as goal
 use Rattle.tg_hamt.specs.Order.{IsOrder, IsSamePair, Rises, tsizes_in}
 use Rattle.tg_hamt.specs.Shards.{MakesShard, StopsShard}

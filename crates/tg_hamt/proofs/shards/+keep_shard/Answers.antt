@@ -2,15 +2,15 @@ use Rattle.std.proofs.Common.{◌≡◌, ◌≢◌, ℕ, List, [], ◌-◌, ◌^
 use Rattle.std.proofs.lemmas.List.{get_or_default}
 use Rattle.std.proofs.lemmas.Result.{IfErr-weaker, IfOk-weaker, err_from_is_err_and, on_err_weaker}
 use Rattle.tg_hamt.proofs.Finished.{finished, finished_light, room_left}
-use Rattle.tg_writing.specs.KeepingSteps.{same_stops}
+use Rattle.tg_node_writing.specs.KeepingSteps.{same_stops}
 use Rattle.tg_hamt.proofs.Making.{child_few, child_level, child_next, child_order, child_passed, child_tsizes, entry_next, making_none, step_at, stops_behind_child, stops_child, stops_here}
 use Rattle.tg_hamt.proofs.shards.+keep_shard.Goals as goal
 use Rattle.tg_hamt.specs.declared.order.Hashed.{Hashed}
 use Rattle.tg_model.specs.Reading.{big_endian}
 use Rattle.tg_model.specs.Stores.{kept_in}
 use Rattle.tg_model.specs.declared.stores.KeepFault.{KeepFault}
-use Rattle.tg_writing.specs.Keeping.{StopsAfter}
-use Rattle.tg_writing.specs.Nodes.{NodeLaws}
+use Rattle.tg_node_writing.specs.Keeping.{StopsAfter}
+use Rattle.tg_node_writing.specs.Nodes.{NodeLaws}
 
 -- a slot's number, and the bits below it
 low_bits : (bits : List ℕ) (number slot : ℕ) → number ≡ slot → big_endian bits < 2 ^ slot → big_endian bits < 2 ^ number

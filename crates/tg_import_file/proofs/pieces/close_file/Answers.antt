@@ -1,6 +1,6 @@
 use Rattle.std.proofs.lemmas.Result.{IfErr-weaker, IfOk-weaker, on_err_weaker}
 use Rattle.tg_import_file.proofs.Closing.{makes_file}
-use Rattle.tg_writing.specs.KeepingSteps.{counted_behind}
+use Rattle.tg_node_writing.specs.KeepingSteps.{counted_behind}
 use Rattle.tg_import_file.proofs.PieceSteps.{stops_on}
 use Rattle.tg_import_file.proofs.pieces.close_file.Goals as goal
 

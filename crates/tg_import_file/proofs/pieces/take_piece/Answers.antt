@@ -1,7 +1,7 @@
 use Rattle.std.proofs.Common.{sym}
 use Rattle.std.proofs.lemmas.Result.{err_from_is_err_and}
 use Rattle.tg_import_file.proofs.Cuts.{are_none}
-use Rattle.tg_writing.specs.KeepingSteps.{counted_behind}
+use Rattle.tg_node_writing.specs.KeepingSteps.{counted_behind}
 use Rattle.tg_import_file.proofs.PieceSteps.{may_go_on, stops_on, taking_begins, taking_cut, taking_ends}
 use Rattle.tg_import_file.proofs.pieces.take_piece.Goals as goal
 

@@ -6,11 +6,11 @@ use Rattle.tg_walk.proofs.resolving.resolve.Goals.{else-loop-passed-test, else-p
 use Rattle.tg_walk.specs.Resolving.{HasResolveCause, IsResolvedTo}
 use Rattle.tg_walk.specs.Walks.{IsNextPlace}
 use Rattle.tg_walk.specs.declared.fault.ResolveFault.{ResolveFault}
-use Rattle.tg_frames.specs.declared.position.Wanted.{Wanted}
+use Rattle.tg_traversal.specs.declared.position.Wanted.{Wanted}
 use Rattle.tg_model.specs.Queries.{QueryParts}
 use Rattle.tg_model.specs.Stores.{looked_in}
-use Rattle.tg_frames.specs.Left.{tasks_left}
-use Rattle.tg_traverse.specs.Tasks.{start}
+use Rattle.tg_traversal.specs.Left.{tasks_left}
+use Rattle.tg_traversal_laws.specs.Tasks.{start}
 use Rattle.tg_walk.proofs.resolving.resolve.Goals as goal
 
 pub loop-passed-init : goal.loop-passed-init

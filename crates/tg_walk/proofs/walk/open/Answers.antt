@@ -1,5 +1,5 @@
 use Rattle.std.proofs.Common.{List, Option, Result, ap, subst, sym, ℕ, ◌++◌, ◌<◌, ◌^◌, ◌∙◌}
-use Rattle.tg_frames.specs.Left.{IsReadAs, WantedAt, wanted_tasks}
+use Rattle.tg_traversal.specs.Left.{IsReadAs, WantedAt, wanted_tasks}
 use Rattle.tg_model.specs.declared.fault.BlockFault.{BlockFault}
 use Rattle.tg_model.specs.declared.placed.PlacedKind.{PlacedKind}
 use Rattle.tg_walk.proofs.Fewer.{fewer_passed, fewer_read}

@@ -3,7 +3,7 @@ use Rattle.std.proofs.lemmas.Result.{err_from_is_err_and}
 use Rattle.tg_walk.proofs.Fewer.{fewer_next}
 use Rattle.tg_walk.proofs.WalkSteps.{ends_there, found_in, front_there, goes_on, gone_there, stops_at_block, stops_before, stops_deep, store_stops}
 use Rattle.tg_walk.specs.Walks.{IsNextPlace}
-use Rattle.tg_frames.specs.declared.position.Wanted.{Wanted}
+use Rattle.tg_traversal.specs.declared.position.Wanted.{Wanted}
 use Rattle.tg_walk.proofs.walk.step.Goals as goal
 
 pub returns-in_err-place-clause-stands : goal.returns-in_err-place-clause-stands

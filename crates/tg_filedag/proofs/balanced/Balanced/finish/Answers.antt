@@ -1,7 +1,7 @@
 use Rattle.std.proofs.Common.{◌≡◌, ℕ, List, [], ◌++◌, subst}
 use Rattle.tg_filedag.proofs.Beginnings.{nothing_stands}
 use Rattle.tg_filedag.proofs.balanced.Balanced.finish.Goals as goal
-use Rattle.tg_writing.specs.Keeping.{Keeps, StopsAfter}
+use Rattle.tg_node_writing.specs.Keeping.{Keeps, StopsAfter}
 use Rattle.tg_filedag.specs.MadeFile.{IsMadeFile}
 use Rattle.tg_filedag.specs.State.{BalancedState, IsFrontFor, StandsFor}
 use Rattle.tg_filedag.specs.Trees.{bottom_up}

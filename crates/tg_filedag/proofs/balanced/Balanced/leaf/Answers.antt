@@ -1,7 +1,7 @@
 use Rattle.std.proofs.Common.{◌+◌, ℕ, List, [], ◌∷◌, ◌++◌, length, subst}
 use Rattle.tg_filedag.proofs.Beginnings.{inside_room, leaf_room, leaf_stands}
 use Rattle.tg_filedag.proofs.balanced.Balanced.leaf.Goals as goal
-use Rattle.tg_writing.specs.Keeping.{Keeps, StopsAfter}
+use Rattle.tg_node_writing.specs.Keeping.{Keeps, StopsAfter}
 use Rattle.tg_filedag.specs.State.{BalancedState, IsFrontFor, StandsFor}
 use Rattle.tg_model.specs.Dag.{Section}
 use Rattle.tg_model.specs.Stores.{kept_in}

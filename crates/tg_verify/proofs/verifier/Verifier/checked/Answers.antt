@@ -1,8 +1,8 @@
 use Rattle.std.proofs.Common.{None, Ok, Some, ap, arith, rules, subst, sym, ◌∙◌, ◌≡◌}
 use Rattle.std.proofs.lemmas.Option.{same_Some}
-use Rattle.tg_frames.specs.Left.{WantedAt}
-use Rattle.tg_frames.specs.declared.position.Wanted.{Wanted}
-use Rattle.tg_traverse.specs.Tasks.{depth_of}
+use Rattle.tg_traversal.specs.Left.{WantedAt}
+use Rattle.tg_traversal.specs.declared.position.Wanted.{Wanted}
+use Rattle.tg_traversal_laws.specs.Tasks.{depth_of}
 use Rattle.tg_verify.proofs.Checks.{told_at}
 use Rattle.tg_verify.specs.State.{VerifierState}
 use Rattle.tg_verify.specs.Steps.{IsCheckedAt, section_with}

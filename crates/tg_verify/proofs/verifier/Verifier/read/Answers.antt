@@ -1,10 +1,10 @@
 use Rattle.std.proofs.Common.{Ok, Option, Result, Some, refl, subst, sym, true, ◌≡◌}
-use Rattle.tg_frames.specs.Left.{IsReadAs, WantedAt}
-use Rattle.tg_frames.specs.PlaceTexts.{IsSizeFault}
-use Rattle.tg_frames.specs.declared.text.SizeFault.{SizeFault}
+use Rattle.tg_traversal.specs.Left.{IsReadAs, WantedAt}
+use Rattle.tg_traversal.specs.PlaceTexts.{IsSizeFault}
+use Rattle.tg_traversal.specs.declared.text.SizeFault.{SizeFault}
 use Rattle.tg_model.specs.declared.fault.BlockFault.{BlockFault}
 use Rattle.tg_model.specs.declared.placed.PlacedKind.{PlacedKind}
-use Rattle.tg_traverse.specs.Tasks.{is_read_at, position_of}
+use Rattle.tg_traversal_laws.specs.Tasks.{is_read_at, position_of}
 use Rattle.tg_verify.proofs.Checks.{read_bad, read_good}
 use Rattle.tg_verify.specs.Refusals.{HasSectionCause, IsWantedBlock}
 use Rattle.tg_verify.specs.State.{VerifierState}

@@ -1,5 +1,5 @@
 use Rattle.std.proofs.Common.{length}
-use Rattle.tg_frames.specs.Left.{tasks_left}
+use Rattle.tg_traversal.specs.Left.{tasks_left}
 use Rattle.tg_streams.specs.Streams.{into}
 use Rattle.tg_verify.specs.Steps.{IsNearer, IsSameVerifier}
 use Rattle.tg_verify.proofs.verifier.Verifier.settle.Given as goal

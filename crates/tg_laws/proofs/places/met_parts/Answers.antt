@@ -1,5 +1,0 @@
-use Rattle.tg_laws.proofs.PlaceLaws.{met_by_bytes}
-use Rattle.tg_laws.proofs.places.met_parts.Goals as goal
-
-pub returns : goal.returns
-returns c = met_by_bytes
