@@ -1,5 +1,5 @@
-//! The edges of the program under one name: lists of bytes, faults, trees of files, sources and sinks, folders and packs, and
-//! their forms in memory and over the system.
+//! The edges of the program under one name: lists of bytes, faults, trees of files, sources and sinks, folders and
+//! packs, and their forms in memory and over the system.
 #![tactic(auto)]
 
 pub use tg_bytes::{Bytes, List};

@@ -1,6 +1,6 @@
 -- What a contract sees of sources and sinks over std's readers and writers, and that what std knows of their bytes
 -- composes.
-use Rattle.std.specs.Prelude.{◌≡◌, ℕ, List, [], ◌++◌, Option, Some, None, refl}
+use Rattle.std.specs.Prelude.{◌≡◌, ℕ, List, [], ◌++◌, Option, Some, None, refl, ⊤}
 use Rattle.std.specs.Io.KnownBytes.{Appends, Consumes}
 use Rattle.std.proofs.Common.{◌∙◌, ap, sym, append_assoc, append-nil}
 
@@ -12,6 +12,11 @@ pub record StdSourceState (R : Type 0) : Type 0 where
 pub record StdSinkState (W : Type 0) : Type 0 where
   pub writer : W
   pub faults : ℕ
+
+-- the bytes are told
+abbrev pub IsTold : Option (List ℕ) → Type 0
+IsTold None = ⊥
+IsTold (Some bytes) = ⊤
 
 pub consumes_nothing : (known : Option (List ℕ)) → Consumes known known []
 consumes_nothing None = tt

@@ -5,11 +5,10 @@ mod memory;
 mod sinks;
 mod sources;
 mod standard;
+mod told;
 
 pub use memory::{MemSink, MemSource};
 pub use sinks::{Sink, put_all, put_pieces};
 pub use sources::{Source, read_front, take_piece};
 pub use standard::{StdSink, StdSource};
-
-#[cfg(test)]
-mod tests;
+pub use told::{Holds, Tells, ToldSink, ToldSource};

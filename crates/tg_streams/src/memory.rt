@@ -44,7 +44,8 @@ impl MemSource {
     /// The same, whose takes are the calls that follow those already made.
     pub fn with_calls(bytes: Bytes, piece: usize, calls: Calls) -> MemSource
         requires { 0 < piece }
-        ensures { result ≡ record { rest = bytes; piece = piece; fails = calls.fails; calls = calls.made; faults = calls.faults } }
+        ensures { result ≡ record
+            { rest = bytes; piece = piece; fails = calls.fails; calls = calls.made; faults = calls.faults } }
     {
         MemSource {
             bytes,
@@ -123,8 +124,8 @@ impl Model for MemSink {
 }
 
 impl MemSink {
-    /// An empty sink, into which one put moves at most `piece` bytes, which is at least 1. The calls whose numbers stand
-    /// in `fails`, counted from 0, fail.
+    /// An empty sink, into which one put moves at most `piece` bytes, which is at least 1. The calls whose numbers
+    /// stand in `fails`, counted from 0, fail.
     pub fn new(alloc: Global, piece: usize, fails: List<u64>) -> MemSink
         requires { 0 < piece }
         ensures { result ≡ record { content = []; piece = piece; fails = fails; calls = 0; faults = 0 } }
@@ -135,7 +136,8 @@ impl MemSink {
     /// The same, whose puts are the calls that follow those already made.
     pub fn with_calls(alloc: Global, piece: usize, calls: Calls) -> MemSink
         requires { 0 < piece }
-        ensures { result ≡ record { content = []; piece = piece; fails = calls.fails; calls = calls.made; faults = calls.faults } }
+        ensures { result ≡ record
+            { content = []; piece = piece; fails = calls.fails; calls = calls.made; faults = calls.faults } }
     {
         MemSink {
             content: Bytes::new(alloc),

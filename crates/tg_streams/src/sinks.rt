@@ -8,10 +8,10 @@ use tg_faults::Failed;
 
 /// A stream of bytes that are put at the end.
 ///
-/// Its meaning is one record: `held` is what was put so far, or `None` where that isn't told; `faults` counts the calls that
-/// failed and stands still at 2 ^ 64 - 1; `calls` counts the calls that were made, or is `None` where that isn't told;
-/// `wrote` relates a value, what it became, and the bytes that went into it meanwhile: it holds the facts that the kind of
-/// sink knows of its own bytes.
+/// Its meaning is one record: `held` is what was put so far, or `None` where that isn't told; `faults` counts the calls
+/// that failed and stands still at 2 ^ 64 - 1; `calls` counts the calls that were made, or is `None` where that isn't
+/// told; `wrote` relates a value, what it became, and the bytes that went into it meanwhile: it holds the facts that
+/// the kind of sink knows of its own bytes.
 pub trait Sink {
     ghost sink: { SinkMeaning Self };
 
@@ -51,12 +51,14 @@ pub fn put_all<S: Sink>(sink: &mut S, bytes: &[u8]) -> Result<(), Failed>
     Ok(())
 }
 
-/// Puts the pieces one after another. The error is a fault of the sink, which then holds a front of them more than before.
+/// Puts the pieces one after another. The error is a fault of the sink, which then holds a front of them more than
+/// before.
 pub fn put_pieces<S: Sink>(sink: &mut S, pieces: &[&[u8]]) -> Result<(), Failed>
     ensures put { OnOk result (Put (flat_map (λ piece. piece.now) pieces.now) (into S.sink sink.old sink.new)) }
     ensures quiet { OnOk result (OutputQuiet (into S.sink sink.old sink.new)) }
 
-    ensures err_front { OnErr result (PutFront (flat_map (λ piece. piece.now) pieces.now) (into S.sink sink.old sink.new)) }
+    ensures err_front { OnErr result (PutFront (flat_map (λ piece. piece.now) pieces.now)
+        (into S.sink sink.old sink.new)) }
     ensures err_counted { OnErr result (S.sink.faults sink.old ≤ S.sink.faults sink.new) }
 {
     for piece in pieces {

@@ -7,10 +7,10 @@ use tg_faults::Failed;
 
 /// A stream of bytes that are taken from the front.
 ///
-/// Its meaning is one record: `left` is what is still to come, or `None` where that isn't told; `at_end` says that no byte is
-/// to come; `faults` counts the calls that failed and stands still at 2 ^ 64 - 1; `calls` counts the calls that were made,
-/// or is `None` where that isn't told; `took` relates a value, what it became, and the bytes that were taken from it
-/// meanwhile: it holds the facts that the kind of source knows of its own bytes.
+/// Its meaning is one record: `left` is what is still to come, or `None` where that isn't told; `at_end` says that no
+/// byte is to come; `faults` counts the calls that failed and stands still at 2 ^ 64 - 1; `calls` counts the calls that
+/// were made, or is `None` where that isn't told; `took` relates a value, what it became, and the bytes that were taken
+/// from it meanwhile: it holds the facts that the kind of source knows of its own bytes.
 pub trait Source {
     ghost source: { SourceMeaning Self };
 

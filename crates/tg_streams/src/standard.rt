@@ -1,11 +1,14 @@
 //! Sources and sinks over std's readers and writers, such as the standard streams.
-ghost use Rattle.std.specs.Prelude.{◌≡◌, None};
-ghost use Rattle.std.specs.Io.KnownBytes.{Appends, Consumes, IsAtEnd};
+ghost use Rattle.std.specs.Prelude.{◌≡◌, ◌≢◌, IfErr, None};
+ghost use Rattle.std.specs.IoError.{error_kind};
+ghost use Rattle.std.specs.Io.{ReadsAtMost, WritesAtMost};
+ghost use Rattle.std.specs.Io.KnownBytes.{Appends, Consumes, IsAtEnd, ReadConsumes, WriteAppends};
 ghost use Rattle.tg_streams.specs.Known.{consumes_nothing, consumes_joins, appends_nothing, appends_joins};
 
 use crate::sinks::Sink;
 use crate::sources::Source;
-use std::io::{Read, Write};
+use std::io;
+use std::io::{ErrorKind, Read, Write};
 use std::marker::Model;
 use tg_faults::Failed;
 
@@ -53,9 +56,9 @@ impl<R: Read> Source for StdSource<R> {
 
     ghost joins = { λ a b c u v. consumes_joins (R.remaining a.reader) (R.remaining b.reader) (R.remaining c.reader) u v };
 
-    /// One read. An error of the reader is counted.
+    /// One read, begun anew where it is interrupted. Any other error of the reader is counted.
     fn take(&mut self, buf: &mut [u8]) -> Result<usize, Failed> {
-        match self.reader.read(buf) {
+        match read_on(&mut self.reader, buf) {
             Ok(n) => Ok(n),
             Err(_) => {
                 self.faults = self.faults.saturating_add(1);
@@ -108,9 +111,10 @@ impl<W: Write> Sink for StdSink<W> {
 
     ghost joins = { λ a b c u v. appends_joins (W.contents a.writer) (W.contents b.writer) (W.contents c.writer) u v };
 
-    /// One write. An error of the writer is counted, and so is a write that takes nothing of a piece that isn't empty.
+    /// One write, begun anew where it is interrupted. Any other error of the writer is counted, and so is a write that
+    /// takes nothing of a piece that isn't empty.
     fn put(&mut self, bytes: &[u8]) -> Result<usize, Failed> {
-        match self.writer.write(bytes) {
+        match write_on(&mut self.writer, bytes) {
             Ok(n) if n > 0 || bytes.is_empty() => Ok(n),
             _ => {
                 self.faults = self.faults.saturating_add(1);
@@ -118,4 +122,36 @@ impl<W: Write> Sink for StdSink<W> {
             }
         }
     }
+}
+
+/// One read, begun anew where it is interrupted (POSIX.1-2017, `read`). Errors: those of the reader but an
+/// interruption, and `TimedOut` where each of 2 ^ 64 - 1 reads was interrupted.
+fn read_on<R: Read>(reader: &mut R, buf: &mut [u8]) -> io::Result<usize>
+    ensures within { ReadsAtMost result buf.new }
+    ensures bytes { ReadConsumes (R.remaining reader.old) (R.remaining reader.new) result buf.new }
+    ensures anew { IfErr result (λ e. error_kind e ≢ ErrorKind.Interrupted) }
+{
+    for _ in 0..u64::MAX {
+        match reader.read(buf) {
+            Err(e) if e.kind() == ErrorKind::Interrupted => {}
+            read => return read,
+        }
+    }
+    Err(io::Error::from(ErrorKind::TimedOut))
+}
+
+/// One write, begun anew where it is interrupted (POSIX.1-2017, `write`). Errors: those of the writer but an
+/// interruption, and `TimedOut` where each of 2 ^ 64 - 1 writes was interrupted.
+fn write_on<W: Write>(writer: &mut W, bytes: &[u8]) -> io::Result<usize>
+    ensures within { WritesAtMost result bytes.now }
+    ensures bytes { WriteAppends (W.contents writer.old) (W.contents writer.new) result bytes.now }
+    ensures anew { IfErr result (λ e. error_kind e ≢ ErrorKind.Interrupted) }
+{
+    for _ in 0..u64::MAX {
+        match writer.write(bytes) {
+            Err(e) if e.kind() == ErrorKind::Interrupted => {}
+            written => return written,
+        }
+    }
+    Err(io::Error::from(ErrorKind::TimedOut))
 }

@@ -1,7 +1,7 @@
 use Rattle.std.proofs.Common.{◌≡◌, ◌≢◌, ℕ, List, [], ◌∷◌, ◌++◌, length, take, ap, ◌∙◌, sym, refl, arith}
 use Rattle.std.proofs.Math.ListN.{set}
 use Rattle.std.proofs.lemmas.Grind.{common_steps}
-use Rattle.tg_streams.proofs.tests.SevensSource.take.Goals as goal
+use Rattle.tg_streams_tests.proofs.two_way.SevensSource.take.Goals as goal
 
 -- the one byte that was written into a buffer with room
 set_first : (xs : List ℕ) (x : ℕ) → length xs ≢ 0 → take 1 (set xs 0 x) ≡ x ∷ []
