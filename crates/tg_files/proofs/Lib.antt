@@ -1,3 +1,6 @@
+mod Entries
 mod Moves
 mod Places
 mod Sought
+mod Walks
+mod Written

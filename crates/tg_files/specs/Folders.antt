@@ -10,10 +10,12 @@ use Rattle.tg_tree.specs.declared.tree.Tree.{Tree}
 use Rattle.tg_faults.specs.Faults.{Rose, counted}
 use Rattle.tg_tree.specs.Tree.{IsAt, NamesDiffer, HasFolderAt, items_of}
 
--- what a kind of folder says of its values: its whole tree, told or not; how many calls failed; and how many were made,
--- told or not
+-- what a kind of folder says of its values: its whole tree, told or not; the path of the system at which it is
+-- attached, by the last attach that answered Ok, and none before the first; how many calls failed; and how many were
+-- made, told or not
 pub record FolderMeaning (S : Type 0) : Type 1 where
   pub tree : S → Option Tree
+  pub place : S → Option (List ℕ)
   pub faults : S → ℕ
   pub calls : S → Option ℕ
 
@@ -21,6 +23,8 @@ pub record FolderMeaning (S : Type 0) : Type 1 where
 pub record FolderStep : Type 0 where
   pub tree_old : Option Tree
   pub tree_new : Option Tree
+  pub place_old : Option (List ℕ)
+  pub place_new : Option (List ℕ)
   pub faults_old : ℕ
   pub faults_new : ℕ
   pub calls_old : Option ℕ
@@ -30,15 +34,22 @@ abbrev pub folder_step : {S : Type 0} → FolderMeaning S → S → S → Folder
 folder_step m old new = record {
   tree_old = m.tree old;
   tree_new = m.tree new;
+  place_old = m.place old;
+  place_new = m.place new;
   faults_old = m.faults old;
   faults_new = m.faults new;
   calls_old = m.calls old;
   calls_new = m.calls new;
 }
 
--- the tree is the one that it was
-abbrev pub SameTree : FolderStep → Type 0
-SameTree step = step.tree_new ≡ step.tree_old
+-- it tells the tree that it told, and is attached where it was
+pub record SameFolder (step : FolderStep) : Type 0 where
+  pub tree : step.tree_new ≡ step.tree_old
+  pub place : step.place_new ≡ step.place_old
+
+-- it is attached at a path of the system
+abbrev pub AttachedAt : List ℕ → FolderStep → Type 0
+AttachedAt path step = step.place_new ≡ Some path
 
 -- one call was made, as far as calls are told
 abbrev pub FolderCalled : FolderStep → Type 0
@@ -83,6 +94,7 @@ path_below root (name ∷ names) = path_below (root ++ slash ∷ name) names
 -- what a contract sees of a tree of files in memory that is read
 pub record FolderState : Type 0 where
   pub tree : Tree
+  pub place : Option (List ℕ)  -- the path at which it is attached
   pub fails : List ℕ  -- the numbers of the calls that fail, counted from 0
   pub calls : ℕ  -- how many calls were made
   pub faults : ℕ  -- how many of them failed
@@ -90,6 +102,7 @@ pub record FolderState : Type 0 where
 abbrev pub mem_folder : FolderMeaning FolderState
 mem_folder = record {
   tree = λ f. Some f.tree;
+  place = λ f. f.place;
   faults = λ f. f.faults;
   calls = λ f. Some f.calls;
 }

@@ -2,3 +2,4 @@ pub mod Folders
 pub mod Packs
 pub mod Readers
 pub mod PathLaws
+pub mod System

@@ -11,8 +11,8 @@ abbrev pub rest_at : Option (List ℕ) → ℕ → Option (List ℕ)
 rest_at (Some content) offset = Some (drop offset content)
 rest_at None offset = None
 
--- n bytes from an offset on were read into the front of a buffer: none into a buffer with room only where no byte stands
--- at the offset, and none where it is told that no byte stands there
+-- n bytes from an offset on were read into the front of a buffer: none into a buffer with room only where no byte
+-- stands at the offset, and none where it is told that no byte stands there
 pub record ReadAt (held : Option (List ℕ)) (offset n : ℕ) (buf : List ℕ) : Type 0 where
   pub within : n ≤ length buf
   pub bytes : rest_at held offset ≡ after_front (take n buf) (rest_at held (offset + n))
@@ -42,17 +42,22 @@ emptied None = None
 abbrev pub attached : Bool → Option (List ℕ) → Option (List ℕ)
 attached fresh content = cond fresh (emptied content) content
 
--- what is done to a pack: it is attached, fresh or not; bytes are put in place of as many at an offset; bytes are added at
--- the end; or a write fails, which may have written a part
+-- where a pack is attached: at this path of the system, and whether it was made empty there
+pub record PackPlace : Type 0 where
+  pub path : List ℕ
+  pub fresh : Bool
+
+-- what is done to a pack: it is attached at a path of the system, fresh or not; bytes are put in place of as many at an
+-- offset; bytes are added at the end; or a write fails, which may have written a part
 pub data PackWrite : Type 0 where
-  attach : Bool → PackWrite
+  attach : List ℕ → Bool → PackWrite
   overwrite : ℕ → List ℕ → PackWrite
   append : List ℕ → PackWrite
   torn : PackWrite
 
 -- what a pack holds once these were done to it, one after another, by what it held before
 abbrev pub once_written : Option (List ℕ) → PackWrite → Option (List ℕ)
-once_written content (attach fresh) = attached fresh content
+once_written content (attach path fresh) = attached fresh content
 once_written content (overwrite offset bytes) = overwritten content offset bytes
 once_written content (append bytes) = grown content bytes
 once_written content torn = None
@@ -65,10 +70,27 @@ pub written-append : (content : Option (List ℕ)) (u v : List PackWrite) → wr
 written-append content [] v = refl
 written-append content (write ∷ u) v = written-append (once_written content write) u v
 
--- what a kind of pack says of its values: all of its bytes, told or not; how many calls failed; how many were made, told
--- or not; and how a value changes when these are done to it, one after another
+-- where a pack is attached once these were done to it, one after another: where the last attach says, or where it was
+abbrev pub once_placed : Option PackPlace → PackWrite → Option PackPlace
+once_placed place (attach path fresh) = Some (record { path = path; fresh = fresh })
+once_placed place (overwrite offset bytes) = place
+once_placed place (append bytes) = place
+once_placed place torn = place
+
+abbrev pub placed : Option PackPlace → List PackWrite → Option PackPlace
+placed place [] = place
+placed place (write ∷ writes) = placed (once_placed place write) writes
+
+pub placed-append : (place : Option PackPlace) (u v : List PackWrite) → placed (placed place u) v ≡ placed place (u ++ v)
+placed-append place [] v = refl
+placed-append place (write ∷ u) v = placed-append (once_placed place write) u v
+
+-- what a kind of pack says of its values: all of its bytes, told or not; where it is attached, by the last attach that
+-- answered Ok, and nowhere before the first; how many calls failed; how many were made, told or not; and how a value
+-- changes when these are done to it, one after another
 pub record PackMeaning (S : Type 0) : Type 1 where
   pub content : S → Option (List ℕ)
+  pub place : S → Option PackPlace
   pub faults : S → ℕ
   pub calls : S → Option ℕ
   pub did : S → S → List PackWrite → Type 0
@@ -78,6 +100,8 @@ pub record PackStep : Type 1 where
   pub did : List PackWrite → Type 0
   pub content_old : Option (List ℕ)
   pub content_new : Option (List ℕ)
+  pub place_old : Option PackPlace
+  pub place_new : Option PackPlace
   pub faults_old : ℕ
   pub faults_new : ℕ
   pub calls_old : Option ℕ
@@ -88,6 +112,8 @@ pack_step m old new = record {
   did = m.did old new;
   content_old = m.content old;
   content_new = m.content new;
+  place_old = m.place old;
+  place_new = m.place new;
   faults_old = m.faults old;
   faults_new = m.faults new;
   calls_old = m.calls old;
@@ -98,6 +124,7 @@ pack_step m old new = record {
 pub record Did (writes : List PackWrite) (step : PackStep) : Type 0 where
   pub moved : step.did writes
   pub content : step.content_new ≡ written step.content_old writes
+  pub place : step.place_new ≡ placed step.place_old writes
 
 -- one thing after another was done to a kind of pack whose changes come one after another
 pub did_joins : {S : Type 0} (m : PackMeaning S) → ((a b c : S) (u v : List PackWrite) → m.did a b u → m.did b c v → m.did a c (u ++ v))
@@ -105,9 +132,10 @@ pub did_joins : {S : Type 0} (m : PackMeaning S) → ((a b c : S) (u v : List Pa
 did_joins m joins a b c u v p q = record {
   moved = joins a b c u v p.moved q.moved;
   content = q.content ∙ ap (λ held. written held v) p.content ∙ written-append (m.content a) u v;
+  place = q.place ∙ ap (λ place. placed place v) p.place ∙ placed-append (m.place a) u v;
 }
 
--- nothing was done to it
+-- nothing was done to it, and it is attached where it was
 abbrev pub SameContent : PackStep → Type 0
 SameContent step = Did [] step
 
@@ -130,6 +158,7 @@ pub record PackRose (step : PackStep) : Type 0 where
 -- what a contract sees of a pack in memory
 pub record PackState : Type 0 where
   pub content : Option (List ℕ)  -- what it holds, until a write fails
+  pub place : Option PackPlace  -- where it is attached
   pub fails : List ℕ  -- the numbers of the calls that fail, counted from 0
   pub calls : ℕ  -- how many calls were made
   pub faults : ℕ  -- how many of them failed
@@ -137,11 +166,13 @@ pub record PackState : Type 0 where
 -- these were done to a pack in memory, whose calls fail by the same numbers as before
 pub record PackMoves (old new : PackState) (writes : List PackWrite) : Type 0 where
   pub content : new.content ≡ written old.content writes
+  pub place : new.place ≡ placed old.place writes
   pub fails : new.fails ≡ old.fails
 
 abbrev pub mem_pack : PackMeaning PackState
 mem_pack = record {
   content = λ p. p.content;
+  place = λ p. p.place;
   faults = λ p. p.faults;
   calls = λ p. Some p.calls;
   did = PackMoves;
@@ -149,10 +180,11 @@ mem_pack = record {
 
 -- nothing done leaves a pack as it is, and one thing after another is done
 pub pack_rests : (p : PackState) → PackMoves p p []
-pack_rests p = record { content = refl; fails = refl }
+pack_rests p = record { content = refl; place = refl; fails = refl }
 
 pub pack_joins : (a b c : PackState) (u v : List PackWrite) → PackMoves a b u → PackMoves b c v → PackMoves a c (u ++ v)
 pack_joins a b c u v p q = record {
   content = q.content ∙ ap (λ held. written held v) p.content ∙ written-append a.content u v;
+  place = q.place ∙ ap (λ place. placed place v) p.place ∙ placed-append a.place u v;
   fails = q.fails ∙ p.fails;
 }

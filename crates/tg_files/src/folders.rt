@@ -1,7 +1,7 @@
 //! Trees of files that are read.
 ghost use Rattle.std.specs.Prelude.{◌≡◌, ℕ, All, IfOk, IfErr, OnOk, OnErr};
 ghost use Rattle.tg_files.specs.Packs.{ReadAt};
-ghost use Rattle.tg_files.specs.Folders.{FolderCalled, FolderCounts, FolderMeaning, FolderQuiet, FolderRose, Leads, Lists, SameTree, TellsFolder, folder_step};
+ghost use Rattle.tg_files.specs.Folders.{AttachedAt, FolderCalled, FolderCounts, FolderMeaning, FolderQuiet, FolderRose, Leads, Lists, SameFolder, TellsFolder, folder_step};
 ghost use Rattle.tg_tree.specs.Tree.{HasFileAt, HasFolderAt, bytes_of, tree_at};
 ghost use Rattle.tg_files.specs.declared.folders.FolderFault.TheVariants.{Failed as FolderFailed, OutOfMemory};
 
@@ -48,12 +48,14 @@ impl<T: Drop> From<AllocFailed<T>> for FolderFault {
 
 /// A tree of files that is read. A place in it is a path of names from its top, which is the empty path.
 ///
-/// Its meaning is one record: `tree` is the whole tree, or `None` where it isn't told; `faults` counts the calls that failed
-/// and stands still at 2 ^ 64 - 1; `calls` counts the calls that were made, or is `None` where that isn't told.
+/// Its meaning is one record: `tree` is the whole tree, or `None` where it isn't told; `place` is the path at which the
+/// last `attach` that answered Ok attached it, and `None` before the first; `faults` counts the calls that failed and
+/// stands still at 2 ^ 64 - 1; `calls` counts the calls that were made, or is `None` where that isn't told.
 pub trait Folder {
     ghost folder: { FolderMeaning Self };
 
-    /// What it tells is a folder in which, and in each folder below, the names differ. It does nothing and isn't counted.
+    /// What it tells is a folder in which, and in each folder below, the names differ. It does nothing and isn't
+    /// counted.
     fn tells(&self)
         ensures { TellsFolder (folder.tree self.now) };
 
@@ -61,9 +63,10 @@ pub trait Folder {
     /// error is a fault of the folder, which stays the one that it was.
     fn attach(&mut self, path: &str) -> Result<(), Failed>
         ensures tells { OnOk result (TellsFolder (folder.tree self.new)) }
+        ensures at { OnOk result (AttachedAt path.now (folder_step folder self.old self.new)) }
         ensures quiet { OnOk result (FolderQuiet (folder_step folder self.old self.new)) }
         ensures call { FolderCalled (folder_step folder self.old self.new) }
-        ensures err_same { OnErr result (SameTree (folder_step folder self.old self.new)) }
+        ensures err_same { OnErr result (SameFolder (folder_step folder self.old self.new)) }
         ensures err_rose { OnErr result (FolderRose (folder_step folder self.old self.new)) };
 
     /// The names in the folder at a path, each with its sort, in any order. The error is a fault of the folder, or want
@@ -72,7 +75,7 @@ pub trait Folder {
         requires { HasFolderAt (folder.tree self.old) path.now }
         ensures items { IfOk result (λ items. Lists (tree_at (folder.tree self.old) path.now) items) }
         ensures leads { IfOk result (λ items. All (Leads (folder.tree self.old) path.now) items) }
-        ensures same { SameTree (folder_step folder self.old self.new) }
+        ensures same { SameFolder (folder_step folder self.old self.new) }
         ensures quiet { OnOk result (FolderQuiet (folder_step folder self.old self.new)) }
         ensures call { FolderCalled (folder_step folder self.old self.new) }
         ensures err_counts { IfErr result (λ e. FolderCounts e (folder_step folder self.old self.new)) };
@@ -83,7 +86,7 @@ pub trait Folder {
         requires { HasFileAt (folder.tree self.old) path.now }
         ensures read { let file = bytes_of (tree_at (folder.tree self.old) path.now) in
             IfOk result (λ n. ReadAt file offset n buf.new) }
-        ensures same { SameTree (folder_step folder self.old self.new) }
+        ensures same { SameFolder (folder_step folder self.old self.new) }
         ensures quiet { OnOk result (FolderQuiet (folder_step folder self.old self.new)) }
         ensures call { FolderCalled (folder_step folder self.old self.new) }
         ensures err_rose { OnErr result (FolderRose (folder_step folder self.old self.new)) };

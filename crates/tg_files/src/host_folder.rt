@@ -1,13 +1,17 @@
 //! Trees of files of the system.
-ghost use Rattle.std.specs.Prelude.{◌≡◌, ◌≤◌, ◌↔◌, length, None, All, IsTrue, IfOk, string_bytes};
-ghost use Rattle.std.specs.Fs.{IsDir, IsFile, IsSymlink, file_type, metadata_len};
+ghost use Rattle.std.specs.Prelude.{◌≡◌, ◌≤◌, ◌↔◌, length, None, All, IsTrue, IfOk, IfNone, IfSome, IsSomeAnd, OnOk, Some, ◌≢◌, option_map, string_bytes, string_cmp};
+ghost use Rattle.std.specs.BTreeMap.{InsertsAll, get_by_text};
+ghost use Rattle.std.specs.Fs.{IsDir, IsFile, IsSymlink, dir_entry_name, file_type, metadata_len};
+ghost use Rattle.std.specs.List.{AllZip};
 ghost use Rattle.tg_files.specs.Folders.{IsEntryName, path_below};
+ghost use Rattle.tg_files.specs.System.{HasSort, IsEntryOf};
 
 use crate::folders::{Folder, FolderFault};
+use crate::place::{Place, Target};
 use crate::reading::read_within;
 use std::alloc::{AllocError, Global};
 use std::collections::BTreeMap;
-use std::fs::{File, Metadata, OpenFile};
+use std::fs::{DirEntry, File, Metadata, OpenFile};
 use std::os::unix::fs::MetadataExt;
 use std::rt::Files;
 use std::{fs, io, str};
@@ -17,15 +21,18 @@ use tg_tree::{Item, Sort};
 
 /// A tree of files of the system that is read, as its folders listed it. Its files aren't told.
 ///
-/// What a folder didn't list isn't there. Below the attached folder no symbolic link is followed: what stands at a path is
-/// looked at once it is open, and it is a fault where it isn't the same object of the system that was listed. A file has as
-/// many bytes as it had when its folder was listed last: no byte behind them is given, and where it became shorter it is a
-/// fault. Every call before it is attached is a fault, and so is a path with a name that isn't text or that doesn't lead
-/// into a folder: an empty one, one with a slash, one dot and two.
+/// What a folder didn't list isn't there. Below the attached folder no symbolic link is followed: what stands at a path
+/// is looked at before it is opened and again once it is open, and it is a fault where it isn't the same object of the
+/// system that was listed. The file that was read last stays open until another path is read or listed. A file has as
+/// many bytes as it had when its folder was listed last: no byte behind them is given, and where it became shorter it
+/// is a fault. Every call before it is attached is a fault, and so is a path with a name that isn't text or that
+/// doesn't lead into a folder: an empty one, one with a slash, one dot and two.
 #[derive(Drop)]
-pub struct HostFolder<R> {
+pub struct HostFolder<R: Files> {
     rt: R,
     attached: Option<Attached>,
+    reading: Option<OpenedFile<R::File>>,
+    place: Place,
     failed: u64,
 }
 
@@ -34,6 +41,13 @@ pub struct HostFolder<R> {
 struct Attached {
     root: String,
     listed: BTreeMap<String, Listed>,
+}
+
+/// A file that is open, and the path of the system at which it stood.
+#[derive(Drop)]
+struct OpenedFile<F> {
+    path: String,
+    file: F,
 }
 
 /// What stood at a path when its folder was listed.
@@ -52,14 +66,23 @@ struct Listing {
     found: Vec<(String, Listed)>,
 }
 
-impl<R> HostFolder<R> {
+impl<R: Files> HostFolder<R> {
     /// A folder that is attached to nothing yet, with no fault counted.
     pub fn new(rt: R) -> HostFolder<R>
-        ensures { result ≡ record { rt = rt; attached = None; failed = 0 } }
+        ensures { result ≡ record {
+          rt = rt;
+          attached = None;
+          reading = None;
+          place = record
+              { at = None };
+          failed = 0;
+        } }
     {
         HostFolder {
             rt,
             attached: None,
+            reading: None,
+            place: Place::nowhere(),
             failed: 0,
         }
     }
@@ -75,8 +98,10 @@ impl<R> HostFolder<R> {
 impl<R: Files + AllocGlobal + Clone + Drop> HostFolder<R> {
     /// What stands in the folder at a path, which is kept.
     fn items(&mut self, names: &[Bytes]) -> Result<List<Item>, FolderFault>
-        ensures { self.new.failed ≡ self.old.failed }
+        ensures failed { self.new.failed ≡ self.old.failed }
+        ensures place { self.new.place ≡ self.old.place }
     {
+        self.reading = None;
         let Some(attached) = &mut self.attached else {
             return Err(FolderFault::Failed);
         };
@@ -95,9 +120,11 @@ impl<R: Files + AllocGlobal + Clone + Drop> HostFolder<R> {
         Ok(items)
     }
 
-    /// One read of the file at a path.
-    fn piece(&self, names: &[Bytes], offset: u64, buf: &mut [u8]) -> Result<usize, FolderFault>
-        ensures { IfOk result (λ n. n ≤ length buf.new) }
+    /// One read of the file at a path, which stays open where the read is done.
+    fn piece(&mut self, names: &[Bytes], offset: u64, buf: &mut [u8]) -> Result<usize, FolderFault>
+        ensures amount { IfOk result (λ n. n ≤ length buf.new) }
+        ensures failed { self.new.failed ≡ self.old.failed }
+        ensures place { self.new.place ≡ self.old.place }
     {
         let Some(attached) = &self.attached else {
             return Err(FolderFault::Failed);
@@ -106,17 +133,18 @@ impl<R: Files + AllocGlobal + Clone + Drop> HostFolder<R> {
         let Some(listed) = attached.file(path.as_str()) else {
             return Err(FolderFault::Failed);
         };
-        let mut file = File::open(&self.rt, path.as_str())?;
-        let found = file.metadata()?;
-        if !listed.is_same(&found) || found.len() < listed.size {
-            return Err(FolderFault::Failed);
-        }
-        Ok(read_within(&mut file, listed.size, offset, buf)?)
+        let mut opened = match self.reading.take() {
+            Some(opened) if opened.path.as_str() == path.as_str() => opened,
+            _ => open_listed(&self.rt, path, &listed)?,
+        };
+        let n = read_within(&mut opened.file, listed.size, offset, buf)?;
+        self.reading = Some(opened);
+        Ok(n)
     }
 }
 
 impl<R: Files + AllocGlobal + Clone + Drop> Folder for HostFolder<R> {
-    ghost folder = { record { tree = λ _. None; faults = λ f. f.failed; calls = λ _. None } };
+    ghost folder = { record { tree = λ _. None; place = λ f. option_map (λ p. p.path) f.place.at; faults = λ f. f.failed; calls = λ _. None } };
 
     fn tells(&self) {}
 
@@ -126,6 +154,8 @@ impl<R: Files + AllocGlobal + Clone + Drop> Folder for HostFolder<R> {
             Ok(root) => {
                 let listed = BTreeMap::new(self.rt.alloc());
                 self.attached = Some(Attached { root, listed });
+                self.reading = None;
+                self.place = Place::of(&Target { path, fresh: false });
                 Ok(())
             }
             Err(_) => {
@@ -144,8 +174,8 @@ impl<R: Files + AllocGlobal + Clone + Drop> Folder for HostFolder<R> {
         listed
     }
 
-    /// One read, begun anew where it is interrupted. Want of memory for the path is a fault, and so is an offset of 2 ^ 63
-    /// or more within the file.
+    /// One read, begun anew where it is interrupted. Want of memory for the path is a fault, and so is an offset of 2 ^
+    /// 63 or more within the file.
     fn read_at(&mut self, path: &[Bytes], offset: u64, buf: &mut [u8]) -> Result<usize, Failed> {
         match self.piece(path, offset, buf) {
             Ok(n) => Ok(n),
@@ -159,7 +189,11 @@ impl<R: Files + AllocGlobal + Clone + Drop> Folder for HostFolder<R> {
 
 impl Attached {
     /// Whether a folder was listed at the path, and this is it.
-    fn is_folder(&self, found: &Metadata, path: &str) -> bool {
+    fn is_folder(&self, found: &Metadata, path: &str) -> bool
+        ensures folder { IsTrue result → IsDir (file_type found.now) }
+        ensures listed { IsTrue result → IsSomeAnd (get_by_text self.now.listed path.now)
+            (λ listed. HasSort (file_type found.now) listed.sort) }
+    {
         match self.listed.get(path) {
             Some(listed) => found.is_dir() && listed.is_same(found),
             None => false,
@@ -167,7 +201,12 @@ impl Attached {
     }
 
     /// The file that was listed at the path.
-    fn file(&self, path: &str) -> Option<Listed> {
+    fn file(&self, path: &str) -> Option<Listed>
+        ensures listed { IfSome result (λ listed. get_by_text self.now.listed path.now ≡ Some listed) }
+        ensures file { IfSome result (λ listed. listed.sort ≡ Sort.File) }
+        ensures none { IfNone result (IfSome (get_by_text self.now.listed path.now)
+            (λ listed. listed.sort ≢ Sort.File)) }
+    {
         match self.listed.get(path) {
             Some(listed) if listed.sort == Sort::File => Some(*listed),
             _ => None,
@@ -175,11 +214,10 @@ impl Attached {
     }
 
     /// Keeps what a folder listed, in place of what it listed before.
-    fn keep(&mut self, found: Vec<(String, Listed)>) -> Result<(), AllocError> {
-        for (path, listed) in found {
-            self.listed.insert(path, listed)?;
-        }
-        Ok(())
+    fn keep(&mut self, found: Vec<(String, Listed)>) -> Result<(), AllocError>
+        ensures { OnOk result (InsertsAll string_cmp self.old.listed found.items self.new.listed) }
+    {
+        self.listed.extend(found)
     }
 }
 
@@ -187,6 +225,7 @@ impl Listed {
     /// What was found at a path.
     fn of(found: &Metadata) -> Listed
         ensures sort { result.sort ≡ Sort.File ↔ IsFile (file_type found.now) }
+        ensures sorted { HasSort (file_type found.now) result.sort }
         ensures size { result.size ≡ metadata_len found.now }
     {
         Listed {
@@ -198,30 +237,76 @@ impl Listed {
     }
 
     /// Whether this is the same object of the system, of the same sort.
-    fn is_same(&self, found: &Metadata) -> bool {
+    fn is_same(&self, found: &Metadata) -> bool
+        ensures { IsTrue result → HasSort (file_type found.now) self.now.sort }
+    {
         sort_of(found) == self.sort && found.dev() == self.device && found.ino() == self.number
     }
+}
+
+/// Opens the file that was listed at a path. It is a fault where another object of the system stands there, or where
+/// the file became shorter. It is looked at before it is opened too, since an open of a named pipe waits for its
+/// writer.
+fn open_listed<R: Files>(
+    rt: &R,
+    path: String,
+    listed: &Listed,
+) -> Result<OpenedFile<R::File>, FolderFault> {
+    if !listed.is_same(&fs::symlink_metadata(rt, path.as_str())?) {
+        return Err(FolderFault::Failed);
+    }
+    let file = File::open(rt, path.as_str())?;
+    let found = file.metadata()?;
+    if !listed.is_same(&found) || found.len() < listed.size {
+        return Err(FolderFault::Failed);
+    }
+    Ok(OpenedFile { path, file })
 }
 
 /// What stands in the folder at a path of the system.
 fn entries_of<R: Files + AllocGlobal + Clone + Drop>(
     rt: &R,
     path: &str,
-) -> Result<Listing, FolderFault> {
+) -> Result<Listing, FolderFault>
+    ensures { IfOk result (λ listing. AllZip (λ item found. IsEntryOf path.now item
+        (string_bytes found.0) found.1) listing.items listing.found.items) }
+{
     let alloc = rt.alloc();
     let mut items = List::new(alloc);
     let mut found = Vec::new(alloc);
     for entry in fs::read_dir(rt, path)? {
-        let entry = entry?;
-        let name = entry.file_name();
-        let listed = Listed::of(&entry.metadata()?);
-        found.push((format!(in alloc; "{path}/{name}")?, listed))?;
-        items.push(Item {
-            name: Bytes::of(alloc, name.as_bytes())?,
-            sort: listed.sort,
-        })?;
+        let (item, path, listed) = entry_of(alloc, path, &entry?)?;
+        found.push((path, listed))?;
+        items.push(item)?;
     }
     Ok(Listing { items, found })
+}
+
+/// One entry of the folder at a path of the system: its item, its own path, and what stands there.
+fn entry_of<R: Files>(
+    alloc: Global,
+    folder: &str,
+    entry: &DirEntry<R>,
+) -> Result<(Item, String, Listed), FolderFault>
+    ensures name { IfOk result (λ found. found.0.name ≡ dir_entry_name entry.now) }
+    ensures path { IfOk result (λ found. IsEntryOf folder.now found.0 (string_bytes found.1) found.2) }
+{
+    let name = entry.file_name();
+    let listed = Listed::of(&entry.metadata()?);
+    let mut path = String::from_str(alloc, folder)?;
+    path.push_str("/")?;
+    path.push_str(name)?;
+    Ok((item_of(alloc, name, listed.sort)?, path, listed))
+}
+
+/// The item of a name, which is kept whole.
+fn item_of(alloc: Global, name: &str, sort: Sort) -> Result<Item, AllocError>
+    ensures { IfOk result (λ item. item ≡ record { name = name.now; sort = sort }) }
+{
+    Ok(Item {
+        name: Bytes::of(alloc, name.as_bytes())?,
+        sort,
+    })
 }
 
 impl From<io::Error> for FolderFault {
@@ -235,7 +320,9 @@ impl From<io::Error> for FolderFault {
 }
 
 /// The path itself, which leads to a folder.
-fn root_of<R: Files + AllocGlobal>(rt: &R, path: &str) -> io::Result<String> {
+fn root_of<R: Files + AllocGlobal>(rt: &R, path: &str) -> io::Result<String>
+    ensures { IfOk result (λ root. string_bytes root ≡ path.now) }
+{
     if !fs::metadata(rt, path)?.is_dir() {
         return Err(io::Error::from(io::ErrorKind::NotADirectory));
     }
@@ -275,6 +362,7 @@ fn sort_of(found: &Metadata) -> Sort
     ensures file { result ≡ Sort.File ↔ IsFile (file_type found.now) }
     ensures folder { result ≡ Sort.Folder ↔ IsDir (file_type found.now) }
     ensures symlink { result ≡ Sort.Symlink ↔ IsSymlink (file_type found.now) }
+    ensures sort { HasSort (file_type found.now) result }
 {
     if found.is_file() {
         Sort::File

@@ -7,6 +7,7 @@ mod host_pack;
 mod mem_folder;
 mod mem_pack;
 mod packs;
+mod place;
 mod reading;
 
 pub use folders::{Folder, FolderFault};

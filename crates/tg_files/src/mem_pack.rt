@@ -5,6 +5,7 @@ ghost use Rattle.tg_files.specs.Packs.{Did, HasLength, PackCalled, PackQuiet, Pa
 ghost use Rattle.tg_files.specs.Packs.PackWrite.{append as added, attach as attached, overwrite as overwritten};
 
 use crate::packs::Pack;
+use crate::place::{Place, Target};
 use crate::reading::read_front;
 use std::marker::Model;
 use tg_bytes::{Bytes, List};
@@ -15,6 +16,7 @@ use tg_faults::{Calls, Failed};
 #[derive(Debug, Drop)]
 pub struct MemPack {
     content: Option<Bytes>,
+    place: Place,
     calls: Calls,
 }
 
@@ -23,16 +25,17 @@ impl Model for MemPack {
 
     ghost Value = { PackState };
 
-    ghost view = { λ p. record { content = p.content; fails = p.calls.fails; calls = p.calls.made; faults = p.calls.faults } };
+    ghost view = { λ p. record { content = p.content; place = p.place.at; fails = p.calls.fails; calls = p.calls.made; faults = p.calls.faults } };
 }
 
 impl MemPack {
     /// A pack of these bytes. The calls whose numbers stand in `fails`, counted from 0, fail.
     pub fn new(content: Bytes, fails: List<u64>) -> MemPack
-        ensures { result ≡ record { content = Some content; fails = fails; calls = 0; faults = 0 } }
+        ensures { result ≡ record { content = Some content; place = None; fails = fails; calls = 0; faults = 0 } }
     {
         MemPack {
             content: Some(content),
+            place: Place::nowhere(),
             calls: Calls::new(fails),
         }
     }
@@ -72,9 +75,9 @@ impl Pack for MemPack {
 
     ghost joins = { λ a b c u v. pack_joins a b c u v };
 
-    /// The path isn't looked at. It fails exactly where the call's number stands in the list that it was given.
-    fn attach(&mut self, _path: &str, fresh: bool) -> Result<(), Failed>
-        ensures did { OnOk result (Did (attached fresh ∷ []) (pack_step mem_pack self.old self.new)) }
+    /// The path isn't looked for. It fails exactly where the call's number stands in the list that it was given.
+    fn attach(&mut self, path: &str, fresh: bool) -> Result<(), Failed>
+        ensures did { OnOk result (Did (attached path.now fresh ∷ []) (pack_step mem_pack self.old self.new)) }
         ensures quiet { OnOk result (PackQuiet (pack_step mem_pack self.old self.new)) }
         ensures call { PackCalled (pack_step mem_pack self.old self.new) }
         ensures err_same { OnErr result (SameContent (pack_step mem_pack self.old self.new)) }
@@ -88,6 +91,7 @@ impl Pack for MemPack {
         if fresh && let Some(content) = &mut self.content {
             content.clear();
         }
+        self.place = Place::of(&Target { path, fresh });
         Ok(())
     }
 
@@ -107,8 +111,8 @@ impl Pack for MemPack {
         Ok(self.bytes().len() as u64)
     }
 
-    /// Reads as many bytes as the buffer and the pack allow. It fails exactly where the call's number stands in the list
-    /// that it was given.
+    /// Reads as many bytes as the buffer and the pack allow. It fails exactly where the call's number stands in the
+    /// list that it was given.
     fn read_at(&mut self, offset: u64, buf: &mut [u8]) -> Result<usize, Failed>
         ensures read { IfOk result (λ n. ReadAt self.old.content offset n buf.new) }
         ensures same { SameContent (pack_step mem_pack self.old self.new) }

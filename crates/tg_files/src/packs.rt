@@ -7,9 +7,10 @@ use tg_faults::Failed;
 
 /// Bytes that are kept in one place, such as a file, and are read, replaced and added to.
 ///
-/// Its meaning is one record: `content` is all of its bytes, or `None` where they aren't told; `faults` counts the calls
-/// that failed and stands still at 2 ^ 64 - 1; `calls` counts the calls that were made, or is `None` where that isn't told;
-/// `did` relates a value, what it became, and what was done to it meanwhile, one after another: it holds the facts that the
+/// Its meaning is one record: `content` is all of its bytes, or `None` where they aren't told; `place` is where the
+/// last `attach` that answered Ok attached it, and `None` before the first; `faults` counts the calls that failed and
+/// stands still at 2 ^ 64 - 1; `calls` counts the calls that were made, or is `None` where that isn't told; `did`
+/// relates a value, what it became, and what was done to it meanwhile, one after another: it holds the facts that the
 /// kind of pack knows of itself. A write that failed may have written a part, so the bytes aren't told after it.
 pub trait Pack {
     ghost pack: { PackMeaning Self };
@@ -17,7 +18,7 @@ pub trait Pack {
     /// Keeps the bytes at a path of the system from now on: none where it is `fresh`, and else those that are there.
     /// The error is a fault of the pack, which stays where it was.
     fn attach(&mut self, path: &str, fresh: bool) -> Result<(), Failed>
-        ensures did { OnOk result (Did (attached fresh ∷ []) (pack_step pack self.old self.new)) }
+        ensures did { OnOk result (Did (attached path.now fresh ∷ []) (pack_step pack self.old self.new)) }
         ensures quiet { OnOk result (PackQuiet (pack_step pack self.old self.new)) }
         ensures call { PackCalled (pack_step pack self.old self.new) }
         ensures err_same { OnErr result (SameContent (pack_step pack self.old self.new)) }
@@ -40,8 +41,8 @@ pub trait Pack {
         ensures call { PackCalled (pack_step pack self.old self.new) }
         ensures err_rose { OnErr result (PackRose (pack_step pack self.old self.new)) };
 
-    /// Puts all of the bytes in place of as many from `offset` on. The error is a fault of the pack, whose bytes then
-    /// aren't told any more.
+    /// Puts all of the bytes in place of as many from `offset` on; a pack that outlives the program then lasts, with all
+    /// that was written to it. The error is a fault of the pack, whose bytes then aren't told any more.
     fn write_at(&mut self, offset: u64, bytes: &[u8]) -> Result<(), Failed>
         requires { Reaches (pack.content self.old) (offset + length bytes.now) }
         ensures did { OnOk result (Did (overwritten offset bytes.now ∷ []) (pack_step pack self.old self.new)) }

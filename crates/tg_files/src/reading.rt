@@ -49,8 +49,8 @@ pub(crate) fn read_within<F: Read + Seek>(
     Ok(n)
 }
 
-/// One read of a file from an offset on, in bytes, which is begun anew where it is interrupted; 0 bytes say that the file ends
-/// there or that the buffer has no room. Errors: those of the file (POSIX.1-2017, `lseek` and `read`).
+/// One read of a file from an offset on, in bytes, which is begun anew where it is interrupted; 0 bytes say that the
+/// file ends there or that the buffer has no room. Errors: those of the file (POSIX.1-2017, `lseek` and `read`).
 pub fn read_from<F: Read + Seek>(file: &mut F, offset: u64, buf: &mut [u8]) -> io::Result<usize>
     ensures within { ReadsAtMost result buf.new }
 

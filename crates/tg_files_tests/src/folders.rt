@@ -1,9 +1,10 @@
 //! Folders in memory and of the system, and what generic code knows of any folder.
 ghost use Rattle.std.specs.Prelude.{◌≡◌, [], All, IfOk, IfErr};
-ghost use Rattle.tg_files.specs.Folders.{FolderCalled, FolderCounts, Leads, Lists, SameTree, folder_step};
+ghost use Rattle.tg_files.specs.Folders.{FolderCalled, FolderCounts, Leads, Lists, SameFolder, folder_step};
 ghost use Rattle.tg_tree.specs.Tree.{tree_at};
 
-use crate::rough_files::RoughFiles;
+use crate::rough_files::{PLAIN, Plan, RoughFiles};
+use std::alloc::Global;
 use std::fs::File;
 use std::io::{Seek, SeekFrom, Write};
 use std::os::unix::fs::symlink;
@@ -11,18 +12,27 @@ use std::rt::Files;
 use std::test::Fail;
 use std::{env, fs, process};
 use tg_bytes::{Bytes, List};
-use tg_faults::Failed;
 use tg_files::{Folder, FolderFault, HostFolder, MemFolder};
 use tg_tree::{Item, Sort, Tree, path_of_entry, sort_by_name};
 
 /// The first offset that has no place in 32 bits.
 pub const FOUR_GIB: u64 = 0x1_0000_0000;
 
+// Names of 64, 65 and 255 bytes, which is the most that a file system takes.
+const NAME_64: &str = "xxxxxxxxxxxxxxxxxxxxxxxxxxxxxxxxxxxxxxxxxxxxxxxxxxxxxxxxxxxxxxxx";
+
+const NAME_65: &str = "xxxxxxxxxxxxxxxxxxxxxxxxxxxxxxxxxxxxxxxxxxxxxxxxxxxxxxxxxxxxxxxxx";
+
+const NAME_255: &str =
+    "xxxxxxxxxxxxxxxxxxxxxxxxxxxxxxxxxxxxxxxxxxxxxxxxxxxxxxxxxxxxxxxxxxxxxxxxxxxxxxxxxxxxxxxxxxxxxxxxxxxx\
+        xxxxxxxxxxxxxxxxxxxxxxxxxxxxxxxxxxxxxxxxxxxxxxxxxxxxxxxxxxxxxxxxxxxxxxxxxxxxxxxxxxxxxxxxxxxxxxxxxxxx\
+        xxxxxxxxxxxxxxxxxxxxxxxxxxxxxxxxxxxxxxxxxxxxxxxxxxxxxxx";
+
 /// The names at the top of any folder, also of one that wasn't attached here.
 fn top_items<F: Folder>(folder: &mut F) -> Result<List<Item>, FolderFault>
     ensures items { IfOk result (λ items. Lists (tree_at (F.folder.tree folder.old) []) items) }
     ensures leads { IfOk result (λ items. All (Leads (F.folder.tree folder.old) []) items) }
-    ensures same { SameTree (folder_step F.folder folder.old folder.new) }
+    ensures same { SameFolder (folder_step F.folder folder.old folder.new) }
     ensures call { FolderCalled (folder_step F.folder folder.old folder.new) }
     ensures err_counts { IfErr result (λ e. FolderCounts e (folder_step F.folder folder.old folder.new)) }
 {
@@ -30,13 +40,9 @@ fn top_items<F: Folder>(folder: &mut F) -> Result<List<Item>, FolderFault>
     folder.list(&[])
 }
 
-/// Whether a folder lists these names and sorts and no others; they stand in the order of the names.
-fn are(listed: Result<List<Item>, FolderFault>, wanted: &[(&str, Sort)]) -> bool {
-    let Ok(mut items) = listed else {
-        return false;
-    };
-    sort_by_name(&mut items);
-    for (i, item) in items.as_slice().iter().enumerate() {
+/// Whether these are items of these names and sorts and no others; they stand in the order of the names.
+fn are(items: &[Item], wanted: &[(&str, Sort)]) -> bool {
+    for (i, item) in items.iter().enumerate() {
         let Some((name, sort)) = wanted.get(i) else {
             return false;
         };
@@ -44,15 +50,12 @@ fn are(listed: Result<List<Item>, FolderFault>, wanted: &[(&str, Sort)]) -> bool
             return false;
         }
     }
-    items.as_slice().len() == wanted.len()
+    items.len() == wanted.len()
 }
 
-/// Whether a folder lists this name with this sort.
-fn has(listed: Result<List<Item>, FolderFault>, name: &str, sort: Sort) -> bool {
-    let Ok(items) = listed else {
-        return false;
-    };
-    for item in items.as_slice() {
+/// Whether one of the items has this name and this sort.
+fn has(items: &[Item], name: &str, sort: Sort) -> bool {
+    for item in items {
         if item.name.as_slice() == name.as_bytes() {
             return item.sort == sort;
         }
@@ -60,124 +63,442 @@ fn has(listed: Result<List<Item>, FolderFault>, name: &str, sort: Sort) -> bool 
     false
 }
 
+/// Whether a folder lists these names and sorts and no others.
+fn are_listed(listed: Result<List<Item>, FolderFault>, wanted: &[(&str, Sort)]) -> bool {
+    match listed {
+        Ok(mut items) => {
+            sort_by_name(&mut items);
+            are(items.as_slice(), wanted)
+        }
+        Err(_) => false,
+    }
+}
+
+/// The number alone, or none where memory is wanted.
+pub fn fails_at(alloc: Global, number: u64) -> Option<List<u64>> {
+    let mut fails = List::new(alloc);
+    match fails.push(number) {
+        Ok(()) => Some(fails),
+        Err(_) => None,
+    }
+}
+
+/// Adds an entry, and says whether there was memory.
+fn push_entry(
+    alloc: Global,
+    entries: &mut List<(Bytes, Tree)>,
+    name: &[u8],
+    tree: Option<Tree>,
+) -> bool {
+    let Some(tree) = tree else {
+        return false;
+    };
+    match Bytes::of(alloc, name) {
+        Ok(name) => entries.push((name, tree)).is_ok(),
+        Err(_) => false,
+    }
+}
+
+/// A file of these bytes.
+fn file_of(alloc: Global, bytes: &[u8]) -> Option<Tree> {
+    match Bytes::of(alloc, bytes) {
+        Ok(bytes) => Some(Tree::File(bytes)),
+        Err(_) => None,
+    }
+}
+
+/// A symbolic link with this target.
+fn link_to(alloc: Global, target: &[u8]) -> Option<Tree> {
+    match Bytes::of(alloc, target) {
+        Ok(target) => Some(Tree::Symlink(target)),
+        Err(_) => None,
+    }
+}
+
+/// A folder of two files.
+fn docs(alloc: Global) -> Option<Tree> {
+    let mut entries = List::new(alloc);
+    let are_there = push_entry(alloc, &mut entries, b"b.txt", file_of(alloc, b"abc"))
+        && push_entry(alloc, &mut entries, b"none", file_of(alloc, b""));
+    if are_there {
+        Some(Tree::Folder(entries.into_vec()))
+    } else {
+        None
+    }
+}
+
 /// A folder with a folder of two files and a symbolic link.
-fn sample(rt: &HostRuntime) -> Result<Tree, Fail> {
-    let alloc = rt.alloc();
-    let mut docs = List::new(alloc);
-    docs.push((
-        Bytes::of(alloc, b"b.txt")?,
-        Tree::File(Bytes::of(alloc, b"abc")?),
-    ))?;
-    docs.push((Bytes::of(alloc, b"none")?, Tree::File(Bytes::new(alloc))))?;
-    let mut top = List::new(alloc);
-    top.push((Bytes::of(alloc, b"docs")?, Tree::Folder(docs.into_vec())))?;
-    top.push((
-        Bytes::of(alloc, b"link")?,
-        Tree::Symlink(Bytes::of(alloc, b"docs")?),
-    ))?;
-    Ok(Tree::Folder(top.into_vec()))
+fn sample(alloc: Global) -> Option<Tree> {
+    let mut entries = List::new(alloc);
+    let are_there = push_entry(alloc, &mut entries, b"docs", docs(alloc))
+        && push_entry(alloc, &mut entries, b"link", link_to(alloc, b"docs"));
+    if are_there {
+        Some(Tree::Folder(entries.into_vec()))
+    } else {
+        None
+    }
+}
+
+/// The sample in memory, whose call 5 fails.
+fn sample_folder(alloc: Global) -> Option<MemFolder> {
+    let Some(tree) = sample(alloc) else {
+        return None;
+    };
+    let Some(fails) = fails_at(alloc, 5) else {
+        return None;
+    };
+    if tree.sort() != Sort::Folder || !tree.names_differ() {
+        return None;
+    }
+    Some(MemFolder::new(alloc, tree, fails))
+}
+
+/// The path of these names.
+fn path_of(alloc: Global, names: &[&str]) -> Option<List<Bytes>> {
+    let mut path = List::new(alloc);
+    for name in names {
+        match path_of_entry(alloc, path.as_slice(), name.as_bytes()) {
+            Ok(longer) => path = longer,
+            Err(_) => return None,
+        }
+    }
+    Some(path)
+}
+
+/// Whether the folder in memory lists these names in `docs`.
+fn lists_docs(alloc: Global, folder: &mut MemFolder, wanted: &[(&str, Sort)]) -> bool {
+    match path_of(alloc, &["docs"]) {
+        Some(path) => are_listed(folder.list(path.as_slice()), wanted),
+        None => false,
+    }
+}
+
+/// Whether one read of `b.txt` gives just these bytes.
+fn reads_b(alloc: Global, folder: &mut MemFolder, offset: u64, wanted: &[u8]) -> bool {
+    let mut buf = [0; 8];
+    match path_of(alloc, &["docs", "b.txt"]) {
+        Some(path) => match folder.read_at(path.as_slice(), offset, &mut buf) {
+            Ok(n) => n == wanted.len() && buf.starts_with(wanted),
+            Err(_) => false,
+        },
+        None => false,
+    }
+}
+
+/// Whether the folder in memory is attached.
+fn is_at(folder: &mut MemFolder) -> bool {
+    folder.attach("anywhere").is_ok()
+}
+
+/// Whether generic code finds these names at the top.
+fn has_at_top(folder: &mut MemFolder, wanted: &[(&str, Sort)]) -> bool {
+    are_listed(top_items(folder), wanted)
+}
+
+/// Whether generic code finds a fault.
+fn fails_at_top(folder: &mut MemFolder) -> bool {
+    top_items(folder).is_err()
+}
+
+/// Whether the sample is listed and read, and fails at its number.
+fn is_read(alloc: Global, folder: &mut MemFolder) -> bool {
+    is_at(folder)
+        && lists_docs(
+            alloc,
+            folder,
+            &[("b.txt", Sort::File), ("none", Sort::File)],
+        )
+        && reads_b(alloc, folder, 1, b"bc")
+        && reads_b(alloc, folder, u64::MAX, b"")
+        && has_at_top(folder, &[("docs", Sort::Folder), ("link", Sort::Symlink)])
+        && fails_at_top(folder)
+        && folder.count() == 1
+}
+
+/// Whether it is so of a sample in memory.
+fn is_read_in_memory(alloc: Global) -> bool {
+    match sample_folder(alloc) {
+        Some(mut folder) => is_read(alloc, &mut folder),
+        None => false,
+    }
 }
 
 #[test]
-fn a_folder_in_memory_is_read_and_fails_at_its_number(rt: HostRuntime) -> Result<(), Fail> {
-    let docs = path_of_entry(rt.alloc(), &[], b"docs")?;
-    let file = path_of_entry(rt.alloc(), docs.as_slice(), b"b.txt")?;
-    let tree = sample(&rt)?;
-    assert!(rt; tree.sort() == Sort::Folder && tree.names_differ());
-    let mut folder = MemFolder::new(rt.alloc(), tree, numbers(&rt, &[5])?);
-    let mut buf = [0; 8];
-    assert_eq!(rt; folder.attach("anywhere"), Ok(()));
-    let within = [("b.txt", Sort::File), ("none", Sort::File)];
-    assert!(rt; are(folder.list(docs.as_slice()), &within));
-    assert_eq!(rt; folder.read_at(file.as_slice(), 1, &mut buf), Ok(2));
-    assert!(rt; buf.starts_with(b"bc"));
-    assert_eq!(rt; folder.read_at(file.as_slice(), u64::MAX, &mut buf), Ok(0));
-    let top = [("docs", Sort::Folder), ("link", Sort::Symlink)];
-    assert!(rt; are(top_items(&mut folder), &top));
-    assert!(rt; top_items(&mut folder).is_err());
-    assert_eq!(rt; folder.count(), 1);
-    Ok(())
+fn a_folder_in_memory_is_read_and_fails_at_its_number(rt: HostRuntime) {
+    assert!(rt; is_read_in_memory(rt.alloc()));
 }
 
-/// Whether one read of a file gives just these bytes, or fails where none are wanted.
-fn reads<R: Files + AllocGlobal + Clone + Drop>(
+/// A call to a folder of the system, and what it is to give. A path is that of the names.
+#[derive(Clone, Copy)]
+enum Call<'a> {
+    /// The folder at a path in the test's folder, or at a path of the system, is taken.
+    Attach(&'a str),
+    /// Just these are listed.
+    List(&'a [&'a str], &'a [(&'a str, Sort)]),
+    /// One of the names that are listed has this sort.
+    Has(&'a [&'a str], &'a str, Sort),
+    Read(&'a [&'a str], u64, &'a str),
+    /// How many calls have failed.
+    Count(u64),
+}
+
+/// Whether the folder at the path is taken.
+fn attaches<R: Files + AllocGlobal + Clone + Drop>(
+    alloc: Global,
     folder: &mut HostFolder<R>,
-    path: &[Bytes],
+    top: &str,
+    path: &str,
+) -> bool {
+    match path_in(alloc, top, path) {
+        Some(path) => folder.attach(path.as_str()).is_ok(),
+        None => false,
+    }
+}
+
+/// What the folder lists at the path of these names.
+fn items_at<R: Files + AllocGlobal + Clone + Drop>(
+    alloc: Global,
+    folder: &mut HostFolder<R>,
+    names: &[&str],
+) -> Option<List<Item>> {
+    match path_of(alloc, names) {
+        Some(path) => folder.list(path.as_slice()).ok(),
+        None => None,
+    }
+}
+
+/// Whether the folder lists just these.
+fn lists<R: Files + AllocGlobal + Clone + Drop>(
+    alloc: Global,
+    folder: &mut HostFolder<R>,
+    names: &[&str],
+    wanted: &[(&str, Sort)],
+) -> bool {
+    match items_at(alloc, folder, names) {
+        Some(items) => are_listed(Ok(items), wanted),
+        None => false,
+    }
+}
+
+/// Whether the folder lists this one among others.
+fn lists_one<R: Files + AllocGlobal + Clone + Drop>(
+    alloc: Global,
+    folder: &mut HostFolder<R>,
+    names: &[&str],
+    name: &str,
+    sort: Sort,
+) -> bool {
+    match items_at(alloc, folder, names) {
+        Some(items) => has(items.as_slice(), name, sort),
+        None => false,
+    }
+}
+
+/// Whether one read of a file gives just these bytes.
+fn reads<R: Files + AllocGlobal + Clone + Drop>(
+    alloc: Global,
+    folder: &mut HostFolder<R>,
+    names: &[&str],
     offset: u64,
-    wanted: Option<&str>,
+    wanted: &str,
 ) -> bool {
     let mut buf = [0; 8];
-    match (folder.read_at(path, offset, &mut buf), wanted) {
-        (Ok(n), Some(text)) => n == text.len() && buf.starts_with(text.as_bytes()),
-        (Err(Failed), None) => true,
-        _ => false,
+    match path_of(alloc, names) {
+        Some(path) => match folder.read_at(path.as_slice(), offset, &mut buf) {
+            Ok(n) => n == wanted.len() && buf.starts_with(wanted.as_bytes()),
+            Err(_) => false,
+        },
+        None => false,
     }
 }
 
-/// What the calls should have come to, to a folder whose reads go wrong.
-fn goes_on(files: RoughFiles, path: &[Bytes], offset: u64, wanted: Option<&str>) -> [bool; 4] {
-    let mut folder = HostFolder::new(files);
-    [
-        folder.attach("anywhere").is_ok(),
-        are(folder.list(&[]), &[("f", Sort::File), ("g", Sort::File)]),
-        reads(&mut folder, path, offset, wanted),
-        folder.count() == if wanted.is_some() { 0 } else { 1 },
-    ]
+/// Whether the call is no fault, and gives what it is to give. The folder of the test is at `top`.
+fn works<R: Files + AllocGlobal + Clone + Drop>(
+    alloc: Global,
+    folder: &mut HostFolder<R>,
+    top: &str,
+    call: Call,
+) -> bool {
+    match call {
+        Call::Attach(path) => attaches(alloc, folder, top, path),
+        Call::List(names, wanted) => lists(alloc, folder, names, wanted),
+        Call::Has(names, name, sort) => lists_one(alloc, folder, names, name, sort),
+        Call::Read(names, offset, wanted) => reads(alloc, folder, names, offset, wanted),
+        Call::Count(count) => folder.count() == count,
+    }
+}
+
+/// What is told of a file, how its calls go, the last of its names, the offset that is read, and what is given, or none
+/// where it is a fault.
+type Rough = (&'static str, Plan, &'static str, u64, Option<&'static str>);
+
+const ROUGH: &[Rough] = &[
+    ("interrupted", PLAIN, "f", 0, Some("hel")),
+    ("at the end", PLAIN, "f", 11, Some("")),
+    (
+        "fails at the front",
+        Plan {
+            fails_at: 0,
+            ..PLAIN
+        },
+        "f",
+        0,
+        None,
+    ),
+    (
+        "before it fails",
+        Plan {
+            fails_at: 5,
+            ..PLAIN
+        },
+        "f",
+        4,
+        Some("o w"),
+    ),
+    (
+        "fails behind the front",
+        Plan {
+            fails_at: 5,
+            ..PLAIN
+        },
+        "f",
+        6,
+        None,
+    ),
+    (
+        "ends before its size",
+        Plan {
+            size: 20,
+            opened_size: 20,
+            ..PLAIN
+        },
+        "f",
+        11,
+        None,
+    ),
+    (
+        "behind its size",
+        Plan { size: 5, ..PLAIN },
+        "f",
+        3,
+        Some("lo"),
+    ),
+    (
+        "far behind its size",
+        Plan { size: 5, ..PLAIN },
+        "f",
+        5,
+        Some(""),
+    ),
+    (
+        "shorter once it is open",
+        Plan {
+            opened_size: 5,
+            ..PLAIN
+        },
+        "f",
+        0,
+        None,
+    ),
+    (
+        "another thing once it is open",
+        Plan {
+            is_replaced: true,
+            ..PLAIN
+        },
+        "f",
+        0,
+        None,
+    ),
+    (
+        "a name of 64 bytes",
+        Plan {
+            last: NAME_64,
+            ..PLAIN
+        },
+        NAME_64,
+        6,
+        Some("wor"),
+    ),
+    (
+        "a name of 65 bytes",
+        Plan {
+            last: NAME_65,
+            ..PLAIN
+        },
+        NAME_65,
+        6,
+        Some("wor"),
+    ),
+    (
+        "a name of 255 bytes",
+        Plan {
+            last: NAME_255,
+            ..PLAIN
+        },
+        NAME_255,
+        6,
+        Some("wor"),
+    ),
+    (
+        "none of 64 bytes",
+        Plan {
+            last: NAME_65,
+            ..PLAIN
+        },
+        NAME_64,
+        6,
+        None,
+    ),
+];
+
+/// Whether the folder of a plan lists its names.
+fn lists_all(alloc: Global, folder: &mut HostFolder<RoughFiles>, last: &str) -> bool {
+    let names = [("f", Sort::File), ("g", Sort::File), (last, Sort::File)];
+    let count = if last.is_empty() { 2 } else { 3 };
+    attaches(alloc, folder, "", "anywhere") && lists(alloc, folder, &[], &names[..count])
+}
+
+/// Whether the folder of a plan lists its names, and one read of a file gives this, or is the only fault.
+fn goes_on(alloc: Global, plan: Plan, name: &str, offset: u64, wanted: Option<&str>) -> bool {
+    let mut folder = HostFolder::new(RoughFiles { alloc, plan });
+    lists_all(alloc, &mut folder, plan.last)
+        && reads(alloc, &mut folder, &[name], offset, wanted.unwrap_or("")) == wanted.is_some()
+        && folder.count() == if wanted.is_some() { 0 } else { 1 }
 }
 
 #[test]
-fn reads_of_a_folder_that_go_wrong(rt: HostRuntime) -> Result<(), Fail> {
-    let plain = RoughFiles::new(rt.alloc());
-    let at_0 = RoughFiles {
-        fails_at: 0,
-        ..plain
-    };
-    let at_5 = RoughFiles {
-        fails_at: 5,
-        ..plain
-    };
-    let short = RoughFiles {
-        size: 20,
-        opened_size: 20,
-        ..plain
-    };
-    let grown = RoughFiles { size: 5, ..plain };
-    let cut = RoughFiles {
-        opened_size: 5,
-        ..plain
-    };
-    let replaced = RoughFiles {
-        is_replaced: true,
-        ..plain
-    };
-    let rows = [
-        ("interrupted", plain, 0, Some("hel")),
-        ("at the end", plain, 11, Some("")),
-        ("fails at the front", at_0, 0, None),
-        ("before it fails", at_5, 4, Some("o w")),
-        ("fails behind the front", at_5, 6, None),
-        ("ends before its size", short, 11, None),
-        ("behind its size", grown, 3, Some("lo")),
-        ("far behind its size", grown, 5, Some("")),
-        ("shorter once it is open", cut, 0, None),
-        ("another thing once it is open", replaced, 0, None),
-    ];
-    let path = path_of_entry(rt.alloc(), &[], b"f")?;
-    for (row, files, offset, wanted) in rows {
-        assert_eq!(rt;
-            goes_on(files, path.as_slice(), offset, wanted),
-            [true; 4],
-            "{row}"
-        );
+fn reads_of_a_folder_that_go_wrong(rt: HostRuntime) {
+    for (row, plan, name, offset, wanted) in ROUGH {
+        assert!(rt; goes_on(rt.alloc(), *plan, name, *offset, *wanted), "{row}");
     }
-    let mut folder = HostFolder::new(RoughFiles {
+}
+
+/// Whether a listing that breaks off is the only fault.
+fn breaks_off(alloc: Global) -> bool {
+    let plan = Plan {
         breaks_off: true,
-        ..plain
-    });
-    assert_eq!(rt; folder.attach("anywhere"), Ok(()));
-    assert!(rt; folder.list(&[]).is_err());
-    assert_eq!(rt; folder.count(), 1);
-    Ok(())
+        ..PLAIN
+    };
+    let mut folder = HostFolder::new(RoughFiles { alloc, plan });
+    attaches(alloc, &mut folder, "", "anywhere")
+        && items_at(alloc, &mut folder, &[]).is_none()
+        && folder.count() == 1
+}
+
+#[test]
+fn a_listing_that_breaks_off(rt: HostRuntime) {
+    assert!(rt; breaks_off(rt.alloc()));
+}
+
+/// The path of the system of a path in the folder at `top`, or of one that begins with a slash.
+pub fn path_in(alloc: Global, top: &str, path: &str) -> Option<String> {
+    let made = if path.starts_with('/') {
+        String::from_str(alloc, path)
+    } else {
+        format!(in alloc; "{top}/{path}")
+    };
+    made.ok()
 }
 
 /// An empty folder of the test's own.
@@ -193,13 +514,13 @@ pub fn fresh_folder(rt: &HostRuntime, test: &str) -> Result<String, Fail> {
 }
 
 /// The path of the system of a name in the folder at `top`.
-pub fn inner(rt: &HostRuntime, top: &str, name: &str) -> Result<String, Fail> {
+fn inner(rt: &HostRuntime, top: &str, name: &str) -> Result<String, Fail> {
     Ok(format!(in rt.alloc(); "{top}/{name}")?)
 }
 
 /// A file of zeros up to 2 ^ 32, and a dot and `end` behind them.
-pub fn write_sparse(rt: &HostRuntime, path: &str) -> Result<(), Fail> {
-    let mut file = File::create(rt, path)?;
+pub fn write_sparse(rt: &HostRuntime, top: &str, name: &str) -> Result<(), Fail> {
+    let mut file = File::create(rt, inner(rt, top, name)?.as_str())?;
     file.seek(SeekFrom::Start(FOUR_GIB))?;
     file.write_all(b".end")?;
     Ok(())
@@ -212,7 +533,7 @@ fn write(rt: &HostRuntime, top: &str, name: &str, bytes: &[u8]) -> Result<(), Fa
 }
 
 /// The names and sorts in the folder that `fill` makes, to which `through` leads.
-const NAMES: [(&str, Sort); 11] = [
+const NAMES: &[(&str, Sort)] = &[
     ("..two", Sort::File),
     (".hidden", Sort::File),
     ("changes", Sort::File),
@@ -224,61 +545,51 @@ const NAMES: [(&str, Sort); 11] = [
     ("shrinks", Sort::File),
     ("sparse", Sort::File),
     ("through", Sort::Symlink),
+    (NAME_64, Sort::File),
+    (NAME_65, Sort::File),
+    (NAME_255, Sort::File),
 ];
 
-/// What is read from an offset on, once the folder that `fill` made was listed and `change` had changed it.
-const ROWS: [(&str, u64, Option<&str>); 18] = [
-    (".hidden", 0, Some("bytes")),
-    ("..two", 1, Some("ytes")),
-    ("none", 0, Some("")),
-    ("sparse", FOUR_GIB, Some(".end")),
-    ("sparse", FOUR_GIB + 4, Some("")),
-    ("sparse", 0, Some("\0\0\0\0\0\0\0\0")),
-    ("grows", 2, Some("tes")),
-    ("grows", 5, Some("")),
-    ("shrinks", 0, None),
-    ("changes", 0, None),
-    ("link", 0, None),
-    ("docs", 0, None),
-    ("missing", 0, None),
-    ("", 0, None),
-    (".", 0, None),
-    ("..", 0, None),
-    ("docs/file", 0, None),
-    ("none/", 0, None),
-];
+/// What stands under one of the names: `sparse` is larger than 4 GiB, each folder holds one file, and each other file
+/// but `none` has the bytes `bytes`.
+fn make(rt: &HostRuntime, top: &str, name: &str, sort: Sort) -> Result<(), Fail> {
+    let path = inner(rt, top, name)?;
+    match (sort, name) {
+        (Sort::Folder, _) => {
+            fs::create_dir(rt, path.as_str())?;
+            write(rt, path.as_str(), "file", b"within")
+        }
+        (Sort::File, "sparse") => write_sparse(rt, top, name),
+        (Sort::File, "none") => write(rt, top, name, b""),
+        (Sort::File, _) => write(rt, top, name, b"bytes"),
+        (_, "link") => link(rt, "other", path.as_str()),
+        _ => link(rt, top, path.as_str()),
+    }
+}
 
-/// Files with names of each kind, one that is larger than 4 GiB, two folders of one file and two symbolic links.
+/// A symbolic link at a path.
+fn link(rt: &HostRuntime, target: &str, path: &str) -> Result<(), Fail> {
+    symlink(rt, target, path)?;
+    Ok(())
+}
+
+/// Files with names of each kind, two folders and two symbolic links.
 fn fill(rt: &HostRuntime, top: &str) -> Result<(), Fail> {
     for (name, sort) in NAMES {
-        let path = inner(rt, top, name)?;
-        match sort {
-            Sort::Folder => {
-                fs::create_dir(rt, path.as_str())?;
-                write(rt, path.as_str(), "file", b"within")?;
-            }
-            Sort::File if name == "sparse" => write_sparse(rt, path.as_str())?,
-            Sort::File => write(rt, top, name, if name == "none" { b"" } else { b"bytes" })?,
-            _ => symlink(
-                rt,
-                if name == "link" { "other" } else { top },
-                path.as_str(),
-            )?,
-        }
+        make(rt, top, name, *sort)?;
     }
     Ok(())
 }
 
-/// One file grows, one shrinks, another file comes in the place of one, and a link in the place of a folder, to which it
-/// leads.
+/// One file grows, one shrinks, another file comes in the place of one, and a link in the place of a folder, to which
+/// it leads.
 fn change(rt: &HostRuntime, top: &str) -> Result<(), Fail> {
     write(rt, top, "grows", b"bytes and more")?;
     write(rt, top, "shrinks", b"byte")?;
     write(rt, top, "new", b"bytes")?;
     rename(rt, top, "new", "changes")?;
     rename(rt, top, "docs", "moved")?;
-    symlink(rt, "moved", inner(rt, top, "docs")?.as_str())?;
-    Ok(())
+    link(rt, "moved", inner(rt, top, "docs")?.as_str())
 }
 
 /// Gives what has one name in the folder at `top` another.
@@ -288,79 +599,174 @@ fn rename(rt: &HostRuntime, top: &str, from: &str, to: &str) -> Result<(), Fail>
     Ok(())
 }
 
-/// What each of a row of calls should have come to, where `through` is a link to the folder and `file` is no folder.
-fn is_listed(
-    folder: &mut HostFolder<HostRuntime>,
-    through: &str,
-    file: &str,
-    docs: &[Bytes],
-    within: &[Bytes],
-) -> [bool; 8] {
-    [
-        folder.list(&[]).is_err(),
-        folder.attach(through).is_ok(),
-        folder.attach(file).is_err(),
-        are(folder.list(&[]), &NAMES),
-        reads(folder, within, 0, None),
-        are(folder.list(docs), &[("file", Sort::File)]),
-        folder.attach(file).is_err(),
-        reads(folder, within, 0, Some("within")),
-    ]
-}
+/// What is tried, the call, and whether it works.
+type Row = (&'static str, Call<'static>, bool);
 
-/// What each of a row of calls should have come to, where a link to another folder stands in the place of one that was
-/// listed.
-fn is_not_led_out(
+// The calls before anything is changed.
+const LISTED: &[Row] = &[
+    ("nothing is attached", Call::List(&[], &[]), false),
+    ("a folder by a link", Call::Attach("through"), true),
+    ("a file", Call::Attach("none"), false),
+    ("all names", Call::List(&[], NAMES), true),
+    (
+        "a file not listed yet",
+        Call::Read(&["docs", "file"], 0, "within"),
+        false,
+    ),
+    (
+        "a folder below",
+        Call::List(&["docs"], &[("file", Sort::File)]),
+        true,
+    ),
+    ("a file again", Call::Attach("none"), false),
+    (
+        "a file below",
+        Call::Read(&["docs", "file"], 0, "within"),
+        true,
+    ),
+];
+
+// The calls once `change` has changed what was listed.
+const CHANGED: &[Row] = &[
+    (
+        "begins with a dot",
+        Call::Read(&[".hidden"], 0, "bytes"),
+        true,
+    ),
+    (
+        "begins with two dots",
+        Call::Read(&["..two"], 1, "ytes"),
+        true,
+    ),
+    ("no byte", Call::Read(&["none"], 0, ""), true),
+    (
+        "a name of 64 bytes",
+        Call::Read(&[NAME_64], 0, "bytes"),
+        true,
+    ),
+    (
+        "a name of 65 bytes",
+        Call::Read(&[NAME_65], 0, "bytes"),
+        true,
+    ),
+    (
+        "a name of 255 bytes",
+        Call::Read(&[NAME_255], 0, "bytes"),
+        true,
+    ),
+    (
+        "behind 4 GiB",
+        Call::Read(&["sparse"], FOUR_GIB, ".end"),
+        true,
+    ),
+    (
+        "the end behind 4 GiB",
+        Call::Read(&["sparse"], FOUR_GIB + 4, ""),
+        true,
+    ),
+    (
+        "zeros",
+        Call::Read(&["sparse"], 0, "\0\0\0\0\0\0\0\0"),
+        true,
+    ),
+    ("grew", Call::Read(&["grows"], 2, "tes"), true),
+    ("grew behind its size", Call::Read(&["grows"], 5, ""), true),
+    ("shrank", Call::Read(&["shrinks"], 0, "byte"), false),
+    ("changed", Call::Read(&["changes"], 0, "bytes"), false),
+    ("a link", Call::Read(&["link"], 0, ""), false),
+    ("a folder read", Call::Read(&["docs"], 0, ""), false),
+    ("missing", Call::Read(&["missing"], 0, ""), false),
+    ("an empty name", Call::Read(&[""], 0, ""), false),
+    ("a dot", Call::Read(&["."], 0, ""), false),
+    ("two dots", Call::Read(&[".."], 0, ""), false),
+    (
+        "a slash within",
+        Call::Read(&["docs/file"], 0, "within"),
+        false,
+    ),
+    ("a slash behind", Call::Read(&["none/"], 0, ""), false),
+    (
+        "a folder that is a link now",
+        Call::List(&["docs"], &[("file", Sort::File)]),
+        false,
+    ),
+];
+
+// The calls once a link to another folder stands in the place of one that was listed.
+const LED_OUT: &[Row] = &[
+    (
+        "a file behind the link",
+        Call::Read(&["docs", "file"], 0, "within"),
+        false,
+    ),
+    (
+        "a folder by the link",
+        Call::List(&["docs"], &[("file", Sort::File)]),
+        false,
+    ),
+    (
+        "the link listed",
+        Call::Has(&[], "docs", Sort::Symlink),
+        true,
+    ),
+    (
+        "the link as a folder",
+        Call::List(&["docs"], &[("file", Sort::File)]),
+        false,
+    ),
+    (
+        "a file behind the link again",
+        Call::Read(&["docs", "file"], 0, "within"),
+        false,
+    ),
+    ("each is counted", Call::Count(19), true),
+    // What grew, shrank and was changed is read as it was listed last.
+    (
+        "grew and listed again",
+        Call::Read(&["grows"], 5, " and mor"),
+        true,
+    ),
+    ("its end", Call::Read(&["grows"], 12, "re"), true),
+    (
+        "shrank and listed again",
+        Call::Read(&["shrinks"], 0, "byte"),
+        true,
+    ),
+    (
+        "changed and listed again",
+        Call::Read(&["changes"], 0, "bytes"),
+        true,
+    ),
+    ("another folder", Call::Attach("/dev"), true),
+    ("a device", Call::Has(&[], "null", Sort::Other), true),
+];
+
+/// The first row that doesn't come to what it is to come to.
+fn first_wrong(
+    alloc: Global,
     folder: &mut HostFolder<HostRuntime>,
-    docs: &[Bytes],
-    within: &[Bytes],
-) -> [bool; 8] {
-    [
-        reads(folder, within, 0, None),
-        folder.list(docs).is_err(),
-        has(folder.list(&[]), "docs", Sort::Symlink),
-        folder.list(docs).is_err(),
-        reads(folder, within, 0, None),
-        folder.count() == 19,
-        folder.attach("/dev").is_ok(),
-        has(folder.list(&[]), "null", Sort::Other),
-    ]
+    top: &str,
+    rows: &[Row],
+) -> Option<&'static str> {
+    for (name, call, wanted) in rows {
+        if works(alloc, folder, top, *call) != *wanted {
+            return Some(*name);
+        }
+    }
+    None
 }
 
 #[test]
 fn a_folder_of_the_system_is_read_as_it_was_listed(rt: HostRuntime) -> Result<(), Fail> {
     let top = fresh_folder(&rt, "listed")?;
-    fill(&rt, top.as_str())?;
-    let through = inner(&rt, top.as_str(), "through")?;
-    let file = inner(&rt, top.as_str(), "none")?;
-    let docs = path_of_entry(rt.alloc(), &[], b"docs")?;
-    let within = path_of_entry(rt.alloc(), docs.as_slice(), b"file")?;
+    let top = top.as_str();
+    fill(&rt, top)?;
     let mut folder = HostFolder::new(rt);
-    let listed = is_listed(
-        &mut folder,
-        through.as_str(),
-        file.as_str(),
-        docs.as_slice(),
-        within.as_slice(),
-    );
-    assert_eq!(rt; listed, [true; 8]);
-    change(&rt, top.as_str())?;
-    for (name, offset, wanted) in ROWS {
-        let path = path_of_entry(rt.alloc(), &[], name.as_bytes())?;
-        assert!(rt;
-            reads(&mut folder, path.as_slice(), offset, wanted),
-            "{name} at {offset}"
-        );
-    }
-    assert!(rt; folder.list(docs.as_slice()).is_err());
-    rename(&rt, top.as_str(), "link", "docs")?;
-    let kept = is_not_led_out(&mut folder, docs.as_slice(), within.as_slice());
-    assert_eq!(rt; kept, [true; 8]);
-    fs::remove_dir_all(&rt, top.as_str())?;
+    assert_eq!(rt; first_wrong(rt.alloc(), &mut folder, top, LISTED), None);
+    change(&rt, top)?;
+    assert_eq!(rt; first_wrong(rt.alloc(), &mut folder, top, CHANGED), None);
+    rename(&rt, top, "link", "docs")?;
+    assert_eq!(rt; first_wrong(rt.alloc(), &mut folder, top, LED_OUT), None);
+    fs::remove_dir_all(&rt, top)?;
     Ok(())
-}
-
-/// The numbers of the calls that fail.
-pub fn numbers(rt: &HostRuntime, calls: &[u64]) -> Result<List<u64>, Fail> {
-    Ok(List::from(Vec::from_slice(rt.alloc(), calls)?))
 }

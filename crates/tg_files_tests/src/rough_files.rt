@@ -1,15 +1,16 @@
 //! A file system for tests, whose calls are interrupted, move few bytes and fail as it is told.
+ghost use Rattle.std.specs.Prelude.{◌≤◌, length};
+
 use std::alloc::{Allocator, Global};
 use std::fs::{FileTimes, Metadata, OpenFile, OpenOptions, Permissions};
 use std::io;
 use std::io::{Cursor, ErrorKind, Read, Seek, SeekFrom, Write};
 use std::rt::Files;
 
-/// Each file holds the bytes `hello world`, and the one folder that there is holds the file `f`, and `g` where the listing
-/// goes on.
+/// How the calls go. Each file holds the bytes `hello world`, and the one folder that there is holds the file `f`, and,
+/// where the listing goes on, `g` and one more.
 #[derive(Clone, Copy)]
-pub struct RoughFiles {
-    pub alloc: Global,
+pub struct Plan {
     /// How many reads or writes of an opened file are interrupted before the first that isn't.
     pub interrupted: u8,
     /// The place from which on reads and writes fail.
@@ -22,35 +23,43 @@ pub struct RoughFiles {
     pub is_replaced: bool,
     /// Whether a listing fails after the first name.
     pub breaks_off: bool,
+    /// The name that is listed last, or an empty one where there are just two.
+    pub last: &'static str,
+    /// Whether what was written to a file can't be made to last.
+    pub is_lost: bool,
+}
+
+/// Two reads or writes are interrupted, none fails, there are two names, and what is written lasts.
+pub const PLAIN: Plan = Plan {
+    interrupted: 2,
+    fails_at: u64::MAX,
+    size: 11,
+    opened_size: 11,
+    is_replaced: false,
+    breaks_off: false,
+    last: "",
+    is_lost: false,
+};
+
+/// The file system of a plan.
+#[derive(Clone, Copy)]
+pub struct RoughFiles {
+    pub alloc: Global,
+    pub plan: Plan,
 }
 
 /// An opened file.
 #[derive(Drop)]
 pub struct RoughFile {
     bytes: Cursor<Vec<u8>>,
-    plan: RoughFiles,
+    plan: Plan,
 }
 
-/// An opened folder, of which no name was read yet, one, or all.
+/// An opened folder, and how many of its names were read.
 #[derive(Drop)]
 pub struct RoughFolder {
-    breaks_off: bool,
+    plan: Plan,
     reads: u8,
-}
-
-impl RoughFiles {
-    /// Two reads or writes are interrupted, and none fails.
-    pub fn new(alloc: Global) -> RoughFiles {
-        RoughFiles {
-            alloc,
-            interrupted: 2,
-            fails_at: u64::MAX,
-            size: 11,
-            opened_size: 11,
-            is_replaced: false,
-            breaks_off: false,
-        }
-    }
 }
 
 impl RoughFile {
@@ -108,7 +117,11 @@ impl OpenFile for RoughFile {
     }
 
     fn sync_all(&self) -> io::Result<()> {
-        unsupported()
+        if self.plan.is_lost {
+            Err(io::Error::from(ErrorKind::BrokenPipe))
+        } else {
+            Ok(())
+        }
     }
 
     fn sync_data(&self) -> io::Result<()> {
@@ -118,17 +131,30 @@ impl OpenFile for RoughFile {
 
 impl Read for RoughFolder {
     fn read(&mut self, buf: &mut [u8]) -> io::Result<usize> {
-        let name: &[u8] = match self.reads {
-            0 => b"f\0",
-            1 if self.breaks_off => return Err(io::Error::from(ErrorKind::BrokenPipe)),
-            1 => b"g\0",
-            _ => b"",
+        let name = match self.reads {
+            0 => "f",
+            1 if self.plan.breaks_off => return Err(io::Error::from(ErrorKind::BrokenPipe)),
+            1 => "g",
+            2 => self.plan.last,
+            _ => "",
         };
-        let n = name.len().min(buf.len());
-        buf[..n].copy_from_slice(&name[..n]);
         self.reads = self.reads.saturating_add(1);
-        Ok(n)
+        Ok(put_name(name.as_bytes(), buf))
     }
+}
+
+/// Puts a name with a NUL behind it into the front of the buffer and says how many bytes that is: none for an empty
+/// name, or where there is no room.
+fn put_name(name: &[u8], buf: &mut [u8]) -> usize
+    ensures { result ≤ length buf.new }
+{
+    let n = name.len();
+    if n == 0 || n >= buf.len() {
+        return 0;
+    }
+    buf[..n].copy_from_slice(name);
+    buf[n] = 0;
+    n + 1
 }
 
 impl Alloc for RoughFiles {
@@ -147,23 +173,28 @@ impl Files for RoughFiles {
     fn open_file(&self, _how: &OpenOptions, _path: &str) -> io::Result<RoughFile> {
         Ok(RoughFile {
             bytes: Cursor::new(Vec::from_slice(self.alloc, b"hello world")?),
-            plan: *self,
+            plan: self.plan,
         })
     }
 
     fn open_dir(&self, _path: &str) -> io::Result<RoughFolder> {
         Ok(RoughFolder {
-            breaks_off: self.breaks_off,
+            plan: self.plan,
             reads: 0,
         })
     }
 
-    fn metadata(&self, _path: &str) -> io::Result<Metadata> {
-        Ok(Metadata::of_dir())
+    /// A file stands at each path that ends with `pack`, and a folder at any other.
+    fn metadata(&self, path: &str) -> io::Result<Metadata> {
+        Ok(if path.ends_with("pack") {
+            Metadata::of_file(self.plan.size)
+        } else {
+            Metadata::of_dir()
+        })
     }
 
     fn symlink_metadata(&self, _path: &str) -> io::Result<Metadata> {
-        Ok(Metadata::of_file(self.size))
+        Ok(Metadata::of_file(self.plan.size))
     }
 
     fn copy(&self, _from: &str, _to: &str) -> io::Result<u64> {

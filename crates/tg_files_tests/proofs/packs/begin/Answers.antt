@@ -10,5 +10,5 @@ returns g c =
     let joins = g.met.P.Pack.joins in
     let head = c.args.head.now in
     let body = c.args.body.now in
-    let two = did_joins m joins c.args.pack.now c.attach.new.self c.append.new.self (attach true ∷ []) (append head ∷ []) c.in_ok-attach.ensures.did c.in_ok-append.ensures.did in
-    on_ok_weaker c.append-2.result (λ last. did_joins m joins c.args.pack.now c.append.new.self c.append-2.new.self (attach true ∷ append head ∷ []) (append body ∷ []) two last) c.append-2.ensures.did
+    let two = did_joins m joins c.args.pack.now c.attach.new.self c.append.new.self (attach c.args.path.now true ∷ []) (append head ∷ []) c.in_ok-attach.ensures.did c.in_ok-append.ensures.did in
+    on_ok_weaker c.append-2.result (λ last. did_joins m joins c.args.pack.now c.append.new.self c.append-2.new.self (attach c.args.path.now true ∷ append head ∷ []) (append body ∷ []) two last) c.append-2.ensures.did
