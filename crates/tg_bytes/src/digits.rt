@@ -3,10 +3,11 @@ ghost use Rattle.std.specs.Prelude.{◌≡◌, ◌<◌, ◌≤◌, ℕ, MatchOpt
 ghost use Rattle.std.specs.Char.{digit_value};
 ghost use Rattle.tg_bytes.specs.Digits.{IsDigits};
 
-/// The number that 1 to 19 decimal digits write; any other text has none. It is below 10^19, so that a `u64` holds it. It takes no
-/// memory.
+/// The number that 1 to 19 decimal digits write; any other text has none. It is below 10^19, so that a `u64` holds it.
+/// It takes no memory.
 ///
-/// RFC 5234, `1*DIGIT`, as in the value of `Content-Length` (RFC 9110, section 8.6); the limit of 19 digits is this project's own.
+/// RFC 5234, `1*DIGIT`, as in the value of `Content-Length` (RFC 9110, section 8.6); the limit of 19 digits is this
+/// project's own.
 pub fn number_of(text: &[u8]) -> Option<u64>
     ensures { MatchOption result ((number : ℕ) → IsDigits text.now number → ⊥) (IsDigits text.now) }
 {

@@ -1,5 +1,5 @@
-//! Lists of bytes and of values, which contracts see as plain lists; room for bytes; the bytes of ASCII that have names; and
-//! decimal numbers.
+//! Lists of bytes and of values, which contracts see as plain lists; room for bytes; the bytes of ASCII that have
+//! names; and decimal numbers.
 #![tactic(auto)]
 
 mod ascii;

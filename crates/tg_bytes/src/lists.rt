@@ -179,7 +179,8 @@ impl<T> List<T> {
         self.items
     }
 
-    /// Puts the values in the order of the comparison. Values that it takes as equal come in any order. It takes no memory.
+    /// Puts the values in the order of the comparison. Values that it takes as equal come in any order. It takes no
+    /// memory.
     pub fn sort_unstable_by<F: FnMut(&T, &T) -> Ordering>(&mut self, compare: F)
         requires { F.IsAlwaysCallable compare }
         ensures permutation { IsPermutation self.old self.new }

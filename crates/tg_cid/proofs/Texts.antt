@@ -1,6 +1,6 @@
 -- What `from_text` answers.
 use Rattle.std.proofs.Common.{◌≡◌, ℕ, ◌≤◌, ◌⊎◌, List, [], ◌∷◌, length, take, drop, get_or, ◌-◌, arith, Result, Ok, Err, IfOk, IfErr, refl, ap, sym, ◌∙◌, subst, inl, inr}
-use Rattle.std.specs.Prelude.{MatchResult}
+use Rattle.std.specs.Prelude.{MatchResult, IsErrOf}
 use Rattle.std.proofs.lemmas.List.{take_rest}
 use Rattle.tg_base32.specs.Base32.{Base32Text}
 use Rattle.tg_base32.specs.declared.Base32Fault.{Base32Fault}
@@ -21,6 +21,10 @@ pub record TextAnswers (text : List ℕ) (r : Result CidParts CidFault) : Type 0
   pub only : (cid : CidParts) → CidText cid text → MatchResult r (λ found. found ≡ cid) (λ e. e ≡ faults.OutOfMemory)
   pub cause : IfErr r (λ e. (e ≡ faults.OutOfMemory) ⊎ HasTextCause text e)
   pub given : (fault : CidFault) → HasTextCause text fault → (r ≡ Err fault) ⊎ (r ≡ Err faults.OutOfMemory)
+  pub memory : IsErrOf r faults.OutOfMemory → (bytes : List ℕ) × MultibaseText text bytes
+
+other_fault : (fault : CidFault) (Wanted : Type 0) → (fault ≡ faults.OutOfMemory → ⊥) → ◌≡◌ {A = Result CidParts CidFault} (Err fault) (Err faults.OutOfMemory) → Wanted
+other_fault fault Wanted other e = let same : fault ≡ faults.OutOfMemory = cc in absurd (other same)
 
 none_answers : (text : List ℕ) → ((bytes : List ℕ) → MultibaseText text bytes → ⊥) → TextAnswers text (Err faults.BadText)
 none_answers text none = record {
@@ -34,6 +38,7 @@ none_answers text none = record {
       | inr q ↦ absurd (none _ q.in_base)
     ]
   ];
+  memory = λ w. other_fault faults.BadText _ (λ e. cc) w;
 }
 
 -- a text without the letter
@@ -45,22 +50,23 @@ same_letters text letters bytes e m =
     let same : m.letters ≡ letters = let whole : 98 ∷ m.letters ≡ 98 ∷ letters = sym m.begins ∙ e in cc in
     subst (λ (l : List ℕ). Base32Text l bytes) same m.rest
 
-wanting : (text : List ℕ) → TextAnswers text (Err faults.OutOfMemory)
-wanting text = record { found = tt; only = λ cid h. refl; cause = inl refl; given = λ fault h. inr refl }
-
--- a rest that isn't base 32, or for which memory is wanted
-pub no_base : (text letters : List ℕ) (fault : Base32Fault) → text ≡ 98 ∷ letters
-    → ((bytes : List ℕ) → Base32Text letters bytes → fault ≡ base32.OutOfMemory) → TextAnswers text (Err (cid_fault_of fault))
-no_base text letters (base32.BadChar at) e wants =
-    none_answers text (λ bytes m. let same : base32.BadChar at ≡ base32.OutOfMemory = wants bytes (same_letters text letters bytes e m) in cc)
-no_base text letters base32.BadLength e wants =
-    none_answers text (λ bytes m. let same : base32.BadLength ≡ base32.OutOfMemory = wants bytes (same_letters text letters bytes e m) in cc)
-no_base text letters base32.BadTail e wants =
-    none_answers text (λ bytes m. let same : base32.BadTail ≡ base32.OutOfMemory = wants bytes (same_letters text letters bytes e m) in cc)
-no_base text letters base32.OutOfMemory e wants = wanting text
+wanting : (text : List ℕ) → ((bytes : List ℕ) × MultibaseText text bytes) → TextAnswers text (Err faults.OutOfMemory)
+wanting text good = record { found = tt; only = λ cid h. refl; cause = inl refl; given = λ fault h. inr refl; memory = λ w. good }
 
 in_base : (text letters bytes : List ℕ) → text ≡ 98 ∷ letters → Base32Text letters bytes → MultibaseText text bytes
 in_base text letters bytes e b = record { letters = letters; begins = e; rest = b }
+
+-- a rest that isn't base 32, or for which memory is wanted
+pub no_base : (text letters : List ℕ) (fault : Base32Fault) → text ≡ 98 ∷ letters
+    → ((bytes : List ℕ) → Base32Text letters bytes → fault ≡ base32.OutOfMemory)
+    → (fault ≡ base32.OutOfMemory → (bytes : List ℕ) × Base32Text letters bytes) → TextAnswers text (Err (cid_fault_of fault))
+no_base text letters (base32.BadChar at) e wants good =
+    none_answers text (λ bytes m. let same : base32.BadChar at ≡ base32.OutOfMemory = wants bytes (same_letters text letters bytes e m) in cc)
+no_base text letters base32.BadLength e wants good =
+    none_answers text (λ bytes m. let same : base32.BadLength ≡ base32.OutOfMemory = wants bytes (same_letters text letters bytes e m) in cc)
+no_base text letters base32.BadTail e wants good =
+    none_answers text (λ bytes m. let same : base32.BadTail ≡ base32.OutOfMemory = wants bytes (same_letters text letters bytes e m) in cc)
+no_base text letters base32.OutOfMemory e wants good = let found = good refl in wanting text (found.0, in_base text letters found.0 e found.1)
 
 same_bytes : TextLaws → (text letters a b : List ℕ) → text ≡ 98 ∷ letters → Base32Text letters a → MultibaseText text b → b ≡ a
 same_bytes texts text letters a b e p m = texts.one_reading letters b a (same_letters text letters b e m) p
@@ -79,6 +85,7 @@ as_zero laws texts text letters bytes rest e b first = record {
       | inr q ↦ absurd (q.other rest (same_bytes texts text letters bytes q.bytes e b q.in_base ∙ first))
     ]
   ];
+  memory = λ w. (bytes, in_base text letters bytes e b);
 }
 
 text_of : (text letters bytes : List ℕ) (cid : CidParts) → text ≡ 98 ∷ letters → Base32Text letters bytes
@@ -105,6 +112,7 @@ by_bytes texts text letters bytes (Ok cid) e b other w = record {
       cc;
   cause = tt;
   given = λ fault h. inl (given_bytes texts text letters bytes (Ok cid) e b other w fault h);
+  memory = λ wants. (bytes, in_base text letters bytes e b);
 }
 by_bytes texts text letters bytes (Err known) e b other w = record {
   found = tt;
@@ -114,6 +122,7 @@ by_bytes texts text letters bytes (Err known) e b other w = record {
       absurd cc;
   cause = inr (inr (inr (record { bytes = bytes; in_base = in_base text letters bytes e b; other = other; cause = w.cause })));
   given = λ fault h. inl (given_bytes texts text letters bytes (Err known) e b other w fault h);
+  memory = λ wants. (bytes, in_base text letters bytes e b);
 }
 
 -- a list by its first

@@ -111,8 +111,8 @@ HasBytesCause bytes (faults.Short at) = HasPrefixCause bytes (faults.Short at)
 HasBytesCause bytes (faults.BadVarint at) = HasPrefixCause bytes (faults.BadVarint at)
 HasBytesCause bytes faults.OutOfMemory = ⊥
 
--- the cause of each refusal of a text: it isn't multibase `b`; its bytes begin with 0x12, as those of no CIDv1; or its bytes
--- are refused
+-- the cause of each refusal of a text: it isn't multibase `b`; its bytes begin with 0x12, as those of no CIDv1; or its
+-- bytes are refused
 pub record IsNoMultibase (text : List ℕ) : Type 0 where
   pub none : (bytes : List ℕ) → MultibaseText text bytes → ⊥
 

@@ -3,14 +3,14 @@ ghost use Rattle.std.proofs.Common.{rules};
 ghost use Rattle.std.specs.Cmp.Lexicographic.{pointwise};
 ghost use Rattle.std.specs.Cmp.Rules.{comparing, hashing};
 ghost use Rattle.std.specs.Hash as fed;
-ghost use Rattle.std.specs.Prelude.{◌≡◌, ℕ, ◌+◌, ◌-◌, ◌<◌, ◌≤◌, ◌↔◌, ◌⊎◌, List, ◌∷◌, ◌++◌, ◌==◌, ◌&&◌, nat_eq, length, take, drop, replicate, All, IsTrue, IfOk, IfErr, MatchResult};
+ghost use Rattle.std.specs.Prelude.{◌≡◌, ℕ, ◌+◌, ◌-◌, ◌<◌, ◌≤◌, ◌↔◌, ◌⊎◌, List, ◌∷◌, ◌++◌, ◌==◌, ◌&&◌, nat_eq, length, take, drop, replicate, All, IsTrue, IfOk, IfErr, IsErrOf, MatchResult};
 ghost use Rattle.sha2.specs.Sha256.{sha256};
 ghost use Rattle.tg_cid.specs.Cid.{CidParts};
 ghost use Rattle.tg_cid.specs.Faults.{HasPrefixCause, HasBytesCause, HasTextCause, IsCodec, IsHash};
 ghost use Rattle.tg_cid.specs.Limits.{max_cid_len, max_digest_len};
 ghost use Rattle.tg_cid.specs.Names.{Names};
 ghost use Rattle.tg_cid.specs.Reading.{DigestThen, ReadsAsOne};
-ghost use Rattle.tg_cid.specs.Spelling.{CidBytes, CidV1Bytes, CidText, IsDigestSize, IsTaken, codec_code, hash_code};
+ghost use Rattle.tg_cid.specs.Spelling.{CidBytes, CidV1Bytes, CidText, IsDigestSize, IsTaken, MultibaseText, codec_code, hash_code};
 ghost use Rattle.tg_cid.specs.declared.fault.CidFault.{CidFault};
 
 use crate::fault::CidFault;
@@ -128,7 +128,8 @@ impl Cid {
     /// shortest varints. Errors, where the grammar is broken first: `BadVersion`, `BadCodec`, `BadHash`, `BadLength`,
     /// `BadVarint`, and `Short` with the length of the bytes where they end inside a CID.
     pub fn from_prefix(bytes: &[u8]) -> Result<(Cid, usize), CidFault>
-        ensures found { IfOk result (λ found. (found.1 ≤ length bytes.now) × CidBytes found.0 (take found.1 bytes.now)) }
+        ensures found { IfOk result (λ found. (found.1 ≤ length bytes.now)
+            × CidBytes found.0 (take found.1 bytes.now)) }
         ensures only { (cid : CidParts) (front rest : List ℕ) → CidBytes cid front → bytes.now ≡ front ++ rest
             → result ≡ Ok (cid, length front) }
         // Each refusal comes exactly where its cause holds.
@@ -168,9 +169,9 @@ impl Cid {
 
     /// The CIDv1 that a text spells: the letter `b` and the lower-case base 32 of its bytes.
     ///
-    /// CID specification; multibase; RFC 4648, section 6. Errors: `BadText` where there is no leading `b` or the rest isn't
-    /// base 32, `BadVersion` with 18 where the bytes begin with 0x12, those of `from_bytes`, and `OutOfMemory` for want of
-    /// memory alone.
+    /// CID specification; multibase; RFC 4648, section 6. Errors: `BadText` where there is no leading `b` or the rest
+    /// isn't base 32, `BadVersion` with 18 where the bytes begin with 0x12, those of `from_bytes`, and `OutOfMemory`
+    /// for want of memory alone.
     pub fn from_text(alloc: Global, text: &[u8]) -> Result<Cid, CidFault>
         ensures found { IfOk result (λ cid. CidText cid text.now) }
         ensures only { (cid : CidParts) → CidText cid text.now
@@ -179,6 +180,8 @@ impl Cid {
         ensures cause { IfErr result (λ e. (e ≡ CidFault.OutOfMemory) ⊎ HasTextCause text.now e) }
         ensures given { (fault : CidFault) → HasTextCause text.now fault
             → (result ≡ Err fault) ⊎ (result ≡ Err CidFault.OutOfMemory) }
+        // Memory is wanted for the bytes of a good text of the base alone, whether or not they are a CID's.
+        ensures memory { IsErrOf result CidFault.OutOfMemory → (bytes : List ℕ) × MultibaseText text.now bytes }
     {
         tg_varint::laws::spelling_laws();
         tg_base32::laws::text_laws();
@@ -218,8 +221,8 @@ impl Cid {
         self.version_one_spelling()
     }
 
-    /// The text of the CID's version 1 form: the letter `b` and the lower-case base 32 of its bytes. The error is want of
-    /// memory.
+    /// The text of the CID's version 1 form: the letter `b` and the lower-case base 32 of its bytes. The error is want
+    /// of memory.
     ///
     /// CID specification; multibase; RFC 4648, section 6.
     pub fn to_text(&self, alloc: Global) -> Result<Bytes, AllocError>
@@ -235,7 +238,8 @@ impl Cid {
     ///
     /// CID specification; multihash; FIPS 180-4.
     pub fn of_block(codec: Codec, block: &[u8]) -> Cid
-        ensures parts { result ≡ record { version = 1; codec = codec; hash = HashKind.Sha256; digest = sha256 block.now } }
+        ensures parts { result ≡ record
+            { version = 1; codec = codec; hash = HashKind.Sha256; digest = sha256 block.now } }
         ensures names { Names result block.now }
     {
         let digest = Sha256::digest(block);

@@ -12,7 +12,8 @@ const RAW: [u8; 4] = [1, 0x55, 0x12, 0x20];
 const DAG_PB: [u8; 4] = [1, 0x70, 0x12, 0x20];
 
 impl Cid {
-    /// How many bytes the shortest CID has that begins with these bytes, or none where no CID begins so. It takes no memory.
+    /// How many bytes the shortest CID has that begins with these bytes, or none where no CID begins so. It takes no
+    /// memory.
     ///
     /// CID specification; multihash.
     pub fn fewest(bytes: &[u8]) -> Option<usize>

@@ -30,8 +30,8 @@ pub fn length_laws()
     tg_varint::laws::spelling_laws();
 }
 
-/// A CID that is spelled has a digest of the size that its hash gives, 32 bytes for sha2-256 and at most 128 for any; and
-/// that a CID names a block has one proof.
+/// A CID that is spelled has a digest of the size that its hash gives, 32 bytes for sha2-256 and at most 128 for any;
+/// and that a CID names a block has one proof.
 ///
 /// CID specification; multihash; FIPS 180-4.
 pub fn digest_laws()
@@ -47,7 +47,8 @@ pub fn equality()
 
 /// Equal CIDs feed a hasher the same bytes.
 pub fn hashing()
-    ensures { (a b : CidParts) → IsTrue (⟦<Cid as PartialEq>⟧.eq a b) → ⟦<Cid as Hash>⟧.hash_input a ≡ ⟦<Cid as Hash>⟧.hash_input b }
+    ensures { (a b : CidParts) → IsTrue (⟦<Cid as PartialEq>⟧.eq a b)
+        → ⟦<Cid as Hash>⟧.hash_input a ≡ ⟦<Cid as Hash>⟧.hash_input b }
 {
     equality();
 }

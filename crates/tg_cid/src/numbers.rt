@@ -8,7 +8,8 @@ use tg_varint::VarintFault;
 /// The number whose varint begins at `at`, and where that ends.
 pub fn number_at(bytes: &[u8], at: usize) -> Result<(u64, usize), CidFault>
     requires { at ≤ length bytes.now }
-    ensures { MatchResult result (λ found. NumberAt bytes.now at found.0 found.1) (λ fault. NoNumberAt bytes.now at fault) }
+    ensures { MatchResult result (λ found. NumberAt bytes.now at found.0 found.1)
+        (λ fault. NoNumberAt bytes.now at fault) }
 {
     match tg_varint::read(&bytes[at..]) {
         Ok((number, length)) => Ok((number, at + length)),

@@ -15,8 +15,8 @@ pub fn in_room(digest: &[u8]) -> [u8; MAX_DIGEST_LEN]
     room
 }
 
-/// The codes, the digest's length and the digest of a CID in the front of an array whose other bytes are zero, and how many
-/// bytes they are.
+/// The codes, the digest's length and the digest of a CID in the front of an array whose other bytes are zero, and how
+/// many bytes they are.
 pub fn in_longest(codes: &[u8], size: &[u8], digest: &[u8]) -> ([u8; MAX_CID_LEN], usize)
     requires { length codes.now + length size.now + length digest.now ≤ max_cid_len }
     ensures fits { result.1 ≤ max_cid_len }

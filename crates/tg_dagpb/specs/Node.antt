@@ -1,6 +1,6 @@
--- DAG-PB nodes as messages under their tables (IPLD specification, DAG-PB, Serial Format: messages PBNode and PBLink; that
--- the fields of one number stand together is this project's own profile).
-use Rattle.std.specs.Prelude.{◌≡◌, ℕ, List, [], ◌∷◌, ◌++◌, All, ⊤}
+-- DAG-PB nodes as messages under their tables (IPLD specification, DAG-PB, Serial Format: messages PBNode and PBLink;
+-- that the fields of one number stand together is this project's own profile).
+use Rattle.std.specs.Prelude.{◌≡◌, ℕ, ◌<◌, ◌⊎◌, List, [], ◌∷◌, ◌++◌, length, All, IsSome, ⊤}
 use Rattle.tg_pbtable.specs.declared.table.Field.{Field}
 use Rattle.tg_pbtable.specs.declared.table.Order.TheVariants.{Ascending, Runs}
 use Rattle.tg_pbtable.specs.Message.{Message}
@@ -32,6 +32,10 @@ LinkTexts (link ∷ links) [] = ⊥
 pub record HasNodeParts (text : List ℕ) (fields : List Field) (node : Node) : Type 0 where
   pub links : LinkTexts node.links (bytes_at text 2 fields)
   pub payload : bytes_at text 1 fields ≡ listed node.payload
+
+-- the node has a link or data
+abbrev pub HasContent : Node → Type 0
+HasContent node = (0 < length node.links) ⊎ IsSome node.payload
 
 -- the text is the node's
 pub record NodeText (node : Node) (text : List ℕ) : Type 0 where

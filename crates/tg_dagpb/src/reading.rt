@@ -1,12 +1,12 @@
 //! Nodes and links read from their blocks.
-ghost use Rattle.std.specs.Prelude.{◌≡◌, ℕ, ◌+◌, ◌<◌, ◌^◌, ◌≤◌, ◌⊎◌, ◌∷◌, ◌++◌, [], length, slice_range, All, List as Items, IfOk, IfErr, IfSome, OnOk, MatchOption, MatchResult};
+ghost use Rattle.std.specs.Prelude.{◌≡◌, ℕ, ◌+◌, ◌<◌, ◌^◌, ◌≤◌, ◌⊎◌, ◌∷◌, ◌++◌, [], length, slice_range, All, List as Items, IfOk, IfErr, IfSome, IsErrOf, OnOk, OnErr, MatchOption, MatchResult};
 ghost use Rattle.tg_pbtable.specs.Emitted.{LiesIn};
 ghost use Rattle.tg_pbtable.specs.Faults.{HasCause};
 ghost use Rattle.tg_pbtable.specs.Values.{bytes_at, later};
 ghost use Rattle.tg_pbtable.specs.declared.table.Order.TheVariants.{Ascending};
 ghost use Rattle.tg_pbtable.specs.declared.fault.PbFault.{PbFault};
 ghost use Rattle.tg_pbtable.specs.Place.{AreInside, placed_bytes};
-ghost use Rattle.tg_dagpb.specs.Node.{NodeText};
+ghost use Rattle.tg_dagpb.specs.Node.{HasContent, NodeText};
 ghost use Rattle.tg_dagpb.specs.Faults.{IsLinkText, HasNodeCause, moved_by};
 ghost use Rattle.tg_dagpb.specs.Cursor.{IsBetween, IsCursor, HasPayloadAt, LieInside, link_of, placed_link};
 ghost use Rattle.tg_dagpb.specs.Reading.{GathersLink, IsBadField, IsBadPlace, IsLinkBetween, place_of, placed};
@@ -21,9 +21,10 @@ use tg_pbtable::{Field, FieldCursor, Order, PbFault, Place, Value, copied_bytes,
 
 /// The node that a block spells.
 ///
-/// IPLD specification, DAG-PB, Serial Format; unknown and doubled fields, links on both sides of the data, and fields of a
-/// link out of ascending order are refused (this project's own profile). Errors: the first fault of the node's own fields,
-/// then that of the first link that is none, with its place in the block, and `OutOfMemory` for want of memory alone.
+/// IPLD specification, DAG-PB, Serial Format; unknown and doubled fields, links on both sides of the data, and fields
+/// of a link out of ascending order are refused (this project's own profile). Errors: the first fault of the node's own
+/// fields, then that of the first link that is none, with its place in the block, and `OutOfMemory` for want of memory
+/// alone.
 pub fn decode(alloc: Global, bytes: &[u8]) -> Result<Node, PbFault>
     ensures found { IfOk result (λ node. NodeText node bytes.now) }
     ensures only { (node : Node) → NodeText node bytes.now
@@ -32,6 +33,8 @@ pub fn decode(alloc: Global, bytes: &[u8]) -> Result<Node, PbFault>
     // Each refusal but want of memory comes exactly where its cause holds; memory is taken only for a node.
     ensures cause { IfErr result (λ e. (e ≡ PbFault.OutOfMemory) ⊎ HasNodeCause bytes.now e) }
     ensures given { (fault : PbFault) → HasNodeCause bytes.now fault → result ≡ Err fault }
+    // Memory is wanted for the links and the data of a node alone.
+    ensures memory { IsErrOf result PbFault.OutOfMemory → (node : Node) × NodeText node bytes.now × HasContent node }
 {
     let payload = payload_at(bytes)?;
     Ok(copied(alloc, bytes, payload)?)
@@ -41,8 +44,10 @@ pub fn decode(alloc: Global, bytes: &[u8]) -> Result<Node, PbFault>
 fn copied(alloc: Global, bytes: &[u8], payload: Option<Place>) -> Result<Node, AllocError>
     requires inside { AreInside bytes.now payload }
     requires cursor { IsCursor bytes.now 0 }
-    ensures { (links : Items Link) → IsBetween bytes.now 0 [] links
+    ensures node { (links : Items Link) → IsBetween bytes.now 0 [] links
         → IfOk result (λ node. node ≡ record { links = links; payload = placed_bytes bytes.now payload }) }
+    ensures memory { (links : Items Link) → IsBetween bytes.now 0 [] links
+        → OnErr result (HasContent (record { links = links; payload = placed_bytes bytes.now payload })) }
 {
     Ok(Node {
         links: copied_links(alloc, bytes)?,
@@ -53,7 +58,8 @@ fn copied(alloc: Global, bytes: &[u8], payload: Option<Place>) -> Result<Node, A
 /// The links of a node, in order. The error is want of memory.
 fn copied_links(alloc: Global, bytes: &[u8]) -> Result<List<Link>, AllocError>
     requires { IsCursor bytes.now 0 }
-    ensures { (links : Items Link) → IsBetween bytes.now 0 [] links → IfOk result (λ found. found ≡ links) }
+    ensures links { (links : Items Link) → IsBetween bytes.now 0 [] links → IfOk result (λ found. found ≡ links) }
+    ensures memory { (links : Items Link) → IsBetween bytes.now 0 [] links → OnErr result (0 < length links) }
 {
     let mut links = List::new(alloc);
     let mut at = 0;
@@ -162,8 +168,8 @@ pub fn link_at(bytes: &[u8], at: usize) -> Option<(LinkSpan<'_>, usize)>
     Some((span_of(bytes, places), next))
 }
 
-/// The places of the parts of the first link at a cursor or behind it, as `link_at` finds it, and the cursor behind that
-/// link; none where no link is left.
+/// The places of the parts of the first link at a cursor or behind it, as `link_at` finds it, and the cursor behind
+/// that link; none where no link is left.
 pub fn link_places_at(bytes: &[u8], at: usize) -> Option<(LinkPlaces, usize)>
     requires { IsCursor bytes.now at }
     ensures next { (behind ahead : Items Link) → IsBetween bytes.now at behind ahead

@@ -10,8 +10,8 @@ use std::alloc::{AllocError, Global};
 use tg_bytes::Bytes;
 use tg_pbtable::{put_bytes, put_head, put_number, size_of_bytes, size_of_number};
 
-/// The canonical text of a node: all links, and then the data. An empty name is written, and an absent one isn't. The error
-/// is want of memory.
+/// The canonical text of a node: all links, and then the data. An empty name is written, and an absent one isn't. The
+/// error is want of memory.
 ///
 /// IPLD specification, DAG-PB, Serial Format.
 pub fn encode(alloc: Global, node: &Node) -> Result<Bytes, AllocError>

@@ -101,6 +101,19 @@ payload_caused node lines (Block BadLink) links bad = absurd bad
 payload_caused node lines (Block BadUnix) links bad = (all_cids node.links lines links, bad)
 payload_caused node lines OutOfMemory links bad = tt
 
+-- ---- want of memory
+
+-- it is that of the reader of nodes
+pub wants_pb : (e : PbFault) → ◌≡◌ {A = Result (List ℕ) TextFault} (Err (fault_of_pb e)) (Err OutOfMemory) → e ≡ pb.OutOfMemory
+wants_pb (pb.Short at) w = absurd (cc)
+wants_pb (pb.BadVarint at) w = absurd (cc)
+wants_pb (pb.Unknown at number) w = absurd (cc)
+wants_pb (pb.WrongWire at) w = absurd (cc)
+wants_pb (pb.OutOfOrder at) w = absurd (cc)
+wants_pb (pb.Doubled at) w = absurd (cc)
+wants_pb (pb.Missing number) w = absurd (cc)
+wants_pb pb.OutOfMemory w = refl
+
 -- ---- exact answers
 
 pub exact_memory : (IsText : List ℕ → Type 0) (HasCause : NodeFault → Type 0) → Exact IsText HasCause (Err OutOfMemory)

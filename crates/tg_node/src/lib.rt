@@ -7,6 +7,3 @@ mod text;
 
 pub use fault::{NodeFault, TextFault};
 pub use text::node_text;
-
-#[cfg(test)]
-mod tests;

@@ -1,8 +1,12 @@
 //! The text that `node` writes of a block.
-ghost use Rattle.std.specs.Prelude.{◌≡◌, ℕ, List, [], ◌∷◌, ◌++◌, length, codes, OnOk, MatchResult};
+ghost use Rattle.std.specs.Prelude.{◌≡◌, ℕ, List, [], ◌∷◌, ◌++◌, length, codes, OnOk, IsErrOf, MatchResult, ◌⊎◌};
 ghost use Rattle.std.specs.List.{flat_map};
 ghost use Rattle.tg_cid.specs.Cid.{CidParts};
-ghost use Rattle.tg_node.specs.NodeTexts.{Exact, IsNodeTextOf, HasNodeTextCause, NodeLines, HasDagPbCause, LinesOfNode, HasLinesCause, IsCaused, LinkLine, LinkLines, HasLinkCause, PayloadLines, HasBadPayload, HasPayloadCause, count_line, size_line, unix_line, link_line, labelled, name_text, inline_length};
+ghost use Rattle.tg_cid.specs.declared.cid.Codec.{Codec};
+ghost use Rattle.tg_dagpb.specs.Node.{NodeText};
+ghost use Rattle.tg_dagpb.specs.declared.Node.{Node};
+ghost use Rattle.tg_node.specs.declared.fault.TextFault.{TextFault};
+ghost use Rattle.tg_node.specs.NodeTexts.{Exact, IsCid, IsNodeTextOf, HasNodeTextCause, NodeLines, HasDagPbCause, LinesOfNode, HasLinesCause, IsCaused, LinkLine, LinkLines, HasLinkCause, PayloadLines, HasBadPayload, HasPayloadCause, count_line, size_line, unix_line, link_line, labelled, name_text, inline_length};
 
 use crate::fault::{NodeFault, TextFault};
 use crate::laws;
@@ -19,7 +23,10 @@ use tg_unixfs::Unix;
 /// Errors, in this order: `BadNode`, `BadLink` and `BadUnix` for a DAG-PB CID, each where its cause holds, and
 /// `OutOfMemory` for want of memory alone.
 pub fn node_text(alloc: Global, cid: &Cid, block: &[u8]) -> Result<Bytes, TextFault>
-    ensures { Exact (IsNodeTextOf cid.now block.now) (HasNodeTextCause cid.now block.now) result }
+    ensures exact { Exact (IsNodeTextOf cid.now block.now) (HasNodeTextCause cid.now block.now) result }
+    // Memory is wanted for a raw block and for a block that is a node's, so never for one that is refused as `BadNode`.
+    ensures memory { IsErrOf result TextFault.OutOfMemory
+        → (cid.now.codec ≡ Codec.Raw) ⊎ ((node : Node) × NodeText node block.now) }
 {
     match cid.codec() {
         Codec::Raw => raw_text(alloc, block),
@@ -39,7 +46,8 @@ fn raw_text(alloc: Global, block: &[u8]) -> Result<Bytes, TextFault>
 
 /// The lines of a block that is a DAG-PB node.
 fn dag_pb_text(alloc: Global, block: &[u8]) -> Result<Bytes, TextFault>
-    ensures { Exact (NodeLines block.now) (HasDagPbCause block.now) result }
+    ensures exact { Exact (NodeLines block.now) (HasDagPbCause block.now) result }
+    ensures memory { IsErrOf result TextFault.OutOfMemory → (node : Node) × NodeText node block.now }
 {
     laws::one_node_text();
     let node = tg_dagpb::decode(alloc, block)?;
@@ -73,9 +81,10 @@ fn push_links(text: &mut Bytes, alloc: Global, links: &[Link]) -> Result<(), Tex
 
 /// Adds the line of a link.
 fn push_link(text: &mut Bytes, alloc: Global, link: &Link) -> Result<(), TextFault>
-    ensures { MatchResult result
+    ensures line { MatchResult result
         (λ _. (line : List ℕ) × LinkLine link.now line × (text.new ≡ text.old ++ line))
         (λ e. IsCaused (HasLinkCause (link.now ∷ [])) e) }
+    ensures memory { IsErrOf result TextFault.OutOfMemory → IsCid link.now.hash }
 {
     let Ok(cid) = Cid::from_bytes(link.hash.as_slice()) else {
         return Err(TextFault::Block(NodeFault::BadLink));
@@ -115,9 +124,11 @@ fn push_name(text: &mut Bytes, alloc: Global, name: &Option<Bytes>) -> Result<()
 
 /// Adds the lines of a node's data.
 fn push_payload(text: &mut Bytes, alloc: Global, payload: &Option<Bytes>) -> Result<(), TextFault>
-    ensures { MatchResult result
-        (λ _. (lines : List ℕ) × PayloadLines payload.now lines × (text.new ≡ text.old ++ lines) × (HasBadPayload payload.now → ⊥))
+    ensures lines { MatchResult result
+        (λ _. (lines : List ℕ) × PayloadLines payload.now lines × (text.new ≡ text.old ++ lines)
+        × (HasBadPayload payload.now → ⊥))
         (λ e. IsCaused (HasPayloadCause payload.now) e) }
+    ensures memory { IsErrOf result TextFault.OutOfMemory → HasBadPayload payload.now → ⊥ }
 {
     let Some(payload) = payload else {
         text.push_all(b"payload -\n")?;

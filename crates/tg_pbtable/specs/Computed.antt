@@ -64,8 +64,8 @@ wire_with code =
     if code == wire_code Bytes then Some Bytes else
     None
 
--- the value of a wire type at the front of the bytes from `at` on, and where the next key stands; no value of a wire type
--- that is no table's
+-- the value of a wire type at the front of the bytes from `at` on, and where the next key stands; no value of a wire
+-- type that is no table's
 abbrev pub value_with : ℕ → List ℕ → Option Wire → Result (Option (Value × ℕ)) ReadFault
 value_with at after None = Ok None
 value_with at after (Some Varint) = and_then (varint_in after) (λ v. Ok (Some (Number v.0, at + v.1)))
@@ -159,8 +159,8 @@ whole fields (Some number) = Err (faults.Missing number)
 
 -- ---- the text
 
--- the fields go on with those of the rest of the text, which begins at `at`; `most` is a number that is no less than the
--- rest's bytes, since each field takes a byte at least
+-- the fields go on with those of the rest of the text, which begins at `at`; `most` is a number that is no less than
+-- the rest's bytes, since each field takes a byte at least
 abbrev pub fields_from : List Rule → Order → ℕ → List Field → ℕ → List ℕ → Result (List Field) PbFault
 fields_from rules order most fields at [] = whole fields (lowest_missing rules fields)
 fields_from rules order zero fields at (b ∷ rest) = whole fields (lowest_missing rules fields)

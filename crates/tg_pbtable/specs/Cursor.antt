@@ -21,8 +21,8 @@ IsLast numbers (Some number) = EndsIn numbers number
 abbrev pub has_number : List Field → ℕ → Bool
 has_number fields number = nat_lt 0 (count_of fields number)
 
--- the text begins with these fields, which the table allows so far, and the cursor stands behind them: of each rule it is
--- known whether it has a field, and of the last field its number
+-- the text begins with these fields, which the table allows so far, and the cursor stands behind them: of each rule it
+-- is known whether it has a field, and of the last field its number
 pub record HasRead {N : ℕ} (rules : List Rule) (order : Order) (text : List ℕ) (fields : List Field) (cursor : FieldCursor N) : Type 0 where
   pub inside : cursor.at ≤ length text
   pub begins : Begins rules order text fields cursor.at (drop cursor.at text)

@@ -1,5 +1,5 @@
--- What is written for fields whose places lie in a source (protobuf encoding guide, Message Structure and Length-Delimited
--- Records).
+-- What is written for fields whose places lie in a source (protobuf encoding guide, Message Structure and
+-- Length-Delimited Records).
 use Rattle.std.specs.Prelude.{◌≡◌, ℕ, ◌-◌, ◌^◌, ◌<◌, ◌≤◌, List, [], ◌∷◌, ◌++◌, length, slice_range, All, min, ⊤}
 use Rattle.tg_pbtable.specs.declared.table.Field.{Field}
 use Rattle.tg_pbtable.specs.declared.table.Value.{Value}

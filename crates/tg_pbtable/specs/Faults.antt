@@ -22,6 +22,14 @@ pub record Begins (rules : List Rule) (order : Order) (text : List ℕ) (fields 
   pub counts : All (λ rule. IsAtMost rule.times (count_of fields rule.number)) rules
   pub ordered : IsInOrder order (numbers_of fields)
 
+-- the text begins with a field or more, which the table allows so far
+pub record HasFields (rules : List Rule) (order : Order) (text : List ℕ) : Type 0 where
+  pub before : List Field
+  pub last : Field
+  pub at : ℕ
+  pub rest : List ℕ
+  pub begins : Begins rules order text (before ++ last ∷ []) at rest
+
 -- a further field begins at `at`, and the cause holds of the fields before it and the bytes from there on
 pub record FirstAt (rules : List Rule) (order : Order) (text : List ℕ) (at : ℕ) (Cause : List Field → List ℕ → Type 0) : Type 0 where
   pub fields : List Field

@@ -1,8 +1,8 @@
--- Parts of a text that a cursor takes one by one: `Between at behind ahead` says that at `at` these parts are behind, and those
--- are to come.
-use Rattle.std.specs.Prelude.{◌≡◌, ℕ, ◌≤◌, List, [], ◌∷◌, ◌++◌}
+-- Parts of a text that a cursor takes one by one: `Between at behind ahead` says that at `at` these parts are behind,
+-- and those are to come.
+use Rattle.std.specs.Prelude.{◌≡◌, ℕ, ◌+◌, ◌<◌, ◌≤◌, List, [], ◌∷◌, ◌++◌, length}
 use Rattle.std.proofs.Common.{sym, ap, ◌∙◌, append_assoc, arith}
-use Rattle.std.proofs.lemmas.List.{append-nil}
+use Rattle.std.proofs.lemmas.List.{append-nil, length-append}
 
 -- the parts are the first of all, and the cursor stands behind them
 abbrev pub AreFirst : {X : Type 0} → (ℕ → List X → List X → Type 0) → ℕ → List X → Type 0
@@ -21,6 +21,17 @@ pub all_taken : {X : Type 0} (Between : ℕ → List X → List X → Type 0) (a
 all_taken Between at behind none h all start =
     let old = h all start in
     sym (old.1 ∙ ap (λ t. behind ++ t) (none old.0 old.2) ∙ append-nil behind)
+
+-- where a part comes there are more parts than none
+pub some_part : {X : Type 0} (Between : ℕ → List X → List X → Type 0) (at : ℕ) (behind : List X) (part : X)
+    → ((ahead : List X) → Between at behind ahead → (more : List X) × (ahead ≡ part ∷ more)) → AreFirst Between at behind
+    → (all : List X) → Between 0 [] all → 0 < length all
+some_part Between at behind part step h all start =
+    let old = h all start in
+    let new = step old.0 old.2 in
+    let long : length all ≡ length (behind ++ part ∷ new.0) = ap (λ t. length t) (old.1 ∙ ap (λ t. behind ++ t) new.1) in
+    let parts : length (behind ++ part ∷ new.0) ≡ length behind + length (part ∷ new.0) = length-append behind (part ∷ new.0) in
+    omega (arith, long, parts)
 
 -- a cursor went from the one place to the other and took no part
 pub record PassesNone {X : Type 0} (Between : ℕ → List X → List X → Type 0) (at from : ℕ) : Type 0 where

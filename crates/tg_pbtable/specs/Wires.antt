@@ -1,6 +1,6 @@
--- The wire types that a table may use (protobuf encoding guide, Message Structure), in one list: of each its number, and
--- what the bytes behind its key are where a value stands whole at their front, where they end inside one, and where a varint
--- of it is none. A further wire type is one line of `wire_type` here and one of `ValueSpelling`.
+-- The wire types that a table may use (protobuf encoding guide, Message Structure), in one list: of each its number,
+-- and what the bytes behind its key are where a value stands whole at their front, where they end inside one, and where
+-- a varint of it is none. A further wire type is one line of `wire_type` here and one of `ValueSpelling`.
 use Rattle.std.specs.Prelude.{◌≡◌, ◌≢◌, ℕ, ◌<◌, ◌≤◌, ◌⊎◌, List, ◌++◌, length}
 use Rattle.tg_pbtable.specs.declared.table.Wire.{Wire}
 use Rattle.tg_pbtable.specs.declared.table.Wire.TheVariants.{Varint, Bytes}
@@ -50,8 +50,8 @@ wire_code wire = (wire_type wire).code
 abbrev pub IsNoWire : ℕ → Type 0
 IsNoWire code = (wire : Wire) → code ≢ wire_code wire
 
--- the bytes behind a key with this number of a wire type: a value of it stands whole at the front, or they end inside one,
--- or a varint of it is none
+-- the bytes behind a key with this number of a wire type: a value of it stands whole at the front, or they end inside
+-- one, or a varint of it is none
 abbrev pub IsWhole : ℕ → List ℕ → Type 0
 IsWhole code after = (wire : Wire) × (code ≡ wire_code wire) × (wire_type wire).whole after
 

@@ -48,8 +48,8 @@ impl<const N: usize> FieldCursor<N> {
 
     /// The next field of the text, or none at its end. The cursor stays where it was on an error and at the end.
     ///
-    /// Protobuf encoding guide; the order of fields and the rule on doubled ones are this project's own. Errors: the first
-    /// of `PbFault`'s causes at this field, `Missing` at the end, and never want of memory.
+    /// Protobuf encoding guide; the order of fields and the rule on doubled ones are this project's own. Errors: the
+    /// first of `PbFault`'s causes at this field, `Missing` at the end, and never want of memory.
     pub fn next(
         &mut self,
         rules: &[Rule; N],

@@ -11,8 +11,8 @@ pub(crate) enum ReadFault {
     Bad,
 }
 
-/// A field as it stands: its number, and its value with the offset behind it. One of a wire type that no table has isn't
-/// read.
+/// A field as it stands: its number, and its value with the offset behind it. One of a wire type that no table has
+/// isn't read.
 #[derive(Clone, Copy)]
 pub(crate) struct RawField {
     pub(crate) number: u64,

@@ -1,7 +1,7 @@
 //! All fields of a text.
-ghost use Rattle.std.specs.Prelude.{◌≡◌, ◌⊎◌, List, All, IfOk, IfErr, MatchResult};
+ghost use Rattle.std.specs.Prelude.{◌≡◌, ◌⊎◌, List, All, IfOk, IfErr, IsErrOf, MatchResult};
 ghost use Rattle.tg_pbtable.specs.Message.{Message, IsTable};
-ghost use Rattle.tg_pbtable.specs.Faults.{HasCause};
+ghost use Rattle.tg_pbtable.specs.Faults.{HasCause, HasFields};
 ghost use Rattle.tg_pbtable.specs.Emitted.{LiesIn};
 ghost use Rattle.tg_pbtable.specs.declared.table.Field.{Field};
 ghost use Rattle.tg_pbtable.specs.declared.fault.PbFault.{PbFault};
@@ -13,8 +13,8 @@ use std::alloc::Global;
 
 /// The fields of a text in the order of its bytes, where the text is a message under the table.
 ///
-/// Protobuf encoding guide; the order of fields and the rule on doubled ones are this project's own. Errors: the first of
-/// `PbFault`'s causes at the first field where one holds, `Missing` at the end, and `OutOfMemory` for want of memory
+/// Protobuf encoding guide; the order of fields and the rule on doubled ones are this project's own. Errors: the first
+/// of `PbFault`'s causes at the first field where one holds, `Missing` at the end, and `OutOfMemory` for want of memory
 /// alone.
 pub fn scan<const N: usize>(
     alloc: Global,
@@ -33,6 +33,8 @@ pub fn scan<const N: usize>(
     ensures cause { IfErr result (λ e. (e ≡ PbFault.OutOfMemory) ⊎ HasCause rules.now order bytes.now e) }
     ensures given { (fault : PbFault) → HasCause rules.now order bytes.now fault
         → (result ≡ Err fault) ⊎ (result ≡ Err PbFault.OutOfMemory) }
+    // Memory is wanted for a field alone, so a text that is refused at its first field never wants any.
+    ensures memory { IsErrOf result PbFault.OutOfMemory → HasFields rules.now order bytes.now }
 {
     let mut fields = Vec::new(alloc);
     let mut cursor = FieldCursor::new();

@@ -28,7 +28,8 @@ pub fn field_at<const N: usize>(
     ensures only { (field : Field) (next : ℕ) → StandsAt rules.now bytes.now at field next
         → result ≡ Ok (field, next) }
     // At a place between two fields of a message the next one is found, or none is left.
-    ensures between { (order : Order) (behind ahead : List Field) → StandsBetween rules.now order bytes.now at behind ahead
+    ensures between { (order : Order) (behind ahead : List Field)
+        → StandsBetween rules.now order bytes.now at behind ahead
         → MatchResult result (λ r. IsNextField rules.now order bytes.now behind ahead r.0 r.1) (λ _. ahead ≡ []) }
 
     // Each refusal comes only where its cause holds, and where a cause holds it comes.

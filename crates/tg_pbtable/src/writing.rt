@@ -1,5 +1,5 @@
 //! The text of fields.
-ghost use Rattle.std.specs.Prelude.{◌≡◌, ◌+◌, ◌*◌, ◌≤◌, ℕ, List, length, All, IfOk, OnOk};
+ghost use Rattle.std.specs.Prelude.{◌≡◌, ◌+◌, ◌*◌, ◌<◌, ◌≤◌, ℕ, List, [], length, All, IfOk, OnOk, OnErr};
 ghost use Rattle.tg_pbtable.specs.Wires.{wire_code};
 ghost use Rattle.tg_pbtable.specs.Varint.{VarintSpelling};
 ghost use Rattle.tg_pbtable.specs.Message.{Message, IsTable, KeySpelling, NumberSpelling, Spelled, AreRuled, IsCount, count_of, IsInOrder, numbers_of};
@@ -30,6 +30,8 @@ pub fn emit<const N: usize>(
         → IsInOrder order (numbers_of fields.now)
         → IfOk result (λ text. (placed : List Field) × Message rules.now order text.items placed
         × AreSameFields source.now fields.now text.items placed) }
+    // Memory is wanted for a field alone.
+    ensures memory { OnErr result (0 < length fields.now) }
 {
     let mut text = Vec::with_capacity(alloc, size_of_fields(fields.as_slice()))?;
     for field in fields.as_slice() {
@@ -39,7 +41,9 @@ pub fn emit<const N: usize>(
 }
 
 /// How many bytes the spellings of the fields take, which is how much is reserved for them.
-fn size_of_fields(fields: &[Field]) -> usize {
+fn size_of_fields(fields: &[Field]) -> usize
+    ensures { fields.now ≡ [] → result ≡ 0 }
+{
     let mut size = 0usize;
     for field in fields {
         size = size.saturating_add(size_of_field(field));
@@ -87,7 +91,8 @@ pub fn put_bytes(text: &mut Vec<u8>, number: u32, content: &[u8]) -> Result<(), 
     text.extend_from_slice(content)
 }
 
-/// Puts the key of a field of bytes and their number behind the text; the bytes are to follow. The error is want of memory.
+/// Puts the key of a field of bytes and their number behind the text; the bytes are to follow. The error is want of
+/// memory.
 ///
 /// Protobuf encoding guide, Length-Delimited Records.
 pub fn put_head(text: &mut Vec<u8>, number: u32, size: usize) -> Result<(), AllocError>

@@ -1,6 +1,6 @@
--- UnixFS data as a message under its table (UnixFS specification, Data Format: message Data; the ascending order and the
--- unpacked blocksizes are this project's own profile).
-use Rattle.std.specs.Prelude.{◌≡◌, ℕ, ◌⊎◌, List, [], ◌∷◌, Some}
+-- UnixFS data as a message under its table (UnixFS specification, Data Format: message Data; the ascending order and
+-- the unpacked blocksizes are this project's own profile).
+use Rattle.std.specs.Prelude.{◌≡◌, ℕ, ◌<◌, ◌⊎◌, List, [], ◌∷◌, length, Some, IsSome}
 use Rattle.tg_pbtable.specs.declared.table.Field.{Field}
 use Rattle.tg_pbtable.specs.declared.table.Order.TheVariants.{Ascending}
 use Rattle.tg_pbtable.specs.Message.{Message}
@@ -30,6 +30,10 @@ pub record HasParts (text : List ℕ) (fields : List Field) (unix : Unix) : Type
 pub record IsUnix (unix : Unix) : Type 0 where
   pub known : IsKind unix.kind
   pub shard : unix.kind ≡ 5 → IsShardOf unix
+
+-- the data has inline bytes or blocksizes
+abbrev pub HasContent : Unix → Type 0
+HasContent unix = IsSome unix.inline ⊎ (0 < length unix.sizes)
 
 -- the text is the data's
 pub record UnixText (unix : Unix) (text : List ℕ) : Type 0 where

@@ -1,10 +1,10 @@
 //! UnixFS data: the message in a DAG-PB node's payload.
 #![tactic(auto)]
 
-ghost use Rattle.std.specs.Prelude.{◌≡◌, ℕ, ◌⊎◌, [], List as Items, IfOk, IfErr, OnOk, MatchResult};
+ghost use Rattle.std.specs.Prelude.{◌≡◌, ℕ, ◌<◌, ◌⊎◌, [], List as Items, length, IfOk, IfErr, IsErrOf, OnOk, OnErr, MatchResult};
 ghost use Rattle.tg_pbtable.specs.Emitted.{FieldTexts, Puts, IsSizeOf};
 ghost use Rattle.tg_pbtable.specs.Place.{AreInside};
-ghost use Rattle.tg_unixfs.specs.Unix.{UnixText, CanonicalText, IsUnix};
+ghost use Rattle.tg_unixfs.specs.Unix.{UnixText, CanonicalText, HasContent, IsUnix};
 ghost use Rattle.tg_unixfs.specs.Faults.{HasUnixCause};
 ghost use Rattle.tg_unixfs.specs.Reading.{carried};
 ghost use Rattle.tg_unixfs.specs.Places.{IsBetween, IsCursor, placed_unix};
@@ -26,8 +26,8 @@ use tg_pbtable::{
 };
 use thiserror::Error;
 
-/// The table of UnixFS data, whose fields stand in ascending order: 1 Type, 2 Data, 3 filesize, 4 blocksizes, 5 hashType,
-/// 6 fanout.
+/// The table of UnixFS data, whose fields stand in ascending order: 1 Type, 2 Data, 3 filesize, 4 blocksizes, 5
+/// hashType, 6 fanout.
 ///
 /// UnixFS specification, Data Format.
 pub const DATA: &[Rule; 6] = &[
@@ -69,7 +69,8 @@ const MURMUR: u64 = 0x22;
 /// How many slots a shard has.
 const FANOUT: u64 = 256;
 
-/// UnixFS data: the type (0 Raw, 1 Directory, 2 File, 4 Symlink, 5 HAMTShard) and the other fields, absent ones being none.
+/// UnixFS data: the type (0 Raw, 1 Directory, 2 File, 4 Symlink, 5 HAMTShard) and the other fields, absent ones being
+/// none.
 ///
 /// UnixFS specification, Data Format.
 #[derive(Debug, Drop)]
@@ -123,9 +124,9 @@ impl From<AllocError> for UnixFault {
 
 /// The data that a payload spells.
 ///
-/// UnixFS specification, Data Format; fields out of ascending order and packed blocksizes are refused (this project's own
-/// profile). Errors, in this order: `Pb` with the first fault of the message, `BadKind`, `BadHash`, `BadFanout`, and
-/// `OutOfMemory` for want of memory alone.
+/// UnixFS specification, Data Format; fields out of ascending order and packed blocksizes are refused (this project's
+/// own profile). Errors, in this order: `Pb` with the first fault of the message, `BadKind`, `BadHash`, `BadFanout`,
+/// and `OutOfMemory` for want of memory alone.
 pub fn decode(alloc: Global, bytes: &[u8]) -> Result<Unix, UnixFault>
     ensures found { IfOk result (λ unix. UnixText unix bytes.now) }
     ensures only { (unix : Unix) → UnixText unix bytes.now
@@ -134,6 +135,8 @@ pub fn decode(alloc: Global, bytes: &[u8]) -> Result<Unix, UnixFault>
     // Each refusal but want of memory comes exactly where its cause holds; memory is taken only for data.
     ensures cause { IfErr result (λ e. (e ≡ UnixFault.OutOfMemory) ⊎ HasUnixCause bytes.now e) }
     ensures given { (fault : UnixFault) → HasUnixCause bytes.now fault → result ≡ Err fault }
+    // Memory is wanted for the inline bytes and the blocksizes of data alone.
+    ensures memory { IsErrOf result UnixFault.OutOfMemory → (unix : Unix) × UnixText unix bytes.now × HasContent unix }
 {
     let places = places_of(bytes)?;
     Ok(copied(alloc, bytes, places)?)
@@ -143,8 +146,10 @@ pub fn decode(alloc: Global, bytes: &[u8]) -> Result<Unix, UnixFault>
 fn copied(alloc: Global, bytes: &[u8], places: UnixPlaces) -> Result<Unix, AllocError>
     requires inside { AreInside bytes.now places.inline }
     requires cursor { IsCursor bytes.now 0 }
-    ensures { (sizes : Items ℕ) → IsBetween bytes.now 0 [] sizes
+    ensures data { (sizes : Items ℕ) → IsBetween bytes.now 0 [] sizes
         → IfOk result (λ unix. unix ≡ placed_unix bytes.now places sizes) }
+    ensures memory { (sizes : Items ℕ) → IsBetween bytes.now 0 [] sizes
+        → OnErr result (HasContent (placed_unix bytes.now places sizes)) }
 {
     Ok(Unix {
         kind: places.kind,
@@ -159,7 +164,8 @@ fn copied(alloc: Global, bytes: &[u8], places: UnixPlaces) -> Result<Unix, Alloc
 /// The blocksizes of the data that a payload spells, in order. The error is want of memory.
 fn sizes_of(alloc: Global, bytes: &[u8]) -> Result<List<u64>, AllocError>
     requires { IsCursor bytes.now 0 }
-    ensures { (sizes : Items ℕ) → IsBetween bytes.now 0 [] sizes → IfOk result (λ found. found ≡ sizes) }
+    ensures sizes { (sizes : Items ℕ) → IsBetween bytes.now 0 [] sizes → IfOk result (λ found. found ≡ sizes) }
+    ensures memory { (sizes : Items ℕ) → IsBetween bytes.now 0 [] sizes → OnErr result (0 < length sizes) }
 {
     let mut sizes = List::new(alloc);
     let mut at = 0;
@@ -237,7 +243,8 @@ fn put_inline(text: &mut Vec<u8>, inline: &Option<Bytes>) -> Result<(), AllocErr
 
 /// Puts the fields of the blocksizes behind the text.
 fn put_sizes(text: &mut Vec<u8>, sizes: &[u64]) -> Result<(), AllocError>
-    ensures { (source : Items ℕ) → OnOk result (Puts (λ bytes. FieldTexts source (numbered 4 (as_numbers sizes.now)) bytes)
+    ensures { (source : Items ℕ)
+        → OnOk result (Puts (λ bytes. FieldTexts source (numbered 4 (as_numbers sizes.now)) bytes)
         text.old.items text.new.items) }
 {
     tg_pbtable::laws::table_laws();

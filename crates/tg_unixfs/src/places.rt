@@ -132,7 +132,8 @@ pub fn size_at(bytes: &[u8], at: usize) -> Option<(u64, usize)>
 
 /// The blocksize that a field is, where it is one.
 fn size_of(field: &Field) -> Option<u64>
-    ensures { MatchOption result (numbers_at 4 (field.now ∷ []) ≡ []) (λ size. numbers_at 4 (field.now ∷ []) ≡ size ∷ []) }
+    ensures { MatchOption result (numbers_at 4 (field.now ∷ []) ≡ []) (λ size. numbers_at 4 (field.now ∷ []) ≡ size
+        ∷ []) }
 {
     match field.value {
         Value::Number(size) if field.number == 4 => Some(size),

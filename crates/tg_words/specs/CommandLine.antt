@@ -1,5 +1,5 @@
 -- The grammar of the command line: the commands with their positional words and options.
-use Rattle.std.specs.Prelude.{◌≡◌, ℕ, List, [], ◌∷◌, codes, Ok, Some}
+use Rattle.std.specs.Prelude.{◌≡◌, ℕ, List, [], ◌∷◌, Contains, codes, Ok, Some}
 use Rattle.hex.specs.Hex.{decode_of}
 use Rattle.tg_cid.specs.Cid.{CidParts}
 use Rattle.tg_cid.specs.Spelling.{CidText, CidBytes}
@@ -9,6 +9,17 @@ use Rattle.tg_words.specs.ExportLines.{ExportLine}
 use Rattle.tg_words.specs.ImportLines.{ImportLine}
 use Rattle.tg_words.specs.VerifyLines.{VerifyLine}
 use Rattle.tg_words.specs.Words.{Names, Line}
+
+-- the names of the commands
+abbrev pub command_names : List (List ℕ)
+command_names = codes "check" ∷ codes "node" ∷ codes "cid" ∷ codes "export" ∷ codes "import" ∷ codes "verify" ∷ []
+
+-- the first word is a command's name
+pub record BeginsCommand (words : List (List ℕ)) : Type 0 where
+  pub name : List ℕ
+  pub rest : List (List ℕ)
+  pub begins : words ≡ name ∷ rest
+  pub known : Contains command_names name
 
 -- the options of each command
 abbrev pub no_names : Names

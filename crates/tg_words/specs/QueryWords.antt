@@ -17,7 +17,8 @@ ScopeText text scopes.Block = text ≡ codes "block"
 ScopeText text scopes.Entity = text ≡ codes "entity"
 ScopeText text scopes.All = text ≡ codes "all"
 
--- the scope of the query: entity where a range is given, whatever scope is asked beside it, and entity where nothing is asked
+-- the scope of the query: entity where a range is given, whatever scope is asked beside it, and entity where nothing is
+-- asked
 abbrev pub scope_for : Option Scope → Option SpanParts → Scope
 scope_for asked (Some span) = scopes.Entity
 scope_for (Some scope) None = scope

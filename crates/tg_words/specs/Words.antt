@@ -72,7 +72,8 @@ IsEnd rest late = ((rest ≡ []) × (late ≡ [])) ⊎ (rest ≡ codes "--" ∷ 
 abbrev pub StandOnce : List Given → Type 0
 StandOnce options = (i j : ℕ) (a b : Given) → i < j → slice_get options i ≡ Some a → slice_get options j ≡ Some b → a.0 ≢ b.0
 
--- the words are these positional words and these options, of the names that a command has; an option may stand more than once
+-- the words are these positional words and these options, of the names that a command has; an option may stand more
+-- than once
 pub record Reading (names : Names) (words positional : List (List ℕ)) (options : List Given) : Type 0 where
   pub items : List Item
   pub front : List (List ℕ)

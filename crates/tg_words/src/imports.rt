@@ -96,7 +96,8 @@ fn import_with(
 
 /// The number that an option's value writes, or the default where there is none.
 fn number_given(value: Option<&str>, setting: Setting) -> Result<u32, WordsFault>
-    ensures { Exact (NumberGiven (option_map (λ text. text.now) value.entry) setting.low setting.high setting.default) result }
+    ensures { Exact (NumberGiven
+        (option_map (λ text. text.now) value.entry) setting.low setting.high setting.default) result }
 {
     let number = match value {
         Some(text) => number_of(text).ok_or(WordsFault::Usage)?,

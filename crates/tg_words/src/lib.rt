@@ -1,13 +1,14 @@
 //! The words of the command line: the grammar of the program's commands, and its reader.
 //!
-//! A command is one line of `dispatch` and a constructor, which has `operands_of` read the words behind the command's name.
+//! A command is one line of `dispatch` and a constructor, which has `operands_of` read the words behind the command's
+//! name.
 #![tactic(auto)]
 
-ghost use Rattle.std.specs.Prelude.{◌≡◌, ℕ, ◌⊎◌, List, ◌∷◌, map, string_bytes, codes, IfOk, IsErrOf, MatchResult};
+ghost use Rattle.std.specs.Prelude.{◌≡◌, ℕ, ◌⊎◌, List, ◌∷◌, map, string_bytes, codes, Contains, IfOk, IsErrOf, MatchResult};
 ghost use Rattle.hex.specs.Hex.{decode_of};
 ghost use Rattle.tg_cid.specs.Cid.{CidParts};
 ghost use Rattle.tg_cid.specs.Spelling.{CidText, CidBytes};
-ghost use Rattle.tg_words.specs.CommandLine.{CommandLine};
+ghost use Rattle.tg_words.specs.CommandLine.{BeginsCommand, CommandLine, command_names};
 ghost use Rattle.tg_words.specs.Operands.{Answers, OneCid};
 ghost use Rattle.tg_words.specs.declared.Command.{Command};
 ghost use Rattle.tg_words.specs.declared.WordsFault.{WordsFault};
@@ -46,17 +47,17 @@ pub enum Command {
     CidToText(Cid),
     /// `export PACK ROOT/PATH [--scope S] [--bytes R]`: a CAR of what is asked below a root of a pack.
     ///
-    /// PACK isn't empty. S is `block`, `entity` or `all`; R is a range FROM:TO of a file's bytes, beside which the scope is
-    /// entity. Without either the scope is entity.
+    /// PACK isn't empty. S is `block`, `entity` or `all`; R is a range FROM:TO of a file's bytes, beside which the
+    /// scope is entity. Without either the scope is entity.
     Export(Export),
     /// `import FOLDER PACK [--chunk N] [--width N] [--shard N]`: a folder is written into a pack.
     ///
-    /// FOLDER and PACK aren't empty. Each N is 1 to 20 decimal digits. A chunk has 1 to 2,097,152 bytes, or else 1,048,576; a
-    /// node of a file 2 to 4,096 links, or else 1,024; a directory is sharded above a weight of 0 to 1,048,576, or else
-    /// 262,144.
+    /// FOLDER and PACK aren't empty. Each N is 1 to 20 decimal digits. A chunk has 1 to 2,097,152 bytes, or else
+    /// 1,048,576; a node of a file 2 to 4,096 links, or else 1,024; a directory is sharded above a weight of 0 to
+    /// 1,048,576, or else 262,144.
     Import(Import),
-    /// `verify ROOT/PATH [--scope S] [--bytes R]`: a CAR on input is checked, block by block, to be what is asked below a root,
-    /// and what it says is written to out.
+    /// `verify ROOT/PATH [--scope S] [--bytes R]`: a CAR on input is checked, block by block, to be what is asked below
+    /// a root, and what it says is written to out.
     ///
     /// S, R and the scope are as in `export`.
     Verify(Query),
@@ -160,17 +161,20 @@ impl From<FromHexError> for WordsFault {
 
 /// The command that the words spell, the words being those after the program's name.
 ///
-/// The first word is the command. Options are `--name VALUE` or `--name=VALUE`, anywhere behind it and each at most once;
-/// `--` ends them (the Utility Syntax Guidelines of POSIX.1, section 12.2, guideline 10; long options are as in GNU's
-/// `getopt_long`, but for shortened names). Errors: `Usage` where no command has these words, `OutOfMemory` for want of
-/// memory alone.
+/// The first word is the command. Options are `--name VALUE` or `--name=VALUE`, anywhere behind it and each at most
+/// once; `--` ends them (the Utility Syntax Guidelines of POSIX.1, section 12.2, guideline 10; long options are as in
+/// GNU's `getopt_long`, but for shortened names). Errors: `Usage` where no command has these words, `OutOfMemory` for
+/// want of memory alone.
 pub fn read(alloc: Global, words: &[String]) -> Result<Command, WordsFault>
     ensures found { IfOk result (λ command. CommandLine (map string_bytes words.now) command) }
     ensures only { (command : Command) → CommandLine (map string_bytes words.now) command
         → MatchResult result (λ found. found ≡ command) (λ e. e ≡ WordsFault.OutOfMemory) }
-    ensures cause { IsErrOf result WordsFault.Usage → (command : Command) → CommandLine (map string_bytes words.now) command → ⊥ }
+    ensures cause { IsErrOf result WordsFault.Usage → (command : Command)
+        → CommandLine (map string_bytes words.now) command → ⊥ }
     ensures given { ((command : Command) → CommandLine (map string_bytes words.now) command → ⊥)
         → (result ≡ Err WordsFault.Usage) ⊎ (result ≡ Err WordsFault.OutOfMemory) }
+    // Memory is wanted only once a command was named: for the names of its options, and for what its words spell.
+    ensures memory { IsErrOf result WordsFault.OutOfMemory → BeginsCommand (map string_bytes words.now) }
 {
     let Some((command, rest)) = words.split_first() else {
         return Err(WordsFault::Usage);
@@ -189,7 +193,8 @@ pub fn one_command()
 
 /// The command of this name with these words behind it.
 fn dispatch(alloc: Global, command: &str, words: &[String]) -> Result<Command, WordsFault>
-    ensures { Answers (command.now ∷ map string_bytes words.now) result }
+    ensures exact { Answers (command.now ∷ map string_bytes words.now) result }
+    ensures memory { IsErrOf result WordsFault.OutOfMemory → Contains command_names command.now }
 {
     if command == "check" {
         check(alloc, words)

@@ -39,8 +39,9 @@ pub struct Operands<'a> {
 
 /// The positional words and the options that words spell, where the command has options of these names.
 ///
-/// An option stands anywhere, at most once, as `--name=VALUE`, as `--name VALUE` or, where it has no value, as `--name`;
-/// `--` ends the options. Errors: `Usage` where the words aren't of this form, `OutOfMemory` for want of memory alone.
+/// An option stands anywhere, at most once, as `--name=VALUE`, as `--name VALUE` or, where it has no value, as
+/// `--name`; `--` ends the options. Errors: `Usage` where the words aren't of this form, `OutOfMemory` for want of
+/// memory alone.
 pub fn operands_of<'a>(
     alloc: Global,
     words: &'a [String],
@@ -51,7 +52,8 @@ pub fn operands_of<'a>(
         (texts_of found.positional.items) (givens found.options.items)) }
     ensures only { (positional : List (List ℕ)) (options : List Given)
         → WordsSpelling (names_of names.entry) (map string_bytes words.now) positional options
-        → MatchResult result (λ found. (texts_of found.positional.items ≡ positional) × (givens found.options.items ≡ options))
+        → MatchResult result (λ found. (texts_of found.positional.items ≡ positional)
+        × (givens found.options.items ≡ options))
         (λ e. e ≡ WordsFault.OutOfMemory) }
 {
     let command = command_of(alloc, names)?;
@@ -80,7 +82,8 @@ fn with_options<'a>(
     names: &'a [&'a str],
     action: ArgAction,
 ) -> Result<Command<'a>, AllocError>
-    ensures { IfOk result (λ all. app_of all ≡ with_rules (app_of command.entry) (map (option_rule action) (texts_of names.now))) }
+    ensures { IfOk result (λ all. app_of all ≡ with_rules (app_of command.entry)
+        (map (option_rule action) (texts_of names.now))) }
 {
     for name in names {
         let option = Arg::new(alloc, name).long(name).action(action);
@@ -119,7 +122,8 @@ fn option_in<'a>(
     name: &'a str,
     names: OptionNames<'a>,
 ) -> Option<GivenOption<'a>>
-    ensures { option_map given result ≡ option_at (texts_of names.entry.flags.now) (rows_of (found_of matches.now)) name.now }
+    ensures { option_map given result ≡ option_at (texts_of names.entry.flags.now)
+        (rows_of (found_of matches.now)) name.now }
 {
     if name == POSITIONAL || matches.value_source(name) != Some(ValueSource::CommandLine) {
         return None;

@@ -40,7 +40,8 @@ fn query_of(
     scope: Option<&str>,
     bytes: Option<&str>,
 ) -> Result<Query, WordsFault>
-    ensures { Exact (QueryGiven target.now (option_map (λ text. text.now) scope.entry) (option_map (λ text. text.now) bytes.entry)) result }
+    ensures { Exact (QueryGiven target.now (option_map (λ text. text.now) scope.entry)
+        (option_map (λ text. text.now) bytes.entry)) result }
 {
     tg_path::laws::roots_read();
     tg_path::laws::spans_read();
@@ -55,7 +56,8 @@ fn car_query(root: Cid, path: Path, asked: Option<Scope>, span: Option<Span>) ->
     requires few { length path ≤ 128 }
     requires good { All IsGoodName path }
     requires span { IfSome span IsSpan }
-    ensures { result ≡ record { root = root; path = path; form = Form.Car; scope = scope_for asked span; span = span; dups = true } }
+    ensures { result ≡ record
+        { root = root; path = path; form = Form.Car; scope = scope_for asked span; span = span; dups = true } }
 {
     match span {
         Some(range) => Query::car(root, path, Scope::Entity, Some(range), true),

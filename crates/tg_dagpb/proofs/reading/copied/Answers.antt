@@ -1,5 +1,5 @@
 use Rattle.std.proofs.Common.{refl}
 use Rattle.tg_dagpb.proofs.reading.copied.Goals as goal
 
-pub returns : goal.returns
-returns c = λ links between. rw (c.in_ok-copied_links.ensures links between, c.in_ok-copied_bytes.ensures) refl
+pub returns-clause-node : goal.returns-clause-node
+returns-clause-node c = λ links between. rw (c.in_ok-copied_links.ensures.links links between, c.in_ok-copied_bytes.ensures.copy) refl

@@ -1,5 +1,6 @@
 use Rattle.std.proofs.Common.{◌<◌, ◌≤◌, ◌≡◌, ◌∷◌, ◌++◌, [], List, length, refl, sym, ap, ◌∙◌, subst, arith}
-use Rattle.tg_pbtable.specs.Taking.{AreFirst, one_more, all_taken}
+use Rattle.std.proofs.lemmas.Result.{err_from_is_err_and}
+use Rattle.tg_pbtable.specs.Taking.{AreFirst, one_more, all_taken, some_part}
 use Rattle.tg_dagpb.specs.declared.Link.{Link}
 use Rattle.tg_dagpb.specs.Cursor.{IsBetween, placed_link}
 use Rattle.tg_dagpb.proofs.reading.copied_links.Goals as goal
@@ -26,5 +27,19 @@ loop-places-preserved c =
           (one_more (IsBetween text) c.loop-places.at c.in-Some.next before link (c.in-Some.ensures.next before) c.loop-places.invariant.passed);
     }
 
-pub returns : goal.returns
-returns c = all_taken (IsBetween c.args.bytes.now) c.loop-places.at c.loop-places.links (c.in_default.ensures.next c.loop-places.links) c.loop-places.invariant.passed
+pub returns-in_err-copied_link-clause-memory : goal.returns-in_err-copied_link-clause-memory
+returns-in_err-copied_link-clause-memory c = λ all start.
+    let p = err_from_is_err_and c.from_residual.result c.from_residual.ensures.1 in
+    rw (p.1)
+    (some_part (IsBetween c.args.bytes.now) c.loop-places.at c.loop-places.links (placed_link c.args.bytes.now c.in-Some.places)
+    (λ ahead between. let more = c.in-Some.ensures.next c.loop-places.links ahead between in (more.0, more.1)) c.loop-places.invariant.passed all start)
+
+pub returns-in_err-push-clause-memory : goal.returns-in_err-push-clause-memory
+returns-in_err-push-clause-memory c = λ all start.
+    let p = err_from_is_err_and c.from_residual-in_err-push.result c.from_residual-in_err-push.ensures.1 in
+    rw (p.1)
+    (some_part (IsBetween c.args.bytes.now) c.loop-places.at c.loop-places.links (placed_link c.args.bytes.now c.in-Some.places)
+    (λ ahead between. let more = c.in-Some.ensures.next c.loop-places.links ahead between in (more.0, more.1)) c.loop-places.invariant.passed all start)
+
+pub returns-clause-links : goal.returns-clause-links
+returns-clause-links c = all_taken (IsBetween c.args.bytes.now) c.loop-places.at c.loop-places.links (c.in_default.ensures.next c.loop-places.links) c.loop-places.invariant.passed

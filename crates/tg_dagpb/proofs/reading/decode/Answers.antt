@@ -2,7 +2,7 @@ use Rattle.std.proofs.Common.{◌≡◌, Result, Ok, Err, ap, ◌∙◌, sym, su
 use Rattle.std.proofs.lemmas.Result.{err_from_is_err_and}
 use Rattle.tg_pbtable.specs.declared.fault.PbFault.{PbFault}
 use Rattle.tg_dagpb.specs.declared.Node.{Node}
-use Rattle.tg_dagpb.specs.Node.{NodeText}
+use Rattle.tg_dagpb.specs.Node.{HasContent, NodeText}
 use Rattle.tg_dagpb.proofs.Cursors.{start_between}
 use Rattle.tg_dagpb.proofs.Same.{node_with}
 use Rattle.tg_dagpb.proofs.reading.decode.Goals as goal
@@ -25,12 +25,18 @@ pub returns-clause-found : goal.returns-clause-found
 returns-clause-found c =
     let text = c.args.bytes.now in
     let h = c.in_ok-payload.ensures.found in
-    let same : c.in_ok-copied.field-0 ≡ h.node = c.in_ok-copied.ensures h.node.links (start_between text h.node h.is_text) ∙ ap (node_with h.node.links) h.payload_is in
+    let same : c.in_ok-copied.field-0 ≡ h.node = c.in_ok-copied.ensures.node h.node.links (start_between text h.node h.is_text) ∙ ap (node_with h.node.links) h.payload_is in
     subst (λ (node : Node). NodeText node text) (sym same) h.is_text
 
 pub returns-clause-only : goal.returns-clause-only
 returns-clause-only c = λ node text.
-    c.in_ok-copied.ensures node.links (start_between c.args.bytes.now node text) ∙ ap (node_with node.links) (c.in_ok-payload.ensures.only node text)
+    c.in_ok-copied.ensures.node node.links (start_between c.args.bytes.now node text) ∙ ap (node_with node.links) (c.in_ok-payload.ensures.only node text)
+
+pub returns-in_err-copied-clause-memory : goal.returns-in_err-copied-clause-memory
+returns-in_err-copied-clause-memory c = λ _.
+    let h = c.in_ok-payload.ensures.found in
+    let content = c.in_err-copied.ensures.memory h.node.links (start_between c.args.bytes.now h.node h.is_text) in
+    (h.node, h.is_text, subst HasContent (ap (node_with h.node.links) h.payload_is) content)
 
 pub returns-in_err-copied-clause-given : goal.returns-in_err-copied-clause-given
 returns-in_err-copied-clause-given c = λ fault cause. absurd (not_both c.in_ok-payload.payload fault (c.in_ok-payload.ensures.given fault cause))

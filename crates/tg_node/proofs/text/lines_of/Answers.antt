@@ -10,4 +10,4 @@ returns-in_err-push_payload c =
     let p = err_from_is_err_and c.from_residual-in_err-push_payload.result c.from_residual-in_err-push_payload.ensures.1 in
     let lines = c.in_ok-push_links.ensures in
     rw (p.1, p.2) (payload_caused c.args.node.now lines.0 c.in_err-push_payload.field-0.0
-    (subst (λ (ls : List Link). LinkLines ls lines.0) c.as_slice-links.ensures lines.1) c.in_err-push_payload.ensures)
+    (subst (λ (ls : List Link). LinkLines ls lines.0) c.as_slice-links.ensures lines.1) c.in_err-push_payload.ensures.lines)

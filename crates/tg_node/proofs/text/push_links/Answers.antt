@@ -9,7 +9,7 @@ use Rattle.tg_node.proofs.text.push_links.Goals as goal
 pub loop-link-preserved : goal.loop-link-preserved
 loop-link-preserved c =
     let so_far = c.loop-link.invariant in
-    let here = c.in_ok-push_link.ensures in
+    let here = c.in_ok-push_link.ensures.line in
     let links = c.args.links.now in
     let i = c.loop-link.link-index in
     let item = c.link-item.result in
@@ -24,7 +24,7 @@ returns-in_err-push_link c =
     let p = err_from_is_err_and c.from_residual.result c.from_residual.ensures.1 in
     let e = c.in_err-push_link.field-0.0 in
     rw (p.1, p.2) (bad_there c.args.links.now c.loop-link.link-index c.link-item.result e (omega arith)
-    (subst (λ (x : Link). IsCaused (HasLinkCause (x ∷ [])) e) c.link-item.is c.in_err-push_link.ensures))
+    (subst (λ (x : Link). IsCaused (HasLinkCause (x ∷ [])) e) c.link-item.is c.in_err-push_link.ensures.line))
 
 pub returns : goal.returns
 returns c =

@@ -13,9 +13,9 @@ returns-in_err-bytes c =
     let first : get_or text 0 0 ≡ 98 = omega arith in
     let e = begins_rest text 98 c.in-98.len_at_least first in
     let p = err_from_is_err_and c.from_residual.result c.from_residual.ensures.1 in
-    let w = no_base text _ c.in_err-bytes.field-0.0 e c.in_err-bytes.ensures.only in
+    let w = no_base text _ c.in_err-bytes.field-0.0 e c.in_err-bytes.ensures.only (λ same. c.in_err-bytes.ensures.memory (ap Err same)) in
     let a = subst (TextAnswers text) (sym (p.1 ∙ ap Err p.2)) w in
-    record { found = a.found; only = a.only; cause = a.cause; given = a.given }
+    record { found = a.found; only = a.only; cause = a.cause; given = a.given; memory = a.memory }
 
 pub returns-in-18 : goal.returns-in-18
 returns-in-18 c =
@@ -27,7 +27,7 @@ returns-in-18 c =
     let spelled = subst (Base32Text letters) (sym c.as_slice-bytes.ensures.value) c.in_ok-bytes.ensures.found in
     let a = as_zero c.spelling_laws.ensures c.text_laws.ensures text letters bytes (drop 1 bytes) (begins_rest text 98 c.in-98.len_at_least first) spelled
     (begins_with bytes 0x12 c.in-18.len_at_least here) in
-    record { found = a.found; only = a.only; cause = a.cause; given = a.given }
+    record { found = a.found; only = a.only; cause = a.cause; given = a.given; memory = a.memory }
 
 pub returns : goal.returns
 returns c =
@@ -43,4 +43,4 @@ returns c =
     let e = c.from_bytes.ensures in
     let a = by_bytes c.text_laws.ensures text letters bytes c.from_bytes.result (begins_rest text 98 c.in-98.len_at_least first) spelled other
     (record { found = e.found; only = e.only; cause = e.cause; given = e.given }) in
-    record { found = a.found; only = a.only; cause = a.cause; given = a.given }
+    record { found = a.found; only = a.only; cause = a.cause; given = a.given; memory = a.memory }
