@@ -14,9 +14,11 @@ use Rattle.tg_dir.proofs.OneBlock.{all_listed, all_tsizes, basic_dag, basic_laid
 use Rattle.tg_dir.proofs.Orders.{entries_sorted}
 use Rattle.tg_dir.proofs.Pairs.{EntryDag, IsInOrder, IsLed, all_laid, all_led, block_in, children_are, children_in, entries_are, entries_in, in_order, listed, listed_are, of_pair, pairs_of}
 use Rattle.tg_dir.specs.Basic.{MakesBasic}
-use Rattle.tg_dir.specs.Made.{IsMadeBy, MakesDirectory}
+use Rattle.tg_dir.specs.Made.{IsBasicCause, IsMadeBy, MakesDirectory, StopsInOrder}
 use Rattle.tg_dir.specs.Weights.{weight_for, weight_in}
-use Rattle.tg_hamt.specs.Directories.{AreGoodEntries, AreSound, IsMadeDirectory, MakesSharded, listed_for}
+use Rattle.tg_hamt.specs.declared.fault.HamtFault.{HamtFault}
+use Rattle.tg_hamt.specs.declared.fault.HamtFault.TheVariants as faults
+use Rattle.tg_hamt.specs.Directories.{AreGoodEntries, AreSound, IsCause, IsMadeDirectory, MakesSharded, listed_for}
 use Rattle.tg_hamt.specs.Order.{IsGoodEntry}
 use Rattle.tg_model.specs.Content.{DirEntry, entries}
 use Rattle.tg_model.specs.Dag.{Children, blocks_of_children, no_child, root_cid, with_child}
@@ -27,6 +29,8 @@ use Rattle.tg_model.specs.Stores.{Keeping}
 use Rattle.tg_model.specs.declared.kinds.Made.{Made}
 use Rattle.tg_model.specs.declared.kinds.NewEntry.{NewEntry}
 use Rattle.tg_node_writing.specs.Nodes.{IsNodeOf, LeadTo, NodeLaws}
+use Rattle.tg_node_writing.specs.BlockOrder.{AreBehindLinks, LinksOfNodes, entry_cids}
+use Rattle.tg_node_writing.specs.BlockOrderLaws.{behind_nothing, behind_one, links_wider}
 use Rattle.tg_node_writing.specs.Keeping.{section_of}
 use Rattle.tg_cid.specs.declared.cid.Codec.TheVariants.{DagPb}
 
@@ -57,6 +61,7 @@ pub sharded_made : (threshold : ℕ) (new : List NewEntry) (made : Made) (keepin
 sharded_made threshold new made keeping heavy makes = record {
   sections = makes.sections;
   keeps = makes.keeps;
+  order = makes.order;
   directory = λ children lead sound.
       let found = makes.directory children lead sound in
       let m = found.1 in (
@@ -134,12 +139,35 @@ module _ (laws : NodeLaws) (threshold : ℕ) (new : List NewEntry) (children : C
         (All-permutation (λ (pair : EntryDag). IsLaidAt options top pair.dag) (pairs_of new children) o.moved o.permutation (all_laid options new children laid));
   }
 
-pub basic_made : NodeLaws → (threshold : ℕ) (new : List NewEntry) (made : Made) (keeping : Keeping) → AreGoodEntries new → weight_for new ≤ threshold → MakesBasic new made keeping
+basic_order : LinksOfNodes → (new : List NewEntry) (made : Made) (keeping : Keeping) → (m : MakesBasic new made keeping)
+    → AreBehindLinks (entry_cids new) (section_of DagPb m.kept.block ∷ [])
+basic_order law new made keeping m =
+    let f = λ (e : NewEntry). e.cid in
+    let section = section_of DagPb m.kept.block in
+    behind_one (entry_cids new) section
+    (links_wider (entry_cids m.sorted) (entry_cids new) section
+    (λ cid has. Contains-permutation (entry_cids m.sorted) (entry_cids new) cid (IsPermutation-sym (entry_cids new) (entry_cids m.sorted) (IsPermutation-map f new m.sorted m.permutation)) has)
+    (law m.sorted basic_unix section m.kept.written))
+
+pub basic_made : NodeLaws → LinksOfNodes → (threshold : ℕ) (new : List NewEntry) (made : Made) (keeping : Keeping) → AreGoodEntries new → weight_for new ≤ threshold → MakesBasic new made keeping
     → MakesDirectory threshold new made keeping
-basic_made laws threshold new made keeping good light m = record {
+basic_made laws links_law threshold new made keeping good light m = record {
   sections = section_of DagPb m.kept.block ∷ [];
   keeps = m.kept.keeps;
+  order = basic_order links_law new made keeping m;
   directory = λ children lead sound.
       let o = in_order (pairs_of new children) m.sorted (subst (λ (l : List NewEntry). IsPermutation l m.sorted) (sym (entries_are new children lead)) m.permutation) in
       (basic_dag o.moved m.kept.block, made_basic laws threshold new children made keeping good light lead sound m o);
 }
+
+-- ---- before a fault
+
+pub sharded_stops : (new : List NewEntry) (fault : HamtFault) (keeping : Keeping) → IsCause new fault keeping → StopsInOrder new fault keeping
+sharded_stops new (faults.SameHash first second) keeping h = h.1
+sharded_stops new (faults.Keep fault) keeping h = (h.1.sections, h.1.stops, h.1.order)
+sharded_stops new faults.OutOfMemory keeping h = (h.sections, h.stops, h.order)
+
+pub basic_stops : (new : List NewEntry) (fault : HamtFault) (keeping : Keeping) → IsBasicCause fault keeping → StopsInOrder new fault keeping
+basic_stops new (faults.SameHash first second) keeping h = absurd h
+basic_stops new (faults.Keep fault) keeping h = ([], h.1, behind_nothing (entry_cids new))
+basic_stops new faults.OutOfMemory keeping h = ([], h, behind_nothing (entry_cids new))

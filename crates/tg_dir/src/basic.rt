@@ -72,7 +72,8 @@ fn copied(alloc: Global, entries: &[NewEntry]) -> Result<Vec<NewEntry>, AllocErr
     Ok(copy)
 }
 
-/// Keeps the block of the directory with these entries, its links in their order. Errors: those of the store, and want of memory.
+/// Keeps the block of the directory with these entries, its links in their order. Errors: those of the store, and want
+/// of memory.
 ///
 /// UnixFS specification, Directory.
 fn keep_sorted<K: Keep>(

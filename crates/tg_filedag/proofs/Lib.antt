@@ -12,3 +12,4 @@ mod Beginnings
 mod Runs
 mod Rooms
 mod Calls
+mod Order

@@ -14,7 +14,8 @@ abbrev pub leaves_for : List (List ℕ) → List (List ℕ)
 leaves_for [] = [] ∷ []
 leaves_for (chunk ∷ chunks) = chunk ∷ chunks
 
--- a sound file whose content are the chunks, of which this is told; in the importer's layout where the chunks are those of a file
+-- a sound file whose content are the chunks, of which this is told; in the importer's layout where the chunks are those
+-- of a file
 pub record IsMadeFile (width : ℕ) (chunks : List (List ℕ)) (d : Dag) (made : Made) : Type 0 where
   pub sound : IsSound d
   pub content_is : content d ≡ joined chunks

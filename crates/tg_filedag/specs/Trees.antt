@@ -14,6 +14,7 @@ use Rattle.tg_model.specs.declared.kinds.Kind.TheVariants.{File, Raw}
 use Rattle.tg_model.specs.declared.kinds.Made.{Made}
 use Rattle.tg_model.specs.declared.kinds.NewEntry.{NewEntry}
 use Rattle.tg_model.specs.declared.kinds.Part.{Part}
+use Rattle.tg_node_writing.specs.BlockOrder.{AreBehindLinks}
 use Rattle.tg_node_writing.specs.Keeping.{section_of}
 use Rattle.tg_node_writing.specs.Nodes.{IsNodeOf}
 
@@ -84,12 +85,25 @@ pub record IsFilePart (d : Dag) : Type 0 where
   pub plain : All HasPlainCid (blocks d)
   pub content_is : content d ≡ joined (leaves d)
 
+-- these DAGs are parts of a file
+abbrev pub AreFileParts : Children → Type 0
+AreFileParts no_child = ⊤
+AreFileParts (with_child d children) = IsFilePart d × AreFileParts children
+
+-- the sections are the blocks of parts of a file, each behind those to which it links
+pub record AreOfFileParts (sections : List Section) : Type 0 where
+  pub parts : Children
+  pub each : AreFileParts parts
+  pub are : bottom_up_of_children parts ≡ sections
+  pub order : AreBehindLinks [] sections
+
 -- every leaf is so many links below the root, and each node has `width` links
 pub record IsFullTree (width height : ℕ) (d : Dag) : Type 0 where
   pub depth : HasLeavesAt height d
   pub widths : (level : ℕ) → All (λ n. n ≡ width) (level_widths d level)
 
--- every leaf is so many links below the root, each node but the last of its level has `width` links, and the last has one at least
+-- every leaf is so many links below the root, each node but the last of its level has `width` links, and the last has
+-- one at least
 pub record IsFrontTree (width height : ℕ) (d : Dag) : Type 0 where
   pub depth : HasLeavesAt height d
   pub widths : (level : ℕ) → AreFull width (level_widths d level)

@@ -39,8 +39,8 @@ impl Chunker {
         })
     }
 
-    /// Takes the bytes of the piece that there is room for, and says how many and whether the chunk is full then. It takes no
-    /// memory.
+    /// Takes the bytes of the piece that there is room for, and says how many and whether the chunk is full then. It
+    /// takes no memory.
     pub fn feed(&mut self, piece: &[u8]) -> (usize, bool)
         ensures taken { result.0 ≡ length (taken_of self.old piece.now) }
         ensures fed { self.new ≡ fed_with self.old piece.now }

@@ -3,6 +3,7 @@
 
 mod balanced;
 mod chunker;
+mod examples;
 mod keeping;
 pub mod laws;
 mod linking;
@@ -10,3 +11,4 @@ mod subtree;
 
 pub use balanced::Balanced;
 pub use chunker::Chunker;
+pub use examples::three_bytes;

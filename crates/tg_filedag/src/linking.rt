@@ -26,8 +26,10 @@ pub(crate) fn link_leaf<K: Keep>(
     requires levels { HasNoFullLevel width subtrees.old.items }
     requires growing { (chunks : List (List ℕ)) × (kept : List Section) × IsGrowing width subtrees.old.items chunks kept
         × HasRoom chunks chunk.now }
-    ensures leaf { OnOk result (TakesLeaf width subtrees.old.items subtrees.new.items chunk.now (kept_in K.keeper keep.old keep.new)) }
-    ensures stops { IfErr result (λ fault. StopsLeaf width subtrees.old.items chunk.now fault (kept_in K.keeper keep.old keep.new)) }
+    ensures leaf { OnOk result (TakesLeaf width subtrees.old.items subtrees.new.items chunk.now
+        (kept_in K.keeper keep.old keep.new)) }
+    ensures stops { IfErr result (λ fault. StopsLeaf width subtrees.old.items chunk.now fault
+        (kept_in K.keeper keep.old keep.new)) }
     ensures err_counted { OnErr result (K.keeper.faults keep.old ≤ K.keeper.faults keep.new) }
 {
     tg_model_laws::kept_sections();
@@ -36,8 +38,8 @@ pub(crate) fn link_leaf<K: Keep>(
     raise(alloc, width, subtrees, keep)
 }
 
-/// Links all subtrees into one file, or keeps the raw leaf of no bytes where there is none. Errors: those of the store, and want of
-/// memory.
+/// Links all subtrees into one file, or keeps the raw leaf of no bytes where there is none. Errors: those of the store,
+/// and want of memory.
 pub(crate) fn link_all<K: Keep>(
     alloc: Global,
     width: usize,
@@ -45,9 +47,11 @@ pub(crate) fn link_all<K: Keep>(
     keep: &mut K,
 ) -> Result<Made, KeepFault>
     requires levels { HasNoFullLevel width subtrees.old.items }
-    requires growing { (chunks : List (List ℕ)) × (kept : List Section) × IsGrowing width subtrees.old.items chunks kept }
+    requires growing { (chunks : List (List ℕ)) × (kept : List Section)
+        × IsGrowing width subtrees.old.items chunks kept }
     ensures made { IfOk result (λ made. MakesFile width subtrees.old.items made (kept_in K.keeper keep.old keep.new)) }
-    ensures stops { IfErr result (λ fault. StopsLinking width subtrees.old.items fault (kept_in K.keeper keep.old keep.new)) }
+    ensures stops { IfErr result (λ fault. StopsLinking width subtrees.old.items fault
+        (kept_in K.keeper keep.old keep.new)) }
     ensures err_counted { OnErr result (K.keeper.faults keep.old ≤ K.keeper.faults keep.new) }
 {
     if subtrees.is_empty() {
@@ -67,8 +71,8 @@ fn push(subtrees: &mut Vec<Subtree>, subtree: Subtree) -> Result<(), KeepFault>
     }
 }
 
-/// Links full levels until there is none: the last `width` subtrees, where they have one height, become one that stands a level
-/// higher. Errors: those of the store, and want of memory.
+/// Links full levels until there is none: the last `width` subtrees, where they have one height, become one that stands
+/// a level higher. Errors: those of the store, and want of memory.
 fn raise<K: Keep>(
     alloc: Global,
     width: usize,
@@ -76,8 +80,10 @@ fn raise<K: Keep>(
     keep: &mut K,
 ) -> Result<(), KeepFault>
     requires { (chunks : List (List ℕ)) × (kept : List Section) × IsGrowing width subtrees.old.items chunks kept }
-    ensures raised { OnOk result (Raises width subtrees.old.items subtrees.new.items (kept_in K.keeper keep.old keep.new)) }
-    ensures stops { IfErr result (λ fault. StopsLinking width subtrees.old.items fault (kept_in K.keeper keep.old keep.new)) }
+    ensures raised { OnOk result (Raises width subtrees.old.items subtrees.new.items
+        (kept_in K.keeper keep.old keep.new)) }
+    ensures stops { IfErr result (λ fault. StopsLinking width subtrees.old.items fault
+        (kept_in K.keeper keep.old keep.new)) }
     ensures err_counted { OnErr result (K.keeper.faults keep.old ≤ K.keeper.faults keep.new) }
 {
     tg_model_laws::kept_sections();
@@ -91,8 +97,8 @@ fn raise<K: Keep>(
     Ok(())
 }
 
-/// Links all subtrees, of which there is one at least, into one file, from the lowest level up. Errors: those of the store, and
-/// want of memory.
+/// Links all subtrees, of which there is one at least, into one file, from the lowest level up. Errors: those of the
+/// store, and want of memory.
 fn close_all<K: Keep>(
     alloc: Global,
     width: usize,
@@ -101,9 +107,11 @@ fn close_all<K: Keep>(
 ) -> Result<Made, KeepFault>
     requires some { 0 < length subtrees.old.items }
     requires levels { HasNoFullLevel width subtrees.old.items }
-    requires growing { (chunks : List (List ℕ)) × (kept : List Section) × IsGrowing width subtrees.old.items chunks kept }
+    requires growing { (chunks : List (List ℕ)) × (kept : List Section)
+        × IsGrowing width subtrees.old.items chunks kept }
     ensures made { IfOk result (λ made. MakesFile width subtrees.old.items made (kept_in K.keeper keep.old keep.new)) }
-    ensures stops { IfErr result (λ fault. StopsLinking width subtrees.old.items fault (kept_in K.keeper keep.old keep.new)) }
+    ensures stops { IfErr result (λ fault. StopsLinking width subtrees.old.items fault
+        (kept_in K.keeper keep.old keep.new)) }
     ensures err_counted { OnErr result (K.keeper.faults keep.old ≤ K.keeper.faults keep.new) }
 {
     tg_model_laws::kept_sections();
@@ -117,8 +125,8 @@ fn close_all<K: Keep>(
     Ok(subtrees[0].made)
 }
 
-/// Links the subtrees from `start` on into one of this height, which then stands in their place. Errors: those of the store, and
-/// want of memory.
+/// Links the subtrees from `start` on into one of this height, which then stands in their place. Errors: those of the
+/// store, and want of memory.
 fn close<K: Keep>(
     alloc: Global,
     subtrees: &mut Vec<Subtree>,
@@ -131,7 +139,8 @@ fn close<K: Keep>(
     requires plain { All IsPlain (drop start subtrees.old.items) }
     requires content { sum_by content_in (drop start subtrees.old.items) ≤ 2305843009213693952 }
     requires tsize { sum_by tsize_in (drop start subtrees.old.items) ≤ 2305843009213693952 }
-    ensures closes { OnOk result (Closes subtrees.old.items start height subtrees.new.items (kept_in K.keeper keep.old keep.new)) }
+    ensures closes { OnOk result (Closes subtrees.old.items start height subtrees.new.items
+        (kept_in K.keeper keep.old keep.new)) }
     ensures stops { IfErr result (λ fault. StopsAfter [] fault (kept_in K.keeper keep.old keep.new)) }
     ensures err_counted { OnErr result (K.keeper.faults keep.old ≤ K.keeper.faults keep.new) }
 {

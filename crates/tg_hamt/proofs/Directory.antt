@@ -21,6 +21,8 @@ use Rattle.tg_hamt.specs.Order.{IsHashed, IsOrder, IsSortedOrder, Rises, entry_a
 use Rattle.tg_hamt.specs.Shards.{IsBelow, IsOfShard, LeadsTo, MakesShard, StopsShard, listed_as}
 use Rattle.tg_hamt.specs.declared.fault.HamtFault.TheVariants as faults
 use Rattle.tg_hamt.specs.declared.fault.HamtFault.{HamtFault}
+use Rattle.tg_node_writing.specs.BlockOrder.{entry_cids}
+use Rattle.tg_node_writing.specs.BlockOrderLaws.{behind_nothing}
 use Rattle.tg_hamt.specs.declared.order.Hashed.{Hashed}
 use Rattle.tg_model.specs.Content.{DirEntry, entries}
 use Rattle.tg_model.specs.Dag.{Children, Dag, Section, blocks, blocks_of_children, no_child, node, root_cid, unopened, with_child}
@@ -190,6 +192,7 @@ pub directory_made : (es : List NewEntry) (order : List Hashed) (made : Made) (k
 directory_made es order made keeping h makes = record {
   sections = makes.sections;
   keeps = makes.keeps;
+  order = makes.behind_links;
   directory = λ children lead sound.
       let each = sorted_good es order h in
       let sh = makes.shard (child_at children) [] (all_lead es children lead sound order each) refl (λ k d lt. refl) in
@@ -270,6 +273,7 @@ pub directory_stops : (es : List NewEntry) (order : List Hashed) (fault : KeepFa
 directory_stops es order fault keeping h stops = record {
   sections = stops.sections;
   stops = stops.stops;
+  order = stops.behind_links;
   each = λ children lead sound.
       let each = sorted_good es order h in
       let all = stops.each (child_at children) [] (all_lead es children lead sound order each) refl (λ k d lt. refl) in
@@ -359,4 +363,4 @@ pair_cause es keeping one other a b (faults.SameHash first second) h g same a_is
 ]
 pair_cause es keeping one other a b (faults.Keep fault) h g same a_is b_is pair keeps stops = elim pair [ inl p ↦ absurd p.1 | inr p ↦ absurd p.1 ]
 pair_cause es keeping one other a b faults.OutOfMemory h g same a_is b_is pair keeps stops =
-    record { sections = []; stops = stops; each = λ children lead sound. λ k d lt. absurd (omega arith) }
+    record { sections = []; stops = stops; order = behind_nothing (entry_cids es); each = λ children lead sound. λ k d lt. absurd (omega arith) }

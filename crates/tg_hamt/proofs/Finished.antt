@@ -10,6 +10,7 @@ use Rattle.tg_cid.specs.Cid.{CidParts}
 use Rattle.tg_node_writing.specs.KeepingSteps.{Joins, keeps_both}
 use Rattle.tg_hamt.proofs.MadeSlots.{MadeSlot, all_checked, all_blocks, all_cids, all_laid, all_listed, all_named, all_own, all_own_blocks, all_plain, all_read, all_stand, all_tsizes, all_whole, children_in, links_lead, links_of, numbers_in, own_in, roots_are, runs_in, slots_in}
 use Rattle.tg_hamt.proofs.Making.{IsMaking, IsSoFar}
+use Rattle.tg_hamt.proofs.ShardOrder.{shard_behind, shard_root}
 use Rattle.tg_hamt.specs.Links.{IsKeptShard, tsize_in}
 use Rattle.tg_hamt.specs.Order.{IsHashed, entry_at, tsizes_in}
 use Rattle.tg_hamt.specs.Shards.{AreLaidIn, IsBelow, IsMadeShard, MakesShard, listed_as, shard_room}
@@ -26,6 +27,7 @@ use Rattle.tg_model.specs.declared.kinds.NewEntry.{NewEntry}
 use Rattle.tg_model.specs.declared.kinds.Slot.{Slot}
 use Rattle.tg_node_writing.specs.Nodes.{LeadTo, NodeLaws}
 use Rattle.tg_cid.specs.declared.cid.Codec.TheVariants.{DagPb}
+use Rattle.tg_node_writing.specs.BlockOrder.{LinksOfNodes}
 use Rattle.tg_node_writing.specs.Keeping.{section_of}
 
 numbers_of_slots : (ms : List MadeSlot) → numbers_in ms ≡ map (λ (s : Slot). s.slot) (slots_in ms)
@@ -113,14 +115,16 @@ module _ (laws : NodeLaws) (es : List NewEntry) (dags : ℕ → Dag) (above : Li
     laid = λ options laid. all_laid es dags above options f.slots f.each (subst (AreLaidIn options dags) (sym runs_all) laid);
   }
 
-pub finished : {S : Type 0} → (m : KeepMeaning S) → Joins m → KeepingJoins → NodeLaws → IsFaultlessShard → (before now after : S) (es : List NewEntry) (order : List Hashed) (level start : ℕ) (links : List NewEntry) (bits : List ℕ) (made : Made)
+pub finished : {S : Type 0} → (m : KeepMeaning S) → Joins m → KeepingJoins → NodeLaws → LinksOfNodes → IsFaultlessShard → (before now after : S) (es : List NewEntry) (order : List Hashed) (level start : ℕ) (links : List NewEntry) (bits : List ℕ) (made : Made)
     → IsMaking m before now es order level start links bits → All (IsHashed es) order → length order ≤ start → level < 8 → IsKeptShard links bits made (kept_in m now after)
     → MakesShard es order level made (kept_in m before after)
-finished m joins stores laws faultless before now after es order level start links bits made h among done low k =
+finished m joins stores laws links_law faultless before now after es order level start links bits made h among done low k =
     let same : start ≡ length order = omega (arith, h.inside, done) in
     record {
       sections = h.sections ++ section_of DagPb k.block ∷ [];
       keeps = keeps_both m joins stores before now after h.sections (section_of DagPb k.block ∷ []) h.keeps k.keeps;
+      behind_links = shard_behind links_law es h.sections links (shard_unix k.shortest) (section_of DagPb k.block) h.behind_links h.linked k.written;
+      root = shard_root h.sections (section_of DagPb k.block) made.cid k.cid_is;
       shard = λ dags above leads deep passed.
           shard_made laws es dags above order links bits h.sections made (kept_in m now after)
           (subst (λ (s : ℕ). IsSoFar es dags above order s links bits h.sections) same (h.so_far dags above leads deep passed)) k among faultless (omega (arith, deep, low));

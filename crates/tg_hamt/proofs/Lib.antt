@@ -6,3 +6,4 @@ mod Runs
 mod Making
 mod Finished
 mod Directory
+mod ShardOrder

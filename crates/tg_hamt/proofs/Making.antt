@@ -1,7 +1,7 @@
 -- A shard while its slots come, in ascending order.
 use Rattle.std.proofs.Common.{◌≡◌, ℕ, ◌+◌, ◌-◌, ◌*◌, ◌^◌, ◌<◌, ◌≤◌, List, Some, [], ◌∷◌, ◌++◌, length, get_or, take, refl, ap, sym, ◌∙◌, subst, arith}
 use Rattle.std.specs.List.{slice_range, sum_by}
-use Rattle.std.specs.Prelude.{All}
+use Rattle.std.specs.Prelude.{All, Contains}
 use Rattle.std.proofs.lemmas.List.{append-nil, get_or-take, get_or_default, length-append, length_push, map-append}
 use Rattle.std.proofs.lemmas.List.Elements.{All-append, All-head, All-nil, All-push}
 use Rattle.std.proofs.lemmas.List.Sums.{sum_by-append, sum_by-take-le, sum_by_push}
@@ -11,6 +11,7 @@ use Rattle.tg_cid.specs.declared.cid.HashKind.TheVariants.{Sha256}
 use Rattle.tg_hamt.proofs.BitFields.{at_least}
 use Rattle.tg_node_writing.specs.KeepingSteps.{Joins, keeps_both, keeps_nothing, same_stops, stops_behind}
 use Rattle.tg_hamt.proofs.MadeSlots.{IsMadeSlot, MadeSlot, all_of_shards, child_made, child_slot, entry_made, entry_slot, links_of, numbers_in, of_shards, own_in, runs_in, shard_dag}
+use Rattle.tg_hamt.proofs.ShardOrder.{child_known, entry_known, linked_more, shards_behind}
 use Rattle.tg_hamt.proofs.Runs.{HashesFit, all_range, length_range, next_higher, range_joins, range_of_one, run_deeper, run_order, run_passed}
 use Rattle.tg_hamt.specs.Links.{IsShardLink, child_link_of, entry_link_of, tsize_in}
 use Rattle.tg_hamt.specs.Order.{IsGoodEntry, IsOrder, IsPassed, IsRun, entry_at, slot_in, slots_of, tsizes_in}
@@ -26,6 +27,8 @@ use Rattle.tg_model.specs.declared.kinds.NewEntry.{NewEntry}
 use Rattle.tg_model.specs.declared.stores.KeepFault.{KeepFault}
 use Rattle.tg_model.specs.declared.stores.KeepFault.TheVariants as faults
 use Rattle.tg_murmur.specs.NameHash.{name_hash, slot_of}
+use Rattle.tg_node_writing.specs.BlockOrder.{AreBehindLinks, cids_of, entry_cids}
+use Rattle.tg_node_writing.specs.BlockOrderLaws.{behind_nothing}
 use Rattle.tg_node_writing.specs.Keeping.{Keeps, StopsAfter}
 
 -- the slots that were made of the entries before `start`
@@ -42,6 +45,8 @@ pub record IsMaking {S : Type 0} (m : KeepMeaning S) (before now : S) (es : List
   pub inside : start ≤ length order
   pub sections : List Section
   pub keeps : Keeps sections (kept_in m before now)
+  pub behind_links : AreBehindLinks (entry_cids es) sections
+  pub linked : All (Contains (entry_cids es ++ cids_of sections)) (entry_cids links)
   pub so_far : (dags : ℕ → Dag) (above : List ℕ) → All (LeadsTo es dags) order → length above ≡ level → IsPassed above order
       → IsSoFar es dags above order start links bits sections
   pub low : (d : Hashed) → start < length order → big_endian bits < 2 ^ slot_in (get_or order start d) level
@@ -59,6 +64,8 @@ making_none m rests s es order level links bits none used low =
       inside = omega arith;
       sections = [];
       keeps = keeps_nothing m rests s;
+      behind_links = behind_nothing (entry_cids es);
+      linked = subst (λ (l : List NewEntry). All (Contains (entry_cids es ++ [])) (entry_cids l)) (sym none) (All-nil (Contains (entry_cids es ++ [])));
       so_far = λ dags above leads deep passed. record {
         slots = [];
         each = All-nil (IsMadeSlot es dags above);
@@ -196,6 +203,9 @@ entry_next m before now es order level start end number index links new_links bi
       inside = s.run.ends;
       sections = h.sections ++ [];
       keeps = subst (λ (l : List Section). Keeps l (kept_in m before now)) (sym (append-nil h.sections)) h.keeps;
+      behind_links = subst (AreBehindLinks (entry_cids es)) (sym (append-nil h.sections)) h.behind_links;
+      linked = linked_more es h.sections [] links new_links (entry_link_of number e) links_are h.linked
+          (entry_known es (h.sections ++ []) e item.index at hashed.inside);
       so_far = λ dags above leads deep passed.
           let lead = leads start none (omega arith) in
           let behind = run_passed s.fits es order s.is_order above level s.low deep passed start end none s.run in
@@ -243,6 +253,9 @@ child_next m joins stores before now after es order level start end number links
       inside = s.run.ends;
       sections = h.sections ++ makes.sections;
       keeps = keeps_both m joins stores before now after h.sections makes.sections h.keeps makes.keeps;
+      behind_links = shards_behind es h.sections makes.sections h.behind_links makes.behind_links;
+      linked = linked_more es h.sections makes.sections links new_links (child_link_of number made) links_are h.linked
+          (child_known es h.sections makes.sections made.cid makes.root);
       so_far = λ dags above leads deep passed.
           let behind = subst (λ (n : ℕ). IsPassed (above ++ n ∷ []) run) (sym number_is) (run_passed s.fits es order s.is_order above level s.low deep passed start end none s.run) in
           let deeply : length (above ++ number ∷ []) ≡ level + 1 = length-append above (number ∷ []) ∙ ap (λ (n : ℕ). n + 1) deep in
@@ -297,6 +310,7 @@ pub stops_here : {S : Type 0} → (m : KeepMeaning S) → Joins m → KeepingJoi
 stops_here m joins stores before now after es order level start links bits fault h stops = record {
   sections = h.sections ++ [];
   stops = stops_behind m joins stores before now after h.sections [] fault h.keeps stops;
+  behind_links = subst (AreBehindLinks (entry_cids es)) (sym (append-nil h.sections)) h.behind_links;
   each = λ dags above leads deep passed.
       let so_far = h.so_far dags above leads deep passed in
       subst (All (IsOfShard es dags)) (so_far.own_are ∙ sym (append-nil h.sections)) (all_of_shards es dags above so_far.slots so_far.each);
@@ -312,6 +326,7 @@ stops_child m joins stores before now after es order level start end number link
     record {
       sections = h.sections ++ stops.sections;
       stops = stops_behind m joins stores before now after h.sections stops.sections fault h.keeps stops.stops;
+      behind_links = shards_behind es h.sections stops.sections h.behind_links stops.behind_links;
       each = λ dags above leads deep passed.
           let so_far = h.so_far dags above leads deep passed in
           let deeply : length (above ++ slot_in (get_or order start none) level ∷ []) ≡ level + 1 = length-append above (slot_in (get_or order start none) level ∷ []) ∙ ap (λ (n : ℕ). n + 1) deep in
@@ -335,6 +350,8 @@ stops_behind_child m rests joins stores before now after es order level start en
       sections = (h.sections ++ makes.sections) ++ [];
       stops = subst (λ (f : KeepFault). StopsAfter ((h.sections ++ makes.sections) ++ []) f (kept_in m before after)) (sym e)
           (stops_behind m joins stores before after after (h.sections ++ makes.sections) [] faults.OutOfMemory all (same_stops m rests after));
+      behind_links = subst (AreBehindLinks (entry_cids es)) (sym (append-nil (h.sections ++ makes.sections)))
+          (shards_behind es h.sections makes.sections h.behind_links makes.behind_links);
       each = λ dags above leads deep passed.
           let so_far = h.so_far dags above leads deep passed in
           let deeply : length (above ++ slot_in (get_or order start none) level ∷ []) ≡ level + 1 = length-append above (slot_in (get_or order start none) level ∷ []) ∙ ap (λ (n : ℕ). n + 1) deep in

@@ -20,6 +20,7 @@ use Rattle.tg_model.specs.declared.kinds.NewEntry.{NewEntry}
 use Rattle.tg_model.specs.declared.kinds.Slot.{Slot}
 use Rattle.tg_model.specs.declared.stores.KeepFault.{KeepFault}
 use Rattle.tg_model.specs.declared.stores.KeepFault.TheVariants.{Failed, OutOfMemory}
+use Rattle.tg_node_writing.specs.BlockOrder.{AreBehindLinks, entry_cids}
 use Rattle.tg_node_writing.specs.Keeping.{Keeps, StopsAfter}
 use Rattle.tg_node_writing.specs.Nodes.{LeadTo}
 use Rattle.tg_murmur.specs.NameHash.{name_hash}
@@ -74,10 +75,12 @@ pub record HaveSameHash (new : List NewEntry) (first second : List ℕ) : Type 0
   pub before : bytes_cmp first second ≡ Less
   pub same : name_hash first ≡ name_hash second
 
--- whatever the sound DAGs to which the entries lead: the sharded directory is made
+-- whatever the sound DAGs to which the entries lead: the sharded directory is made, each shard behind those to which it
+-- links
 pub record MakesSharded (new : List NewEntry) (made : Made) (keeping : Keeping) : Type 0 where
   pub sections : List Section
   pub keeps : Keeps sections keeping
+  pub order : AreBehindLinks (entry_cids new) sections
   pub directory : (children : Children) → LeadTo new children → AreSound children → (d : Dag) × IsMadeSharded new children made sections d
 
 -- a section of a shard that lists some of the entries and is sound behind some slots
@@ -93,6 +96,7 @@ pub record IsOfSharded (new : List NewEntry) (children : Children) (section : Se
 pub record StopsSharded (new : List NewEntry) (fault : KeepFault) (keeping : Keeping) : Type 0 where
   pub sections : List Section
   pub stops : StopsAfter sections fault keeping
+  pub order : AreBehindLinks (entry_cids new) sections
   pub each : (children : Children) → LeadTo new children → AreSound children → All (IsOfSharded new children) sections
 
 -- nothing was kept where two names have one hash; want of memory isn't wrapped

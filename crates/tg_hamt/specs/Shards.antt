@@ -12,6 +12,7 @@ use Rattle.tg_model.specs.declared.kinds.Made.{Made}
 use Rattle.tg_model.specs.declared.kinds.NewEntry.{NewEntry}
 use Rattle.tg_model.specs.declared.kinds.Slot.{Slot}
 use Rattle.tg_model.specs.declared.stores.KeepFault.{KeepFault}
+use Rattle.tg_node_writing.specs.BlockOrder.{AreBehindLinks, cids_of, entry_cids}
 use Rattle.tg_node_writing.specs.Keeping.{Keeps, StopsAfter}
 
 -- the blocks of a directory's shards with their CIDs, each behind those of its child shards
@@ -54,8 +55,8 @@ pub record IsBelow (dags : ℕ → Dag) (order : List Hashed) (section : Section
   pub among : Contains order item
   pub has : Contains (blocks (dags item.index)) section
 
--- a shard behind these slots that lists just these entries: it is sound there, written as the importer writes it, and its sections are
--- those that were kept
+-- a shard behind these slots that lists just these entries: it is sound there, written as the importer writes it, and
+-- its sections are those that were kept
 pub record IsMadeShard (entries : List NewEntry) (dags : ℕ → Dag) (order : List Hashed) (above : List ℕ) (made : Made) (sections : List Section) : Type 0 where
   pub among : All (IsHashed entries) order
   pub section : Section
@@ -75,10 +76,13 @@ pub record IsMadeShard (entries : List NewEntry) (dags : ℕ → Dag) (order : L
   pub written : IsShardWritten section.block slots children
   pub laid : (options : LayoutOptions) → AreLaidIn options dags order → AreLaidAt options (map (slot_position above) slots) children
 
--- whatever the DAGs to which the entries lead: the shard at a level is made
+-- whatever the DAGs to which the entries lead: the shard at a level is made, its block with the others, each behind
+-- those to which it links
 pub record MakesShard (entries : List NewEntry) (order : List Hashed) (level : ℕ) (made : Made) (keeping : Keeping) : Type 0 where
   pub sections : List Section
   pub keeps : Keeps sections keeping
+  pub behind_links : AreBehindLinks (entry_cids entries) sections
+  pub root : Contains (cids_of sections) made.cid
   pub shard : (dags : ℕ → Dag) (above : List ℕ) → All (LeadsTo entries dags) order → length above ≡ level → IsPassed above order → IsMadeShard entries dags order above made sections
 
 -- a section of a shard of some of the entries
@@ -94,6 +98,7 @@ pub record IsOfShard (entries : List NewEntry) (dags : ℕ → Dag) (section : S
 pub record StopsShard (entries : List NewEntry) (order : List Hashed) (level : ℕ) (fault : KeepFault) (keeping : Keeping) : Type 0 where
   pub sections : List Section
   pub stops : StopsAfter sections fault keeping
+  pub behind_links : AreBehindLinks (entry_cids entries) sections
   pub each : (dags : ℕ → Dag) (above : List ℕ) → All (LeadsTo entries dags) order → length above ≡ level → IsPassed above order → All (IsOfShard entries dags) sections
 
 -- how many bytes the shards of so many entries have at most, from this level on

@@ -9,7 +9,8 @@ use thiserror::Error;
 /// Why a sharded directory isn't made.
 #[derive(Debug, Drop, Error)]
 pub enum HamtFault {
-    /// Two names have one 64-bit hash, so that no level of shards tells them apart. They are in the order of their bytes.
+    /// Two names have one 64-bit hash, so that no level of shards tells them apart. They are in the order of their
+    /// bytes.
     #[error("SameHash")]
     SameHash { first: Bytes, second: Bytes },
     /// The store failed. Want of memory is never wrapped.

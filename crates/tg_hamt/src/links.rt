@@ -147,7 +147,8 @@ pub(crate) fn keep_links<K: Keep>(
     requires few { length shard.now.links.items ≤ 256 }
     requires links { All IsShardLink shard.now.links.items }
     requires tsize { sum_by (λ link. link.tsize) shard.now.links.items ≤ 9223372036854775808 }
-    ensures made { IfOk result (λ made. IsKeptShard shard.now.links.items shard.now.bits made (kept_in K.keeper keep.old keep.new)) }
+    ensures made { IfOk result (λ made. IsKeptShard shard.now.links.items shard.now.bits made
+        (kept_in K.keeper keep.old keep.new)) }
     ensures stops { IfErr result (λ fault. StopsAfter [] fault (kept_in K.keeper keep.old keep.new)) }
     ensures err_counted { OnErr result (K.keeper.faults keep.old ≤ K.keeper.faults keep.new) }
 {

@@ -10,8 +10,9 @@ use std::alloc::Global;
 use tg_bytes::Bytes;
 use tg_model::{Keep, KeepFault, Made, NewEntry};
 
-/// Keeps the shards of the directory with these entries, each behind its child shards, and says what was made. The names are good,
-/// differ and have at most 255 bytes, the CIDs are of sha2-256, there are fewer than 2^32 entries, and their Tsizes sum to at most 2^62.
+/// Keeps the shards of the directory with these entries, each behind its child shards, and says what was made. The
+/// names are good, differ and have at most 255 bytes, the CIDs are of sha2-256, there are fewer than 2^32 entries, and
+/// their Tsizes sum to at most 2^62.
 ///
 /// UnixFS specification, HAMTDirectory.
 ///
@@ -24,7 +25,8 @@ pub fn build<K: Keep>(alloc: Global, entries: &[NewEntry], keep: &mut K) -> Resu
     ensures counted { IfErr result (λ fault. IsCountedBy fault (K.keeper.faults keep.old) (K.keeper.faults keep.new)) }
     ensures err_counted { OnErr result (K.keeper.faults keep.old ≤ K.keeper.faults keep.new) }
     // Two names with one hash are never passed over.
-    ensures same_hash { (first second : List ℕ) → HaveSameHash entries.now first second → MatchResult result (λ _. ⊥) IsSameHashFault }
+    ensures same_hash { (first second : List ℕ) → HaveSameHash entries.now first second
+        → MatchResult result (λ _. ⊥) IsSameHashFault }
 {
     tg_murmur::laws::slots_are_bytes();
     let order = ordered(alloc, entries)?;

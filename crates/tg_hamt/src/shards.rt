@@ -11,8 +11,8 @@ use std::alloc::Global;
 use tg_model::{Keep, KeepFault, Made, NewEntry};
 use tg_murmur::slot;
 
-/// Keeps the shard at this level of the entries in this order, each child shard before it. Errors: those of the store, and want of
-/// memory.
+/// Keeps the shard at this level of the entries in this order, each child shard before it. Errors: those of the store,
+/// and want of memory.
 ///
 /// UnixFS specification, HAMTDirectory.
 pub(crate) fn keep_shard<K: Keep>(
@@ -28,15 +28,19 @@ pub(crate) fn keep_shard<K: Keep>(
     requires passed { (above : List ℕ) × (length above ≡ level) × IsPassed above order.now }
     requires few { length order.now < 4294967296 }
     requires tsizes { tsizes_in entries.now order.now ≤ 4611686018427387904 }
-    ensures made { IfOk result (λ made. MakesShard entries.now order.now level made (kept_in K.keeper keep.old keep.new)) }
-    ensures light { IfOk result (λ made. made.tsize ≤ tsizes_in entries.now order.now + shard_room level (length order.now)) }
+    ensures made { IfOk result (λ made. MakesShard entries.now order.now level made
+        (kept_in K.keeper keep.old keep.new)) }
+    ensures light { IfOk result (λ made. made.tsize ≤ tsizes_in entries.now order.now + shard_room level
+        (length order.now)) }
     ensures plain { IfOk result (λ made. made.cid.hash ≡ Sha256) }
-    ensures stops { IfErr result (λ fault. StopsShard entries.now order.now level fault (kept_in K.keeper keep.old keep.new)) }
+    ensures stops { IfErr result (λ fault. StopsShard entries.now order.now level fault
+        (kept_in K.keeper keep.old keep.new)) }
     ensures err_counted { OnErr result (K.keeper.faults keep.old ≤ K.keeper.faults keep.new) }
 {
     tg_model_laws::kept_sections();
     tg_model_laws::placed_shards();
     tg_node_writing::laws::written_nodes();
+    tg_node_writing::laws::linked_nodes();
     tg_murmur::laws::slots_are_bytes();
     let mut shard = no_link(alloc);
     let mut start = 0;

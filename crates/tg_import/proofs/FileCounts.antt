@@ -93,6 +93,7 @@ file_imports options told path at chunk width counted made summary keeping here 
         sections = kept.sections;
         keeps = kept.keeps;
         all = kept.all;
+        order = kept.order;
       };
       cid = file.cid;
       tsize = file.tsize;

@@ -5,7 +5,7 @@ use Rattle.std.specs.Prelude.{All, Contains, bytes_eq, map, suc, ◌↔◌, ◌^
 use Rattle.std.proofs.lemmas.List.Sums.{sum_by-cons}
 use Rattle.std.proofs.lemmas.List.{append-nil, length-map, map-append}
 use Rattle.std.proofs.lemmas.List.Elements.{All-cons, All-head, All-nil, All-push, All-tail, Contains-append_cases, Contains-append_left, Contains-append_right}
-use Rattle.tg_files.specs.Folders.{FolderMeaning}
+use Rattle.tg_files.specs.Folders.{FolderMeaning, SameFolder, folder_step}
 use Rattle.tg_node_writing.specs.KeepingSteps.{Joins, keeps_both, keeps_nothing}
 use Rattle.tg_cid.specs.Cid.{CidParts}
 use Rattle.tg_cid.specs.CodeLaws.{v1_length}
@@ -15,7 +15,8 @@ use Rattle.tg_dir.specs.Weights.{weight_for, weight_in}
 use Rattle.tg_hamt.specs.Order.{IsGoodEntry}
 use Rattle.tg_import.proofs.DirectoryRoots.{root_plain}
 use Rattle.tg_import.proofs.FoldersMade.{head_is, tail_is}
-use Rattle.tg_import.proofs.Listings.{plus_assoc, plus_nothing, same_summary}
+use Rattle.tg_bytes.specs.Lists.{none_in}
+use Rattle.tg_import.proofs.Listings.{first_is, only_one, plus_assoc, plus_nothing, same_summary}
 use Rattle.tg_import.specs.Counting.{counts_of, counts_of_children, nothing, plus}
 use Rattle.tg_import.specs.Imported.{AreEntryNames, AreImported, IsEntryName, IsImported}
 use Rattle.tg_import.specs.Refused.{entry_limit, item_names, weight_of_items}
@@ -24,13 +25,15 @@ use Rattle.tg_import.specs.declared.summary.Options.{Options}
 use Rattle.tg_import.specs.declared.summary.Summary.{Summary}
 use Rattle.tg_import_file.specs.Files.{FileWriterState}
 use Rattle.tg_model_laws.specs.Stores.{KeepingJoins}
-use Rattle.tg_model.specs.Dag.{Children, Dag, Section, blocks, blocks_of_children, no_child, root_cid, with_child}
+use Rattle.tg_model.specs.Dag.{Children, Dag, IsWhole, Section, bare, blocks, blocks_of_children, no_child, node, root_cid, unopened, with_child}
 use Rattle.tg_model.specs.ImportLayout.{tsize_of}
 use Rattle.tg_model.specs.Stores.{KeepMeaning, kept_in}
 use Rattle.tg_model.specs.declared.kinds.Made.{Made}
 use Rattle.tg_model.specs.declared.kinds.NewEntry.{NewEntry}
 use Rattle.tg_tree.specs.declared.items.Item.{Item}
 use Rattle.tg_tree.specs.declared.tree.Tree.{Tree}
+use Rattle.tg_node_writing.specs.BlockOrder.{AreBehindLinks, cids_of, entry_cids}
+use Rattle.tg_node_writing.specs.BlockOrderLaws.{behind_apart, behind_known, behind_nothing, cid_among}
 use Rattle.tg_node_writing.specs.DigestLaws.{digest_is}
 use Rattle.tg_node_writing.specs.Keeping.{Keeps}
 use Rattle.tg_node_writing.specs.Nodes.{LeadTo}
@@ -42,7 +45,7 @@ pub record HasPlainLength (entry : NewEntry) : Type 0 where
 -- the state of an import of a folder whose first entries were imported
 pub record IsSoFar {S T : Type 0} (m : KeepMeaning S) (f : FolderMeaning T) (keep_before keep_now : S) (before now : T) (options : Options) (path : List (List ℕ)) (counted : Summary)
     (options_now : Options) (writer : FileWriterState) (summary : Summary) (taken : List Item) (entries : List NewEntry) : Type 0 where
-  pub same : f.tree now ≡ f.tree before
+  pub same : SameFolder (folder_step f before now)
   pub quiet : f.faults now ≡ f.faults before
   pub options_are : options_now ≡ options
   pub ready : IsWriterFor options writer
@@ -55,9 +58,10 @@ pub record IsSoFar {S T : Type 0} (m : KeepMeaning S) (f : FolderMeaning T) (kee
   pub sized : All HasPlainLength entries
   pub all : (section : Section) → (Contains (blocks_of_children children) section ↔ Contains sections section)
   pub summary_is : summary ≡ plus counted (counts_of_children children)
+  pub order : AreBehindLinks [] sections
 
 pub so_far_none : {S T : Type 0} → (m : KeepMeaning S) (f : FolderMeaning T) → ((s : S) → m.kept s s []) → (keep : S) (before now : T) (options : Options) (path : List (List ℕ)) (writer : FileWriterState)
-    (summary : Summary) (entries : List NewEntry) → f.tree now ≡ f.tree before → f.faults now ≡ f.faults before → IsWriterFor options writer → entries ≡ []
+    (summary : Summary) (entries : List NewEntry) → SameFolder (folder_step f before now) → f.faults now ≡ f.faults before → IsWriterFor options writer → entries ≡ []
     → IsSoFar m f keep keep before now options path summary options writer summary [] entries
 so_far_none m f rests keep before now options path writer summary entries same quiet ready none = record {
   same = same;
@@ -73,6 +77,7 @@ so_far_none m f rests keep before now options path writer summary entries same q
   sized = subst (All HasPlainLength) (sym none) (All-nil HasPlainLength);
   all = λ section. (λ h. h, λ h. h);
   summary_is = sym (plus_nothing summary);
+  order = behind_nothing [];
 }
 
 -- ---- one child more
@@ -119,17 +124,17 @@ pub so_far_next : {S T : Type 0} → (m : KeepMeaning S) (f : FolderMeaning T) �
     → IsSoFar m f keep0 keep1 before now options path counted options_now writer summary taken entries
     → ImportsAs options_now (f.tree now) at summary made summary_later (kept_in m keep1 keep2)
     → IsDigestSize made.cid.hash (length made.cid.digest)
-    → at ≡ path ++ item.name ∷ [] → f.tree later ≡ f.tree now → f.faults later ≡ f.faults now → options_later ≡ options_now → IsWriterFor options_now writer_later
+    → at ≡ path ++ item.name ∷ [] → SameFolder (folder_step f now later) → f.faults later ≡ f.faults now → options_later ≡ options_now → IsWriterFor options_now writer_later
     → entries_later ≡ entries ++ record { name = item.name; cid = made.cid; tsize = made.tsize } ∷ []
     → IsSoFar m f keep0 keep2 before later options path counted options_later writer_later summary_later (taken ++ item ∷ []) entries_later
 so_far_next m f joins stores keep0 keep1 keep2 before now later options path at counted options_now options_later writer writer_later summary summary_later taken item entries entries_later made so_far new size here
     same quiet options_same ready pushed =
     let imported = subst (λ (o : Options). IsImported o (f.tree before) (path ++ item.name ∷ []) new.d) so_far.options_are
-    (subst (λ (told : Option Tree). IsImported options_now told (path ++ item.name ∷ []) new.d) so_far.same
+    (subst (λ (told : Option Tree). IsImported options_now told (path ++ item.name ∷ []) new.d) so_far.same.tree
     (subst (λ (p : List (List ℕ)). IsImported options_now (f.tree now) p new.d) here new.kept.imported)) in
     let entry : NewEntry = record { name = item.name; cid = made.cid; tsize = made.tsize } in
     record {
-      same = same ∙ so_far.same;
+      same = record { tree = same.tree ∙ so_far.same.tree; place = same.place ∙ so_far.same.place };
       quiet = quiet ∙ so_far.quiet;
       options_are = options_same ∙ so_far.options_are;
       ready = subst (λ (o : Options). IsWriterFor o writer_later) so_far.options_are ready;
@@ -154,7 +159,42 @@ so_far_next m f joins stores keep0 keep1 keep2 before now later options path at 
       );
       summary_is = new.summary_is ∙ ap (λ (x : Summary). plus x (counts_of new.d)) so_far.summary_is ∙ plus_assoc counted (counts_of_children so_far.children) (counts_of new.d)
           ∙ ap (plus counted) (sym (counts_more so_far.children new.d));
+      order = behind_apart so_far.sections new.kept.sections so_far.order new.kept.order;
     }
+
+-- ---- the CIDs of the entries are those of sections that were kept
+
+root_section : (d : Dag) → IsWhole d → (s : Section) × (s.cid ≡ root_cid d) × Contains (blocks d) s
+root_section (unopened cid) whole = absurd whole
+root_section (bare section fault) whole = absurd whole
+root_section (node section kind children) whole = (section, refl, first_is section (blocks_of_children children))
+
+entries_among : (options : Options) (told : Option Tree) (path : List (List ℕ)) (items : List Item) (entries : List NewEntry) (children : Children) (sections : List Section)
+    → AreImported options told path items children → LeadTo entries children → ((s : Section) → Contains (blocks_of_children children) s → Contains sections s)
+    → (cid : CidParts) → Contains (entry_cids entries) cid → Contains (cids_of sections) cid
+entries_among options told path items [] children sections h lead all cid has = absurd (none_in cid has)
+entries_among options told path items (entry ∷ entries) no_child sections h lead all cid has = absurd lead
+entries_among options told path [] (entry ∷ entries) (with_child d children) sections h lead all cid has = absurd h
+entries_among options told path (item ∷ items) (entry ∷ entries) (with_child d children) sections h lead all cid has =
+    ⊎_elim
+    (λ (here : Contains (entry.cid ∷ []) cid).
+    let root = root_section d h.0.sound.whole in
+    subst (Contains (cids_of sections)) (root.1 ∙ sym lead.0 ∙ only_one entry.cid cid here)
+    (cid_among sections root.0 (all root.0 (Contains-append_left (blocks d) (blocks_of_children children) root.0 root.2))))
+    (λ (there : Contains (entry_cids entries) cid).
+    entries_among options told path items entries children sections h.1 lead.2
+    (λ s inside. all s (Contains-append_right (blocks d) (blocks_of_children children) s inside)) cid there)
+    (Contains-append_cases (entry.cid ∷ []) (entry_cids entries) cid has)
+
+-- what links to the entries stands behind what was kept of them
+pub entries_behind : {S T : Type 0} → (m : KeepMeaning S) (f : FolderMeaning T) (keep0 keep1 : S) (before now : T) (options : Options) (path : List (List ℕ)) (counted : Summary)
+    (options_now : Options) (writer : FileWriterState) (summary : Summary) (taken : List Item) (entries : List NewEntry)
+    → (so_far : IsSoFar m f keep0 keep1 before now options path counted options_now writer summary taken entries) → (sections : List Section)
+    → AreBehindLinks (entry_cids entries) sections → AreBehindLinks [] (so_far.sections ++ sections)
+entries_behind m f keep0 keep1 before now options path counted options_now writer summary taken entries so_far sections h =
+    behind_known (entry_cids entries) so_far.sections sections
+    (entries_among options (f.tree before) path taken entries so_far.children so_far.sections so_far.imported so_far.lead (λ s has. (so_far.all s).0 has))
+    so_far.order h
 
 -- ---- the entries of the directory
 

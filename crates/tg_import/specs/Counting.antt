@@ -1,4 +1,5 @@
--- How many files and directories a DAG holds, and how many bytes (UnixFS specification: File, Directory, HAMTDirectory).
+-- How many files and directories a DAG holds, and how many bytes (UnixFS specification: File, Directory,
+-- HAMTDirectory).
 use Rattle.std.specs.Prelude.{List, None, Option, Some, [], length, ℕ, ◌+◌, ◌∷◌}
 use Rattle.tg_import.specs.declared.summary.Summary.{Summary}
 use Rattle.tg_model.specs.Content.{content}
@@ -27,7 +28,8 @@ abbrev pub slot_counts : Option (List ℕ) → Summary → Summary → Summary
 slot_counts (Some name) entry inside = entry
 slot_counts None entry inside = inside
 
--- a file counts with its bytes, a directory as one folder with what its entries count, and a sharded one as one shard besides
+-- a file counts with its bytes, a directory as one folder with what its entries count, and a sharded one as one shard
+-- besides
 abbrev mutual
   pub counts_of : Dag → Summary
   counts_of (unopened cid) = nothing

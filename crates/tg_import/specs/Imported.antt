@@ -1,4 +1,5 @@
--- What stands at a path of a folder, as a DAG in a store (UnixFS specification; the layout is this project's own profile of it).
+-- What stands at a path of a folder, as a DAG in a store (UnixFS specification; the layout is this project's own
+-- profile of it).
 use Rattle.std.specs.List.Sorted.{IsPermutation}
 use Rattle.std.specs.List.{IsDistinct}
 use Rattle.std.specs.Prelude.{All, IfSome, List, Option, [], bytes_eq, length, ℕ, ⊤, ◌++◌, ◌∷◌, ◌≤◌}
@@ -15,6 +16,7 @@ use Rattle.tg_model.specs.Stores.{Keeping}
 use Rattle.tg_tree.specs.Tree.{NamesRise, tree_at}
 use Rattle.tg_tree.specs.declared.items.Item.{Item}
 use Rattle.tg_tree.specs.declared.tree.Tree.{Tree}
+use Rattle.tg_node_writing.specs.BlockOrder.{AreBehindLinks}
 use Rattle.tg_node_writing.specs.Keeping.{Keeps}
 
 -- chunks of 1 to 2,097,152 bytes, 2 to 4,096 links a node, and a threshold up to 1,048,576
@@ -35,12 +37,13 @@ pub record IsImported (options : Options) (told : Option Tree) (path : List (Lis
   pub plain : All HasPlainCid (blocks d)
   pub shows : IfSome (tree_at told path) (Shows d)
 
--- and its blocks were kept
+-- and its blocks were kept, each behind those to which it links
 pub record KeepsImported (options : Options) (told : Option Tree) (path : List (List ℕ)) (d : Dag) (keeping : Keeping) : Type 0 where
   pub imported : IsImported options told path d
   pub sections : List Section
   pub keeps : Keeps sections keeping
   pub all : AreBlocksOf d sections
+  pub order : AreBehindLinks [] sections
 
 -- the names in a folder at a path, in the order of their bytes
 pub record AreItemsOf (told : Option Tree) (path : List (List ℕ)) (items : List Item) : Type 0 where

@@ -1,6 +1,7 @@
 -- The steps of an import: what each did, and why it stopped.
 use Rattle.std.specs.List.{IsDistinct, sum_by}
 use Rattle.std.specs.Prelude.{All, List, Option, [], bytes_eq, cond, length, map, nat_lt, slice_index_or, ℕ, ⊤, ◌-◌, ◌^◌, ◌<◌, ◌≡◌, ◌⊎◌}
+use Rattle.tg_dir.specs.Made.{StopsDirectory}
 use Rattle.tg_dir.specs.Weights.{weight_for}
 use Rattle.tg_files.specs.Folders.{FolderQuiet, FolderRose, FolderStep}
 use Rattle.tg_hamt.specs.Directories.{HaveSameHash}
@@ -13,7 +14,7 @@ use Rattle.tg_import.specs.declared.fault.ImportFault.{ImportFault}
 use Rattle.tg_import.specs.declared.summary.Options.{Options}
 use Rattle.tg_import.specs.declared.summary.Summary.{Summary}
 use Rattle.tg_import_file.specs.Files.{FileWriterState, IsReady}
-use Rattle.tg_model.specs.Dag.{Dag, Section, root_cid}
+use Rattle.tg_model.specs.Dag.{Dag, root_cid}
 use Rattle.tg_model.specs.ImportLayout.{tsize_of}
 use Rattle.tg_model.specs.Stores.{Keeping}
 use Rattle.tg_model.specs.declared.kinds.Made.{Made}
@@ -21,7 +22,7 @@ use Rattle.tg_model.specs.declared.kinds.NewEntry.{NewEntry}
 use Rattle.tg_model.specs.declared.stores.KeepFault.TheVariants as keep_faults
 use Rattle.tg_tree.specs.declared.items.Item.{Item}
 use Rattle.tg_tree.specs.declared.tree.Tree.{Tree}
-use Rattle.tg_node_writing.specs.Keeping.{Keeps, StopsAfter}
+use Rattle.tg_node_writing.specs.Keeping.{Keeps}
 
 -- the writer of files is ready, for files as these options want them
 pub record IsWriterFor (options : Options) (writer : FileWriterState) : Type 0 where
@@ -72,7 +73,8 @@ abbrev pub IsEntriesCause : ℕ → List (List ℕ) → Summary → List NewEntr
 IsEntriesCause shard path counted entries (faults.TooBig at) keeping =
     Keeps [] keeping × (at ≡ path) × ((max_total < tsizes_for entries) ⊎ PassesTotal (plus counted (own_count_for shard entries)))
 IsEntriesCause shard path counted entries (faults.SameHash first second) keeping =
-    Keeps [] keeping × (shard < weight_for entries) × HaveSameHash entries first second
-IsEntriesCause shard path counted entries faults.Keep keeping = (sections : List Section) × StopsAfter sections keep_faults.Failed keeping
-IsEntriesCause shard path counted entries faults.OutOfMemory keeping = (sections : List Section) × StopsAfter sections keep_faults.OutOfMemory keeping
+    Keeps [] keeping × (shard < weight_for entries) × HaveSameHash entries first second × (max_total < tsizes_for entries → ⊥)
+    × (PassesTotal (plus counted (own_count_for shard entries)) → ⊥)
+IsEntriesCause shard path counted entries faults.Keep keeping = StopsDirectory entries keep_faults.Failed keeping
+IsEntriesCause shard path counted entries faults.OutOfMemory keeping = StopsDirectory entries keep_faults.OutOfMemory keeping
 IsEntriesCause shard path counted entries fault keeping = ⊥

@@ -28,8 +28,8 @@ pub enum ImportFault {
     /// An entry is neither a file nor a folder.
     #[error("NotPlain")]
     NotPlain { path: Path },
-    /// A file gives more than 2^40 bytes, a folder lists 2^32 entries or more, or the Tsizes of a directory's entries or a number of the
-    /// summary would pass 2^62.
+    /// A file gives more than 2^40 bytes, a folder lists 2^32 entries or more, or the Tsizes of a directory's entries
+    /// or a number of the summary would pass 2^62.
     #[error("TooBig")]
     TooBig { path: Path },
     /// No memory was found.

@@ -2,7 +2,7 @@
 ghost use Rattle.std.specs.Prelude.{◌≡◌, ◌≤◌, ◌-◌, ◌^◌, IfErr, IfOk, OnErr, OnOk, min};
 ghost use Rattle.tg_cid.specs.declared.cid.Codec.TheVariants as codecs;
 ghost use Rattle.tg_dir.specs.Made.{MakesDirectory};
-ghost use Rattle.tg_files.specs.Folders.{FolderQuiet, SameTree, folder_step};
+ghost use Rattle.tg_files.specs.Folders.{FolderQuiet, SameFolder, folder_step};
 ghost use Rattle.tg_import.specs.Counting.{nothing, plus};
 ghost use Rattle.tg_import.specs.Imported.{AreOptions};
 ghost use Rattle.tg_import.specs.Refused.{IsCauseBy, IsFileFault, IsImportCause, PassesTotal};
@@ -47,8 +47,8 @@ impl Importer {
         })
     }
 
-    /// Imports the folder at a path, below which so many levels of folders may be gone into, this one with them. Errors: those of
-    /// `import`.
+    /// Imports the folder at a path, below which so many levels of folders may be gone into, this one with them. Where
+    /// that is none, nothing is listed and nothing is kept. Errors: those of `import`.
     pub(crate) fn folder<F: Folder, K: Keep>(
         &mut self,
         folder: &mut F,
@@ -60,14 +60,17 @@ impl Importer {
         requires at { HasFolderAt (F.folder.tree folder.old) path.now }
         ensures options { self.new.options ≡ self.old.options }
         ensures writer { OnOk result (IsWriterFor self.old.options self.new.writer) }
-        ensures imported { IfOk result (λ made. ImportsAs self.old.options (F.folder.tree folder.old) path.now self.old.summary made self.new.summary
+        ensures imported { IfOk result (λ made. ImportsAs self.old.options
+            (F.folder.tree folder.old) path.now self.old.summary made self.new.summary
             (kept_in K.keeper keep.old keep.new)) }
         ensures directory { IfOk result (λ made. made.cid.codec ≡ codecs.DagPb) }
         ensures small { OnOk result (¬ PassesTotal self.new.summary) }
         ensures quiet { OnOk result (FolderQuiet (folder_step F.folder folder.old folder.new)) }
-        ensures same { SameTree (folder_step F.folder folder.old folder.new) }
-        ensures cause { IfErr result (λ fault. IsImportCause levels self.old.options (F.folder.tree folder.old) path.now self.old.summary fault
+        ensures same { SameFolder (folder_step F.folder folder.old folder.new) }
+        ensures cause { IfErr result (λ fault. IsImportCause levels self.old.options
+            (F.folder.tree folder.old) path.now self.old.summary fault
             (folder_step F.folder folder.old folder.new) (kept_in K.keeper keep.old keep.new)) }
+        ensures untouched { levels ≡ 0 → (folder.new ≡ folder.old) × (keep.new ≡ keep.old) }
         ensures err_counted { OnErr result (K.keeper.faults keep.old ≤ K.keeper.faults keep.new) }
     {
         tg_model_laws::kept_sections();
@@ -107,11 +110,13 @@ impl Importer {
         requires at { HasFileAt (F.folder.tree folder.old) path.now }
         ensures options { self.new.options ≡ self.old.options }
         ensures writer { OnOk result (IsWriterFor self.old.options self.new.writer) }
-        ensures imported { IfOk result (λ made. ImportsAs self.old.options (F.folder.tree folder.old) path.now self.old.summary made self.new.summary
+        ensures imported { IfOk result (λ made. ImportsAs self.old.options
+            (F.folder.tree folder.old) path.now self.old.summary made self.new.summary
             (kept_in K.keeper keep.old keep.new)) }
         ensures quiet { OnOk result (FolderQuiet (folder_step F.folder folder.old folder.new)) }
-        ensures same { SameTree (folder_step F.folder folder.old folder.new) }
-        ensures cause { IfErr result (λ fault. IsCauseBy (λ fault. IsFileFault (F.folder.tree folder.old) path.now self.old.summary fault) fault
+        ensures same { SameFolder (folder_step F.folder folder.old folder.new) }
+        ensures cause { IfErr result (λ fault. IsCauseBy
+            (λ kept fault. IsFileFault (F.folder.tree folder.old) path.now self.old.summary kept fault) fault
             (folder_step F.folder folder.old folder.new) (kept_in K.keeper keep.old keep.new)) }
         ensures err_counted { OnErr result (K.keeper.faults keep.old ≤ K.keeper.faults keep.new) }
     {
@@ -135,8 +140,8 @@ impl Importer {
         Ok(made)
     }
 
-    /// Makes the directory of these entries, which is that at a path. Errors: `TooBig`, `SameHash`, those of the store, and want of
-    /// memory.
+    /// Makes the directory of these entries, which is that at a path. Errors: `TooBig`, `SameHash`, those of the store,
+    /// and want of memory.
     fn directory<K: Keep>(
         &mut self,
         entries: &[NewEntry],
@@ -147,10 +152,13 @@ impl Importer {
         requires shard { self.old.options.shard ≤ 1048576 }
         ensures options { self.new.options ≡ self.old.options }
         ensures writer { self.new.writer ≡ self.old.writer }
-        ensures made { IfOk result (λ made. MakesDirectory self.old.options.shard entries.now made (kept_in K.keeper keep.old keep.new)) }
+        ensures made { IfOk result (λ made. MakesDirectory self.old.options.shard entries.now made
+            (kept_in K.keeper keep.old keep.new)) }
         ensures small { OnOk result (¬ PassesTotal self.new.summary) }
-        ensures counted { OnOk result (self.new.summary ≡ plus self.old.summary (own_count_for self.old.options.shard entries.now)) }
-        ensures cause { IfErr result (λ fault. IsEntriesCause self.old.options.shard path.now self.old.summary entries.now fault
+        ensures counted { OnOk result (self.new.summary ≡ plus self.old.summary
+            (own_count_for self.old.options.shard entries.now)) }
+        ensures cause { IfErr result
+            (λ fault. IsEntriesCause self.old.options.shard path.now self.old.summary entries.now fault
             (kept_in K.keeper keep.old keep.new)) }
         ensures err_counted { OnErr result (K.keeper.faults keep.old ≤ K.keeper.faults keep.new) }
     {

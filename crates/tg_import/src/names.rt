@@ -1,6 +1,6 @@
 //! The names of a folder's entries.
 ghost use Rattle.std.specs.Prelude.{◌≡◌, ◌<◌, ◌↔◌, IfErr, IfOk, IsTrue, OnOk, length};
-ghost use Rattle.tg_files.specs.Folders.{FolderQuiet, SameTree, folder_step};
+ghost use Rattle.tg_files.specs.Folders.{FolderQuiet, SameFolder, folder_step};
 ghost use Rattle.tg_import.specs.Imported.{AreEntryNames, AreItemsOf};
 ghost use Rattle.tg_import.specs.Refused.{entry_limit, item_names};
 ghost use Rattle.tg_import.specs.Steps.{IsListCause, IsNamesCause, StandsBefore};
@@ -19,8 +19,8 @@ const MAX_NAME_LEN: usize = 255;
 /// How many entries a folder lists at most, and one.
 const ENTRY_LIMIT: usize = 1 << 32;
 
-/// The names in the folder at a path, in the order of their bytes. All may stand in one directory. Errors: `Folder` where the folder failed
-/// and counted it, `TooBig`, `BadName`, `LongName` and `OutOfMemory`.
+/// The names in the folder at a path, in the order of their bytes. All may stand in one directory. Errors: `Folder`
+/// where the folder failed and counted it, `TooBig`, `BadName`, `LongName` and `OutOfMemory`.
 pub(crate) fn listed<F: Folder>(
     alloc: Global,
     folder: &mut F,
@@ -31,8 +31,9 @@ pub(crate) fn listed<F: Folder>(
     ensures names { IfOk result (λ items. AreEntryNames (item_names items)) }
     ensures few { IfOk result (λ items. length items < entry_limit) }
     ensures quiet { OnOk result (FolderQuiet (folder_step F.folder folder.old folder.new)) }
-    ensures same { SameTree (folder_step F.folder folder.old folder.new) }
-    ensures cause { IfErr result (λ fault. IsListCause (F.folder.tree folder.old) path.now fault (folder_step F.folder folder.old folder.new)) }
+    ensures same { SameFolder (folder_step F.folder folder.old folder.new) }
+    ensures cause { IfErr result (λ fault. IsListCause (F.folder.tree folder.old) path.now fault
+        (folder_step F.folder folder.old folder.new)) }
 {
     let mut items = match folder.list(path) {
         Ok(items) => items,
@@ -49,8 +50,8 @@ pub(crate) fn listed<F: Folder>(
     Ok(items)
 }
 
-/// Checks that items, in the order of their names' bytes, have names that may stand in one directory. Errors: `BadName` and `LongName` at
-/// the first name that may not, and `OutOfMemory`.
+/// Checks that items, in the order of their names' bytes, have names that may stand in one directory. Errors: `BadName`
+/// and `LongName` at the first name that may not, and `OutOfMemory`.
 fn check_names(alloc: Global, path: &[Bytes], items: &[Item]) -> Result<(), ImportFault>
     requires { NamesRise items.now }
     ensures names { OnOk result (AreEntryNames (item_names items.now)) }

@@ -1,15 +1,16 @@
 -- The file that was made of what was taken.
-use Rattle.std.proofs.Common.{◌≡◌, ◌<◌, ◌≤◌, ℕ, List, Some, [], ◌∷◌, ◌++◌, length, sym, ap, ◌∙◌, subst, inl, inr, arith, append_assoc}
-use Rattle.std.specs.Prelude.{Contains}
+use Rattle.std.proofs.Common.{Err, Ok, Result, ◌≡◌, ◌<◌, ◌≤◌, ℕ, List, Some, [], ◌∷◌, ◌++◌, length, sym, ap, ◌∙◌, subst, inl, inr, arith, append_assoc}
+use Rattle.std.specs.Prelude.{Contains, IfErr}
 use Rattle.std.proofs.lemmas.List.{append-nil}
 use Rattle.std.proofs.lemmas.List.Elements.{Contains-append_cases, Contains-append_left, Contains-append_right}
 use Rattle.tg_filedag.specs.Chunks.{AreChunks, ChunkerState}
 use Rattle.tg_filedag.specs.MadeFile.{IsMadeFile, leaves_for}
-use Rattle.tg_filedag.specs.State.{BalancedState, StandsFor}
-use Rattle.tg_filedag.specs.Trees.{bottom_up, bottom_up_of_children}
-use Rattle.tg_node_writing.specs.KeepingSteps.{Joins, keeps_both}
+use Rattle.tg_filedag.specs.State.{BalancedState, IsFrontFor, KeptInOrder, StandsFor}
+use Rattle.tg_filedag.specs.Trees.{AreOfFileParts, bottom_up, bottom_up_of_children}
+use Rattle.tg_node_writing.specs.BlockOrder.{AreBehindLinks}
+use Rattle.tg_node_writing.specs.KeepingSteps.{Joins, keeps_both, stops_behind}
 use Rattle.tg_import_file.specs.Files.{AreBlocksOf, IsFileOf}
-use Rattle.tg_import_file.specs.Taking.{HasLinked, LinksLast, MakesFile}
+use Rattle.tg_import_file.specs.Taking.{HasLinked, LinksLast, MakesFile, Stops}
 use Rattle.tg_model_laws.specs.Contents.{no_content}
 use Rattle.tg_model_laws.specs.Stores.{KeepingJoins}
 use Rattle.tg_model.specs.Content.{content}
@@ -19,9 +20,10 @@ use Rattle.tg_model.specs.ShowsTree.{Shows}
 use Rattle.tg_model.specs.Stores.{KeepMeaning, Keeping, kept_in}
 use Rattle.tg_model.specs.declared.kinds.Kind.TheVariants.{Basic, File, Raw, Shard, Symlink}
 use Rattle.tg_model.specs.declared.kinds.Made.{Made}
+use Rattle.tg_model.specs.declared.stores.KeepFault.{KeepFault}
 use Rattle.tg_tree.specs.Tree.{bytes_of}
 use Rattle.tg_tree.specs.declared.tree.Tree.{Tree}
-use Rattle.tg_node_writing.specs.Keeping.{Keeps}
+use Rattle.tg_node_writing.specs.Keeping.{Keeps, StopsAfter}
 
 -- ---- what is kept are the blocks
 
@@ -101,6 +103,7 @@ file_of size width chunks b bytes kept made d one linked h = record {
 abbrev pub Finishes : ℕ → BalancedState → Made → Keeping → Type 0
 Finishes width b made keeping = (chunks : List (List ℕ)) (kept : List Section) → StandsFor b chunks kept
     → (sections : List Section) × (d : Dag) × Keeps sections keeping × IsMadeFile width chunks d made × (kept ++ sections ≡ bottom_up d)
+    × AreBehindLinks [] (kept ++ sections)
 
 pub makes_file : {S : Type 0} → (m : KeepMeaning S) → Joins m → KeepingJoins → (x y z : S) (c : ChunkerState) (b b' : BalancedState) (made : Made) → b'.width ≡ b.width
     → LinksLast c b b' (kept_in m x y) → Finishes b'.width b' made (kept_in m y z) → MakesFile c b made (kept_in m x z)
@@ -114,4 +117,24 @@ makes_file m joins stores x y z c b b' made width last finishes bytes kept h =
       keeps_both m joins stores x y z first.0 rest.0 first.1 rest.2,
       file_of c.size b.width linked.chunks b' bytes (kept ++ first.0) made rest.1 (omega arith) linked (subst (λ (n : ℕ). IsMadeFile n linked.chunks rest.1 made) width rest.3),
       sym (append_assoc kept first.0 rest.0) ∙ rest.4,
+      subst (AreBehindLinks []) (append_assoc kept first.0 rest.0) rest.5,
+    )
+
+-- linking all stops with a fault
+abbrev pub StopsFinishing : BalancedState → KeepFault → Keeping → List (List ℕ) → List Section → Type 0
+StopsFinishing b fault keeping chunks kept = (sections : List Section) × StopsAfter sections fault keeping × IsFrontFor b.width chunks kept sections
+
+pub stops_last : KeptInOrder → {S : Type 0} → (m : KeepMeaning S) → Joins m → KeepingJoins → (x y z : S) (c : ChunkerState) (b b' : BalancedState) (r : Result Made KeepFault)
+    → LinksLast c b b' (kept_in m x y)
+    → ((chunks : List (List ℕ)) (kept : List Section) → StandsFor b' chunks kept → IfErr r (λ fault. StopsFinishing b' fault (kept_in m y z) chunks kept))
+    → IfErr r (λ fault. Stops c b fault (kept_in m x z))
+stops_last order m joins stores x y z c b b' (Ok made) last stops = tt
+stops_last order m joins stores x y z c b b' (Err fault) last stops = λ bytes kept h.
+    let first = last bytes kept h in
+    let linked = first.2 in
+    let stop = stops linked.chunks (kept ++ first.0) linked.stands in (
+      first.0 ++ stop.0,
+      stops_behind m joins stores x y z first.0 stop.0 fault first.1 stop.1,
+      subst AreOfFileParts (append_assoc kept first.0 stop.0)
+          (order.front b' linked.chunks linked.chunks (kept ++ first.0) stop.0 linked.stands stop.2),
     )

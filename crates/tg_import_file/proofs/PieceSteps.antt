@@ -3,14 +3,13 @@ use Rattle.std.proofs.Common.{◌≡◌, ◌-◌, ℕ, List, [], ◌++◌, lengt
 use Rattle.std.proofs.lemmas.List.{append-nil, length-append, length-drop, take-append-drop, take_all}
 use Rattle.tg_filedag.specs.Chunks.{ChunkerState}
 use Rattle.tg_filedag.specs.State.{BalancedState}
+use Rattle.tg_filedag.specs.Trees.{AreOfFileParts}
 use Rattle.tg_node_writing.specs.KeepingSteps.{Joins, stops_behind}
 use Rattle.tg_import_file.proofs.Taken.{takes_nothing, takes_on}
 use Rattle.tg_import_file.specs.Taking.{MayTake, Stops, TakesPiece}
 use Rattle.tg_model_laws.specs.Stores.{KeepingJoins}
-use Rattle.tg_model.specs.Dag.{Section}
 use Rattle.tg_model.specs.Stores.{KeepMeaning, kept_in}
 use Rattle.tg_model.specs.declared.stores.KeepFault.{KeepFault}
-use Rattle.tg_node_writing.specs.Keeping.{Keeps}
 
 -- of a piece all but the rest was taken
 pub record Taking {S : Type 0} (m : KeepMeaning S) (before now : S) (c : ChunkerState) (b : BalancedState) (c' : ChunkerState) (b' : BalancedState) (piece rest : List ℕ) : Type 0 where
@@ -61,6 +60,12 @@ taking_ends m x y c d b b' piece rest t none =
     subst (λ (u : List ℕ). TakesPiece c b d b' u (kept_in m x y)) all t.takes
 
 -- a fault behind what was kept
-pub stops_on : {S : Type 0} → (m : KeepMeaning S) → Joins m → KeepingJoins → (x y z : S) (u : List Section) (fault : KeepFault)
-    → Keeps u (kept_in m x y) → Stops fault (kept_in m y z) → Stops fault (kept_in m x z)
-stops_on m joins stores x y z u fault keeps stop = (u ++ stop.0, stops_behind m joins stores x y z u stop.0 fault keeps stop.1)
+pub stops_on : {S : Type 0} → (m : KeepMeaning S) → Joins m → KeepingJoins → (x y z : S) (c d : ChunkerState) (b e : BalancedState) (front : List ℕ) (fault : KeepFault)
+    → TakesPiece c b d e front (kept_in m x y) → Stops d e fault (kept_in m y z) → Stops c b fault (kept_in m x z)
+stops_on m joins stores x y z c d b e front fault takes stop bytes kept h =
+    let first = takes bytes kept h in
+    let next = stop (bytes ++ front) (kept ++ first.0) first.2 in (
+      first.0 ++ next.0,
+      stops_behind m joins stores x y z first.0 next.0 fault first.1 next.1,
+      subst AreOfFileParts (append_assoc kept first.0 next.0) next.2,
+    )

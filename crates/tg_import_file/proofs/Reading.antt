@@ -6,17 +6,19 @@ use Rattle.std.proofs.lemmas.Option.{same_Some}
 use Rattle.tg_bytes.specs.Told.{IsNothing, after_front}
 use Rattle.tg_bytes.specs.ToldLaws.{after_front-after_front}
 use Rattle.tg_filedag.specs.Chunks.{ChunkerState}
-use Rattle.tg_filedag.specs.State.{BalancedState}
-use Rattle.tg_files.specs.Folders.{FolderMeaning, FolderQuiet, SameTree, folder_step}
+use Rattle.tg_filedag.specs.State.{BalancedState, KeptInOrder}
+use Rattle.tg_filedag.specs.Trees.{AreOfFileParts}
+use Rattle.tg_files.specs.Folders.{FolderMeaning, FolderQuiet, SameFolder, folder_step}
 use Rattle.tg_files.specs.Packs.{ReadAt, rest_at}
 use Rattle.tg_node_writing.specs.KeepingSteps.{Joins, keeps_both, keeps_nothing}
 use Rattle.tg_import_file.specs.Files.{max_file_len}
 use Rattle.tg_import_file.specs.Taking.{HasTaken, MayTake, TakesFile, TakesPiece}
 use Rattle.tg_model_laws.specs.Stores.{KeepingJoins}
-use Rattle.tg_model.specs.Dag.{Section}
+use Rattle.tg_model.specs.Dag.{Section, no_child}
 use Rattle.tg_model.specs.Stores.{KeepMeaning, kept_in}
 use Rattle.tg_tree.specs.Tree.{HasFileAt, bytes_of, tree_at}
 use Rattle.tg_tree.specs.declared.tree.Tree.{Tree}
+use Rattle.tg_node_writing.specs.BlockOrderLaws.{behind_nothing}
 use Rattle.tg_node_writing.specs.Keeping.{Keeps}
 
 -- ---- the bytes
@@ -60,9 +62,10 @@ pub record Reading {F S : Type 0} (f : FolderMeaning F) (m : KeepMeaning S) (bef
   pub sections : List Section
   pub taken : HasTaken d e bytes sections
   pub keeps : Keeps sections (kept_in m from to)
+  pub parts : AreOfFileParts sections
   pub front : IsFrontTo (bytes_of (tree_at (f.tree before) path)) offset bytes
   pub few : offset ≤ max_file_len
-  pub same : SameTree (folder_step f before now)
+  pub same : SameFolder (folder_step f before now)
   pub quiet : FolderQuiet (folder_step f before now)
   pub size : d.size ≡ c.size
   pub width : e.width ≡ b.width
@@ -74,22 +77,23 @@ reading_begins f m rests x s path c b ready = record {
   sections = [];
   taken = ready;
   keeps = keeps_nothing m rests s;
+  parts = record { parts = no_child; each = tt; are = refl; order = behind_nothing [] };
   front = (refl, behind_none (bytes_of (tree_at (f.tree x) path)));
   few = omega arith;
-  same = refl;
+  same = record { tree = refl; place = refl };
   quiet = refl;
   size = refl;
   width = refl;
 }
 
 -- the file is still there
-pub file_stays : {F : Type 0} → (f : FolderMeaning F) (x y : F) (path : List (List ℕ)) → SameTree (folder_step f x y) → HasFileAt (f.tree x) path → HasFileAt (f.tree y) path
-file_stays f x y path same has = subst (λ (tree : Option Tree). HasFileAt tree path) (sym same) has
+pub file_stays : {F : Type 0} → (f : FolderMeaning F) (x y : F) (path : List (List ℕ)) → SameFolder (folder_step f x y) → HasFileAt (f.tree x) path → HasFileAt (f.tree y) path
+file_stays f x y path same has = subst (λ (tree : Option Tree). HasFileAt tree path) (sym same.tree) has
 
 -- what was read before the piece, and the piece
-read_here : {F : Type 0} → (f : FolderMeaning F) (x y : F) (path : List (List ℕ)) (offset n : ℕ) (buf : List ℕ) → SameTree (folder_step f x y)
+read_here : {F : Type 0} → (f : FolderMeaning F) (x y : F) (path : List (List ℕ)) (offset n : ℕ) (buf : List ℕ) → SameFolder (folder_step f x y)
     → ReadAt (bytes_of (tree_at (f.tree y) path)) offset n buf → ReadAt (bytes_of (tree_at (f.tree x) path)) offset n buf
-read_here f x y path offset n buf same read = subst (λ (tree : Option Tree). ReadAt (bytes_of (tree_at tree path)) offset n buf) same read
+read_here f x y path offset n buf same read = subst (λ (tree : Option Tree). ReadAt (bytes_of (tree_at tree path)) offset n buf) same.tree read
 
 -- a piece that is not too long may be taken
 pub reading_may : {F S : Type 0} → (f : FolderMeaning F) (m : KeepMeaning S) (x y : F) (s t : S) (path : List (List ℕ)) (c d : ChunkerState) (b e : BalancedState) (offset n more : ℕ)
@@ -98,11 +102,11 @@ reading_may f m x y s t path c d b e offset n more r most le =
     let count = r.front.0 in
     record { bytes = r.bytes; kept = r.sections; taken = r.taken; few = omega arith }
 
-pub reading_next : {F S : Type 0} → (f : FolderMeaning F) (m : KeepMeaning S) → Joins m → KeepingJoins → (x y z : F) (s t u : S) (path : List (List ℕ)) (c d d' : ChunkerState)
+pub reading_next : KeptInOrder → {F S : Type 0} → (f : FolderMeaning F) (m : KeepMeaning S) → Joins m → KeepingJoins → (x y z : F) (s t u : S) (path : List (List ℕ)) (c d d' : ChunkerState)
     (b e e' : BalancedState) (offset n next : ℕ) (buf : List ℕ) → Reading f m x y s t path c b d e offset → ReadAt (bytes_of (tree_at (f.tree y) path)) offset n buf
-    → SameTree (folder_step f y z) → FolderQuiet (folder_step f y z) → next ≡ offset + n → next ≤ max_file_len
+    → SameFolder (folder_step f y z) → FolderQuiet (folder_step f y z) → next ≡ offset + n → next ≤ max_file_len
     → TakesPiece d e d' e' (take n buf) (kept_in m t u) → d'.size ≡ d.size → e'.width ≡ e.width → Reading f m x z s u path c b d' e' next
-reading_next f m joins stores x y z s t u path c d d' b e e' offset n next buf r read same quiet is most takes size width =
+reading_next order f m joins stores x y z s t u path c d d' b e e' offset n next buf r read same quiet is most takes size width =
     let more = takes r.bytes r.sections r.taken in
     let file = bytes_of (tree_at (f.tree x) path) in
     record {
@@ -110,10 +114,11 @@ reading_next f m joins stores x y z s t u path c d d' b e e' offset n next buf r
       sections = r.sections ++ more.0;
       taken = more.2;
       keeps = keeps_both m joins stores s t u r.sections more.0 r.keeps more.1;
+      parts = order.stands e' more.2.chunks (r.sections ++ more.0) more.2.stands;
       front = subst (λ (o : ℕ). IsFrontTo file o (r.bytes ++ take n buf)) (sym is)
           (read_on file offset n r.bytes buf r.front (read_here f x y path offset n buf r.same read));
       few = most;
-      same = same ∙ r.same;
+      same = record { tree = same.tree ∙ r.same.tree; place = same.place ∙ r.same.place };
       quiet = quiet ∙ r.quiet;
       size = size ∙ r.size;
       width = width ∙ r.width;

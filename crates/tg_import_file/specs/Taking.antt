@@ -1,17 +1,19 @@
 -- How far a file was taken: cut into chunks and linked.
-use Rattle.std.specs.Prelude.{All, IfSome, List, Option, Some, length, ℕ, ◌++◌, ◌+◌, ◌<◌, ◌≡◌, ◌≤◌}
+use Rattle.std.specs.Prelude.{All, IfSome, List, Option, Some, [], length, ℕ, ◌++◌, ◌+◌, ◌<◌, ◌≡◌, ◌≤◌}
 use Rattle.tg_bytes.specs.Lists.{joined}
 use Rattle.tg_filedag.specs.Chunks.{AreChunks, ChunkerState}
 use Rattle.tg_filedag.specs.State.{BalancedState, StandsFor}
-use Rattle.tg_filedag.specs.Trees.{bottom_up}
+use Rattle.tg_filedag.specs.Trees.{AreOfFileParts, bottom_up}
 use Rattle.tg_import_file.specs.Files.{IsFileOf, max_file_len}
 use Rattle.tg_model.specs.Dag.{Dag, Section}
 use Rattle.tg_model.specs.Stores.{Keeping}
 use Rattle.tg_model.specs.declared.kinds.Made.{Made}
 use Rattle.tg_model.specs.declared.stores.KeepFault.{KeepFault}
+use Rattle.tg_node_writing.specs.BlockOrder.{AreBehindLinks}
 use Rattle.tg_node_writing.specs.Keeping.{Keeps, StopsAfter}
 
--- these bytes of a file were taken, and these sections kept: the chunks that were linked are full, and the one at hand isn't
+-- these bytes of a file were taken, and these sections kept: the chunks that were linked are full, and the one at hand
+-- isn't
 pub record HasTaken (chunker : ChunkerState) (balanced : BalancedState) (bytes : List ℕ) (kept : List Section) : Type 0 where
   pub chunks : List (List ℕ)
   pub stands : StandsFor balanced chunks kept
@@ -56,7 +58,9 @@ LinksLast chunker balanced balanced_new keeping = (bytes : List ℕ) (kept : Lis
 abbrev pub MakesFile : ChunkerState → BalancedState → Made → Keeping → Type 0
 MakesFile chunker balanced made keeping = (bytes : List ℕ) (kept : List Section) → HasTaken chunker balanced bytes kept
     → (sections : List Section) × (d : Dag) × Keeps sections keeping × IsFileOf chunker.size balanced.width (Some bytes) made d × (kept ++ sections ≡ bottom_up d)
+    × AreBehindLinks [] (kept ++ sections)
 
--- some sections were kept before this fault
-abbrev pub Stops : KeepFault → Keeping → Type 0
-Stops fault keeping = (sections : List Section) × StopsAfter sections fault keeping
+-- before this fault further sections were kept: with those of before they are blocks of parts of the file
+abbrev pub Stops : ChunkerState → BalancedState → KeepFault → Keeping → Type 0
+Stops chunker balanced fault keeping = (bytes : List ℕ) (kept : List Section) → HasTaken chunker balanced bytes kept
+    → (sections : List Section) × StopsAfter sections fault keeping × AreOfFileParts (kept ++ sections)

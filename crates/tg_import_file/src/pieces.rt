@@ -1,6 +1,6 @@
 //! The bytes of a file, taken piece by piece.
 ghost use Rattle.std.specs.Prelude.{◌≡◌, ◌≤◌, ◌<◌, ◌+◌, [], length, take, IfErr, IfOk, OnErr, OnOk};
-ghost use Rattle.tg_files.specs.Folders.{FolderQuiet, SameTree, folder_step};
+ghost use Rattle.tg_files.specs.Folders.{FolderQuiet, SameFolder, folder_step};
 ghost use Rattle.tg_import_file.specs.Files.{IsFileCause, max_file_len};
 ghost use Rattle.tg_import_file.specs.Taking.{HasTaken, LinksLast, MakesFile, MayTake, Stops, TakesFile, TakesPiece};
 ghost use Rattle.tg_filedag.specs.State.{StandsFor};
@@ -36,12 +36,13 @@ pub(crate) fn take_file<F: Folder, K: Keep>(
     ensures taken { OnOk result (TakesFile (bytes_of (tree_at (F.folder.tree folder.old) path.now))
         chunker.new balanced.new (kept_in K.keeper keep.old keep.new)) }
     ensures quiet { OnOk result (FolderQuiet (folder_step F.folder folder.old folder.new)) }
-    ensures same { SameTree (folder_step F.folder folder.old folder.new) }
+    ensures same { SameFolder (folder_step F.folder folder.old folder.new) }
     ensures cause { IfErr result (λ fault. IsFileCause (bytes_of (tree_at (F.folder.tree folder.old) path.now)) fault
         (folder_step F.folder folder.old folder.new) (kept_in K.keeper keep.old keep.new)) }
     ensures err_counted { OnErr result (K.keeper.faults keep.old ≤ K.keeper.faults keep.new) }
 {
     tg_model_laws::kept_sections();
+    tg_filedag::laws::kept_in_order();
     let mut offset = 0;
     loop {
         let n = folder.read_at(path, offset, piece)?;
@@ -66,7 +67,8 @@ fn length_with(length: u64, n: usize) -> Result<u64, FileFault>
     Ok(length + n)
 }
 
-/// Takes the bytes of a piece: each chunk that is full with them is linked at once. Errors: those of the store, and want of memory.
+/// Takes the bytes of a piece: each chunk that is full with them is linked at once. Errors: those of the store, and
+/// want of memory.
 fn take_piece<K: Keep>(
     chunker: &mut Chunker,
     balanced: &mut Balanced,
@@ -76,8 +78,9 @@ fn take_piece<K: Keep>(
     requires { MayTake chunker.old balanced.old (length piece.now) }
     ensures chunk { chunker.new.size ≡ chunker.old.size }
     ensures width { balanced.new.width ≡ balanced.old.width }
-    ensures taken { OnOk result (TakesPiece chunker.old balanced.old chunker.new balanced.new piece.now (kept_in K.keeper keep.old keep.new)) }
-    ensures stops { IfErr result (λ fault. Stops fault (kept_in K.keeper keep.old keep.new)) }
+    ensures taken { OnOk result (TakesPiece chunker.old balanced.old chunker.new balanced.new piece.now
+        (kept_in K.keeper keep.old keep.new)) }
+    ensures stops { IfErr result (λ fault. Stops chunker.old balanced.old fault (kept_in K.keeper keep.old keep.new)) }
     ensures err_counted { OnErr result (K.keeper.faults keep.old ≤ K.keeper.faults keep.new) }
 {
     tg_model_laws::kept_sections();
@@ -89,8 +92,8 @@ fn take_piece<K: Keep>(
     Ok(())
 }
 
-/// Takes the first bytes of a piece, for which the chunk at hand has room, links the chunk if it is full then, and says how many bytes
-/// these are. Errors: those of the store, and want of memory.
+/// Takes the first bytes of a piece, for which the chunk at hand has room, links the chunk if it is full then, and says
+/// how many bytes these are. Errors: those of the store, and want of memory.
 fn fill_chunk<K: Keep>(
     chunker: &mut Chunker,
     balanced: &mut Balanced,
@@ -104,9 +107,10 @@ fn fill_chunk<K: Keep>(
     ensures some { 0 < length piece.now → IfOk result (λ n. 0 < n) }
     ensures taken { IfOk result (λ n. TakesPiece chunker.old balanced.old chunker.new balanced.new (take n piece.now)
         (kept_in K.keeper keep.old keep.new)) }
-    ensures stops { IfErr result (λ fault. Stops fault (kept_in K.keeper keep.old keep.new)) }
+    ensures stops { IfErr result (λ fault. Stops chunker.old balanced.old fault (kept_in K.keeper keep.old keep.new)) }
     ensures err_counted { OnErr result (K.keeper.faults keep.old ≤ K.keeper.faults keep.new) }
 {
+    tg_filedag::laws::kept_in_order();
     let (taken, full) = chunker.feed(piece);
     if !full {
         return Ok(taken);
@@ -116,7 +120,8 @@ fn fill_chunk<K: Keep>(
     Ok(taken)
 }
 
-/// Links the last chunk, if it has a byte, and what is left, and says what was made. Errors: those of the store, and want of memory.
+/// Links the last chunk, if it has a byte, and what is left, and says what was made. Errors: those of the store, and
+/// want of memory.
 pub(crate) fn close_file<K: Keep>(
     chunker: &mut Chunker,
     balanced: &mut Balanced,
@@ -128,10 +133,11 @@ pub(crate) fn close_file<K: Keep>(
     ensures made { IfOk result (λ made. MakesFile chunker.old balanced.old made (kept_in K.keeper keep.old keep.new)) }
     ensures anew { OnOk result (StandsFor balanced.new [] []) }
     ensures empty { OnOk result (chunker.new.bytes ≡ []) }
-    ensures stops { IfErr result (λ fault. Stops fault (kept_in K.keeper keep.old keep.new)) }
+    ensures stops { IfErr result (λ fault. Stops chunker.old balanced.old fault (kept_in K.keeper keep.old keep.new)) }
     ensures err_counted { OnErr result (K.keeper.faults keep.old ≤ K.keeper.faults keep.new) }
 {
     tg_model_laws::kept_sections();
+    tg_filedag::laws::kept_in_order();
     link_last(chunker, balanced, keep)?;
     balanced.finish(keep)
 }
@@ -146,11 +152,13 @@ fn link_last<K: Keep>(
     ensures chunk { chunker.new.size ≡ chunker.old.size }
     ensures width { balanced.new.width ≡ balanced.old.width }
     ensures empty { OnOk result (chunker.new.bytes ≡ []) }
-    ensures linked { OnOk result (LinksLast chunker.old balanced.old balanced.new (kept_in K.keeper keep.old keep.new)) }
-    ensures stops { IfErr result (λ fault. Stops fault (kept_in K.keeper keep.old keep.new)) }
+    ensures linked { OnOk result (LinksLast chunker.old balanced.old balanced.new
+        (kept_in K.keeper keep.old keep.new)) }
+    ensures stops { IfErr result (λ fault. Stops chunker.old balanced.old fault (kept_in K.keeper keep.old keep.new)) }
     ensures err_counted { OnErr result (K.keeper.faults keep.old ≤ K.keeper.faults keep.new) }
 {
     tg_filedag::laws::cut_chunks();
+    tg_filedag::laws::kept_in_order();
     if chunker.chunk().is_empty() {
         return Ok(());
     }

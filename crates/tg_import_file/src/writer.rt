@@ -1,7 +1,7 @@
 //! Files read in pieces, cut into chunks and linked.
 ghost use Rattle.std.specs.Prelude.{◌≡◌, ◌≤◌, IfErr, IfOk, OnErr, OnOk};
 ghost use Rattle.tg_cid.specs.Limits.{max_block_len};
-ghost use Rattle.tg_files.specs.Folders.{FolderQuiet, SameTree, folder_step};
+ghost use Rattle.tg_files.specs.Folders.{FolderQuiet, SameFolder, folder_step};
 ghost use Rattle.tg_import_file.specs.Files.{IsFileCause, IsReady, KeepsFile};
 ghost use Rattle.tg_model.specs.Stores.{kept_in};
 ghost use Rattle.tg_tree.specs.Tree.{HasFileAt, bytes_of, tree_at};
@@ -18,8 +18,8 @@ use tg_model::{Keep, Made};
 /// How many bytes of a file are read at once.
 const PIECE_LEN: usize = 65536;
 
-/// A writer of the DAGs of files, one after another. It holds one chunk, one piece of a file and the links that wait, and takes the room
-/// of the chunk and of the piece when it is made.
+/// A writer of the DAGs of files, one after another. It holds one chunk, one piece of a file and the links that wait,
+/// and takes the room of the chunk and of the piece when it is made.
 ///
 /// UnixFS specification, File.
 #[derive(Drop)]
@@ -41,8 +41,8 @@ impl Model for FileWriter {
 }
 
 impl FileWriter {
-    /// A writer for files in chunks of `chunk` bytes, from 1 to 2,097,152, and nodes of at most `width` links, from 2 to 4,096. The error
-    /// is want of memory.
+    /// A writer for files in chunks of `chunk` bytes, from 1 to 2,097,152, and nodes of at most `width` links, from 2
+    /// to 4,096. The error is want of memory.
     pub fn new(alloc: Global, chunk: u32, width: u32) -> Result<FileWriter, AllocError>
         requires chunk_low { 1 ≤ chunk }
         requires chunk_high { chunk ≤ max_block_len }
@@ -59,11 +59,12 @@ impl FileWriter {
         })
     }
 
-    /// Reads the file at a path to its end, keeps its blocks, each behind those below it, and says what was made. The file has at most
-    /// 2^40 bytes.
+    /// Reads the file at a path to its end, keeps its blocks, each behind those below it, and says what was made. The
+    /// file has at most 2^40 bytes.
     ///
-    /// UnixFS specification, File. Errors: `Folder` and `Keep` where the folder or the store failed and counted it; `TooBig` where the
-    /// file gives more than 2^40 bytes; `OutOfMemory`. What was kept before stays kept, and the writer isn't to be used any more.
+    /// UnixFS specification, File. Errors: `Folder` and `Keep` where the folder or the store failed and counted it;
+    /// `TooBig` where the file gives more than 2^40 bytes; `OutOfMemory`. What was kept before stays kept, and the
+    /// writer isn't to be used any more.
     pub fn import<F: Folder, K: Keep>(
         &mut self,
         folder: &mut F,
@@ -78,8 +79,9 @@ impl FileWriter {
         ensures made { IfOk result (λ made. KeepsFile self.old.chunker.size self.old.balanced.width
             (bytes_of (tree_at (F.folder.tree folder.old) path.now)) made (kept_in K.keeper keep.old keep.new)) }
         ensures quiet { OnOk result (FolderQuiet (folder_step F.folder folder.old folder.new)) }
-        ensures same { SameTree (folder_step F.folder folder.old folder.new) }
-        ensures cause { IfErr result (λ fault. IsFileCause (bytes_of (tree_at (F.folder.tree folder.old) path.now)) fault
+        ensures same { SameFolder (folder_step F.folder folder.old folder.new) }
+        ensures cause { IfErr result (λ fault. IsFileCause
+            (bytes_of (tree_at (F.folder.tree folder.old) path.now)) fault
             (folder_step F.folder folder.old folder.new) (kept_in K.keeper keep.old keep.new)) }
         ensures err_counted { OnErr result (K.keeper.faults keep.old ≤ K.keeper.faults keep.new) }
     {

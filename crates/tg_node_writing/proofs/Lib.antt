@@ -1,3 +1,4 @@
 mod TextLengths
 mod NodeLengths
 mod NodeLinks
+mod LinkedNodes

@@ -1,4 +1,5 @@
--- The block of a node as a writer writes it (IPLD specification, DAG-PB, Serial Format; UnixFS specification, Data Format).
+-- The block of a node as a writer writes it (IPLD specification, DAG-PB, Serial Format; UnixFS specification, Data
+-- Format).
 use Rattle.std.specs.List.{sum_by}
 use Rattle.std.specs.Prelude.{List, Some, [], length, map, ℕ, ⊤, ◌*◌, ◌+◌, ◌∷◌, ◌≡◌}
 use Rattle.tg_cid.specs.Spelling.{CidBytes}
@@ -12,7 +13,8 @@ use Rattle.tg_model.specs.declared.kinds.NewEntry.{NewEntry}
 use Rattle.tg_unixfs.specs.Unix.{CanonicalText as CanonicalData}
 use Rattle.tg_unixfs.specs.declared.Unix.{Unix}
 
--- the links for these entries, one by one: the CID's bytes, the name, which stands also where it is empty, and the Tsize
+-- the links for these entries, one by one: the CID's bytes, the name, which stands also where it is empty, and the
+-- Tsize
 abbrev pub IsLinkFor : NewEntry → Link → Type 0
 IsLinkFor entry link = CidBytes entry.cid link.hash × (link.name ≡ Some entry.name) × (link.tsize ≡ Some entry.tsize)
 

@@ -7,8 +7,8 @@ ghost use Rattle.tg_node_writing.specs.Keeping.{KeepsBlock, StopsAfter};
 use tg_cid::{Cid, Codec};
 use tg_model::{Keep, KeepFault, Made};
 
-/// Keeps a block under its CID of this codec and says what was made: its content has so many bytes, and its Tsize is how many bytes it
-/// has and the Tsizes of its links. Errors: those of the store.
+/// Keeps a block under its CID of this codec and says what was made: its content has so many bytes, and its Tsize is
+/// how many bytes it has and the Tsizes of its links. Errors: those of the store.
 ///
 /// IPLD specification, DAG-PB; CID specification.
 pub fn keep_block<K: Keep>(
@@ -20,7 +20,8 @@ pub fn keep_block<K: Keep>(
 ) -> Result<Made, KeepFault>
     requires small { length block.now ≤ max_block_len }
     requires room { tsizes ≤ 2 ^ 63 }
-    ensures made { IfOk result (λ made. KeepsBlock codec block.now content tsizes made (kept_in K.keeper keep.old keep.new)) }
+    ensures made { IfOk result (λ made. KeepsBlock codec block.now content tsizes made
+        (kept_in K.keeper keep.old keep.new)) }
     ensures stops { IfErr result (λ fault. StopsAfter [] fault (kept_in K.keeper keep.old keep.new)) }
     ensures err_counted { OnErr result (K.keeper.faults keep.old ≤ K.keeper.faults keep.new) }
 {

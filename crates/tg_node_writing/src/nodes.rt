@@ -9,9 +9,9 @@ use tg_dagpb::{Link, Node};
 use tg_model::NewEntry;
 use tg_unixfs::Unix;
 
-/// The canonical block of a node with a link for each entry, in their order, and with this data, which `tg_unixfs::decode` can
-/// give. A link has the entry's CID, its name, which is written also where it is empty, and its Tsize. The error is want of
-/// memory.
+/// The canonical block of a node with a link for each entry, in their order, and with this data, which
+/// `tg_unixfs::decode` can give. A link has the entry's CID, its name, which is written also where it is empty, and its
+/// Tsize. The error is want of memory.
 ///
 /// IPLD specification, DAG-PB, Serial Format; UnixFS specification, Data Format.
 pub fn node_block(alloc: Global, entries: &[NewEntry], unix: &Unix) -> Result<Bytes, AllocError>

@@ -1,17 +1,33 @@
-use Rattle.std.proofs.Common.{◌≡◌, ℕ, List, ◌+◌, ◌*◌, ◌<◌, get_or, length, refl, ap, sym, ◌∙◌, subst, arith}
+use Rattle.std.proofs.Common.{◌≡◌, ℕ, List, [], ◌+◌, ◌*◌, ◌<◌, get_or, length, refl, ap, sym, ◌∙◌, subst, arith}
 use Rattle.std.proofs.lemmas.List.{get_or_default}
+use Rattle.std.proofs.lemmas.List.Elements.{All-nil}
+use Rattle.std.proofs.lemmas.Result.{err_from_is_err_and}
 use Rattle.tg_hamt.proofs.Directory.{directory_made, directory_stops, none_passed_over, sorted_few, pair_cause, pair_differs, read_hashed, read_name, sorted_order, sorted_tsizes}
 use Rattle.tg_node_writing.specs.KeepingSteps.{keeps_nothing, same_stops}
 use Rattle.tg_hamt.proofs.sharded.build.Goals as goal
+use Rattle.tg_hamt.specs.Directories.{IsOfSharded, StopsSharded}
 use Rattle.tg_hamt.specs.Order.{IsOrder, IsSamePair, Rises, tsizes_in}
 use Rattle.tg_hamt.specs.Shards.{MakesShard, StopsShard}
+use Rattle.tg_node_writing.specs.BlockOrder.{entry_cids}
+use Rattle.tg_node_writing.specs.BlockOrderLaws.{behind_nothing}
 use Rattle.tg_hamt.specs.declared.order.Hashed.{Hashed}
-use Rattle.tg_model.specs.Stores.{kept_in}
+use Rattle.tg_model.specs.Stores.{KeepMeaning, kept_in}
+use Rattle.tg_model.specs.declared.kinds.NewEntry.{NewEntry}
 use Rattle.tg_model.specs.declared.stores.KeepFault.{KeepFault}
 use Rattle.tg_model.specs.declared.stores.KeepFault.TheVariants as faults
 
 small_offset : (i len : ℕ) → i < len → len < 4294967296 → i * 168 < 18446744073709551616
 small_offset i len lt few = omega arith
+
+-- nothing was kept, and memory is wanted
+stops_nothing : {S : Type 0} → (m : KeepMeaning S) → ((s : S) → m.kept s s []) → (k : S) (es : List NewEntry) → StopsSharded es faults.OutOfMemory (kept_in m k k)
+stops_nothing m rests k es =
+    record { sections = []; stops = same_stops m rests k; order = behind_nothing (entry_cids es); each = λ children lead sound. All-nil (IsOfSharded es children) }
+
+pub returns-in_err-order-clause-cause : goal.returns-in_err-order-clause-cause
+returns-in_err-order-clause-cause g c =
+    let p = err_from_is_err_and c.from_residual.result c.from_residual.ensures.1 in
+    rw (p.1, p.2) (stops_nothing g.K.Keep.keeper g.met.K.Keep.rests c.args.keep.now c.args.entries.now)
 
 pub bounds-entries-index : goal.bounds-entries-index
 bounds-entries-index g c =

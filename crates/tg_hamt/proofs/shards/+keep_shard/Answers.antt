@@ -153,7 +153,7 @@ pub returns-clause-made : goal.returns-clause-made
 returns-clause-made g t c =
     let laws : NodeLaws = record { written = c.written_nodes.ensures.written; unix_node = c.written_nodes.ensures.unix_node } in
     IfOk-weaker c.keep_links.result _ _
-    (λ made h. finished g.K.Keep.keeper g.met.K.Keep.joins c.kept_sections.ensures.joins laws c.placed_shards.ensures c.args.keep.now c.loop-start.keep c.keep_links.new.keep c.args.entries.now
+    (λ made h. finished g.K.Keep.keeper g.met.K.Keep.joins c.kept_sections.ensures.joins laws c.linked_nodes.ensures c.placed_shards.ensures c.args.keep.now c.loop-start.keep c.keep_links.new.keep c.args.entries.now
     c.args.order.now c.args.level c.loop-start.start c.loop-start.shard.links.items c.loop-start.shard.bits made c.loop-start.invariant c.requires.order.each c.loop-start-test.false c.requires.level h) c.keep_links.ensures.made
 
 pub returns-clause-light : goal.returns-clause-light

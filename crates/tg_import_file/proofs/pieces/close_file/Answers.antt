@@ -1,7 +1,6 @@
-use Rattle.std.proofs.lemmas.Result.{IfErr-weaker, IfOk-weaker, on_err_weaker}
-use Rattle.tg_import_file.proofs.Closing.{makes_file}
+use Rattle.std.proofs.lemmas.Result.{IfOk-weaker, on_err_weaker}
+use Rattle.tg_import_file.proofs.Closing.{makes_file, stops_last}
 use Rattle.tg_node_writing.specs.KeepingSteps.{counted_behind}
-use Rattle.tg_import_file.proofs.PieceSteps.{stops_on}
 use Rattle.tg_import_file.proofs.pieces.close_file.Goals as goal
 
 pub returns-clause-made : goal.returns-clause-made
@@ -13,11 +12,8 @@ returns-clause-made g c =
 
 pub returns-clause-stops : goal.returns-clause-stops
 returns-clause-stops g c =
-    let first = c.in_ok-link_last.ensures.linked c.requires.bytes c.requires.kept c.requires.taken in
-    IfErr-weaker c.finish.result _ _
-    (λ fault h. stops_on g.K.Keep.keeper g.met.K.Keep.joins c.kept_sections.ensures.joins c.args.keep.now c.link_last.new.keep c.finish.new.keep
-    first.0 fault first.1 (h.0, h.1))
-    (c.finish.ensures.stops first.2.chunks _ first.2.stands)
+    stops_last c.kept_in_order.ensures g.K.Keep.keeper g.met.K.Keep.joins c.kept_sections.ensures.joins c.args.keep.now c.link_last.new.keep c.finish.new.keep
+    c.args.chunker.now c.args.balanced.now c.link_last.new.balanced c.finish.result c.in_ok-link_last.ensures.linked c.finish.ensures.stops
 
 pub returns-clause-err_counted : goal.returns-clause-err_counted
 returns-clause-err_counted g c =

@@ -25,8 +25,10 @@ leaf-requires-clause-leaves g c =
 pub returns-in_err-leaf-clause-stops : goal.returns-in_err-leaf-clause-stops
 returns-in_err-leaf-clause-stops g c =
     let p = err_from_is_err_and c.from_residual.result c.from_residual.ensures.1 in
-    let stop = c.in_err-leaf.ensures.stops c.requires.taken.chunks c.requires.kept c.requires.taken.stands in
-    rw (p.1, p.2) (stop.0, stop.1)
+    rw (p.1, p.2)
+    (λ bytes kept h.
+    let stop = c.in_err-leaf.ensures.stops h.chunks kept h.stands in
+    (stop.0, stop.1, c.kept_in_order.ensures.front c.args.balanced.now h.chunks _ kept stop.0 h.stands stop.2))
 
 pub returns-clause-taken : goal.returns-clause-taken
 returns-clause-taken g c =

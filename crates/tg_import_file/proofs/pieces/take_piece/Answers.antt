@@ -16,10 +16,10 @@ fill_chunk-requires g c =
 pub returns-in_err-n-clause-stops : goal.returns-in_err-n-clause-stops
 returns-in_err-n-clause-stops g c =
     let p = err_from_is_err_and c.from_residual.result c.from_residual.ensures.1 in
-    let before = c.loop-rest.invariant.takes c.requires.bytes c.requires.kept c.requires.taken in
     rw (p.1, p.2)
-    (stops_on g.K.Keep.keeper g.met.K.Keep.joins c.kept_sections.ensures.joins c.args.keep.now c.loop-rest.keep c.fill_chunk.new.keep before.0 c.in_err-n.field-0.0
-    before.1 c.in_err-n.ensures.stops)
+    (stops_on g.K.Keep.keeper g.met.K.Keep.joins c.kept_sections.ensures.joins c.args.keep.now c.loop-rest.keep c.fill_chunk.new.keep
+    c.args.chunker.now c.loop-rest.chunker c.args.balanced.now c.loop-rest.balanced c.loop-rest.invariant.front c.in_err-n.field-0.0
+    c.loop-rest.invariant.takes c.in_err-n.ensures.stops)
 
 pub returns-in_err-n-clause-err_counted : goal.returns-in_err-n-clause-err_counted
 returns-in_err-n-clause-err_counted g c =

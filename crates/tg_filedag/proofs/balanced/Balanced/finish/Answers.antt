@@ -1,6 +1,7 @@
-use Rattle.std.proofs.Common.{◌≡◌, ℕ, List, [], ◌++◌, subst}
+use Rattle.std.proofs.Common.{◌≡◌, ℕ, List, [], ◌++◌, subst, sym}
 use Rattle.tg_filedag.proofs.Beginnings.{nothing_stands}
 use Rattle.tg_filedag.proofs.balanced.Balanced.finish.Goals as goal
+use Rattle.tg_node_writing.specs.BlockOrder.{AreBehindLinks}
 use Rattle.tg_node_writing.specs.Keeping.{Keeps, StopsAfter}
 use Rattle.tg_filedag.specs.MadeFile.{IsMadeFile}
 use Rattle.tg_filedag.specs.State.{BalancedState, IsFrontFor, StandsFor}
@@ -17,8 +18,10 @@ pub returns-in-Ok-clause-made : goal.returns-in-Ok-clause-made
 returns-in-Ok-clause-made g c =
     subst (λ (s : BalancedState). (chunks : List (List ℕ)) (kept : List Section) → StandsFor s chunks kept
     → (sections : List Section) × (d : Dag) × Keeps sections (kept_in g.K.Keep.keeper c.args.keep.now c.link_all.new.keep)
-    × IsMadeFile s.width chunks d c.in-Ok.made × (kept ++ sections ≡ bottom_up d)) c.self.view_is
-    (λ chunks kept h. c.in-Ok.ensures.made chunks kept h.forest)
+    × IsMadeFile s.width chunks d c.in-Ok.made × (kept ++ sections ≡ bottom_up d) × AreBehindLinks [] (kept ++ sections)) c.self.view_is
+    (λ chunks kept h.
+    let made = c.in-Ok.ensures.made chunks kept h.forest in
+    (made.0, made.1, made.2, made.3, made.4, subst (AreBehindLinks []) (sym made.4) (c.kept_in_order.ensures.whole made.1 made.3.sound)))
 
 pub returns-in-Ok-clause-anew : goal.returns-in-Ok-clause-anew
 returns-in-Ok-clause-anew g c =

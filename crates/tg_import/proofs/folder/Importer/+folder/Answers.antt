@@ -1,31 +1,43 @@
-use Rattle.std.proofs.Common.{◌≡◌, ◌≢◌, ℕ, ◌-◌, ◌<◌, ◌++◌, ◌∷◌, [], List, length, refl, ap, sym, ◌∙◌, subst, arith}
+use Rattle.std.proofs.Common.{◌≡◌, ◌≢◌, ℕ, ◌-◌, ◌<◌, ◌≤◌, ◌++◌, ◌∷◌, [], List, length, refl, ap, sym, ◌∙◌, subst, arith}
 use Rattle.std.proofs.lemmas.Result.{IfErr-weaker, IfOk-weaker, err_from_is_err_and}
 use Rattle.tg_cid.specs.Spelling.{IsDigestSize}
 use Rattle.tg_dir.specs.Made.{MakesDirectory}
-use Rattle.tg_import.proofs.Causes.{IsDone, cause_behind, done_as, done_of, entries_cause, file_sort, folder_imports, folder_sort, item_refused, led_at, list_cause, memory_behind, memory_cause, ok_both, plain_sort, so_far_whole, taken_whole, turn_at, writer_now}
+use Rattle.tg_import.proofs.Causes.{IsDone, cause_behind, deep_cause, done_as, done_of, entries_cause, file_sort, folder_imports, folder_sort, item_refused, led_at, list_cause, memory_behind, memory_cause, ok_both, plain_sort, so_far_whole, taken_whole, turn_at, writer_now}
 use Rattle.tg_import.proofs.DirectoryRoots.{directory_codec}
 use Rattle.tg_import.proofs.SoFar.{new_entries, so_far_next, so_far_none}
 use Rattle.tg_import.proofs.folder.Importer.+folder.Goals.{in-File+in_ok-made-in-File, in-Folder+in_ok-made-in-Folder}
 use Rattle.tg_import.proofs.folder.Importer.+folder.Goals as goal
-use Rattle.tg_import.specs.Refused.{HasFolderFault, IsFileFault}
+use Rattle.tg_import.specs.Refused.{IsFileFault, RefusesFolder}
 use Rattle.tg_import.specs.Steps.{AreNewEntries, IsEntriesCause, own_count_for}
 use Rattle.tg_import.specs.declared.fault.ImportFault.TheVariants as faults
 use Rattle.tg_import.specs.declared.fault.ImportFault.{ImportFault}
 use Rattle.tg_import.specs.Counting.{plus}
 use Rattle.tg_import.specs.declared.summary.Summary.{Summary}
+use Rattle.std.proofs.lemmas.List.{append-nil}
+use Rattle.tg_model.specs.Dag.{Section}
 use Rattle.tg_model.specs.Stores.{kept_in}
+use Rattle.tg_node_writing.specs.BlockOrder.{AreBehindLinks}
+use Rattle.tg_node_writing.specs.Keeping.{Keeps}
 use Rattle.tg_model.specs.declared.kinds.NewEntry.{NewEntry}
 use Rattle.tg_tree.specs.declared.items.Sort.TheVariants as sorts
 
 below_next : (levels t : ℕ) → levels ≡ t → levels ≢ 0 → levels - 1 < t
 below_next levels t e some = omega arith
 
+quiet_twice : (a b c : ℕ) → b ≡ a → c ≡ b → a ≤ c
+quiet_twice a b c p q = omega (arith, p, q)
+
 pub returns-in_err-copy_of-clause-cause : goal.returns-in_err-copy_of-clause-cause
 returns-in_err-copy_of-clause-cause g t c =
     let p = err_from_is_err_and c.from_residual.result c.from_residual.ensures.1 in
     rw (p.1, p.2)
     (memory_cause g.K.Keep.keeper g.F.Folder.folder g.met.K.Keep.rests c.args.keep.now c.args.folder.now c.args.folder.now
-    (λ (fault : ImportFault). HasFolderFault c.args.levels c.args.self.now.options (g.F.Folder.folder.tree c.args.folder.now) c.args.path.now c.args.self.now.summary fault) refl)
+    (λ (kept : List Section) (fault : ImportFault). RefusesFolder c.args.levels c.args.self.now.options (g.F.Folder.folder.tree c.args.folder.now) c.args.path.now c.args.self.now.summary kept fault) refl)
+
+pub returns-then-levels-eq0-clause-cause : goal.returns-then-levels-eq0-clause-cause
+returns-then-levels-eq0-clause-cause g t c =
+    deep_cause g.K.Keep.keeper g.F.Folder.folder g.met.K.Keep.rests c.args.keep.now c.args.folder.now c.args.levels c.args.self.now.options c.args.path.now _ c.args.self.now.summary
+    c.if-levels-eq0.true c.in_ok-copy_of.ensures
 
 pub returns-in_err-items-clause-cause : goal.returns-in_err-items-clause-cause
 returns-in_err-items-clause-cause g t c =
@@ -59,11 +71,11 @@ returns-in_err-made-in-File-clause-cause g t c =
     let p = err_from_is_err_and c.from_residual-in_err-made-in-File.result c.from_residual-in_err-made-in-File.ensures.1 in
     rw (p.1, p.2)
     (cause_behind g.K.Keep.keeper g.F.Folder.folder g.met.K.Keep.joins c.kept_sections.ensures.joins c.args.keep.now c.loop-item.keep c.file.new.keep c.args.folder.now c.loop-item.folder c.file.new.folder
-    c.loop-item.invariant.2.sections c.loop-item.invariant.2.quiet c.loop-item.invariant.2.keeps (λ (fault : ImportFault). IsFileFault (g.F.Folder.folder.tree c.loop-item.folder) c.as_slice-in-File.result.now c.loop-item.self.summary fault) (λ (fault : ImportFault). HasFolderFault c.args.levels c.args.self.now.options (g.F.Folder.folder.tree c.args.folder.now) c.args.path.now c.args.self.now.summary fault) c.in_err-made-in-File.field-0.0
-    (λ h. item_refused g.K.Keep.keeper g.F.Folder.folder c.args.keep.now c.loop-item.keep c.args.folder.now c.loop-item.folder c.args.self.now.options c.args.path.now c.args.self.now.summary
+    c.loop-item.invariant.2.sections c.loop-item.invariant.2.quiet c.loop-item.invariant.2.keeps c.loop-item.invariant.2.order (λ (kept : List Section) (fault : ImportFault). IsFileFault (g.F.Folder.folder.tree c.loop-item.folder) c.as_slice-in-File.result.now c.loop-item.self.summary kept fault) (λ (kept : List Section) (fault : ImportFault). RefusesFolder c.args.levels c.args.self.now.options (g.F.Folder.folder.tree c.args.folder.now) c.args.path.now c.args.self.now.summary kept fault) c.in_err-made-in-File.field-0.0
+    (λ kept h. item_refused g.K.Keep.keeper g.F.Folder.folder c.args.keep.now c.loop-item.keep c.args.folder.now c.loop-item.folder c.args.self.now.options c.args.path.now c.args.self.now.summary
     c.loop-item.self.options c.loop-item.self.writer c.loop-item.self.summary c.loop-item.yielded c.in_ok-items.items c.in-Some.item c.loop-item.entries c.args.levels c.in_err-made-in-File.field-0.0
-    c.loop-item.invariant.2 c.if-levels-eq0.false c.in_ok-items.ensures.items c.in_ok-items.ensures.names turn.below turn.is turn.front
-    (file_sort (λ (path : List (List ℕ)) (counted : Summary) (fault : ImportFault). HasFolderFault (c.args.levels - 1) c.loop-item.self.options (g.F.Folder.folder.tree c.loop-item.folder) path counted fault) (g.F.Folder.folder.tree c.loop-item.folder) (c.args.path.now ++ c.in-Some.item.name ∷ []) c.as_slice-in-File.result.now c.loop-item.self.summary c.in-Some.item.sort
+    c.loop-item.invariant.2 c.if-levels-eq0.false c.in_ok-items.ensures.items c.in_ok-items.ensures.names turn.below turn.is turn.front kept
+    (file_sort (λ (path : List (List ℕ)) (counted : Summary) (kept : List Section) (fault : ImportFault). RefusesFolder (c.args.levels - 1) c.loop-item.self.options (g.F.Folder.folder.tree c.loop-item.folder) path counted kept fault) (g.F.Folder.folder.tree c.loop-item.folder) (c.args.path.now ++ c.in-Some.item.name ∷ []) c.as_slice-in-File.result.now c.loop-item.self.summary c.in-Some.item.sort kept
     c.in_err-made-in-File.field-0.0 here c.in-File.is h))
     c.in_err-made-in-File.ensures.cause)
 
@@ -97,11 +109,11 @@ returns-in_err-made-in-Folder-clause-cause g t c =
     let p = err_from_is_err_and c.from_residual-in_err-made-in-Folder.result c.from_residual-in_err-made-in-Folder.ensures.1 in
     rw (p.1, p.2)
     (cause_behind g.K.Keep.keeper g.F.Folder.folder g.met.K.Keep.joins c.kept_sections.ensures.joins c.args.keep.now c.loop-item.keep c.folder.new.keep c.args.folder.now c.loop-item.folder c.folder.new.folder
-    c.loop-item.invariant.2.sections c.loop-item.invariant.2.quiet c.loop-item.invariant.2.keeps (λ (fault : ImportFault). HasFolderFault (c.args.levels - 1) c.loop-item.self.options (g.F.Folder.folder.tree c.loop-item.folder) c.as_slice-in-Folder.result.now c.loop-item.self.summary fault) (λ (fault : ImportFault). HasFolderFault c.args.levels c.args.self.now.options (g.F.Folder.folder.tree c.args.folder.now) c.args.path.now c.args.self.now.summary fault) c.in_err-made-in-Folder.field-0.0
-    (λ h. item_refused g.K.Keep.keeper g.F.Folder.folder c.args.keep.now c.loop-item.keep c.args.folder.now c.loop-item.folder c.args.self.now.options c.args.path.now c.args.self.now.summary
+    c.loop-item.invariant.2.sections c.loop-item.invariant.2.quiet c.loop-item.invariant.2.keeps c.loop-item.invariant.2.order (λ (kept : List Section) (fault : ImportFault). RefusesFolder (c.args.levels - 1) c.loop-item.self.options (g.F.Folder.folder.tree c.loop-item.folder) c.as_slice-in-Folder.result.now c.loop-item.self.summary kept fault) (λ (kept : List Section) (fault : ImportFault). RefusesFolder c.args.levels c.args.self.now.options (g.F.Folder.folder.tree c.args.folder.now) c.args.path.now c.args.self.now.summary kept fault) c.in_err-made-in-Folder.field-0.0
+    (λ kept h. item_refused g.K.Keep.keeper g.F.Folder.folder c.args.keep.now c.loop-item.keep c.args.folder.now c.loop-item.folder c.args.self.now.options c.args.path.now c.args.self.now.summary
     c.loop-item.self.options c.loop-item.self.writer c.loop-item.self.summary c.loop-item.yielded c.in_ok-items.items c.in-Some.item c.loop-item.entries c.args.levels c.in_err-made-in-Folder.field-0.0
-    c.loop-item.invariant.2 c.if-levels-eq0.false c.in_ok-items.ensures.items c.in_ok-items.ensures.names turn.below turn.is turn.front
-    (folder_sort (λ (path : List (List ℕ)) (counted : Summary) (fault : ImportFault). HasFolderFault (c.args.levels - 1) c.loop-item.self.options (g.F.Folder.folder.tree c.loop-item.folder) path counted fault) (g.F.Folder.folder.tree c.loop-item.folder) (c.args.path.now ++ c.in-Some.item.name ∷ []) c.as_slice-in-Folder.result.now c.loop-item.self.summary c.in-Some.item.sort
+    c.loop-item.invariant.2 c.if-levels-eq0.false c.in_ok-items.ensures.items c.in_ok-items.ensures.names turn.below turn.is turn.front kept
+    (folder_sort (λ (path : List (List ℕ)) (counted : Summary) (kept : List Section) (fault : ImportFault). RefusesFolder (c.args.levels - 1) c.loop-item.self.options (g.F.Folder.folder.tree c.loop-item.folder) path counted kept fault) (g.F.Folder.folder.tree c.loop-item.folder) (c.args.path.now ++ c.in-Some.item.name ∷ []) c.as_slice-in-Folder.result.now c.loop-item.self.summary c.in-Some.item.sort kept
     c.in_err-made-in-Folder.field-0.0 here c.in-Folder.is h))
     c.in_err-made-in-Folder.ensures.cause)
 
@@ -109,13 +121,18 @@ pub returns-in-Symlink-clause-cause : goal.returns-in-Symlink-clause-cause
 returns-in-Symlink-clause-cause g t c =
     let turn = turn_at c.into_iter-item-iterator.result c.in_ok-items.items _ _ c.into_iter-item-iterator.ensures.into_iter_gives.0 c.into_iter-item-iterator.ensures.into_iter_gives.1 c.into_vec-item-items.result.ok.0 c.into_vec-item-items.ensures
     c.loop-item.yielded c.loop-item.item-iterator c.loop-item.yielded_by c.next.result c.next.new.self c.in-Some.item c.in-Some.is c.next.ensures.steps in
-    let here = c.in_ok-at.ensures ∙ ap (λ (n : List ℕ). c.args.path.now ++ n ∷ []) c.as_slice.ensures in (
-      c.loop-item.invariant.2.quiet,
-      (c.loop-item.invariant.2.sections, c.loop-item.invariant.2.keeps),
-      item_refused g.K.Keep.keeper g.F.Folder.folder c.args.keep.now c.loop-item.keep c.args.folder.now c.loop-item.folder c.args.self.now.options c.args.path.now c.args.self.now.summary
-          c.loop-item.self.options c.loop-item.self.writer c.loop-item.self.summary c.loop-item.yielded c.in_ok-items.items c.in-Some.item c.loop-item.entries c.args.levels (faults.NotPlain c.in_ok-at.at)
-          c.loop-item.invariant.2 c.if-levels-eq0.false c.in_ok-items.ensures.items c.in_ok-items.ensures.names turn.below turn.is turn.front
-          (plain_sort (λ (path : List (List ℕ)) (counted : Summary) (fault : ImportFault). HasFolderFault (c.args.levels - 1) c.loop-item.self.options (g.F.Folder.folder.tree c.loop-item.folder) path counted fault) (g.F.Folder.folder.tree c.loop-item.folder) (c.args.path.now ++ c.in-Some.item.name ∷ []) c.in_ok-at.at c.loop-item.self.summary c.in-Some.item.sort here c.in-Symlink.is),
+    let here = c.in_ok-at.ensures ∙ ap (λ (n : List ℕ). c.args.path.now ++ n ∷ []) c.as_slice.ensures in
+    let so_far = c.loop-item.invariant.2 in (
+      so_far.quiet,
+      (
+        so_far.sections ++ [],
+        subst (λ (l : List Section). Keeps l (kept_in g.K.Keep.keeper c.args.keep.now c.loop-item.keep)) (sym (append-nil so_far.sections)) so_far.keeps,
+        subst (AreBehindLinks []) (sym (append-nil so_far.sections)) so_far.order,
+        item_refused g.K.Keep.keeper g.F.Folder.folder c.args.keep.now c.loop-item.keep c.args.folder.now c.loop-item.folder c.args.self.now.options c.args.path.now c.args.self.now.summary
+            c.loop-item.self.options c.loop-item.self.writer c.loop-item.self.summary c.loop-item.yielded c.in_ok-items.items c.in-Some.item c.loop-item.entries c.args.levels (faults.NotPlain c.in_ok-at.at)
+            c.loop-item.invariant.2 c.if-levels-eq0.false c.in_ok-items.ensures.items c.in_ok-items.ensures.names turn.below turn.is turn.front []
+            (plain_sort (λ (path : List (List ℕ)) (counted : Summary) (kept : List Section) (fault : ImportFault). RefusesFolder (c.args.levels - 1) c.loop-item.self.options (g.F.Folder.folder.tree c.loop-item.folder) path counted kept fault) (g.F.Folder.folder.tree c.loop-item.folder) (c.args.path.now ++ c.in-Some.item.name ∷ []) c.in_ok-at.at c.loop-item.self.summary c.in-Some.item.sort here c.in-Symlink.is),
+      ),
     )
 
 pub returns-in_err-push-clause-cause : goal.returns-in_err-push-clause-cause
@@ -140,7 +157,30 @@ returns-in_err-push-clause-cause g t c =
     rw (p.1, p.2)
     (memory_behind g.K.Keep.keeper g.F.Folder.folder g.met.K.Keep.joins g.met.K.Keep.rests c.kept_sections.ensures.joins c.args.keep.now c.loop-item.keep c.match-item.keep c.args.folder.now c.loop-item.folder c.match-item.folder
     c.args.self.now.options c.args.path.now (c.args.path.now ++ c.in-Some.item.name ∷ []) c.args.self.now.summary c.loop-item.self.options c.match-item.self.options c.loop-item.self.writer c.match-item.self.writer c.loop-item.self.summary c.match-item.self.summary
-    c.loop-item.yielded c.loop-item.entries c.match-item.made (λ (fault : ImportFault). HasFolderFault c.args.levels c.args.self.now.options (g.F.Folder.folder.tree c.args.folder.now) c.args.path.now c.args.self.now.summary fault) c.loop-item.invariant.2 done)
+    c.loop-item.yielded c.loop-item.entries c.match-item.made (λ (kept : List Section) (fault : ImportFault). RefusesFolder c.args.levels c.args.self.now.options (g.F.Folder.folder.tree c.args.folder.now) c.args.path.now c.args.self.now.summary kept fault) c.loop-item.invariant.2 done)
+
+pub returns-in_err-push-clause-err_counted : goal.returns-in_err-push-clause-err_counted
+returns-in_err-push-clause-err_counted g t c =
+    let done : IsDone g.K.Keep.keeper g.F.Folder.folder c.loop-item.keep c.match-item.keep c.loop-item.folder c.match-item.folder c.loop-item.self.options c.match-item.self.options c.match-item.self.writer
+    (c.args.path.now ++ c.in-Some.item.name ∷ []) c.loop-item.self.summary c.match-item.self.summary c.match-item.made =
+    elim c.match-item.branch [
+      | in-File+in_ok-made-in-File w ↦ done_as g.K.Keep.keeper g.F.Folder.folder c.loop-item.keep w.file.new.keep c.match-item.keep c.loop-item.folder w.file.new.folder c.match-item.folder c.loop-item.self.options (c.args.path.now ++ c.in-Some.item.name ∷ []) c.loop-item.self.summary
+          w.file.new.self c.match-item.self _ c.match-item.made w.keep-is w.folder-is w.self-is w.made-is
+          (done_of g.K.Keep.keeper g.F.Folder.folder c.loop-item.keep w.file.new.keep c.loop-item.folder w.file.new.folder c.loop-item.self.options w.file.new.self.options w.file.new.self.writer w.as_slice-in-File.result.now
+          (c.args.path.now ++ c.in-Some.item.name ∷ []) c.loop-item.self.summary w.file.new.self.summary _
+          (w.as_slice-in-File.ensures ∙ c.in_ok-at.ensures ∙ ap (λ (n : List ℕ). c.args.path.now ++ n ∷ []) c.as_slice.ensures)
+          w.in_ok-made-in-File.ensures.same w.in_ok-made-in-File.ensures.quiet w.in_ok-made-in-File.ensures.options w.in_ok-made-in-File.ensures.writer w.in_ok-made-in-File.ensures.imported)
+      | in-Folder+in_ok-made-in-Folder w ↦ done_as g.K.Keep.keeper g.F.Folder.folder c.loop-item.keep w.folder.new.keep c.match-item.keep c.loop-item.folder w.folder.new.folder c.match-item.folder c.loop-item.self.options (c.args.path.now ++ c.in-Some.item.name ∷ []) c.loop-item.self.summary
+          w.folder.new.self c.match-item.self _ c.match-item.made w.keep-is w.folder-is w.self-is w.made-is
+          (done_of g.K.Keep.keeper g.F.Folder.folder c.loop-item.keep w.folder.new.keep c.loop-item.folder w.folder.new.folder c.loop-item.self.options w.folder.new.self.options w.folder.new.self.writer w.as_slice-in-Folder.result.now
+          (c.args.path.now ++ c.in-Some.item.name ∷ []) c.loop-item.self.summary w.folder.new.self.summary _
+          (w.as_slice-in-Folder.ensures ∙ c.in_ok-at.ensures ∙ ap (λ (n : List ℕ). c.args.path.now ++ n ∷ []) c.as_slice.ensures)
+          w.in_ok-made-in-Folder.ensures.same w.in_ok-made-in-Folder.ensures.quiet w.in_ok-made-in-Folder.ensures.options w.in_ok-made-in-Folder.ensures.writer w.in_ok-made-in-Folder.ensures.imported)
+    ] in
+    let p = err_from_is_err_and c.from_residual-in_err-push.result c.from_residual-in_err-push.ensures.1 in
+    rw (p.1)
+    (quiet_twice (g.K.Keep.keeper.faults c.args.keep.now) (g.K.Keep.keeper.faults c.loop-item.keep) (g.K.Keep.keeper.faults c.match-item.keep)
+    c.loop-item.invariant.2.keeps.quiet done.imports.kept.keeps.quiet)
 
 pub loop-item-preserved : goal.loop-item-preserved
 loop-item-preserved g t c =

@@ -1,4 +1,4 @@
-use Rattle.std.proofs.Common.{subst, refl, ap, ◌∙◌}
+use Rattle.std.proofs.Common.{inr, subst, refl, ap, ◌∙◌}
 use Rattle.tg_import.proofs.FileCounts.{file_imports, passes_total}
 use Rattle.tg_import.specs.Counting.{plus}
 use Rattle.tg_import.specs.Refused.{PassesTotal}
@@ -17,9 +17,14 @@ returns-in_default-clause-cause g c =
     let kept = c.in-Ok.ensures.made in
     let passes = subst (λ (more : Summary). PassesTotal (plus c.args.self.now.summary more)) c.of_file.ensures c.in_default.ensures.sum in (
       c.in-Ok.ensures.quiet,
-      (kept.sections, kept.keeps),
       (
-        c.in_ok-copy_of.ensures,
-        passes_total (bytes_of (tree_at (g.F.Folder.folder.tree c.args.folder.now) c.args.path.now)) c.args.self.now.summary c.args.self.now.writer.chunker.size c.args.self.now.writer.balanced.width c.in-Ok.made _ kept passes,
+        kept.sections,
+        kept.keeps,
+        kept.order,
+        (
+          c.in_ok-copy_of.ensures,
+          passes_total (bytes_of (tree_at (g.F.Folder.folder.tree c.args.folder.now) c.args.path.now)) c.args.self.now.summary c.args.self.now.writer.chunker.size c.args.self.now.writer.balanced.width c.in-Ok.made _ kept passes,
+          inr (kept.d, kept.file.sound, kept.all),
+        ),
       ),
     )

@@ -11,9 +11,9 @@ returns-in_err-close_file-clause-cause g c =
     let p = err_from_is_err_and c.from_residual-in_err-close_file.result c.from_residual-in_err-close_file.ensures.1 in
     let before = c.in_ok-take_file.ensures.taken in
     rw (p.1, p.2)
-    (keep_cause_on g.K.Keep.keeper g.met.K.Keep.joins c.kept_sections.ensures.joins c.args.keep.now c.take_file.new.keep c.close_file.new.keep before.sections
-    (bytes_of (tree_at (g.F.Folder.folder.tree c.args.folder.now) c.args.path.now)) c.in_err-close_file.field-0.0
-    (folder_step g.F.Folder.folder c.args.folder.now c.take_file.new.folder) c.in_ok-take_file.ensures.quiet before.keeps c.in_err-close_file.ensures.stops)
+    (keep_cause_on g.K.Keep.keeper g.met.K.Keep.joins c.kept_sections.ensures.joins c.args.keep.now c.take_file.new.keep c.close_file.new.keep before.bytes before.sections
+    c.take_file.new.chunker c.take_file.new.balanced (bytes_of (tree_at (g.F.Folder.folder.tree c.args.folder.now) c.args.path.now)) c.in_err-close_file.field-0.0
+    (folder_step g.F.Folder.folder c.args.folder.now c.take_file.new.folder) c.in_ok-take_file.ensures.quiet before.keeps before.taken c.in_err-close_file.ensures.stops)
 
 pub returns-clause-made : goal.returns-clause-made
 returns-clause-made g c =

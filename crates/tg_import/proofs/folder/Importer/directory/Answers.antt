@@ -1,0 +1,24 @@
+use Rattle.std.proofs.Common.{[], List}
+use Rattle.std.proofs.lemmas.Result.{err_from_is_err_and}
+use Rattle.tg_dir.specs.Made.{StopsDirectory}
+use Rattle.tg_import.proofs.folder.Importer.directory.Goals as goal
+use Rattle.tg_model.specs.Stores.{KeepMeaning, kept_in}
+use Rattle.tg_model.specs.declared.kinds.NewEntry.{NewEntry}
+use Rattle.tg_model.specs.declared.stores.KeepFault.TheVariants as keep_faults
+use Rattle.tg_node_writing.specs.BlockOrder.{entry_cids}
+use Rattle.tg_node_writing.specs.BlockOrderLaws.{behind_nothing}
+use Rattle.tg_node_writing.specs.KeepingSteps.{same_stops}
+
+-- nothing was kept, and memory is wanted
+stops_nothing : {S : Type 0} → (m : KeepMeaning S) → ((s : S) → m.kept s s []) → (k : S) (entries : List NewEntry) → StopsDirectory entries keep_faults.OutOfMemory (kept_in m k k)
+stops_nothing m rests k entries = ([], same_stops m rests k, behind_nothing (entry_cids entries))
+
+pub returns-in_err-copy_of-clause-cause : goal.returns-in_err-copy_of-clause-cause
+returns-in_err-copy_of-clause-cause g c =
+    let p = err_from_is_err_and c.from_residual.result c.from_residual.ensures.1 in
+    rw (p.1, p.2) (stops_nothing g.K.Keep.keeper g.met.K.Keep.rests c.args.keep.now c.args.entries.now)
+
+pub returns-in_err-copy_of-2-clause-cause : goal.returns-in_err-copy_of-2-clause-cause
+returns-in_err-copy_of-2-clause-cause g c =
+    let p = err_from_is_err_and c.from_residual-in_err-copy_of-2.result c.from_residual-in_err-copy_of-2.ensures.1 in
+    rw (p.1, p.2) (stops_nothing g.K.Keep.keeper g.met.K.Keep.rests c.args.keep.now c.args.entries.now)
