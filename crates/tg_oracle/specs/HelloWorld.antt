@@ -1,5 +1,6 @@
--- The worked example: the file `hello world` in parts of 4 bytes, as the entry `h` of a directory. D is the directory, F the
--- file's root, and L1, L2 and L3 are its leaves. Blocks and CIDs are those that any UnixFS writer gives for this layout.
+-- The worked example: the file `hello world` in parts of 4 bytes, as the entry `h` of a directory. D is the directory,
+-- F the file's root, and L1, L2 and L3 are its leaves. Blocks and CIDs are those that any UnixFS writer gives for this
+-- layout.
 use Rattle.std.specs.Prelude.{ℕ, List, [], ◌∷◌, Option, Some, None, true, codes, bytes_eq, if◌then◌else◌, ◌≡◌}
 use Rattle.tg_cid.specs.Cid.{CidParts}
 use Rattle.tg_cid.specs.Names.{Names}

@@ -1,5 +1,5 @@
--- Small DAGs: parts of no length and equal ones, a symbolic link, shards. Their definitions look at kinds and children alone, so the
--- blocks of nodes are left empty, and a CID's digest is one number.
+-- Small DAGs: parts of no length and equal ones, a symbolic link, shards. Their definitions look at kinds and children
+-- alone, so the blocks of nodes are left empty, and a CID's digest is one number.
 use Rattle.std.specs.Prelude.{ℕ, List, [], ◌∷◌, Option, Some, None, true, codes}
 use Rattle.tg_cid.specs.declared.cid.Codec.TheVariants as codecs
 use Rattle.tg_model.specs.Dag.{Dag, Section, with_child, no_child, node, unopened}

@@ -46,7 +46,8 @@ pub enum End {
         cid: Cid,
         depth: u32,
     },
-    /// The block under the CID has no kind, or can't stand where it stands, at so many blocks from the root, both counted.
+    /// The block under the CID has no kind, or can't stand where it stands, at so many blocks from the root, both
+    /// counted.
     BadBlock {
         cid: Cid,
         depth: u32,
@@ -76,7 +77,8 @@ pub enum EvaluationFault {
 /// Evaluates a query over stored blocks. A block that stands at several places is sent at each of them.
 ///
 /// Path Gateway specification, Path Resolution; Trustless Gateway specification, dag-scope and entity-bytes; UnixFS
-/// specification. The texts of listings and bundles are this project's own. That the CIDs name the blocks isn't looked at.
+/// specification. The texts of listings and bundles are this project's own. That the CIDs name the blocks isn't looked
+/// at.
 pub fn evaluate(
     alloc: Global,
     stored: &[StoredBlock],
@@ -165,8 +167,8 @@ impl<'a> Run<'a> {
         }
     }
 
-    /// The CID to which the segments of a path from number `at` on lead from a block behind these slots, and how many blocks
-    /// may still be opened from it on. The blocks before it are sent.
+    /// The CID to which the segments of a path from number `at` on lead from a block behind these slots, and how many
+    /// blocks may still be opened from it on. The blocks before it are sent.
     fn terminal(
         &mut self,
         depth: u32,
@@ -217,8 +219,8 @@ impl<'a> Run<'a> {
         }
     }
 
-    /// The content of a file, of which `from` bytes of the terminal's content stand before it: all of it, or the bytes of it
-    /// in a range of the terminal's content.
+    /// The content of a file, of which `from` bytes of the terminal's content stand before it: all of it, or the bytes
+    /// of it in a range of the terminal's content.
     fn content(
         &mut self,
         depth: u32,
@@ -281,8 +283,8 @@ impl<'a> Run<'a> {
         Ok(())
     }
 
-    /// The records of what stands at a path of a bundle. `above` are the slots that were passed, and a child shard has no record
-    /// of its own.
+    /// The records of what stands at a path of a bundle. `above` are the slots that were passed, and a child shard has
+    /// no record of its own.
     fn bundle(
         &mut self,
         depth: u32,
@@ -332,7 +334,8 @@ impl<'a> Run<'a> {
         }
     }
 
-    /// The index of the stored block that the CID leads to, and the block. A CIDv0 leads to what its version 1 form does.
+    /// The index of the stored block that the CID leads to, and the block. A CIDv0 leads to what its version 1 form
+    /// does.
     fn found(&self, cid: Cid, depth: u32) -> Result<(usize, &'a [u8]), Stop> {
         for (index, stored) in self.stored.iter().enumerate() {
             if stored.cid.to_v1() == cid.to_v1() {
@@ -515,8 +518,8 @@ fn stands(kind: &Kind, position: Position<'_>) -> Result<(), BlockFault> {
     }
 }
 
-/// How many bytes of content a block declares: a raw block's length, a file's inline length and sizes together, or a target's
-/// length.
+/// How many bytes of content a block declares: a raw block's length, a file's inline length and sizes together, or a
+/// target's length.
 fn total(opened: &Opened<'_>) -> u64 {
     match &opened.kind {
         Kind::Raw => opened.block.len() as u64,

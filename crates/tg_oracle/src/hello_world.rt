@@ -6,7 +6,7 @@ ghost use Rattle.tg_model.specs.Answer.{answer};
 ghost use Rattle.tg_model.specs.Computed.{read};
 ghost use Rattle.tg_model.specs.Content.{content};
 ghost use Rattle.tg_model.specs.Counts.{counts};
-ghost use Rattle.tg_model.specs.Dag.{Section, blocks};
+ghost use Rattle.tg_model.specs.Dag.{Dag, Section, blocks, root_cid};
 ghost use Rattle.tg_model.specs.Fits.{Fits, IsInProgress, output_so_far};
 ghost use Rattle.tg_model.specs.ImportLayout.{IsImportLayout};
 ghost use Rattle.tg_oracle.specs.HelloWorld.{IsHelloFolder, IsNamed, all_sections, at_h, d, d_block, d_cid, d_kind, directory_of, f, f_block, f_cid, f_kind, file_of, first_dag, five_to_six, holding, l1, l1_cid, l2, l2_cid, l2_spot, l3, l3_cid, last_three, leaf, leafless_dag, middle_dag, options_of_four, past_the_end, query_for, whole_dag};
@@ -24,7 +24,8 @@ pub fn example_blocks()
     ensures directory { read d_cid d_block ≡ Ok d_kind }
 {}
 
-/// The whole DAG is sound, since each of its blocks is named by its CID; what it says, and what is sent of it for a query.
+/// The whole DAG is sound, since each of its blocks is named by its CID; what it says, and what is sent of it for a
+/// query.
 pub fn example_whole()
     ensures sound { All IsNamed all_sections → IsSound whole_dag }
     ensures content { content (file_of (leaf l1) (leaf l2) (leaf l3)) ≡ codes "hello world" }
@@ -50,10 +51,11 @@ pub fn example_whole()
     tg_model::laws::readings();
 }
 
-/// With one leaf opened of the three, the range that meets it comes through and fits; with none, that leaf is wanted; and
-/// without a range what is written ends before the first leaf that isn't there.
+/// With one leaf opened of the three, the range that meets it comes through and fits; with none, that leaf is wanted;
+/// and without a range what is written ends before the first leaf that isn't there.
 pub fn example_partial()
-    ensures through { traversal (query_for at_h scopes.Entity (Some five_to_six)) middle_dag ≡ traversal (query_for at_h scopes.Entity (Some five_to_six)) whole_dag }
+    ensures through { traversal (query_for at_h scopes.Entity (Some five_to_six)) middle_dag ≡ traversal
+        (query_for at_h scopes.Entity (Some five_to_six)) whole_dag }
     ensures fits { All IsNamed all_sections
         → Fits middle_dag (query_for at_h scopes.Entity (Some five_to_six)) (d ∷ f ∷ l2 ∷ []) (codes " w") }
     ensures in_progress { All IsNamed all_sections
@@ -70,11 +72,16 @@ pub fn example_partial()
     tg_model::laws::readings();
 }
 
-/// The whole DAG shows a folder with the one file `h`, and is the layout that an import with chunks of 4 bytes gives it.
+/// The whole DAG shows a folder with the one file `h`, and is the layout that an import with chunks of 4 bytes gives
+/// it. Any sound DAG that is laid out so for this folder has its root.
 pub fn example_import()
     ensures shows { (tree file : Tree) → IsHelloFolder tree file → Shows whole_dag tree }
     ensures layout { (tree file : Tree) → IsHelloFolder tree file → IsImportLayout whole_dag tree options_of_four }
+    ensures only { All IsNamed all_sections → (tree file : Tree) (e : Dag) → IsHelloFolder tree file → IsSound e
+        → IsImportLayout e tree options_of_four → root_cid e ≡ d_cid }
 {
+    example_whole();
+    tg_layout_laws::one_root();
     tg_pbtable::laws::computes();
     tg_dagpb::laws::computes();
     tg_unixfs::laws::computes();

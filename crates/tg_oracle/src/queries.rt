@@ -43,7 +43,8 @@ pub fn scoped_query(
 
 /// The query with repeats for a CAR of a range of the file at a path.
 ///
-/// Errors: `BadPath`; `BadRange` where a number of the range is 2^63 or more or an offset is above the last byte; `OutOfMemory`.
+/// Errors: `BadPath`; `BadRange` where a number of the range is 2^63 or more or an offset is above the last byte;
+/// `OutOfMemory`.
 pub fn ranged_query(
     alloc: Global,
     root: Cid,

@@ -1,8 +1,8 @@
 //! Byte ranges of a file.
 use tg_model::{Span, SpanFrom};
 
-/// The first byte of a range in a file of `total` bytes, and the byte behind its last one. The range is empty where the first
-/// isn't before the other.
+/// The first byte of a range in a file of `total` bytes, and the byte behind its last one. The range is empty where the
+/// first isn't before the other.
 ///
 /// Trustless Gateway specification, entity-bytes.
 pub fn bounds(span: &Span, total: u64) -> (u64, u64) {

@@ -14,8 +14,8 @@ ghost use Rattle.tg_model.specs.declared.fault.BlockFault.TheVariants as faults;
 ghost use Rattle.tg_model.specs.declared.kinds.Kind.TheVariants.{Shard};
 ghost use Rattle.tg_model.specs.declared.queries.Scope.TheVariants as scopes;
 
-/// A part of no length inside a range isn't opened, and without a range it is; equal parts are sent at each place; an empty range
-/// opens no part.
+/// A part of no length inside a range isn't opened, and without a range it is; equal parts are sent at each place; an
+/// empty range opens no part.
 pub fn small_files()
     ensures content { content twin_file ≡ codes "hellhell" }
     ensures entity { block_list (asking [] scopes.Entity None) twin_file ≡ twins ∷ hell ∷ nothing ∷ hell ∷ [] }
@@ -32,12 +32,14 @@ pub fn small_directories()
     ensures target_sent { block_list (asking [] scopes.Entity (Some two_to_five)) link_dag ≡ link ∷ [] }
     ensures not_followed { lookup_path (codes "l" ∷ codes "x" ∷ []) folder_dag ≡ not_folder 1 }
     ensures entity { block_list (asking [] scopes.Entity None) folder_dag ≡ folder ∷ [] }
-    ensures in_range { traversal (asking [] scopes.Entity (Some two_to_five)) folder_dag ≡ traversal (asking [] scopes.Entity None) folder_dag }
-    ensures all { block_list (asking [] scopes.All None) folder_dag ≡ folder ∷ link ∷ twins ∷ hell ∷ nothing ∷ hell ∷ [] }
+    ensures in_range { traversal (asking [] scopes.Entity (Some two_to_five)) folder_dag ≡ traversal
+        (asking [] scopes.Entity None) folder_dag }
+    ensures all { block_list (asking [] scopes.All None) folder_dag ≡ folder ∷ link ∷ twins ∷ hell ∷ nothing ∷ hell
+        ∷ [] }
 {}
 
-/// Entries of shards stand behind the slots of their names; a name whose slot is unused or another's leads nowhere, and one whose
-/// slot has a child shard goes on there.
+/// Entries of shards stand behind the slots of their names; a name whose slot is unused or another's leads nowhere, and
+/// one whose slot has a child shard goes on there.
 pub fn small_shards()
     ensures one_stands { shard_fault [] one_shard_slots ≡ None }
     ensures one_elsewhere { shard_fault [] inner_slots ≡ Some (faults.Misplaced 0) }
@@ -46,14 +48,38 @@ pub fn small_shards()
     ensures part_elsewhere { position_fault (part 4) (Shard inner_slots) ≡ Some (faults.Misplaced 0) }
     ensures part_stands { position_fault (part 4) (Shard one_shard_slots) ≡ Some faults.NotPart }
     ensures too_deep { shard_fault (replicate 8 0) one_shard_slots ≡ Some faults.BelowEight }
-    ensures hello { path_walk (codes "hello" ∷ []) one_shard_dag ≡ record { sections = one_shard ∷ []; end = terminal (raw_leaf hell) } }
-    ensures absent { path_walk (codes "hellp" ∷ []) one_shard_dag ≡ record { sections = one_shard ∷ []; end = not_reached (walk.not_there 0) } }
+    ensures hello { path_walk (codes "hello" ∷ []) one_shard_dag ≡ record {
+      sections = one_shard
+          ∷ [];
+      end = terminal (raw_leaf hell);
+    } }
+    ensures absent { path_walk (codes "hellp" ∷ []) one_shard_dag ≡ record {
+      sections = one_shard
+          ∷ [];
+      end = not_reached (walk.not_there 0);
+    } }
     ensures behind { path_walk (codes "hello" ∷ codes "x" ∷ []) one_shard_dag
         ≡ record { sections = one_shard ∷ hell ∷ []; end = not_reached (walk.not_folder 1) } }
-    ensures inside { path_walk (codes "q" ∷ []) parent_dag ≡ record { sections = parent ∷ inner ∷ []; end = terminal (raw_leaf hell) } }
-    ensures same_slot { path_walk (codes "cm" ∷ []) parent_dag ≡ record { sections = parent ∷ inner ∷ []; end = not_reached (walk.not_there 0) } }
-    ensures unused { path_walk (codes "zz" ∷ []) parent_dag ≡ record { sections = parent ∷ []; end = not_reached (walk.not_there 0) } }
-    ensures gone { path_walk (codes "q" ∷ []) (over_inner (unopened inner.cid)) ≡ record { sections = parent ∷ []; end = not_reached (walk.gone (record { cid = inner.cid; depth = 2; position = child (0xBC ∷ []) })) } }
+    ensures inside { path_walk (codes "q" ∷ []) parent_dag ≡ record {
+      sections = parent ∷ inner
+          ∷ [];
+      end = terminal (raw_leaf hell);
+    } }
+    ensures same_slot { path_walk (codes "cm" ∷ []) parent_dag ≡ record {
+      sections = parent ∷ inner
+          ∷ [];
+      end = not_reached (walk.not_there 0);
+    } }
+    ensures unused { path_walk (codes "zz" ∷ []) parent_dag ≡ record {
+      sections = parent
+          ∷ [];
+      end = not_reached (walk.not_there 0);
+    } }
+    ensures gone { path_walk (codes "q" ∷ []) (over_inner (unopened inner.cid)) ≡ record {
+      sections = parent
+          ∷ [];
+      end = not_reached (walk.gone (record { cid = inner.cid; depth = 2; position = child (0xBC ∷ []) }));
+    } }
     ensures entity { block_list (asking [] scopes.Entity None) parent_dag ≡ parent ∷ inner ∷ [] }
     ensures entries { map (λ entry. entry.name) (entries parent_dag) ≡ codes "m" ∷ codes "q" ∷ codes "g" ∷ [] }
 {}

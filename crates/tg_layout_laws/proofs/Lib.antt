@@ -1,0 +1,12 @@
+mod Chunks
+mod NamesRise
+mod Nodes
+mod OneFile
+mod PayloadBytes
+mod Rows
+mod SameDirs
+mod SameFiles
+mod Sets
+mod ShardBits
+mod ShardNames
+mod Weights
