@@ -7,6 +7,7 @@ use Rattle.tg_cid.specs.Names.{Names, IsDigestOf}
 use Rattle.tg_cid.specs.declared.cid.HashKind.{HashKind}
 use Rattle.tg_cid.specs.declared.cid.HashKind.TheVariants.{Sha256, Identity}
 use Rattle.tg_words.specs.CommandLine.{CommandLine}
+use Rattle.tg_words.specs.ImportLines.{ImportParts}
 use Rattle.tg_words.specs.declared.Command.{Command}
 use Rattle.tg_words.specs.declared.Command.TheVariants.{Check, Node, CidToHex, CidToText, Export, Import, Verify}
 use Rattle.tg_export.specs.Cars.{CarEnds}
@@ -44,11 +45,11 @@ use Rattle.tg_traversal_laws.specs.Verified.{VerifiedStarts}
 
 -- ---- the command that the words spell
 
-unbegun : (step : PackStep) (same : Type 0) (out : Output) (q : QueryParts) → same → OutputUntouched out → ExportAnswers q step same out (Some OutOfMemory)
-unbegun step same out q it unput = inr (inr (record { same = it; unput = unput; is = refl }))
+unbegun : (step : PackStep) (same : Type 0) (out : Output) (path : List ℕ) (q : QueryParts) → same → OutputUntouched out → ExportAnswers path q step same out (Some OutOfMemory)
+unbegun step same out path q it unput = inr (inr (record { same = it; unput = unput; is = refl }))
 
-not_imported : (options : Options) (files : Files) (out : Output) → SameFiles files → OutputUntouched out → ImportAnswers options files out (Some OutOfMemory)
-not_imported options files out same unput =
+not_imported : (parts : ImportParts) (files : Files) (out : Output) → SameFiles files → OutputUntouched out → ImportAnswers parts files out (Some OutOfMemory)
+not_imported parts files out same unput =
     inr (inr (record { same_folder = same.folder; same_pack = same.pack; unput = unput; is = refl }))
 
 memory_ends : (words : List (List ℕ)) (command : Command) (objects : Objects) → VerifiedStarts → CommandLine words command → AllUntouched objects
@@ -58,8 +59,8 @@ memory_ends words (Node cid) objects starts line all = (all.files, inl all.strea
 memory_ends words (CidToHex cid) objects starts line all = (all.files, all.streams.untaken, all.streams.unput)
 memory_ends words (CidToText cid) objects starts line all = (all.files, all.streams.untaken, all.streams.unput)
 memory_ends words (Export parts) objects starts line all =
-    (all.files.folder, all.streams.untaken, unbegun objects.files.pack objects.files.same_pack objects.out parts.query all.files.pack all.streams.unput)
-memory_ends words (Import parts) objects starts line all = (all.streams.untaken, not_imported (options_of parts) objects.files objects.out all.files all.streams.unput)
+    (all.files.folder, all.streams.untaken, unbegun objects.files.pack objects.files.same_pack objects.out parts.pack parts.query all.files.pack all.streams.unput)
+memory_ends words (Import parts) objects starts line all = (all.streams.untaken, not_imported parts objects.files objects.out all.files all.streams.unput)
 memory_ends words (Verify q) objects starts line all = (all.files, unverified q objects.input objects.out starts line.asked.dups all.streams)
 
 pub ends_of : VerifiedStarts → (words : List (List ℕ)) (command : Command) (objects : Objects) (end : Option CommandFault) → CommandLine words command
@@ -117,13 +118,13 @@ no_export_tells (exports.Walk walks.OutOfMemory) h = cc
 no_export_tells exports.SinkFault h = cc
 no_export_tells exports.OutOfMemory h = cc
 
-no_export_usage : (q : QueryParts) (step : PackStep) (same : Type 0) (out : Output) → ExportAnswers q step same out (Some Usage) → ⊥
-no_export_usage q step same out (inl refused) = elim refused.tells [ inl tells ↦ no_export_tells refused.fault tells | inr memory ↦ wrong memory.1 ]
+no_export_usage : (path : List ℕ) (q : QueryParts) (step : PackStep) (same : Type 0) (out : Output) → ExportAnswers path q step same out (Some Usage) → ⊥
+no_export_usage path q step same out (inl refused) = elim refused.tells [ inl tells ↦ no_export_tells refused.fault tells | inr memory ↦ wrong memory.1 ]
   where
     wrong : Usage ≡ OutOfMemory → ⊥
     wrong e = cc
-no_export_usage q step same out (inr (inl none)) = let e = none.is in cc
-no_export_usage q step same out (inr (inr unbegun)) = let e = unbegun.is in cc
+no_export_usage path q step same out (inr (inl none)) = let e = none.is in cc
+no_export_usage path q step same out (inr (inr unbegun)) = let e = unbegun.is in cc
 
 no_import_tells : (fault : ImportFault) → Usage ≡ refusal_of_import fault → ⊥
 no_import_tells imports.Folder h = cc
@@ -136,24 +137,24 @@ no_import_tells (imports.NotPlain path) h = cc
 no_import_tells (imports.TooBig path) h = cc
 no_import_tells imports.OutOfMemory h = cc
 
-no_import_usage : (options : Options) (files : Files) (out : Output) → ImportAnswers options files out (Some Usage) → ⊥
-no_import_usage options files out (inl (inl refused)) = elim refused.is [ inl tells ↦ no_import_tells refused.fault tells | inr memory ↦ wrong memory.1 ]
+no_import_usage : (parts : ImportParts) (files : Files) (out : Output) → ImportAnswers parts files out (Some Usage) → ⊥
+no_import_usage parts files out (inl (inl refused)) = elim refused.is [ inl tells ↦ no_import_tells refused.fault tells | inr memory ↦ wrong memory.1 ]
   where
     wrong : Usage ≡ OutOfMemory → ⊥
     wrong e = cc
-no_import_usage options files out (inr (inl none)) = let e = none.is in cc
-no_import_usage options files out (inl (inr (inl none))) = let e = none.is in cc
-no_import_usage options files out (inl (inr (inr (inl unput)))) = let e = unput.is in cc
-no_import_usage options files out (inl (inr (inr (inr unsaid)))) = let e = unsaid.is in cc
-no_import_usage options files out (inr (inr unbegun)) = let e = unbegun.is in cc
+no_import_usage parts files out (inr (inl none)) = let e = none.is in cc
+no_import_usage parts files out (inl (inr (inl none))) = let e = none.is in cc
+no_import_usage parts files out (inl (inr (inr (inl unput)))) = let e = unput.is in cc
+no_import_usage parts files out (inl (inr (inr (inr unsaid)))) = let e = unsaid.is in cc
+no_import_usage parts files out (inr (inr unbegun)) = let e = unbegun.is in cc
 
 no_usage : (command : Command) (objects : Objects) → CommandEnds command objects (Some Usage) → ⊥
 no_usage (Check cid) objects ends = absurd ends.1.0
 no_usage (Node cid) objects ends = absurd ends.1.0
 no_usage (CidToHex cid) objects ends = absurd ends.2
 no_usage (CidToText cid) objects ends = absurd ends.2
-no_usage (Export parts) objects ends = no_export_usage parts.query objects.files.pack objects.files.same_pack objects.out ends.2
-no_usage (Import parts) objects ends = no_import_usage (options_of parts) objects.files objects.out ends.1
+no_usage (Export parts) objects ends = no_export_usage parts.pack parts.query objects.files.pack objects.files.same_pack objects.out ends.2
+no_usage (Import parts) objects ends = no_import_usage parts objects.files objects.out ends.1
 no_usage (Verify q) objects ends = no_verify_usage q objects.input objects.out ends.1
 
 memory_isnt_2 : (end : Option CommandFault) → end ≡ Some OutOfMemory → exit_status end ≡ 2 → ⊥
@@ -306,21 +307,21 @@ sink_is_6 fault refusal e h = by (subst (λ (f : ExportFault). IsExportRefusal f
     by (inl tells) = ap status_of tells
     by (inr memory) = absurd memory.0
 
-export_quiet : (q : QueryParts) (step : PackStep) (same : Type 0) (out : Output) (end : Option CommandFault) → exit_status end ≢ 6 → ExportAnswers q step same out end → OutputQuiet out
-export_quiet q step same out None ne ends = ends.ends.ends.is_done.quiet
-export_quiet q step same out (Some refusal) ne (inl refused) =
+export_quiet : (path : List ℕ) (q : QueryParts) (step : PackStep) (same : Type 0) (out : Output) (end : Option CommandFault) → exit_status end ≢ 6 → ExportAnswers path q step same out end → OutputQuiet out
+export_quiet path q step same out None ne ends = ends.ends.ends.is_done.quiet
+export_quiet path q step same out (Some refusal) ne (inl refused) =
     export_ends_quiet q step out refused.fault (λ sink. ne (sink_is_6 refused.fault refusal sink refused.tells)) refused.ends
-export_quiet q step same out (Some refusal) ne (inr (inl none)) = none.unput.quiet
-export_quiet q step same out (Some refusal) ne (inr (inr unbegun)) = unbegun.unput.quiet
+export_quiet path q step same out (Some refusal) ne (inr (inl none)) = none.unput.quiet
+export_quiet path q step same out (Some refusal) ne (inr (inr unbegun)) = unbegun.unput.quiet
 
-import_quiet : (options : Options) (files : Files) (out : Output) (end : Option CommandFault) → exit_status end ≢ 6 → ImportAnswers options files out end → OutputQuiet out
-import_quiet options files out None ne ends = ends.is_said.is_put.quiet
-import_quiet options files out (Some refusal) ne (inl (inl refused)) = refused.unput.quiet
-import_quiet options files out (Some refusal) ne (inr (inl none)) = none.unput.quiet
-import_quiet options files out (Some refusal) ne (inl (inr (inl none))) = none.unput.quiet
-import_quiet options files out (Some refusal) ne (inl (inr (inr (inl unput)))) = absurd (ne (ap status_of unput.is))
-import_quiet options files out (Some refusal) ne (inl (inr (inr (inr unsaid)))) = unsaid.in_pack.is_said.quiet
-import_quiet options files out (Some refusal) ne (inr (inr unbegun)) = unbegun.unput.quiet
+import_quiet : (parts : ImportParts) (files : Files) (out : Output) (end : Option CommandFault) → exit_status end ≢ 6 → ImportAnswers parts files out end → OutputQuiet out
+import_quiet parts files out None ne ends = ends.is_said.is_put.quiet
+import_quiet parts files out (Some refusal) ne (inl (inl refused)) = refused.unput.quiet
+import_quiet parts files out (Some refusal) ne (inr (inl none)) = none.unput.quiet
+import_quiet parts files out (Some refusal) ne (inl (inr (inl none))) = none.unput.quiet
+import_quiet parts files out (Some refusal) ne (inl (inr (inr (inl unput)))) = absurd (ne (ap status_of unput.is))
+import_quiet parts files out (Some refusal) ne (inl (inr (inr (inr unsaid)))) = unsaid.in_pack.is_said.quiet
+import_quiet parts files out (Some refusal) ne (inr (inr unbegun)) = unbegun.unput.quiet
 
 command_quiet : (command : Command) (objects : Objects) (end : Option CommandFault) → exit_status end ≢ 6 → CommandEnds command objects end
     → InputQuiet objects.input × OutputQuiet objects.out
@@ -328,8 +329,8 @@ command_quiet (Check cid) objects end ne ends = check_quiet cid objects.input ob
 command_quiet (Node cid) objects end ne ends = node_quiet cid objects.input objects.out end ne ends.1
 command_quiet (CidToHex cid) objects end ne ends = (ends.1.quiet, print_quiet (HexLine cid) objects.out end ne ends.2)
 command_quiet (CidToText cid) objects end ne ends = (ends.1.quiet, print_quiet (TextLine cid) objects.out end ne ends.2)
-command_quiet (Export parts) objects end ne ends = (ends.1.quiet, export_quiet parts.query objects.files.pack objects.files.same_pack objects.out end ne ends.2)
-command_quiet (Import parts) objects end ne ends = (ends.0.quiet, import_quiet (options_of parts) objects.files objects.out end ne ends.1)
+command_quiet (Export parts) objects end ne ends = (ends.1.quiet, export_quiet parts.pack parts.query objects.files.pack objects.files.same_pack objects.out end ne ends.2)
+command_quiet (Import parts) objects end ne ends = (ends.0.quiet, import_quiet parts objects.files objects.out end ne ends.1)
 command_quiet (Verify q) objects end ne ends = verify_quiet q objects.input objects.out end ne ends.1
 
 pub quiet_of : (words : List (List ℕ)) (objects : Objects) (end : Option CommandFault) → exit_status end ≢ 6 → Ends words objects end
@@ -340,9 +341,9 @@ quiet_of words objects end ne (inr (inr did)) = command_quiet did.command object
 
 -- ---- `export`
 
-pub exported_of : (q : QueryParts) (step : PackStep) (same : Type 0) (out : Output) (end : Option CommandFault) → exit_status end ≡ 0 → ExportAnswers q step same out end → Exported q step out
-exported_of q step same out None e ends = ends
-exported_of q step same out (Some refusal) e ends = absurd (not_zero refusal e)
+pub exported_of : (path : List ℕ) (q : QueryParts) (step : PackStep) (same : Type 0) (out : Output) (end : Option CommandFault) → exit_status end ≡ 0 → ExportAnswers path q step same out end → Exported path q step out
+exported_of path q step same out None e ends = ends
+exported_of path q step same out (Some refusal) e ends = absurd (not_zero refusal e)
 
 tells_9 : (fault : ExportFault) (refusal : CommandFault) → status_of refusal ≡ 9 → TellsExport fault refusal → LeadsNowhere fault
 tells_9 (exports.Pack (packs.NotCar at)) refusal e h = let k = sym (ap status_of h) ∙ e in cc
@@ -377,12 +378,12 @@ nine_refused : (fault : ExportFault) (refusal : CommandFault) → status_of refu
 nine_refused fault refusal e (inl tells) = tells_9 fault refusal e tells
 nine_refused fault refusal e (inr memory) = let k = sym (ap status_of memory.1) ∙ e in cc
 
-pub nowhere_of : (q : QueryParts) (step : PackStep) (same : Type 0) (out : Output) (end : Option CommandFault) → exit_status end ≡ 9 → ExportAnswers q step same out end → ExportedNothing q step out
-nowhere_of q step same out None e ends = cc
-nowhere_of q step same out (Some refusal) e (inl refused) =
+pub nowhere_of : (path : List ℕ) (q : QueryParts) (step : PackStep) (same : Type 0) (out : Output) (end : Option CommandFault) → exit_status end ≡ 9 → ExportAnswers path q step same out end → ExportedNothing q step out
+nowhere_of path q step same out None e ends = cc
+nowhere_of path q step same out (Some refusal) e (inl refused) =
     record { fault = refused.fault; nowhere = nine_refused refused.fault refusal e refused.tells; ends = refused.ends }
-nowhere_of q step same out (Some refusal) e (inr (inl none)) = let k = sym (ap status_of none.is) ∙ e in cc
-nowhere_of q step same out (Some refusal) e (inr (inr unbegun)) = let k = sym (ap status_of unbegun.is) ∙ e in cc
+nowhere_of path q step same out (Some refusal) e (inr (inl none)) = let k = sym (ap status_of none.is) ∙ e in cc
+nowhere_of path q step same out (Some refusal) e (inr (inr unbegun)) = let k = sym (ap status_of unbegun.is) ∙ e in cc
 
 -- want of memory alone is left
 else_8 : (q : QueryParts) (step : PackStep) (out : Output) (fault : ExportFault) (refusal : CommandFault) → (IsRisen step → ⊥) → (OutputRose out → ⊥)
@@ -395,19 +396,19 @@ else_8 q step out exports.OutOfMemory refusal no_pack no_out k (inl tells) ends 
 else_8 q step out exports.OutOfMemory refusal no_pack no_out k (inr memory) ends cause = absurd memory.0
 else_8 q step out fault refusal no_pack no_out k tells ends cause = absurd k
 
-pub export_answered_of : (q : QueryParts) (step : PackStep) (same : Type 0) (out : Output) (end : Option CommandFault) → HasAnswer q step.content_old
-    → (IsRisen step → ⊥) → (OutputRose out → ⊥) → ExportAnswers q step same out end → (exit_status end ≡ 8) ⊎ (exit_status end ≡ 0)
-export_answered_of q step same out None answer no_pack no_out ends = inr refl
-export_answered_of q step same out (Some refusal) answer no_pack no_out (inl refused) =
+pub export_answered_of : (path : List ℕ) (q : QueryParts) (step : PackStep) (same : Type 0) (out : Output) (end : Option CommandFault) → HasAnswer q step.content_old
+    → (IsRisen step → ⊥) → (OutputRose out → ⊥) → ExportAnswers path q step same out end → (exit_status end ≡ 8) ⊎ (exit_status end ≡ 0)
+export_answered_of path q step same out None answer no_pack no_out ends = inr refl
+export_answered_of path q step same out (Some refusal) answer no_pack no_out (inl refused) =
     inl (else_8 q step out refused.fault refusal no_pack no_out (refused.else answer) refused.tells refused.ends refused.cause)
-export_answered_of q step same out (Some refusal) answer no_pack no_out (inr (inl none)) = absurd (no_pack none.rose.rose)
-export_answered_of q step same out (Some refusal) answer no_pack no_out (inr (inr unbegun)) = inl (ap status_of unbegun.is)
+export_answered_of path q step same out (Some refusal) answer no_pack no_out (inr (inl none)) = absurd (no_pack none.rose.rose)
+export_answered_of path q step same out (Some refusal) answer no_pack no_out (inr (inr unbegun)) = inl (ap status_of unbegun.is)
 
 -- ---- `import`
 
-pub imported_of : (options : Options) (files : Files) (out : Output) (end : Option CommandFault) → exit_status end ≡ 0 → ImportAnswers options files out end → Imported options files out
-imported_of options files out None e ends = ends
-imported_of options files out (Some refusal) e ends = absurd (not_zero refusal e)
+pub imported_of : (parts : ImportParts) (files : Files) (out : Output) (end : Option CommandFault) → exit_status end ≡ 0 → ImportAnswers parts files out end → Imported parts files out
+imported_of parts files out None e ends = ends
+imported_of parts files out (Some refusal) e ends = absurd (not_zero refusal e)
 
 good_8 : (options : Options) (files : Files) (fault : ImportFault) (refusal : CommandFault) → IsGoodFolder options files.folder.tree_new
     → (FolderRose files.folder → ⊥) → (PackRose files.pack → ⊥) → IsPackingCause options files.folder.tree_new fault files.folder files.pack
@@ -418,17 +419,17 @@ good_8 options files imports.OutOfMemory refusal good no_folder no_pack cause (i
 good_8 options files imports.OutOfMemory refusal good no_folder no_pack cause (inr memory) = absurd memory.0
 good_8 options files fault refusal good no_folder no_pack cause is = absurd (good fault cause.2)
 
-pub import_answered_of : (options : Options) (files : Files) (out : Output) (end : Option CommandFault) → IsGoodFolder options files.folder.tree_new
-    → (FolderRose files.folder → ⊥) → (PackRose files.pack → ⊥) → (OutputRose out → ⊥) → ImportAnswers options files out end
+pub import_answered_of : (parts : ImportParts) (files : Files) (out : Output) (end : Option CommandFault) → IsGoodFolder (options_of parts) files.folder.tree_new
+    → (FolderRose files.folder → ⊥) → (PackRose files.pack → ⊥) → (OutputRose out → ⊥) → ImportAnswers parts files out end
     → (exit_status end ≡ 8) ⊎ (exit_status end ≡ 0)
-import_answered_of options files out None good no_folder no_pack no_out ends = inr refl
-import_answered_of options files out (Some refusal) good no_folder no_pack no_out (inl (inl refused)) =
-    inl (good_8 options files refused.fault refusal good no_folder no_pack refused.cause refused.is)
-import_answered_of options files out (Some refusal) good no_folder no_pack no_out (inr (inl none)) = absurd (no_folder none.rose)
-import_answered_of options files out (Some refusal) good no_folder no_pack no_out (inl (inr (inl none))) = absurd (no_pack none.rose)
-import_answered_of options files out (Some refusal) good no_folder no_pack no_out (inl (inr (inr (inl unput)))) = absurd (no_out unput.in_pack.is_said.is_put.rose)
-import_answered_of options files out (Some refusal) good no_folder no_pack no_out (inl (inr (inr (inr unsaid)))) = inl (ap status_of unsaid.is)
-import_answered_of options files out (Some refusal) good no_folder no_pack no_out (inr (inr unbegun)) = inl (ap status_of unbegun.is)
+import_answered_of parts files out None good no_folder no_pack no_out ends = inr refl
+import_answered_of parts files out (Some refusal) good no_folder no_pack no_out (inl (inl refused)) =
+    inl (good_8 (options_of parts) files refused.fault refusal good no_folder no_pack refused.cause refused.is)
+import_answered_of parts files out (Some refusal) good no_folder no_pack no_out (inr (inl none)) = absurd (no_folder none.rose)
+import_answered_of parts files out (Some refusal) good no_folder no_pack no_out (inl (inr (inl none))) = absurd (no_pack none.rose)
+import_answered_of parts files out (Some refusal) good no_folder no_pack no_out (inl (inr (inr (inl unput)))) = absurd (no_out unput.in_pack.is_said.is_put.rose)
+import_answered_of parts files out (Some refusal) good no_folder no_pack no_out (inl (inr (inr (inr unsaid)))) = inl (ap status_of unsaid.is)
+import_answered_of parts files out (Some refusal) good no_folder no_pack no_out (inr (inr unbegun)) = inl (ap status_of unbegun.is)
 
 -- ---- bytes that the input told
 

@@ -77,11 +77,11 @@ module _ {P : Type 0} (m : PackMeaning P) (a b c : P) (same : m.content b ≡ m.
   cause_moved faults.SinkFault h = quiet_moved h
   cause_moved faults.OutOfMemory h = quiet_moved h
 
-  pub refused_step : (q : QueryParts) (out : Output) (fault : ExportFault) (refusal : CommandFault) → IsAttachedPack (pack_step m a c) → IsExportRefusal fault refusal
+  pub refused_step : (path : List ℕ) (q : QueryParts) (out : Output) (fault : ExportFault) (refusal : CommandFault) → IsAttachedPack path (pack_step m a c) → IsExportRefusal fault refusal
       → ExportEnds q (pack_step m b c) out (Err fault) → HasPackedCause (pack_step m b c) (Err fault)
       → ((content : List ℕ) (store : Store) (sections : List Section) → m.content b ≡ Some content → IsAttached content store → HasEnded q store max_depth sections whole
-      → IsExportedElse (Err fault)) → ExportRefused q (pack_step m a c) out refusal
-  refused_step q out fault refusal attached tells ends cause answered = record {
+      → IsExportedElse (Err fault)) → ExportRefused path q (pack_step m a c) out refusal
+  refused_step path q out fault refusal attached tells ends cause answered = record {
     attached = attached;
     fault = fault;
     tells = tells;
@@ -90,9 +90,9 @@ module _ {P : Type 0} (m : PackMeaning P) (a b c : P) (same : m.content b ≡ m.
     else = λ answer. answered answer.bytes answer.store answer.sections (same ∙ answer.told) answer.attached answer.ended;
   }
 
-  pub done_step : (q : QueryParts) (out : Output) (done : ⊤) → IsAttachedPack (pack_step m a c) → ExportEnds q (pack_step m b c) out (Ok done)
-      → HasPackedCause (pack_step m b c) (Ok done) → Exported q (pack_step m a c) out
-  done_step q out done attached ends cause = record {
+  pub done_step : (path : List ℕ) (q : QueryParts) (out : Output) (done : ⊤) → IsAttachedPack path (pack_step m a c) → ExportEnds q (pack_step m b c) out (Ok done)
+      → HasPackedCause (pack_step m b c) (Ok done) → Exported path q (pack_step m a c) out
+  done_step path q out done attached ends cause = record {
     attached = attached;
     done = done;
     ends = subst (λ (content : Option (List ℕ)). StoreEnds q content out (Ok done)) same ends;
@@ -101,8 +101,8 @@ module _ {P : Type 0} (m : PackMeaning P) (a b c : P) (same : m.content b ≡ m.
 
 -- the pack is attached, and then nothing is done to it
 pub attached_step : {P : Type 0} (m : PackMeaning P) → ((a b c : P) (u v : List PackWrite) → m.did a b u → m.did b c v → m.did a c (u ++ v)) → (a b c : P)
-    → Did (attach false ∷ []) (pack_step m a b) → Did [] (pack_step m b c) → IsAttachedPack (pack_step m a c)
-attached_step m joins a b c did then = did_joins m joins a b c (attach false ∷ []) [] did then
+    (path : List ℕ) → Did (attach path false ∷ []) (pack_step m a b) → Did [] (pack_step m b c) → IsAttachedPack path (pack_step m a c)
+attached_step m joins a b c path did then = did_joins m joins a b c (attach path false ∷ []) [] did then
 
-pub content_same : {P : Type 0} (m : PackMeaning P) (a b : P) → Did (attach false ∷ []) (pack_step m a b) → m.content b ≡ m.content a
-content_same m a b did = did.content
+pub content_same : {P : Type 0} (m : PackMeaning P) (a b : P) (path : List ℕ) → Did (attach path false ∷ []) (pack_step m a b) → m.content b ≡ m.content a
+content_same m a b path did = did.content

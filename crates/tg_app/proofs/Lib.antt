@@ -4,3 +4,4 @@ mod ExportSteps
 mod ImportSteps
 mod VerifyEndings
 mod VerifySteps
+mod Running

@@ -75,9 +75,9 @@ HasCid other = ⊥
 abbrev pub IsExportRefusal : ExportFault → CommandFault → Type 0
 IsExportRefusal fault refusal = TellsExport fault refusal ⊎ (HasCid fault × (refusal ≡ refusals.OutOfMemory))
 
--- the pack was attached as it stands at its path, and nothing more was done to it
-abbrev pub IsAttachedPack : PackStep → Type 0
-IsAttachedPack step = Did (attach false ∷ []) step
+-- the pack was attached as it stands at a path of the system, and nothing more was done to it
+abbrev pub IsAttachedPack : List ℕ → PackStep → Type 0
+IsAttachedPack path step = Did (attach path false ∷ []) step
 
 -- the content has the whole traversal, none of it too deep
 pub record HasAnswer (q : QueryParts) (content : Option (List ℕ)) : Type 0 where
@@ -93,8 +93,8 @@ abbrev pub IsNotForMissing : QueryParts → PackStep → ExportFault → Type 0
 IsNotForMissing q step fault = HasAnswer q step.content_old → IsExportedElse (Err fault)
 
 -- the export ended with a fault
-pub record ExportRefused (q : QueryParts) (step : PackStep) (out : Output) (refusal : CommandFault) : Type 0 where
-  pub attached : IsAttachedPack step
+pub record ExportRefused (path : List ℕ) (q : QueryParts) (step : PackStep) (out : Output) (refusal : CommandFault) : Type 0 where
+  pub attached : IsAttachedPack path step
   pub fault : ExportFault
   pub tells : IsExportRefusal fault refusal
   pub ends : ExportEnds q step out (Err fault)
@@ -109,8 +109,8 @@ pub record NotAttached (step : PackStep) (out : Output) (refusal : CommandFault)
   pub is : refusal ≡ refusals.PackFault
 
 -- it was done
-pub record Exported (q : QueryParts) (step : PackStep) (out : Output) : Type 0 where
-  pub attached : IsAttachedPack step
+pub record Exported (path : List ℕ) (q : QueryParts) (step : PackStep) (out : Output) : Type 0 where
+  pub attached : IsAttachedPack path step
   pub done : ⊤
   pub ends : StoreEnds q step.content_old out (Ok done)
   pub quiet : PackQuiet step
@@ -121,11 +121,11 @@ pub record ExportUnbegun (same_pack : Type 0) (out : Output) (refusal : CommandF
   pub unput : OutputUntouched out
   pub is : refusal ≡ refusals.OutOfMemory
 
--- how `export` ends
-abbrev pub ExportAnswers : QueryParts → PackStep → Type 0 → Output → Option CommandFault → Type 0
-ExportAnswers q step same_pack out None = Exported q step out
-ExportAnswers q step same_pack out (Some refusal) =
-    ExportRefused q step out refusal ⊎ (NotAttached step out refusal ⊎ ExportUnbegun same_pack out refusal)
+-- how `export` from the pack at a path of the system ends
+abbrev pub ExportAnswers : List ℕ → QueryParts → PackStep → Type 0 → Output → Option CommandFault → Type 0
+ExportAnswers path q step same_pack out None = Exported path q step out
+ExportAnswers path q step same_pack out (Some refusal) =
+    ExportRefused path q step out refusal ⊎ (NotAttached step out refusal ⊎ ExportUnbegun same_pack out refusal)
 
 -- the path leads nowhere
 abbrev pub LeadsNowhere : ExportFault → Type 0

@@ -20,8 +20,8 @@ pub record Objects : Type 1 where
 -- of a pack that is there before and after
 abbrev pub given_back : {P : Type 0} → PackMeaning P → Option P → Option P → PackStep
 given_back m (Some old) (Some new) = pack_step m old new
-given_back m None new = record { did = λ writes. ⊥; content_old = None; content_new = None; faults_old = 0; faults_new = 0; calls_old = None; calls_new = None }
-given_back m (Some old) None = record { did = λ writes. ⊥; content_old = None; content_new = None; faults_old = 0; faults_new = 0; calls_old = None; calls_new = None }
+given_back m None new = record { did = λ writes. ⊥; content_old = None; content_new = None; place_old = None; place_new = None; faults_old = 0; faults_new = 0; calls_old = None; calls_new = None }
+given_back m (Some old) None = record { did = λ writes. ⊥; content_old = None; content_new = None; place_old = None; place_new = None; faults_old = 0; faults_new = 0; calls_old = None; calls_new = None }
 
 abbrev pub files_between : {F P : Type 0} → FolderMeaning F → PackMeaning P → F → F → Option P → Option P → Files
 files_between folders packs folder folder' pack pack' = record {

@@ -62,7 +62,8 @@ pub record Accepted (q : QueryParts) (input : Input) (out : Output) : Type 0 whe
   pub verifies : Verifies q standard input out (Ok done)
   pub cause : HasStreamCause input out (Ok done)
 
--- a CAR of the sections of a sound DAG's own traversal, where it has an answer; or of sections that fit; none of its limits passed
+-- a CAR of the sections of a sound DAG's own traversal, where it has an answer; or of sections that fit; none of its
+-- limits passed
 pub record IsOwnCar (q : QueryParts) (bytes : List ℕ) : Type 0 where
   pub d : Dag
   pub sound : IsSound d
@@ -98,8 +99,8 @@ VerifyEnds q input out (Some refusal) = NotAccepted q input out refusal
 
 -- ---- what the statuses say
 
--- `verify` at status 0: the whole input is a CAR of sections that fit the query, whose text was put; beside each sound DAG with the
--- query's root that text is its answer, or a received block and one of the DAG are a collision pair
+-- `verify` at status 0: the whole input is a CAR of sections that fit the query, whose text was put; beside each sound
+-- DAG with the query's root that text is its answer, or a received block and one of the DAG are a collision pair
 pub record VerifiedInput (q : QueryParts) (input : Input) (out : Output) : Type 0 where
   pub bytes : List ℕ
   pub took : TookAll bytes input
@@ -116,8 +117,9 @@ pub record VerifiedInput (q : QueryParts) (input : Input) (out : Output) : Type 
 abbrev pub IsNoAnswer : QueryParts → Dag → Type 0
 IsNoAnswer q d = ((i : ℕ) × (lookup_path q.path d ≡ lookups.not_there i)) ⊎ ((i : ℕ) × (lookup_path q.path d ≡ lookups.not_folder i))
 
--- `verify` at any status, beside a sound DAG with the query's root: of the bytes that were heard these sections stand whole; what was put
--- is the DAG's answer at status 0, and else a front of it; at status 9 its path leads nowhere; or there is a pair
+-- `verify` at any status, beside a sound DAG with the query's root: of the bytes that were heard these sections stand
+-- whole; what was put is the DAG's answer at status 0, and else a front of it; at status 9 its path leads nowhere; or
+-- there is a pair
 pub record Vouched (q : QueryParts) (d : Dag) (input : Input) (out : Output) (status : ℕ) : Type 0 where
   pub heard : List ℕ
   pub unheard : List ℕ

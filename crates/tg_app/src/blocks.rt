@@ -32,8 +32,8 @@ pub fn refusal_for(why: InputRefusal, cid: Bytes) -> CommandFault
     }
 }
 
-/// Reads the input as a block that the CID names into a buffer of one byte more than a block may have, and says how long
-/// the block is. It takes no memory.
+/// Reads the input as a block that the CID names into a buffer of one byte more than a block may have, and says how
+/// long the block is. It takes no memory.
 pub fn read_block<I: Source>(
     buffer: &mut [u8],
     cid: &Cid,

@@ -26,7 +26,8 @@ pub fn export<P: Pack, O: Sink>(
 ) -> Result<(), CommandFault>
     requires { IsSome pack.old }
     ensures back { IsSome pack.new }
-    ensures ends { ExportAnswers asked.now.query (given_back P.pack pack.old pack.new) (pack.new ≡ pack.old) (into O.sink out.old out.new) (end_of result) }
+    ensures ends { ExportAnswers asked.now.pack asked.now.query (given_back P.pack pack.old pack.new)
+        (pack.new ≡ pack.old) (into O.sink out.old out.new) (end_of result) }
 {
     let Some(attached) = pack.take() else {
         unreachable!()
@@ -45,7 +46,8 @@ fn export_from<P: Pack, O: Sink>(
     pack: P,
     out: &mut O,
 ) -> (P, Result<(), CommandFault>)
-    ensures { ExportAnswers asked.now.query (pack_step P.pack pack result.0) (Some result.0 ≡ Some pack) (into O.sink out.old out.new) (end_of result.1) }
+    ensures { ExportAnswers asked.now.pack asked.now.query (pack_step P.pack pack result.0) (Some result.0 ≡ Some pack)
+        (into O.sink out.old out.new) (end_of result.1) }
 {
     let mut pack = pack;
     let Ok(()) = pack.attach(asked.pack.as_str(), false) else {

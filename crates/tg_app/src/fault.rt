@@ -205,7 +205,8 @@ impl CommandFault {
         put_pieces(err, &[b"tgate: ", word, detail, space, other, b"\n"])
     }
 
-    /// The numbers that the line shows: an offset, a segment, a count or a limit, or two sizes; and 0 where it shows none.
+    /// The numbers that the line shows: an offset, a segment, a count or a limit, or two sizes; and 0 where it shows
+    /// none.
     fn numbers(&self) -> (u64, u64)
         ensures { result ≡ numbers_in self.now }
     {

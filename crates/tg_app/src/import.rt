@@ -19,8 +19,8 @@ use tg_import_pack::{ImportFault, Options, Summary, import_pack};
 use tg_streams::{Sink, put_all};
 use tg_words::Import;
 
-/// `import`: the folder goes into the pack, which is made anew, and out tells its root and what it holds. The pack is there, and is given
-/// back.
+/// `import`: the folder goes into the pack, which is made anew, and out tells its root and what it holds. The pack is
+/// there, and is given back.
 pub fn import<F: Folder, P: Pack, O: Sink>(
     alloc: Global,
     asked: &Import,
@@ -31,7 +31,7 @@ pub fn import<F: Folder, P: Pack, O: Sink>(
     requires there { IsSome pack.old }
     requires options { AreOptions (options_of asked.now) }
     ensures back { IsSome pack.new }
-    ensures ends { ImportAnswers (options_of asked.now) (files_between F.folder P.pack folder.old folder.new pack.old pack.new)
+    ensures ends { ImportAnswers asked.now (files_between F.folder P.pack folder.old folder.new pack.old pack.new)
         (into O.sink out.old out.new) (end_of result) }
 {
     let Ok(()) = folder.attach(asked.folder.as_str()) else {
@@ -57,7 +57,9 @@ fn import_into<F: Folder, P: Pack, O: Sink>(
 ) -> (P, Result<(), CommandFault>)
     requires options { AreOptions (options_of asked.now) }
     requires tells { TellsFolder (F.folder.tree folder.old) }
-    ensures { AttachedAnswers (options_of asked.now) (files_between F.folder P.pack folder.old folder.new (Some pack) (Some result.0))
+    requires at { F.folder.place folder.old ≡ Some asked.now.folder }
+    ensures { AttachedAnswers asked.now (files_between F.folder P.pack folder.old folder.new (Some pack)
+        (Some result.0))
         (into O.sink out.old out.new) (end_of result.1) }
 {
     let mut pack = pack;

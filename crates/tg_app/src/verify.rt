@@ -24,7 +24,8 @@ pub fn verify<I: Source, O: Sink>(
     out: &mut O,
 ) -> Result<(), CommandFault>
     requires { query.now.dups ≡ true }
-    ensures { VerifyEnds query.now (through I.source input.old input.new) (into O.sink out.old out.new) (end_of result) }
+    ensures { VerifyEnds query.now (through I.source input.old input.new) (into O.sink out.old out.new)
+        (end_of result) }
 {
     match verify_car(alloc, query, Limits::standard(), input, out) {
         Ok(()) => Ok(()),

@@ -1,5 +1,5 @@
-use Rattle.std.proofs.Common.{inl, subst}
-use Rattle.tg_app.specs.Exports.{ExportRefused, Exported}
+use Rattle.std.proofs.Common.{List, ℕ, inl, string_bytes, subst}
+use Rattle.tg_app.specs.Exports.{ExportRefused, Exported, IsAttachedPack}
 use Rattle.tg_words.specs.ExportLines.{ExportParts}
 use Rattle.tg_app.proofs.ExportSteps.{attached_step, content_same, done_step, refused_step}
 use Rattle.tg_export.specs.Packed.{ExportEnds, HasPackedCause, IsExportedElse}
@@ -13,9 +13,11 @@ returns-in-Ok-end g c =
     let q = c.asked.inside.query in
     let out = into g.O.Sink.sink c.args.out.now c.export-pack.new.out in
     let step = pack_step m c.attach.new.self c.export-pack.result.0 in
-    let attached = attached_step m g.met.P.Pack.joins c.args.pack c.attach.new.self c.export-pack.result.0 c.in-Ok.ensures.did c.export-pack.ensures.pack in
-    subst (λ (asked : ExportParts). Exported asked.query (pack_step m c.args.pack c.export-pack.result.0) out) c.asked.view_is
-    (done_step m c.args.pack c.attach.new.self c.export-pack.result.0 (content_same m _ _ c.in-Ok.ensures.did) c.in-Ok.ensures.quiet q out c.in-Ok-end.field-0 attached
+    let path = string_bytes c.asked.inside.pack in
+    let attached = subst (λ (path : List ℕ). IsAttachedPack path (pack_step m c.args.pack c.export-pack.result.0)) c.as_str.ensures.value
+    (attached_step m g.met.P.Pack.joins c.args.pack c.attach.new.self c.export-pack.result.0 c.as_str.result.now c.in-Ok.ensures.did c.export-pack.ensures.pack) in
+    subst (λ (asked : ExportParts). Exported asked.pack asked.query (pack_step m c.args.pack c.export-pack.result.0) out) c.asked.view_is
+    (done_step m c.args.pack c.attach.new.self c.export-pack.result.0 (content_same m _ _ c.as_str.result.now c.in-Ok.ensures.did) c.in-Ok.ensures.quiet path q out c.in-Ok-end.field-0 attached
     (subst (ExportEnds q step out) c.in-Ok-end.is c.export-pack.ensures.ends) (subst (HasPackedCause step) c.in-Ok-end.is c.export-pack.ensures.cause))
 
 pub returns-in-Err : goal.returns-in-Err
@@ -24,8 +26,10 @@ returns-in-Err g c =
     let q = c.asked.inside.query in
     let out = into g.O.Sink.sink c.args.out.now c.export-pack.new.out in
     let step = pack_step m c.attach.new.self c.export-pack.result.0 in
-    let attached = attached_step m g.met.P.Pack.joins c.args.pack c.attach.new.self c.export-pack.result.0 c.in-Ok.ensures.did c.export-pack.ensures.pack in
-    inl (subst (λ (asked : ExportParts). ExportRefused asked.query (pack_step m c.args.pack c.export-pack.result.0) out c.refusal_of.result) c.asked.view_is
-    (refused_step m c.args.pack c.attach.new.self c.export-pack.result.0 (content_same m _ _ c.in-Ok.ensures.did) c.in-Ok.ensures.quiet q out c.in-Err.fault c.refusal_of.result
+    let path = string_bytes c.asked.inside.pack in
+    let attached = subst (λ (path : List ℕ). IsAttachedPack path (pack_step m c.args.pack c.export-pack.result.0)) c.as_str.ensures.value
+    (attached_step m g.met.P.Pack.joins c.args.pack c.attach.new.self c.export-pack.result.0 c.as_str.result.now c.in-Ok.ensures.did c.export-pack.ensures.pack) in
+    inl (subst (λ (asked : ExportParts). ExportRefused asked.pack asked.query (pack_step m c.args.pack c.export-pack.result.0) out c.refusal_of.result) c.asked.view_is
+    (refused_step m c.args.pack c.attach.new.self c.export-pack.result.0 (content_same m _ _ c.as_str.result.now c.in-Ok.ensures.did) c.in-Ok.ensures.quiet path q out c.in-Err.fault c.refusal_of.result
     attached c.refusal_of.ensures (subst (ExportEnds q step out) c.in-Err.is c.export-pack.ensures.ends) (subst (HasPackedCause step) c.in-Err.is c.export-pack.ensures.cause)
     (λ content store sections told attached ended. subst IsExportedElse c.in-Err.is (c.export-pack.ensures.answered content store sections told attached ended))))

@@ -1,0 +1,134 @@
+-- What `run` says of one run: how the words end, and for each command what each exit status says.
+use Rattle.std.specs.Prelude.{List, Option, Some, ℕ, ◌≡◌, ◌≢◌, ◌⊎◌}
+use Rattle.tg_app.specs.Blocks.{OutputUntouched, PassedLimit}
+use Rattle.tg_app.specs.Check.{Agrees, CheckEnds, CheckStatus, Checked, CheckedOther}
+use Rattle.tg_app.specs.CidLines.{HexLine, PutsLine, TextLine}
+use Rattle.tg_app.specs.Commands.{AllUntouched, Answers, CommandEnds, Ends, IsNoCommand, ReadsBlock, UsesNoFiles, WantsMemory}
+use Rattle.tg_app.specs.Exports.{Exported, ExportedNothing, HasAnswer, IsRisen}
+use Rattle.tg_app.specs.Imports.{Imported, IsGoodFolder, options_of}
+use Rattle.tg_app.specs.Node.{NodeEnds, NodeStatus, Noded, NodedOther}
+use Rattle.tg_app.specs.Objects.{Objects, SameFiles}
+use Rattle.tg_app.specs.Verify.{IsGoodCar, VerifiedInput, Vouched}
+use Rattle.tg_cid.specs.Cid.{CidParts}
+use Rattle.tg_cid.specs.Names.{Names}
+use Rattle.tg_files.specs.Folders.{FolderRose}
+use Rattle.tg_files.specs.Packs.{PackRose}
+use Rattle.tg_model.specs.Dag.{Dag, root_cid}
+use Rattle.tg_model.specs.Queries.{QueryParts}
+use Rattle.tg_model.specs.Sound.{IsSound}
+use Rattle.tg_streams.specs.Streams.{InputQuiet, InputRose, Output, OutputQuiet, OutputRose}
+use Rattle.tg_words.specs.CommandLine.{CommandLine}
+use Rattle.tg_words.specs.ExportLines.{ExportParts}
+use Rattle.tg_words.specs.ImportLines.{ImportParts}
+use Rattle.tg_words.specs.declared.Command.{Command}
+use Rattle.tg_words.specs.declared.Command.TheVariants.{Check, CidToHex, CidToText, Export, Import, Node, Verify}
+
+-- a run: the words behind the program's name, what became of the objects and of err, and the exit status
+pub record Run : Type 1 where
+  pub words : List (List ℕ)
+  pub objects : Objects
+  pub err : Output
+  pub status : ℕ
+
+-- the words spell this command
+abbrev pub Asks : Run → Command → Type 0
+Asks run command = CommandLine run.words command
+
+-- a command ended so, with its status and its line on err
+abbrev pub EndsAs : Command → Run → Type 0
+EndsAs command run = Answers (CommandEnds command run.objects) run.status run.err
+
+-- no fault of the input was counted, and none of out
+pub record NoStreamRose (run : Run) : Type 0 where
+  pub input : InputRose run.objects.input → ⊥
+  pub out : OutputRose run.objects.out → ⊥
+
+-- the words: how they end, with the status and the line
+pub record WordsRun (run : Run) : Type 0 where
+  pub ends : Answers (Ends run.words run.objects) run.status run.err
+  -- status 2 comes exactly where the words are no command, and leaves all objects as they were
+  pub usage : run.status ≡ 2 → IsNoCommand run.words
+  pub no_command : IsNoCommand run.words → (run.status ≡ 2) ⊎ (run.status ≡ 8)
+  pub untouched : run.status ≡ 2 → AllUntouched run.objects
+  -- at 8 memory was wanted, and the command says what it had done by then
+  pub memory : run.status ≡ 8 → WantsMemory run.words run.objects
+  -- a command over blocks leaves the folder and the pack as they were
+  pub kept : (command : Command) → Asks run command → UsesNoFiles command → SameFiles run.objects.files
+  -- status 6 of a command over blocks comes where a fault of the input or of out was counted; at every other status of
+  -- any command none was
+  pub fault : (command : Command) → Asks run command → UsesNoFiles command → run.status ≡ 6
+      → InputRose run.objects.input ⊎ OutputRose run.objects.out
+  pub quiet_input : run.status ≢ 6 → InputQuiet run.objects.input
+  pub quiet_output : run.status ≢ 6 → OutputQuiet run.objects.out
+  -- status 7 of `check` and of `node`: the input goes on past the limit
+  pub passed : (command : Command) → Asks run command → ReadsBlock command → run.status ≡ 7
+      → PassedLimit run.objects.input × OutputUntouched run.objects.out
+
+-- `check`
+pub record CheckRun (cid : CidParts) (run : Run) : Type 0 where
+  pub ends : Answers (CheckEnds cid run.objects.input run.objects.out) run.status run.err
+  pub checked : run.status ≡ 0 → Checked cid run.objects.input run.objects.out
+  pub other : run.status ≡ 3 → CheckedOther cid run.objects.input run.objects.out
+  -- a CID that is trusted vouches for every byte that was put
+  pub vouched : (block : List ℕ) → Names cid block → run.status ≡ 0 → Agrees block run.objects.input run.objects.out
+  -- the status of an input that tells its bytes, where no fault is counted and memory is found
+  pub answered : (bytes : List ℕ) → run.objects.input.left_old ≡ Some bytes → NoStreamRose run
+      → (run.status ≡ 8) ⊎ CheckStatus cid bytes run.status
+
+-- `node`
+pub record NodeRun (cid : CidParts) (run : Run) : Type 0 where
+  pub ends : Answers (NodeEnds cid run.objects.input run.objects.out) run.status run.err
+  pub noded : run.status ≡ 0 → Noded cid run.objects.input run.objects.out
+  pub other : run.status ≡ 3 → NodedOther cid run.objects.input run.objects.out
+  pub answered : (bytes : List ℕ) → run.objects.input.left_old ≡ Some bytes → NoStreamRose run
+      → (run.status ≡ 8) ⊎ NodeStatus cid bytes run.status
+
+-- `cid CID`, and `cid --hex HEX`
+pub record CidHexRun (cid : CidParts) (run : Run) : Type 0 where
+  pub ends : EndsAs (CidToHex cid) run
+  pub put : run.status ≡ 0 → PutsLine (HexLine cid) run.objects.out
+
+pub record CidTextRun (cid : CidParts) (run : Run) : Type 0 where
+  pub ends : EndsAs (CidToText cid) run
+  pub put : run.status ≡ 0 → PutsLine (TextLine cid) run.objects.out
+
+-- `export`: at 0 out grew by the CAR of what the query asks of the pack's content, as far as that is told; at 9 the
+-- path leads nowhere
+pub record ExportRun (parts : ExportParts) (run : Run) : Type 0 where
+  pub ends : EndsAs (Export parts) run
+  pub exported : run.status ≡ 0 → Exported parts.pack parts.query run.objects.files.pack run.objects.out
+  pub nowhere : run.status ≡ 9 → ExportedNothing parts.query run.objects.files.pack run.objects.out
+  -- where the content has all of it, none too deep, no fault is counted and memory is found, it is 0
+  pub answered : HasAnswer parts.query run.objects.files.pack.content_old → (IsRisen run.objects.files.pack → ⊥)
+      → (OutputRose run.objects.out → ⊥) → (run.status ≡ 8) ⊎ (run.status ≡ 0)
+
+-- `import`: at 0 the pack is the CAR of a sound DAG that shows the folder, as far as they are told, in the importer's
+-- layout, and out tells its root and what it holds
+pub record ImportRun (parts : ImportParts) (run : Run) : Type 0 where
+  pub ends : EndsAs (Import parts) run
+  pub imported : run.status ≡ 0 → Imported parts run.objects.files run.objects.out
+  -- of a good folder, where no fault is counted and memory is found, it is 0
+  pub answered : IsGoodFolder (options_of parts) run.objects.files.folder.tree_new → (FolderRose run.objects.files.folder → ⊥)
+      → (PackRose run.objects.files.pack → ⊥) → (OutputRose run.objects.out → ⊥) → (run.status ≡ 8) ⊎ (run.status ≡ 0)
+
+-- `verify`: at 0 the whole input is a CAR of sections that fit the query, and out grew by their text
+pub record VerifyRun (q : QueryParts) (run : Run) : Type 0 where
+  pub ends : EndsAs (Verify q) run
+  pub verified : run.status ≡ 0 → VerifiedInput q run.objects.input run.objects.out
+  -- a good CAR, where no fault is counted and memory is found, is accepted
+  pub answered : (bytes : List ℕ) → run.objects.input.left_old ≡ Some bytes → IsGoodCar q bytes → NoStreamRose run
+      → (run.status ≡ 8) ⊎ (run.status ≡ 0)
+  -- for every sound DAG with the query's root, whatever the input: at 0 out grew by the DAG's answer, and else by a
+  -- front of it, or a received block and one of the DAG are different bytes with one SHA-256
+  pub vouched_answer : (d : Dag) → IsSound d → root_cid d ≡ q.root → Vouched q d run.objects.input run.objects.out run.status
+
+-- what a run says, by the command that its words spell
+pub record Runs (run : Run) : Type 0 where
+  pub words : WordsRun run
+  pub check : (cid : CidParts) → Asks run (Check cid) → CheckRun cid run
+  pub node : (cid : CidParts) → Asks run (Node cid) → NodeRun cid run
+  pub cid_hex : (cid : CidParts) → Asks run (CidToHex cid) → CidHexRun cid run
+  pub cid_text : (cid : CidParts) → Asks run (CidToText cid) → CidTextRun cid run
+  pub export : (parts : ExportParts) → Asks run (Export parts) → ExportRun parts run
+  pub import : (parts : ImportParts) → Asks run (Import parts) → ImportRun parts run
+  pub verify : (q : QueryParts) → Asks run (Verify q) → VerifyRun q run
