@@ -1,5 +1,5 @@
--- The answer of a DAG to a query, by its content, its entries and its paths (Trustless Gateway specification, dag-scope; the
--- texts of listings and bundles are this project's own).
+-- The answer of a DAG to a query, by its content, its entries and its paths (Trustless Gateway specification,
+-- dag-scope; the texts of listings and bundles are this project's own).
 use Rattle.tg_model.specs.declared.queries.Scope.TheVariants as scopes
 use Rattle.tg_bytes.specs.Ascii.{line_feed, slash}
 use Rattle.std.specs.Prelude.{Bool, false, List, None, Option, Some, [], length, map, ℕ, ◌++◌, ◌∷◌}
@@ -22,8 +22,8 @@ named_of entry = record { name = entry.name; cid = root_cid entry.dag }
 abbrev pub listing_of : Dag → List ℕ
 listing_of d = listing (map named_of (entries d))
 
--- the bundle of what stands at a path: a record for it, and for a directory those of its entries in link order, each child
--- shard's in the child's place
+-- the bundle of what stands at a path: a record for it, and for a directory those of its entries in link order, each
+-- child shard's in the child's place
 abbrev pub slot_bundle : (List ℕ → List ℕ) → List ℕ → Option (List ℕ) → List ℕ
 slot_bundle entry inside (Some name) = entry name
 slot_bundle entry inside None = inside
@@ -59,8 +59,8 @@ abbrev mutual
   bundle_inside path (node section (Shard slots) children) = bundle_of_slots path slots children
   bundle_inside path (node section (Symlink target) children) = []
 
--- what a node says by scope: its block; a file's content or the range of it, a target, a listing; a content, a target, or a
--- bundle
+-- what a node says by scope: its block; a file's content or the range of it, a target, a listing; a content, a target,
+-- or a bundle
 abbrev pub content_text : Option SpanParts → List ℕ → List ℕ
 content_text None bytes = bytes
 content_text (Some span) bytes = slice_of bytes span

@@ -4,8 +4,8 @@ use Rattle.tg_model.specs.Queries.{SpanParts}
 use Rattle.tg_model.specs.declared.queries.SpanFrom.{SpanFrom}
 use Rattle.tg_model.specs.declared.queries.SpanFrom.TheVariants.{Last, Start}
 
--- the first byte of the range in a file of `total` bytes: the offset, or so many bytes before the end, and 0 where there are
--- fewer
+-- the first byte of the range in a file of `total` bytes: the offset, or so many bytes before the end, and 0 where
+-- there are fewer
 abbrev pub low_of : SpanFrom → ℕ → ℕ
 low_of (Start start) total = start
 low_of (Last count) total = total - count

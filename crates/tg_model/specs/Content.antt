@@ -1,4 +1,5 @@
--- What a DAG says: the content of a file, the entries of a directory (UnixFS specification: File, Directory, HAMTDirectory).
+-- What a DAG says: the content of a file, the entries of a directory (UnixFS specification: File, Directory,
+-- HAMTDirectory).
 use Rattle.std.specs.Prelude.{List, None, Option, Some, [], replicate, ℕ, ◌++◌, ◌∷◌}
 use Rattle.tg_model.specs.Dag.{Dag, Children, Section, bare, with_child, no_child, node, unopened}
 use Rattle.tg_model.specs.Sound.{Position, child, part, positions, top}

@@ -10,9 +10,9 @@ pub record Section : Type 0 where
   pub cid : CidParts
   pub block : List ℕ
 
--- a DAG: an unopened one, of which only the root's CID is told; a block that isn't read on, since it has no kind, for this
--- fault, or since only its bytes are asked for; or a block with its kind and its children, a DAG for each of the kind's links
--- in their order
+-- a DAG: an unopened one, of which only the root's CID is told; a block that isn't read on, since it has no kind, for
+-- this fault, or since only its bytes are asked for; or a block with its kind and its children, a DAG for each of the
+-- kind's links in their order
 mutual
   pub data Dag : Type 0 where
     unopened : CidParts → Dag

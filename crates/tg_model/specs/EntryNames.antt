@@ -1,5 +1,5 @@
--- Names of entries, which are also the segments of paths (UnixFS specification, Directory; Path Gateway specification, Path
--- Resolution): not empty, without `/` and the zero byte, and neither `.` nor `..`.
+-- Names of entries, which are also the segments of paths (UnixFS specification, Directory; Path Gateway specification,
+-- Path Resolution): not empty, without `/` and the zero byte, and neither `.` nor `..`.
 use Rattle.std.specs.Prelude.{All, List, [], length, ℕ, ◌<◌, ◌∷◌, ◌≢◌}
 use Rattle.tg_bytes.specs.Ascii.{slash}
 

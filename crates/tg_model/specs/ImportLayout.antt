@@ -83,8 +83,8 @@ HasBytes [] = ⊤
 HasBytes (leaf ∷ []) = ⊤
 HasBytes (leaf ∷ other ∷ leaves) = All (λ bytes. 0 < length bytes) (leaf ∷ other ∷ leaves)
 
--- a file of at most one chunk is a leaf; any other has leaves that are equally deep, at least two links at its root, one at
--- each node, and full levels
+-- a file of at most one chunk is a leaf; any other has leaves that are equally deep, at least two links at its root,
+-- one at each node, and full levels
 abbrev pub IsLeaf : Dag → Type 0
 IsLeaf d = (section : Section) × (d ≡ node section Raw no_child)
 

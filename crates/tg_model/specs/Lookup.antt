@@ -1,5 +1,5 @@
--- A path looked up by the names of entries (Path Gateway specification, Path Resolution; UnixFS specification, Pathing). No
--- hash appears.
+-- A path looked up by the names of entries (Path Gateway specification, Path Resolution; UnixFS specification,
+-- Pathing). No hash appears.
 use Rattle.std.specs.Prelude.{Bool, List, None, Option, Some, [], bytes_eq, false, if◌then◌else◌, true, ℕ, ◌+◌, ◌∷◌}
 use Rattle.tg_model.specs.Content.{DirEntry, entries}
 use Rattle.tg_model.specs.Dag.{Dag, bare, node, unopened}

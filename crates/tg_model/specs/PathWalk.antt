@@ -41,8 +41,8 @@ step_of (Basic entries) level name = entry_step 0 name entries
 step_of (Shard slots) level name = slots_step 0 (slot_of name level) name slots
 step_of (Symlink target) level name = not_folder_here
 
--- where a walk or a traversal stands: the CID that leads there, how many blocks there are from the root to it, both counted,
--- and the position
+-- where a walk or a traversal stands: the CID that leads there, how many blocks there are from the root to it, both
+-- counted, and the position
 pub record Spot : Type 0 where
   pub cid : CidParts
   pub depth : ℕ
@@ -51,8 +51,8 @@ pub record Spot : Type 0 where
 abbrev pub spot_at : CidParts → ℕ → Position → Spot
 spot_at cid depth position = record { cid = cid; depth = depth; position = position }
 
--- why a walk or a traversal stops: at a segment of the path there is no such entry, or no directory; a block isn't opened; or
--- a block has no kind or can't stand there
+-- why a walk or a traversal stops: at a segment of the path there is no such entry, or no directory; a block isn't
+-- opened; or a block has no kind or can't stand there
 pub data Stop : Type 0 where
   not_there : ℕ → Stop
   not_folder : ℕ → Stop

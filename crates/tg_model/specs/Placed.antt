@@ -1,5 +1,5 @@
--- What a block is read as where it stands: bytes are places of the block, and a file's parts lie ahead of a cursor (UnixFS
--- specification, Data Format and node types).
+-- What a block is read as where it stands: bytes are places of the block, and a file's parts lie ahead of a cursor
+-- (UnixFS specification, Data Format and node types).
 use Rattle.tg_model.specs.declared.fault.BlockFault.TheVariants as faults
 use Rattle.tg_model.specs.declared.placed.PlacedKind.TheVariants as placed
 use Rattle.std.specs.Prelude.{Err, List, Ok, Option, Result, length, ℕ, ⊤, ◌≡◌, ◌⊎◌}
@@ -76,8 +76,8 @@ abbrev pub HasPartCursor : List ℕ → PlacedKind → Type 0
 HasPartCursor block (placed.File places) = IsPartCursor block places.parts
 HasPartCursor block _ = ⊤
 
--- the computed answers for which memory is taken first: the kinds of directories and shards, and the faults that are found
--- with a set of names or a list of slots
+-- the computed answers for which memory is taken first: the kinds of directories and shards, and the faults that are
+-- found with a set of names or a list of slots
 abbrev pub TakesMemory : Result Kind BlockFault → Type 0
 TakesMemory (Ok (Basic entries)) = ⊤
 TakesMemory (Ok (Shard slots)) = ⊤

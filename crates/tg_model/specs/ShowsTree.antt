@@ -1,5 +1,5 @@
--- A DAG shows a tree of files (UnixFS specification: File, Directory, HAMTDirectory, Symlink). Whether a folder is sharded
--- doesn't appear.
+-- A DAG shows a tree of files (UnixFS specification: File, Directory, HAMTDirectory, Symlink). Whether a folder is
+-- sharded doesn't appear.
 use Rattle.tg_tree.specs.declared.items.Sort.TheVariants as sorts
 use Rattle.tg_tree.specs.declared.tree.Tree.TheOpen as trees
 use Rattle.std.specs.Prelude.{Contains, List, None, Option, Some, [], map, ℕ, ⊤, ◌↔◌, ◌∷◌, ◌≡◌}
@@ -30,8 +30,8 @@ abbrev pub SlotShows : (List ℕ → Type 0) → Type 0 → Option (List ℕ) �
 SlotShows Entry Inside (Some name) = Entry name
 SlotShows Entry Inside None = Inside
 
--- a file is shown by a raw block or a file with its bytes, a symbolic link by one with its target, and a folder by a directory
--- whose entries have just its names, each showing what has the name in the folder
+-- a file is shown by a raw block or a file with its bytes, a symbolic link by one with its target, and a folder by a
+-- directory whose entries have just its names, each showing what has the name in the folder
 abbrev mutual
   pub Shows : Dag → Tree → Type 0
   Shows (unopened cid) tree = ⊥

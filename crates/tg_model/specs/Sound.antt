@@ -1,5 +1,5 @@
--- Where a node stands in a DAG, what it has to be there, and when a DAG is sound (UnixFS specification: File, Directory,
--- HAMTDirectory).
+-- Where a node stands in a DAG, what it has to be there, and when a DAG is sound (UnixFS specification: File,
+-- Directory, HAMTDirectory).
 use Rattle.tg_model.specs.declared.fault.BlockFault.TheVariants as faults
 use Rattle.std.specs.Prelude.{Bool, IfSome, List, None, Option, Some, [], false, if◌then◌else◌, length, map, nat_lt, not, true, unwrap_or, ℕ, ⊤, ◌&&◌, ◌++◌, ◌+◌, ◌==◌, ◌∷◌, ◌≡◌}
 use Rattle.tg_cid.specs.Names.{Names}
@@ -11,8 +11,8 @@ use Rattle.tg_model.specs.declared.kinds.Kind.TheVariants.{Basic, File, Raw, Sha
 use Rattle.tg_model.specs.declared.kinds.Slot.{Slot}
 use Rattle.tg_murmur.specs.NameHash.{slot_of}
 
--- where a node stands: the root or an entry of a directory, a part of a file with the size that is declared for it, or a
--- child of a shard behind the slots that were passed
+-- where a node stands: the root or an entry of a directory, a part of a file with the size that is declared for it, or
+-- a child of a shard behind the slots that were passed
 pub data Position : Type 0 where
   top : Position
   part : ℕ → Position
@@ -62,8 +62,8 @@ misplaced_from at above (slot ∷ slots) = if is_misplaced above slot then Some 
 abbrev pub shard_fault : List ℕ → List Slot → Option BlockFault
 shard_fault above slots = if nat_lt 7 (length above) then Some faults.BelowEight else misplaced_from 0 above slots
 
--- why a node of this kind can't stand there, the first of the faults: a shard is one there, a child of a shard is a shard, and
--- a part is raw or a file
+-- why a node of this kind can't stand there, the first of the faults: a shard is one there, a child of a shard is a
+-- shard, and a part is raw or a file
 abbrev pub position_fault : Position → Kind → Option BlockFault
 position_fault top Raw = None
 position_fault top (File inline filesize parts) = None
@@ -111,8 +111,8 @@ pub record IsNodeAt (position : Position) (section : Section) (kind : Kind) (chi
   pub of_size : IsOfSize position (total_of section kind)
   pub tells_size : TellsSize kind (total_of section kind)
 
--- each opened node that is read on is what is said of it; of a block that isn't only its CID is told, and a block without
--- a kind isn't sound
+-- each opened node that is read on is what is said of it; of a block that isn't only its CID is told, and a block
+-- without a kind isn't sound
 abbrev pub IsBareBlock : Section → Option BlockFault → Type 0
 IsBareBlock section None = Names section.cid section.block
 IsBareBlock section (Some fault) = ⊥

@@ -73,15 +73,15 @@ IsCauseOf told cid before now (faults.Changed want got) = (told ≡ None) × IsC
 IsCauseOf told cid before now faults.Failed = Rose before now
 IsCauseOf told cid before now faults.OutOfMemory = now ≡ before
 
--- what a kind of store in which blocks are looked up says of its values: what is stored under each CID, told or not; how many
--- calls failed; and how a value moves when these CIDs are looked up in it
+-- what a kind of store in which blocks are looked up says of its values: what is stored under each CID, told or not;
+-- how many calls failed; and how a value moves when these CIDs are looked up in it
 pub record BlocksMeaning (S : Type 0) : Type 1 where
   pub stored : S → Option Store
   pub faults : S → ℕ
   pub looked : S → S → List CidParts → Type 0
 
--- what a kind of store that keeps blocks says of its values: what is stored under each CID, told or not; how many calls failed;
--- and how a value moves when these sections are kept, one after another
+-- what a kind of store that keeps blocks says of its values: what is stored under each CID, told or not; how many calls
+-- failed; and how a value moves when these sections are kept, one after another
 pub record KeepMeaning (S : Type 0) : Type 1 where
   pub stored : S → Option Store
   pub faults : S → ℕ

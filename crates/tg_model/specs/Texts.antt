@@ -6,8 +6,8 @@ use Rattle.std.specs.Prelude.{Bool, List, [], bytes_eq, codes, decimal, false, i
 use Rattle.tg_cid.specs.Cid.{CidParts}
 use Rattle.tg_cid.specs.Computed.{cid_text}
 
--- ASCII letters, ASCII digits, `-`, `.`, `_` and `~` stand for themselves, and each other byte is `%` and two upper-case
--- hexadecimal digits (RFC 3986, section 2.3)
+-- ASCII letters, ASCII digits, `-`, `.`, `_` and `~` stand for themselves, and each other byte is `%` and two
+-- upper-case hexadecimal digits (RFC 3986, section 2.3)
 abbrev pub is_unreserved : ℕ → Bool
 is_unreserved b = (nat_le 65 b && nat_le b 90) || (nat_le 97 b && nat_le b 122) || (nat_le 48 b && nat_le b 57) || b == 45 || b == 46 || b == 95 || b == 126
 

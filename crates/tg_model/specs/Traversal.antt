@@ -1,5 +1,6 @@
--- The traversal of a DAG for a query: the places that are sent, in preorder and in the order of the links, with the text
--- that they give and the entries that are met (Trustless Gateway specification: dag-scope, entity-bytes, order dfs).
+-- The traversal of a DAG for a query: the places that are sent, in preorder and in the order of the links, with the
+-- text that they give and the entries that are met (Trustless Gateway specification: dag-scope, entity-bytes, order
+-- dfs).
 use Rattle.tg_model.specs.declared.queries.Scope.TheVariants as scopes
 use Rattle.tg_bytes.specs.Ascii.{line_feed, slash}
 use Rattle.std.specs.Prelude.{Bool, List, None, Option, Some, [], drop, if◌then◌else◌, length, map, nat_lt, take, ℕ, ◌&&◌, ◌++◌, ◌+◌, ◌-◌, ◌∷◌}
@@ -17,7 +18,8 @@ use Rattle.tg_model.specs.declared.kinds.Part.{Part}
 use Rattle.tg_model.specs.declared.kinds.Slot.{Slot}
 use Rattle.tg_model.specs.declared.queries.Scope.{Scope}
 
--- a place of a traversal: the section that is opened there, and how many blocks there are from the root to it, both counted
+-- a place of a traversal: the section that is opened there, and how many blocks there are from the root to it, both
+-- counted
 pub record Place : Type 0 where
   pub section : Section
   pub depth : ℕ
@@ -61,8 +63,9 @@ after_end (stopped stop) a b = a
 abbrev pub and_then : Traversal → Traversal → Traversal
 and_then a b = after_end a.end a b
 
--- what is asked of a node: all below a directory, as records of a bundle under this path; a file's content or a symbolic
--- link's target; the content from a byte up to another, counted from the node's first; or a directory's entries
+-- what is asked of a node: all below a directory, as records of a bundle under this path; a file's content or a
+-- symbolic link's target; the content from a byte up to another, counted from the node's first; or a directory's
+-- entries
 pub data Reach : Type 0 where
   bundled : List ℕ → Reach
   entire : Reach
@@ -111,7 +114,8 @@ text_behind entire kind = []
 text_behind (ranged low high) kind = []
 text_behind listed kind = []
 
--- what is done at a link: the entries that are met there, and what is asked of the child and where it stands, if it is opened
+-- what is done at a link: the entries that are met there, and what is asked of the child and where it stands, if it is
+-- opened
 pub record Visit : Type 0 where
   pub met : List ListedEntry
   pub into : Option (Reach × Position)

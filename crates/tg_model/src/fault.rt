@@ -6,8 +6,8 @@ use tg_pbtable::PbFault;
 use tg_unixfs::UnixFault;
 use thiserror::Error;
 
-/// Why a block has no kind under its CID, or can't stand where it stands in a DAG. Of several the first is told. Indexes of
-/// links and slots count from 0; no inner fault is want of memory.
+/// Why a block has no kind under its CID, or can't stand where it stands in a DAG. Of several the first is told.
+/// Indexes of links and slots count from 0; no inner fault is want of memory.
 #[derive(Clone, Copy, Debug, PartialEq, Eq, Error)]
 pub enum BlockFault {
     /// The block is no DAG-PB node.

@@ -32,8 +32,8 @@ pub(crate) fn basic_kind(alloc: Global, block: &[u8], links: u64) -> Result<Plac
     Ok(PlacedKind::Basic { entries })
 }
 
-/// Whether a name may be an entry's in a directory, and a segment of a path: it isn't empty, `.` or `..`, and has no `/` and no zero byte.
-/// It takes no memory.
+/// Whether a name may be an entry's in a directory, and a segment of a path: it isn't empty, `.` or `..`, and has no
+/// `/` and no zero byte. It takes no memory.
 ///
 /// UnixFS specification, Directory; Path Gateway specification, path segments.
 pub fn is_good_name(name: &[u8]) -> bool

@@ -71,8 +71,8 @@ pub enum Step {
     NotFolder,
 }
 
-/// What a writer made: the CID of the root, how many bytes of content a file has (0 for a directory), and the length of the
-/// root's block with the Tsizes of its links.
+/// What a writer made: the CID of the root, how many bytes of content a file has (0 for a directory), and the length of
+/// the root's block with the Tsizes of its links.
 #[derive(Clone, Copy, Debug, PartialEq, Eq)]
 pub struct Made {
     pub cid: Cid,

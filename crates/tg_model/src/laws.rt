@@ -28,12 +28,13 @@ pub fn readings()
     tg_cid::laws::computes();
 }
 
-/// The bits of a shard are one number, of which the first byte is the most significant: that byte stands above the number of the others,
-/// and the number of so many bytes is below that power of 2.
+/// The bits of a shard are one number, of which the first byte is the most significant: that byte stands above the
+/// number of the others, and the number of so many bytes is below that power of 2.
 ///
 /// UnixFS specification, HAMT Directories.
 pub fn big_endians()
-    ensures first { (byte : ℕ) (bytes : List ℕ) → big_endian (byte ∷ bytes) ≡ byte * 2 ^ (8 * length bytes) + big_endian bytes }
+    ensures first { (byte : ℕ) (bytes : List ℕ) → big_endian (byte
+        ∷ bytes) ≡ byte * 2 ^ (8 * length bytes) + big_endian bytes }
     ensures below { (bytes : List ℕ) → ((k : ℕ) → get_or bytes k 0 < 256) → big_endian bytes < 2 ^ (8 * length bytes) }
 {}
 

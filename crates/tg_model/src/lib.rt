@@ -1,5 +1,5 @@
-//! The block model: what a block is read as, what a DAG of blocks says, what a query asks of it, and the steps that go over one
-//! block.
+//! The block model: what a block is read as, what a DAG of blocks says, what a query asks of it, and the steps that go
+//! over one block.
 #![tactic(auto)]
 
 mod fault;

@@ -20,8 +20,9 @@ use tg_unixfs::size_at;
 
 /// The first part of a file at a cursor or behind it, and the cursor behind that part; none where no part is left.
 ///
-/// UnixFS specification, File: a link with its blocksize. A cursor is that of a file read by `reads_in_place`, or what an
-/// earlier call gave, over the same block. It takes no memory, and a step takes the same time however large the block is.
+/// UnixFS specification, File: a link with its blocksize. A cursor is that of a file read by `reads_in_place`, or what
+/// an earlier call gave, over the same block. It takes no memory, and a step takes the same time however large the
+/// block is.
 pub fn part_at(block: &[u8], cursor: PartCursor) -> Option<(Part, PartCursor)>
     requires { IsPartCursor block.now cursor }
     ensures next { (parts : Items Part) → ArePartsAhead block.now cursor parts

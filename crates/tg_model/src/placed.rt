@@ -34,8 +34,8 @@ pub struct PartCursor {
     pub(crate) size: usize,
 }
 
-/// A file where it stands: the place of its inline bytes in the block, the size of all of its content where it is told, how
-/// many bytes of content it declares, and its parts.
+/// A file where it stands: the place of its inline bytes in the block, the size of all of its content where it is told,
+/// how many bytes of content it declares, and its parts.
 ///
 /// UnixFS specification, File.
 #[derive(Clone, Copy, Debug, PartialEq, Eq)]
@@ -52,8 +52,8 @@ pub struct FilePlaces {
     pub count: u64,
 }
 
-/// What a block is read as under its CID, with a file's parts and the bytes of a file and of a symbolic link left in the
-/// block.
+/// What a block is read as under its CID, with a file's parts and the bytes of a file and of a symbolic link left in
+/// the block.
 ///
 /// UnixFS specification, Data Format and node types.
 #[derive(Debug, Drop)]
@@ -79,9 +79,9 @@ pub(crate) struct DataPlaces {
 
 /// What the block is read as under the CID, as `reads` has it, but where it stands.
 ///
-/// UnixFS specification, Data Format and node types. Errors: those of `reads` in its order. Only the entries of a directory
-/// and the slots of a shard take memory, so that for nothing else `OutOfMemory` comes. That the CID names the block isn't
-/// looked at.
+/// UnixFS specification, Data Format and node types. Errors: those of `reads` in its order. Only the entries of a
+/// directory and the slots of a shard take memory, so that for nothing else `OutOfMemory` comes. That the CID names the
+/// block isn't looked at.
 pub fn reads_in_place(alloc: Global, cid: &Cid, block: &[u8]) -> Result<PlacedKind, BlockFault>
     ensures found { IfOk result (λ placed. (kind : Kind) × Reads cid.now block.now kind
         × StandsForKind block.now placed kind) }

@@ -109,11 +109,11 @@ impl Span {
     }
 }
 
-/// What is asked of a DAG: its root, a path from there to the terminal, what is sent of it and in which form, a range of a
-/// file's bytes, and whether a block that stands at several places is sent at each.
+/// What is asked of a DAG: its root, a path from there to the terminal, what is sent of it and in which form, a range
+/// of a file's bytes, and whether a block that stands at several places is sent at each.
 ///
-/// A path has at most 128 segments, each the name of an entry. A range has scope entity. A raw query has the empty path, scope
-/// block, no range, and repeats.
+/// A path has at most 128 segments, each the name of an entry. A range has scope entity. A raw query has the empty
+/// path, scope block, no range, and repeats.
 ///
 /// Trustless Gateway specification.
 #[derive(Debug, Drop)]
@@ -142,7 +142,8 @@ impl Query {
         requires few { length path ≤ 128 }
         requires good { All IsGoodName path }
         requires span { IfSome span (λ range. (scope ≡ Scope.Entity) × IsSpan range) }
-        ensures { result ≡ record { root = root; path = path; form = Form.Car; scope = scope; span = span; dups = dups } }
+        ensures { result ≡ record
+            { root = root; path = path; form = Form.Car; scope = scope; span = span; dups = dups } }
     {
         Query {
             root,
@@ -156,7 +157,8 @@ impl Query {
 
     /// A query for the root's block, in the form of a raw block.
     pub fn raw(alloc: Global, root: Cid) -> Query
-        ensures { result ≡ record { root = root; path = []; form = Form.Raw; scope = Scope.Block; span = None; dups = true } }
+        ensures { result ≡ record
+            { root = root; path = []; form = Form.Raw; scope = Scope.Block; span = None; dups = true } }
     {
         Query {
             root,

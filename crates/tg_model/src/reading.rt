@@ -18,10 +18,11 @@ use tg_cid::Cid;
 
 /// What the block is read as under the CID.
 ///
-/// UnixFS specification, Data Format and node types. Fields that this project's own profile of DAG-PB and UnixFS refuses are
-/// faults. Errors, of which the first is told, in this order: `BadNode`, `BadLink`, `NoUnix`, `BadUnix`; of a file `BadSizes`,
-/// `HugeSizes`, `BadShape`; of a directory `BadName`, `DoubledName`; of a shard `BadName`, `BadBits`, `BadSlot`; of a symbolic
-/// link `BadShape`; and `OutOfMemory` for want of memory alone. That the CID names the block isn't looked at.
+/// UnixFS specification, Data Format and node types. Fields that this project's own profile of DAG-PB and UnixFS
+/// refuses are faults. Errors, of which the first is told, in this order: `BadNode`, `BadLink`, `NoUnix`, `BadUnix`; of
+/// a file `BadSizes`, `HugeSizes`, `BadShape`; of a directory `BadName`, `DoubledName`; of a shard `BadName`,
+/// `BadBits`, `BadSlot`; of a symbolic link `BadShape`; and `OutOfMemory` for want of memory alone. That the CID names
+/// the block isn't looked at.
 pub fn reads(alloc: Global, cid: &Cid, block: &[u8]) -> Result<Kind, BlockFault>
     ensures found { IfOk result (λ kind. Reads cid.now block.now kind) }
     ensures only { (kind : Kind) → Reads cid.now block.now kind

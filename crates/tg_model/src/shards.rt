@@ -7,10 +7,11 @@ use crate::fault::BlockFault;
 use crate::kinds::{Kind, Slot};
 use tg_murmur::{hash64, slot};
 
-/// Whether a shard that is reached through these slots may stand there. A block that is no shard may. It takes no memory.
+/// Whether a shard that is reached through these slots may stand there. A block that is no shard may. It takes no
+/// memory.
 ///
-/// UnixFS specification, HAMTDirectory. Errors: `BelowEight` behind more than 7 slots, and then `Misplaced` at the first slot
-/// that is an entry whose name hasn't the slots that were passed and then its own.
+/// UnixFS specification, HAMTDirectory. Errors: `BelowEight` behind more than 7 slots, and then `Misplaced` at the
+/// first slot that is an entry whose name hasn't the slots that were passed and then its own.
 pub fn check_shard(kind: &Kind, above: &[u8]) -> Result<(), BlockFault>
     ensures { IsFaultOf (shard_fault_of kind.now above.now) result }
 {

@@ -7,8 +7,8 @@ ghost use Rattle.tg_model.specs.StepAnswers.{IsStep, IsStepOver, entry_cids, slo
 use crate::kinds::{Entry, Kind, Slot, Step};
 use tg_murmur::{hash64, slot};
 
-/// Where one step from a block with a name leads, at a level of shards (0 for a block that is no shard's child). `level` is at
-/// most 7. It takes no memory.
+/// Where one step from a block with a name leads, at a level of shards (0 for a block that is no shard's child).
+/// `level` is at most 7. It takes no memory.
 ///
 /// Path Gateway specification, Path Resolution; UnixFS specification, Directory and HAMTDirectory.
 pub fn step(kind: &Kind, level: u8, name: &[u8]) -> Step

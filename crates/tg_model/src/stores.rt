@@ -37,22 +37,23 @@ pub enum KeepFault {
 
 /// A store in which blocks are looked up by their CIDs. A CIDv0 has what the CIDv1 with its codec and digest has.
 ///
-/// Its meaning is one record: `stored` is the block under each CID, or `None` where that isn't told; `faults` counts the calls
-/// that failed and stands still at 2 ^ 64 - 1; `looked` relates a value, what it became, and the CIDs that were looked up in it
-/// meanwhile, in order: it holds the facts that the kind of store keeps while it is read. A look-up may change the value, as
-/// where a memory of blocks fills.
+/// Its meaning is one record: `stored` is the block under each CID, or `None` where that isn't told; `faults` counts
+/// the calls that failed and stands still at 2 ^ 64 - 1; `looked` relates a value, what it became, and the CIDs that
+/// were looked up in it meanwhile, in order: it holds the facts that the kind of store keeps while it is read. A
+/// look-up may change the value, as where a memory of blocks fills.
 pub trait Blocks {
     ghost blocks: { BlocksMeaning Self };
 
     /// The block that is stored under the CID, which names it, and none where no block is.
     ///
-    /// Errors: `Changed` where the stored bytes no longer have the digest, which never comes of a store that tells what it
-    /// holds; `Failed` where the store failed and counted it; `OutOfMemory`.
+    /// Errors: `Changed` where the stored bytes no longer have the digest, which never comes of a store that tells what
+    /// it holds; `Failed` where the store failed and counted it; `OutOfMemory`.
     fn get(&mut self, cid: &Cid) -> Result<Option<Bytes>, BlocksFault>
         ensures gotten { IfOk result (λ found. IsGotten (blocks.stored self.old) cid.now found) }
         ensures looked { OnOk result (LookedUp (cid.now ∷ []) (looked_in blocks self.old self.new)) }
         ensures quiet { OnOk result (LookupsQuiet (looked_in blocks self.old self.new)) }
-        ensures cause { IfErr result (λ fault. IsCauseOf (blocks.stored self.old) cid.now (blocks.faults self.old) (blocks.faults self.new) fault) }
+        ensures cause { IfErr result (λ fault. IsCauseOf (blocks.stored self.old) cid.now (blocks.faults self.old)
+            (blocks.faults self.new) fault) }
 
         // A failed call looks nothing up.
         ensures err_looked { OnErr result (LookedUp [] (looked_in blocks self.old self.new)) }
@@ -69,9 +70,9 @@ pub trait Blocks {
 
 /// A store that keeps blocks.
 ///
-/// Its meaning is one record: `stored` and `faults` are as those of `Blocks`; `kept` relates a value, what it became, and the
-/// sections, each a CID with its block, that were kept in it meanwhile, one after another: it holds the facts that the kind of
-/// store knows of what it keeps.
+/// Its meaning is one record: `stored` and `faults` are as those of `Blocks`; `kept` relates a value, what it became,
+/// and the sections, each a CID with its block, that were kept in it meanwhile, one after another: it holds the facts
+/// that the kind of store knows of what it keeps.
 pub trait Keep {
     ghost keeper: { KeepMeaning Self };
 
@@ -82,7 +83,8 @@ pub trait Keep {
     fn keep(&mut self, cid: Cid, block: &[u8]) -> Result<(), KeepFault>
         requires named { Names cid block.now }
         requires small { length block.now ≤ max_block_len }
-        ensures kept { OnOk result (Kept (record { cid = cid; block = block.now } ∷ []) (kept_in keeper self.old self.new)) }
+        ensures kept { OnOk result (Kept (record { cid = cid; block = block.now }
+            ∷ []) (kept_in keeper self.old self.new)) }
         ensures quiet { OnOk result (KeepingQuiet (kept_in keeper self.old self.new)) }
 
         // A failed call keeps nothing.

@@ -8,8 +8,8 @@ use crate::kinds::Part;
 use crate::queries::{Span, SpanFrom};
 
 /// The run of a file's parts that a range of its content meets: the index of the first part, and the one past the last;
-/// `(0, 0)` where none is met. The range goes from the byte `low` up to and without `high`; a part without length isn't met,
-/// though it may stand inside the run. It takes no memory.
+/// `(0, 0)` where none is met. The range goes from the byte `low` up to and without `high`; a part without length isn't
+/// met, though it may stand inside the run. It takes no memory.
 ///
 /// The inline length and the sizes of the parts come to less than 2^63. Trustless Gateway specification, entity-bytes.
 pub fn window(inline: u64, parts: &[Part], low: u64, high: u64) -> (usize, usize)
@@ -39,8 +39,8 @@ fn is_met(low: u64, high: u64, from: u64, size: u64) -> bool
     size > 0 && low < high && from < high && low < from + size
 }
 
-/// The first byte of the range in a file of `total` bytes, and the byte behind its last. The range is empty where the first
-/// isn't below the other. It takes no memory.
+/// The first byte of the range in a file of `total` bytes, and the byte behind its last. The range is empty where the
+/// first isn't below the other. It takes no memory.
 ///
 /// Trustless Gateway specification, entity-bytes.
 pub fn resolve_span(span: &Span, total: u64) -> (u64, u64)

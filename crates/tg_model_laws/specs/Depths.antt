@@ -36,7 +36,8 @@ abbrev pub EndsDeeper : ℕ → TraversalEnd → Type 0
 EndsDeeper most whole = ⊤
 EndsDeeper most (stopped stop) = IsDeeper most stop
 
--- a traversal cut at a depth: its places aren't deeper, and it is the whole traversal, or it stops where a deeper block is wanted
+-- a traversal cut at a depth: its places aren't deeper, and it is the whole traversal, or it stops where a deeper block
+-- is wanted
 pub record IsCutAt (most : ℕ) (t u : Traversal) : Type 0 where
   pub within : All (λ p. p.depth ≤ most) t.places
   pub end : EndsDeeper most t.end

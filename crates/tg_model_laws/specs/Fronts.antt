@@ -6,8 +6,8 @@ use Rattle.tg_model.specs.Fits.{Fits, IfOnce, IsInProgress, output_so_far}
 use Rattle.tg_model.specs.PathWalk.{Spot}
 use Rattle.tg_model.specs.Queries.{QueryParts}
 
--- the front is in progress, the CID of the section behind it is wanted, its partial DAG is the other with some blocks unopened, and
--- what is written for it is a front of what is written for the other
+-- the front is in progress, the CID of the section behind it is wanted, its partial DAG is the other with some blocks
+-- unopened, and what is written for it is a front of what is written for the other
 pub record IsFrontOf (q : QueryParts) (d : Dag) (front : List Section) (next : Section) : Type 0 where
   pub partial : Dag
   pub spot : Spot

@@ -1,4 +1,5 @@
--- One traversal behind another, and one step of the traversal of a query: at a node of its path, at the terminal, and below it.
+-- One traversal behind another, and one step of the traversal of a query: at a node of its path, at the terminal, and
+-- below it.
 use Rattle.std.specs.Prelude.{List, None, Some, [], length, ℕ, ◌++◌, ◌+◌, ◌∷◌, ◌≡◌}
 use Rattle.tg_model.specs.Dag.{Children, Dag, Section, node}
 use Rattle.tg_model.specs.PathWalk.{PathWalk, StepTo, absent, bad_block, child_below, not_folder_here, not_folder, not_there, spot_at, step_of, to_child, to_entry, walk_child, walk_from}

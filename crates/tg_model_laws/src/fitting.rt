@@ -15,12 +15,15 @@ ghost use Rattle.tg_model.specs.Queries.{QueryParts};
 ghost use Rattle.tg_model.specs.Sound.{IsSound};
 ghost use Rattle.tg_model.specs.Traversal.{block_list, opened_list, traversal};
 
-/// Sections fit a query in one way at most: the partial DAG that they open and the text are determined. They stay in progress in
-/// one way at most: the partial DAG and the spot of the wanted block are determined. And they don't do both.
+/// Sections fit a query in one way at most: the partial DAG that they open and the text are determined. They stay in
+/// progress in one way at most: the partial DAG and the spot of the wanted block are determined. And they don't do
+/// both.
 pub fn one_fit()
     // What is opened is determined by the list of what is opened, and this by what is sent.
-    ensures opened { (q : QueryParts) (a b : Dag) → IsOpenedFor a q → IsOpenedFor b q → opened_list q a ≡ opened_list q b
-        → IsAtPlace (traversal q a).end → IsAtPlace (traversal q b).end → (a ≡ b) × ((traversal q a).end ≡ (traversal q b).end) }
+    ensures opened { (q : QueryParts) (a b : Dag) → IsOpenedFor a q → IsOpenedFor b q
+        → opened_list q a ≡ opened_list q b
+        → IsAtPlace (traversal q a).end → IsAtPlace (traversal q b).end → (a ≡ b)
+        × ((traversal q a).end ≡ (traversal q b).end) }
     ensures sent { (q : QueryParts) (a b : Dag) → IsOpenedFor a q → IsOpenedFor b q → block_list q a ≡ block_list q b
         → opened_list q a ≡ opened_list q b }
 
@@ -34,8 +37,8 @@ pub fn one_fit()
     tg_model::laws::readings();
 }
 
-/// Each front of sections that fit, or are in progress, is in progress: the CID of the section behind it is wanted, and what is
-/// written for it is a front of what is written for all.
+/// Each front of sections that fit, or are in progress, is in progress: the CID of the section behind it is wanted, and
+/// what is written for it is a front of what is written for all.
 pub fn front_sections()
     ensures fits { FitsByFronts }
     ensures in_progress { ProgressByFronts }
@@ -48,9 +51,10 @@ pub fn own_sections()
         → (s : Dag) × Fits s q (block_list q d) text }
 {}
 
-/// Against every peer: sections that fit a query are those of the sound DAG with the query's root and their text is its answer,
-/// or there is a collision pair; what is written meanwhile is a front of the answer, an absence is one of the DAG, and what is
-/// opened counts no more than the DAG does, so that a limit that is passed is one that the DAG passes; or there is a pair.
+/// Against every peer: sections that fit a query are those of the sound DAG with the query's root and their text is its
+/// answer, or there is a collision pair; what is written meanwhile is a front of the answer, an absence is one of the
+/// DAG, and what is opened counts no more than the DAG does, so that a limit that is passed is one that the DAG passes;
+/// or there is a pair.
 pub fn against_every_peer()
     ensures accepted { (q : QueryParts) (d s : Dag) (sections : List Section) (out : List ℕ)
         → IsSound d → root_cid d ≡ q.root → Fits s q sections out

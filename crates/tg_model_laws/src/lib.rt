@@ -1,7 +1,8 @@
-//! Laws of the block model: what follows from its definitions alone, each the contract of a function that does nothing. Code
-//! calls such a function where its own proof needs the law.
+//! Laws of the block model: what follows from its definitions alone, each the contract of a function that does nothing.
+//! Code calls such a function where its own proof needs the law.
 #![tactic(auto)]
 
+mod examples;
 mod fitting;
 mod partial;
 mod places;
@@ -9,6 +10,7 @@ mod sound;
 mod steps;
 mod stores;
 
+pub use examples::parts_at_a_range;
 pub use fitting::{against_every_peer, front_sections, one_fit, own_sections};
 pub use partial::{opened_texts, partial_dags};
 pub use places::{met_parts, placed_children, placed_shards};

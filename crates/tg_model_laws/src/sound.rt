@@ -12,8 +12,8 @@ ghost use Rattle.tg_model.specs.Traversal.{named_met, opened_list, traversal};
 ghost use Rattle.tg_model.specs.declared.kinds.Kind.{Kind};
 ghost use Rattle.tg_model.specs.declared.queries.Scope.TheVariants as scopes;
 
-/// In a sound DAG the walk along a path by slots ends as the look-up by names does: at the same node, or with the same end at
-/// the same segment.
+/// In a sound DAG the walk along a path by slots ends as the look-up by names does: at the same node, or with the same
+/// end at the same segment.
 ///
 /// Path Gateway specification, Path Resolution; UnixFS specification, HAMTDirectory.
 pub fn paths()
@@ -25,14 +25,15 @@ pub fn paths()
 /// UnixFS specification, File.
 pub fn sound_dags()
     ensures whole { (d : Dag) → IsSound d → IsWhole d }
-    ensures size { (section : Section) (kind : Kind) (children : Children) → IsSound (node section kind children) → IsFileKind kind
+    ensures size { (section : Section) (kind : Kind) (children : Children) → IsSound (node section kind children)
+        → IsFileKind kind
         → length (content (node section kind children)) ≡ total_of section kind }
 {}
 
 /// Where the path of a query leads to a terminal in a sound DAG, the traversal comes through.
 ///
-/// Its text is what the terminal says, but for a listing, of which it meets just the entries; and under scope all it sends just
-/// the terminal's blocks in preorder behind those of the path.
+/// Its text is what the terminal says, but for a listing, of which it meets just the entries; and under scope all it
+/// sends just the terminal's blocks in preorder behind those of the path.
 ///
 /// Trustless Gateway specification, dag-scope and entity-bytes.
 pub fn traversals()

@@ -2,8 +2,8 @@
 ghost use Rattle.tg_model_laws.specs.Depths.{CutsAtDepths, ShowsDownTo};
 ghost use Rattle.tg_model_laws.specs.Stores.{KeepingHolds, KeepingJoins, KeepingStays, KeepingStores, ShowsFront, ShowsSound};
 
-/// Sections that were kept one after another: what was stored stays, the store is still one, and each section is stored, or two
-/// different blocks have one SHA-256.
+/// Sections that were kept one after another: what was stored stays, the store is still one, and each section is
+/// stored, or two different blocks have one SHA-256.
 pub fn kept_sections()
     ensures joins { KeepingJoins }
     ensures store { KeepingStores }
@@ -11,8 +11,8 @@ pub fn kept_sections()
     ensures holds { KeepingHolds }
 {}
 
-/// A store that holds the blocks of a sound DAG of at most 1,100 blocks' depth shows that DAG, so that each traversal of what it
-/// shows is the DAG's.
+/// A store that holds the blocks of a sound DAG of at most 1,100 blocks' depth shows that DAG, so that each traversal
+/// of what it shows is the DAG's.
 pub fn shown_dags()
     ensures whole { ShowsSound }
     // Whatever the depth, with some blocks unopened.
@@ -21,9 +21,9 @@ pub fn shown_dags()
     tg_model::laws::readings();
 }
 
-/// A traversal of a sound DAG that is cut at a depth: its places aren't deeper, and it is the DAG's, or it stops where a deeper block
-/// is wanted and gives fronts of what the DAG's gives. Cut at a depth of at most 1,100 blocks, what a store shows is the sound DAG of
-/// which it holds the blocks.
+/// A traversal of a sound DAG that is cut at a depth: its places aren't deeper, and it is the DAG's, or it stops where
+/// a deeper block is wanted and gives fronts of what the DAG's gives. Cut at a depth of at most 1,100 blocks, what a
+/// store shows is the sound DAG of which it holds the blocks.
 pub fn cut_traversals()
     ensures cut { CutsAtDepths }
     ensures shown { ShowsDownTo }

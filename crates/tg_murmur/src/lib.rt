@@ -5,10 +5,10 @@ ghost use Rattle.std.specs.Prelude.{◌≡◌, ℕ, ◌-◌, ◌^◌, ◌<◌, L
 ghost use Rattle.std.specs.Int.{w64, to_be_bytes};
 ghost use Rattle.tg_murmur.specs.NameHash.{name_hash, slot_of, scrambled1, scrambled2, first_word, second_word, with_block, with_rest, final_mix, finished};
 
+mod examples;
 pub mod laws;
-#[cfg(test)]
-mod tests;
 
+pub use examples::empty_name;
 use std::marker::Model;
 
 const C1: u64 = 0x87c3_7b91_1142_53d5;

@@ -1,5 +1,5 @@
--- The CID that a text spells, or why it spells none, as a function (CID specification; multihash; multibase `b`; RFC 4648,
--- section 6). The faults are those of the first place at which the grammar is broken.
+-- The CID that a text spells, or why it spells none, as a function (CID specification; multihash; multibase `b`; RFC
+-- 4648, section 6). The faults are those of the first place at which the grammar is broken.
 use Rattle.std.specs.Prelude.{Bool, Err, List, None, Ok, Option, Result, Some, [], bytes_eq, false, if◌then◌else◌, length, nat_le, nat_lt, ℕ, ◌&&◌, ◌*◌, ◌+◌, ◌-◌, ◌==◌, ◌∷◌}
 use Rattle.std.specs.List.{list_all}
 use Rattle.tg_base32.specs.Base32.{bits_of_text}

@@ -1,4 +1,5 @@
--- Paths in targets and words: segments between slashes, in percent-encoding (Path Gateway specification; RFC 3986, section 3.3).
+-- Paths in targets and words: segments between slashes, in percent-encoding (Path Gateway specification; RFC 3986,
+-- section 3.3).
 use Rattle.percent_encoding.specs.Percent.{percent_decode}
 use Rattle.std.specs.List.{list_all}
 use Rattle.std.specs.Prelude.{All, Bool, Err, List, None, Ok, Option, Result, Some, [], if◌then◌else◌, length, map, nat_le, ℕ, ◌&&◌, ◌≡◌, ◌≤◌}

@@ -1,4 +1,5 @@
--- Ranges FROM:TO of a file's bytes (Trustless Gateway specification, entity-bytes; the limits of digits are this project's own).
+-- Ranges FROM:TO of a file's bytes (Trustless Gateway specification, entity-bytes; the limits of digits are this
+-- project's own).
 use Rattle.std.specs.Char.{is_digit}
 use Rattle.std.specs.List.{list_all}
 use Rattle.std.specs.Prelude.{Bool, Err, List, None, Ok, Option, Result, Some, [], bytes_eq, if◌then◌else◌, length, nat_le, nat_lt, option_map, true, ℕ, ◌&&◌, ◌++◌, ◌<◌, ◌^◌, ◌∷◌, ◌≡◌}

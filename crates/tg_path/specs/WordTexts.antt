@@ -1,4 +1,5 @@
--- Words ROOT/PATH of the command line (this project's own): a target without a query, whose front `/ipfs/` may be left out.
+-- Words ROOT/PATH of the command line (this project's own): a target without a query, whose front `/ipfs/` may be left
+-- out.
 use Rattle.std.specs.Prelude.{List, None, Ok, Option, Result, Some, codes, ℕ, ◌++◌, ◌≡◌, ◌⊎◌}
 use Rattle.tg_bytes.specs.Ascii.{slash}
 use Rattle.tg_cid.specs.Cid.{CidParts}

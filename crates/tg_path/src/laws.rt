@@ -15,7 +15,8 @@ ghost use Rattle.tg_path.specs.declared.fault.QueryFault.{QueryFault};
 /// A text is cut at the first place of a byte as the relation says, and what stands behind a front is what is computed.
 pub fn cuts_read()
     ensures front { (front text rest : List ℕ) → (behind_front front text ≡ Some rest) ↔ (text ≡ front ++ rest) }
-    ensures cut { (byte : ℕ) (text front : List ℕ) (rest : Option (List ℕ)) → (cut_first byte text ≡ (front, rest)) ↔ IsCut byte text front rest }
+    ensures cut { (byte : ℕ) (text front : List ℕ) (rest : Option (List ℕ))
+        → (cut_first byte text ≡ (front, rest)) ↔ IsCut byte text front rest }
 {}
 
 /// What is computed of a path is what its grammar says, and its one fault is `BadPath`.
@@ -28,16 +29,18 @@ pub fn paths_read()
     tg_model::laws::good_names();
 }
 
-/// What is computed of a root, of a root with a path and of a word is what the grammar says, and a root is refused by the
-/// cause of its CID's text, which is never want of memory.
+/// What is computed of a root, of a root with a path and of a word is what the grammar says, and a root is refused by
+/// the cause of its CID's text, which is never want of memory.
 ///
 /// CID and Path Gateway specifications.
 pub fn roots_read()
     ensures root { (text : List ℕ) (cid : CidParts) → (root_of text ≡ Ok cid) ↔ CidText cid text }
     ensures cause { (text : List ℕ) (fault : QueryFault) → root_of text ≡ Err fault
         → (inner : CidFault) × (fault ≡ QueryFault.BadCid inner) × HasTextCause text inner }
-    ensures rooted { (text : List ℕ) (root : CidParts) (path : List (List ℕ)) → (rooted_of text ≡ Ok (root, path)) ↔ RootedText text root path }
-    ensures word { (word : List ℕ) (root : CidParts) (path : List (List ℕ)) → (word_of word ≡ Ok (root, path)) ↔ WordText word root path }
+    ensures rooted { (text : List ℕ) (root : CidParts) (path : List (List ℕ))
+        → (rooted_of text ≡ Ok (root, path)) ↔ RootedText text root path }
+    ensures word { (word : List ℕ) (root : CidParts) (path : List (List ℕ))
+        → (word_of word ≡ Ok (root, path)) ↔ WordText word root path }
 {
     tg_varint::laws::spelling_laws();
     tg_base32::laws::text_laws();

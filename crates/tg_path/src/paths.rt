@@ -16,8 +16,8 @@ pub const MAX_SEGMENTS: usize = 128;
 /// The path that a text writes: its segments between slashes, each decoded once from percent-encoding, the empty ones
 /// dropped. A `%` without two hexadecimal digits stands for itself.
 ///
-/// Path Gateway specification; RFC 3986, section 2.1. Errors: `BadPath` where a segment is no name of an entry (a slash or
-/// a zero byte in it, `.` or `..`) or there are more than 128, and `OutOfMemory`.
+/// Path Gateway specification; RFC 3986, section 2.1. Errors: `BadPath` where a segment is no name of an entry (a slash
+/// or a zero byte in it, `.` or `..`) or there are more than 128, and `OutOfMemory`.
 pub fn parse_path(alloc: Global, text: &[u8]) -> Result<Path, QueryFault>
     ensures { Gives (path_of text.now) result }
 {

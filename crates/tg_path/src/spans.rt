@@ -8,8 +8,8 @@ use crate::cuts::cut_first;
 use crate::fault::QueryFault;
 use tg_model::{Span, SpanFrom};
 
-/// The range that a text FROM:TO writes. FROM is 1 to 19 digits, or `-` and 1 to 19 digits; TO is 1 to 19 digits or `*`;
-/// numbers are below 2^63, and FROM isn't above TO where it has no `-`. It takes no memory.
+/// The range that a text FROM:TO writes. FROM is 1 to 19 digits, or `-` and 1 to 19 digits; TO is 1 to 19 digits or
+/// `*`; numbers are below 2^63, and FROM isn't above TO where it has no `-`. It takes no memory.
 ///
 /// Trustless Gateway specification, entity-bytes. The error is `BadRange`.
 pub fn parse_span(text: &[u8]) -> Result<Span, QueryFault>

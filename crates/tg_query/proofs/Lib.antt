@@ -6,4 +6,5 @@ mod Visible
 mod PrintedTargets
 mod Printed
 mod TargetTexts
+mod AcceptedTexts
 mod Examples

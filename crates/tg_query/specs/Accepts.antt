@@ -1,5 +1,5 @@
--- What `Accept` fields accept (RFC 9110, section 12.5.1; Trustless Gateway specification, response types). Fields are cut at
--- commas and semicolons, whatever stands in quotes.
+-- What `Accept` fields accept (RFC 9110, section 12.5.1; Trustless Gateway specification, response types). Fields are
+-- cut at commas and semicolons, whatever stands in quotes.
 use Rattle.httparse.specs.Grammar.{trim_ows}
 use Rattle.std.specs.List.{filter_map, flat_map}
 use Rattle.std.specs.Option.{unwrap_or}
@@ -24,8 +24,8 @@ car_type = codes "application/vnd.ipld.car"
 abbrev pub ranges_of : List (List ℕ) → List (List ℕ)
 ranges_of values = flat_map (cut_at 44) values
 
--- a range is a type, and behind a semicolon its parameters, with semicolons between them; spaces and tabs around each are
--- dropped
+-- a range is a type, and behind a semicolon its parameters, with semicolons between them; spaces and tabs around each
+-- are dropped
 abbrev pub params_in : Option (List ℕ) → List (List ℕ)
 params_in None = []
 params_in (Some params) = cut_at 59 params

@@ -1,5 +1,6 @@
 pub mod Targets
 pub mod Accepts
+pub mod AcceptTexts
 pub mod Joins
 pub mod Requests
 pub mod Laws

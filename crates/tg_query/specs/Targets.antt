@@ -1,5 +1,5 @@
--- Targets of requests: `/ipfs/`, a CID's text, nothing or a slash and a path, and nothing or `?` and a query (Path Gateway and
--- Trustless Gateway specifications).
+-- Targets of requests: `/ipfs/`, a CID's text, nothing or a slash and a path, and nothing or `?` and a query (Path
+-- Gateway and Trustless Gateway specifications).
 use Rattle.percent_encoding.specs.Percent.{percent_decode}
 use Rattle.std.specs.List.{filter_map}
 use Rattle.std.specs.Prelude.{All, Bool, Err, IfSome, List, None, Ok, Option, Result, Some, [], bytes_eq, codes, false, if◌then◌else◌, length, true, ℕ, ◌++◌, ◌∷◌, ◌≡◌, ◌≢◌, ◌≤◌}

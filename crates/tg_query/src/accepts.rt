@@ -34,9 +34,9 @@ pub struct CarChoice {
     pub dups: Bytes,
 }
 
-/// What the values of the `Accept` fields, in order, accept. Types and names of parameters are compared without regard to
-/// ASCII case, values are taken as they stand. Unknown types and parameters are passed over, and of a parameter that stands
-/// twice the first counts.
+/// What the values of the `Accept` fields, in order, accept. Types and names of parameters are compared without regard
+/// to ASCII case, values are taken as they stand. Unknown types and parameters are passed over, and of a parameter that
+/// stands twice the first counts.
 ///
 /// RFC 9110, section 12.5.1; Trustless Gateway specification, response types. The error is want of memory alone.
 pub fn parse_accept(alloc: Global, values: &List<Bytes>) -> Result<Accepted, QueryFault>

@@ -11,11 +11,12 @@ use tg_model::{Form, Query, Scope, Span};
 use tg_path::QueryFault;
 
 /// The query that a target and `Accept` ask for. The target's format decides, else the first known type. For a CAR the
-/// parameters of the first CAR type count; the scope is entity where a range is given, and all where neither is. For a raw
-/// block scope and range are dropped. It takes no memory.
+/// parameters of the first CAR type count; the scope is entity where a range is given, and all where neither is. For a
+/// raw block scope and range are dropped. It takes no memory.
 ///
-/// Trustless Gateway specification. Errors: `BadParam` for a CAR of another version than 1, another order than `dfs` and
-/// `unk`, or dups other than `y` and `n`; `NoFormat` where neither tells a format; `RawPath` for a raw block behind a path.
+/// Trustless Gateway specification. Errors: `BadParam` for a CAR of another version than 1, another order than `dfs`
+/// and `unk`, or dups other than `y` and `n`; `NoFormat` where neither tells a format; `RawPath` for a raw block behind
+/// a path.
 pub fn join(alloc: Global, target: Target, accepted: &Accepted) -> Result<Query, QueryFault>
     requires { IsTarget target }
     ensures { result ≡ join_of target accepted.now }

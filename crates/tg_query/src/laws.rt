@@ -1,13 +1,16 @@
 //! Laws of requests, each the contract of a function that does nothing.
 ghost use Rattle.std.specs.Prelude.{◌≡◌, ◌↔◌, ℕ, List, Ok};
 ghost use Rattle.tg_model.specs.Queries.{QueryParts};
+ghost use Rattle.tg_query.specs.AcceptTexts.{AcceptText};
+ghost use Rattle.tg_query.specs.Accepts.{accepted_of};
 ghost use Rattle.tg_query.specs.Laws.{IsOneHead, IsPrintable};
 ghost use Rattle.tg_query.specs.Requests.{request_text};
 ghost use Rattle.tg_query.specs.Targets.{TargetText, target_of};
+ghost use Rattle.tg_query.specs.declared.accepts.Accepted.{Accepted};
 ghost use Rattle.tg_query.specs.declared.targets.Target.{Target};
 
-/// The request that is printed for a query whose root is a CIDv1 is one head and nothing else, where it fits a head; and
-/// what its target and its `Accept` ask is that query.
+/// The request that is printed for a query whose root is a CIDv1 is one head and nothing else, where it fits a head;
+/// and what its target and its `Accept` ask is that query.
 ///
 /// RFC 9112, sections 2 to 6; Trustless Gateway specification.
 pub fn printed_requests()
@@ -29,4 +32,14 @@ pub fn targets_read()
     tg_path::laws::cuts_read();
     tg_path::laws::roots_read();
     tg_path::laws::spans_read();
+}
+
+/// What is computed of the values of `Accept` fields is what their grammar says.
+///
+/// RFC 9110, section 12.5.1; Trustless Gateway specification, response types.
+pub fn accepts_read()
+    ensures { (values : List (List ℕ)) (accepted : Accepted)
+        → (accepted_of values ≡ accepted) ↔ AcceptText values accepted }
+{
+    tg_path::laws::cuts_read();
 }

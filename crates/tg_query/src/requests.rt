@@ -12,8 +12,8 @@ use tg_cid::Cid;
 use tg_escape::push_escaped;
 use tg_model::{Form, Query, Scope, Span, SpanFrom};
 
-/// The request for a query to a gateway at `addr`, which has the form HOST:PORT. The root stands as a CIDv1. The error is
-/// want of memory.
+/// The request for a query to a gateway at `addr`, which has the form HOST:PORT. The root stands as a CIDv1. The error
+/// is want of memory.
 ///
 /// RFC 9112, section 3; Trustless Gateway specification.
 pub fn print_request(alloc: Global, query: &Query, addr: &str) -> Result<Bytes, AllocError>

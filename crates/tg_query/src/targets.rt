@@ -43,12 +43,12 @@ const NOTHING: Asked = Asked {
     span: None,
 };
 
-/// What the target of a request asks for. The target is `/ipfs/`, a CID's text, nothing or `/` and a path, and nothing or `?`
-/// and a query. Keys and values of the query are decoded from percent-encoding; unknown keys are passed over.
+/// What the target of a request asks for. The target is `/ipfs/`, a CID's text, nothing or `/` and a path, and nothing
+/// or `?` and a query. Keys and values of the query are decoded from percent-encoding; unknown keys are passed over.
 ///
 /// Path Gateway and Trustless Gateway specifications. Errors, in this order: `BadPath` where the front isn't `/ipfs/`,
-/// `BadCid`, `BadPath` for the path; then for the pieces of the query from the left to the right `Doubled` where a known key
-/// stands again, else `BadFormat`, `BadScope` or `BadRange` for its value; and `OutOfMemory`.
+/// `BadCid`, `BadPath` for the path; then for the pieces of the query from the left to the right `Doubled` where a
+/// known key stands again, else `BadFormat`, `BadScope` or `BadRange` for its value; and `OutOfMemory`.
 pub fn parse_target(alloc: Global, target: &[u8]) -> Result<Target, QueryFault>
     ensures target { Gives (target_of target.now) result }
     ensures good { IfOk result IsTarget }

@@ -27,7 +27,8 @@ pub record IsBeside (q : QueryParts) (d : Dag) (given : Given) (tasks : List (Ta
   pub stage : IsStage q d given nodes
   pub parts : EachPlace (λ w below. IsPartAt d (position_of w) below) nodes
 
--- a block passes where it is wanted: it is read there; or it is a terminal's of which the block alone is asked for, and its CID names it
+-- a block passes where it is wanted: it is read there; or it is a terminal's of which the block alone is asked for, and
+-- its CID names it
 abbrev pub PassesIf : Bool → Want → Section → Type 0
 PassesIf true w section = (kind : Kind) × IsReadAt (position_of w) section kind
 PassesIf false w section = Names section.cid section.block
@@ -51,8 +52,8 @@ BesideEnds = (q : QueryParts) (d : Dag) (given : Given) → IsBeside q d given [
 
 -- ---- beside a sound DAG
 
--- the next place of its traversal is the wanted one, at its depth, with a block of the wanted CID that passes there; with it taken,
--- the traversal goes on
+-- the next place of its traversal is the wanted one, at its depth, with a block of the wanted CID that passes there;
+-- with it taken, the traversal goes on
 pub record IsNext (q : QueryParts) (d : Dag) (given : Given) (w : Want) (cid : CidParts) (tasks : List (Task CidParts)) : Type 0 where
   pub section : Section
   pub kind : Kind

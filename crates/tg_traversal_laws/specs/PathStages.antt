@@ -1,8 +1,9 @@
--- The walk along a query's path, in stages, over a DAG and over what a store shows (Path Gateway specification, Path Resolution).
+-- The walk along a query's path, in stages, over a DAG and over what a store shows (Path Gateway specification, Path
+-- Resolution).
 use Rattle.std.specs.Prelude.{Err, List, None, Ok, Some, [], length, ℕ, ⊤, ◌*◌, ◌+◌, ◌∷◌, ◌≡◌, ◌≤◌}
 use Rattle.tg_cid.specs.Cid.{CidParts}
 use Rattle.tg_model.specs.Computed.{read}
-use Rattle.tg_model.specs.Dag.{Children, Dag, Section, links_of, node}
+use Rattle.tg_model.specs.Dag.{Dag, links_of}
 use Rattle.tg_model.specs.PathWalk.{PathEnd, bad_block, gone, not_reached, path_walk, spot_at, terminal, walk_from}
 use Rattle.tg_model.specs.Queries.{QueryParts}
 use Rattle.tg_model.specs.Sound.{Position, passed, position_fault, top}
@@ -12,7 +13,7 @@ use Rattle.tg_model.specs.declared.fault.BlockFault.{BlockFault}
 use Rattle.tg_model.specs.declared.kinds.Kind.{Kind}
 use Rattle.tg_traversal_laws.specs.Stages.{IsOpened}
 use Rattle.tg_traversal_laws.specs.StoreWalks.{section_of, shown_tasks, shown_at}
-use Rattle.tg_traversal_laws.specs.Tasks.{Miss, Task, Want, dags_of, depth_of, give_entries, give_text, node_want, open_block, segment_want, spot_of, start, stop_at, stop_of, tasks_of, terminal_want}
+use Rattle.tg_traversal_laws.specs.Tasks.{Miss, Task, Want, depth_of, give_entries, give_text, node_want, open_block, segment_want, spot_of, start, stop_at, stop_of, tasks_of, terminal_want}
 
 -- the walk from a place of the path on ends so
 abbrev pub LeadsToEnd : Want → Dag → PathEnd → Type 0
@@ -27,15 +28,6 @@ IsPathEnd (open_block w d ∷ tasks) end = LeadsToEnd w d end × (tasks ≡ [])
 IsPathEnd (give_text text ∷ tasks) end = ⊥
 IsPathEnd (give_entries met ∷ tasks) end = ⊥
 IsPathEnd (stop_at miss ∷ tasks) end = (end ≡ not_reached (stop_of miss)) × (tasks ≡ [])
-
-abbrev pub PathStarts : Type 0
-PathStarts = (q : QueryParts) (d : Dag) → IsPathEnd (start q d) (path_walk q.path d).end
-
--- a node of the path that may stand there is passed
-abbrev pub PathOpens : Type 0
-PathOpens = (q : QueryParts) (end : PathEnd) (i : ℕ) (position : Position) (name : List ℕ) (path : List (List ℕ)) (depth : ℕ) (section : Section) (kind : Kind) (children : Children)
-    → position_fault position kind ≡ None → LeadsToEnd (segment_want i position name path depth) (node section kind children) end
-    → IsPathEnd (tasks_of q (segment_want i position name path depth) section kind (dags_of children)) end
 
 -- ---- over what a store shows
 

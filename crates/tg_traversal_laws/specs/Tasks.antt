@@ -1,5 +1,6 @@
--- What is left of a traversal, as a list of tasks: places of which the blocks are to be opened, and texts and entries that are to be
--- given. What stands at a place is told by its CID, or by a DAG (Trustless Gateway specification: dag-scope, entity-bytes, order dfs).
+-- What is left of a traversal, as a list of tasks: places of which the blocks are to be opened, and texts and entries
+-- that are to be given. What stands at a place is told by its CID, or by a DAG (Trustless Gateway specification:
+-- dag-scope, entity-bytes, order dfs).
 use Rattle.tg_model.specs.declared.queries.Scope.TheVariants as scopes
 use Rattle.std.specs.Prelude.{Bool, List, None, Option, Some, [], length, not, refl, suc, true, zero, ℕ, ◌++◌, ◌+◌, ◌∷◌, ◌≡◌}
 use Rattle.tg_cid.specs.Cid.{CidParts}
@@ -14,8 +15,9 @@ use Rattle.tg_model.specs.declared.kinds.Kind.{Kind}
 use Rattle.tg_model.specs.declared.queries.Scope.{Scope}
 use Rattle.tg_murmur.specs.NameHash.{slot_of}
 
--- what is asked of a place, with its depth, which counts the blocks from the root to it, both counted: the step with the segment
--- number `i`, of this name, and then those of the path behind it; what a query asks of its terminal; or this much of a node below it
+-- what is asked of a place, with its depth, which counts the blocks from the root to it, both counted: the step with
+-- the segment number `i`, of this name, and then those of the path behind it; what a query asks of its terminal; or
+-- this much of a node below it
 pub data Want : Type 0 where
   segment_want : ℕ → Position → List ℕ → List (List ℕ) → ℕ → Want
   terminal_want : ℕ → Want
@@ -30,7 +32,8 @@ abbrev pub stop_of : Miss → Stop
 stop_of (no_entry i) = not_there i
 stop_of (no_directory i) = not_folder i
 
--- a task: to open the block at a place; to give a text, or entries that are met; or to stop, since a segment leads nowhere
+-- a task: to open the block at a place; to give a text, or entries that are met; or to stop, since a segment leads
+-- nowhere
 pub data Task (X : Type 0) : Type 0 where
   open_block : Want → X → Task X
   give_text : List ℕ → Task X
@@ -139,7 +142,8 @@ text_at q (segment_want i position name path depth) section kind = []
 text_at q (terminal_want depth) section kind = terminal_text_before q.scope q.span section kind
 text_at q (node_want reach position depth) section kind = text_before reach position section kind
 
--- why a block of this kind can't stand there: of a terminal of which the block alone is asked for the kind doesn't matter
+-- why a block of this kind can't stand there: of a terminal of which the block alone is asked for the kind doesn't
+-- matter
 abbrev pub terminal_fault : Scope → Kind → Option BlockFault
 terminal_fault scopes.Block kind = None
 terminal_fault scopes.Entity kind = position_fault top kind

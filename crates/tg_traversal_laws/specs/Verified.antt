@@ -1,5 +1,5 @@
--- What a verifier stands for that has taken these sections: the partial DAG that they open, and what is left beside each DAG that opens
--- with them.
+-- What a verifier stands for that has taken these sections: the partial DAG that they open, and what is left beside
+-- each DAG that opens with them.
 use Rattle.tg_model.specs.declared.queries.Scope.TheVariants as scopes
 use Rattle.std.specs.Prelude.{Contains, List, [], map, true, false, ℕ, ◌++◌, ◌∷◌, ◌≡◌, ◌≢◌, ◌⊎◌}
 use Rattle.tg_cid.specs.Cid.{CidParts}
@@ -18,8 +18,8 @@ use Rattle.tg_traversal_laws.specs.Openings.{IsReadAt, Opening, opened_by}
 use Rattle.tg_traversal_laws.specs.Stages.{Given, ending, nothing_given, up_to_next, with_place}
 use Rattle.tg_traversal_laws.specs.Tasks.{Miss, Task, Want, is_read_at, open_block, position_of, spot_of, start, stop_at, stop_of, tasks_of, tasks_then, text_at}
 
--- the sections were sent, of the places that were opened; each opened block was received; and these tasks are left, of the partial DAG
--- and beside each checked DAG of the query's root that opens with the same blocks
+-- the sections were sent, of the places that were opened; each opened block was received; and these tasks are left, of
+-- the partial DAG and beside each checked DAG of the query's root that opens with the same blocks
 pub record Verified (q : QueryParts) (sections : List Section) (given : Given) (tasks : List (Task CidParts)) : Type 0 where
   pub sent : map (λ p. p.section) (sent_places q given.places) ≡ sections
   pub received : (section : Section) → Contains (opened_by given) section → Contains sections section
@@ -27,7 +27,8 @@ pub record Verified (q : QueryParts) (sections : List Section) (given : Given) (
   pub opening : Opening q given tasks
   pub beside : (d : Dag) (rest : List Section) → IsChecked d → root_cid d ≡ q.root → opened_list q d ≡ opened_by given ++ rest → IsBeside q d given tasks
 
--- what is written at the end behind the text that was given: the listing of the entries that were met, where an entity is asked for
+-- what is written at the end behind the text that was given: the listing of the entries that were met, where an entity
+-- is asked for
 abbrev pub listing_at_end : Scope → List ListedEntry → List ℕ
 listing_at_end scopes.Block met = []
 listing_at_end scopes.Entity met = listing (map named_met met)

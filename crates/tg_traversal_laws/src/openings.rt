@@ -3,8 +3,8 @@ ghost use Rattle.tg_traversal_laws.specs.Openings.{OpeningLaws};
 
 use crate::stages::traversal_stages;
 
-/// Blocks that are taken one by one, each at the place that is wanted next and passing there, open a partial DAG: what was given is
-/// what its traversal gives, and the next wanted place is where that traversal ends.
+/// Blocks that are taken one by one, each at the place that is wanted next and passing there, open a partial DAG: what
+/// was given is what its traversal gives, and the next wanted place is where that traversal ends.
 ///
 /// Path Gateway specification, Path Resolution; Trustless Gateway specification, dag-scope and entity-bytes.
 pub fn taken_blocks()

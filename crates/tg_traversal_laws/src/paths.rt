@@ -1,16 +1,8 @@
 //! Laws of the walk along a path.
-ghost use Rattle.tg_traversal_laws.specs.PathStages.{PathOpens, PathStarts, ResolveLaws};
+ghost use Rattle.tg_traversal_laws.specs.PathStages.{ResolveLaws};
 
-/// The walk along a query's path in stages, by the tasks of its traversal: one place is left, or a segment led nowhere.
-///
-/// Path Gateway specification, Path Resolution.
-pub fn path_stages()
-    ensures start { PathStarts }
-    ensures opened { PathOpens }
-{}
-
-/// The walk along a query's path over what a store shows: each of its ends is the path walk's, and its terminal is stored, and isn't
-/// read. A path of at most 128 segments passes at most 1,025 blocks.
+/// The walk along a query's path over what a store shows: each of its ends is the path walk's, and its terminal is
+/// stored, and isn't read. A path of at most 128 segments passes at most 1,025 blocks.
 ///
 /// Path Gateway specification, Path Resolution; UnixFS specification, HAMTDirectory.
 pub fn resolved_paths()
