@@ -1,16 +1,9 @@
 //! `check`, `cid` and `node` over streams in memory.
-use std::alloc::{AllocError, Global};
+use crate::known::{BLOCK_LIMIT, E, E_BLOCK, F, H, HELLO, INPUT_FAULT, SINK_FAULT, USAGE, Z};
+use std::alloc::Global;
 use std::rt::HostRuntime;
-use std::test::Fail;
 use tg_bytes::zeros;
-use tg_runs::{Failing, NONE, Outcome, run_over_streams};
-
-/// The raw CID of `hello world`, that of no bytes, and the dag-pb CID of the empty directory.
-const H: &str = "bafkreifzjut3te2nhyekklss27nh3k72ysco7y32koao5eei66wof36n5e";
-
-const Z: &str = "bafkreihdwdcefgh4dqkjv67uzcmw7ojee6xedzdetojuzjevtenxquvyku";
-
-const E: &str = "bafybeiczsscdsbs7ffqz55asqdf3smv6klcw3gofszvwlyarci47bgf354";
+use tg_runs::{Failing, NONE, run_over_streams};
 
 const H_HEX: &str = "01551220b94d27b9934d3e08a52e52d7da7dabfac484efe37a5380ee9088f7ace2efcde9";
 
@@ -46,9 +39,7 @@ const SPEC_LINE: &[u8] = b"bafybeigdyrzt5sfp7udm7hu76uh7y26nf3efuylqabf3oclgtqy5
 const SPEC_HEX_LINE: &[u8] =
     b"01701220c3c4733ec8affd06cf9e9ff50ffc6bcd2ec85a6170004bb709669c31de94391a\n";
 
-/// The dag-pb CID of the file `hello world` in chunks of 4 bytes, and of a block that is no node.
-const F: &str = "bafybeighmzuokpuzyho2ninhgybpych6atkhbn2o57c3hlyer2hntezxly";
-
+/// The dag-pb CID of a block that is no node.
 const N: &str = "bafybeiai3j6elszain36pzbcjhg2k4j7vbsrc3o3wtfvugkjwls3iofgvm";
 
 const F_BLOCK: &[u8] =
@@ -69,77 +60,113 @@ const F_TEXT: &[u8] = b"links 3\n\
 const BAD_DIGEST: &str =
     "tgate: BadDigest bafkreifzjut3te2nhyekklss27nh3k72ysco7y32koao5eei66wof36n5e\n";
 
-/// Words, the input, the status, and what stands on out and on err.
-type Row<'a> = (&'a [&'a str], &'a [u8], u8, &'a [u8], &'a str);
+/// Words, the input, the calls that fail, the status, and what stands on out and on err.
+type Row = (
+    &'static [&'static str],
+    &'static [u8],
+    Failing<'static>,
+    u8,
+    &'static [u8],
+    &'static str,
+);
 
-const ANSWERS: &[Row<'static>] = &[
-    (&["check", Z], b"", 0, b"", ""),
-    (&["check", H], b"hello world", 0, b"hello world", ""),
-    (&["check", H], b"hello World", 3, b"", BAD_DIGEST),
-    (&["check", H], b"", 3, b"", BAD_DIGEST),
-    (
-        &["check", E],
-        b"\x0a\x02\x08\x01",
-        0,
-        b"\x0a\x02\x08\x01",
-        "",
-    ),
-    (&["node", H], b"hello world", 0, b"raw 11\n", ""),
-    (&["node", F], F_BLOCK, 0, F_TEXT, ""),
-    (&["node", H], b"hello World", 3, b"", BAD_DIGEST),
+const ANSWERS: &[Row] = &[
+    (&["check", Z], b"", NONE, 0, b"", ""),
+    (&["check", H], HELLO, NONE, 0, HELLO, ""),
+    (&["check", H], b"hello World", NONE, 3, b"", BAD_DIGEST),
+    (&["check", H], b"", NONE, 3, b"", BAD_DIGEST),
+    (&["check", E], E_BLOCK, NONE, 0, E_BLOCK, ""),
+    (&["node", H], HELLO, NONE, 0, b"raw 11\n", ""),
+    (&["node", F], F_BLOCK, NONE, 0, F_TEXT, ""),
+    (&["node", H], b"hello World", NONE, 3, b"", BAD_DIGEST),
     (
         &["node", N],
         b"\x12\x00",
+        NONE,
         3,
         b"",
         "tgate: BadBlock bafybeiai3j6elszain36pzbcjhg2k4j7vbsrc3o3wtfvugkjwls3iofgvm BadNode\n",
     ),
-    (&["cid", SPEC], b"", 0, SPEC_HEX_LINE, ""),
-    (&["cid", "--hex", SPEC_V0_HEX], b"", 0, SPEC_LINE, ""),
-    (&["cid", H], b"", 0, H_HEX_LINE, ""),
-    (&["cid", E], b"", 0, E_HEX_LINE, ""),
-    (&["cid", "--", H], b"", 0, H_HEX_LINE, ""),
-    (&["cid", "--hex", H_HEX], b"", 0, H_LINE, ""),
-    (&["cid", "--hex", H_HEX_UPPER], b"", 0, H_LINE, ""),
-    (&["cid", E_HEX_OPTION], b"", 0, E_LINE, ""),
-    (&["cid", "--hex", E_V0_HEX], b"", 0, E_LINE, ""),
+    (&["cid", SPEC], b"", NONE, 0, SPEC_HEX_LINE, ""),
+    (&["cid", "--hex", SPEC_V0_HEX], b"", NONE, 0, SPEC_LINE, ""),
+    (&["cid", H], b"", NONE, 0, H_HEX_LINE, ""),
+    (&["cid", E], b"", NONE, 0, E_HEX_LINE, ""),
+    (&["cid", "--", H], b"", NONE, 0, H_HEX_LINE, ""),
+    (&["cid", "--hex", H_HEX], b"", NONE, 0, H_LINE, ""),
+    (&["cid", "--hex", H_HEX_UPPER], b"", NONE, 0, H_LINE, ""),
+    (&["cid", E_HEX_OPTION], b"", NONE, 0, E_LINE, ""),
+    (&["cid", "--hex", E_V0_HEX], b"", NONE, 0, E_LINE, ""),
 ];
 
-#[test]
-fn commands_answer(rt: HostRuntime) -> Result<(), Fail> {
-    for (words, input, status, out, err) in ANSWERS {
-        for piece in [1, 7, 65_536] {
-            let run = run_over_streams(rt.alloc(), words, input, piece, NONE)?;
-            assert!(rt;
-                run.is(*status, out, err),
-                "{words:?} in pieces of {piece}: {run:?}"
-            );
+const PIECES: &[usize] = &[1, 7, 65_536];
+
+/// Whether a run ends as the row has it, in pieces of each length.
+fn answers(alloc: Global, row: &Row) -> bool {
+    for piece in PIECES {
+        if !ends_so(alloc, row, *piece) {
+            return false;
         }
     }
-    Ok(())
+    true
 }
 
-/// A command over so many zero bytes.
-fn run_over_zeros(alloc: Global, command: &str, size: usize) -> Result<Outcome, AllocError> {
-    let bytes = zeros(alloc, size)?;
-    run_over_streams(alloc, &[command, H], bytes.as_slice(), 65_536, NONE)
+/// Whether a run ends as the row has it, in pieces of this length.
+fn ends_so(alloc: Global, row: &Row, piece: usize) -> bool {
+    let (words, input, failing, status, out, err) = *row;
+    match run_over_streams(alloc, words, input, piece, failing) {
+        Ok(run) => run.is(status, out, err),
+        Err(_) => false,
+    }
 }
 
 #[test]
-fn blocks_are_limited(rt: HostRuntime) -> Result<(), Fail> {
-    for command in ["check", "node"] {
-        let over = run_over_zeros(rt.alloc(), command, 2_097_153)?;
-        assert!(rt;
-            over.is(7, b"", "tgate: Limit Block 2097152\n"),
-            "{command}: {over:?}"
-        );
-        let exact = run_over_zeros(rt.alloc(), command, 2_097_152)?;
-        assert!(rt;
-            exact.status == 3 && exact.out.is_empty(),
-            "{command}: {exact:?}"
-        );
+fn commands_answer(rt: HostRuntime) {
+    for row in ANSWERS {
+        assert!(rt; answers(rt.alloc(), row), "{row:?}");
     }
-    Ok(())
+}
+
+/// Words, how many zero bytes the input has, the status, and what stands on err where that is told.
+type Zeros = (&'static [&'static str], usize, u8, Option<&'static str>);
+
+const ZEROS: &[Zeros] = &[
+    (&["check", H], 2_097_153, 7, Some(BLOCK_LIMIT)),
+    (&["check", H], 2_097_152, 3, None),
+    (&["node", H], 2_097_153, 7, Some(BLOCK_LIMIT)),
+    (&["node", H], 2_097_152, 3, None),
+];
+
+/// Whether a run over zero bytes ends as the row has it, with nothing on out.
+fn zeros_end_so(alloc: Global, row: &Zeros) -> bool {
+    let (words, size, status, err) = *row;
+    match zeros(alloc, size) {
+        Ok(bytes) => ends_over(alloc, words, bytes.as_slice(), status, err),
+        Err(_) => false,
+    }
+}
+
+fn ends_over(alloc: Global, words: &[&str], input: &[u8], status: u8, err: Option<&str>) -> bool {
+    match run_over_streams(alloc, words, input, 65_536, NONE) {
+        Ok(run) => {
+            run.status == status && run.out.is_empty() && has_line(run.err.as_slice(), err)
+        }
+        Err(_) => false,
+    }
+}
+
+/// Whether the line stands there, where one is told.
+fn has_line(err: &[u8], line: Option<&str>) -> bool {
+    match line {
+        Some(line) => err == line.as_bytes(),
+        None => true,
+    }
+}
+
+#[test]
+fn blocks_are_limited(rt: HostRuntime) {
+    for row in ZEROS {
+        assert!(rt; zeros_end_so(rt.alloc(), row), "{row:?}");
+    }
 }
 
 const H_UPPER: &str = "BAFKREIFZJUT3TE2NHYEKKLSS27NH3K72YSCO7Y32KOAO5EEI66WOF36N5E";
@@ -173,32 +200,22 @@ const OTHER_WORDS: &[&[&str]] = &[
     &["serve", "pack", "--port", "0", "--count", "1"],
 ];
 
-#[test]
-fn other_words_are_refused(rt: HostRuntime) -> Result<(), Fail> {
-    for words in OTHER_WORDS {
-        let run = run_over_streams(rt.alloc(), words, b"hello world", 7, NONE)?;
-        assert!(rt; run.is(2, b"", "tgate: usage\n"), "{words:?}: {run:?}");
+/// Whether the words are told as none of a command.
+fn are_refused(alloc: Global, words: &[&str]) -> bool {
+    match run_over_streams(alloc, words, HELLO, 7, NONE) {
+        Ok(run) => run.is(2, b"", USAGE),
+        Err(_) => false,
     }
-    Ok(())
 }
 
-const HELLO: &[u8] = b"hello world";
+#[test]
+fn other_words_are_refused(rt: HostRuntime) {
+    for words in OTHER_WORDS {
+        assert!(rt; are_refused(rt.alloc(), words), "{words:?}");
+    }
+}
 
-const INPUT_FAULT: &str = "tgate: InputFault\n";
-
-const SINK_FAULT: &str = "tgate: SinkFault\n";
-
-/// Words, the input, the calls that fail, the status, and what stands on out and on err.
-type FaultRow<'a> = (
-    &'a [&'a str],
-    &'a [u8],
-    Failing<'static>,
-    u8,
-    &'a [u8],
-    &'a str,
-);
-
-const FAULTS: &[FaultRow<'static>] = &[
+const FAULTS: &[Row] = &[
     // The input fails at its first call, at a later one, and behind the last that is needed.
     (&["check", H], HELLO, [&[0], &[], &[]], 6, b"", INPUT_FAULT),
     (&["check", H], HELLO, [&[1], &[], &[]], 6, b"", INPUT_FAULT),
@@ -247,30 +264,14 @@ const FAULTS: &[FaultRow<'static>] = &[
     ),
     // Streams that a command doesn't touch.
     (&["cid", H], b"", [&[0], &[], &[]], 0, H_HEX_LINE, ""),
-    (
-        &["check"],
-        HELLO,
-        [&[0], &[], &[]],
-        2,
-        b"",
-        "tgate: usage\n",
-    ),
-    (
-        &["check"],
-        HELLO,
-        [&[], &[0], &[]],
-        2,
-        b"",
-        "tgate: usage\n",
-    ),
+    (&["check"], HELLO, [&[0], &[], &[]], 2, b"", USAGE),
+    (&["check"], HELLO, [&[], &[0], &[]], 2, b"", USAGE),
     (&["check", H], b"hello World", [&[], &[], &[0]], 3, b"", ""),
 ];
 
 #[test]
-fn faults_of_the_streams_are_told(rt: HostRuntime) -> Result<(), Fail> {
-    for (words, input, failing, status, out, err) in FAULTS {
-        let run = run_over_streams(rt.alloc(), words, input, 4, *failing)?;
-        assert!(rt; run.is(*status, out, err), "{words:?} {failing:?}: {run:?}");
+fn faults_of_the_streams_are_told(rt: HostRuntime) {
+    for row in FAULTS {
+        assert!(rt; ends_so(rt.alloc(), row, 4), "{row:?}");
     }
-    Ok(())
 }

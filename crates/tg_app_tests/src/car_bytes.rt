@@ -1,21 +1,20 @@
-//! `verify` over the CAR of the file `hello world` in chunks of 4 bytes, of which bytes are cut, changed or added, and over streams that fail.
-use crate::cars::car_of;
+//! `verify` over the CAR of the file `hello world` in chunks of 4 bytes, of which bytes are cut, changed or added,
+//! and over streams that fail.
+use crate::cars::{car_of, sent_of};
+use crate::known::{BLOCK_LIMIT, F, HELLO, INPUT_FAULT, SINK_FAULT};
 use std::alloc::{AllocError, Global};
 use std::rt::HostRuntime;
-use std::test::Fail;
 use tg_bytes::Bytes;
 use tg_runs::{Failing, NONE, Outcome, run_over_streams};
-use tg_test_dags::{Shelf, hello_file, raw_cid};
+use tg_test_dags::{Shape, raw_cid};
 
-const F: &str = "bafybeighmzuokpuzyho2ninhgybpych6atkhbn2o57c3hlyer2hntezxly";
-
-const HELLO: &[u8] = b"hello world";
-
-/// The file's CAR of 363 bytes: a header of 59, then sections up to 241, 282, 323 and 363.
-fn hello_car(alloc: Global) -> Result<Bytes, AllocError> {
-    let mut shelf = Shelf::new(alloc);
-    let root = hello_file(&mut shelf)?;
-    car_of(alloc, &root, &shelf, &[0, 1, 2, 3])
+/// The file's CAR of 363 bytes: a header of 59, then sections up to 241, 282, 323 and 363. There is none for want of
+/// memory.
+fn hello_car(alloc: Global) -> Option<Bytes> {
+    match sent_of(alloc, Shape::Hello, &[0, 1, 2, 3]) {
+        Some(sent) => Some(sent.car),
+        None => None,
+    }
 }
 
 /// What is done to the CAR.
@@ -39,28 +38,26 @@ fn part(bytes: &[u8], from: usize, to: usize) -> &[u8] {
 }
 
 /// The CAR with the change.
-fn changed_car(alloc: Global, change: Changed) -> Result<Bytes, AllocError> {
-    let whole = hello_car(alloc)?;
-    let car = whole.as_slice();
+fn changed_car(alloc: Global, car: &[u8], change: Changed) -> Result<Bytes, AllocError> {
     match change {
         Changed::Cut(size) => Bytes::of(alloc, part(car, 0, size)),
         Changed::Byte(at, byte) => {
-            joined(
-                alloc,
-                part(car, 0, at),
-                &[byte],
-                part(car, at.saturating_add(1), car.len()),
-            )
+            let rest = part(car, at.saturating_add(1), car.len());
+            joined(alloc, part(car, 0, at), &[byte], rest)
         }
         Changed::Longer(bytes) => joined(alloc, car, bytes, b""),
         Changed::Between(from, bytes, to) => {
             joined(alloc, part(car, 0, from), bytes, part(car, to, car.len()))
         }
-        Changed::OtherRoot => {
-            let other = car_of(alloc, &raw_cid(b""), &Shelf::new(alloc), &[])?;
-            joined(alloc, other.as_slice(), part(car, 59, car.len()), b"")
-        }
+        Changed::OtherRoot => other_root(alloc, part(car, 59, car.len())),
     }
+}
+
+/// The header of another root, and these bytes behind it.
+fn other_root(alloc: Global, rest: &[u8]) -> Result<Bytes, AllocError> {
+    let mut bytes = car_of(alloc, &raw_cid(b""), &[], &[])?;
+    bytes.push_all(rest)?;
+    Ok(bytes)
 }
 
 fn joined(alloc: Global, first: &[u8], next: &[u8], last: &[u8]) -> Result<Bytes, AllocError> {
@@ -109,38 +106,56 @@ const ROWS: &[Row] = &[
         Changed::Between(59, b"\xa5\x80\x80\x01", 61),
         7,
         b"",
-        "tgate: Limit Block 2097152\n",
+        BLOCK_LIMIT,
     ),
 ];
 
 /// Whether `verify` over the bytes ends so, in pieces of this length.
-fn ends_so(
-    alloc: Global,
-    car: &[u8],
-    piece: usize,
-    row: (u8, &[u8], &str),
-) -> Result<bool, AllocError> {
-    let (status, out, err) = row;
-    let done = run_over_streams(alloc, &["verify", F], car, piece, NONE)?;
-    Ok(done.is(status, out, err))
+fn ends_so(alloc: Global, car: &[u8], piece: usize, want: (u8, &[u8], &str)) -> bool {
+    let (status, out, err) = want;
+    match run_over_streams(alloc, &["verify", F], car, piece, NONE) {
+        Ok(done) => done.is(status, out, err),
+        Err(_) => false,
+    }
+}
+
+const PIECES: &[usize] = &[1, 7, 64];
+
+/// Whether `verify` over the bytes ends so, in pieces of each length.
+fn pieces_end_so(alloc: Global, car: &[u8], want: (u8, &[u8], &str)) -> bool {
+    for piece in PIECES {
+        if !ends_so(alloc, car, *piece, want) {
+            return false;
+        }
+    }
+    true
+}
+
+/// Whether `verify` over the changed CAR ends as the row has it.
+fn has_row(alloc: Global, row: &Row) -> bool {
+    match hello_car(alloc) {
+        Some(car) => changed_ends_so(alloc, car.as_slice(), row),
+        None => false,
+    }
+}
+
+fn changed_ends_so(alloc: Global, car: &[u8], row: &Row) -> bool {
+    let (change, status, out, err) = *row;
+    match changed_car(alloc, car, change) {
+        Ok(changed) => pieces_end_so(alloc, changed.as_slice(), (status, out, err)),
+        Err(_) => false,
+    }
 }
 
 #[test]
-fn changed_cars_end_so(rt: HostRuntime) -> Result<(), Fail> {
-    for (change, status, out, err) in ROWS {
-        let car = changed_car(rt.alloc(), *change)?;
-        for piece in [1, 7, 64] {
-            let row = (*status, *out, *err);
-            assert!(rt;
-                ends_so(rt.alloc(), car.as_slice(), piece, row)?,
-                "{change:?} {piece}"
-            );
-        }
+fn changed_cars_end_so(rt: HostRuntime) {
+    for row in ROWS {
+        assert!(rt; has_row(rt.alloc(), row), "{row:?}");
     }
-    Ok(())
 }
 
-/// The lengths from one to another to which the CAR is cut, what goes to out, and the CID that is wanted with the number of sections.
+/// The lengths from one to another to which the CAR is cut, what goes to out, and the CID that is wanted with the
+/// number of sections.
 type Cut = (usize, usize, &'static [u8], &'static str);
 
 const CUTS: &[Cut] = &[
@@ -171,23 +186,28 @@ const CUTS: &[Cut] = &[
 ];
 
 /// Whether each cut of a row ends so.
-fn cuts_end_so(alloc: Global, car: &[u8], cut: &Cut) -> Result<bool, AllocError> {
+fn cuts_end_so(alloc: Global, cut: &Cut) -> bool {
+    match hello_car(alloc) {
+        Some(car) => all_end_so(alloc, car.as_slice(), cut),
+        None => false,
+    }
+}
+
+fn all_end_so(alloc: Global, car: &[u8], cut: &Cut) -> bool {
     let (from, to, out, err) = *cut;
     for size in from..=to {
-        if !ends_so(alloc, part(car, 0, size), 64, (3, out, err))? {
-            return Ok(false);
+        if !ends_so(alloc, part(car, 0, size), 64, (3, out, err)) {
+            return false;
         }
     }
-    Ok(true)
+    true
 }
 
 #[test]
-fn each_cut_ends_so(rt: HostRuntime) -> Result<(), Fail> {
-    let car = hello_car(rt.alloc())?;
+fn each_cut_ends_so(rt: HostRuntime) {
     for cut in CUTS {
-        assert!(rt; cuts_end_so(rt.alloc(), car.as_slice(), cut)?, "{cut:?}");
+        assert!(rt; cuts_end_so(rt.alloc(), cut), "{cut:?}");
     }
-    Ok(())
 }
 
 /// The calls of a run: takes of the input, or puts into out.
@@ -204,12 +224,15 @@ fn run_failing(
     calls: Calls,
     number: u64,
 ) -> Result<Outcome, AllocError> {
-    let numbers = [number];
-    let failing: Failing<'_> = match calls {
-        Calls::Takes => [&numbers, &[], &[]],
-        Calls::Puts => [&[], &numbers, &[]],
-    };
-    run_over_streams(alloc, &["verify", F], car, 16, failing)
+    run_over_streams(alloc, &["verify", F], car, 16, failing_of(calls, &[number]))
+}
+
+/// The calls with these numbers fail.
+fn failing_of(calls: Calls, numbers: &[u64]) -> Failing<'_> {
+    match calls {
+        Calls::Takes => [numbers, &[], &[]],
+        Calls::Puts => [&[], numbers, &[]],
+    }
 }
 
 /// The calls, how many there are, and what stands on err where one of them fails.
@@ -217,34 +240,51 @@ type FaultRow = (Calls, u64, &'static str);
 
 // 23 takes of 16 bytes at most give the CAR, and the one behind them its end; three puts give the answer.
 const FAULTS: &[FaultRow] = &[
-    (Calls::Takes, 24, "tgate: InputFault\n"),
-    (Calls::Puts, 3, "tgate: SinkFault\n"),
+    (Calls::Takes, 24, INPUT_FAULT),
+    (Calls::Puts, 3, SINK_FAULT),
 ];
 
-/// Whether each call that fails is told with a front of the answer, and there is no further one.
-fn faults_are_told(alloc: Global, car: &[u8], row: &FaultRow) -> Result<bool, AllocError> {
+/// Whether the call with this number that fails is told with a front of the answer.
+fn is_told(alloc: Global, car: &[u8], calls: Calls, number: u64, line: &str) -> bool {
+    match run_failing(alloc, car, calls, number) {
+        Ok(done) => {
+            done.status == 6
+                && done.err.as_slice() == line.as_bytes()
+                && HELLO.starts_with(done.out.as_slice())
+        }
+        Err(_) => false,
+    }
+}
+
+/// Whether a run has no call with this number.
+fn is_no_call(alloc: Global, car: &[u8], calls: Calls, number: u64) -> bool {
+    match run_failing(alloc, car, calls, number) {
+        Ok(done) => done.is(0, HELLO, ""),
+        Err(_) => false,
+    }
+}
+
+/// Whether each call that fails is told, and there is no further one.
+fn faults_are_told(alloc: Global, row: &FaultRow) -> bool {
+    match hello_car(alloc) {
+        Some(car) => each_is_told(alloc, car.as_slice(), row),
+        None => false,
+    }
+}
+
+fn each_is_told(alloc: Global, car: &[u8], row: &FaultRow) -> bool {
     let (calls, count, line) = *row;
     for number in 0..count {
-        let done = run_failing(alloc, car, calls, number)?;
-        if done.status != 6
-            || done.err.as_slice() != line.as_bytes()
-            || !HELLO.starts_with(done.out.as_slice())
-        {
-            return Ok(false);
+        if !is_told(alloc, car, calls, number, line) {
+            return false;
         }
     }
-    let done = run_failing(alloc, car, calls, count)?;
-    Ok(done.is(0, HELLO, ""))
+    is_no_call(alloc, car, calls, count)
 }
 
 #[test]
-fn each_call_fails_in_turn(rt: HostRuntime) -> Result<(), Fail> {
-    let car = hello_car(rt.alloc())?;
+fn each_call_fails_in_turn(rt: HostRuntime) {
     for row in FAULTS {
-        assert!(rt;
-            faults_are_told(rt.alloc(), car.as_slice(), row)?,
-            "{row:?}"
-        );
+        assert!(rt; faults_are_told(rt.alloc(), row), "{row:?}");
     }
-    Ok(())
 }

@@ -1,19 +1,19 @@
 //! `verify` over CARs by their sections, in pieces of several lengths.
-use crate::cars::car_of;
+use crate::cars::{Sent, sent_of, with_car};
+use crate::known::{E_BLOCK, HELLO};
 use std::alloc::{AllocError, Global};
 use std::rt::HostRuntime;
-use std::test::Fail;
 use tg_cid::Cid;
 use tg_runs::{NONE, run_over_streams};
-use tg_test_dags::{Shape, Shelf, chain, chain_down, text_of};
+use tg_test_dags::{Shape, Stored, chain, chain_down, text_of};
 
 /// What is asked of a DAG: the path behind its root, and the options.
 type Asked = (&'static str, &'static [&'static str]);
 
 const FILE: Asked = ("", &[]);
 
-/// A DAG, the numbers of its stored blocks that are sent, what is asked for, the status, what goes to out, and what err begins with, behind
-/// `tgate: `, if there is any.
+/// A DAG, the numbers of its stored blocks that are sent, what is asked for, the status, what goes to out, and what
+/// err begins with, behind `tgate: `, if there is any.
 type Row = (
     Shape,
     &'static [usize],
@@ -33,16 +33,9 @@ const ANSWERS: &[Row] = &[
         b"dir /\n",
         "",
     ),
-    (
-        Shape::Empty,
-        &[0],
-        ("", &["--scope=block"]),
-        0,
-        b"\x0a\x02\x08\x01",
-        "",
-    ),
+    (Shape::Empty, &[0], ("", &["--scope=block"]), 0, E_BLOCK, ""),
     (Shape::Empty, &[0], ("/x", &[]), 9, b"", "NotThere 0\n"),
-    (Shape::Hello, &[0, 1, 2, 3], FILE, 0, b"hello world", ""),
+    (Shape::Hello, &[0, 1, 2, 3], FILE, 0, HELLO, ""),
     (
         Shape::Hello,
         &[0, 2],
@@ -80,7 +73,7 @@ const ANSWERS: &[Row] = &[
         &[0, 1, 2, 3],
         ("", &["--bytes=-50:*"]),
         0,
-        b"hello world",
+        HELLO,
         "",
     ),
     (Shape::Twins, &[1, 0, 0], FILE, 0, b"aaaaaaaa", ""),
@@ -100,14 +93,7 @@ const ANSWERS: &[Row] = &[
         b"bafkreifzjut3te2nhyekklss27nh3k72ysco7y32koao5eei66wof36n5e hello\n",
         "",
     ),
-    (
-        Shape::OneEntry,
-        &[1, 0],
-        ("/hello", &[]),
-        0,
-        b"hello world",
-        "",
-    ),
+    (Shape::OneEntry, &[1, 0], ("/hello", &[]), 0, HELLO, ""),
     (
         Shape::OneEntry,
         &[1],
@@ -137,14 +123,7 @@ const REFUSALS: &[Row] = &[
         "WrongBlock bafkreiek7dtgfi5skhxqfuxnqv2fkniinl3xvinmmospl6aa6ua4rzoqsm \
             bafkreiefy5w4vyrjturdlr4t7y2clpmig5xvyrzbz7o4dsnjyrjmedc5gm\n",
     ),
-    (
-        Shape::Hello,
-        &[0, 1, 2, 3, 1],
-        FILE,
-        3,
-        b"hello world",
-        "Extra 4\n",
-    ),
+    (Shape::Hello, &[0, 1, 2, 3, 1], FILE, 3, HELLO, "Extra 4\n"),
     (
         Shape::Hello,
         &[0, 0],
@@ -156,7 +135,7 @@ const REFUSALS: &[Row] = &[
     ),
     // The file's own size, and that of its second part.
     (
-        Shape::Sizes(b"\x08\x02\x18\x0c\x20\x04\x20\x04\x20\x03"),
+        Shape::OwnSize,
         &[0, 1, 2, 3],
         FILE,
         3,
@@ -164,7 +143,7 @@ const REFUSALS: &[Row] = &[
         "BadSize 12 11\n",
     ),
     (
-        Shape::Sizes(b"\x08\x02\x18\x0c\x20\x04\x20\x05\x20\x03"),
+        Shape::PartSize,
         &[0, 1, 2, 3],
         FILE,
         3,
@@ -195,44 +174,95 @@ fn word_of(alloc: Global, root: Cid, path: &str) -> Result<String, AllocError> {
     format!(in alloc; "{text}{path}")
 }
 
-/// Whether a run ends as the row has it, in pieces of this length.
-fn ends_so(alloc: Global, row: &Row, piece: usize) -> Result<bool, AllocError> {
-    let (shape, indexes, (path, options), status, out, err) = *row;
-    let mut shelf = Shelf::new(alloc);
-    let root = shape.store(&mut shelf)?;
-    let car = car_of(alloc, &root, &shelf, indexes)?;
-    let word = word_of(alloc, root, path)?;
+/// The line of what err begins with.
+fn line_of(alloc: Global, err: &str) -> Result<String, AllocError> {
+    if err.is_empty() {
+        Ok(String::new(alloc))
+    } else {
+        format!(in alloc; "tgate: {err}")
+    }
+}
+
+/// The words that ask for this.
+fn words_of<'a>(
+    alloc: Global,
+    word: &'a str,
+    options: &[&'static str],
+) -> Result<Vec<&'a str>, AllocError> {
     let mut words = Vec::new(alloc);
     words.push("verify")?;
-    words.push(word.as_str())?;
-    words.extend_from_slice(options)?;
-    let done = run_over_streams(alloc, words.as_slice(), car.as_slice(), piece, NONE)?;
-    let line = if err.is_empty() {
-        String::new(alloc)
-    } else {
-        format!(in alloc; "tgate: {err}")?
-    };
-    Ok(done.is(status, out, line.as_str()))
+    words.push(word)?;
+    for option in options {
+        words.push(*option)?;
+    }
+    Ok(words)
+}
+
+const PIECES: &[usize] = &[1, 7, 64];
+
+/// Whether a run over a CAR ends as the row has it, in pieces of each length.
+fn ends_so(alloc: Global, row: &Row) -> bool {
+    let (shape, indexes, (path, _), _, _, _) = *row;
+    match sent_of(alloc, shape, indexes) {
+        Some(sent) => word_ends_so(alloc, &sent, word_of(alloc, sent.stored.root, path), row),
+        None => false,
+    }
+}
+
+fn word_ends_so(alloc: Global, sent: &Sent, word: Result<String, AllocError>, row: &Row) -> bool {
+    let (_, _, (_, options), _, _, err) = *row;
+    match (word, line_of(alloc, err)) {
+        (Ok(word), Ok(line)) => match words_of(alloc, word.as_str(), options) {
+            Ok(words) => run_ends_so(
+                alloc,
+                words.as_slice(),
+                sent.car.as_slice(),
+                row,
+                line.as_str(),
+            ),
+            Err(_) => false,
+        },
+        _ => false,
+    }
+}
+
+fn run_ends_so(alloc: Global, words: &[&str], car: &[u8], row: &Row, line: &str) -> bool {
+    let (_, _, _, status, out, _) = *row;
+    for piece in PIECES {
+        if !is_answered(alloc, words, car, *piece, (status, out, line)) {
+            return false;
+        }
+    }
+    true
+}
+
+/// Whether a run over these bytes ends so, in pieces of this length.
+fn is_answered(
+    alloc: Global,
+    words: &[&str],
+    car: &[u8],
+    piece: usize,
+    want: (u8, &[u8], &str),
+) -> bool {
+    let (status, out, line) = want;
+    match run_over_streams(alloc, words, car, piece, NONE) {
+        Ok(done) => done.is(status, out, line),
+        Err(_) => false,
+    }
 }
 
 #[test]
-fn whole_cars_are_answered(rt: HostRuntime) -> Result<(), Fail> {
+fn whole_cars_are_answered(rt: HostRuntime) {
     for row in ANSWERS {
-        for piece in [1, 7, 64] {
-            assert!(rt; ends_so(rt.alloc(), row, piece)?, "{row:?} {piece}");
-        }
+        assert!(rt; ends_so(rt.alloc(), row), "{row:?}");
     }
-    Ok(())
 }
 
 #[test]
-fn sections_are_refused(rt: HostRuntime) -> Result<(), Fail> {
+fn sections_are_refused(rt: HostRuntime) {
     for row in REFUSALS {
-        for piece in [1, 7, 64] {
-            assert!(rt; ends_so(rt.alloc(), row, piece)?, "{row:?} {piece}");
-        }
+        assert!(rt; ends_so(rt.alloc(), row), "{row:?}");
     }
-    Ok(())
 }
 
 /// The CAR's size of a DAG, of which these blocks are sent.
@@ -243,38 +273,73 @@ const SIZES: &[(Shape, &[usize], usize)] = &[
     (Shape::Twins, &[1, 0, 0], 277),
 ];
 
-#[test]
-fn cars_have_these_sizes(rt: HostRuntime) -> Result<(), Fail> {
-    for (shape, indexes, size) in SIZES {
-        let mut shelf = Shelf::new(rt.alloc());
-        let root = shape.store(&mut shelf)?;
-        let car = car_of(rt.alloc(), &root, &shelf, indexes)?;
-        assert_eq!(rt; car.as_slice().len(), *size, "{shape:?}");
+/// Whether a CAR has this size.
+fn has_size(alloc: Global, shape: Shape, indexes: &[usize], size: usize) -> bool {
+    match sent_of(alloc, shape, indexes) {
+        Some(sent) => sent.car.as_slice().len() == size,
+        None => false,
     }
-    Ok(())
-}
-
-/// Whether a file whose leaf lies so many blocks below the root, the root counted, ends so.
-fn deep_ends_so(
-    alloc: Global,
-    nodes: u32,
-    status: u8,
-    out: &[u8],
-    err: &str,
-) -> Result<bool, AllocError> {
-    let mut shelf = Shelf::new(alloc);
-    let root = chain(&mut shelf, nodes)?;
-    let indexes = chain_down(alloc, nodes)?;
-    let car = car_of(alloc, &root, &shelf, indexes.as_slice())?;
-    let word = text_of(alloc, root)?;
-    let done = run_over_streams(alloc, &["verify", word.as_str()], car.as_slice(), 64, NONE)?;
-    Ok(done.is(status, out, err))
 }
 
 #[test]
-fn cars_go_512_blocks_deep(rt: HostRuntime) -> Result<(), Fail> {
-    let alloc = rt.alloc();
-    assert!(rt; deep_ends_so(alloc, 511, 0, b"x", "")?);
-    assert!(rt; deep_ends_so(alloc, 512, 7, b"", "tgate: Limit Depth 512\n")?);
-    Ok(())
+fn cars_have_these_sizes(rt: HostRuntime) {
+    for (shape, indexes, size) in SIZES {
+        assert!(rt;
+            has_size(rt.alloc(), *shape, indexes, *size),
+            "{shape:?} {indexes:?}"
+        );
+    }
+}
+
+/// How many blocks the leaf of a file lies below the root, the root counted, the status, what goes to out, and what
+/// stands on err.
+type Deep = (u32, u8, &'static [u8], &'static str);
+
+const DEEP: &[Deep] = &[
+    (511, 0, b"x", ""),
+    (512, 7, b"", "tgate: Limit Depth 512\n"),
+];
+
+/// The CAR of that file.
+fn deep_of(alloc: Global, nodes: u32) -> Option<Sent> {
+    match chain(alloc, nodes, b"\x08\x02\x18\x01\x20\x01") {
+        Ok(stored) => sent_down(alloc, stored, nodes),
+        Err(_) => None,
+    }
+}
+
+fn sent_down(alloc: Global, stored: Stored, nodes: u32) -> Option<Sent> {
+    match chain_down(alloc, nodes) {
+        Ok(indexes) => with_car(alloc, stored, indexes.as_slice()),
+        Err(_) => None,
+    }
+}
+
+/// Whether the run over that CAR ends so.
+fn deep_ends_so(alloc: Global, row: &Deep) -> bool {
+    match deep_of(alloc, row.0) {
+        Some(sent) => root_ends_so(alloc, &sent, row),
+        None => false,
+    }
+}
+
+fn root_ends_so(alloc: Global, sent: &Sent, row: &Deep) -> bool {
+    let (_, status, out, err) = *row;
+    match text_of(alloc, sent.stored.root) {
+        Ok(word) => is_answered(
+            alloc,
+            &["verify", word.as_str()],
+            sent.car.as_slice(),
+            64,
+            (status, out, err),
+        ),
+        Err(_) => false,
+    }
+}
+
+#[test]
+fn cars_go_512_blocks_deep(rt: HostRuntime) {
+    for row in DEEP {
+        assert!(rt; deep_ends_so(rt.alloc(), row), "{row:?}");
+    }
 }

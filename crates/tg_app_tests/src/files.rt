@@ -1,31 +1,12 @@
 //! `import` and `export` over folders and packs in memory.
+use crate::known::{
+    E, E_CAR, E_V0_PACK, F, FOLDER, FOLDER_FAULT, NEW_HEADER, PACK_FAULT, SINK_FAULT, USAGE, Z,
+};
 use std::alloc::{AllocError, Global};
 use std::rt::HostRuntime;
-use std::test::Fail;
 use tg_bytes::Bytes;
 use tg_runs::{Failing, NONE, Outcome, run_over_files};
 use tg_tree::Tree;
-
-/// The empty directory, the folder with the file `h` of `hello world` in chunks of 4, that file, and raw CIDs of no bytes.
-const E: &str = "bafybeiczsscdsbs7ffqz55asqdf3smv6klcw3gofszvwlyarci47bgf354";
-
-const FOLDER: &str = "bafybeihtdtunwt2sx7qvwdcknhnwretbb4zmjieise77ebt4pqxbabimfy";
-
-const F: &str = "bafybeighmzuokpuzyho2ninhgybpych6atkhbn2o57c3hlyer2hntezxly";
-
-const Z: &str = "bafkreihdwdcefgh4dqkjv67uzcmw7ojee6xedzdetojuzjevtenxquvyku";
-
-/// The CAR of the empty directory, 100 bytes.
-const E_CAR: &[u8] =
-    b"\x3a\xa2\x65roots\x81\xd8\x2a\x58\x25\x00\x01\x70\x12\x20\x59\x94\x84\x39\x06\x5f\x29\x61\x9e\xf4\x12\x80\xcb\xb9\x32\xbe\x52\xc5\
-    \x6d\x99\xc5\x96\x6b\x65\xe0\x11\x12\x39\xf0\x98\xbb\xef\x67version\x01\x28\x01\x70\x12\x20\x59\x94\x84\x39\x06\x5f\x29\x61\x9e\xf4\
-    \x12\x80\xcb\xb9\x32\xbe\x52\xc5\x6d\x99\xc5\x96\x6b\x65\xe0\x11\x12\x39\xf0\x98\xbb\xef\x0a\x02\x08\x01";
-
-/// A pack with the empty directory under its CIDv0, 98 bytes.
-const E_V0_PACK: &[u8] =
-    b"\x3a\xa2\x65roots\x81\xd8\x2a\x58\x25\x00\x01\x70\x12\x20\x59\x94\x84\x39\x06\x5f\x29\x61\x9e\xf4\x12\x80\xcb\xb9\x32\xbe\x52\xc5\
-    \x6d\x99\xc5\x96\x6b\x65\xe0\x11\x12\x39\xf0\x98\xbb\xef\x67version\x01\x26\x12\x20\x59\x94\x84\x39\x06\x5f\x29\x61\x9e\xf4\
-    \x12\x80\xcb\xb9\x32\xbe\x52\xc5\x6d\x99\xc5\x96\x6b\x65\xe0\x11\x12\x39\xf0\x98\xbb\xef\x0a\x02\x08\x01";
 
 /// Paths in the folder.
 const FOLDER_H: &str = "/ipfs/bafybeihtdtunwt2sx7qvwdcknhnwretbb4zmjieise77ebt4pqxbabimfy/h";
@@ -35,23 +16,10 @@ const FOLDER_X: &str = "bafybeihtdtunwt2sx7qvwdcknhnwretbb4zmjieise77ebt4pqxbabi
 const FOLDER_H_X: &str = "bafybeihtdtunwt2sx7qvwdcknhnwretbb4zmjieise77ebt4pqxbabimfy/h/x";
 
 /// The line for a name of 256 bytes.
-const LONG: &str =
-    "tgate: LongName nnnnnnnnnnnnnnnnnnnnnnnnnnnnnnnnnnnnnnnnnnnnnnnnnnnnnnnnnnnnnnnnnnnnnnnnnnnnnnnnnnnnnnnnnnnnnnnnnnnnnnnnnnnnnnnnnnnnnnnnnnnnnnnnnnnnnnnnnnnnnnnnnnnnnnnnnnnnnnnnnnnnnnnnnnnnnnnnnnnnnnnnnnnnnnnnnnnnnnnnnnnnnnnnnnnnnnnnnnnnnnnnnnnnnnnnnnnnnnnnnnnnnnnnnnnnnnnn\n";
-
-/// The header of that CAR, 59 bytes, and the CAR with a byte of its block changed.
-const E_HEADER: &[u8] =
-    b"\x3a\xa2\x65roots\x81\xd8\x2a\x58\x25\x00\x01\x70\x12\x20\x59\x94\x84\x39\x06\x5f\x29\x61\x9e\xf4\x12\x80\xcb\xb9\x32\xbe\x52\xc5\
-    \x6d\x99\xc5\x96\x6b\x65\xe0\x11\x12\x39\xf0\x98\xbb\xef\x67version\x01";
-
-const E_FLIPPED: &[u8] =
-    b"\x3a\xa2\x65roots\x81\xd8\x2a\x58\x25\x00\x01\x70\x12\x20\x59\x94\x84\x39\x06\x5f\x29\x61\x9e\xf4\x12\x80\xcb\xb9\x32\xbe\x52\xc5\
-    \x6d\x99\xc5\x96\x6b\x65\xe0\x11\x12\x39\xf0\x98\xbb\xef\x67version\x01\x28\x01\x70\x12\x20\x59\x94\x84\x39\x06\x5f\x29\x61\x9e\xf4\
-    \x12\x80\xcb\xb9\x32\xbe\x52\xc5\x6d\x99\xc5\x96\x6b\x65\xe0\x11\x12\x39\xf0\x98\xbb\xef\x0a\x02\x08\x02";
-
-/// The header of a pack that isn't finished: its root is a raw CID with 32 zero bytes.
-const NEW_HEADER: &[u8] =
-    b"\x3a\xa2\x65roots\x81\xd8\x2a\x58\x25\x00\x01\x55\x12\x20\x00\x00\x00\x00\x00\x00\x00\x00\x00\x00\x00\x00\x00\x00\x00\x00\
-    \x00\x00\x00\x00\x00\x00\x00\x00\x00\x00\x00\x00\x00\x00\x00\x00\x67version\x01";
+const LONG: &str = "tgate: LongName \
+    nnnnnnnnnnnnnnnnnnnnnnnnnnnnnnnnnnnnnnnnnnnnnnnnnnnnnnnnnnnnnnnnnnnnnnnnnnnnnnnnnnnnnnnnnn\
+    nnnnnnnnnnnnnnnnnnnnnnnnnnnnnnnnnnnnnnnnnnnnnnnnnnnnnnnnnnnnnnnnnnnnnnnnnnnnnnnnnnnnnnnnnn\
+    nnnnnnnnnnnnnnnnnnnnnnnnnnnnnnnnnnnnnnnnnnnnnnnnnnnnnnnnnnnnnnnnnnnnnnnnnnnn\n";
 
 /// The first `n` bytes, or all where there are fewer.
 fn front(bytes: &[u8], n: usize) -> &[u8] {
@@ -80,8 +48,8 @@ enum Shape {
     Nested(usize),
     /// A file whose name has so many bytes.
     Long(usize),
-    /// The folder that `.ci/program` makes and imports: a file of 5,000,000 bytes, an empty folder, and 300 files, in a folder that lies
-    /// beside the header of the pack.
+    /// The folder that `.ci/program` makes and imports: a file of 5,000,000 bytes, an empty folder, and 300 files, in
+    /// a folder that lies beside the header of the pack.
     Large,
 }
 
@@ -172,21 +140,31 @@ fn folder_with(alloc: Global, shape: Shape) -> Result<Tree, AllocError> {
     }
 }
 
-/// Runs the words over a folder of this shape.
+/// Runs the words over a folder of this shape. There is nothing for want of memory.
 fn run_with(
-    rt: &HostRuntime,
+    alloc: Global,
     words: &[&str],
     shape: Shape,
     content: &[u8],
     failing: Failing<'_>,
-) -> Result<Outcome, Fail> {
-    let tree = folder_with(rt.alloc(), shape)?;
-    Ok(run_over_files(rt.alloc(), words, tree, content, failing)?)
+) -> Option<Outcome> {
+    match folder_with(alloc, shape) {
+        Ok(tree) => run_over_files(alloc, words, tree, content, failing).ok(),
+        Err(_) => None,
+    }
+}
+
+/// Runs the words over an empty folder and a pack.
+fn run_over_pack(alloc: Global, words: &[&str], pack: &[u8]) -> Option<Outcome> {
+    run_with(alloc, words, Shape::Nothing, pack, NONE)
 }
 
 /// The pack that an import with these words makes of a folder of this shape.
-fn packed(rt: &HostRuntime, words: &[&str], shape: Shape) -> Result<Vec<u8>, Fail> {
-    Ok(run_with(rt, words, shape, b"", NONE)?.pack)
+fn packed(alloc: Global, words: &[&str], shape: Shape) -> Option<Vec<u8>> {
+    match run_with(alloc, words, shape, b"", NONE) {
+        Some(done) => Some(done.pack),
+        None => None,
+    }
 }
 
 const HELLO: Shape = Shape::File(b"h", b"hello world");
@@ -259,42 +237,67 @@ const IMPORTS: &[Import] = &[
 ];
 
 /// Whether an import is as the row has it.
-fn imports_as(rt: &HostRuntime, row: &Import) -> Result<bool, Fail> {
+fn imports_as(alloc: Global, row: &Import) -> bool {
     let (words, shape, status, out, err, size) = *row;
-    let done = run_with(rt, words, shape, b"old", NONE)?;
-    Ok(
-        done.status == status
-            && done.out.as_slice().ends_with(out)
-            && done.err.as_slice().ends_with(err)
-            && done.pack.len() == size,
-    )
-}
-
-#[test]
-fn folders_go_into_packs(rt: HostRuntime) -> Result<(), Fail> {
-    for row in IMPORTS {
-        assert!(rt; imports_as(&rt, row)?, "{row:?}");
+    match run_with(alloc, words, shape, b"old", NONE) {
+        Some(done) => {
+            done.status == status
+                && done.out.as_slice().ends_with(out)
+                && done.err.as_slice().ends_with(err)
+                && done.pack.len() == size
+        }
+        None => false,
     }
-    Ok(())
 }
 
 #[test]
-fn packs_have_the_blocks(rt: HostRuntime) -> Result<(), Fail> {
-    let empty = packed(&rt, ALL_SHARDED, Shape::Nothing)?;
-    assert!(rt; empty.as_slice() == E_CAR);
-    // The shard's one link has the name `CBhello`.
-    let pack = packed(&rt, ALL_SHARDED, Shape::File(b"hello", b"hello world"))?;
-    let shard = behind(pack.as_slice(), 144);
-    assert!(rt;
-        shard.starts_with(b"\x12\x31\x0a\x24\x01\x55\x12\x20"),
-        "{shard:?}"
-    );
-    let name = behind(shard, 40);
-    assert!(rt;
-        name.starts_with(b"\x12\x07CBhello\x18\x0b\x0a\x23\x08\x05\x12\x1a\x08\x00"),
-        "{name:?}"
-    );
-    Ok(())
+fn folders_go_into_packs(rt: HostRuntime) {
+    for row in IMPORTS {
+        assert!(rt; imports_as(rt.alloc(), row), "{row:?}");
+    }
+}
+
+/// A folder all of whose directories are shards, and bytes that stand in its pack from this number on.
+type Packed = (Shape, usize, &'static [u8]);
+
+// The shard's one link has the name `CBhello`.
+const PACKED: &[Packed] = &[
+    (Shape::Nothing, 0, E_CAR),
+    (
+        Shape::File(b"hello", b"hello world"),
+        144,
+        b"\x12\x31\x0a\x24\x01\x55\x12\x20",
+    ),
+    (
+        Shape::File(b"hello", b"hello world"),
+        184,
+        b"\x12\x07CBhello\x18\x0b\x0a\x23\x08\x05\x12\x1a\x08\x00",
+    ),
+];
+
+/// Whether the bytes stand in the pack.
+fn stands_in_pack(alloc: Global, row: &Packed) -> bool {
+    let (shape, from, bytes) = *row;
+    match packed(alloc, ALL_SHARDED, shape) {
+        Some(pack) => behind(pack.as_slice(), from).starts_with(bytes),
+        None => false,
+    }
+}
+
+/// Whether the pack of an empty folder is just the CAR of the empty directory.
+fn is_empty_car(alloc: Global) -> bool {
+    match packed(alloc, ALL_SHARDED, Shape::Nothing) {
+        Some(pack) => pack.as_slice() == E_CAR,
+        None => false,
+    }
+}
+
+#[test]
+fn packs_have_the_blocks(rt: HostRuntime) {
+    for row in PACKED {
+        assert!(rt; stands_in_pack(rt.alloc(), row), "{row:?}");
+    }
+    assert!(rt; is_empty_car(rt.alloc()));
 }
 
 /// The folder, the status and the line of an import that is refused.
@@ -324,63 +327,62 @@ const REFUSED: &[Refused] = &[
 ];
 
 /// Whether an import is refused as the row has it, and leaves a pack that isn't finished.
-fn refused_as(rt: &HostRuntime, row: &Refused) -> Result<bool, Fail> {
+fn refused_as(alloc: Global, row: &Refused) -> bool {
     let (shape, status, line) = *row;
-    let done = run_with(rt, ALL_SHARDED, shape, b"", NONE)?;
-    let again = run_with(
-        rt,
-        &["export", "p", E],
-        Shape::Nothing,
-        done.pack.as_slice(),
-        NONE,
-    )?;
-    Ok(done.is(status, b"", line) && again.is(6, b"", "tgate: Unfinished\n"))
+    match run_with(alloc, ALL_SHARDED, shape, b"", NONE) {
+        Some(done) => done.is(status, b"", line) && is_unfinished(alloc, done.pack.as_slice()),
+        None => false,
+    }
+}
+
+/// Whether a pack is told as one that isn't finished.
+fn is_unfinished(alloc: Global, pack: &[u8]) -> bool {
+    match run_over_pack(alloc, &["export", "p", E], pack) {
+        Some(done) => done.is(6, b"", "tgate: Unfinished\n"),
+        None => false,
+    }
 }
 
 #[test]
-fn what_cannot_go_into_a_pack_is_refused(rt: HostRuntime) -> Result<(), Fail> {
+fn what_cannot_go_into_a_pack_is_refused(rt: HostRuntime) {
     for row in REFUSED {
-        assert!(rt; refused_as(&rt, row)?, "{row:?}");
+        assert!(rt; refused_as(rt.alloc(), row), "{row:?}");
     }
-    Ok(())
 }
 
 /// The words over the folder with the file `h` and over a pack, the calls that fail, the status and the line.
 type Fault = (&'static [&'static str], Failing<'static>, u8, &'static str);
 
 const FAULTS: &[Fault] = &[
-    (IN_FOURS, [&[0], &[], &[]], 6, "tgate: FolderFault\n"),
-    (IN_FOURS, [&[1], &[], &[]], 6, "tgate: FolderFault\n"),
-    (IN_FOURS, [&[2], &[], &[]], 6, "tgate: FolderFault\n"),
-    (IN_FOURS, [&[3], &[], &[]], 6, "tgate: FolderFault\n"),
-    (IN_FOURS, [&[], &[0], &[]], 6, "tgate: PackFault\n"),
-    (IN_FOURS, [&[], &[1], &[]], 6, "tgate: PackFault\n"),
-    (IN_FOURS, [&[], &[2], &[]], 6, "tgate: PackFault\n"),
-    (IN_FOURS, [&[], &[6], &[]], 6, "tgate: PackFault\n"),
-    (IN_FOURS, [&[], &[7], &[]], 6, "tgate: PackFault\n"),
-    (IN_FOURS, [&[], &[], &[0]], 6, "tgate: SinkFault\n"),
-    (
-        &["export", "p", E],
-        [&[], &[0], &[]],
-        6,
-        "tgate: PackFault\n",
-    ),
-    (&["import", "", "p"], NONE, 2, "tgate: usage\n"),
-    (&["import", "f"], NONE, 2, "tgate: usage\n"),
+    (IN_FOURS, [&[0], &[], &[]], 6, FOLDER_FAULT),
+    (IN_FOURS, [&[1], &[], &[]], 6, FOLDER_FAULT),
+    (IN_FOURS, [&[2], &[], &[]], 6, FOLDER_FAULT),
+    (IN_FOURS, [&[3], &[], &[]], 6, FOLDER_FAULT),
+    (IN_FOURS, [&[], &[0], &[]], 6, PACK_FAULT),
+    (IN_FOURS, [&[], &[1], &[]], 6, PACK_FAULT),
+    (IN_FOURS, [&[], &[2], &[]], 6, PACK_FAULT),
+    (IN_FOURS, [&[], &[6], &[]], 6, PACK_FAULT),
+    (IN_FOURS, [&[], &[7], &[]], 6, PACK_FAULT),
+    (IN_FOURS, [&[], &[], &[0]], 6, SINK_FAULT),
+    (&["export", "p", E], [&[], &[0], &[]], 6, PACK_FAULT),
+    (&["import", "", "p"], NONE, 2, USAGE),
+    (&["import", "f"], NONE, 2, USAGE),
 ];
 
 /// Whether faults are told as the row has it, and nothing goes to out.
-fn fails_as(rt: &HostRuntime, row: &Fault) -> Result<bool, Fail> {
+fn fails_as(alloc: Global, row: &Fault) -> bool {
     let (words, failing, status, line) = *row;
-    Ok(run_with(rt, words, HELLO, E_CAR, failing)?.is(status, b"", line))
+    match run_with(alloc, words, HELLO, E_CAR, failing) {
+        Some(done) => done.is(status, b"", line),
+        None => false,
+    }
 }
 
 #[test]
-fn faults_are_told(rt: HostRuntime) -> Result<(), Fail> {
+fn faults_are_told(rt: HostRuntime) {
     for row in FAULTS {
-        assert!(rt; fails_as(&rt, row)?, "{row:?}");
+        assert!(rt; fails_as(rt.alloc(), row), "{row:?}");
     }
-    Ok(())
 }
 
 /// The words of an export, its status, how many bytes it puts, and its line.
@@ -403,39 +405,43 @@ const ASKED: &[Asked] = &[
     (&["export", "p", FOLDER], 0, 146, ""),
     (&["export", "p", FOLDER, "--scope=all"], 0, 450, ""),
     (&["export", "p", FOLDER_H], 0, 450, ""),
-    (
-        &["export", "p", F, "--bytes", "5:3"],
-        2,
-        0,
-        "tgate: usage\n",
-    ),
+    (&["export", "p", F, "--bytes", "5:3"], 2, 0, USAGE),
     (&["export", "p", Z], 9, 0, "tgate: NoRoot\n"),
     (&["export", "p", FOLDER_X], 9, 0, "tgate: NotThere 0\n"),
     (&["export", "p", FOLDER_H_X], 9, 0, "tgate: NotFolder 1\n"),
 ];
 
 /// Whether the pack is exported as the row has it, and stays as it was.
-fn exports_as(rt: &HostRuntime, pack: &[u8], row: &Asked) -> Result<bool, Fail> {
+fn exports_as(alloc: Global, pack: &[u8], row: &Asked) -> bool {
     let (words, status, size, line) = *row;
-    let done = run_with(rt, words, Shape::Nothing, pack, NONE)?;
-    Ok(
-        done.status == status
-            && done.out.len() == size
-            && done.err.as_slice() == line.as_bytes()
-            && done.pack.as_slice() == pack,
-    )
+    match run_over_pack(alloc, words, pack) {
+        Some(done) => {
+            done.status == status
+                && done.out.len() == size
+                && done.err.as_slice() == line.as_bytes()
+                && done.pack.as_slice() == pack
+        }
+        None => false,
+    }
+}
+
+/// Whether the pack of the folder with the file `h` is exported as the row has it.
+fn exports_hello_as(alloc: Global, row: &Asked) -> bool {
+    match packed(alloc, IN_FOURS, HELLO) {
+        Some(pack) => exports_as(alloc, pack.as_slice(), row),
+        None => false,
+    }
 }
 
 #[test]
-fn packs_are_exported(rt: HostRuntime) -> Result<(), Fail> {
-    let pack = packed(&rt, IN_FOURS, HELLO)?;
+fn packs_are_exported(rt: HostRuntime) {
     for row in ASKED {
-        assert!(rt; exports_as(&rt, pack.as_slice(), row)?, "{row:?}");
+        assert!(rt; exports_hello_as(rt.alloc(), row), "{row:?}");
     }
-    Ok(())
 }
 
-/// A folder with one file that is imported in chunks of 4, the words of an export of that file, and how many bytes it puts.
+/// A folder with one file that is imported in chunks of 4, the words of an export of that file, and how many bytes it
+/// puts.
 type One = (Shape, &'static [&'static str], usize);
 
 const ONE_FILE: &[One] = &[
@@ -463,59 +469,75 @@ const ONE_FILE: &[One] = &[
 ];
 
 /// Whether the file is exported as the row has it.
-fn exports_one_as(rt: &HostRuntime, row: &One) -> Result<bool, Fail> {
+fn exports_one_as(alloc: Global, row: &One) -> bool {
     let (shape, words, size) = *row;
-    let pack = packed(rt, IN_FOURS, shape)?;
-    exports_as(rt, pack.as_slice(), &(words, 0, size, ""))
+    match packed(alloc, IN_FOURS, shape) {
+        Some(pack) => exports_as(alloc, pack.as_slice(), &(words, 0, size, "")),
+        None => false,
+    }
 }
 
 #[test]
-fn one_file_is_exported(rt: HostRuntime) -> Result<(), Fail> {
+fn one_file_is_exported(rt: HostRuntime) {
     for row in ONE_FILE {
-        assert!(rt; exports_one_as(&rt, row)?, "{row:?}");
+        assert!(rt; exports_one_as(rt.alloc(), row), "{row:?}");
     }
-    Ok(())
 }
 
-/// A pack, the numbers of out's calls that fail, the status, what goes to out and the line of an export of the empty directory.
-type Export = (
-    &'static [u8],
-    &'static [u64],
-    u8,
-    &'static [u8],
-    &'static str,
-);
+/// A pack: so many of the bytes of the empty directory's CAR, and these bytes behind them.
+type Pack = (usize, &'static [u8]);
 
+/// A pack, the numbers of out's calls that fail, the status, how many bytes of the empty directory's CAR go to out,
+/// and the line of an export of that directory.
+type Export = (Pack, &'static [u64], u8, usize, &'static str);
+
+// The CAR as it is, a pack under the CIDv0, a byte of the block that is changed, a header alone, and what is no pack.
 const EXPORTS: &[Export] = &[
-    (E_CAR, &[], 0, E_CAR, ""),
-    (E_V0_PACK, &[], 0, E_CAR, ""),
-    (E_CAR, &[1], 6, E_HEADER, "tgate: SinkFault\n"),
-    (E_FLIPPED, &[], 6, b"", "tgate: BadDigest 59\n"),
-    (E_HEADER, &[], 9, b"", "tgate: NoRoot\n"),
-    (b"", &[], 6, b"", "tgate: Truncated 0\n"),
-    (b"\x3a\xa2\x65roots", &[], 6, b"", "tgate: Truncated 0\n"),
-    (b"nothing", &[], 6, b"", "tgate: NotCar 0\n"),
+    ((100, b""), &[], 0, 100, ""),
+    ((0, E_V0_PACK), &[], 0, 100, ""),
+    ((100, b""), &[1], 6, 59, SINK_FAULT),
+    ((99, b"\x02"), &[], 6, 0, "tgate: BadDigest 59\n"),
+    ((59, b""), &[], 9, 0, "tgate: NoRoot\n"),
+    ((0, b""), &[], 6, 0, "tgate: Truncated 0\n"),
+    ((0, b"\x3a\xa2\x65roots"), &[], 6, 0, "tgate: Truncated 0\n"),
+    ((0, b"nothing"), &[], 6, 0, "tgate: NotCar 0\n"),
 ];
 
+/// The bytes of a pack.
+fn pack_of(alloc: Global, pack: Pack) -> Result<Vec<u8>, AllocError> {
+    let (size, rest) = pack;
+    let mut bytes = Vec::from_slice(alloc, front(E_CAR, size))?;
+    bytes.extend_from_slice(rest)?;
+    Ok(bytes)
+}
+
 /// Whether the empty directory is exported as the row has it.
-fn exports_empty_as(rt: &HostRuntime, row: &Export) -> Result<bool, Fail> {
-    let (pack, fails, status, out, line) = *row;
-    let done = run_with(
-        rt,
+fn exports_empty_as(alloc: Global, row: &Export) -> bool {
+    match pack_of(alloc, row.0) {
+        Ok(pack) => pack_is_exported(alloc, pack.as_slice(), row),
+        Err(_) => false,
+    }
+}
+
+fn pack_is_exported(alloc: Global, pack: &[u8], row: &Export) -> bool {
+    let (_, fails, status, size, line) = *row;
+    match run_with(
+        alloc,
         &["export", "p", E],
         Shape::Nothing,
         pack,
         [&[], &[], fails],
-    )?;
-    Ok(done.is(status, out, line))
+    ) {
+        Some(done) => done.is(status, front(E_CAR, size), line),
+        None => false,
+    }
 }
 
 #[test]
-fn packs_that_are_not_whole_are_refused(rt: HostRuntime) -> Result<(), Fail> {
+fn packs_that_are_not_whole_are_refused(rt: HostRuntime) {
     for row in EXPORTS {
-        assert!(rt; exports_empty_as(&rt, row)?, "{row:?}");
+        assert!(rt; exports_empty_as(rt.alloc(), row), "{row:?}");
     }
-    Ok(())
 }
 
 /// The pack without its first three sections, which are the leaves.
@@ -525,22 +547,32 @@ fn without_leaves(alloc: Global, pack: &[u8]) -> Result<Vec<u8>, AllocError> {
     Ok(few)
 }
 
-#[test]
-fn a_block_that_is_gone_ends_the_car(rt: HostRuntime) -> Result<(), Fail> {
-    let pack = packed(&rt, IN_FOURS, HELLO)?;
-    let few = without_leaves(rt.alloc(), pack.as_slice())?;
-    let done = run_with(
-        &rt,
-        &["export", "p", F],
-        Shape::Nothing,
-        few.as_slice(),
-        NONE,
-    )?;
+/// Whether an export of the file ends at the first leaf, where the pack has none.
+fn ends_at_leaf(alloc: Global) -> bool {
+    match packed(alloc, IN_FOURS, HELLO) {
+        Some(pack) => ends_without_leaves(alloc, pack.as_slice()),
+        None => false,
+    }
+}
+
+fn ends_without_leaves(alloc: Global, pack: &[u8]) -> bool {
+    match without_leaves(alloc, pack) {
+        Ok(few) => is_gone(alloc, few.as_slice()),
+        Err(_) => false,
+    }
+}
+
+fn is_gone(alloc: Global, few: &[u8]) -> bool {
     let line = "tgate: Gone bafkreiaoxxbtc63vqopwim4h26bvgww4gygkahzty5pxyhttoow42z24bm\n";
-    assert!(rt;
-        done.status == 6 && done.err.as_slice() == line.as_bytes(),
-        "{done:?}"
-    );
-    assert_eq!(rt; done.out.len(), 241);
-    Ok(())
+    match run_over_pack(alloc, &["export", "p", F], few) {
+        Some(done) => {
+            done.status == 6 && done.err.as_slice() == line.as_bytes() && done.out.len() == 241
+        }
+        None => false,
+    }
+}
+
+#[test]
+fn a_block_that_is_gone_ends_the_car(rt: HostRuntime) {
+    assert!(rt; ends_at_leaf(rt.alloc()));
 }

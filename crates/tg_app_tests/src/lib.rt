@@ -11,3 +11,5 @@ mod car_sections;
 mod cars;
 #[cfg(test)]
 mod files;
+#[cfg(test)]
+mod known;

@@ -213,6 +213,3 @@ fn push_letter(text: &mut Vec<u8>, held: Held) -> Result<Held, AllocError>
         count,
     })
 }
-
-#[cfg(test)]
-mod tests;

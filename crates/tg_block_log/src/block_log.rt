@@ -10,8 +10,8 @@ use tg_bytes::{Bytes, List};
 use tg_cid::Cid;
 use tg_model::{Blocks, BlocksFault, Keep, KeepFault};
 
-/// A store in memory that logs each block that is kept in it, in order, and tells the first of each CID. It counts how often
-/// blocks are looked up, and stands still at 2 ^ 64 - 1.
+/// A store in memory that logs each block that is kept in it, in order, and tells the first of each CID. It counts how
+/// often blocks are looked up, and stands still at 2 ^ 64 - 1.
 #[derive(Drop)]
 pub struct BlockLog {
     alloc: Global,

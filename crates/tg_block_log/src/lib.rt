@@ -1,5 +1,5 @@
-//! A store that logs each section that is kept in it, and tells what it logged. Its tests show what a caller behind generic
-//! code still knows of its store.
+//! A store that logs each section that is kept in it, and tells what it logged. Its tests show what a caller behind
+//! generic code still knows of its store.
 #![tactic(auto)]
 
 mod block_log;

@@ -11,9 +11,9 @@ ghost use Rattle.tg_block_log.specs.LoggedBlocks.{section_of};
 use crate::block_log::BlockLog;
 use std::alloc::Global;
 use std::rt::HostRuntime;
-use std::test::Fail;
 use tg_bytes::Bytes;
 use tg_cid::{Cid, Codec, MAX_BLOCK_LEN};
+use tg_known_bytes::{DIRECTORY, DIRECTORY_CID, DIRECTORY_V0, HELLO};
 use tg_model::{Blocks, BlocksFault, Keep, KeepFault};
 
 /// A store in which blocks are kept and looked up. A look-up keeps nothing.
@@ -33,8 +33,8 @@ impl KeptBlocks for BlockLog {
     ghost looks = { λ a b _. searched_logs a.number b.number (map section_of a.blocks) (map section_of b.blocks) };
 }
 
-/// Keeps the block and looks it up. A store that tells what it holds gives what stood under the CID before, and this block
-/// where nothing did; any other gives a block that the CID names, or none.
+/// Keeps the block and looks it up. A store that tells what it holds gives what stood under the CID before, and this
+/// block where nothing did; any other gives a block that the CID names, or none.
 fn keep_then_get<S: KeptBlocks>(
     store: &mut S,
     cid: Cid,
@@ -42,12 +42,16 @@ fn keep_then_get<S: KeptBlocks>(
 ) -> Result<Option<Bytes>, BlocksFault>
     requires named { Names cid block.now }
     requires small { length block.now ≤ max_block_len }
-    ensures found { IfOk result (λ found. IfSome (S.Blocks.blocks.stored store.old) (λ held. found ≡ Some (unwrap_or (held cid) block.now))) }
-    ensures first { IfOk result (λ found. IfSome (S.Blocks.blocks.stored store.old) (λ held. held cid ≡ None → found ≡ Some block.now)) }
+    ensures found { IfOk result (λ found. IfSome (S.Blocks.blocks.stored store.old)
+        (λ held. found ≡ Some (unwrap_or (held cid) block.now))) }
+    ensures first { IfOk result (λ found. IfSome (S.Blocks.blocks.stored store.old) (λ held. held cid ≡ None
+        → found ≡ Some block.now)) }
     ensures any { IfOk result (λ found. IsNamedBlock cid found) }
-    ensures kept { OnOk result (Kept (record { cid = cid; block = block.now } ∷ []) (kept_in S.Keep.keeper store.old store.new)) }
+    ensures kept { OnOk result (Kept (record { cid = cid; block = block.now }
+        ∷ []) (kept_in S.Keep.keeper store.old store.new)) }
     ensures quiet { OnOk result (S.Blocks.blocks.faults store.new ≡ S.Blocks.blocks.faults store.old) }
-    ensures failed { result ≡ Err BlocksFault.Failed → Rose (S.Blocks.blocks.faults store.old) (S.Blocks.blocks.faults store.new) }
+    ensures failed { result ≡ Err BlocksFault.Failed
+        → Rose (S.Blocks.blocks.faults store.old) (S.Blocks.blocks.faults store.new) }
     ensures counted { OnErr result (S.Blocks.blocks.faults store.old ≤ S.Blocks.blocks.faults store.new) }
     // A failed call kept the section or nothing.
     ensures err_kept { OnErr result (S.Keep.keeper.kept store.old store.new []
@@ -69,8 +73,8 @@ fn has_both<B: Blocks>(blocks: &mut B, a: &Cid, b: &Cid) -> Result<bool, BlocksF
     Ok(first && second)
 }
 
-/// What a log knows behind generic code: its number is the one that it was made with, and behind what it held stands the one
-/// section that was kept; and a look-up leaves it as it was.
+/// What a log knows behind generic code: its number is the one that it was made with, and behind what it held stands
+/// the one section that was kept; and a look-up leaves it as it was.
 fn log_one(log: &mut BlockLog, cid: Cid, block: &[u8]) -> Result<bool, BlocksFault>
     requires named { Names cid block.now }
     requires small { length block.now ≤ max_block_len }
@@ -82,62 +86,65 @@ fn log_one(log: &mut BlockLog, cid: Cid, block: &[u8]) -> Result<bool, BlocksFau
     has_both(log, &cid, &cid)
 }
 
-const BLOCK: &[u8] = b"\x0a\x02\x08\x01";
-
-// The CIDv0 of the block, by Python's hashlib.
-const TWIN: &[u8] = b"\x12\x20\x59\x94\x84\x39\x06\x5f\x29\x61\x9e\xf4\x12\x80\xcb\xb9\
-        \x32\xbe\x52\xc5\x6d\x99\xc5\x96\x6b\x65\xe0\x11\x12\x39\xf0\x98\xbb\xef";
-
-const HELLO: &[u8] = b"hello world";
-
 /// Keeps the block under a CID, and says whether it is found there. None is kept under a CID that doesn't name it.
-fn is_found(store: &mut BlockLog, cid: Cid, block: &[u8]) -> Result<bool, BlocksFault> {
+fn is_found(store: &mut BlockLog, cid: Cid, block: &[u8]) -> bool {
     if block.len() > MAX_BLOCK_LEN || !cid.holds(block) {
-        return Ok(false);
+        return false;
     }
-    match keep_then_get(store, cid, block)? {
-        Some(found) => Ok(found.as_slice() == block),
-        None => Ok(false),
+    match keep_then_get(store, cid, block) {
+        Ok(Some(found)) => found.as_slice() == block,
+        _ => false,
     }
 }
 
 /// Whether the store has this block under the CID.
-fn holds(store: &mut BlockLog, cid: &Cid, block: &[u8]) -> Result<bool, BlocksFault> {
-    match store.get(cid)? {
-        Some(found) => Ok(found.as_slice() == block),
-        None => Ok(false),
+fn holds(store: &mut BlockLog, cid: &Cid, block: &[u8]) -> bool {
+    match store.get(cid) {
+        Ok(Some(found)) => found.as_slice() == block,
+        _ => false,
     }
+}
+
+/// Whether the store has no block under the CID.
+fn lacks(store: &mut BlockLog, cid: &Cid) -> bool {
+    matches!(store.get(cid), Ok(None))
 }
 
 /// Whether a further block isn't there before it is kept, and then beside the one under these CIDs.
-fn stands_beside(store: &mut BlockLog, first: &Cid, second: &Cid) -> Result<bool, BlocksFault> {
+fn stands_beside(store: &mut BlockLog, first: &Cid, second: &Cid) -> bool {
     let other = Cid::of_block(Codec::Raw, HELLO);
-    if has_both(store, first, &other)? || !log_one(store, other, HELLO)? {
-        return Ok(false);
-    }
-    Ok(has_both(store, second, &other)? && holds(store, &other, HELLO)?)
+    matches!(has_both(store, first, &other), Ok(false))
+        && matches!(log_one(store, other, HELLO), Ok(true))
+        && matches!(has_both(store, second, &other), Ok(true))
+        && holds(store, &other, HELLO)
 }
 
-/// Whether what is kept under the first CID is found under the second, and not under the same digest with another codec, and what is
-/// kept again is found as it was.
-fn are_twins(alloc: Global, first: Cid, second: Cid) -> Result<bool, BlocksFault> {
-    let raw = Cid::of_block(Codec::Raw, BLOCK);
+/// Whether what is kept under the first CID is found under the second, and not under the same digest with another
+/// codec, and what is kept again is found as it was.
+fn are_twins(alloc: Global, first: Cid, second: Cid) -> bool {
+    let raw = Cid::of_block(Codec::Raw, DIRECTORY);
     let mut store = BlockLog::new(alloc, 7);
-    if store.get(&first)?.is_some() || !is_found(&mut store, first, BLOCK)? {
-        return Ok(false);
-    }
-    if !is_found(&mut store, second, BLOCK)? || store.get(&raw)?.is_some() {
-        return Ok(false);
-    }
-    stands_beside(&mut store, &first, &second)
+    lacks(&mut store, &first)
+        && is_found(&mut store, first, DIRECTORY)
+        && is_found(&mut store, second, DIRECTORY)
+        && lacks(&mut store, &raw)
+        && stands_beside(&mut store, &first, &second)
 }
+
+/// Whether these are the bytes of two CIDs, of which the one stands for the other.
+fn are_cids_of_twins(alloc: Global, first: &[u8], second: &[u8]) -> bool {
+    match (Cid::from_bytes(first), Cid::from_bytes(second)) {
+        (Ok(first), Ok(second)) => first != second && are_twins(alloc, first, second),
+        _ => false,
+    }
+}
+
+// The CID under which the directory is kept first, and the one under which it is found and kept again.
+const TWINS: &[(&[u8], &[u8])] = &[(DIRECTORY_CID, DIRECTORY_V0), (DIRECTORY_V0, DIRECTORY_CID)];
 
 #[test]
-fn blocks_are_kept_and_found(rt: HostRuntime) -> Result<(), Fail> {
-    let cid = Cid::of_block(Codec::DagPb, BLOCK);
-    let twin = Cid::from_bytes(TWIN)?;
-    assert_ne!(rt; cid, twin);
-    assert!(rt; are_twins(rt.alloc(), cid, twin)?);
-    assert!(rt; are_twins(rt.alloc(), twin, cid)?);
-    Ok(())
+fn blocks_are_kept_and_found(rt: HostRuntime) {
+    for (first, second) in TWINS {
+        assert!(rt; are_cids_of_twins(rt.alloc(), first, second), "{first:?}");
+    }
 }

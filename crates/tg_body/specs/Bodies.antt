@@ -28,8 +28,8 @@ ChunksText [] bytes = bytes ≡ []
 ChunksText (chunk ∷ chunks) bytes =
     (front : List ℕ) × (rest : List ℕ) × (bytes ≡ front ++ rest) × ChunkText chunk front × ChunksText chunks rest
 
--- The trailer goes up to and with the first empty line. It is a header block of the grammar, of at most 16,384 bytes and 64 fields,
--- and it is dropped.
+-- The trailer goes up to and with the first empty line. It is a header block of the grammar, of at most 16,384 bytes
+-- and 64 fields, and it is dropped.
 pub record TrailerText (bytes : List ℕ) : Type 0 where
   pub lines : List (List ℕ)
   pub empty : LineEnd
@@ -112,7 +112,8 @@ pub record ChunkedFront (body bytes : List ℕ) : Type 0 where
   pub whole : bytes ≡ front ++ rest
   pub body_is : body ≡ joined chunks ++ part
 
--- A body goes on with these bytes, and this of it came in them. Chunk lines and trailers are judged once they are whole.
+-- A body goes on with these bytes, and this of it came in them. Chunk lines and trailers are judged once they are
+-- whole.
 abbrev pub BodyFront : Framing → List ℕ → List ℕ → Type 0
 BodyFront (framings.Length number) body bytes = (body ≡ bytes) × (length bytes ≤ number)
 BodyFront framings.Chunked body bytes = ChunkedFront body bytes

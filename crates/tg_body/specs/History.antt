@@ -134,7 +134,8 @@ HasEndCause framing fed given faults.OutOfMemory = ⊥
 HasEndCause framing fed given faults.BadHead = ⊥
 HasEndCause framing fed given faults.HeadLimit = ⊥
 
--- the body is whole where the end was given, and else goes on; it never ends by its bytes where it goes on until the link closes
+-- the body is whole where the end was given, and else goes on; it never ends by its bytes where it goes on until the
+-- link closes
 abbrev pub IsSoFar : Framing → Bool → List ℕ → List ℕ → Type 0
 IsSoFar framing true body bytes = BodyText framing body bytes × (framing ≢ framings.UntilClose)
 IsSoFar framing false body bytes = BodyFront framing body bytes

@@ -14,7 +14,8 @@ pub record BodyLaws : Type 0 where
   pub end_given : (h : History) (body : List ℕ) → IsExact Chunked h → ChunkedText body h.fed → (h.ended ≡ true) × (h.given ≡ body)
   -- readers that took the same bytes gave the same, however they were cut
   pub one_division : (framing : Framing) (g h : History) → IsExact framing g → IsExact framing h → g.fed ≡ h.fed → g.given ≡ h.given
-  -- readers that were handed the same bytes in chunks and refused them had given the same, however they were cut and whatever followed
+  -- readers that were handed the same bytes in chunks and refused them had given the same, however they were cut and
+  -- whatever followed
   pub one_refusal : (g h : History) (p q x y : List ℕ) (e f : HttpFault) → IsExact Chunked g → IsExact Chunked h
       → g.stop ≡ Some (at_piece p e) → h.stop ≡ Some (at_piece q f) → e ≢ OutOfMemory → f ≢ OutOfMemory
       → (g.fed ++ p) ++ x ≡ (h.fed ++ q) ++ y → (e ≡ f) × (g.given ≡ h.given)

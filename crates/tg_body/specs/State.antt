@@ -19,8 +19,8 @@ pub record BehindChunks (body bytes : List ℕ) (part rest : List ℕ) : Type 0 
   pub whole : bytes ≡ front ++ rest
   pub body_is : body ≡ joined chunks ++ part
 
--- where the reader is in a body of this framing, of which these bytes came and this was given; `came` is the front of a line or
--- of a trailer
+-- where the reader is in a body of this framing, of which these bytes came and this was given; `came` is the front of a
+-- line or of a trailer
 abbrev pub Holds : Framing → Stage → List ℕ → List ℕ → List ℕ → Type 0
 Holds framing (stages.Length left) came body bytes =
     (came ≡ []) × (body ≡ bytes) × (framing ≡ framings.Length (length bytes + left))
@@ -66,7 +66,8 @@ abbrev pub fault_of : Stop → HttpFault
 fault_of (at_piece piece fault) = fault
 fault_of (at_end fault) = fault
 
--- The reader has this value after this history. What it gave and refused is then what the bytes that it took are: `exact`.
+-- The reader has this value after this history. What it gave and refused is then what the bytes that it took are:
+-- `exact`.
 pub record StandsFor (reader : BodyReader) (h : History) : Type 0 where
   pub exact : IsExact reader.framing h
   pub refused : reader.refused ≡ option_map fault_of h.stop

@@ -9,6 +9,3 @@ mod text;
 
 pub use body::Body;
 pub use reader::BodyReader;
-
-#[cfg(test)]
-mod tests;

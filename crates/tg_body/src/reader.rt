@@ -17,9 +17,9 @@ use std::alloc::Global;
 use tg_bytes::Bytes;
 use tg_http::{Framing, HttpFault, MAX_TEXT, is_empty_line};
 
-/// A reader of a body that is fed its bytes in pieces of any lengths. It gives parts of the pieces and copies none of them:
-/// it keeps a chunk line or a trailer alone, of at most 16,384 bytes. After a refusal each call gives that refusal, and after
-/// the end each feed gives the end.
+/// A reader of a body that is fed its bytes in pieces of any lengths. It gives parts of the pieces and copies none of
+/// them: it keeps a chunk line or a trailer alone, of at most 16,384 bytes. After a refusal each call gives that
+/// refusal, and after the end each feed gives the end.
 ///
 /// RFC 9112, sections 6.3 and 7.1.
 #[derive(Debug, Drop)]
@@ -52,23 +52,26 @@ impl BodyReader {
 
     /// Takes bytes of the piece up to the end of a part of the body, or to the body's end, and says how many and which.
     ///
-    /// RFC 9112, sections 6.3 and 7.1. Once the last byte of a length was given, a feed of any piece, of an empty one too,
-    /// takes nothing and gives `End`; over chunks `End` comes with the last byte of the trailer; a body that goes on until
-    /// the link closes is never ended here. Errors: `BadFraming` at the first byte with which no body goes on, where chunk
-    /// lines and trailers are judged once they are whole or have 16,384 bytes, or at once where there is no framing; and
-    /// `OutOfMemory` where no room for bytes of a chunk line or of a trailer is found, which an empty piece never gives.
+    /// RFC 9112, sections 6.3 and 7.1. Once the last byte of a length was given, a feed of any piece, of an empty one
+    /// too, takes nothing and gives `End`; over chunks `End` comes with the last byte of the trailer; a body that goes
+    /// on until the link closes is never ended here. Errors: `BadFraming` at the first byte with which no body goes on,
+    /// where chunk lines and trailers are judged once they are whole or have 16,384 bytes, or at once where there is no
+    /// framing; and `OutOfMemory` where no room for bytes of a chunk line or of a trailer is found, which an empty
+    /// piece never gives.
     pub fn feed(&mut self, piece: &[u8]) -> Result<(usize, Body), HttpFault>
         ensures within { IfOk result (λ told. told.0 ≤ length piece.now) }
         ensures moves { IfOk result (λ told. 0 < length piece.now → (0 < told.0) ⊎ (told.1 ≡ Body.End)) }
         ensures need { IfOk result (λ told. told.1 ≡ Body.Need → told.0 ≡ length piece.now) }
-        ensures part { (taken start end : ℕ) → result ≡ Ok (taken, Body.Part start end) → (start < end) × (end ≡ taken) }
+        ensures part { (taken start end : ℕ) → result ≡ Ok (taken, Body.Part start end) → (start < end)
+            × (end ≡ taken) }
         // Each history that the reader stood for, with this call added, is one that it stands for.
         ensures stands { (h : History) → StandsFor self.old h → StandsFor self.new (with_feed h piece.now result) }
         // Where the body is whole nothing is taken, and the end is given.
         ensures whole { (h : History) → StandsFor self.old h → h.stop ≡ None → BodyText self.old.framing h.given h.fed
             → self.old.framing ≢ Framing.UntilClose → result ≡ Ok (0, Body.End) }
         // After a refusal each call gives that refusal and changes nothing.
-        ensures again { (fault : HttpFault) → self.old.refused ≡ Some fault → (result ≡ Err fault) × (self.new ≡ self.old) }
+        ensures again { (fault : HttpFault) → self.old.refused ≡ Some fault → (result ≡ Err fault)
+            × (self.new ≡ self.old) }
         ensures kept { MatchResult result (λ _. (self.old.refused ≡ None) × (self.new.refused ≡ None))
             (λ fault. self.new.refused ≡ Some fault) }
         ensures framing { self.new.framing ≡ self.old.framing }
@@ -88,14 +91,15 @@ impl BodyReader {
 
     /// Says that no byte is to come.
     ///
-    /// RFC 9112, section 8. Errors: `BadFraming` where the bytes end inside a body of stated length or in chunks, or where
-    /// there is no framing; and a refusal of before.
+    /// RFC 9112, section 8. Errors: `BadFraming` where the bytes end inside a body of stated length or in chunks, or
+    /// where there is no framing; and a refusal of before.
     pub fn end(&mut self) -> Result<(), HttpFault>
         // What was fed is then a body in the framing, and what was given is that body.
         ensures whole { (h : History) → StandsFor self.old h → OnOk result (BodyText self.old.framing h.given h.fed) }
         ensures stands { (h : History) → StandsFor self.old h → StandsFor self.new (with_end h result) }
         // After a refusal each call gives that refusal and changes nothing.
-        ensures again { (fault : HttpFault) → self.old.refused ≡ Some fault → (result ≡ Err fault) × (self.new ≡ self.old) }
+        ensures again { (fault : HttpFault) → self.old.refused ≡ Some fault → (result ≡ Err fault)
+            × (self.new ≡ self.old) }
         ensures kept { MatchResult result (λ _. (self.old.refused ≡ None) × (self.new ≡ self.old))
             (λ fault. self.new.refused ≡ Some fault) }
         ensures framing { self.new.framing ≡ self.old.framing }

@@ -18,8 +18,10 @@ use tg_http::{HttpFault, MAX_FIELDS, MAX_TEXT, line_length};
 /// empty piece never gives.
 pub(crate) fn keep_line(came: &mut Bytes, piece: &[u8]) -> Result<Option<usize>, HttpFault>
     ensures { MatchResult result
-        (λ told. MatchOption told (InsideLine came.old piece.now came.new) (λ size. EndsLine came.old piece.now size came.new))
-        (λ fault. ((fault ≡ HttpFault.OutOfMemory) × (0 < length piece.now)) ⊎ ((fault ≡ HttpFault.BadFraming) × IsTooLong came.old piece.now)) }
+        (λ told. MatchOption told (InsideLine came.old piece.now came.new)
+        (λ size. EndsLine came.old piece.now size came.new))
+        (λ fault. ((fault ≡ HttpFault.OutOfMemory) × (0 < length piece.now))
+        ⊎ ((fault ≡ HttpFault.BadFraming) × IsTooLong came.old piece.now)) }
 {
     let room = MAX_TEXT.saturating_sub(came.as_slice().len());
     match line_length(piece) {
@@ -52,7 +54,8 @@ pub(crate) fn stated_size(line: &[u8]) -> Option<u64>
 
 /// Whether lines up to and with the first empty one are a trailer.
 pub(crate) fn is_trailer(block: &[u8]) -> bool
-    ensures { (lines : List (List ℕ)) (last : LineEnd) → All IsFullLine lines → block.now ≡ joined lines ++ print_end last
+    ensures { (lines : List (List ℕ)) (last : LineEnd) → All IsFullLine lines → block.now ≡ joined lines
+        ++ print_end last
         → length block.now ≤ 16384 → IsTrue result ↔ TrailerText block.now }
 {
     let mut room = [EMPTY_HEADER_SPAN; MAX_FIELDS];

@@ -24,7 +24,8 @@ pub record IsInSection (bytes : List ℕ) : Type 0 where
   pub not_whole : 0 < length more
   pub text : SectionText section (bytes ++ more)
 
--- the length and the CID of a section are whole, and the block that it declares has this many bytes, of which some have come
+-- the length and the CID of a section are whole, and the block that it declares has this many bytes, of which some have
+-- come
 pub record Declares (bytes : List ℕ) (number : ℕ) : Type 0 where
   pub cid : CidParts
   pub size : List ℕ

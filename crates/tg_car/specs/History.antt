@@ -45,8 +45,8 @@ abbrev pub with_end : {A : Type 0} → History → Result A CarFault → History
 with_end h (Ok done) = h
 with_end h (Err fault) = stopped h (at_end fault) h.stop
 
--- the bytes from this place on are the texts of the sections, which are given so: each with where it begins and how many
--- bytes its text has
+-- the bytes from this place on are the texts of the sections, which are given so: each with where it begins and how
+-- many bytes its text has
 abbrev pub ArePlaced : ℕ → List Section → List ℕ → List Event → Type 0
 ArePlaced at [] bytes given = (bytes ≡ []) × (given ≡ [])
 ArePlaced at (section ∷ sections) bytes given =
@@ -90,7 +90,8 @@ HasStopped limit h None = ⊤
 HasStopped limit h (Some (at_piece piece fault)) = StopsAt limit h.fed h.given piece fault
 HasStopped limit h (Some (at_end fault)) = HasEndCause limit h.fed fault
 
--- the history is exact for a reader with this limit: what was given is what the bytes complete, and a refusal has its cause
+-- the history is exact for a reader with this limit: what was given is what the bytes complete, and a refusal has its
+-- cause
 pub record IsExact (limit : ℕ) (h : History) : Type 0 where
   pub goes_on : GoesOn limit h.fed h.given
   pub stopped : HasStopped limit h h.stop

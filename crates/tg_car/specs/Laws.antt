@@ -18,8 +18,8 @@ pub record CarLaws : Type 0 where
   pub none_missed : (limit : ℕ) (h : History) (fault : CarFault) → IsExact limit h → HasCarCause limit h.fed fault → ⊥
   -- readers that took the same bytes gave the same, however they were cut
   pub one_division : (limit : ℕ) (g h : History) → IsExact limit g → IsExact limit h → g.fed ≡ h.fed → g.given ≡ h.given
-  -- readers that were handed the same bytes and refused them had given the same and refused them alike, however they were cut
-  -- and whatever followed
+  -- readers that were handed the same bytes and refused them had given the same and refused them alike, however they
+  -- were cut and whatever followed
   pub one_refusal : (limit : ℕ) (g h : History) (p q x y : List ℕ) (e f : CarFault) → IsExact limit g → IsExact limit h
       → g.stop ≡ Some (at_piece p e) → h.stop ≡ Some (at_piece q f) → e ≢ OutOfMemory → f ≢ OutOfMemory
       → (g.fed ++ p) ++ x ≡ (h.fed ++ q) ++ y → (e ≡ f) × (g.given ≡ h.given)

@@ -40,7 +40,8 @@ abbrev pub Holds : Bool → ReaderState → List ℕ → List Event → Type 0
 Holds true state fed given = HoldsHeader state fed given
 Holds false state fed given = HoldsSection state fed given
 
--- The reader has this value after this history. What it gave and refused is then what the bytes that it was fed are: `exact`.
+-- The reader has this value after this history. What it gave and refused is then what the bytes that it was fed are:
+-- `exact`.
 pub record StandsFor (state : ReaderState) (h : History) : Type 0 where
   pub exact : IsExact state.limit h
   pub refused : state.refused ≡ fault_of h.stop

@@ -9,8 +9,8 @@ pub enum Event {
     Need,
     /// The header was completed: its bytes, at most 13,076.
     Header(Bytes),
-    /// A section was completed. Its length begins at the offset `at`, which stands still at 2 ^ 64 - 1, and its length, CID
-    /// and block have `size` bytes together.
+    /// A section was completed. Its length begins at the offset `at`, which stands still at 2 ^ 64 - 1, and its length,
+    /// CID and block have `size` bytes together.
     Section {
         at: u64,
         size: u64,

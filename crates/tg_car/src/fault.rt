@@ -4,8 +4,8 @@ ghost use Rattle.std.specs.Prelude.{◌≡◌};
 use std::alloc::AllocError;
 use thiserror::Error;
 
-/// Why bytes are no CAR within a reader's limit. `at` is an offset from the first byte that was fed, and stands still at
-/// 2 ^ 64 - 1.
+/// Why bytes are no CAR within a reader's limit. `at` is an offset from the first byte that was fed, and stands still
+/// at 2 ^ 64 - 1.
 #[derive(Clone, Copy, Debug, PartialEq, Eq, Error)]
 pub enum CarFault {
     /// No CAR goes on so inside its header; `at` is 0.

@@ -61,7 +61,8 @@ impl Roots {
 
     /// The roots behind the first one, which has `size` bytes, or none where no roots go on so.
     fn behind(self, size: u16) -> Option<Roots>
-        ensures { MatchOption result (CanBe (self.count - 1) (self.bytes - size) → size ≤ self.bytes → 0 < self.count → ⊥)
+        ensures { MatchOption result (CanBe (self.count - 1) (self.bytes - size) → size ≤ self.bytes → 0 < self.count
+            → ⊥)
             (λ rest. CanBe rest.count rest.bytes × (rest.count + 1 ≡ self.count) × (rest.bytes + size ≡ self.bytes)) }
     {
         let rest = Roots {

@@ -1,9 +1,11 @@
 //! The laws of the texts of CARs and of what a reader gives of them, for proofs.
+ghost use Rattle.std.specs.Prelude.{[]};
 ghost use Rattle.tg_car.specs.Laws.{CarLaws};
+ghost use Rattle.tg_car.specs.Heads.{IsInHead};
 ghost use Rattle.tg_car.specs.TextLaws.{TextLaws};
 
-/// A list of roots has one header and a section has one text, none begins another, and what a reader gives and refuses is
-/// determined by the bytes, however they are cut.
+/// A list of roots has one header and a section has one text, none begins another, and what a reader gives and refuses
+/// is determined by the bytes, however they are cut.
 ///
 /// CARv1 specification, Header and Data.
 pub fn car_laws()

@@ -17,6 +17,3 @@ pub use fault::CarFault;
 pub use reader::CarReader;
 pub use section::Section;
 pub use writing::{header, section_head};
-
-#[cfg(test)]
-mod tests;

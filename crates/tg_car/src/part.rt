@@ -61,8 +61,8 @@ impl Part {
         head.saturating_add(self.block.len() as u64)
     }
 
-    /// Takes bytes of the piece up to the section's end, and says how many and the section that is whole with them. Room for
-    /// its block is taken once its length and CID are whole, and moved out with the section.
+    /// Takes bytes of the piece up to the section's end, and says how many and the section that is whole with them.
+    /// Room for its block is taken once its length and CID are whole, and moved out with the section.
     pub(crate) fn take(
         &mut self,
         alloc: Global,
@@ -71,7 +71,8 @@ impl Part {
     ) -> Result<(usize, Option<Section>), PartFault>
         requires { IsPart self.old }
         ensures part { IsPart self.new }
-        ensures took { MatchResult result (λ found. Takes limit (came_of self.old) (came_of self.new) piece.now found.0 found.1)
+        ensures took { MatchResult result (λ found. Takes limit (came_of self.old)
+            (came_of self.new) piece.now found.0 found.1)
             (λ fault. StopsPart limit (came_of self.old) piece.now fault) }
     {
         laws::text_laws();
@@ -86,7 +87,8 @@ impl Part {
         Ok((taken + more, section))
     }
 
-    /// Takes bytes of the piece into the length and the CID, and says how many and what they declare once they are whole.
+    /// Takes bytes of the piece into the length and the CID, and says how many and what they declare once they are
+    /// whole.
     fn take_head(
         &mut self,
         limit: u64,
@@ -120,8 +122,8 @@ impl Part {
         }
     }
 
-    /// Takes bytes of the piece into the block up to its end, and says how many and the section that is whole with them. The
-    /// block has its room, so no memory is wanted.
+    /// Takes bytes of the piece into the block up to its end, and says how many and the section that is whole with
+    /// them. The block has its room, so no memory is wanted.
     fn take_block(
         &mut self,
         alloc: Global,

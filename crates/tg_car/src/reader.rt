@@ -16,12 +16,12 @@ use std::marker::Model;
 use std::mem::replace;
 use tg_bytes::Bytes;
 
-/// A reader of a CAR that is fed its bytes in pieces of any lengths. It gives the header and each section in the call that
-/// brings its last byte, and refuses bytes that are no CAR at the first one with which no CAR goes on. After a refusal each
-/// call gives that refusal.
+/// A reader of a CAR that is fed its bytes in pieces of any lengths. It gives the header and each section in the call
+/// that brings its last byte, and refuses bytes that are no CAR at the first one with which no CAR goes on. After a
+/// refusal each call gives that refusal.
 ///
-/// CARv1 specification. It holds the bytes of the header or of one section at most, and a block in the room that its length
-/// asks for, which is taken once its length and CID are whole and moved out with the section.
+/// CARv1 specification. It holds the bytes of the header or of one section at most, and a block in the room that its
+/// length asks for, which is taken once its length and CID are whole and moved out with the section.
 #[derive(Debug, Drop)]
 pub struct CarReader {
     alloc: Global,
@@ -82,10 +82,11 @@ impl CarReader {
 
     /// Takes bytes of the piece up to the end of the header or of a section, and says how many and what they completed.
     ///
-    /// CARv1 specification, Header and Data. Errors: `BadHeader` and `BadSection` at the first byte with which no CAR goes
-    /// on, `BlockLimit` at the last byte of the CID of a section whose block is above the limit, and `OutOfMemory` where no
-    /// room is found for bytes of the header, or for a block at the last byte of its CID. What the bytes before that byte
-    /// complete was given before. Nothing of the piece is taken then, and each further call gives the same error.
+    /// CARv1 specification, Header and Data. Errors: `BadHeader` and `BadSection` at the first byte with which no CAR
+    /// goes on, `BlockLimit` at the last byte of the CID of a section whose block is above the limit, and `OutOfMemory`
+    /// where no room is found for bytes of the header, or for a block at the last byte of its CID. What the bytes
+    /// before that byte complete was given before. Nothing of the piece is taken then, and each further call gives the
+    /// same error.
     pub fn feed(&mut self, piece: &[u8]) -> Result<(usize, Event), CarFault>
         ensures within { IfOk result (λ found. found.0 ≤ length piece.now) }
         ensures moves { IfOk result (λ found. 0 < length piece.now → 0 < found.0) }
@@ -203,7 +204,8 @@ impl CarReader {
 /// Takes bytes of the piece into a header up to its end, or none where no header goes on so.
 fn follow(mut state: HeaderState, piece: &[u8]) -> Option<Followed>
     ensures taken { IfSome result (λ found. IsTaken found.whole piece.now found.taken) }
-    ensures bytes { (bytes : List ℕ) → FollowsHeader state bytes → IsInHeader bytes → TakesHeader bytes piece.now result }
+    ensures bytes { (bytes : List ℕ) → FollowsHeader state bytes → IsInHeader bytes
+        → TakesHeader bytes piece.now result }
 {
     for (at, byte) in piece.iter().enumerate() {
         state = state.step(*byte)?;

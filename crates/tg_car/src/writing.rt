@@ -47,8 +47,8 @@ fn string_head(size: u8) -> ([u8; 2], usize)
     ([0x58, size], 2)
 }
 
-/// The length and the CID before a block of `size` bytes, at most `MAX_BLOCK_LEN`, in the front of an array whose other bytes
-/// are zero, and how many they are. It takes no memory.
+/// The length and the CID before a block of `size` bytes, at most `MAX_BLOCK_LEN`, in the front of an array whose other
+/// bytes are zero, and how many they are. It takes no memory.
 ///
 /// CARv1 specification, Data.
 pub fn section_head(cid: &Cid, size: u64) -> ([u8; MAX_HEAD_LEN], usize)

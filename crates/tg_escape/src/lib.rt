@@ -8,8 +8,8 @@ use percent_encoding::{AsciiSet, NON_ALPHANUMERIC, ascii_set, percent_encode};
 use std::alloc::{AllocError, Global};
 use tg_bytes::Bytes;
 
-/// The bytes of ASCII that are escaped: all but the unreserved characters of RFC 3986, section 2.3. Bytes outside of ASCII
-/// are escaped besides.
+/// The bytes of ASCII that are escaped: all but the unreserved characters of RFC 3986, section 2.3. Bytes outside of
+/// ASCII are escaped besides.
 const ESCAPED: AsciiSet = ascii_set!(
     NON_ALPHANUMERIC
         .remove(b'-')
@@ -30,6 +30,3 @@ pub fn push_escaped(text: &mut Bytes, alloc: Global, name: &[u8]) -> Result<(), 
     text.push_all(shown.as_bytes())?;
     Ok(())
 }
-
-#[cfg(test)]
-mod tests;

@@ -1,4 +1,5 @@
--- A query's answer over a store as a CAR (CARv1 specification, Header and Data; Trustless Gateway specification, CAR responses).
+-- A query's answer over a store as a CAR (CARv1 specification, Header and Data; Trustless Gateway specification, CAR
+-- responses).
 use Rattle.std.specs.Prelude.{All, Err, IfSome, List, Ok, Option, Result, map, ⊤, ℕ, ◌++◌, ◌≡◌, ◌≤◌, ◌⊎◌, length}
 use Rattle.tg_car.specs.CarText.{SectionText, SectionsText}
 use Rattle.tg_car.specs.Writing.{HeaderOf}
@@ -35,7 +36,8 @@ pub record IsGoodSection (section : Section) : Type 0 where
   pub named : Names section.cid section.block
   pub small : length section.block ≤ max_block_len
 
--- the CAR of the root and of named blocks, of which this holds over the store, as far as it is told, and with which this was done
+-- the CAR of the root and of named blocks, of which this holds over the store, as far as it is told, and with which
+-- this was done
 pub record HasCar (root : CidParts) (told : Option Store) (holds : Store → List Section → Type 0) (done : List ℕ → Type 0) : Type 0 where
   pub sections : List Section
   pub bytes : List ℕ
@@ -59,8 +61,8 @@ pub record HasResolved (store : Store) (q : QueryParts) : Type 0 where
   pub cid : CidParts
   pub leads : IsResolvedTo store q.root q.path (Ok cid)
 
--- how a query's CAR over a store ends: the CAR of the traversal; or, without a byte, where the path leads nowhere; or the CAR of a
--- front of the traversal, with the cause of the walk's end; or out failed in the CAR of a front
+-- how a query's CAR over a store ends: the CAR of the traversal; or, without a byte, where the path leads nowhere; or
+-- the CAR of a front of the traversal, with the cause of the walk's end; or out failed in the CAR of a front
 abbrev pub CarEnds : QueryParts → Option Store → Output → Result ⊤ ExportFault → Type 0
 CarEnds q told out (Ok done) =
     HasCar q.root told (λ store sections. HasResolved store q × HasEnded q store max_depth sections whole) (PutWhole out)
@@ -126,7 +128,8 @@ abbrev pub SectionEnds : Section → Output → Result ⊤ ExportFault → Type 
 SectionEnds section out (Ok done) = HasText section (PutWhole out)
 SectionEnds section out (Err fault) = (fault ≡ faults.SinkFault) × HasText section (λ text. PutFront text out)
 
--- the texts of the sections of named blocks, of which this holds over the store, as far as it is told, and with which this was done
+-- the texts of the sections of named blocks, of which this holds over the store, as far as it is told, and with which
+-- this was done
 pub record HasTexts (told : Option Store) (holds : Store → List Section → Type 0) (done : List ℕ → Type 0) : Type 0 where
   pub sections : List Section
   pub bytes : List ℕ

@@ -18,13 +18,14 @@ use tg_model::{Blocks, Query};
 use tg_streams::{Sink, put_all};
 use tg_walk::{Walk, resolve};
 
-/// Writes the CAR of a query over a store: its header, with the query's root, and then the section of each block that the query asks
-/// for, repeats with them, in order, as the walk gives it. Each block is looked up when it is written, and none is kept.
+/// Writes the CAR of a query over a store: its header, with the query's root, and then the section of each block that
+/// the query asks for, repeats with them, in order, as the walk gives it. Each block is looked up when it is written,
+/// and none is kept.
 ///
-/// The path is resolved first, which looks up its blocks once more. CARv1 specification; Trustless Gateway specification, CAR
-/// responses. Errors: `Resolve` where the path doesn't lead to a stored block, with which nothing was written; `Walk` where the walk
-/// ends before the last block, behind the sections up to there; `SinkFault` where out failed, which then has a front of the CAR; and
-/// `OutOfMemory`.
+/// The path is resolved first, which looks up its blocks once more. CARv1 specification; Trustless Gateway
+/// specification, CAR responses. Errors: `Resolve` where the path doesn't lead to a stored block, with which nothing
+/// was written; `Walk` where the walk ends before the last block, behind the sections up to there; `SinkFault` where
+/// out failed, which then has a front of the CAR; and `OutOfMemory`.
 pub fn write_car<B: Blocks, S: Sink>(
     alloc: Global,
     query: &Query,
@@ -35,7 +36,8 @@ pub fn write_car<B: Blocks, S: Sink>(
     ensures looked { (cids : List CidParts) × LookedUp cids (looked_in B.blocks blocks.old blocks.new) }
     ensures cause { HasCarCause (B.blocks.stored blocks.old) (looked_in B.blocks blocks.old blocks.new) result }
     ensures memory { HasOwnMemory result }
-    // Where the store has the whole traversal, none of it too deep, it is written, but for counted faults and want of memory.
+    // Where the store has the whole traversal, none of it too deep, it is written, but for counted faults and want of
+    // memory.
     ensures answered { (store : Store) (sections : List Section) → B.blocks.stored blocks.old ≡ Some store
         → HasEnded query.now store max_depth sections whole → IsOtherwiseWhole result }
 {

@@ -19,10 +19,11 @@ use tg_model::Query;
 use tg_store::PackStore;
 use tg_streams::Sink;
 
-/// Writes the CAR of a query from a pack, which is read through and checked first, and gives the pack back, to which nothing was done.
+/// Writes the CAR of a query from a pack, which is read through and checked first, and gives the pack back, to which
+/// nothing was done.
 ///
-/// CARv1 specification; Trustless Gateway specification, CAR responses. Errors: `Pack` where the pack can't be attached as a store, with
-/// which nothing was written; and those of `write_car`.
+/// CARv1 specification; Trustless Gateway specification, CAR responses. Errors: `Pack` where the pack can't be attached
+/// as a store, with which nothing was written; and those of `write_car`.
 pub fn export<P: Pack, S: Sink>(
     alloc: Global,
     query: &Query,
@@ -34,8 +35,10 @@ pub fn export<P: Pack, S: Sink>(
     ensures cause { HasPackedCause (pack_step P.pack pack result.0) result.1 }
     ensures memory { HasOwnMemory result.1 }
     // Where a cause of a refusal holds of a told content, its fault comes, or the pack failed or memory was wanted.
-    ensures refused { IfSome (P.pack.content pack) (λ content. (fault : PackFault) → HasPackCause content fault → IsRefusedFor fault result.1) }
-    // Where the content has the whole traversal, none of it too deep, it is written, but for counted faults and want of memory.
+    ensures refused { IfSome (P.pack.content pack) (λ content. (fault : PackFault) → HasPackCause content fault
+        → IsRefusedFor fault result.1) }
+    // Where the content has the whole traversal, none of it too deep, it is written, but for counted faults and want of
+    // memory.
     ensures answered { (content : List ℕ) (store : Store) (sections : List Section) → P.pack.content pack ≡ Some content
         → IsAttached content store → HasEnded query.now store max_depth sections whole → IsExportedElse result.1 }
 {

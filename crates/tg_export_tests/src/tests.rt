@@ -1,5 +1,5 @@
-//! CARs that are written from packs in memory. The sizes are counted: 59 bytes of header, and of each section the bytes of its
-//! length, 36 of its CID, and the block.
+//! CARs that are written from packs in memory. The sizes are counted: 59 bytes of header, and of each section the bytes
+//! of its length, 36 of its CID, and the block.
 ghost use Rattle.std.specs.Prelude.{◌≡◌, ◌≤◌, ◌∷◌, [], length, All, IfOk};
 ghost use Rattle.tg_model.specs.EntryNames.{IsGoodName};
 
@@ -300,7 +300,8 @@ fn packs_of_a_directory_are_written_or_refused(rt: HostRuntime) -> Result<(), Fa
     Ok(())
 }
 
-/// Expects of the empty directory, from a store in memory, that so many bytes of its CAR are put where this put of out fails.
+/// Expects of the empty directory, from a store in memory, that so many bytes of its CAR are put where this put of out
+/// fails.
 fn expect_front(rt: &impl Abort, alloc: Global, call: u64, size: usize) -> Result<(), Fail> {
     let root = Cid::of_block(Codec::DagPb, DIRECTORY);
     let query = entity_at(alloc, root, &[])?;

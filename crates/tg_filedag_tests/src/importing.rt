@@ -7,8 +7,8 @@ use thiserror::Error;
 /// Why a file wasn't made.
 #[derive(Clone, Copy, Debug, PartialEq, Eq, Error)]
 pub enum ImportFault {
-    /// There are more than 1,048,576 bytes, none is fed at once, a chunk has no byte or more than 2,097,152, or a node has fewer
-    /// than 2 links or more than 4,096.
+    /// There are more than 1,048,576 bytes, none is fed at once, a chunk has no byte or more than 2,097,152, or a node
+    /// has fewer than 2 links or more than 4,096.
     #[error("OutOfRange")]
     OutOfRange,
     /// No memory was found for the chunks.
@@ -31,7 +31,8 @@ impl From<KeepFault> for ImportFault {
     }
 }
 
-/// The file with these bytes, of which at most `step` are fed at once, in chunks of `size` bytes and nodes of at most `width` links.
+/// The file with these bytes, of which at most `step` are fed at once, in chunks of `size` bytes and nodes of at most
+/// `width` links.
 pub fn import<K: Keep>(
     alloc: Global,
     bytes: &[u8],

@@ -1,10 +1,10 @@
 //! Worked directories in one block and sharded, by Python's hashlib.
 use crate::checked::{checked_directory, checked_weight};
 use std::alloc::Global;
-use std::test::Fail;
 use tg_bytes::Bytes;
 use tg_cid::Cid;
-use tg_model::{Blocks, Kind, NewEntry, reads};
+use tg_dagpb::Link;
+use tg_model::{Blocks, Kind, Made, NewEntry, reads};
 use tg_store::MemStore;
 
 /// An entry: its name, its CID's text, and its Tsize.
@@ -15,9 +15,11 @@ struct Given<'a> {
     tsize: u64,
 }
 
-/// A directory and the weight above which it is sharded, and what is made of it: the root, the Tsize, and the length of the root's block.
+/// A directory with its name here, and the weight above which it is sharded, and what is made of it: the root, the
+/// Tsize, and the length of the root's block.
 #[derive(Clone, Copy)]
 struct Row<'a> {
+    name: &'a str,
     entries: &'a [Given<'a>],
     threshold: u64,
     root: &'a [u8],
@@ -49,6 +51,7 @@ const THREE: &[Given<'static>] = &[
 
 const ROWS: &[Row<'static>] = &[
     Row {
+        name: "no entry",
         entries: &[],
         threshold: 0,
         root: b"bafybeiczsscdsbs7ffqz55asqdf3smv6klcw3gofszvwlyarci47bgf354",
@@ -57,6 +60,7 @@ const ROWS: &[Row<'static>] = &[
     },
     // A file of 144 bytes and three leaves.
     Row {
+        name: "one file",
         entries: &[Given {
             name: b"h",
             cid: b"bafybeighmzuokpuzyho2ninhgybpych6atkhbn2o57c3hlyer2hntezxly",
@@ -68,14 +72,15 @@ const ROWS: &[Row<'static>] = &[
         length: 50,
     },
     Row {
+        name: "as heavy as the threshold",
         entries: THREE,
         threshold: 112,
         root: b"bafybeihovxmemiz7jolbd367kml7ny23axnxg63qjhuxxcheo57vzca22m",
         tsize: 173,
         length: 140,
     },
-    // Sharded, in slot cb.
     Row {
+        name: "sharded, in slot cb",
         entries: &[Given {
             name: b"hello",
             cid: HELLO,
@@ -88,60 +93,173 @@ const ROWS: &[Row<'static>] = &[
     },
 ];
 
-// The entries of a row.
-fn entries_of(alloc: Global, given: &[Given<'_>]) -> Result<Vec<NewEntry>, Fail> {
-    let mut entries = Vec::new(alloc);
-    for entry in given {
-        entries.push(NewEntry {
-            name: Bytes::of(alloc, entry.name)?,
-            cid: Cid::from_text(alloc, entry.cid)?,
-            tsize: entry.tsize,
-        })?;
+/// The entry.
+fn entry_of(alloc: Global, given: &Given) -> Option<NewEntry> {
+    let Ok(cid) = Cid::from_text(alloc, given.cid) else {
+        return None;
+    };
+    match Bytes::of(alloc, given.name) {
+        Ok(name) => Some(NewEntry {
+            name,
+            cid,
+            tsize: given.tsize,
+        }),
+        Err(_) => None,
     }
-    Ok(entries)
 }
 
-// What is made of each directory.
-#[test]
-fn directories_are_made(rt: HostRuntime) -> Result<(), Fail> {
-    let alloc = rt.alloc();
-    for row in ROWS {
-        let entries = entries_of(alloc, row.entries)?;
-        let mut store = MemStore::new(alloc);
-        let made = checked_directory(alloc, entries.as_slice(), row.threshold, &mut store)?;
-        assert_eq!(rt; made.cid, Cid::from_text(alloc, row.root)?);
-        assert_eq!(rt; made.content, 0);
-        assert_eq!(rt; made.tsize, row.tsize);
-        let block = store.get(&made.cid)?.ok_or("kept")?;
-        assert_eq!(rt; block.as_slice().len(), row.length);
+/// The entries.
+fn entries_of(alloc: Global, given: &[Given]) -> Option<Vec<NewEntry>> {
+    let mut entries = Vec::new(alloc);
+    for given in given {
+        let Some(entry) = entry_of(alloc, given) else {
+            return None;
+        };
+        if entries.push(entry).is_err() {
+            return None;
+        }
     }
-    Ok(())
+    Some(entries)
+}
+
+/// What is made of the entries.
+fn directory_of(
+    alloc: Global,
+    given: &[Given],
+    threshold: u64,
+    store: &mut MemStore,
+) -> Option<Made> {
+    let Some(entries) = entries_of(alloc, given) else {
+        return None;
+    };
+    match checked_directory(alloc, entries.as_slice(), threshold, store) {
+        Ok(made) => Some(made),
+        Err(_) => None,
+    }
+}
+
+/// The block that is kept under a CID.
+fn block_of(store: &mut MemStore, cid: &Cid) -> Option<Bytes> {
+    match store.get(cid) {
+        Ok(block) => block,
+        Err(_) => None,
+    }
+}
+
+/// Whether the block that is kept under a CID has this length.
+fn has_length(store: &mut MemStore, cid: &Cid, length: usize) -> bool {
+    match block_of(store, cid) {
+        Some(block) => block.as_slice().len() == length,
+        None => false,
+    }
+}
+
+/// Whether the row's directory is made.
+fn is_made(alloc: Global, row: &Row) -> bool {
+    let mut store = MemStore::new(alloc);
+    match directory_of(alloc, row.entries, row.threshold, &mut store) {
+        Some(made) => {
+            Cid::from_text(alloc, row.root) == Ok(made.cid)
+                && made.content == 0
+                && made.tsize == row.tsize
+                && has_length(&mut store, &made.cid, row.length)
+        }
+        None => false,
+    }
+}
+
+#[test]
+fn directories_are_made(rt: HostRuntime) {
+    for row in ROWS {
+        assert!(rt; is_made(rt.alloc(), row), "{}", row.name);
+    }
+}
+
+/// Whether the entries have this weight.
+fn has_weight(alloc: Global, given: &[Given], wanted: u64) -> bool {
+    match entries_of(alloc, given) {
+        Some(entries) => match checked_weight(entries.as_slice()) {
+            Ok(weight) => weight == wanted,
+            Err(_) => false,
+        },
+        None => false,
+    }
+}
+
+#[test]
+fn weight_of_three(rt: HostRuntime) {
+    assert!(rt; has_weight(rt.alloc(), THREE, 112));
+}
+
+/// What a directory's root is: one block with links of these names, or a shard with so many slots.
+#[derive(Clone, Copy)]
+enum Shape<'a> {
+    Basic(&'a [&'a [u8]]),
+    Sharded(usize),
+}
+
+/// A threshold, and what the root of the three entries is.
+const SHAPES: &[(u64, Shape<'static>)] = &[
+    (112, Shape::Basic(&[b"a", b"ab", b"b"])),
+    (111, Shape::Sharded(3)),
+];
+
+/// Whether the link has this name.
+fn has_name(link: &Link, wanted: &[u8]) -> bool {
+    match &link.name {
+        Some(name) => name.as_slice() == wanted,
+        None => false,
+    }
+}
+
+/// Whether the links have these names, in order.
+fn have_names(links: &[Link], names: &[&[u8]]) -> bool {
+    if links.len() != names.len() {
+        return false;
+    }
+    for i in 0..names.len() {
+        if !has_name(&links[i], names[i]) {
+            return false;
+        }
+    }
+    true
+}
+
+/// Whether the block has links of these names, in order.
+fn has_links(alloc: Global, block: &[u8], names: &[&[u8]]) -> bool {
+    match tg_dagpb::decode(alloc, block) {
+        Ok(node) => have_names(node.links.as_slice(), names),
+        Err(_) => false,
+    }
+}
+
+/// Whether the block is a shard with so many slots.
+fn has_slots(alloc: Global, cid: &Cid, block: &[u8], count: usize) -> bool {
+    match reads(alloc, cid, block) {
+        Ok(Kind::Shard { slots }) => slots.as_slice().len() == count,
+        _ => false,
+    }
+}
+
+/// Whether the root of the three entries is so.
+fn has_shape(alloc: Global, threshold: u64, shape: Shape) -> bool {
+    let mut store = MemStore::new(alloc);
+    let Some(made) = directory_of(alloc, THREE, threshold, &mut store) else {
+        return false;
+    };
+    let Some(block) = block_of(&mut store, &made.cid) else {
+        return false;
+    };
+    match shape {
+        Shape::Basic(names) => has_links(alloc, block.as_slice(), names),
+        Shape::Sharded(count) => has_slots(alloc, &made.cid, block.as_slice(), count),
+    }
 }
 
 // A directory of just the weight stays one block, with its links sorted, and one that is heavier is sharded.
 #[test]
-fn sharded_above_its_weight(rt: HostRuntime) -> Result<(), Fail> {
-    let alloc = rt.alloc();
-    let entries = entries_of(alloc, THREE)?;
-    let entries = entries.as_slice();
-    assert_eq!(rt; checked_weight(entries)?, 112);
-    let mut store = MemStore::new(alloc);
-    let basic = checked_directory(alloc, entries, 112, &mut store)?;
-    let block = store.get(&basic.cid)?.ok_or("kept")?;
-    let node = tg_dagpb::decode(alloc, block.as_slice())?;
-    let mut names = Vec::new(alloc);
-    for link in node.links.as_slice() {
-        if let Some(name) = &link.name {
-            names.extend_from_slice(name.as_slice())?;
-            names.push(b' ')?;
-        }
+fn sharded_above_its_weight(rt: HostRuntime) {
+    for (threshold, shape) in SHAPES {
+        assert!(rt; has_shape(rt.alloc(), *threshold, *shape), "{threshold}");
     }
-    assert_eq!(rt; names.as_slice(), b"a ab b ".as_slice());
-    let sharded = checked_directory(alloc, entries, 111, &mut store)?;
-    let block = store.get(&sharded.cid)?.ok_or("kept")?;
-    match reads(alloc, &sharded.cid, block.as_slice())? {
-        Kind::Shard { slots } => assert_eq!(rt; slots.as_slice().len(), 3),
-        _ => return Err(Fail::from("another kind")),
-    }
-    Ok(())
 }

@@ -10,19 +10,16 @@ use tg_bytes::Bytes;
 use tg_cid::HashKind;
 use tg_hamt::{HamtFault, build};
 use tg_model::{Keep, Made, NewEntry, is_good_name};
-use thiserror::Error;
 
 /// Why a directory isn't made.
-#[derive(Debug, Drop, Error)]
+#[derive(Drop)]
 pub enum CheckedFault {
-    /// There are more than 65,536 entries, one can't stand in a directory, two have one name, or their Tsizes pass 2^62.
-    #[error("BadEntries")]
+    /// There are more than 65,536 entries, one can't stand in a directory, two have one name, or their Tsizes pass
+    /// 2^62.
     BadEntries,
     /// The threshold passes 1,048,576.
-    #[error("BadThreshold")]
     BadThreshold,
     /// The builder's own fault.
-    #[error("Built {0}")]
     Built(HamtFault),
 }
 
@@ -109,7 +106,8 @@ fn differ(entries: &[NewEntry]) -> bool
 
 /// Whether an entry has this name.
 fn has_name(entries: &[NewEntry], name: &Bytes) -> bool
-    ensures { (k : ℕ) (d : Entries) → result ≡ false → k < length entries.now → bytes_eq (slice_index_or entries.now k d).name name.now ≡ false }
+    ensures { (k : ℕ) (d : Entries) → result ≡ false → k < length entries.now
+        → bytes_eq (slice_index_or entries.now k d).name name.now ≡ false }
 {
     for entry in entries {
         if entry.name == *name {

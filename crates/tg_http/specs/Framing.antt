@@ -12,8 +12,8 @@ codings fields = values (codes "transfer-encoding") fields
 abbrev pub lengths : List (List ℕ × List ℕ) → List (List ℕ)
 lengths fields = values (codes "content-length") fields
 
--- One `Content-Length` of 1 to 19 digits below 2 ^ 63; one `Transfer-Encoding`, which is `chunked`; or neither field. All
--- else has none of these framings.
+-- One `Content-Length` of 1 to 19 digits below 2 ^ 63; one `Transfer-Encoding`, which is `chunked`; or neither field.
+-- All else has none of these framings.
 abbrev pub HasFraming : List (List ℕ × List ℕ) → Framing → Type 0
 HasFraming fields (Length number) =
     (codings fields ≡ []) × (value : List ℕ) × (lengths fields ≡ value ∷ []) × IsDigits value number × (number < 2 ^ 63)
@@ -26,7 +26,8 @@ HasFraming fields Broken = ⊥
 abbrev pub IsFramingOf : List (List ℕ × List ℕ) → Framing → Type 0
 IsFramingOf fields framing = HasFraming fields framing ⊎ ((framing ≡ Broken) × ((other : Framing) → HasFraming fields other → ⊥))
 
--- a request has no body where it has no `Transfer-Encoding`, and no `Content-Length` but one of 1 to 19 digits of value 0
+-- a request has no body where it has no `Transfer-Encoding`, and no `Content-Length` but one of 1 to 19 digits of value
+-- 0
 pub record HasNoBody (fields : List (List ℕ × List ℕ)) : Type 0 where
   pub no_coding : codings fields ≡ []
   pub no_length : (lengths fields ≡ []) ⊎ ((value : List ℕ) × (lengths fields ≡ value ∷ []) × IsDigits value 0)

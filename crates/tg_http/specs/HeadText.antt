@@ -1,4 +1,5 @@
--- The text of a head, which is found before it is read (RFC 9112, section 2.1: a start line, field lines and an empty line).
+-- The text of a head, which is found before it is read (RFC 9112, section 2.1: a start line, field lines and an empty
+-- line).
 use Rattle.std.specs.Prelude.{◌≡◌, ◌≢◌, ℕ, ◌≤◌, List, [], ◌∷◌, ◌++◌, length, All}
 use Rattle.httparse.specs.Grammar.{LineEnd, print_end, print_blank}
 use Rattle.tg_bytes.specs.Lists.{joined}

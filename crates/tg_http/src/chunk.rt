@@ -3,8 +3,8 @@ ghost use Rattle.std.specs.Prelude.{◌≡◌, ◌≤◌, ◌<◌, ◌^◌, ◌-
 ghost use Rattle.std.specs.Int.Digits.{digits_of};
 ghost use Rattle.tg_http.specs.Chunks.{hex_digit, hex_text, chunk_line};
 
-/// The line before a chunk of `length` bytes, in the front of an array whose other bytes are zero, and how many bytes it has:
-/// lower-case hexadecimal digits without leading zeros, CR and LF. It takes no memory.
+/// The line before a chunk of `length` bytes, in the front of an array whose other bytes are zero, and how many bytes
+/// it has: lower-case hexadecimal digits without leading zeros, CR and LF. It takes no memory.
 ///
 /// RFC 9112, section 7.1.
 pub fn chunk_head(length: u64) -> ([u8; 18], usize)

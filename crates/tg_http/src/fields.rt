@@ -87,7 +87,8 @@ pub(crate) fn first_value<'a>(
 /// The first coding that isn't `identity`, else the first.
 pub(crate) fn coding<'a>(text: &'a [u8], fields: &[HeaderSpan]) -> Option<&'a [u8]>
     requires { All (IsHeaderWithin (length text.now)) fields.now }
-    ensures { option_copied result ≡ coding_of (values (codes "content-encoding") (map (header_bytes text.now) fields.now)) }
+    ensures { option_copied result ≡ coding_of (values (codes "content-encoding")
+        (map (header_bytes text.now) fields.now)) }
 {
     for field in fields {
         if let Some(value) = value_under(text, *field, b"content-encoding") {

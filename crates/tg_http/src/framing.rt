@@ -36,7 +36,8 @@ pub(crate) fn framing_of(text: &[u8], fields: &[HeaderSpan]) -> Framing
 
 /// The framing that the values of `Transfer-Encoding` and `Content-Length` state.
 fn stated_framing(coding: FieldValue<'_>, length: FieldValue<'_>) -> Framing
-    ensures { (fields : List (List ℕ × List ℕ)) → AreValues (codings fields) coding.entry → AreValues (lengths fields) length.entry
+    ensures { (fields : List (List ℕ × List ℕ)) → AreValues (codings fields) coding.entry
+        → AreValues (lengths fields) length.entry
         → IsFramingOf fields result }
 {
     match (coding, length) {
@@ -50,7 +51,8 @@ fn stated_framing(coding: FieldValue<'_>, length: FieldValue<'_>) -> Framing
 
 /// The framing that the one value of `Content-Length` states.
 fn stated_length(value: &[u8]) -> Framing
-    ensures { (fields : List (List ℕ × List ℕ)) → codings fields ≡ [] → lengths fields ≡ value.now ∷ [] → IsFramingOf fields result }
+    ensures { (fields : List (List ℕ × List ℕ)) → codings fields ≡ [] → lengths fields ≡ value.now ∷ []
+        → IsFramingOf fields result }
 {
     match number_of(value) {
         Some(number) if number < 1 << 63 => Framing::Length(number),

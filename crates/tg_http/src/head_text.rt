@@ -24,7 +24,8 @@ struct Extent {
 ///
 /// RFC 9112, section 2.2.
 pub fn line_length(bytes: &[u8]) -> Option<usize>
-    ensures { MatchOption result (All (λ b. b ≢ 10) bytes.now) (λ n. (n ≤ length bytes.now) × (0 < n) × IsLine (take n bytes.now)) }
+    ensures { MatchOption result (All (λ b. b ≢ 10) bytes.now) (λ n. (n ≤ length bytes.now) × (0 < n)
+        × IsLine (take n bytes.now)) }
 {
     let at = bytes.iter().position(|byte| *byte == b'\n')?;
     Some(at + 1)
@@ -41,7 +42,8 @@ pub fn is_empty_line(line: &[u8]) -> bool
 
 /// Where the head text at the front ends.
 fn find_extent(bytes: &[u8]) -> Option<Extent>
-    ensures found { IfSome result (λ told. (told.bytes ≤ length bytes.now) × HeadText (take told.bytes bytes.now) told.fields) }
+    ensures found { IfSome result (λ told. (told.bytes ≤ length bytes.now)
+        × HeadText (take told.bytes bytes.now) told.fields) }
     ensures only { (text rest : List ℕ) (count : ℕ) → HeadText text count → bytes.now ≡ text ++ rest
         → result ≡ Some (record { bytes = length text; fields = count }) }
 {
@@ -67,7 +69,8 @@ fn find_extent(bytes: &[u8]) -> Option<Extent>
 /// RFC 9112, section 2.2. Errors: `HeadLimit` where the first 16,384 bytes hold none or it has more than 64 fields.
 pub(crate) fn head_text(bytes: &[u8]) -> Result<Option<&[u8]>, HttpFault>
     ensures { MatchResult result
-        (λ told. MatchOption told (IsWaiting bytes.now) (λ text. (count : ℕ) × BeginsHead bytes.now text.now count × (count ≤ 64)))
+        (λ told. MatchOption told (IsWaiting bytes.now) (λ text. (count : ℕ) × BeginsHead bytes.now text.now count
+        × (count ≤ 64)))
         (λ fault. (fault ≡ HttpFault.HeadLimit) × PassesLimit bytes.now) }
 {
     let front = &bytes[..bytes.len().min(MAX_TEXT)];

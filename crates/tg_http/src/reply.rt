@@ -32,12 +32,13 @@ pub struct ReplyHead {
 
 /// The head of the reply at the front, or none while no head text is whole.
 ///
-/// RFC 9112, sections 2 to 6. Errors: `HeadLimit` where the first 16,384 bytes hold no whole head text or it has more than
-/// 64 fields, then `BadHead` where the head text is no head of a reply, and `OutOfMemory`.
+/// RFC 9112, sections 2 to 6. Errors: `HeadLimit` where the first 16,384 bytes hold no whole head text or it has more
+/// than 64 fields, then `BadHead` where the head text is no head of a reply, and `OutOfMemory`.
 pub fn read_reply(alloc: Global, bytes: &[u8]) -> Result<Option<ReplyHead>, HttpFault>
     ensures found { IfOk result (FindsReply bytes.now) }
     ensures only { (text : List ℕ) (tree : ReplyTree) → IsReply bytes.now text tree
-        → MatchResult result (λ told. IsSomeAnd told (TellsReply tree (length text))) (λ fault. fault ≡ HttpFault.OutOfMemory) }
+        → MatchResult result (λ told. IsSomeAnd told (TellsReply tree (length text)))
+        (λ fault. fault ≡ HttpFault.OutOfMemory) }
     ensures waiting { IsWaiting bytes.now → result ≡ Ok None }
     ensures cause { IfErr result (λ fault. (fault ≡ HttpFault.OutOfMemory) ⊎ HasHeadCause IsNoReply bytes.now fault) }
     ensures given { (fault : HttpFault) → HasHeadCause IsNoReply bytes.now fault → result ≡ Err fault }

@@ -30,19 +30,20 @@ pub struct RequestHead {
     pub accept: List<Bytes>,
     /// Whether a `Connection` field has the token `close`.
     pub close: bool,
-    /// Whether a body is announced: by a `Transfer-Encoding`, or by a `Content-Length` other than one of 1 to 19 digits of
-    /// value 0.
+    /// Whether a body is announced: by a `Transfer-Encoding`, or by a `Content-Length` other than one of 1 to 19 digits
+    /// of value 0.
     pub framed: bool,
 }
 
 /// The head of the request at the front, or none while no head text is whole.
 ///
-/// RFC 9112, sections 2 to 6. Errors: `HeadLimit` where the first 16,384 bytes hold no whole head text or it has more than
-/// 64 fields, then `BadHead` where the head text is no head of a request, and `OutOfMemory`.
+/// RFC 9112, sections 2 to 6. Errors: `HeadLimit` where the first 16,384 bytes hold no whole head text or it has more
+/// than 64 fields, then `BadHead` where the head text is no head of a request, and `OutOfMemory`.
 pub fn read_request(alloc: Global, bytes: &[u8]) -> Result<Option<RequestHead>, HttpFault>
     ensures found { IfOk result (FindsRequest bytes.now) }
     ensures only { (text : Items ℕ) (tree : RequestTree) → IsRequest bytes.now text tree
-        → MatchResult result (λ told. IsSomeAnd told (TellsRequest tree (length text))) (λ fault. fault ≡ HttpFault.OutOfMemory) }
+        → MatchResult result (λ told. IsSomeAnd told (TellsRequest tree (length text)))
+        (λ fault. fault ≡ HttpFault.OutOfMemory) }
     ensures waiting { IsWaiting bytes.now → result ≡ Ok None }
     ensures cause { IfErr result (λ fault. (fault ≡ HttpFault.OutOfMemory) ⊎ HasHeadCause IsNoRequest bytes.now fault) }
     ensures given { (fault : HttpFault) → HasHeadCause IsNoRequest bytes.now fault → result ≡ Err fault }
@@ -79,7 +80,8 @@ fn told(
     requires method { IsWithin (length text.now) spans.now.method }
     requires path { IsWithin (length text.now) spans.now.path }
     requires fields { All (IsHeaderWithin (length text.now)) fields.now }
-    ensures { IfOk result (TellsParts (length text.now) (span_bytes text.now spans.now.method) (span_bytes text.now spans.now.path)
+    ensures { IfOk result (TellsParts (length text.now) (span_bytes text.now spans.now.method)
+        (span_bytes text.now spans.now.path)
         spans.now.version (map (header_bytes text.now) fields.now)) }
 {
     Ok(RequestHead {

@@ -1,5 +1,11 @@
-//! The tests of `tg_http`: tables of heads of requests and of replies, the limits, and lines of chunks.
+//! The tests of `tg_http` and `tg_body`: heads, lines of chunks and bodies.
 #![tactic(auto)]
 
 #[cfg(test)]
-mod tests;
+mod bodies;
+#[cfg(test)]
+mod lines;
+#[cfg(test)]
+mod replies;
+#[cfg(test)]
+mod requests;

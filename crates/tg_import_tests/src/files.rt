@@ -8,8 +8,7 @@ use crate::given::{
 };
 use std::alloc::{AllocError, Global};
 use std::rt::HostRuntime;
-use std::test::Fail;
-use tg_bytes::{Bytes, List};
+use tg_bytes::{Bytes, List, zeros};
 use tg_cid::Cid;
 use tg_files::{Folder, MemFolder};
 use tg_import_file::{FileFault, FileWriter};
@@ -17,8 +16,8 @@ use tg_model::{Keep, Made};
 use tg_numbered_log::NumberedLog;
 use tg_tree::{Sort, Tree, path_of_entry};
 
-/// A file, its chunk size and width, how often the folder is read for it, and what is made of it: the root, the Tsize, and how many
-/// bytes the blocks have that are kept.
+/// A file, its chunk size and width, how often the folder is read for it, and what is made of it: the root, the
+/// Tsize, and how many bytes the blocks have that are kept.
 #[derive(Clone, Copy)]
 struct Row<'a> {
     bytes: &'a [u8],
@@ -97,128 +96,209 @@ fn two_files(alloc: Global, first: &[u8], second: &[u8]) -> Result<Tree, AllocEr
     Ok(Tree::Folder(entries.into_vec()))
 }
 
+/// What came of an import.
+type Found = Result<Made, FileFault>;
+
 /// What came of an import, and what is left.
-type Imported = (Result<Made, FileFault>, Left);
+#[derive(Drop)]
+struct Imported {
+    made: Found,
+    left: Left,
+}
 
 /// Imports the file at a path with this writer.
+fn made(
+    writer: &mut FileWriter,
+    folder: &mut MemFolder,
+    log: &mut NumberedLog,
+    path: &[Bytes],
+) -> Found
+    requires ready { IsReady writer.old }
+    requires file { HasFileAt (Some folder.old.tree) path.now }
+{
+    writer.import(folder, path, log)
+}
+
+/// Imports the file at a path with this writer, and tells what is left.
 fn import_at(
     mut writer: FileWriter,
     mut folder: MemFolder,
     mut log: NumberedLog,
     path: &[Bytes],
-) -> Result<Imported, AllocError>
+) -> Option<Imported>
     requires ready { IsReady writer }
     requires file { HasFileAt (Some folder.tree) path.now }
 {
-    let made = writer.import(&mut folder, path, &mut log);
-    let left = Left::of(&folder, &log)?;
-    Ok((made, left))
+    let made = made(&mut writer, &mut folder, &mut log, path);
+    match Left::of(&folder, &log) {
+        Ok(left) => Some(Imported { made, left }),
+        Err(_) => None,
+    }
 }
 
-/// Imports the file at a path of a tree in chunks of this size, where these calls fail.
-fn import_from(
-    alloc: Global,
-    tree: Tree,
-    path: &[Bytes],
+/// How a file is imported: its chunk size and width, and the calls that fail.
+#[derive(Clone, Copy)]
+struct How {
     chunk: u32,
     width: u32,
     fails: Fails,
-) -> Result<Imported, AllocError>
-    requires names { IsFolderOfFiles tree }
-    requires file { HasFileAt (Some tree) path.now }
-    requires chunk_low { 1 ≤ chunk }
-    requires chunk_high { chunk ≤ 2097152 }
-    requires width_low { 2 ≤ width }
-    requires width_high { width ≤ 4096 }
+}
+
+/// Imports the file at a path of a folder in chunks of this size, where these calls fail.
+fn import_with(alloc: Global, folder: MemFolder, path: &[Bytes], how: How) -> Option<Imported>
+    requires file { HasFileAt (Some folder.tree) path.now }
+    requires chunk_low { 1 ≤ how.chunk }
+    requires chunk_high { how.chunk ≤ 2097152 }
+    requires width_low { 2 ≤ how.width }
+    requires width_high { how.width ≤ 4096 }
 {
-    let folder = folder_of(alloc, tree, fails.folder)?;
-    let log = log_of(alloc, fails.store)?;
-    let writer = FileWriter::new(alloc, chunk, width)?;
-    import_at(writer, folder, log, path)
+    match (
+        log_of(alloc, how.fails.store),
+        FileWriter::new(alloc, how.chunk, how.width),
+    ) {
+        (Ok(log), Ok(writer)) => import_at(writer, folder, log, path),
+        _ => None,
+    }
+}
+
+/// Imports the file at a path of a tree. There is nothing where there is none, or the numbers are none of a layout,
+/// or for want of memory.
+fn import_from(alloc: Global, tree: Tree, path: &[Bytes], how: How) -> Option<Imported> {
+    if how.chunk < 1 || how.chunk > 2_097_152 || how.width < 2 || how.width > 4096 {
+        return None;
+    }
+    if !has_names(&tree) || !is_file(&tree, path) {
+        return None;
+    }
+    match folder_of(alloc, tree, how.fails.folder) {
+        Ok(folder) => import_with(alloc, folder, path, how),
+        Err(_) => None,
+    }
 }
 
 /// Imports the file of a row, where these calls fail.
-fn import(alloc: Global, row: &Row<'_>, fails: Fails) -> Result<Imported, Fail> {
-    let (chunk, width) = (row.chunk, row.width);
-    if chunk < 1 || chunk > 2_097_152 || width < 2 || width > 4096 {
-        return Err(Fail::from("the row"));
+fn import(alloc: Global, row: &Row<'_>, fails: Fails) -> Option<Imported> {
+    let how = How {
+        chunk: row.chunk,
+        width: row.width,
+        fails,
+    };
+    match (
+        path_of_entry(alloc, &[], b"first"),
+        two_files(alloc, row.bytes, b"other"),
+    ) {
+        (Ok(path), Ok(tree)) => import_from(alloc, tree, path.as_slice(), how),
+        _ => None,
     }
-    let path = path_of_entry(alloc, &[], b"first")?;
-    let tree = two_files(alloc, row.bytes, b"other")?;
-    if !has_names(&tree) || !is_file(&tree, path.as_slice()) {
-        return Err(Fail::from("the folder"));
+}
+
+/// Whether this came of a file.
+fn is_made(alloc: Global, made: &Found, root: &[u8], content: u64, tsize: u64) -> bool {
+    match made {
+        Ok(made) => {
+            Cid::from_text(alloc, root) == Ok(made.cid)
+                && made.content == content
+                && made.tsize == tsize
+        }
+        Err(_) => false,
     }
-    Ok(import_from(alloc, tree, path.as_slice(), chunk, width, fails)?)
 }
 
 /// Whether the file of a row is imported as it says.
-fn is_imported(alloc: Global, row: &Row<'_>) -> Result<bool, Fail> {
-    let cid = Cid::from_text(alloc, row.root)?;
-    let (made, left) = import(alloc, row, NONE)?;
-    let want = Made {
-        cid,
-        content: row.bytes.len() as u64,
-        tsize: row.tsize,
-    };
-    Ok(made == Ok(want) && left.failed(0, 0) && left.kept(row.kept))
+fn is_imported(alloc: Global, row: &Row<'_>) -> bool {
+    match import(alloc, row, NONE) {
+        Some(done) => {
+            is_made(
+                alloc,
+                &done.made,
+                row.root,
+                row.bytes.len() as u64,
+                row.tsize,
+            ) && done.left.failed(0, 0)
+                && done.left.kept(row.kept)
+        }
+        None => false,
+    }
 }
 
 /// Whether the read with this number stops the import where it fails.
-fn stops_at_read(alloc: Global, row: &Row<'_>, number: u64) -> Result<bool, Fail> {
-    let (made, left) = import(alloc, row, in_folder(number))?;
-    Ok(made == Err(FileFault::Folder) && left.failed(1, 0))
+fn stops_at_read(alloc: Global, row: &Row<'_>, number: u64) -> bool {
+    match import(alloc, row, in_folder(number)) {
+        Some(done) => done.made == Err(FileFault::Folder) && done.left.failed(1, 0),
+        None => false,
+    }
+}
+
+/// Whether each read stops the import where it fails.
+fn stops_at_reads(alloc: Global, row: &Row<'_>) -> bool {
+    for number in 0..row.reads {
+        if !stops_at_read(alloc, row, number) {
+            return false;
+        }
+    }
+    true
 }
 
 /// Whether the block with this number stops the import where it isn't kept, behind those before it.
-fn stops_at_block(alloc: Global, row: &Row<'_>, number: usize) -> Result<bool, Fail> {
-    let (made, left) = import(alloc, row, in_store(number as u64))?;
-    let before = row.kept.get(..number).unwrap_or(&[]);
-    Ok(made == Err(FileFault::Keep) && left.failed(0, 1) && left.kept(before))
+fn stops_at_block(alloc: Global, row: &Row<'_>, number: usize) -> bool {
+    match import(alloc, row, in_store(number as u64)) {
+        Some(done) => {
+            done.made == Err(FileFault::Keep)
+                && done.left.failed(0, 1)
+                && done.left.kept(row.kept.get(..number).unwrap_or(&[]))
+        }
+        None => false,
+    }
+}
+
+/// Whether each block stops the import where it isn't kept.
+fn stops_at_blocks(alloc: Global, row: &Row<'_>) -> bool {
+    for number in 0..row.kept.len() {
+        if !stops_at_block(alloc, row, number) {
+            return false;
+        }
+    }
+    true
 }
 
 #[test]
-fn files_are_imported(rt: HostRuntime) -> Result<(), Fail> {
+fn files_are_imported(rt: HostRuntime) {
     for row in ROWS {
         assert!(rt;
-            is_imported(rt.alloc(), row)?,
+            is_imported(rt.alloc(), row),
             "{:?} {}",
             row.bytes,
             row.chunk
         );
     }
-    Ok(())
 }
 
 #[test]
-fn each_read_fails_in_turn(rt: HostRuntime) -> Result<(), Fail> {
+fn each_read_fails_in_turn(rt: HostRuntime) {
     for row in ROWS {
-        for number in 0..row.reads {
-            assert!(rt;
-                stops_at_read(rt.alloc(), row, number)?,
-                "{:?} {number}",
-                row.bytes
-            );
-        }
+        assert!(rt;
+            stops_at_reads(rt.alloc(), row),
+            "{:?} {}",
+            row.bytes,
+            row.chunk
+        );
     }
-    Ok(())
 }
 
 #[test]
-fn each_block_fails_in_turn(rt: HostRuntime) -> Result<(), Fail> {
+fn each_block_fails_in_turn(rt: HostRuntime) {
     for row in ROWS {
-        for number in 0..row.kept.len() {
-            assert!(rt;
-                stops_at_block(rt.alloc(), row, number)?,
-                "{:?} {number}",
-                row.bytes
-            );
-        }
+        assert!(rt;
+            stops_at_blocks(rt.alloc(), row),
+            "{:?} {}",
+            row.bytes,
+            row.chunk
+        );
     }
-    Ok(())
 }
 
-/// Imports two files of a folder, one after another, with one writer.
-fn import_both<F: Folder, K: Keep>(
+/// Imports a file of a folder, and another one where the first came.
+fn made_both<F: Folder, K: Keep>(
     writer: &mut FileWriter,
     folder: &mut F,
     first: &[Bytes],
@@ -233,51 +313,84 @@ fn import_both<F: Folder, K: Keep>(
     Ok((made, writer.import(folder, second, keep)?))
 }
 
-/// Imports two files of a tree with one writer, in chunks of 60,000 bytes.
-fn import_two(
-    alloc: Global,
-    tree: Tree,
-    first: &[Bytes],
-    second: &[Bytes],
-) -> Result<(Result<(Made, Made), FileFault>, Left), AllocError>
-    requires names { IsFolderOfFiles tree }
-    requires first { HasFileAt (Some tree) first.now }
-    requires second { HasFileAt (Some tree) second.now }
-{
-    let mut folder = folder_of(alloc, tree, None)?;
-    let mut log = log_of(alloc, None)?;
-    let mut writer = FileWriter::new(alloc, 60_000, 2)?;
-    let made = import_both(&mut writer, &mut folder, first, second, &mut log);
-    let left = Left::of(&folder, &log)?;
-    Ok((made, left))
-}
-
-/// Imports them, where they stand in the tree.
-fn import_checked(
-    alloc: Global,
-    tree: Tree,
-    first: &[Bytes],
-    second: &[Bytes],
-) -> Result<(Result<(Made, Made), FileFault>, Left), Fail> {
-    if !has_names(&tree) || !is_file(&tree, first) || !is_file(&tree, second) {
-        return Err(Fail::from("the folder"));
-    }
-    Ok(import_two(alloc, tree, first, second)?)
-}
-
-// One writer imports two files: nothing of the first is left, which takes two pieces.
-#[test]
-fn one_writer_imports_two_files(rt: HostRuntime) -> Result<(), Fail> {
-    let first = path_of_entry(rt.alloc(), &[], b"first")?;
-    let second = path_of_entry(rt.alloc(), &[], b"second")?;
-    let long = vec![in rt.alloc(); 0; 70_000]?;
-    let tree = two_files(rt.alloc(), long.as_slice(), b"hello")?;
-    let (both, left) = import_checked(rt.alloc(), tree, first.as_slice(), second.as_slice())?;
-    let (made, other) = both?;
+/// Whether two files of 70,000 bytes and of 5 came, and their blocks were kept.
+fn are_made(alloc: Global, both: &Result<(Made, Made), FileFault>) -> bool {
     let root = b"bafybeiduibdxuhrxbfvrkxiylecd4oerq24utrystgpdgstr54cbuw2il4";
-    assert_eq!(rt; made.cid, Cid::from_text(rt.alloc(), root)?);
-    assert_eq!(rt; (made.content, made.tsize), (70_000, 70_106));
-    assert_eq!(rt; (other.content, other.tsize), (5, 5));
-    assert!(rt; left.kept(&[60_000, 10_000, 106, 5]));
-    Ok(())
+    match both {
+        Ok((first, second)) => {
+            Cid::from_text(alloc, root) == Ok(first.cid)
+                && first.content == 70_000
+                && first.tsize == 70_106
+                && second.content == 5
+                && second.tsize == 5
+        }
+        Err(_) => false,
+    }
+}
+
+/// Whether one writer imports two files of a folder, one after another, in chunks of 60,000 bytes.
+fn imports_both(
+    alloc: Global,
+    mut folder: MemFolder,
+    mut log: NumberedLog,
+    first: &[Bytes],
+    second: &[Bytes],
+) -> bool
+    requires first { HasFileAt (Some folder.tree) first.now }
+    requires second { HasFileAt (Some folder.tree) second.now }
+{
+    match FileWriter::new(alloc, 60_000, 2) {
+        Ok(mut writer) => {
+            let both = made_both(&mut writer, &mut folder, first, second, &mut log);
+            are_made(alloc, &both) && is_left(&folder, &log)
+        }
+        Err(_) => false,
+    }
+}
+
+/// Whether the blocks of both were kept.
+fn is_left(folder: &MemFolder, log: &NumberedLog) -> bool {
+    match Left::of(folder, log) {
+        Ok(left) => left.kept(&[60_000, 10_000, 106, 5]),
+        Err(_) => false,
+    }
+}
+
+/// Whether one writer imports two files of a tree, which stand there.
+fn imports_two(alloc: Global, tree: Tree, first: &[Bytes], second: &[Bytes]) -> bool {
+    if !has_names(&tree) || !is_file(&tree, first) || !is_file(&tree, second) {
+        return false;
+    }
+    match (folder_of(alloc, tree, None), log_of(alloc, None)) {
+        (Ok(folder), Ok(log)) => imports_both(alloc, folder, log, first, second),
+        _ => false,
+    }
+}
+
+/// Whether one writer imports the files `first`, which takes two pieces, and `second`.
+fn are_imported(alloc: Global, long: &[u8]) -> bool {
+    match (
+        path_of_entry(alloc, &[], b"first"),
+        path_of_entry(alloc, &[], b"second"),
+        two_files(alloc, long, b"hello"),
+    ) {
+        (Ok(first), Ok(second), Ok(tree)) => {
+            imports_two(alloc, tree, first.as_slice(), second.as_slice())
+        }
+        _ => false,
+    }
+}
+
+/// The same of a file of 70,000 zero bytes.
+fn zeros_are_imported(alloc: Global) -> bool {
+    match zeros(alloc, 70_000) {
+        Ok(long) => are_imported(alloc, long.as_slice()),
+        Err(_) => false,
+    }
+}
+
+// One writer imports two files: nothing of the first is left.
+#[test]
+fn one_writer_imports_two_files(rt: HostRuntime) {
+    assert!(rt; zeros_are_imported(rt.alloc()));
 }

@@ -7,7 +7,6 @@ use crate::given::{
 };
 use std::alloc::{AllocError, Global};
 use std::rt::HostRuntime;
-use std::test::Fail;
 use tg_bytes::{Bytes, List};
 use tg_cid::Cid;
 use tg_files::MemFolder;
@@ -33,16 +32,18 @@ fn worked(alloc: Global) -> Result<Tree, AllocError> {
     Ok(Tree::Folder(entries.into_vec()))
 }
 
+/// What came of an import.
+type Found = Result<(Cid, Summary), ImportFault>;
+
 /// What came of an import, and what is left.
-type Imported = (Result<(Cid, Summary), ImportFault>, Left);
+#[derive(Drop)]
+struct Imported {
+    found: Found,
+    left: Left,
+}
 
 /// Imports the folder with this threshold.
-fn import_into(
-    alloc: Global,
-    mut folder: MemFolder,
-    mut log: NumberedLog,
-    shard: u64,
-) -> Result<Imported, AllocError>
+fn found(alloc: Global, folder: &mut MemFolder, log: &mut NumberedLog, shard: u64) -> Found
     requires { shard ≤ 1048576 }
 {
     let options = Options {
@@ -50,31 +51,58 @@ fn import_into(
         width: 1024,
         shard,
     };
-    let found = import(alloc, &mut folder, &mut log, options);
-    let left = Left::of(&folder, &log)?;
-    Ok((found, left))
+    import(alloc, folder, log, options)
+}
+
+/// Imports the folder with this threshold, and tells what is left.
+fn import_into(
+    alloc: Global,
+    mut folder: MemFolder,
+    mut log: NumberedLog,
+    shard: u64,
+) -> Option<Imported>
+    requires { shard ≤ 1048576 }
+{
+    let found = found(alloc, &mut folder, &mut log, shard);
+    match Left::of(&folder, &log) {
+        Ok(left) => Some(Imported { found, left }),
+        Err(_) => None,
+    }
 }
 
 /// Imports the folder of a tree with this threshold, where these calls fail.
-fn import_from(alloc: Global, tree: Tree, shard: u64, fails: Fails) -> Result<Imported, AllocError>
+fn import_from(alloc: Global, tree: Tree, shard: u64, fails: Fails) -> Option<Imported>
     requires names { IsFolderOfFiles tree }
     requires shard { shard ≤ 1048576 }
 {
-    let folder = folder_of(alloc, tree, fails.folder)?;
-    let log = log_of(alloc, fails.store)?;
-    import_into(alloc, folder, log, shard)
-}
-
-/// Imports a tree with this threshold, where these calls fail.
-fn import_tree(alloc: Global, tree: Tree, shard: u64, fails: Fails) -> Result<Imported, Fail> {
-    if shard > 1_048_576 || !has_names(&tree) {
-        return Err(Fail::from("the folder"));
+    match (
+        folder_of(alloc, tree, fails.folder),
+        log_of(alloc, fails.store),
+    ) {
+        (Ok(folder), Ok(log)) => import_into(alloc, folder, log, shard),
+        _ => None,
     }
-    Ok(import_from(alloc, tree, shard, fails)?)
 }
 
-/// A threshold, and what is made of the worked folder: the root, how many folders are sharded, and how many bytes the blocks have that
-/// are kept.
+/// Imports a tree with this threshold, where these calls fail. There is nothing where the tree is no folder whose
+/// names differ, or the threshold is too great, or for want of memory.
+fn import_tree(alloc: Global, tree: Tree, shard: u64, fails: Fails) -> Option<Imported> {
+    if shard > 1_048_576 || !has_names(&tree) {
+        return None;
+    }
+    import_from(alloc, tree, shard, fails)
+}
+
+/// Imports the worked folder with this threshold, where these calls fail.
+fn import_worked(alloc: Global, shard: u64, fails: Fails) -> Option<Imported> {
+    match worked(alloc) {
+        Ok(tree) => import_tree(alloc, tree, shard, fails),
+        Err(_) => None,
+    }
+}
+
+/// A threshold, and what is made of the worked folder: the root, how many folders are sharded, and how many bytes the
+/// blocks have that are kept.
 #[derive(Clone, Copy)]
 struct Row<'a> {
     shard: u64,
@@ -106,74 +134,93 @@ const ROWS: &[Row<'static>] = &[
 ];
 
 /// Whether the worked folder is imported as a row says.
-fn is_imported(alloc: Global, row: &Row<'_>) -> Result<bool, Fail> {
-    let cid = Cid::from_text(alloc, row.root)?;
-    let (found, left) = import_tree(alloc, worked(alloc)?, row.shard, NONE)?;
-    let want = Summary {
-        files: 3,
-        folders: 3,
-        shards: row.shards,
-        bytes: 15,
-    };
-    let is_so = match &found {
-        Ok((root, summary)) => *root == cid && *summary == want,
+fn is_imported(alloc: Global, row: &Row<'_>) -> bool {
+    match import_worked(alloc, row.shard, NONE) {
+        Some(done) => {
+            is_made(alloc, &done.found, row) && done.left.failed(0, 0) && done.left.kept(row.kept)
+        }
+        None => false,
+    }
+}
+
+/// Whether the root of a row and its counts came of an import.
+fn is_made(alloc: Global, found: &Found, row: &Row<'_>) -> bool {
+    match found {
+        Ok((root, summary)) => Cid::from_text(alloc, row.root) == Ok(*root)
+            && has_counts(summary, row),
         Err(_) => false,
-    };
-    Ok(is_so && left.failed(0, 0) && left.kept(row.kept))
+    }
+}
+
+fn has_counts(summary: &Summary, row: &Row<'_>) -> bool {
+    summary.files == 3
+        && summary.folders == 3
+        && summary.shards == row.shards
+        && summary.bytes == 15
 }
 
 /// Whether the block with this number stops the import where it isn't kept, behind those before it.
-fn stops_at_block(alloc: Global, row: &Row<'_>, number: usize) -> Result<bool, Fail> {
-    let fails = in_store(number as u64);
-    let (found, left) = import_tree(alloc, worked(alloc)?, row.shard, fails)?;
-    let before = row.kept.get(..number).unwrap_or(&[]);
-    let is_told = is_so(alloc, &found, Want::Fault(b"KeepFault"))?;
-    Ok(is_told && left.failed(0, 1) && left.kept(before))
+fn stops_at_block(alloc: Global, row: &Row<'_>, number: usize) -> bool {
+    match import_worked(alloc, row.shard, in_store(number as u64)) {
+        Some(done) => {
+            is_so(alloc, &done.found, Want::Fault(b"KeepFault"))
+                && done.left.failed(0, 1)
+                && done.left.kept(row.kept.get(..number).unwrap_or(&[]))
+        }
+        None => false,
+    }
+}
+
+/// Whether each block stops the import where it isn't kept.
+fn stops_at_blocks(alloc: Global, row: &Row<'_>) -> bool {
+    for number in 0..row.kept.len() {
+        if !stops_at_block(alloc, row, number) {
+            return false;
+        }
+    }
+    true
 }
 
 /// Whether the call of the folder with this number stops the import where it fails.
-fn stops_at_call(alloc: Global, row: &Row<'_>, number: u64) -> Result<bool, Fail> {
-    let fails = in_folder(number);
-    let (found, left) = import_tree(alloc, worked(alloc)?, row.shard, fails)?;
-    let is_told = is_so(alloc, &found, Want::Fault(b"FolderFault"))?;
-    Ok(is_told && left.failed(1, 0))
-}
-
-#[test]
-fn folders_are_imported(rt: HostRuntime) -> Result<(), Fail> {
-    for row in ROWS {
-        assert!(rt; is_imported(rt.alloc(), row)?, "{}", row.shard);
+fn stops_at_call(alloc: Global, row: &Row<'_>, number: u64) -> bool {
+    match import_worked(alloc, row.shard, in_folder(number)) {
+        Some(done) => {
+            is_so(alloc, &done.found, Want::Fault(b"FolderFault")) && done.left.failed(1, 0)
+        }
+        None => false,
     }
-    Ok(())
 }
 
-#[test]
-fn each_block_fails_in_turn(rt: HostRuntime) -> Result<(), Fail> {
-    for row in ROWS {
-        for number in 0..row.kept.len() {
-            assert!(rt;
-                stops_at_block(rt.alloc(), row, number)?,
-                "{} {number}",
-                row.shard
-            );
+/// Whether each call of the folder stops the import where it fails. There are three lists, and two reads of each file
+/// but the empty one.
+fn stops_at_calls(alloc: Global, row: &Row<'_>) -> bool {
+    for number in 0..8 {
+        if !stops_at_call(alloc, row, number) {
+            return false;
         }
     }
-    Ok(())
+    true
 }
 
-// Three lists, and two reads of each file but the empty one.
 #[test]
-fn each_call_fails_in_turn(rt: HostRuntime) -> Result<(), Fail> {
+fn folders_are_imported(rt: HostRuntime) {
     for row in ROWS {
-        for number in 0..8 {
-            assert!(rt;
-                stops_at_call(rt.alloc(), row, number)?,
-                "{} {number}",
-                row.shard
-            );
-        }
+        assert!(rt; is_imported(rt.alloc(), row), "{}", row.shard);
     }
-    Ok(())
+}
+
+#[test]
+fn each_block_fails_in_turn(rt: HostRuntime) {
+    for row in ROWS {
+        assert!(rt; stops_at_blocks(rt.alloc(), row), "{}", row.shard);
+    }
+}
+
+#[test]
+fn each_call_fails_in_turn(rt: HostRuntime) {
+    for row in ROWS {
+        assert!(rt; stops_at_calls(rt.alloc(), row), "{}", row.shard);
+    }
 }
 
 /// The fault, and the names of its path with a slash before each.
@@ -256,7 +303,7 @@ fn odd_tree(alloc: Global, odd: Odd) -> Result<Tree, AllocError> {
 }
 
 /// What comes of an import.
-#[derive(Clone, Copy, Debug)]
+#[derive(Clone, Copy)]
 enum Want {
     /// So many folders.
     Folders(u64),
@@ -278,37 +325,49 @@ const ODD: &[(Odd, u64, Want)] = &[
 ];
 
 /// Whether an import ended so.
-fn is_so(
-    alloc: Global,
-    found: &Result<(Cid, Summary), ImportFault>,
-    want: Want,
-) -> Result<bool, AllocError> {
+fn is_so(alloc: Global, found: &Found, want: Want) -> bool {
     match found {
-        Ok((_, summary)) => Ok(
-            matches!(want, Want::Folders(folders) if folders == summary.folders),
-        ),
-        Err(fault) => {
-            let text = told(alloc, fault)?;
-            Ok(match want {
-                Want::Folders(_) => false,
-                Want::Fault(told) => text.as_slice() == told,
-                Want::Size(size) => text.as_slice().len() == size,
-            })
-        }
+        Ok((_, summary)) => matches!(want, Want::Folders(folders) if folders == summary.folders),
+        Err(fault) => is_told(alloc, fault, want),
+    }
+}
+
+/// Whether a fault is told so.
+fn is_told(alloc: Global, fault: &ImportFault, want: Want) -> bool {
+    match told(alloc, fault) {
+        Ok(text) => has_text(text.as_slice(), want),
+        Err(_) => false,
+    }
+}
+
+fn has_text(text: &[u8], want: Want) -> bool {
+    match want {
+        Want::Folders(_) => false,
+        Want::Fault(told) => text == told,
+        Want::Size(size) => text.len() == size,
     }
 }
 
 /// Whether the import of a folder ends so, and no block is kept where it is refused.
-fn ends_so(alloc: Global, odd: Odd, shard: u64, want: Want) -> Result<bool, Fail> {
-    let tree = odd_tree(alloc, odd)?;
-    let (found, left) = import_tree(alloc, tree, shard, NONE)?;
-    Ok(is_so(alloc, &found, want)? && (found.is_ok() || left.kept(&[])))
+fn ends_so(alloc: Global, odd: Odd, shard: u64, want: Want) -> bool {
+    match odd_tree(alloc, odd) {
+        Ok(tree) => tree_ends_so(alloc, tree, shard, want),
+        Err(_) => false,
+    }
+}
+
+fn tree_ends_so(alloc: Global, tree: Tree, shard: u64, want: Want) -> bool {
+    match import_tree(alloc, tree, shard, NONE) {
+        Some(done) => {
+            is_so(alloc, &done.found, want) && (done.found.is_ok() || done.left.kept(&[]))
+        }
+        None => false,
+    }
 }
 
 #[test]
-fn odd_folders_end_so(rt: HostRuntime) -> Result<(), Fail> {
+fn odd_folders_end_so(rt: HostRuntime) {
     for (odd, shard, want) in ODD {
-        assert!(rt; ends_so(rt.alloc(), *odd, *shard, *want)?, "{odd:?}");
+        assert!(rt; ends_so(rt.alloc(), *odd, *shard, *want), "{odd:?}");
     }
-    Ok(())
 }

@@ -90,7 +90,8 @@ fn numbers(alloc: Global, call: Option<u64>) -> Result<List<u64>, AllocError> {
     Ok(numbers)
 }
 
-/// What is left of an import: how often the folder failed and the store, and how many bytes the blocks have that were kept.
+/// What is left of an import: how often the folder failed and the store, and how many bytes the blocks have that were
+/// kept.
 #[derive(Drop)]
 pub struct Left {
     folder_faults: u64,

@@ -6,6 +6,3 @@ mod listing;
 
 pub use fault::ListingFault;
 pub use listing::put_listing;
-
-#[cfg(test)]
-mod tests;

@@ -15,8 +15,8 @@ use tg_streams::{Sink, put_all};
 /// Gathered lines are put once they have more bytes than this.
 const GATHERED: usize = 32 * 1024;
 
-/// Puts the listing of a directory with these entries: a line for each, in the order of the names' bytes: the CID's text in version 1,
-/// a space, the name in percent-encoding, and a line feed.
+/// Puts the listing of a directory with these entries: a line for each, in the order of the names' bytes: the CID's
+/// text in version 1, a space, the name in percent-encoding, and a line feed.
 ///
 /// This project's own text. Errors: `SinkFault` where out failed, which then has a front of the listing; `OutOfMemory`.
 pub fn put_listing<S: Sink>(
@@ -26,13 +26,15 @@ pub fn put_listing<S: Sink>(
 ) -> Result<(), ListingFault>
     ensures put { OnOk result (Put (listing (map named_entry entries)) (into S.sink out.old out.new)) }
     ensures quiet { OnOk result (OutputQuiet (into S.sink out.old out.new)) }
-    ensures err { IfErr result (λ fault. StopsListing fault (listing (map named_entry entries)) (into S.sink out.old out.new)) }
+    ensures err { IfErr result (λ fault. StopsListing fault (listing (map named_entry entries))
+        (into S.sink out.old out.new)) }
 {
     let sorted = sorted_by_name(entries)?;
     put_lines(alloc, sorted.as_slice(), out)
 }
 
-/// The entries in the order of their names' bytes, those of one name in the order that they had. The error is want of memory.
+/// The entries in the order of their names' bytes, those of one name in the order that they had. The error is want of
+/// memory.
 fn sorted_by_name(entries: List<Entry>) -> Result<Vec<Entry>, AllocError>
     ensures { IfOk result (λ list. map named_entry list.items ≡ sorted (map named_entry entries)) }
 {
@@ -43,9 +45,11 @@ fn sorted_by_name(entries: List<Entry>) -> Result<Vec<Entry>, AllocError>
 
 /// Puts the lines of the entries in their order. Errors: those of `put_listing`.
 fn put_lines<S: Sink>(alloc: Global, entries: &[Entry], out: &mut S) -> Result<(), ListingFault>
-    ensures put { OnOk result (Put (flat_map listing_line (map named_entry entries.now)) (into S.sink out.old out.new)) }
+    ensures put { OnOk result (Put (flat_map listing_line (map named_entry entries.now))
+        (into S.sink out.old out.new)) }
     ensures quiet { OnOk result (OutputQuiet (into S.sink out.old out.new)) }
-    ensures err { IfErr result (λ fault. StopsListing fault (flat_map listing_line (map named_entry entries.now)) (into S.sink out.old out.new)) }
+    ensures err { IfErr result (λ fault. StopsListing fault (flat_map listing_line (map named_entry entries.now))
+        (into S.sink out.old out.new)) }
 {
     let mut gathered = Bytes::new(alloc);
     for entry in entries {
@@ -55,15 +59,18 @@ fn put_lines<S: Sink>(alloc: Global, entries: &[Entry], out: &mut S) -> Result<(
     Ok(())
 }
 
-/// Adds the line of an entry to the gathered ones, and puts these and forgets them once they are many. Errors: those of `put_listing`.
+/// Adds the line of an entry to the gathered ones, and puts these and forgets them once they are many. Errors: those of
+/// `put_listing`.
 fn put_line<S: Sink>(
     alloc: Global,
     entry: &Entry,
     lines: &mut Bytes,
     out: &mut S,
 ) -> Result<(), ListingFault>
-    ensures put { OnOk result (PutBut lines.new (lines.old ++ listing_line (named_entry entry.now)) (into S.sink out.old out.new)) }
-    ensures err { IfErr result (λ fault. StopsListing fault (lines.old ++ listing_line (named_entry entry.now)) (into S.sink out.old out.new)) }
+    ensures put { OnOk result (PutBut lines.new (lines.old
+        ++ listing_line (named_entry entry.now)) (into S.sink out.old out.new)) }
+    ensures err { IfErr result (λ fault. StopsListing fault (lines.old
+        ++ listing_line (named_entry entry.now)) (into S.sink out.old out.new)) }
 {
     push_line(alloc, entry, lines)?;
     if lines.as_slice().len() > GATHERED {

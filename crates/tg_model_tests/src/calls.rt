@@ -1,8 +1,7 @@
-//! The block model's calls for ranges, and queries that are none. What `step`, `check_shard`, `window`, `resolve_span` and the readers
-//! answer is said by equations of their contracts; here stand values from outside.
+//! The block model's calls for ranges, and queries that are none. What `step`, `check_shard`, `window`,
+//! `resolve_span` and the readers answer is said by equations of their contracts; here stand values from outside.
 use std::alloc::Global;
-use tg_cid::Cid;
-use tg_model::{Part, Scope, SpanFrom, resolve_span, window};
+use tg_model::{Part, Scope, Span, SpanFrom, resolve_span, window};
 use tg_oracle::{QueryFault, bounds, scoped_query, span_of};
 use tg_test_dags::raw_cid;
 
@@ -23,47 +22,66 @@ const RANGES: &[RangeRow] = &[
     (SpanFrom::Last(0), None, 13, (13, 13), (0, 0)),
 ];
 
-/// Whether a range has the bounds of its row, and meets its run of the parts, which have 4, 0, 4 and 3 bytes and stand behind 2
-/// inline ones.
-fn has_bounds(row: &RangeRow, cid: Cid) -> bool {
+/// Whether a range has the bounds of its row, and meets its run of the parts.
+fn has_bounds(row: &RangeRow) -> bool {
     let (from, to, total, want, run) = *row;
+    match span_of(from, to) {
+        Ok(span) => resolved(&span, total) == want
+            && bounds(&span, total) == want
+            && met(want) == run,
+        Err(_) => false,
+    }
+}
+
+/// The bounds of a range in a file of so many bytes.
+fn resolved(span: &Span, total: u64) -> (u64, u64) {
+    resolve_span(span, total)
+}
+
+/// The run of parts that a range meets: they have 4, 0, 4 and 3 bytes and stand behind 2 inline ones.
+fn met(range: (u64, u64)) -> (usize, usize) {
+    let cid = raw_cid(b"");
     let parts = [
         Part { cid, size: 4 },
         Part { cid, size: 0 },
         Part { cid, size: 4 },
         Part { cid, size: 3 },
     ];
-    let Ok(span) = span_of(from, to) else {
-        return false;
-    };
-    let (low, high) = resolve_span(&span, total);
-    (low, high) == want && bounds(&span, total) == want && window(2, &parts, low, high) == run
+    window(2, &parts, range.0, range.1)
 }
 
 #[test]
 fn ranges_and_their_parts(rt: HostRuntime) {
-    let cid = raw_cid(b"");
     for row in RANGES {
-        assert!(rt; has_bounds(row, cid), "{row:?}");
+        assert!(rt; has_bounds(row), "{row:?}");
     }
 }
 
 /// The fault of a query for the block at a path, or none.
 fn path_fault(alloc: Global, path: &[&str]) -> Option<QueryFault> {
-    scoped_query(alloc, raw_cid(b""), path, Scope::Block).err()
+    match scoped_query(alloc, raw_cid(b""), path, Scope::Block) {
+        Ok(_) => None,
+        Err(fault) => Some(fault),
+    }
 }
 
-const NO_NAMES: &[&str] = &["", ".", "..", "a/b", "a\0", "/"];
+/// Paths, and the faults of their queries, or none.
+const PATHS: &[(&[&str], Option<QueryFault>)] = &[
+    (&["a", ""], Some(QueryFault::BadPath)),
+    (&["a", "."], Some(QueryFault::BadPath)),
+    (&["a", ".."], Some(QueryFault::BadPath)),
+    (&["a", "a/b"], Some(QueryFault::BadPath)),
+    (&["a", "a\0"], Some(QueryFault::BadPath)),
+    (&["a", "/"], Some(QueryFault::BadPath)),
+    (&["..."; 128], None),
+    (&["a"; 129], Some(QueryFault::BadPath)),
+];
 
 #[test]
 fn paths_that_are_none(rt: HostRuntime) {
-    for name in NO_NAMES {
-        let found = path_fault(rt.alloc(), &["a", *name]);
-        assert_eq!(rt; found, Some(QueryFault::BadPath), "{name}");
+    for (path, fault) in PATHS {
+        assert!(rt; path_fault(rt.alloc(), path) == *fault, "{path:?}");
     }
-    assert_eq!(rt; path_fault(rt.alloc(), &["..."; 128]), None);
-    let found = path_fault(rt.alloc(), &["a"; 129]);
-    assert_eq!(rt; found, Some(QueryFault::BadPath));
 }
 
 // Ranges, and whether they are one of a query.
@@ -81,6 +99,6 @@ const SPANS: &[(SpanFrom, Option<u64>, bool)] = &[
 #[test]
 fn ranges_that_are_none(rt: HostRuntime) {
     for (from, to, is_span) in SPANS {
-        assert_eq!(rt; span_of(*from, *to).is_ok(), *is_span, "{from:?} {to:?}");
+        assert!(rt; span_of(*from, *to).is_ok() == *is_span, "{from:?} {to:?}");
     }
 }

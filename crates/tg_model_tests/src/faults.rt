@@ -1,15 +1,17 @@
 //! Blocks without a kind, and blocks that can't stand where they stand.
-use crate::expected::{PathEnd, Row, are_given, gives, is_given};
-use std::alloc::Global;
+use crate::rows::{Ended, Row, has_row};
+use std::alloc::{AllocError, Global};
 use std::rt::HostRuntime;
-use std::test::Fail;
 use tg_bytes::{Bytes, List};
 use tg_cid::{Cid, Codec};
 use tg_dagpb::{Link, Node};
 use tg_model::{BlockFault, Kind, Scope, check_shard, reads};
-use tg_oracle::{End, evaluate, scoped_query};
+use tg_oracle::{End, Evaluation, evaluate, scoped_query};
 use tg_pbtable::PbFault;
-use tg_test_dags::{CHILD_SHARD, HELLO_SHARD, Shelf, parent_shard, raw_cid};
+use tg_test_dags::{
+    ALL, BLOCK, CHILD_SHARD, ENTITY, HELLO_SHARD, NO_SLOT, OddPart, SLOT_0, Shape, Stored, chain,
+    raw_cid,
+};
 use tg_unixfs::UnixFault;
 
 // The CID of the raw block `hell`, by Python's hashlib.
@@ -17,18 +19,15 @@ const CID: &[u8] =
     b"\x01\x55\x12\x20\x0e\xbd\xc3\x31\x7b\x75\x83\x9f\x64\x33\x87\xd7\x83\x53\x5a\xdc\x36\x0c\xa0\x1f\
     \x33\xc7\x5f\x7c\x1e\x73\x73\xad\xcd\x67\x5c\x0b";
 
-// The data of a directory, and those of shards without a slot, with slot 0, with slots 0 and 1, and with slot 10.
+// The data of a directory, and those of shards with slots 0 and 1, and with slot 10.
 const FOLDER: &[u8] = b"\x08\x01";
-
-const NO_SLOT: &[u8] = b"\x08\x05\x28\x22\x30\x80\x02";
-
-const SLOT_0: &[u8] = b"\x08\x05\x12\x01\x01\x28\x22\x30\x80\x02";
 
 const SLOTS_0_1: &[u8] = b"\x08\x05\x12\x01\x03\x28\x22\x30\x80\x02";
 
 const SLOT_10: &[u8] = b"\x08\x05\x12\x02\x04\0\x28\x22\x30\x80\x02";
 
-// The data of files with one part, of 2^63 bytes, and of 2^63 - 1 with a byte before it and without; and with two of 2^62.
+// The data of files with one part, of 2^63 bytes, and of 2^63 - 1 with a byte before it and without; and with two of
+// 2^62.
 const HUGE: &[u8] = b"\x08\x02\x20\x80\x80\x80\x80\x80\x80\x80\x80\x80\x01";
 
 const ONE_MORE: &[u8] = b"\x08\x02\x12\x01x\x20\xff\xff\xff\xff\xff\xff\xff\xff\x7f";
@@ -51,21 +50,45 @@ fn fault_of(alloc: Global, block: &[u8]) -> Option<BlockFault> {
     }
 }
 
+/// Whether a raw CID reads the bytes.
+fn is_raw(alloc: Global, block: &[u8]) -> bool {
+    match reads(alloc, &raw_cid(block), block) {
+        Ok(kind) => matches!(kind, Kind::Raw),
+        Err(_) => false,
+    }
+}
+
 /// A link with this name and hash.
-fn link_of(alloc: Global, name: Option<&str>, hash: &[u8]) -> Result<Link, Fail> {
+fn link_of(alloc: Global, name: Option<&str>, hash: &[u8]) -> Result<Link, AllocError> {
+    let hash = Bytes::of(alloc, hash)?;
     Ok(Link {
-        hash: Bytes::of(alloc, hash)?,
+        hash,
         name: name_of(alloc, name)?,
         tsize: None,
     })
 }
 
 /// The bytes of a name, or none.
-fn name_of(alloc: Global, name: Option<&str>) -> Result<Option<Bytes>, Fail> {
+fn name_of(alloc: Global, name: Option<&str>) -> Result<Option<Bytes>, AllocError> {
     match name {
         Some(name) => Ok(Some(Bytes::of(alloc, name.as_bytes())?)),
         None => Ok(None),
     }
+}
+
+/// The links with these names and the one hash.
+fn links_of(alloc: Global, names: &[Option<&str>], hash: &[u8]) -> Result<List<Link>, AllocError> {
+    let mut links = List::new(alloc);
+    for name in names {
+        links.push(link_of(alloc, *name, hash)?)?;
+    }
+    Ok(links)
+}
+
+/// The block of a node with these links.
+fn encoded(alloc: Global, links: List<Link>, payload: &[u8]) -> Result<Bytes, AllocError> {
+    let payload = Some(Bytes::of(alloc, payload)?);
+    tg_dagpb::encode(alloc, &Node { links, payload })
 }
 
 /// The block of a node whose links have these names and the one hash.
@@ -74,27 +97,28 @@ fn block_of(
     names: &[Option<&str>],
     hash: &[u8],
     payload: &[u8],
-) -> Result<Bytes, Fail> {
-    let mut links = List::new(alloc);
-    for name in names {
-        links.push(link_of(alloc, *name, hash)?)?;
-    }
-    let payload = Some(Bytes::of(alloc, payload)?);
-    Ok(tg_dagpb::encode(alloc, &Node { links, payload })?)
+) -> Result<Bytes, AllocError> {
+    encoded(alloc, links_of(alloc, names, hash)?, payload)
 }
 
 /// The names of a node's links, its data, and its fault, or none.
-type FaultRow<'a> = (&'a [Option<&'a str>], &'a [u8], Option<BlockFault>);
+type FaultRow = (
+    &'static [Option<&'static str>],
+    &'static [u8],
+    Option<BlockFault>,
+);
 
 /// Whether a node has its fault, or none.
-fn has_fault(alloc: Global, row: &FaultRow<'_>) -> Result<bool, Fail> {
+fn has_fault(alloc: Global, row: &FaultRow) -> bool {
     let (names, payload, fault) = *row;
-    let block = block_of(alloc, names, CID, payload)?;
-    Ok(fault_of(alloc, block.as_slice()) == fault)
+    match block_of(alloc, names, CID, payload) {
+        Ok(block) => fault_of(alloc, block.as_slice()) == fault,
+        Err(_) => false,
+    }
 }
 
-// Of two causes the earlier is told: a wrong number of sizes before huge ones, a fault of the node before one of a link's hash,
-// and that one before no data and before bad data.
+// Of two causes the earlier is told: a wrong number of sizes before huge ones, a fault of the node before one of a
+// link's hash, and that one before no data and before bad data.
 const BARE: &[(&[u8], BlockFault)] = &[
     (
         b"\x1a\0",
@@ -143,15 +167,16 @@ const BARE: &[(&[u8], BlockFault)] = &[
 #[test]
 fn blocks_without_links(rt: HostRuntime) {
     for (block, fault) in BARE {
-        assert_eq!(rt; fault_of(rt.alloc(), block), Some(*fault), "{block:?}");
-        // A raw CID reads any bytes.
-        assert!(rt; matches!(reads(rt.alloc(), &raw_cid(block), block), Ok(Kind::Raw)));
+        assert!(rt;
+            fault_of(rt.alloc(), block) == Some(*fault) && is_raw(rt.alloc(), block),
+            "{block:?}"
+        );
     }
 }
 
 const ONE_LINK: Option<BlockFault> = Some(BlockFault::BadSizes { links: 1, sizes: 0 });
 
-const FILES: &[FaultRow<'static>] = &[
+const FILES: &[FaultRow] = &[
     (&[None], b"\x08\x02\x20\x04", None),
     (&[Some("a/")], b"\x08\x02\x20\x04", None),
     (&[None], LARGEST, None),
@@ -169,22 +194,46 @@ const FILES: &[FaultRow<'static>] = &[
     ),
 ];
 
-// The second of two hashes is none of a CID.
 #[test]
-fn a_second_hash(rt: HostRuntime) -> Result<(), Fail> {
-    let good = block_of(rt.alloc(), &[None], CID, b"")?;
-    let bad = block_of(rt.alloc(), &[None], b"a", b"\x08\x02")?;
-    let front = good.as_slice().strip_suffix(b"\x0a\0").unwrap_or(b"");
-    let mut block = Bytes::of(rt.alloc(), front)?;
-    block.push_all(bad.as_slice())?;
-    let fault = fault_of(rt.alloc(), block.as_slice());
-    assert_eq!(rt; fault, Some(BlockFault::BadLink { at: 1 }));
-    Ok(())
+fn files_without_a_kind(rt: HostRuntime) {
+    for row in FILES {
+        assert!(rt; has_fault(rt.alloc(), row), "{row:?}");
+    }
+}
+
+// The second of two hashes is none of a CID.
+fn second_is_told(alloc: Global) -> bool {
+    match (
+        block_of(alloc, &[None], CID, b""),
+        block_of(alloc, &[None], b"a", b"\x08\x02"),
+    ) {
+        (Ok(good), Ok(bad)) => has_second(alloc, good.as_slice(), bad.as_slice()),
+        _ => false,
+    }
+}
+
+/// Whether the second link of two nodes' links is told, of which the first node has no data.
+fn has_second(alloc: Global, good: &[u8], bad: &[u8]) -> bool {
+    match joined(alloc, good.strip_suffix(b"\x0a\0").unwrap_or(b""), bad) {
+        Ok(block) => fault_of(alloc, block.as_slice()) == Some(BlockFault::BadLink { at: 1 }),
+        Err(_) => false,
+    }
+}
+
+fn joined(alloc: Global, front: &[u8], rest: &[u8]) -> Result<Bytes, AllocError> {
+    let mut block = Bytes::of(alloc, front)?;
+    block.push_all(rest)?;
+    Ok(block)
+}
+
+#[test]
+fn a_second_hash(rt: HostRuntime) {
+    assert!(rt; second_is_told(rt.alloc()));
 }
 
 const BAD_NAME: Option<BlockFault> = Some(BlockFault::BadName { at: 0 });
 
-const FOLDERS: &[FaultRow<'static>] = &[
+const FOLDERS: &[FaultRow] = &[
     (&[Some("a"), Some("...")], FOLDER, None),
     (&[None], FOLDER, BAD_NAME),
     (&[Some(".")], FOLDER, BAD_NAME),
@@ -219,6 +268,13 @@ const FOLDERS: &[FaultRow<'static>] = &[
     ),
 ];
 
+#[test]
+fn directories_without_a_kind(rt: HostRuntime) {
+    for row in FOLDERS {
+        assert!(rt; has_fault(rt.alloc(), row), "{row:?}");
+    }
+}
+
 const BAD_SLOT: Option<BlockFault> = Some(BlockFault::BadSlot { at: 0 });
 
 // 33 bytes of bits, and 32.
@@ -230,7 +286,7 @@ const FULL: &[u8] =
     b"\x08\x05\x12\x20\x80\0\0\0\0\0\0\0\0\0\0\0\0\0\0\0\0\0\0\0\0\0\0\0\0\0\0\0\0\0\0\x01\
         \x28\x22\x30\x80\x02";
 
-const SHARDS: &[FaultRow<'static>] = &[
+const SHARDS: &[FaultRow] = &[
     (&[Some("00a")], SLOT_0, None),
     (&[Some("00")], SLOT_0, None),
     (
@@ -267,31 +323,24 @@ const SHARDS: &[FaultRow<'static>] = &[
 ];
 
 #[test]
-fn nodes_without_a_kind(rt: HostRuntime) -> Result<(), Fail> {
-    for row in FILES {
-        assert!(rt; has_fault(rt.alloc(), row)?, "{row:?}");
-    }
-    for row in FOLDERS {
-        assert!(rt; has_fault(rt.alloc(), row)?, "{row:?}");
-    }
+fn shards_without_a_kind(rt: HostRuntime) {
     for row in SHARDS {
-        assert!(rt; has_fault(rt.alloc(), row)?, "{row:?}");
+        assert!(rt; has_fault(rt.alloc(), row), "{row:?}");
     }
-    Ok(())
 }
 
 /// The names of a shard's links, its data, the slots that were passed, and why it can't stand there, if it can't.
-type ShardRow<'a> = (
-    &'a [Option<&'a str>],
-    &'a [u8],
-    &'a [u8],
+type ShardRow = (
+    &'static [Option<&'static str>],
+    &'static [u8],
+    &'static [u8],
     Result<(), BlockFault>,
 );
 
 const EIGHT: &[u8] = &[1, 2, 3, 4, 5, 6, 7, 8];
 
 // The slots of `hello` are CB and D8, those of `q` begin with BC and 3E, of `g` with BC and 5D, of `m` with 91.
-const PLACED: &[ShardRow<'static>] = &[
+const PLACED: &[ShardRow] = &[
     (&[Some("CBhello")], HELLO_SHARD, &[], Ok(())),
     (
         &[Some("CBhello")],
@@ -332,215 +381,250 @@ const PLACED: &[ShardRow<'static>] = &[
 ];
 
 /// Whether a shard can stand behind these slots, or why not, as its row says.
-fn stands_so(alloc: Global, row: &ShardRow<'_>) -> Result<bool, Fail> {
+fn stands_so(alloc: Global, row: &ShardRow) -> bool {
     let (names, payload, above, want) = *row;
-    let block = block_of(alloc, names, CID, payload)?;
-    let kind = read(alloc, block.as_slice())?;
-    Ok(check_shard(&kind, above) == want)
+    match block_of(alloc, names, CID, payload) {
+        Ok(block) => is_placed(alloc, block.as_slice(), above, want),
+        Err(_) => false,
+    }
+}
+
+fn is_placed(alloc: Global, block: &[u8], above: &[u8], want: Result<(), BlockFault>) -> bool {
+    match read(alloc, block) {
+        Ok(kind) => check_shard(&kind, above) == want,
+        Err(_) => false,
+    }
 }
 
 #[test]
-fn shards_that_are_misplaced(rt: HostRuntime) -> Result<(), Fail> {
+fn shards_that_are_misplaced(rt: HostRuntime) {
     for row in PLACED {
-        assert!(rt; stands_so(rt.alloc(), row)?, "{row:?}");
+        assert!(rt; stands_so(rt.alloc(), row), "{row:?}");
     }
-    Ok(())
 }
 
-/// The end at a block that can't stand there.
-fn bad(cid: Cid, depth: u32, fault: BlockFault) -> End {
-    End::BadBlock { cid, depth, fault }
-}
-
-const ENTITY: (&[&str], Scope) = (&[], Scope::Entity);
-
-const ALL: (&[&str], Scope) = (&[], Scope::All);
-
-/// The links of a part, its data, and its fault.
-type PartRow = (&'static [&'static str], &'static [u8], BlockFault);
-
-// A shard that is misplaced besides is told so, since that is the first of its faults.
-const PARTS: &[PartRow] = &[
-    (&[], FOLDER, BlockFault::NotPart),
-    (&[], b"\x08\x04", BlockFault::NotPart),
-    (&[], NO_SLOT, BlockFault::NotPart),
-    (&["00m"], SLOT_0, BlockFault::Misplaced { at: 0 }),
+// A shard that is misplaced besides is told so, since that is the first of its faults. The first part of the file
+// comes before.
+const PARTS: &[Row] = &[
+    (
+        Shape::Part(OddPart::Folder),
+        &[],
+        ENTITY,
+        &[2, 1],
+        Ended::Bad(0, 2, BlockFault::NotPart),
+        b"hell",
+    ),
+    (
+        Shape::PartBelow(OddPart::Folder),
+        &[],
+        ALL,
+        &[3, 2, 1],
+        Ended::Bad(0, 3, BlockFault::NotPart),
+        b"dir /\nfile 8 /f\nhell",
+    ),
+    (
+        Shape::Part(OddPart::Link),
+        &[],
+        ENTITY,
+        &[2, 1],
+        Ended::Bad(0, 2, BlockFault::NotPart),
+        b"hell",
+    ),
+    (
+        Shape::PartBelow(OddPart::Link),
+        &[],
+        ALL,
+        &[3, 2, 1],
+        Ended::Bad(0, 3, BlockFault::NotPart),
+        b"dir /\nfile 8 /f\nhell",
+    ),
+    (
+        Shape::Part(OddPart::Shard),
+        &[],
+        ENTITY,
+        &[2, 1],
+        Ended::Bad(0, 2, BlockFault::NotPart),
+        b"hell",
+    ),
+    (
+        Shape::PartBelow(OddPart::Shard),
+        &[],
+        ALL,
+        &[3, 2, 1],
+        Ended::Bad(0, 3, BlockFault::NotPart),
+        b"dir /\nfile 8 /f\nhell",
+    ),
+    (
+        Shape::Part(OddPart::Misplaced),
+        &[],
+        ENTITY,
+        &[2, 1],
+        Ended::Bad(0, 2, BlockFault::Misplaced { at: 0 }),
+        b"hell",
+    ),
+    (
+        Shape::PartBelow(OddPart::Misplaced),
+        &[],
+        ALL,
+        &[3, 2, 1],
+        Ended::Bad(0, 3, BlockFault::Misplaced { at: 0 }),
+        b"dir /\nfile 8 /f\nhell",
+    ),
 ];
 
-/// Stores a node whose links have these names and lead to one raw block.
-fn put_part(shelf: &mut Shelf, names: &[&str], payload: &[u8]) -> Result<Cid, Fail> {
-    match names {
-        [name] => Ok(shelf.node(&[(*name, raw_cid(b"1"), 1)], payload)?),
-        _ => Ok(shelf.node(&[], payload)?),
+#[test]
+fn parts_that_are_no_files(rt: HostRuntime) {
+    for row in PARTS {
+        assert!(rt; has_row(rt.alloc(), row), "{row:?}");
     }
 }
 
-/// Whether a part ends the traversal of a file with its fault, whose first part comes before.
-fn ends_at_part(alloc: Global, row: &PartRow) -> Result<bool, Fail> {
-    let (names, payload, fault) = *row;
-    let mut shelf = Shelf::new(alloc);
-    let part = put_part(&mut shelf, names, payload)?;
-    let hell = shelf.raw(b"hell")?;
-    let links = [("", hell, 4), ("", part, 4)];
-    let root = shelf.node(&links, b"\x08\x02\x20\x04\x20\x04")?;
-    let folder = shelf.node(&[("f", root, 8)], FOLDER)?;
-    if !gives(&shelf, root, ENTITY, &[2, 1], &bad(part, 2, fault), b"hell")? {
-        return Ok(false);
-    }
-    let text = b"dir /\nfile 8 /f\nhell";
-    gives(&shelf, folder, ALL, &[3, 2, 1], &bad(part, 3, fault), text)
-}
+const NO_SHARD: Ended = Ended::Bad(3, 2, BlockFault::NotShard);
+
+// An entry comes before the child.
+const CHILDREN: &[Row] = &[
+    (Shape::NoShard, &[], ENTITY, &[4], NO_SHARD, b""),
+    (Shape::NoShard, &["q"], ALL, &[4], NO_SHARD, b""),
+    (
+        Shape::NoShard,
+        &[],
+        ALL,
+        &[4, 1],
+        NO_SHARD,
+        b"dir /\nfile 1 /m\n1\n",
+    ),
+    (Shape::LinkAsChild, &[], ENTITY, &[4], NO_SHARD, b""),
+    (Shape::LinkAsChild, &["q"], ALL, &[4], NO_SHARD, b""),
+    (
+        Shape::LinkAsChild,
+        &[],
+        ALL,
+        &[4, 1],
+        NO_SHARD,
+        b"dir /\nfile 1 /m\n1\n",
+    ),
+    (Shape::FileAsChild, &[], ENTITY, &[4], NO_SHARD, b""),
+    (Shape::FileAsChild, &["q"], ALL, &[4], NO_SHARD, b""),
+    (
+        Shape::FileAsChild,
+        &[],
+        ALL,
+        &[4, 1],
+        NO_SHARD,
+        b"dir /\nfile 1 /m\n1\n",
+    ),
+];
 
 #[test]
-fn parts_that_are_no_files(rt: HostRuntime) -> Result<(), Fail> {
-    for row in PARTS {
-        assert!(rt; ends_at_part(rt.alloc(), row)?, "{row:?}");
+fn children_that_are_no_shards(rt: HostRuntime) {
+    for row in CHILDREN {
+        assert!(rt; has_row(rt.alloc(), row), "{row:?}");
     }
-    Ok(())
 }
 
-/// A path and a scope, the indexes of the blocks that are sent, and the text.
-type BadRow = (
-    &'static [&'static str],
-    Scope,
-    &'static [usize],
-    &'static [u8],
+const NO_KIND: Ended = Ended::Bad(
+    0,
+    2,
+    BlockFault::BadNode(PbFault::Unknown { at: 0, number: 3 }),
 );
 
-/// Whether each row ends so.
-fn end_so(shelf: &Shelf, root: Cid, end: &End, rows: &[BadRow]) -> Result<bool, Fail> {
-    for row in rows {
-        let (path, scope, indexes, text) = *row;
-        if !gives(shelf, root, (path, scope), indexes, end, text)? {
-            return Ok(false);
-        }
-    }
-    Ok(true)
-}
+const MISPLACED: Ended = Ended::Bad(1, 2, BlockFault::Misplaced { at: 0 });
 
-const AT_CHILD: &[BadRow] = &[
-    (&[], Scope::Entity, &[4], b""),
-    (&["q"], Scope::All, &[4], b""),
-    (&[], Scope::All, &[4, 1], b"dir /\nfile 1 /m\n1\n"),
-];
+const BELOW_EIGHT: Ended = Ended::Bad(0, 9, BlockFault::BelowEight);
 
-/// Whether a child with this data ends the traversal of a shard, in which an entry comes before.
-fn ends_at_child(alloc: Global, payload: &[u8]) -> Result<bool, Fail> {
-    let mut shelf = Shelf::new(alloc);
-    let child = shelf.node(&[], payload)?;
-    let root = parent_shard(&mut shelf, child)?;
-    end_so(&shelf, root, &bad(child, 2, BlockFault::NotShard), AT_CHILD)
-}
-
-const NO_SHARDS: &[&[u8]] = &[FOLDER, b"\x08\x04", b"\x08\x02"];
-
-#[test]
-fn children_that_are_no_shards(rt: HostRuntime) -> Result<(), Fail> {
-    for payload in NO_SHARDS {
-        assert!(rt; ends_at_child(rt.alloc(), payload)?, "{payload:?}");
-    }
-    Ok(())
-}
-
-// A block without a kind that is asked for alone is sent.
-const ODD: Row<'static> = (&["o"], Scope::Block, &[1, 0], PathEnd::Whole, b"\x1a\0");
-
-const AT_ODD: &[BadRow] = &[
-    (&["o"], Scope::Entity, &[1], b""),
-    (&["o", "x"], Scope::Block, &[1], b""),
-    (&[], Scope::All, &[1], b"dir /\n"),
-];
-
-/// Whether a block without a kind is sent alone, and ends each other traversal.
-fn ends_at_odd(alloc: Global) -> Result<bool, Fail> {
-    let mut shelf = Shelf::new(alloc);
-    let odd = shelf.put(Codec::DagPb, b"\x1a\0")?;
-    let root = shelf.node(&[("o", odd, 1)], FOLDER)?;
-    if !is_given(&shelf, root, &ODD)? {
-        return Ok(false);
-    }
-    let fault = BlockFault::BadNode(PbFault::Unknown { at: 0, number: 3 });
-    end_so(&shelf, root, &bad(odd, 2, fault), AT_ODD)
-}
-
-const AT_MISPLACED: &[BadRow] = &[
-    (&["s", "m"], Scope::Block, &[2], b""),
-    (&["s"], Scope::Entity, &[2], b""),
-    (&[], Scope::All, &[2], b"dir /\n"),
-];
-
-/// Whether a shard with an entry in another slot than that of its name ends each traversal.
-fn ends_at_misplaced(alloc: Global) -> Result<bool, Fail> {
-    let mut shelf = Shelf::new(alloc);
-    let leaf = shelf.raw(b"1")?;
-    let shard = shelf.node(&[("00m", leaf, 1)], SLOT_0)?;
-    let root = shelf.node(&[("s", shard, 1)], FOLDER)?;
-    let fault = BlockFault::Misplaced { at: 0 };
-    end_so(&shelf, root, &bad(shard, 2, fault), AT_MISPLACED)
-}
-
-const EIGHT_LEVELS: &[Row<'static>] = &[
+// A block without a kind that is asked for alone is sent, and ends each other traversal. So does a shard with an
+// entry in another slot than that of its name. Shards stand up to level seven, and a further one ends each traversal.
+const PLACES: &[Row] = &[
     (
+        Shape::NoKind,
+        &["o"],
+        BLOCK,
+        &[1, 0],
+        Ended::Whole,
+        b"\x1a\0",
+    ),
+    (Shape::NoKind, &["o"], ENTITY, &[1], NO_KIND, b""),
+    (Shape::NoKind, &["o", "x"], BLOCK, &[1], NO_KIND, b""),
+    (Shape::NoKind, &[], ALL, &[1], NO_KIND, b"dir /\n"),
+    (
+        Shape::MisplacedBelow,
+        &["s", "m"],
+        BLOCK,
+        &[2],
+        MISPLACED,
+        b"",
+    ),
+    (Shape::MisplacedBelow, &["s"], ENTITY, &[2], MISPLACED, b""),
+    (Shape::MisplacedBelow, &[], ALL, &[2], MISPLACED, b"dir /\n"),
+    (
+        Shape::EightLevels,
         &[],
-        Scope::Entity,
+        ENTITY,
         &[7, 6, 5, 4, 3, 2, 1, 0],
-        PathEnd::Whole,
+        Ended::Whole,
         b"",
     ),
     (
+        Shape::EightLevels,
         &[],
-        Scope::All,
+        ALL,
         &[7, 6, 5, 4, 3, 2, 1, 0],
-        PathEnd::Whole,
+        Ended::Whole,
+        b"dir /\n",
+    ),
+    (
+        Shape::NineLevels,
+        &[],
+        ENTITY,
+        &[8, 7, 6, 5, 4, 3, 2, 1],
+        BELOW_EIGHT,
+        b"",
+    ),
+    (
+        Shape::NineLevels,
+        &[],
+        ALL,
+        &[8, 7, 6, 5, 4, 3, 2, 1],
+        BELOW_EIGHT,
         b"dir /\n",
     ),
 ];
 
-const BELOW_EIGHT: &[BadRow] = &[
-    (&[], Scope::Entity, &[8, 7, 6, 5, 4, 3, 2, 1], b""),
-    (&[], Scope::All, &[8, 7, 6, 5, 4, 3, 2, 1], b"dir /\n"),
-];
+#[test]
+fn blocks_that_cannot_stand_there(rt: HostRuntime) {
+    for row in PLACES {
+        assert!(rt; has_row(rt.alloc(), row), "{row:?}");
+    }
+}
 
-/// Whether shards stand up to level seven, and a further one ends each traversal.
-fn ends_below_seven(alloc: Global) -> Result<bool, Fail> {
-    let mut shelf = Shelf::new(alloc);
-    let bottom = shelf.node(&[], NO_SLOT)?;
-    let mut shard = bottom;
-    for _ in 0..7 {
-        shard = shelf.node(&[("00", shard, 1)], SLOT_0)?;
+/// Whether a file of 512 blocks, one below another, is evaluated.
+fn goes_deep(alloc: Global) -> bool {
+    match chain(alloc, 511, b"\x08\x02\x20\x01") {
+        Ok(stored) => is_whole(alloc, &stored),
+        Err(_) => false,
     }
-    if !are_given(&shelf, shard, EIGHT_LEVELS)? {
-        return Ok(false);
+}
+
+fn is_whole(alloc: Global, stored: &Stored) -> bool {
+    match evaluated(alloc, stored) {
+        Some(found) => {
+            found.end == End::Whole
+                && found.text.as_slice() == b"x".as_slice()
+                && found.sent.as_slice().len() == 512
+        }
+        None => false,
     }
-    let root = shelf.node(&[("00", shard, 1)], SLOT_0)?;
-    end_so(
-        &shelf,
-        root,
-        &bad(bottom, 9, BlockFault::BelowEight),
-        BELOW_EIGHT,
-    )
+}
+
+/// The evaluation of the file at the root.
+fn evaluated(alloc: Global, stored: &Stored) -> Option<Evaluation> {
+    match scoped_query(alloc, stored.root, &[], Scope::Entity) {
+        Ok(query) => evaluate(alloc, stored.blocks.as_slice(), &query).ok(),
+        Err(_) => None,
+    }
 }
 
 #[test]
-fn blocks_that_cannot_stand_there(rt: HostRuntime) -> Result<(), Fail> {
-    assert!(rt; ends_at_odd(rt.alloc())?);
-    assert!(rt; ends_at_misplaced(rt.alloc())?);
-    assert!(rt; ends_below_seven(rt.alloc())?);
-    Ok(())
-}
-
-#[test]
-fn many_levels(rt: HostRuntime) -> Result<(), Fail> {
-    let alloc = rt.alloc();
-    let mut shelf = Shelf::new(alloc);
-    let mut root = shelf.raw(b"x")?;
-    for _ in 0..511 {
-        root = shelf.node(&[("", root, 1)], b"\x08\x02\x20\x01")?;
-    }
-    let query = scoped_query(alloc, root, &[], Scope::Entity)?;
-    let found = evaluate(alloc, shelf.blocks.as_slice(), &query)?;
-    assert_eq!(rt; found.end, End::Whole);
-    assert_eq!(rt; found.text.as_slice(), b"x".as_slice());
-    assert_eq!(rt; found.sent.as_slice().len(), 512);
-    Ok(())
+fn many_levels(rt: HostRuntime) {
+    assert!(rt; goes_deep(rt.alloc()));
 }

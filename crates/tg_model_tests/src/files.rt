@@ -1,63 +1,59 @@
 //! Files, their parts and byte ranges.
-use crate::expected::{PathEnd, gives, size_of};
-use crate::rows::{RangeRow, ShapeRow, has_range, has_row};
-use std::alloc::Global;
+use crate::rows::{Ended, RangeRow, Row, has_range, has_row};
 use std::rt::HostRuntime;
-use std::test::Fail;
-use tg_model::{Scope, SpanFrom};
-use tg_oracle::{End, car_size, evaluate, ranged_query, scoped_query};
-use tg_test_dags::{Shape, Shelf, hello_root, raw_cid};
+use tg_model::SpanFrom;
+use tg_test_dags::{ALL, Asked, ENTITY, Shape};
 
-const ROWS: &[ShapeRow] = &[
+const ROWS: &[Row] = &[
     (
         Shape::Hello,
         &[],
-        Scope::Entity,
+        ENTITY,
         &[0, 1, 2, 3],
-        PathEnd::Whole,
+        Ended::Whole,
         b"hello world",
     ),
     (
         Shape::Hello,
         &[],
-        Scope::All,
+        ALL,
         &[0, 1, 2, 3],
-        PathEnd::Whole,
+        Ended::Whole,
         b"hello world",
     ),
-    (
-        Shape::Hello,
-        &["x"],
-        Scope::All,
-        &[0],
-        PathEnd::NotFolder(0),
-        b"",
-    ),
+    (Shape::Hello, &["x"], ALL, &[0], Ended::NotFolder(0), b""),
     (
         Shape::PartedTwins,
         &[],
-        Scope::Entity,
+        ENTITY,
         &[2, 0, 1, 0],
-        PathEnd::Whole,
+        Ended::Whole,
         b"hellhell",
     ),
     (
         Shape::Twins,
         &[],
-        Scope::Entity,
+        ENTITY,
         &[1, 0, 0],
-        PathEnd::Whole,
+        Ended::Whole,
         b"aaaaaaaa",
     ),
     (
         Shape::FileInFile,
         &[],
-        Scope::Entity,
+        ENTITY,
         &[4, 3, 0, 1, 2],
-        PathEnd::Whole,
+        Ended::Whole,
         b"> hello world",
     ),
 ];
+
+#[test]
+fn rows_of_files(rt: HostRuntime) {
+    for row in ROWS {
+        assert!(rt; has_row(rt.alloc(), row), "{row:?}");
+    }
+}
 
 const RANGES: &[RangeRow] = &[
     (
@@ -224,7 +220,7 @@ const RANGES: &[RangeRow] = &[
         b"",
     ),
     (
-        Shape::Raw(b""),
+        Shape::NoBytes,
         &[],
         (SpanFrom::Last(5), None),
         &[0],
@@ -232,7 +228,7 @@ const RANGES: &[RangeRow] = &[
         b"",
     ),
     (
-        Shape::Raw(b"hello world"),
+        Shape::OneBlock,
         &[],
         (SpanFrom::Start(5), Some(6)),
         &[0],
@@ -242,76 +238,38 @@ const RANGES: &[RangeRow] = &[
 ];
 
 #[test]
-fn rows_of_files(rt: HostRuntime) -> Result<(), Fail> {
-    for row in ROWS {
-        assert!(rt; has_row(rt.alloc(), row)?, "{row:?}");
-    }
-    Ok(())
-}
-
-#[test]
-fn ranges_of_files(rt: HostRuntime) -> Result<(), Fail> {
+fn ranges_of_files(rt: HostRuntime) {
     for row in RANGES {
-        assert!(rt; has_range(rt.alloc(), row)?, "{row:?}");
-    }
-    Ok(())
-}
-
-// A block that is asked for alone is the text.
-#[test]
-fn a_block_alone(rt: HostRuntime) -> Result<(), Fail> {
-    let mut shelf = Shelf::new(rt.alloc());
-    let root = Shape::Hello.store(&mut shelf)?;
-    let query = scoped_query(rt.alloc(), root, &[], Scope::Block)?;
-    let found = evaluate(rt.alloc(), shelf.blocks.as_slice(), &query)?;
-    assert_eq!(rt; found.text.as_slice().len(), 144);
-    assert_eq!(rt; car_size(found.sent.as_slice()), 241);
-    Ok(())
-}
-
-/// The end where a raw block isn't stored that lies below the root.
-fn gone(leaf: &[u8]) -> End {
-    End::Gone {
-        cid: raw_cid(leaf),
-        depth: 2,
+        assert!(rt; has_range(rt.alloc(), row), "{row:?}");
     }
 }
 
-const ALL: (&[&str], Scope) = (&[], Scope::Entity);
-
-/// Whether the first leaf that isn't stored is told, one after another.
-fn leaves_are_wanted(alloc: Global) -> Result<bool, Fail> {
-    let mut shelf = Shelf::new(alloc);
-    let root = hello_root(&mut shelf)?;
-    shelf.raw(b"rld")?;
-    let part = ranged_query(alloc, root, &[], SpanFrom::Start(5), Some(6))?;
-    if !gives(&shelf, root, ALL, &[0], &gone(b"hell"), b"")? {
-        return Ok(false);
-    }
-    if size_of(&shelf, &part, &[0], &gone(b"o wo"), b"")?.is_none() {
-        return Ok(false);
-    }
-    shelf.raw(b"hell")?;
-    gives(&shelf, root, ALL, &[0, 2], &gone(b"o wo"), b"hell")
-}
-
-/// Whether the first leaf is wanted where the second one alone is stored, and the root where nothing is.
-fn root_is_wanted(alloc: Global) -> Result<bool, Fail> {
-    let mut shelf = Shelf::new(alloc);
-    let root = Shape::OneLeaf.store(&mut shelf)?;
-    let end = End::Gone {
-        cid: root,
-        depth: 1,
-    };
-    if !gives(&Shelf::new(alloc), root, ALL, &[], &end, b"")? {
-        return Ok(false);
-    }
-    gives(&shelf, root, ALL, &[1], &gone(b"hell"), b"")
-}
+// The first leaf that isn't stored is told, one after another, and the root where nothing is stored.
+const GONE: &[Row] = &[
+    (Shape::NoLeaves, &[], ENTITY, &[1], Ended::Gone(0, 2), b""),
+    (
+        Shape::NoLeaves,
+        &[],
+        Asked::Bytes(SpanFrom::Start(5), Some(6)),
+        &[1],
+        Ended::Gone(1, 2),
+        b"",
+    ),
+    (
+        Shape::NoMiddle,
+        &[],
+        ENTITY,
+        &[0, 2],
+        Ended::Gone(1, 2),
+        b"hell",
+    ),
+    (Shape::NoRoot, &[], ENTITY, &[], Ended::Gone(3, 1), b""),
+    (Shape::OneLeaf, &[], ENTITY, &[1], Ended::Gone(0, 2), b""),
+];
 
 #[test]
-fn blocks_that_are_not_stored(rt: HostRuntime) -> Result<(), Fail> {
-    assert!(rt; leaves_are_wanted(rt.alloc())?);
-    assert!(rt; root_is_wanted(rt.alloc())?);
-    Ok(())
+fn blocks_that_are_not_stored(rt: HostRuntime) {
+    for row in GONE {
+        assert!(rt; has_row(rt.alloc(), row), "{row:?}");
+    }
 }

@@ -1,82 +1,132 @@
 //! Walks over a store, beside the evaluator.
+use std::alloc::Global;
 use std::rt::HostRuntime;
-use std::test::Fail;
+use tg_bytes::Bytes;
 use tg_cid::{Cid, MAX_BLOCK_LEN};
 use tg_model::{Keep, Query, Scope};
-use tg_oracle::{End, Evaluation, Sent, evaluate, scoped_query};
+use tg_oracle::{End, Evaluation, Sent, StoredBlock, evaluate, scoped_query};
 use tg_store::MemStore;
-use tg_test_dags::{Shelf, chain};
+use tg_test_dags::{Case, Stored, chain};
 use tg_traversal::copied_path;
 use tg_walk::{ResolveFault, Walk, WalkFault, resolve};
 
 /// A store that holds the blocks, or none where a CID doesn't name its block.
-fn store_of(shelf: &Shelf) -> Result<Option<MemStore>, Fail> {
-    let mut store = MemStore::new(shelf.alloc());
-    for stored in shelf.blocks.as_slice() {
-        let block = stored.block.as_slice();
-        if block.len() > MAX_BLOCK_LEN || !stored.cid.holds(block) {
-            return Ok(None);
+fn store_of(alloc: Global, blocks: &[StoredBlock]) -> Option<MemStore> {
+    let mut store = MemStore::new(alloc);
+    for stored in blocks {
+        if !is_kept(&mut store, stored.cid, stored.block.as_slice()) {
+            return None;
         }
-        store.keep(stored.cid, block)?;
     }
-    Ok(Some(store))
+    Some(store)
+}
+
+/// Keeps a block, if its CID names it.
+fn is_kept(store: &mut MemStore, cid: Cid, block: &[u8]) -> bool {
+    block.len() <= MAX_BLOCK_LEN && cid.holds(block) && store.keep(cid, block).is_ok()
+}
+
+/// Whether a walk over the stored blocks gives what the evaluator sends, and ends as the evaluation does, and the
+/// path leads where it does.
+pub fn walks_so(alloc: Global, case: &Case) -> bool {
+    match store_of(alloc, case.stored.blocks.as_slice()) {
+        Some(mut store) => walks_over(alloc, case, &mut store) && leads_so(alloc, case, &mut store),
+        None => false,
+    }
+}
+
+fn walks_over(alloc: Global, case: &Case, store: &mut MemStore) -> bool {
+    match Walk::new(alloc, &case.query) {
+        Ok(mut walk) => {
+            gives_each(&mut walk, store, case) && ends_so(&mut walk, store, &case.found.end)
+        }
+        Err(_) => false,
+    }
+}
+
+/// Whether a walk gives each block that the evaluator sends.
+fn gives_each(walk: &mut Walk, store: &mut MemStore, case: &Case) -> bool {
+    for sent in case.found.sent.as_slice() {
+        if !gives(walk, store, case.stored.blocks.as_slice(), sent) {
+            return false;
+        }
+    }
+    true
 }
 
 /// Whether a walk gives the block that is stored with this index next, under this CID.
-fn gives(
-    walk: &mut Walk,
-    store: &mut MemStore,
-    shelf: &Shelf,
-    sent: &Sent,
-) -> Result<bool, WalkFault> {
-    let Some((cid, block)) = walk.next(store)? else {
-        return Ok(false);
-    };
-    Ok(match shelf.blocks.as_slice().get(sent.index) {
-        Some(stored) => cid == sent.cid && block.as_slice() == stored.block.as_slice(),
+fn gives(walk: &mut Walk, store: &mut MemStore, blocks: &[StoredBlock], sent: &Sent) -> bool {
+    match next(walk, store) {
+        Ok(Some((cid, block))) => cid == sent.cid && is_block(blocks, sent.index, block.as_slice()),
+        _ => false,
+    }
+}
+
+fn is_block(blocks: &[StoredBlock], index: usize, block: &[u8]) -> bool {
+    match blocks.get(index) {
+        Some(stored) => stored.block.as_slice() == block,
         None => false,
-    })
+    }
+}
+
+/// What a walk gives next.
+fn next(walk: &mut Walk, store: &mut MemStore) -> Result<Option<(Cid, Bytes)>, WalkFault> {
+    walk.next(store)
+}
+
+/// Whether a walk gives a further block.
+fn goes_on(walk: &mut Walk, store: &mut MemStore) -> Result<bool, WalkFault> {
+    match next(walk, store) {
+        Ok(found) => Ok(found.is_some()),
+        Err(fault) => Err(fault),
+    }
 }
 
 /// Whether a walk ends as an evaluation, and does so again.
 fn ends_so(walk: &mut Walk, store: &mut MemStore, end: &End) -> bool {
     let want = walk_end(end);
-    let last = walk.next(store).map(|last| last.is_some());
-    let again = walk.next(store).map(|last| last.is_some());
-    last == want && again == want
+    goes_on(walk, store) == want && goes_on(walk, store) == want
 }
 
-/// Whether a walk over the blocks gives what the evaluator sends, and ends as the evaluation does, and the path leads where it does. It
-/// counts as so where a CID doesn't name its block.
-pub fn walks_so(shelf: &Shelf, query: &Query, found: &Evaluation) -> Result<bool, Fail> {
-    let Some(mut store) = store_of(shelf)? else {
-        return Ok(true);
+/// Whether the path of a query leads to the block which the evaluator sends last for it, or ends as its evaluation
+/// does.
+fn leads_so(alloc: Global, case: &Case, store: &mut MemStore) -> bool {
+    let Some(block) = block_query(alloc, &case.query) else {
+        return false;
     };
-    let mut walk = Walk::new(shelf.alloc(), query)?;
-    for sent in found.sent.as_slice() {
-        if !gives(&mut walk, &mut store, shelf, sent)? {
-            return Ok(false);
-        }
+    match evaluate(alloc, case.stored.blocks.as_slice(), &block) {
+        Ok(found) => leads_as(&found, resolved(alloc, store, &case.query)),
+        Err(_) => false,
     }
-    Ok(ends_so(&mut walk, &mut store, &found.end) && leads_so(shelf, &mut store, query)?)
 }
 
-/// Whether the path of a query leads to the block which the evaluator sends last for it, or ends as its evaluation does.
-fn leads_so(shelf: &Shelf, store: &mut MemStore, query: &Query) -> Result<bool, Fail> {
-    let alloc = shelf.alloc();
-    let path = copied_path(alloc, query.path())?;
-    let block = Query::car(query.root(), path, Scope::Block, None, true);
-    let found = evaluate(alloc, shelf.blocks.as_slice(), &block)?;
-    Ok(match resolve(alloc, store, &query.root(), query.path()) {
-        Ok(cid) => found.end == End::Whole && last_cid(&found) == Some(cid),
+/// The query for the block at the path of a query.
+fn block_query(alloc: Global, query: &Query) -> Option<Query> {
+    match copied_path(alloc, query.path()) {
+        Ok(path) => Some(Query::car(query.root(), path, Scope::Block, None, true)),
+        Err(_) => None,
+    }
+}
+
+/// Where the path of a query leads.
+fn resolved(alloc: Global, store: &mut MemStore, query: &Query) -> Result<Cid, ResolveFault> {
+    resolve(alloc, store, &query.root(), query.path())
+}
+
+/// Whether a path leads where the evaluator says.
+fn leads_as(found: &Evaluation, resolved: Result<Cid, ResolveFault>) -> bool {
+    match resolved {
+        Ok(cid) => found.end == End::Whole && last_cid(found) == Some(cid),
         Err(fault) => refusal_at(&found.end) == Some(fault),
-    })
+    }
 }
 
 /// The CID of the block that is sent last, or none.
 fn last_cid(found: &Evaluation) -> Option<Cid> {
-    let last = found.sent.as_slice().last()?;
-    Some(last.cid)
+    match found.sent.as_slice().last() {
+        Some(last) => Some(last.cid),
+        None => None,
+    }
 }
 
 /// Why a path leads to no stored block, where it doesn't.
@@ -95,38 +145,6 @@ fn refusal_at(end: &End) -> Option<ResolveFault> {
     }
 }
 
-/// The number of a segment.
-fn segment_at(at: u64) -> u32 {
-    u32::try_from(at).unwrap_or(u32::MAX)
-}
-
-/// How many blocks the walk over a chain gives, and how it ends.
-fn walked(shelf: &Shelf, root: Cid) -> Result<(u32, Option<WalkFault>), Fail> {
-    let Some(mut store) = store_of(shelf)? else {
-        return Err(Fail::new("a CID doesn't name its block"));
-    };
-    let query = scoped_query(shelf.alloc(), root, &[], Scope::Entity)?;
-    let mut walk = Walk::new(shelf.alloc(), &query)?;
-    for given in 0..1_000 {
-        match walk.next(&mut store) {
-            Ok(Some(_)) => {}
-            Ok(None) => return Ok((given, None)),
-            Err(fault) => return Ok((given, Some(fault))),
-        }
-    }
-    Err(Fail::new("the walk doesn't end"))
-}
-
-#[test]
-fn walks_go_512_blocks_deep(rt: HostRuntime) -> Result<(), Fail> {
-    let mut shelf = Shelf::new(rt.alloc());
-    let root = chain(&mut shelf, 511)?;
-    assert_eq!(rt; walked(&shelf, root)?, (512, None));
-    let root = chain(&mut shelf, 512)?;
-    assert_eq!(rt; walked(&shelf, root)?, (512, Some(WalkFault::TooDeep)));
-    Ok(())
-}
-
 /// The end of a walk: no further block, or a refusal.
 fn walk_end(end: &End) -> Result<bool, WalkFault> {
     match *end {
@@ -139,5 +157,63 @@ fn walk_end(end: &End) -> Result<bool, WalkFault> {
         }),
         End::Gone { cid, .. } => Err(WalkFault::Gone { cid }),
         End::BadBlock { cid, fault, .. } => Err(WalkFault::BadBlock { cid, fault }),
+    }
+}
+
+/// The number of a segment.
+fn segment_at(at: u64) -> u32 {
+    u32::try_from(at).unwrap_or(u32::MAX)
+}
+
+/// How many nodes a chain has, how many blocks the walk over it gives, and whether it ends as too deep.
+const CHAINS: &[(u32, u32, bool)] = &[(511, 512, false), (512, 512, true)];
+
+/// Whether the walk over a chain gives so many blocks, and ends so.
+fn is_walked(alloc: Global, nodes: u32, count: u32, is_deep: bool) -> bool {
+    let fault = if is_deep {
+        Some(WalkFault::TooDeep)
+    } else {
+        None
+    };
+    match chain(alloc, nodes, b"\x08\x02\x18\x01\x20\x01") {
+        Ok(stored) => walked(alloc, &stored) == Some((count, fault)),
+        Err(_) => false,
+    }
+}
+
+/// How many blocks the walk over stored blocks gives, and how it ends.
+fn walked(alloc: Global, stored: &Stored) -> Option<(u32, Option<WalkFault>)> {
+    match (
+        store_of(alloc, stored.blocks.as_slice()),
+        walk_from(alloc, stored.root),
+    ) {
+        (Some(mut store), Some(mut walk)) => counted(&mut walk, &mut store),
+        _ => None,
+    }
+}
+
+/// The walk over the file with this root.
+fn walk_from(alloc: Global, root: Cid) -> Option<Walk> {
+    match scoped_query(alloc, root, &[], Scope::Entity) {
+        Ok(query) => Walk::new(alloc, &query).ok(),
+        Err(_) => None,
+    }
+}
+
+fn counted(walk: &mut Walk, store: &mut MemStore) -> Option<(u32, Option<WalkFault>)> {
+    for given in 0..1_000 {
+        match goes_on(walk, store) {
+            Ok(true) => {}
+            Ok(false) => return Some((given, None)),
+            Err(fault) => return Some((given, Some(fault))),
+        }
+    }
+    None
+}
+
+#[test]
+fn walks_go_512_blocks_deep(rt: HostRuntime) {
+    for (nodes, count, is_deep) in CHAINS {
+        assert!(rt; is_walked(rt.alloc(), *nodes, *count, *is_deep), "{nodes}");
     }
 }

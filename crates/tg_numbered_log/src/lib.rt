@@ -16,7 +16,8 @@ pub struct LoggedKeep {
     pub block: Bytes,
 }
 
-/// A keeper that logs what is kept in it, call by call, and doesn't tell what it holds. Its calls fail by their numbers.
+/// A keeper that logs what is kept in it, call by call, and doesn't tell what it holds. Its calls fail by their
+/// numbers.
 #[derive(Debug, Drop)]
 pub struct NumberedLog {
     alloc: Global,

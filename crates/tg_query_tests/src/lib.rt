@@ -1,5 +1,16 @@
-//! The tests of `tg_query`: tables of targets, `Accept` fields and printed requests.
+//! The tests of `tg_path`, `tg_query` and `tg_words`: words, targets, `Accept` fields, printed requests and command
+//! lines, each with what it asks or why it is refused.
 #![tactic(auto)]
 
 #[cfg(test)]
-mod tests;
+mod asked;
+#[cfg(test)]
+mod lines;
+#[cfg(test)]
+mod operands;
+#[cfg(test)]
+mod paths;
+#[cfg(test)]
+mod requests;
+#[cfg(test)]
+mod targets;

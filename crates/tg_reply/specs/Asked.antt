@@ -1,5 +1,5 @@
--- What the head of a request asks: a query, or its refusal, the first in the order of checks (RFC 9112, section 6; RFC 9110, section
--- 9; Path Gateway and Trustless Gateway specifications).
+-- What the head of a request asks: a query, or its refusal, the first in the order of checks (RFC 9112, section 6; RFC
+-- 9110, section 9; Path Gateway and Trustless Gateway specifications).
 use Rattle.std.specs.Prelude.{Bool, Err, List, Ok, Result, bytes_eq, codes, if◌then◌else◌, ℕ, ◌||◌}
 use Rattle.tg_http.specs.declared.request.RequestHead.{RequestHead}
 use Rattle.tg_model.specs.Queries.{QueryParts}

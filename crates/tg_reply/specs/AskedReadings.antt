@@ -47,7 +47,8 @@ pub record IsByteStore (store : Store) : Type 0 where
   pub store_is : IsStore store
   pub bytes : (cid : CidParts) (block : List ℕ) → store cid ≡ Some block → All (λ b. b < 256) block
 
--- the sections that it gives for a query are spelled, where the root is: each is the root's, or its CID was read from a link
+-- the sections that it gives for a query are spelled, where the root is: each is the root's, or its CID was read from a
+-- link
 abbrev pub SentSpelled : Type 0
 SentSpelled = (store : Store) (q : QueryParts) (name : List ℕ) → IsByteStore store → CidBytes q.root name → All IsSpelled (block_list q (sent_dag store q.root))
 

@@ -11,8 +11,8 @@ abbrev pub before_deeper : ℕ → List Place → List Place
 before_deeper most [] = []
 before_deeper most (p ∷ places) = if nat_lt most p.depth then [] else p ∷ before_deeper most places
 
--- a traversal gives the places of another before the first deeper one, and it comes through exactly where the other does and none
--- is deeper
+-- a traversal gives the places of another before the first deeper one, and it comes through exactly where the other
+-- does and none is deeper
 pub record IsCutBefore (most : ℕ) (cut full : Traversal) : Type 0 where
   pub places : cut.places ≡ before_deeper most full.places
   pub through : (cut.end ≡ whole) ↔ ((full.end ≡ whole) × All (λ p. p.depth ≤ most) full.places)

@@ -1,5 +1,5 @@
--- The statuses of refusals, and the words of their bodies (Path Gateway and Trustless Gateway specifications, response status
--- codes; the words are this project's own).
+-- The statuses of refusals, and the words of their bodies (Path Gateway and Trustless Gateway specifications, response
+-- status codes; the words are this project's own).
 use Rattle.std.specs.Prelude.{Bool, List, codes, false, true, ℕ}
 use Rattle.tg_path.specs.declared.fault.QueryFault.{QueryFault}
 use Rattle.tg_path.specs.declared.fault.QueryFault.TheVariants as faults
@@ -8,8 +8,8 @@ use Rattle.tg_reply.specs.declared.refusal.Refusal.TheVariants.{BadBlock, BadFra
 use Rattle.tg_reply.specs.declared.status.Status.{Status}
 use Rattle.tg_reply.specs.declared.status.Status.TheVariants as statuses
 
--- parameters of a CAR that aren't served are not acceptable, all else of a query is a bad request; want of memory is no fault of
--- a request
+-- parameters of a CAR that aren't served are not acceptable, all else of a query is a bad request; want of memory is no
+-- fault of a request
 abbrev pub query_status : QueryFault → Status
 query_status faults.BadPath = statuses.BadRequest
 query_status (faults.BadCid fault) = statuses.BadRequest

@@ -1,5 +1,5 @@
--- The reply of a gateway over a store to the head of a request (Path Gateway and Trustless Gateway specifications; RFC 9110,
--- sections 9 and 15; RFC 9112, sections 6, 7 and 9).
+-- The reply of a gateway over a store to the head of a request (Path Gateway and Trustless Gateway specifications; RFC
+-- 9110, sections 9 and 15; RFC 9112, sections 6, 7 and 9).
 use Rattle.std.specs.Prelude.{Bool, Err, List, None, Ok, Option, Result, Some, [], false, if◌then◌else◌, length, not, true, ℕ, ◌&&◌, ◌++◌, ◌==◌, ◌||◌}
 use Rattle.tg_bytes.specs.Lists.{joined}
 use Rattle.tg_cid.specs.Cid.{CidParts}
@@ -23,8 +23,8 @@ use Rattle.tg_reply.specs.declared.refusal.Refusal.TheVariants.{BadBlock, Gone, 
 use Rattle.tg_reply.specs.declared.status.Status.{Status}
 use Rattle.tg_reply.specs.declared.status.Status.TheVariants as statuses
 
--- a reply: its status, its head, its body as it is framed, whether the body was cut before its end, and whether the connection
--- closes behind it
+-- a reply: its status, its head, its body as it is framed, whether the body was cut before its end, and whether the
+-- connection closes behind it
 pub record Reply : Type 0 where
   pub status : Status
   pub head : List ℕ

@@ -15,7 +15,8 @@ pub record BeginsRequest (bytes : List ℕ) (head : RequestHead) (rest : List �
   pub told : TellsRequest tree (length text) head
   pub whole : bytes ≡ text ++ rest
 
--- What is written for the bytes: the replies to their heads in order, up to the first that closes, or to bytes that are no head.
+-- What is written for the bytes: the replies to their heads in order, up to the first that closes, or to bytes that are
+-- no head.
 pub data Replies (store : Store) : List ℕ → List ℕ → Type 0 where
   -- no head is whole yet
   waits : (bytes : List ℕ) → IsWaiting bytes → Replies store bytes []

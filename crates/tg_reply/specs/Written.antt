@@ -1,4 +1,5 @@
--- The replies of a gateway over a store to a stream of bytes, as a function of the bytes (RFC 9112, sections 2.2 and 9.3).
+-- The replies of a gateway over a store to a stream of bytes, as a function of the bytes (RFC 9112, sections 2.2 and
+-- 9.3).
 use Rattle.std.specs.Prelude.{List, [], if◌then◌else◌, length, suc, zero, ℕ, ◌++◌}
 use Rattle.tg_model.specs.Stores.{Store}
 use Rattle.tg_reply.specs.FirstHead.{First, begins, first_head, no_head, passes_limit, waits}

@@ -8,8 +8,8 @@ ghost use Rattle.tg_reply.specs.Written.{replies_for};
 ghost use Rattle.tg_reply.specs.declared.refusal.Refusal.{Refusal};
 ghost use Rattle.tg_reply.specs.declared.status.Status.{Status};
 
-/// Replies with blocks: the CAR of the empty directory in chunks of 117 bytes, to `HEAD`, to HTTP/1.0, and as a raw block; and the
-/// CAR of a directory whose entry isn't stored, which is cut.
+/// Replies with blocks: the CAR of the empty directory in chunks of 117 bytes, to `HEAD`, to HTTP/1.0, and as a raw
+/// block; and the CAR of a directory whose entry isn't stored, which is cut.
 ///
 /// Trustless Gateway specification; RFC 9112, section 7.1.
 pub fn block_replies()
@@ -25,7 +25,8 @@ pub fn block_replies()
         ≡ record (open_reply Status.Ok folder_head folder_chunks) { cut = true; closes = true } }
 {}
 
-/// Replies to requests that are refused, over stores of three roots and of a directory alone, and to bytes that are no request.
+/// Replies to requests that are refused, over stores of three roots and of a directory alone, and to bytes that are no
+/// request.
 ///
 /// Path Gateway and Trustless Gateway specifications, response status codes.
 pub fn text_replies()
@@ -33,18 +34,27 @@ pub fn text_replies()
     ensures bad_method { reply three_roots (request (codes "POST") 1 empty_root []) ≡ bad_method }
     ensures bad_path { reply three_roots (get (codes "/ipns/x")) ≡ bad_request (codes "8") (codes "BadPath") }
     ensures bad_cid { reply three_roots (get (codes "/ipfs/x")) ≡ bad_request (codes "7") (codes "BadCid") }
-    ensures bad_format { reply three_roots (get (empty_root ++ codes "?format=zip")) ≡ bad_request (codes "10") (codes "BadFormat") }
-    ensures bad_scope { reply three_roots (get (empty_root ++ codes "?dag-scope=some")) ≡ bad_request (codes "9") (codes "BadScope") }
-    ensures bad_range { reply three_roots (get (empty_root ++ codes "?entity-bytes=5:3")) ≡ bad_request (codes "9") (codes "BadRange") }
-    ensures doubled { reply three_roots (get (empty_root ++ codes "?format=car&format=car")) ≡ bad_request (codes "8") (codes "Doubled") }
-    ensures bad_param { reply three_roots (request (codes "GET") 1 empty_root (codes "application/vnd.ipld.car; version=2" ∷ [])) ≡ not_acceptable }
-    ensures no_format { reply three_roots (request (codes "GET") 1 empty_root []) ≡ bad_request (codes "9") (codes "NoFormat") }
-    ensures raw_path { reply three_roots (get (empty_root ++ codes "/x?format=raw")) ≡ bad_request (codes "8") (codes "RawPath") }
+    ensures bad_format { reply three_roots (get (empty_root
+        ++ codes "?format=zip")) ≡ bad_request (codes "10") (codes "BadFormat") }
+    ensures bad_scope { reply three_roots (get (empty_root
+        ++ codes "?dag-scope=some")) ≡ bad_request (codes "9") (codes "BadScope") }
+    ensures bad_range { reply three_roots (get (empty_root
+        ++ codes "?entity-bytes=5:3")) ≡ bad_request (codes "9") (codes "BadRange") }
+    ensures doubled { reply three_roots (get (empty_root
+        ++ codes "?format=car&format=car")) ≡ bad_request (codes "8") (codes "Doubled") }
+    ensures bad_param { reply three_roots (request (codes "GET") 1 empty_root
+        (codes "application/vnd.ipld.car; version=2" ∷ [])) ≡ not_acceptable }
+    ensures no_format { reply three_roots (request (codes "GET") 1 empty_root []) ≡ bad_request (codes "9")
+        (codes "NoFormat") }
+    ensures raw_path { reply three_roots (get (empty_root
+        ++ codes "/x?format=raw")) ≡ bad_request (codes "8") (codes "RawPath") }
     ensures no_root { reply three_roots (get folder_root) ≡ not_found (codes "7") (codes "NoRoot") }
     ensures not_there { reply three_roots (get (empty_root ++ codes "/x")) ≡ not_found (codes "9") (codes "NotThere") }
-    ensures not_folder { reply three_roots (get (hello_root ++ codes "/x")) ≡ not_found (codes "10") (codes "NotFolder") }
+    ensures not_folder { reply three_roots (get (hello_root
+        ++ codes "/x")) ≡ not_found (codes "10") (codes "NotFolder") }
     ensures gone { reply folder_alone (get (folder_root ++ codes "/a")) ≡ server_error (codes "5") (codes "Gone") }
-    ensures bad_block { reply three_roots (get (unreadable_root ++ codes "/x")) ≡ server_error (codes "9") (codes "BadBlock") }
+    ensures bad_block { reply three_roots (get (unreadable_root
+        ++ codes "/x")) ≡ server_error (codes "9") (codes "BadBlock") }
     ensures store { refused_request (get empty_root) Refusal.Store ≡ server_error (codes "6") (codes "Store") }
     ensures head_limit { refused_bytes Refusal.HeadLimit ≡ head_limit }
     ensures bad_head { refused_bytes Refusal.BadHead ≡ bad_head }
@@ -57,21 +67,25 @@ pub fn text_replies()
 ///
 /// RFC 9112, section 9.3.
 pub fn two_replies()
-    ensures { Replies three_roots (request_lines first_target ++ request_lines second_target) (first_bytes ++ second_bytes) }
+    ensures { Replies three_roots (request_lines first_target ++ request_lines second_target) (first_bytes
+        ++ second_bytes) }
 {
     tg_http::laws::request_heads();
 }
 
-/// The same two replies, computed from the bytes; the first alone, where the second request isn't whole; and behind it that of
-/// `BadHead`, where the second is none.
+/// The same two replies, computed from the bytes; the first alone, where the second request isn't whole; and behind it
+/// that of `BadHead`, where the second is none.
 ///
 /// RFC 9112, section 9.3.
 pub fn computed_replies()
-    ensures both { replies_for three_roots (request_lines first_target ++ request_lines second_target) ≡ first_bytes ++ second_bytes }
+    ensures both { replies_for three_roots (request_lines first_target ++ request_lines second_target) ≡ first_bytes
+        ++ second_bytes }
     // Of the second request the first 40 bytes alone.
-    ensures waiting { replies_for three_roots (request_lines first_target ++ take 40 (request_lines second_target)) ≡ first_bytes }
+    ensures waiting { replies_for three_roots (request_lines first_target
+        ++ take 40 (request_lines second_target)) ≡ first_bytes }
     // A second head text of one word.
-    ensures no_head { replies_for three_roots (request_lines first_target ++ lines (codes "GET" ∷ [])) ≡ first_bytes ++ reply_bytes bad_head }
+    ensures no_head { replies_for three_roots (request_lines first_target ++ lines (codes "GET" ∷ [])) ≡ first_bytes
+        ++ reply_bytes bad_head }
 {
     text_replies();
 }

@@ -14,8 +14,9 @@ ghost use Rattle.tg_reply.specs.Laws.{CarReadsBack, RawReadsBack, RefusalsReadBa
 ghost use Rattle.tg_reply.specs.Readings.{CarReads, RawReads, RefusalsRead, RefusedBytesRead};
 ghost use Rattle.tg_reply.specs.declared.refusal.Refusal.{Refusal};
 
-/// The head of each reply reads back, whatever follows it, as a head with the status, type and framing that it was given and no
-/// coding: of refusals always, and of replies with blocks where it fits a head and the path is bytes of a field.
+/// The head of each reply reads back, whatever follows it, as a head with the status, type and framing that it was
+/// given and no coding: of refusals always, and of replies with blocks where it fits a head and the path is bytes of a
+/// field.
 ///
 /// RFC 9112, sections 4 to 6.
 pub fn reply_heads()
@@ -24,9 +25,9 @@ pub fn reply_heads()
     ensures car { CarReadsBack }
 {}
 
-/// The body of each reply with blocks, through a reader of bodies: a raw block and a text have their length; the parts of a CAR
-/// in chunks are a whole body, and cut they are the front of one that goes on; to HTTP/1.0 they go on until the connection
-/// closes.
+/// The body of each reply with blocks, through a reader of bodies: a raw block and a text have their length; the parts
+/// of a CAR in chunks are a whole body, and cut they are the front of one that goes on; to HTTP/1.0 they go on until
+/// the connection closes.
 ///
 /// RFC 9112, sections 6.3 and 7.1.
 pub fn reply_bodies()
@@ -36,8 +37,8 @@ pub fn reply_bodies()
     ensures plain { WholeUntilClose }
 {}
 
-/// The parts of a CAR are together the text of the CAR with the query's root alone, in its version 1 form, and with the sections,
-/// where their CIDs are spelled and their blocks are bytes and not too long; and no part is empty.
+/// The parts of a CAR are together the text of the CAR with the query's root alone, in its version 1 form, and with the
+/// sections, where their CIDs are spelled and their blocks are bytes and not too long; and no part is empty.
 ///
 /// CARv1 specification, Header and Data.
 pub fn car_bytes()
@@ -60,16 +61,17 @@ pub fn told_paths()
 
 /// A request is never refused for want of memory.
 pub fn no_memory()
-    ensures { (head : RequestHead) (fault : QueryFault) → asked head ≡ Err (Refusal.Query fault) → fault ≢ QueryFault.OutOfMemory }
+    ensures { (head : RequestHead) (fault : QueryFault) → asked head ≡ Err (Refusal.Query fault)
+        → fault ≢ QueryFault.OutOfMemory }
 {
     tg_path::laws::roots_read();
     tg_path::laws::paths_read();
     tg_path::laws::spans_read();
 }
 
-/// What a reader makes of the replies to `GET`: a refusal is its text, a raw block is the block, and a CAR that isn't cut is the
-/// CAR, each whole in the framing that its head states; where the head of a reply with blocks fits a head, the root is spelled,
-/// the names are bytes, and the sections are spelled.
+/// What a reader makes of the replies to `GET`: a refusal is its text, a raw block is the block, and a CAR that isn't
+/// cut is the CAR, each whole in the framing that its head states; where the head of a reply with blocks fits a head,
+/// the root is spelled, the names are bytes, and the sections are spelled.
 ///
 /// RFC 9112, sections 4 to 7; CARv1 specification.
 pub fn replies_read()
@@ -82,8 +84,8 @@ pub fn replies_read()
     car_bytes();
 }
 
-/// Of any DAG whose blocks below a depth are unopened the traversal gives the places of the whole one before the first that is
-/// deeper, and comes through exactly where the whole one does and no place is deeper.
+/// Of any DAG whose blocks below a depth are unopened the traversal gives the places of the whole one before the first
+/// that is deeper, and comes through exactly where the whole one does and no place is deeper.
 ///
 /// Trustless Gateway specification, dag-scope.
 pub fn cut_places()
@@ -106,8 +108,8 @@ pub fn asked_queries()
     tg_query::laws::targets_read();
 }
 
-/// The sections that a store of bytes gives for a query whose root is spelled are spelled: each is the root's, or its CID was read
-/// from a link, and its block is stored under it.
+/// The sections that a store of bytes gives for a query whose root is spelled are spelled: each is the root's, or its
+/// CID was read from a link, and its block is stored under it.
 ///
 /// Trustless Gateway specification, dag-scope.
 pub fn sent_sections()
@@ -116,8 +118,9 @@ pub fn sent_sections()
     tg_model::laws::readings();
 }
 
-/// What a reader makes of the reply to `GET` for a query that is asked, over a store of bytes, where the head of the reply fits a
-/// head: at a terminal the block, or the CAR where it isn't cut; and the text of the refusal where the path leads to none.
+/// What a reader makes of the reply to `GET` for a query that is asked, over a store of bytes, where the head of the
+/// reply fits a head: at a terminal the block, or the CAR where it isn't cut; and the text of the refusal where the
+/// path leads to none.
 ///
 /// RFC 9112, sections 4 to 7; CARv1 specification.
 pub fn asked_replies_read()

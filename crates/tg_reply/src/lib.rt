@@ -1,4 +1,5 @@
-//! What a gateway's reply to a request is: the query that a head asks, the text of a reply, and the replies to a stream of bytes.
+//! What a gateway's reply to a request is: the query that a head asks, the text of a reply, and the replies to a stream
+//! of bytes.
 #![tactic(auto)]
 
 mod examples;

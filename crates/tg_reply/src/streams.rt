@@ -3,8 +3,8 @@ ghost use Rattle.tg_reply.specs.FirstHead.{FirstHeads};
 ghost use Rattle.tg_reply.specs.Streams.{OneWriting};
 ghost use Rattle.tg_reply.specs.Written.{WritingComputes};
 
-/// The request at the front of bytes can be computed: whether one is whole, within the limits and of the grammar, what is told of
-/// it, and what follows it.
+/// The request at the front of bytes can be computed: whether one is whole, within the limits and of the grammar, what
+/// is told of it, and what follows it.
 ///
 /// RFC 9112, sections 2 to 6.
 pub fn first_heads()

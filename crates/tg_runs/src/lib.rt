@@ -2,7 +2,6 @@
 #![tactic(auto)]
 
 ghost use Rattle.std.specs.Option.{IsSome};
-ghost use Rattle.std.specs.Prelude.{◌<◌};
 
 use std::alloc::{AllocError, Global};
 use tg_app::run;
@@ -12,7 +11,7 @@ use tg_streams::{MemSink, MemSource};
 use tg_tree::{Sort, Tree};
 
 /// What a run left: its status, what went to out and to err, and what the pack holds.
-#[derive(Debug, Drop)]
+#[derive(Drop)]
 pub struct Outcome {
     pub status: u8,
     pub out: Vec<u8>,
@@ -43,8 +42,19 @@ pub type Failing<'a> = [&'a [u64]; 3];
 /// No call fails.
 pub const NONE: Failing<'static> = [&[], &[], &[]];
 
-/// Runs the words over an input in memory, by pieces of this size, an empty folder and an empty pack. The calls that fail are those of the
-/// input, of out and of err. The error is want of memory.
+/// What a run is over besides its words and the folder: the pack's content, the input, how many bytes a call of a
+/// stream moves at most, and the numbers of the calls that fail, of the folder, of the pack, of the input, of out and
+/// of err.
+#[derive(Clone, Copy)]
+struct Given<'a, 'f> {
+    content: &'a [u8],
+    input: &'a [u8],
+    piece: usize,
+    fails: [&'f [u64]; 5],
+}
+
+/// Runs the words over an input in memory, by pieces of this size, an empty folder and an empty pack. The calls that
+/// fail are those of the input, of out and of err. The error is want of memory.
 pub fn run_over_streams(
     alloc: Global,
     words: &[&str],
@@ -53,20 +63,18 @@ pub fn run_over_streams(
     failing: Failing<'_>,
 ) -> Result<Outcome, AllocError> {
     let [input_fails, out_fails, err_fails] = failing;
-    let fails = [&[], &[], input_fails, out_fails, err_fails];
-    run_over(
-        alloc,
-        words,
-        Tree::Folder(Vec::new(alloc)),
-        &[],
+    let given = Given {
+        content: &[],
         input,
         piece,
-        fails,
-    )
+        fails: [&[], &[], input_fails, out_fails, err_fails],
+    };
+    run_over(alloc, words, Tree::Folder(Vec::new(alloc)), &given)
 }
 
-/// Runs the words over a folder and a pack in memory, and no input. The calls that fail are those of the folder, of the pack and of out. A
-/// tree that is no folder whose names differ gives the status 255. The error is want of memory.
+/// Runs the words over a folder and a pack in memory, and no input. The calls that fail are those of the folder, of
+/// the pack and of out. A tree that is no folder whose names differ gives the status 255. The error is want of
+/// memory.
 pub fn run_over_files(
     alloc: Global,
     words: &[&str],
@@ -75,8 +83,13 @@ pub fn run_over_files(
     failing: Failing<'_>,
 ) -> Result<Outcome, AllocError> {
     let [folder_fails, pack_fails, out_fails] = failing;
-    let fails = [folder_fails, pack_fails, &[], out_fails, &[]];
-    run_over(alloc, words, tree, content, &[], 4096, fails)
+    let given = Given {
+        content,
+        input: &[],
+        piece: 4096,
+        fails: [folder_fails, pack_fails, &[], out_fails, &[]],
+    };
+    run_over(alloc, words, tree, &given)
 }
 
 /// A list of call numbers.
@@ -101,16 +114,6 @@ fn owned_words(alloc: Global, words: &[&str]) -> Result<Vec<String>, AllocError>
     Ok(list)
 }
 
-/// What a run is over.
-#[derive(Drop)]
-struct Objects {
-    folder: MemFolder,
-    pack: Option<MemPack>,
-    input: MemSource,
-    out: MemSink,
-    err: MemSink,
-}
-
 /// A folder of which the calls with these numbers fail, or none where the tree is no folder whose names differ.
 fn folder_of(alloc: Global, tree: Tree, fails: &[u64]) -> Result<Option<MemFolder>, AllocError> {
     if tree.sort() != Sort::Folder || !tree.names_differ() {
@@ -126,46 +129,64 @@ fn pack_of(alloc: Global, content: &[u8], fails: &[u64]) -> Result<MemPack, Allo
     Ok(MemPack::new(Bytes::of(alloc, content)?, fails))
 }
 
-/// An input of these bytes, of which one take moves so many at most.
+/// An input of these bytes, of which one take moves so many at most; 0 counts as 1.
 fn source_of(
     alloc: Global,
     bytes: &[u8],
     piece: usize,
     fails: &[u64],
-) -> Result<MemSource, AllocError>
-    requires { 0 < piece }
-{
+) -> Result<MemSource, AllocError> {
     let fails = numbers(alloc, fails)?;
-    Ok(MemSource::new(Bytes::of(alloc, bytes)?, piece, fails))
+    Ok(MemSource::new(Bytes::of(alloc, bytes)?, piece.max(1), fails))
 }
 
-/// A sink into which one put moves so many bytes at most.
-fn sink_of(alloc: Global, piece: usize, fails: &[u64]) -> Result<MemSink, AllocError>
-    requires { 0 < piece }
-{
-    Ok(MemSink::new(alloc, piece, numbers(alloc, fails)?))
+/// A sink into which one put moves so many bytes at most; 0 counts as 1.
+fn sink_of(alloc: Global, piece: usize, fails: &[u64]) -> Result<MemSink, AllocError> {
+    Ok(MemSink::new(alloc, piece.max(1), numbers(alloc, fails)?))
+}
+
+/// The streams of a run.
+#[derive(Drop)]
+struct Streams {
+    input: MemSource,
+    out: MemSink,
+    err: MemSink,
+}
+
+/// The streams that are given.
+fn streams_of(alloc: Global, given: &Given<'_, '_>) -> Result<Streams, AllocError> {
+    let [_, _, input_fails, out_fails, err_fails] = given.fails;
+    let out = sink_of(alloc, given.piece, out_fails)?;
+    let err = sink_of(alloc, given.piece, err_fails)?;
+    let input = source_of(alloc, given.input, given.piece, input_fails)?;
+    Ok(Streams { input, out, err })
 }
 
 /// The status of a run of these words.
-fn status_of(alloc: Global, words: &[String], objects: &mut Objects) -> u8
-    requires { IsSome objects.old.pack }
+fn status_of(
+    alloc: Global,
+    words: &[String],
+    folder: &mut MemFolder,
+    pack: &mut Option<MemPack>,
+    input: &mut MemSource,
+    out: &mut MemSink,
+    err: &mut MemSink,
+) -> u8
+    requires { IsSome pack.old }
 {
-    run(
-        alloc,
-        words,
-        &mut objects.folder,
-        &mut objects.pack,
-        &mut objects.input,
-        &mut objects.out,
-        &mut objects.err,
-    )
+    run(alloc, words, folder, pack, input, out, err)
 }
 
 /// What a run with this status left.
-fn outcome_of(alloc: Global, status: u8, objects: &Objects) -> Result<Outcome, AllocError> {
-    let out = Vec::from_slice(alloc, objects.out.held())?;
-    let err = Vec::from_slice(alloc, objects.err.held())?;
-    let pack = Vec::from_slice(alloc, content_of(&objects.pack))?;
+fn outcome_of(
+    alloc: Global,
+    status: u8,
+    pack: &Option<MemPack>,
+    streams: &Streams,
+) -> Result<Outcome, AllocError> {
+    let out = Vec::from_slice(alloc, streams.out.held())?;
+    let err = Vec::from_slice(alloc, streams.err.held())?;
+    let pack = Vec::from_slice(alloc, content_of(pack))?;
     Ok(Outcome {
         status,
         out,
@@ -174,30 +195,51 @@ fn outcome_of(alloc: Global, status: u8, objects: &Objects) -> Result<Outcome, A
     })
 }
 
-/// Runs the words over these objects, of which the calls with these numbers fail: of the folder, the pack, the input, out and err. The
-/// input, out and err move so many bytes a call at most; 0 counts as 1.
+/// Runs the words over a folder, a pack and streams, and tells what is left.
+fn run_in(
+    alloc: Global,
+    words: &[String],
+    mut folder: MemFolder,
+    pack: MemPack,
+    mut streams: Streams,
+) -> Result<Outcome, AllocError> {
+    let mut pack = Some(pack);
+    let status = status_of(
+        alloc,
+        words,
+        &mut folder,
+        &mut pack,
+        &mut streams.input,
+        &mut streams.out,
+        &mut streams.err,
+    );
+    outcome_of(alloc, status, &pack, &streams)
+}
+
+/// Runs the words over a folder and what else is given.
+fn run_given(
+    alloc: Global,
+    words: &[&str],
+    folder: MemFolder,
+    given: &Given<'_, '_>,
+) -> Result<Outcome, AllocError> {
+    let [_, pack_fails, _, _, _] = given.fails;
+    let words = owned_words(alloc, words)?;
+    let streams = streams_of(alloc, given)?;
+    let pack = pack_of(alloc, given.content, pack_fails)?;
+    run_in(alloc, words.as_slice(), folder, pack, streams)
+}
+
+/// Runs the words over the folder of a tree and what else is given.
 fn run_over(
     alloc: Global,
     words: &[&str],
     tree: Tree,
-    content: &[u8],
-    input: &[u8],
-    piece: usize,
-    fails: [&[u64]; 5],
+    given: &Given<'_, '_>,
 ) -> Result<Outcome, AllocError> {
-    let piece = piece.max(1);
-    let [folder_fails, pack_fails, input_fails, out_fails, err_fails] = fails;
-    let Some(folder) = folder_of(alloc, tree, folder_fails)? else {
-        return Ok(Outcome::of_no_folder(alloc));
-    };
-    let mut objects = Objects {
-        folder,
-        pack: Some(pack_of(alloc, content, pack_fails)?),
-        input: source_of(alloc, input, piece, input_fails)?,
-        out: sink_of(alloc, piece, out_fails)?,
-        err: sink_of(alloc, piece, err_fails)?,
-    };
-    let words = owned_words(alloc, words)?;
-    let status = status_of(alloc, words.as_slice(), &mut objects);
-    outcome_of(alloc, status, &objects)
+    let [folder_fails, _, _, _, _] = given.fails;
+    match folder_of(alloc, tree, folder_fails)? {
+        Some(folder) => run_given(alloc, words, folder, given),
+        None => Ok(Outcome::of_no_folder(alloc)),
+    }
 }

@@ -24,7 +24,8 @@ use Rattle.tg_store.specs.Entries.{store_of}
 use Rattle.tg_store.specs.Keys.{key_of, of_hash, same_key}
 use Rattle.tg_store.specs.Packs.{AreSmall, IsIndexed, block_at, unfinished_root}
 
--- the block of the first section under each CID, by its version 1 form; nothing is under a CID of another hash than sha2-256
+-- the block of the first section under each CID, by its version 1 form; nothing is under a CID of another hash than
+-- sha2-256
 abbrev pub first_under : Key → List CarSection → Option (List ℕ)
 first_under key [] = None
 first_under key (section ∷ sections) = cond (same_key key (key_of section.cid)) (Some section.block) (first_under key sections)

@@ -83,7 +83,7 @@ grew_nothing (Some old) (Some new) p q e f =
 
 module _ {P : Type 0} (m : PackMeaning P) (rests : (p : P) → m.did p p []) (joins : (a b c : P) (u v : List PackWrite) → m.did a b u → m.did b c v → m.did a c (u ++ v)) where
   pub did_nothing : (p : P) → Did [] (pack_step m p p)
-  did_nothing p = record { moved = rests p; content = refl }
+  did_nothing p = record { moved = rests p; content = refl; place = refl }
 
   pub searched_rests : (s : PackStoreState P) → HasSearched m s s
   searched_rests s = record { did = did_nothing s.pack; fresh = refl; places = refl; end = refl }

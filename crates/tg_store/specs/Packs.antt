@@ -72,7 +72,7 @@ pub record HasSearched {P : Type 0} (m : PackMeaning P) (a b : PackStoreState P)
 abbrev pub IsGrowth : PackWrite → Type 0
 IsGrowth (append bytes) = ⊤
 IsGrowth torn = ⊤
-IsGrowth (attach fresh) = ⊥
+IsGrowth (attach path fresh) = ⊥
 IsGrowth (overwrite offset bytes) = ⊥
 
 -- a section as it stands in a CAR
@@ -98,7 +98,8 @@ pub record HasGrown (old new : List ℕ) (before after : List (Key × Place)) (s
   pub entries : after ≡ before ++ places
   pub placed : ArePlacedAt (length old) sections texts places
 
--- where the content is told, it grew by the texts of the sections under whose keys nothing stood, each key once, in order
+-- where the content is told, it grew by the texts of the sections under whose keys nothing stood, each key once, in
+-- order
 abbrev pub GrewBy : Option (List ℕ) → Option (List ℕ) → List (Key × Place) → List (Key × Place) → List Section → Type 0
 GrewBy old None before after sections = ⊤
 GrewBy None (Some new) before after sections = ⊥

@@ -37,7 +37,8 @@ struct Indexing {
 pub(crate) fn scan<P: Pack>(alloc: Global, pack: &mut P) -> Result<Found, PackFault>
     ensures same { SameContent (pack_step P.pack pack.old pack.new) }
     ensures found { MatchResult result
-        (λ found. PackQuiet (pack_step P.pack pack.old pack.new) × IsFound (P.pack.content pack.old) found.places.entries found.end)
+        (λ found. PackQuiet (pack_step P.pack pack.old pack.new)
+        × IsFound (P.pack.content pack.old) found.places.entries found.end)
         (λ fault. IsRefusal (pack_step P.pack pack.old pack.new) fault) }
 {
     let Ok(mut room) = zeros(alloc, PIECE_LEN) else {
@@ -71,7 +72,8 @@ impl Indexing {
     /// Reads a piece of the pack, and says how many bytes it has: none at the pack's end.
     fn read_on<P: Pack>(&mut self, pack: &mut P, buffer: &mut [u8]) -> Result<usize, PackFault>
         requires room { 0 < length buffer.old }
-        requires before { IsReadTo self.old.reader self.old.found.places.entries (P.pack.content pack.old) self.old.found.end }
+        requires before { IsReadTo self.old.reader self.old.found.places.entries
+            (P.pack.content pack.old) self.old.found.end }
         ensures same { SameContent (pack_step P.pack pack.old pack.new) }
         ensures after { MatchResult result
             (λ count. PackQuiet (pack_step P.pack pack.old pack.new)
@@ -128,7 +130,8 @@ impl Indexing {
 
     /// What was found, once the pack was read to its end.
     fn close(self) -> Result<Found, PackFault>
-        ensures { (fed : List ℕ) → IsAlong self.reader self.found.places.entries fed → length fed ≡ self.found.end → MatchResult result
+        ensures { (fed : List ℕ) → IsAlong self.reader self.found.places.entries fed → length fed ≡ self.found.end
+            → MatchResult result
             (λ found. IsFound (Some fed) found.places.entries found.end) (λ fault. HasPackCause fed fault) }
     {
         tg_varint::laws::spelling_laws();
@@ -163,7 +166,8 @@ fn note_section(
     size: u64,
     section: &Section,
 ) -> Result<(), PackFault>
-    ensures { MatchResult result (λ _. Noted (Event.Section at size section.now ∷ []) places.old.entries places.new.entries)
+    ensures { MatchResult result (λ _. Noted (Event.Section at size section.now
+        ∷ []) places.old.entries places.new.entries)
         (λ fault. IsNotNoted (Event.Section at size section.now) fault) }
 {
     let block = section.block.as_slice();

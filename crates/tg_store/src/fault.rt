@@ -2,8 +2,8 @@
 use tg_car::CarFault;
 use thiserror::Error;
 
-/// Why a pack can't be made, finished or attached as a store. `at` is the offset of a section, 0 for the header, and stands
-/// still at 2 ^ 64 - 1.
+/// Why a pack can't be made, finished or attached as a store. `at` is the offset of a section, 0 for the header, and
+/// stands still at 2 ^ 64 - 1.
 #[derive(Clone, Copy, Debug, PartialEq, Eq, Error)]
 pub enum PackFault {
     /// No CAR goes on so inside the header or the section at `at`.

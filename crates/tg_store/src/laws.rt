@@ -14,26 +14,32 @@ use crate::pack_store::PackStore;
 use tg_files::Pack;
 use tg_model::Keep;
 
-/// Once sections were kept in a store that was created, its pack holds, as far as it is told, the CAR of the unfinished root
-/// and of these sections in order, each CID once. `finish` puts another root in its place.
+/// Once sections were kept in a store that was created, its pack holds, as far as it is told, the CAR of the unfinished
+/// root and of these sections in order, each CID once. `finish` puts another root in its place.
 ///
 /// CARv1 specification.
 pub fn pack_laws<P: Pack>()
-    ensures { (a b : PackStoreState P) (sections : List Section) (content : List ℕ) → IsNew P.pack a → HasKept P.pack a b sections
-        → P.pack.content b.pack ≡ Some content → CarText (unfinished_root ∷ []) (map in_car (first_of_each sections)) content }
+    ensures { (a b : PackStoreState P) (sections : List Section) (content : List ℕ) → IsNew P.pack a
+        → HasKept P.pack a b sections
+        → P.pack.content b.pack ≡ Some content → CarText (unfinished_root
+        ∷ []) (map in_car (first_of_each sections)) content }
 {}
 
-/// A pack that was created, in which sections were kept and which was finished, is attached again, as far as it is told, and as the
-/// same map: what it holds is a CAR that no cause refuses, and under each CID stands the block that the store told. What is attached
-/// of one content is the same at every CID.
+/// A pack that was created, in which sections were kept and which was finished, is attached again, as far as it is
+/// told, and as the same map: what it holds is a CAR that no cause refuses, and under each CID stands the block that
+/// the store told. What is attached of one content is the same at every CID.
 ///
 /// CARv1 specification.
 pub fn finished_packs<P: Pack>()
-    ensures attached { (a b c : PackStoreState P) (sections : List Section) (root : CidParts) (content : List ℕ) → IsNew P.pack a
-        → Kept sections (kept_in ⟦<PackStore<P> as Keep>⟧.keeper a b) → IsFinished P.pack b c root → root.version ≡ 1 → root ≢ unfinished_cid
+    ensures attached { (a b c : PackStoreState P) (sections : List Section) (root : CidParts) (content : List ℕ)
+        → IsNew P.pack a
+        → Kept sections (kept_in ⟦<PackStore<P> as Keep>⟧.keeper a b) → IsFinished P.pack b c root → root.version ≡ 1
+        → root ≢ unfinished_cid
         → P.pack.content c.pack ≡ Some content
-        → IsAttached content (store_of (block_at content) c.places) × ((fault : PackFault) → HasPackCause content fault → ⊥) }
-    ensures same { (content : List ℕ) (s t : Store) (cid : CidParts) → IsAttached content s → IsAttached content t → s cid ≡ t cid }
+        → IsAttached content (store_of (block_at content) c.places)
+        × ((fault : PackFault) → HasPackCause content fault → ⊥) }
+    ensures same { (content : List ℕ) (s t : Store) (cid : CidParts) → IsAttached content s → IsAttached content t
+        → s cid ≡ t cid }
 {
     tg_varint::laws::spelling_laws();
     tg_car::laws::car_laws();
@@ -46,7 +52,8 @@ pub fn finished_packs<P: Pack>()
 /// CARv1 specification.
 pub fn one_cause()
     ensures one { (content : List ℕ) (f g : PackFault) → HasPackCause content f → HasPackCause content g → f ≡ g }
-    ensures none { (content : List ℕ) (store : Store) (fault : PackFault) → IsAttached content store → HasPackCause content fault → ⊥ }
+    ensures none { (content : List ℕ) (store : Store) (fault : PackFault) → IsAttached content store
+        → HasPackCause content fault → ⊥ }
 {
     tg_varint::laws::spelling_laws();
     tg_car::laws::car_laws();

@@ -12,8 +12,8 @@ use tg_bytes::Bytes;
 use tg_cid::Cid;
 use tg_model::{Blocks, BlocksFault, Keep, KeepFault};
 
-/// A store in memory, which contracts see as its blocks by their keys, in the order in which they were kept. It always tells
-/// what it holds, and its count of faults is 0.
+/// A store in memory, which contracts see as its blocks by their keys, in the order in which they were kept. It always
+/// tells what it holds, and its count of faults is 0.
 #[derive(Drop)]
 pub struct MemStore {
     alloc: Global,

@@ -39,8 +39,9 @@ pub(crate) const UNFINISHED_HEADER: [u8; HEADER_LEN] = [
     0, 0, 0x67, b'v', b'e', b'r', b's', b'i', b'o', b'n', 1,
 ];
 
-/// A store in a pack, which holds a CAR: for each CID it keeps the offset and the length of the block of the first section,
-/// and no block. It tells what is stored exactly where its pack tells its content, and its count of faults is the pack's.
+/// A store in a pack, which holds a CAR: for each CID it keeps the offset and the length of the block of the first
+/// section, and no block. It tells what is stored exactly where its pack tells its content, and its count of faults is
+/// the pack's.
 ///
 /// CARv1 specification.
 #[derive(Drop)]
@@ -90,8 +91,8 @@ impl<P: Pack> PackStore<P> {
 
     /// Writes the root over the one of the header. Sections may be kept after it, and it may be called again.
     ///
-    /// CARv1 specification, Header. Errors: `Failed` where the pack failed and counted it, after which it tells nothing; and
-    /// `OutOfMemory`, with which nothing is done.
+    /// CARv1 specification, Header. Errors: `Failed` where the pack failed and counted it, after which it tells
+    /// nothing; and `OutOfMemory`, with which nothing is done.
     pub fn finish(&mut self, root: Cid) -> Result<(), PackFault>
         requires fresh { self.old.fresh ≡ true }
         requires version { root.version ≡ 1 }
@@ -111,13 +112,13 @@ impl<P: Pack> PackStore<P> {
         }
     }
 
-    /// A store of what a pack holds, which is read through, by pieces of 65,536 bytes at most, and checked: of the sections
-    /// under one CID the first counts, a CIDv0 being taken as its CIDv1 form. The pack isn't changed.
+    /// A store of what a pack holds, which is read through, by pieces of 65,536 bytes at most, and checked: of the
+    /// sections under one CID the first counts, a CIDv0 being taken as its CIDv1 form. The pack isn't changed.
     ///
-    /// CARv1 specification. Errors, with which the pack is given back, at the first place in it where one holds: `NotCar` where
-    /// no CAR goes on so; `BlockLimit` where a section declares a block above the limit; `BadDigest` where a CID doesn't name
-    /// its block; `Unfinished` where `finish` wasn't called; `Truncated` where the pack ends inside the header or a section.
-    /// Besides, `Failed` where the pack failed and counted it, and `OutOfMemory`.
+    /// CARv1 specification. Errors, with which the pack is given back, at the first place in it where one holds:
+    /// `NotCar` where no CAR goes on so; `BlockLimit` where a section declares a block above the limit; `BadDigest`
+    /// where a CID doesn't name its block; `Unfinished` where `finish` wasn't called; `Truncated` where the pack ends
+    /// inside the header or a section. Besides, `Failed` where the pack failed and counted it, and `OutOfMemory`.
     pub fn attach_pack(alloc: Global, pack: P) -> Result<PackStore<P>, PackRefused<P>>
         ensures attached { IfOk result (λ store. HasAttached P.pack pack store) }
         ensures refused { IfErr result (λ refused. HasRefused P.pack pack refused) }

@@ -16,7 +16,8 @@ use tg_faults::Failed;
 use tg_files::Pack;
 use tg_model::KeepFault;
 
-/// Adds the section at the end of the pack, which is at `end`, and its block's place under the key, where nothing stands.
+/// Adds the section at the end of the pack, which is at `end`, and its block's place under the key, where nothing
+/// stands.
 pub(crate) fn add_section<P: Pack>(
     pack: &mut P,
     places: &mut IndexMap<Key, Place>,
@@ -66,7 +67,8 @@ fn add_place(places: &mut IndexMap<Key, Place>, key: Key, place: Place)
 /// Adds the one bytes and then the others at the end of the pack.
 fn append_both<P: Pack>(pack: &mut P, first: &[u8], second: &[u8]) -> Result<(), Failed>
     ensures { MatchResult result
-        (λ _. Appended (first.now ++ second.now) (pack_step P.pack pack.old pack.new) × PackQuiet (pack_step P.pack pack.old pack.new))
+        (λ _. Appended (first.now ++ second.now) (pack_step P.pack pack.old pack.new)
+        × PackQuiet (pack_step P.pack pack.old pack.new))
         (λ _. Torn (pack_step P.pack pack.old pack.new) × PackRose (pack_step P.pack pack.old pack.new)) }
 {
     pack.append(first)?;

@@ -1,9 +1,10 @@
 //! Stores whose pack fails at one call after another, and stores in memory.
 ghost use Rattle.std.specs.Prelude.{◌≡◌, ◌≤◌, length, OnOk};
 
-use crate::rows::{DIRECTORY, DIRECTORY_ONE, DIRECTORY_ZERO, HEADER, SECTION};
+use crate::rows::{
+    DIRECTORY, DIRECTORY_ONE, DIRECTORY_ZERO, HEADER, SECTION, gives, gives_under, joined, lacks,
+};
 use std::alloc::Global;
-use std::test::Fail;
 use tg_bytes::{Bytes, List};
 use tg_cid::{Cid, Codec};
 use tg_files::MemPack;
@@ -30,15 +31,24 @@ enum Fails {
     Nowhere,
 }
 
-/// A pack of these bytes, whose call with this number fails.
-fn pack_of(alloc: Global, parts: &[&[u8]], number: u64) -> Result<MemPack, Fail> {
-    let mut bytes = Bytes::new(alloc);
-    for part in parts {
-        bytes.push_all(part)?;
-    }
+/// The number alone, or none where memory is wanted.
+fn fails_at(alloc: Global, number: u64) -> Option<List<u64>> {
     let mut fails = List::new(alloc);
-    fails.push(number)?;
-    Ok(MemPack::new(bytes, fails))
+    match fails.push(number) {
+        Ok(()) => Some(fails),
+        Err(_) => None,
+    }
+}
+
+/// A pack of these bytes, whose call with this number fails.
+fn pack_of(alloc: Global, parts: &[&[u8]], number: u64) -> Option<MemPack> {
+    let Some(bytes) = joined(alloc, parts) else {
+        return None;
+    };
+    match fails_at(alloc, number) {
+        Some(fails) => Some(MemPack::new(bytes, fails)),
+        None => None,
+    }
 }
 
 /// Keeps the block, where the CID names it.
@@ -49,8 +59,7 @@ fn keep(store: &mut PackStore<MemPack>, cid: Cid, block: &[u8]) -> Result<(), Ke
     if !cid.holds(block) {
         return Ok(());
     }
-    store.keep(cid, block)?;
-    Ok(())
+    store.keep(cid, block)
 }
 
 /// Keeps the directory, the same under its CIDv0, `hello world`, and the directory's bytes as raw ones.
@@ -60,31 +69,37 @@ fn keep_all(store: &mut PackStore<MemPack>, zero: Cid) -> Result<(), KeepFault>
     keep(store, Cid::of_block(Codec::DagPb, DIRECTORY), DIRECTORY)?;
     keep(store, zero, DIRECTORY)?;
     keep(store, Cid::of_block(Codec::Raw, HELLO), HELLO)?;
-    keep(store, Cid::of_block(Codec::Raw, DIRECTORY), DIRECTORY)?;
-    Ok(())
+    keep(store, Cid::of_block(Codec::Raw, DIRECTORY), DIRECTORY)
 }
 
-/// Creates a store in an empty pack whose call with this number fails, keeps blocks and finishes it.
-fn make(alloc: Global, number: u64) -> Result<(Fails, MemPack), Fail> {
-    let zero = Cid::from_bytes(DIRECTORY_ZERO)?;
-    let mut fails = List::new(alloc);
-    fails.push(number)?;
-    let pack = MemPack::new(Bytes::new(alloc), fails);
-    let mut store = match PackStore::create(alloc, pack) {
+/// Creates a store in the pack, keeps blocks and finishes it.
+fn make(alloc: Global, fails: List<u64>, zero: Cid) -> (Fails, MemPack) {
+    let mut store = match PackStore::create(alloc, MemPack::new(Bytes::new(alloc), fails)) {
         Ok(store) => store,
-        Err(refused) => return Ok((Fails::Create, refused.pack)),
+        Err(refused) => return (Fails::Create, refused.pack),
     };
     let Ok(()) = keep_all(&mut store, zero) else {
-        return Ok((Fails::Keep, store.into_pack()));
+        return (Fails::Keep, store.into_pack());
     };
     match store.finish(Cid::of_block(Codec::DagPb, DIRECTORY)) {
-        Ok(()) => Ok((Fails::Nowhere, store.into_pack())),
-        Err(_) => Ok((Fails::Finish, store.into_pack())),
+        Ok(()) => (Fails::Nowhere, store.into_pack()),
+        Err(_) => (Fails::Finish, store.into_pack()),
+    }
+}
+
+/// Does the same in an empty pack whose call with this number fails.
+fn make_failing(alloc: Global, number: u64) -> Option<(Fails, MemPack)> {
+    let Ok(zero) = Cid::from_bytes(DIRECTORY_ZERO) else {
+        return None;
+    };
+    match fails_at(alloc, number) {
+        Some(fails) => Some(make(alloc, fails, zero)),
+        None => None,
     }
 }
 
 // Which call fails, and where that is.
-const CALLS: [(u64, Fails); 9] = [
+const CALLS: &[(u64, Fails)] = &[
     (0, Fails::Create),
     (1, Fails::Keep),
     (2, Fails::Keep),
@@ -99,99 +114,150 @@ const CALLS: [(u64, Fails); 9] = [
 // A number that no call has.
 const NO_CALL: u64 = 1_000;
 
-#[test]
-fn packs_are_made_and_each_call_fails(rt: HostRuntime) -> Result<(), Fail> {
-    let mut wanted = Bytes::new(rt.alloc());
-    for part in [HEADER, SECTION, HELLO_SECTION, RAW_SECTION] {
-        wanted.push_all(part)?;
+/// Whether the pack holds the CAR of what was kept, and none of its calls failed.
+fn is_whole(alloc: Global, pack: &MemPack) -> bool {
+    match joined(alloc, &[HEADER, SECTION, HELLO_SECTION, RAW_SECTION]) {
+        Some(wanted) => pack.count() == 0 && pack.content() == Some(wanted.as_slice()),
+        None => false,
     }
+}
+
+/// Whether the call with this number fails there, after which the pack holds nothing.
+fn fails_there(alloc: Global, number: u64, wanted: Fails) -> bool {
+    match make_failing(alloc, number) {
+        Some((Fails::Nowhere, pack)) => wanted == Fails::Nowhere && is_whole(alloc, &pack),
+        Some((failed, pack)) => failed == wanted && pack.count() == 1 && pack.content().is_none(),
+        None => false,
+    }
+}
+
+#[test]
+fn packs_are_made_and_each_call_fails(rt: HostRuntime) {
     for (number, fails) in CALLS {
-        let (failed, pack) = make(rt.alloc(), number)?;
-        assert_eq!(rt; failed, fails);
-        if fails == Fails::Nowhere {
-            assert_eq!(rt; pack.count(), 0);
-            assert!(rt; pack.content() == Some(wanted.as_slice()));
-        } else {
-            assert_eq!(rt; pack.count(), 1);
-            assert!(rt; pack.content().is_none());
+        assert!(rt; fails_there(rt.alloc(), *number, *fails), "{number}");
+    }
+}
+
+/// Whether the pack is attached, and gives the directory by both of its CIDs, the directory's bytes as raw ones, and
+/// `hello world`.
+fn gives_all(alloc: Global, pack: MemPack) -> bool {
+    match PackStore::attach_pack(alloc, pack) {
+        Ok(mut store) => {
+            gives(&mut store, DIRECTORY_ONE, DIRECTORY)
+                && gives(&mut store, DIRECTORY_ZERO, DIRECTORY)
+                && gives_under(&mut store, Cid::of_block(Codec::Raw, DIRECTORY), DIRECTORY)
+                && gives_under(&mut store, Cid::of_block(Codec::Raw, HELLO), HELLO)
+        }
+        Err(_) => false,
+    }
+}
+
+/// Whether a pack that was finished is attached.
+fn is_attached(alloc: Global) -> bool {
+    match make_failing(alloc, NO_CALL) {
+        Some((Fails::Nowhere, pack)) => gives_all(alloc, pack),
+        _ => false,
+    }
+}
+
+#[test]
+fn a_finished_pack_is_attached(rt: HostRuntime) {
+    assert!(rt; is_attached(rt.alloc()));
+}
+
+/// Where a call of the pack fails: as it is attached, at the first look-up behind it, at the second, or at none.
+#[derive(Clone, Copy, PartialEq, Eq)]
+enum Told {
+    Attached,
+    First,
+    Second,
+    Nowhere,
+}
+
+// The calls of `attach_pack` are a read of the pack and one that finds its end; then comes that of each look-up.
+const TOLD: &[(u64, Told)] = &[
+    (0, Told::Attached),
+    (1, Told::Attached),
+    (2, Told::First),
+    (3, Told::Second),
+    (4, Told::Nowhere),
+];
+
+/// Whether the look-up of the directory fails.
+fn fails_once(store: &mut PackStore<MemPack>) -> bool {
+    match Cid::from_bytes(DIRECTORY_ONE) {
+        Ok(cid) => store.get(&cid).err() == Some(BlocksFault::Failed),
+        Err(_) => false,
+    }
+}
+
+/// Whether of two look-ups of the directory just this one fails.
+fn is_told_by(store: &mut PackStore<MemPack>, wanted: Told) -> bool {
+    match wanted {
+        Told::Attached => false,
+        Told::First => fails_once(store) && gives(store, DIRECTORY_ONE, DIRECTORY),
+        Told::Second => gives(store, DIRECTORY_ONE, DIRECTORY) && fails_once(store),
+        Told::Nowhere => {
+            gives(store, DIRECTORY_ONE, DIRECTORY) && gives(store, DIRECTORY_ONE, DIRECTORY)
         }
     }
-    Ok(())
 }
 
-/// Whether the store gives this block under the CID.
-fn gives<B: Blocks>(store: &mut B, cid: Cid, block: &[u8]) -> bool {
-    match store.get(&cid) {
-        Ok(Some(found)) => found.as_slice() == block,
-        Ok(None) | Err(_) => false,
-    }
-}
-
-/// Whether the store gives the directory by both of its CIDs, the directory's bytes as raw ones, and `hello world`.
-fn gives_all<B: Blocks>(store: &mut B, one: Cid, zero: Cid) -> bool {
-    gives(store, one, DIRECTORY)
-        && gives(store, zero, DIRECTORY)
-        && gives(store, Cid::of_block(Codec::Raw, DIRECTORY), DIRECTORY)
-        && gives(store, Cid::of_block(Codec::Raw, HELLO), HELLO)
-}
-
-#[test]
-fn a_finished_pack_is_attached(rt: HostRuntime) -> Result<(), Fail> {
-    let one = Cid::from_bytes(DIRECTORY_ONE)?;
-    let zero = Cid::from_bytes(DIRECTORY_ZERO)?;
-    let (failed, pack) = make(rt.alloc(), NO_CALL)?;
-    assert_eq!(rt; failed, Fails::Nowhere);
-    let attached = PackStore::attach_pack(rt.alloc(), pack).map_err(|refused| refused.fault);
-    let mut store = attached?;
-    assert!(rt; gives_all(&mut store, one, zero));
-    Ok(())
-}
-
-// The calls of `attach_pack` are a read of the pack and one that finds its end; then comes that of `get`.
-#[test]
-fn a_pack_that_fails_is_told(rt: HostRuntime) -> Result<(), Fail> {
-    let one = Cid::from_bytes(DIRECTORY_ONE)?;
-    for number in 0..5u64 {
-        let pack = pack_of(rt.alloc(), &[HEADER, SECTION], number)?;
-        match PackStore::attach_pack(rt.alloc(), pack) {
-            Ok(mut store) => {
-                assert!(rt; number >= 2);
-                let first = store.get(&one);
-                if number == 2 {
-                    assert_eq!(rt; first.err(), Some(BlocksFault::Failed));
-                }
-                let second = store.get(&one);
-                if number == 3 {
-                    assert_eq!(rt; second.err(), Some(BlocksFault::Failed));
-                } else {
-                    assert_eq!(rt; second?.ok_or("stored")?.as_slice(), DIRECTORY);
-                }
-            }
-            Err(refused) => {
-                assert!(rt; number < 2);
-                assert_eq!(rt; refused.fault, PackFault::Failed);
-                assert_eq!(rt; refused.pack.count(), 1);
-            }
+/// Whether the fault of the call with this number is told there.
+fn is_told(alloc: Global, number: u64, wanted: Told) -> bool {
+    let Some(pack) = pack_of(alloc, &[HEADER, SECTION], number) else {
+        return false;
+    };
+    match PackStore::attach_pack(alloc, pack) {
+        Ok(mut store) => is_told_by(&mut store, wanted),
+        Err(refused) => {
+            wanted == Told::Attached
+                && refused.fault == PackFault::Failed
+                && refused.pack.count() == 1
         }
     }
-    Ok(())
 }
 
 #[test]
-fn blocks_are_kept_in_memory(rt: HostRuntime) -> Result<(), Fail> {
-    let one = Cid::from_bytes(DIRECTORY_ONE)?;
-    let zero = Cid::from_bytes(DIRECTORY_ZERO)?;
-    let raw = Cid::of_block(Codec::Raw, DIRECTORY);
-    for (first, second) in [(one, zero), (zero, one)] {
-        let mut store = MemStore::new(rt.alloc());
-        assert!(rt; store.get(&first)?.is_none());
-        assert!(rt; first.holds(DIRECTORY));
-        assert_eq!(rt; store.keep(first, DIRECTORY), Ok(()));
-        assert_eq!(rt; store.get(&second)?.ok_or("kept")?.as_slice(), DIRECTORY);
-        assert!(rt; store.get(&raw)?.is_none());
-        assert!(rt; second.holds(DIRECTORY));
-        assert_eq!(rt; store.keep(second, DIRECTORY), Ok(()));
-        assert_eq!(rt; store.get(&first)?.ok_or("kept")?.as_slice(), DIRECTORY);
+fn a_pack_that_fails_is_told(rt: HostRuntime) {
+    for (number, wanted) in TOLD {
+        assert!(rt; is_told(rt.alloc(), *number, *wanted), "{number}");
     }
-    Ok(())
+}
+
+/// Whether the CID names the directory, which is kept.
+fn is_kept(store: &mut MemStore, cid: Cid) -> bool {
+    cid.holds(DIRECTORY) && store.keep(cid, DIRECTORY).is_ok()
+}
+
+/// Whether the directory is kept under the one CID and then under the other, and is given under both from the first on.
+fn are_kept(alloc: Global, first: Cid, second: Cid) -> bool {
+    let mut store = MemStore::new(alloc);
+    lacks(&mut store, first)
+        && is_kept(&mut store, first)
+        && gives_under(&mut store, second, DIRECTORY)
+        && lacks(&mut store, Cid::of_block(Codec::Raw, DIRECTORY))
+        && is_kept(&mut store, second)
+        && gives_under(&mut store, first, DIRECTORY)
+}
+
+/// Whether it is so of the CIDs with these bytes.
+fn are_kept_by(alloc: Global, first: &[u8], second: &[u8]) -> bool {
+    match (Cid::from_bytes(first), Cid::from_bytes(second)) {
+        (Ok(first), Ok(second)) => are_kept(alloc, first, second),
+        _ => false,
+    }
+}
+
+/// What the first CID is, and both.
+const ORDERS: &[(&str, &[u8], &[u8])] = &[
+    ("CIDv1", DIRECTORY_ONE, DIRECTORY_ZERO),
+    ("CIDv0", DIRECTORY_ZERO, DIRECTORY_ONE),
+];
+
+#[test]
+fn blocks_are_kept_in_memory(rt: HostRuntime) {
+    for (name, first, second) in ORDERS {
+        assert!(rt; are_kept_by(rt.alloc(), first, second), "{name}");
+    }
 }

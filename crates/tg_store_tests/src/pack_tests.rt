@@ -1,55 +1,142 @@
 //! Packs attached: their blocks, and why they are refused.
 use crate::changing_pack::ChangingPack;
 use crate::rows::{
-    DIGEST, DIRECTORY, DIRECTORY_ONE, DIRECTORY_ZERO, HEADER, NO_ROOT, OTHER_ROOT, SECTION,
-    TOO_LARGE, TURNED_DIGEST, TWO_ROOTS, UNFINISHED, ZERO_SECTION, attach,
+    DIGEST, DIRECTORY, DIRECTORY_ONE, HEADER, NO_ROOT, OTHER_ROOT, SECTION, TOO_LARGE,
+    TURNED_DIGEST, TWO_ROOTS, UNFINISHED, ZERO_SECTION, ZEROS, ZEROS_HEAD, attach, gives,
+    gives_directory, joined,
 };
-use std::test::Fail;
+use std::alloc::Global;
 use tg_bytes::{Bytes, List};
-use tg_cid::{Cid, Codec};
+use tg_cid::Cid;
 use tg_faults::Calls;
 use tg_model::{Blocks, BlocksFault};
 use tg_store::{PackFault, PackStore};
 
-// A front of a pack, a section, and what attaching both comes to, where it is refused.
-const ROWS: [(&[u8], &[u8], Option<PackFault>); 12] = [
-    (HEADER, SECTION, None),
-    (HEADER, ZERO_SECTION, None),
-    (NO_ROOT, SECTION, None),
-    (TWO_ROOTS, ZERO_SECTION, None),
-    (OTHER_ROOT, SECTION, None),
-    (UNFINISHED, SECTION, Some(PackFault::Unfinished)),
-    (UNFINISHED, b"\x28\x01\x70", Some(PackFault::Unfinished)),
-    (HEADER, TOO_LARGE, Some(PackFault::BlockLimit { at: 59 })),
-    (NO_ROOT, TOO_LARGE, Some(PackFault::BlockLimit { at: 18 })),
-    (HEADER, b"\x00", Some(PackFault::NotCar { at: 59 })),
-    (HEADER, b"\x28\x02", Some(PackFault::NotCar { at: 59 })),
-    (b"\x11\xa1", SECTION, Some(PackFault::NotCar { at: 0 })),
+/// What a pack is, its front, its section, and why attaching both is refused, where it is.
+type Row = (
+    &'static str,
+    &'static [u8],
+    &'static [u8],
+    Option<PackFault>,
+);
+
+const ROWS: &[Row] = &[
+    ("one root", HEADER, SECTION, None),
+    ("a CIDv0", HEADER, ZERO_SECTION, None),
+    ("no root", NO_ROOT, SECTION, None),
+    ("two roots", TWO_ROOTS, ZERO_SECTION, None),
+    ("a root that is no CID", OTHER_ROOT, SECTION, None),
+    (
+        "not finished",
+        UNFINISHED,
+        SECTION,
+        Some(PackFault::Unfinished),
+    ),
+    (
+        "not finished and cut",
+        UNFINISHED,
+        b"\x28\x01\x70",
+        Some(PackFault::Unfinished),
+    ),
+    (
+        "too large a block",
+        HEADER,
+        TOO_LARGE,
+        Some(PackFault::BlockLimit { at: 59 }),
+    ),
+    (
+        "no root and too large a block",
+        NO_ROOT,
+        TOO_LARGE,
+        Some(PackFault::BlockLimit { at: 18 }),
+    ),
+    (
+        "an empty section",
+        HEADER,
+        b"\x00",
+        Some(PackFault::NotCar { at: 59 }),
+    ),
+    (
+        "a section of another version",
+        HEADER,
+        b"\x28\x02",
+        Some(PackFault::NotCar { at: 59 }),
+    ),
+    (
+        "another header",
+        b"\x11\xa1",
+        SECTION,
+        Some(PackFault::NotCar { at: 0 }),
+    ),
 ];
 
-#[test]
-fn packs_are_attached_or_refused(rt: HostRuntime) -> Result<(), Fail> {
-    let one = Cid::from_bytes(DIRECTORY_ONE)?;
-    let zero = Cid::from_bytes(DIRECTORY_ZERO)?;
-    let raw = Cid::of_block(Codec::Raw, DIRECTORY);
-    for (front, section, refused) in ROWS {
-        match attach(rt.alloc(), &[front, section])? {
-            Ok(mut store) => {
-                assert!(rt; refused.is_none());
-                for cid in [one, zero] {
-                    let found = store.get(&cid)?.ok_or("stored")?;
-                    assert_eq!(rt; found.as_slice(), DIRECTORY);
-                }
-                assert!(rt; store.get(&raw)?.is_none());
-            }
-            Err(fault) => assert_eq!(rt; Some(fault), refused),
-        }
+/// Whether the pack is refused so, or gives the directory.
+fn is_attached_or_refused(alloc: Global, parts: &[&[u8]], refused: Option<PackFault>) -> bool {
+    match attach(alloc, parts) {
+        Some(Ok(mut store)) => refused.is_none() && gives_directory(&mut store),
+        Some(Err(fault)) => refused == Some(fault),
+        None => false,
     }
-    Ok(())
 }
 
-// Where one bit of the pack of the empty directory is turned, and what attaching it comes to.
-const TURNED: [(usize, u8, Option<PackFault>); 9] = [
+#[test]
+fn packs_are_attached_or_refused(rt: HostRuntime) {
+    for (name, front, section, refused) in ROWS {
+        assert!(rt;
+            is_attached_or_refused(rt.alloc(), &[front, section], *refused),
+            "{name}"
+        );
+    }
+}
+
+/// Whether the pack is attached, or refused so.
+fn comes_to(alloc: Global, parts: &[&[u8]], wanted: Option<PackFault>) -> bool {
+    match attach(alloc, parts) {
+        Some(attached) => attached.err() == wanted,
+        None => false,
+    }
+}
+
+#[test]
+fn a_header_alone_is_attached(rt: HostRuntime) {
+    assert!(rt; comes_to(rt.alloc(), &[HEADER], None));
+}
+
+/// Whether headers of which only so many bytes are left are refused.
+fn are_cut_headers(alloc: Global, size: usize) -> bool {
+    let cut = Some(PackFault::Truncated { at: 0 });
+    comes_to(alloc, &[HEADER.get(..size).unwrap_or(HEADER)], cut)
+        && comes_to(alloc, &[UNFINISHED.get(..size).unwrap_or(UNFINISHED)], cut)
+}
+
+#[test]
+fn cut_headers_are_refused(rt: HostRuntime) {
+    for size in 0..59usize {
+        assert!(rt; are_cut_headers(rt.alloc(), size), "{size}");
+    }
+}
+
+/// Whether packs are refused that end in a section of which only so many bytes are left.
+fn are_cut_sections(alloc: Global, size: usize) -> bool {
+    let part = SECTION.get(..size).unwrap_or(SECTION);
+    let first = Some(PackFault::Truncated { at: 59 });
+    let second = Some(PackFault::Truncated { at: 100 });
+    comes_to(alloc, &[HEADER, part], first)
+        && comes_to(alloc, &[HEADER, SECTION, part], second)
+        && comes_to(alloc, &[UNFINISHED, part], Some(PackFault::Unfinished))
+}
+
+#[test]
+fn cut_sections_are_refused(rt: HostRuntime) {
+    for size in 1..41usize {
+        assert!(rt; are_cut_sections(rt.alloc(), size), "{size}");
+    }
+}
+
+/// Where one bit of the pack of the empty directory is turned, and why attaching it is refused, where it is.
+type Turned = (usize, u8, Option<PackFault>);
+
+const TURNED: &[Turned] = &[
     (0, 1, Some(PackFault::NotCar { at: 0 })),
     (1, 1, Some(PackFault::NotCar { at: 0 })),
     (9, 1, Some(PackFault::NotCar { at: 0 })),
@@ -61,64 +148,101 @@ const TURNED: [(usize, u8, Option<PackFault>); 9] = [
     (99, 1, Some(PackFault::BadDigest { at: 59 })),
 ];
 
+/// The pack of the empty directory with these bits of one byte turned.
+fn turned_pack(alloc: Global, at: usize, bits: u8) -> Option<Vec<u8>> {
+    let mut bytes = Vec::new(alloc);
+    if bytes.extend_from_slice(HEADER).is_err() || bytes.extend_from_slice(SECTION).is_err() {
+        return None;
+    }
+    if let Some(byte) = bytes.as_mut_slice().get_mut(at) {
+        *byte ^= bits;
+    }
+    Some(bytes)
+}
+
+/// Whether the pack with these bits of one byte turned is attached, or refused so.
+fn turned_comes_to(alloc: Global, at: usize, bits: u8, wanted: Option<PackFault>) -> bool {
+    match turned_pack(alloc, at, bits) {
+        Some(bytes) => comes_to(alloc, &[bytes.as_slice()], wanted),
+        None => false,
+    }
+}
+
 #[test]
-fn cut_and_changed_packs_are_refused(rt: HostRuntime) -> Result<(), Fail> {
-    for size in 0..59usize {
-        for header in [HEADER, UNFINISHED] {
-            let cut = attach(rt.alloc(), &[header.get(..size).unwrap_or(header)])?;
-            assert_eq!(rt; cut.err(), Some(PackFault::Truncated { at: 0 }));
-        }
+fn changed_packs_are_refused(rt: HostRuntime) {
+    for (at, bits, refused) in TURNED {
+        assert!(rt; turned_comes_to(rt.alloc(), *at, *bits, *refused), "{at}");
     }
-    assert!(rt; attach(rt.alloc(), &[HEADER])?.is_ok());
-    for size in 1..41usize {
-        let part = SECTION.get(..size).unwrap_or(SECTION);
-        let cut = attach(rt.alloc(), &[HEADER, part])?;
-        assert_eq!(rt; cut.err(), Some(PackFault::Truncated { at: 59 }));
-        let cut = attach(rt.alloc(), &[HEADER, SECTION, part])?;
-        assert_eq!(rt; cut.err(), Some(PackFault::Truncated { at: 100 }));
-        let cut = attach(rt.alloc(), &[UNFINISHED, part])?;
-        assert_eq!(rt; cut.err(), Some(PackFault::Unfinished));
+}
+
+/// The store of a pack that gives at most `most` of its bytes at once, and the one at `place` changed once it is
+/// attached.
+fn attach_changing(
+    alloc: Global,
+    bytes: Bytes,
+    place: u64,
+    most: usize,
+) -> Option<PackStore<ChangingPack>> {
+    let pack = ChangingPack::new(bytes, place, most, Calls::new(List::new(alloc)));
+    match PackStore::attach_pack(alloc, pack) {
+        Ok(store) => Some(store),
+        Err(_) => None,
     }
-    for (at, bit, refused) in TURNED {
-        let mut bytes = Vec::from_slice(rt.alloc(), HEADER)?;
-        bytes.extend_from_slice(SECTION)?;
-        if let Some(byte) = bytes.as_mut_slice().get_mut(at) {
-            *byte ^= bit;
-        }
-        let turned = attach(rt.alloc(), &[bytes.as_slice()])?;
-        assert_eq!(rt; turned.err(), refused);
+}
+
+/// The fault of the store under the CID of the directory.
+fn fault_of(store: &mut PackStore<ChangingPack>) -> Option<BlocksFault> {
+    match Cid::from_bytes(DIRECTORY_ONE) {
+        Ok(cid) => store.get(&cid).err(),
+        Err(_) => None,
     }
-    Ok(())
+}
+
+/// The fault of the directory whose last bit was turned.
+const CHANGED: BlocksFault = BlocksFault::Changed {
+    want: DIGEST,
+    got: TURNED_DIGEST,
+};
+
+/// What is changed of two sections under one CID, where that is, and whether it is told.
+const PLACES: &[(&str, u64, bool)] = &[
+    ("the first block", 99, true),
+    ("the second block", 138, false),
+];
+
+/// Whether a byte that is changed there is told, or the directory is given.
+fn is_told(alloc: Global, place: u64, changed: bool) -> bool {
+    let Some(bytes) = joined(alloc, &[HEADER, SECTION, ZERO_SECTION]) else {
+        return false;
+    };
+    match attach_changing(alloc, bytes, place, usize::MAX) {
+        Some(mut store) if changed => fault_of(&mut store) == Some(CHANGED),
+        Some(mut store) => gives(&mut store, DIRECTORY_ONE, DIRECTORY),
+        None => false,
+    }
 }
 
 // Two sections under one CID, of which one byte is changed once the pack was attached: that of the first counts.
 #[test]
-fn a_changed_block_is_told(rt: HostRuntime) -> Result<(), Fail> {
-    let one = Cid::from_bytes(DIRECTORY_ONE)?;
-    for (place, changed) in [(99, true), (138, false)] {
-        let mut bytes = Bytes::of(rt.alloc(), HEADER)?;
-        bytes.push_all(SECTION)?;
-        bytes.push_all(ZERO_SECTION)?;
-        let pack = ChangingPack::new(bytes, place, Calls::new(List::new(rt.alloc())));
-        match PackStore::attach_pack(rt.alloc(), pack) {
-            Ok(mut store) => {
-                let fault = BlocksFault::Changed {
-                    want: DIGEST,
-                    got: TURNED_DIGEST,
-                };
-                match store.get(&one) {
-                    Ok(found) => {
-                        assert!(rt; !changed);
-                        assert_eq!(rt; found.ok_or("stored")?.as_slice(), DIRECTORY);
-                    }
-                    Err(other) => {
-                        assert!(rt; changed);
-                        assert_eq!(rt; other, fault);
-                    }
-                }
-            }
-            Err(refused) => assert_eq!(rt; Some(refused.fault), None),
-        }
+fn a_changed_block_is_told(rt: HostRuntime) {
+    for (name, place, changed) in PLACES {
+        assert!(rt; is_told(rt.alloc(), *place, *changed), "{name}");
     }
-    Ok(())
+}
+
+/// Whether a pack of more than 5,000 bytes is attached that gives one of them at once.
+fn is_attached_by_bytes(alloc: Global, block: &[u8]) -> bool {
+    let Some(bytes) = joined(alloc, &[HEADER, ZEROS_HEAD, ZEROS, block]) else {
+        return false;
+    };
+    match attach_changing(alloc, bytes, u64::MAX, 1) {
+        Some(mut store) => gives(&mut store, ZEROS, block),
+        None => false,
+    }
+}
+
+// A pack is attached however many reads it takes.
+#[test]
+fn a_pack_of_many_pieces_is_attached(rt: HostRuntime) {
+    assert!(rt; is_attached_by_bytes(rt.alloc(), &[0; 5_000]));
 }

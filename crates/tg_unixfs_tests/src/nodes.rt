@@ -2,37 +2,12 @@
 ghost use Rattle.tg_dagpb.specs.Cursor.{IsCursor};
 
 use std::alloc::Global;
-use std::process::Abort;
-use std::test::Fail;
 use tg_bytes::Bytes;
-use tg_dagpb::{Link, LinkSpan, check, decode, encode, link_at, link_places_at, payload_at};
+use tg_dagpb::{Link, LinkSpan, Node, check, decode, encode, link_at, link_places_at, payload_at};
+use tg_known_bytes::{CHUNKED_FILE, HELL_CID, HELLO_CID, O_WO_CID, RLD_CID};
 use tg_pbtable::PbFault;
 
-// CIDs of version 1 with the codec raw and SHA2-256, by Python's hashlib: of `hell`, `o wo`, `rld` and `hello world`.
-const HELL: &[u8] =
-    b"\x01\x55\x12\x20\x0e\xbd\xc3\x31\x7b\x75\x83\x9f\x64\x33\x87\xd7\x83\x53\x5a\xdc\x36\x0c\xa0\x1f\
-        \x33\xc7\x5f\x7c\x1e\x73\x73\xad\xcd\x67\x5c\x0b";
-
-const O_WO: &[u8] =
-    b"\x01\x55\x12\x20\x8a\xf8\xe6\x62\xa3\xb2\x51\xef\x02\xd2\xed\x85\x74\x55\x35\x08\x6a\xf7\x7a\xa1\
-        \xac\x63\xa4\xf5\xf8\x00\xf5\x01\xc8\xe5\xd0\x93";
-
-const RLD: &[u8] =
-    b"\x01\x55\x12\x20\x85\xc7\x6d\xca\xe2\x29\x9d\x22\x35\xc7\x93\xfe\x34\x25\xbd\x88\x37\x6f\x5c\x47\
-        \x21\xcf\xdd\xc1\xc9\xa9\xc4\x52\xc2\x0c\x5d\x33";
-
-const WORLD: &[u8] =
-    b"\x01\x55\x12\x20\xb9\x4d\x27\xb9\x93\x4d\x3e\x08\xa5\x2e\x52\xd7\xda\x7d\xab\xfa\xc4\x84\xef\xe3\
-        \x7a\x53\x80\xee\x90\x88\xf7\xac\xe2\xef\xcd\xe9";
-
-const FILE: &[u8] =
-    b"\x12\x2a\x0a\x24\x01\x55\x12\x20\x0e\xbd\xc3\x31\x7b\x75\x83\x9f\x64\x33\x87\xd7\x83\x53\x5a\xdc\
-        \x36\x0c\xa0\x1f\x33\xc7\x5f\x7c\x1e\x73\x73\xad\xcd\x67\x5c\x0b\x12\x00\x18\x04\x12\x2a\x0a\x24\
-        \x01\x55\x12\x20\x8a\xf8\xe6\x62\xa3\xb2\x51\xef\x02\xd2\xed\x85\x74\x55\x35\x08\x6a\xf7\x7a\xa1\
-        \xac\x63\xa4\xf5\xf8\x00\xf5\x01\xc8\xe5\xd0\x93\x12\x00\x18\x04\x12\x2a\x0a\x24\x01\x55\x12\x20\
-        \x85\xc7\x6d\xca\xe2\x29\x9d\x22\x35\xc7\x93\xfe\x34\x25\xbd\x88\x37\x6f\x5c\x47\x21\xcf\xdd\xc1\
-        \xc9\xa9\xc4\x52\xc2\x0c\x5d\x33\x12\x00\x18\x03\x0a\x0a\x08\x02\x18\x0b\x20\x04\x20\x04\x20\x03";
-
+// A shard of one entry, `hello`, in slot 0xCB, for the raw block `hello world`.
 const SHARD: &[u8] =
     b"\x12\x31\x0a\x24\x01\x55\x12\x20\xb9\x4d\x27\xb9\x93\x4d\x3e\x08\xa5\x2e\x52\xd7\xda\x7d\xab\xfa\
         \xc4\x84\xef\xe3\x7a\x53\x80\xee\x90\x88\xf7\xac\xe2\xef\xcd\xe9\x12\x07\x43\x42\x68\x65\x6c\x6c\
@@ -51,26 +26,27 @@ const A: &[u8] = b"a";
 
 const B: &[u8] = b"b";
 
+// The links of `hello world` in chunks of 4 bytes.
 const FILE_LINKS: &[LinkSpan<'static>] = &[
     LinkSpan {
-        hash: HELL,
+        hash: HELL_CID,
         name: Some(b""),
         tsize: Some(4),
     },
     LinkSpan {
-        hash: O_WO,
+        hash: O_WO_CID,
         name: Some(b""),
         tsize: Some(4),
     },
     LinkSpan {
-        hash: RLD,
+        hash: RLD_CID,
         name: Some(b""),
         tsize: Some(3),
     },
 ];
 
 const SHARD_LINKS: &[LinkSpan<'static>] = &[LinkSpan {
-    hash: WORLD,
+    hash: HELLO_CID,
     name: Some(b"CBhello"),
     tsize: Some(11),
 }];
@@ -124,11 +100,11 @@ struct Row<'a> {
     payload: Option<&'a [u8]>,
 }
 
-// Published blocks, and blocks that are worked out by hand: a key is the number times eight plus the wire type 2, or 0 for a
-// size.
+// Published blocks, and blocks that are worked out by hand: a key is the number times eight plus the wire type 2, or 0
+// for a size.
 const BLOCKS: &[Row<'static>] = &[
     Row {
-        block: FILE,
+        block: CHUNKED_FILE,
         links: FILE_LINKS,
         payload: Some(b"\x08\x02\x18\x0b\x20\x04\x20\x04\x20\x03"),
     },
@@ -213,123 +189,172 @@ fn bytes_of(bytes: &Option<Bytes>) -> Option<&[u8]> {
     }
 }
 
-// The links that cursors find from the front on.
-fn walked(alloc: Global, block: &[u8]) -> Result<Vec<LinkSpan<'_>>, Fail>
+/// Whether the node has the row's parts.
+fn has_parts(node: &Node, row: &Row<'_>) -> bool {
+    for (link, want) in node.links.as_slice().iter().zip(row.links) {
+        if span_of(link) != *want {
+            return false;
+        }
+    }
+    node.links.as_slice().len() == row.links.len() && bytes_of(&node.payload) == row.payload
+}
+
+/// Whether these are the links that cursors find from the front on.
+fn walks(block: &[u8], links: &[LinkSpan<'_>]) -> bool
     requires { IsCursor block.now 0 }
 {
-    let mut spans = Vec::new(alloc);
     let mut at = 0;
-    while let Some((span, next)) = link_at(block, at) {
-        spans.push(span)?;
-        at = next;
+    for want in links {
+        match link_at(block, at) {
+            Some((span, next)) if span == *want => at = next,
+            _ => return false,
+        }
     }
-    Ok(spans)
+    link_at(block, at).is_none()
 }
 
-// Decode finds the node, check agrees, cursors find its links, and it is written as its canonical text.
-fn expect_node(rt: &impl Abort, alloc: Global, row: Row<'_>) -> Result<(), Fail> {
-    let block = row.block;
-    let node = decode(alloc, block)?;
-    check(block)?;
-    let hash: &[u8] = match link_places_at(block, 0) {
-        Some((places, _)) => &block[places.hash.start..places.hash.end],
-        None => &[],
-    };
-    let first: &[u8] = match row.links.first() {
-        Some(link) => link.hash,
-        None => &[],
-    };
-    assert_eq!(rt; hash, first, "at {block:?}");
-    let payload = match payload_at(block)? {
-        Some(place) => Some(&block[place.start..place.end]),
-        None => None,
-    };
-    assert_eq!(rt; payload, row.payload, "at {block:?}");
-    assert_eq!(rt; bytes_of(&node.payload), row.payload, "at {block:?}");
-    let links = node.links.as_slice();
-    assert_eq!(rt; links.len(), row.links.len(), "at {block:?}");
-    for (link, want) in links.iter().zip(row.links) {
-        assert_eq!(rt; span_of(link), *want, "at {block:?}");
+/// Whether the hash of the first link stands where cursors find it.
+fn begins(block: &[u8], links: &[LinkSpan<'_>]) -> bool
+    requires { IsCursor block.now 0 }
+{
+    match (link_places_at(block, 0), links.first()) {
+        (Some((places, _)), Some(link)) => &block[places.hash.start..places.hash.end] == link.hash,
+        (None, None) => true,
+        _ => false,
     }
-    assert_eq!(rt; walked(alloc, block)?.as_slice(), row.links, "at {block:?}");
-    assert_eq!(rt; encode(alloc, &node)?.as_slice(), block, "at {block:?}");
-    Ok(())
+}
+
+/// Whether the block's data stands where it is found.
+fn has_payload(block: &[u8], payload: Option<&[u8]>) -> bool {
+    match (payload_at(block), payload) {
+        (Ok(Some(place)), Some(payload)) => &block[place.start..place.end] == payload,
+        (Ok(None), None) => true,
+        _ => false,
+    }
+}
+
+/// Whether the block is checked, and cursors find the row's parts in it.
+fn is_found(row: &Row<'_>) -> bool {
+    match check(row.block) {
+        Ok(()) => {
+            begins(row.block, row.links)
+                && walks(row.block, row.links)
+                && has_payload(row.block, row.payload)
+        }
+        Err(_) => false,
+    }
+}
+
+/// Whether the node is written so.
+fn is_written(alloc: Global, node: &Node, block: &[u8]) -> bool {
+    match encode(alloc, node) {
+        Ok(text) => text.as_slice() == block,
+        Err(_) => false,
+    }
+}
+
+/// Whether the block is read as the row's node, and that is written as the block.
+fn is_read(alloc: Global, row: &Row<'_>) -> bool {
+    match decode(alloc, row.block) {
+        Ok(node) => has_parts(&node, row) && is_written(alloc, &node, row.block),
+        Err(_) => false,
+    }
 }
 
 #[test]
-fn nodes(rt: HostRuntime) -> Result<(), Fail> {
+fn nodes(rt: HostRuntime) {
     for row in BLOCKS {
-        expect_node(&rt, rt.alloc(), *row)?;
+        assert!(rt;
+            is_found(row) && is_read(rt.alloc(), row),
+            "{:?}",
+            row.block
+        );
     }
+}
 
-    // The data may stand before the links, and is written behind them.
-    let (block, canonical): (&[u8], &[u8]) = (
-        b"\x0a\x01c\x12\x03\x0a\x01a\x12\x03\x0a\x01b",
-        b"\x12\x03\x0a\x01a\x12\x03\x0a\x01b\x0a\x01c",
-    );
-    let node = decode(rt.alloc(), block)?;
-    assert_eq!(rt; check(block), Ok(()));
-    assert_eq!(rt; encode(rt.alloc(), &node)?.as_slice(), canonical);
-    Ok(())
+// A block whose data stands before the links, and the canonical text of its node, where it stands behind them.
+const TURNED: &[(&[u8], &[u8])] = &[(
+    b"\x0a\x01c\x12\x03\x0a\x01a\x12\x03\x0a\x01b",
+    b"\x12\x03\x0a\x01a\x12\x03\x0a\x01b\x0a\x01c",
+)];
+
+/// Whether the block is good, and its node is written as the canonical text.
+fn is_turned(alloc: Global, block: &[u8], canonical: &[u8]) -> bool {
+    match decode(alloc, block) {
+        Ok(node) => check(block) == Ok(()) && is_written(alloc, &node, canonical),
+        Err(_) => false,
+    }
 }
 
 #[test]
-fn refusals(rt: HostRuntime) -> Result<(), Fail> {
-    let rows: [(&[u8], PbFault); 24] = [
-        // IPLD's fixtures that have a link without a hash: Links empty, Data some Links empty, Links Name zero, Links Name
-        // some, Links Tsize zero, Links Tsize some.
-        (b"\x12\0", PbFault::Missing { number: 1 }),
-        (
-            b"\x12\0\x0a\x05\0\x01\x02\x03\x04",
-            PbFault::Missing { number: 1 },
-        ),
-        (b"\x12\x02\x12\0", PbFault::Missing { number: 1 }),
-        (b"\x12\x0b\x12\x09some name", PbFault::Missing { number: 1 }),
-        (b"\x12\x02\x18\0", PbFault::Missing { number: 1 }),
-        (b"\x12\x03\x18\xf2\x07", PbFault::Missing { number: 1 }),
-        // Unknown and doubled fields, wrong wire types, fields out of order, bytes that are missing.
-        (b"\x1a\0", PbFault::Unknown { at: 0, number: 3 }),
-        (b"\x08\0", PbFault::WrongWire { at: 0 }),
-        (b"\x0a\0\x10\0", PbFault::WrongWire { at: 2 }),
-        (b"\x0a\0\x0a\0", PbFault::Doubled { at: 2 }),
-        (
-            b"\x12\x03\x0a\x01a\x0a\x01c\x12\x03\x0a\x01b",
-            PbFault::OutOfOrder { at: 8 },
-        ),
-        (
-            b"\x0a\0\x12\x03\x0a\x01a\x0a\0",
-            PbFault::OutOfOrder { at: 7 },
-        ),
-        (b"\x0a\x05\0\x01", PbFault::Short { at: 0 }),
-        (b"\x12\x83\0\x0a\x01a", PbFault::BadVarint { at: 0 }),
-        // The same in a link; the place counts from the block's first byte.
-        (b"\x12\x06\x0a\x01a\x0a\x01b", PbFault::Doubled { at: 5 }),
-        (b"\x12\x07\x0a\x01a\x12\0\x12\0", PbFault::Doubled { at: 7 }),
-        (b"\x12\x05\x12\0\x0a\x01a", PbFault::OutOfOrder { at: 4 }),
-        (
-            b"\x12\x07\x0a\x01a\x18\0\x12\0",
-            PbFault::OutOfOrder { at: 7 },
-        ),
-        (
-            b"\x12\x05\x0a\x01a\x20\x01",
-            PbFault::Unknown { at: 5, number: 4 },
-        ),
-        (b"\x12\x05\x0a\x01a\x1a\0", PbFault::WrongWire { at: 5 }),
-        (
-            b"\x12\x03\x0a\x01a\x12\x02\x0a\x05",
-            PbFault::Short { at: 7 },
-        ),
-        (b"\x12\x06\x0a\x01a\x18\x82\0", PbFault::BadVarint { at: 5 }),
-        // A late fault of the node's own fields comes before an early one in a link, and an early link's before a late one's.
-        (b"\x12\0\x1a\0", PbFault::Unknown { at: 2, number: 3 }),
-        (b"\x12\x02\x1a\0\x12\0", PbFault::WrongWire { at: 2 }),
-    ];
-    for (block, fault) in rows {
-        let Err(found) = decode(rt.alloc(), block) else {
-            panic!(rt; "{fault} is wanted at {block:?}");
-        };
-        assert_eq!(rt; found, fault, "at {block:?}");
-        assert_eq!(rt; check(block), Err(fault), "at {block:?}");
+fn data_before_links(rt: HostRuntime) {
+    for (block, canonical) in TURNED {
+        assert!(rt; is_turned(rt.alloc(), block, canonical), "{block:?}");
     }
-    Ok(())
+}
+
+const REFUSED: &[(&[u8], PbFault)] = &[
+    // IPLD's fixtures that have a link without a hash: Links empty, Data some Links empty, Links Name zero, Links Name
+    // some, Links Tsize zero, Links Tsize some.
+    (b"\x12\0", PbFault::Missing { number: 1 }),
+    (
+        b"\x12\0\x0a\x05\0\x01\x02\x03\x04",
+        PbFault::Missing { number: 1 },
+    ),
+    (b"\x12\x02\x12\0", PbFault::Missing { number: 1 }),
+    (b"\x12\x0b\x12\x09some name", PbFault::Missing { number: 1 }),
+    (b"\x12\x02\x18\0", PbFault::Missing { number: 1 }),
+    (b"\x12\x03\x18\xf2\x07", PbFault::Missing { number: 1 }),
+    // Unknown and doubled fields, wrong wire types, fields out of order, bytes that are missing.
+    (b"\x1a\0", PbFault::Unknown { at: 0, number: 3 }),
+    (b"\x08\0", PbFault::WrongWire { at: 0 }),
+    (b"\x0a\0\x10\0", PbFault::WrongWire { at: 2 }),
+    (b"\x0a\0\x0a\0", PbFault::Doubled { at: 2 }),
+    (
+        b"\x12\x03\x0a\x01a\x0a\x01c\x12\x03\x0a\x01b",
+        PbFault::OutOfOrder { at: 8 },
+    ),
+    (
+        b"\x0a\0\x12\x03\x0a\x01a\x0a\0",
+        PbFault::OutOfOrder { at: 7 },
+    ),
+    (b"\x0a\x05\0\x01", PbFault::Short { at: 0 }),
+    (b"\x12\x83\0\x0a\x01a", PbFault::BadVarint { at: 0 }),
+    // The same in a link; the place counts from the block's first byte.
+    (b"\x12\x06\x0a\x01a\x0a\x01b", PbFault::Doubled { at: 5 }),
+    (b"\x12\x07\x0a\x01a\x12\0\x12\0", PbFault::Doubled { at: 7 }),
+    (b"\x12\x05\x12\0\x0a\x01a", PbFault::OutOfOrder { at: 4 }),
+    (
+        b"\x12\x07\x0a\x01a\x18\0\x12\0",
+        PbFault::OutOfOrder { at: 7 },
+    ),
+    (
+        b"\x12\x05\x0a\x01a\x20\x01",
+        PbFault::Unknown { at: 5, number: 4 },
+    ),
+    (b"\x12\x05\x0a\x01a\x1a\0", PbFault::WrongWire { at: 5 }),
+    (
+        b"\x12\x03\x0a\x01a\x12\x02\x0a\x05",
+        PbFault::Short { at: 7 },
+    ),
+    (b"\x12\x06\x0a\x01a\x18\x82\0", PbFault::BadVarint { at: 5 }),
+    // A late fault of the node's own fields comes before an early one in a link, and an early link's before a late
+    // one's.
+    (b"\x12\0\x1a\0", PbFault::Unknown { at: 2, number: 3 }),
+    (b"\x12\x02\x1a\0\x12\0", PbFault::WrongWire { at: 2 }),
+];
+
+/// Whether the block is refused so.
+fn is_refused(alloc: Global, block: &[u8], fault: PbFault) -> bool {
+    match decode(alloc, block) {
+        Ok(_) => false,
+        Err(found) => found == fault && check(block) == Err(fault),
+    }
+}
+
+#[test]
+fn refusals(rt: HostRuntime) {
+    for (block, fault) in REFUSED {
+        assert!(rt; is_refused(rt.alloc(), block, *fault), "{block:?}");
+    }
 }

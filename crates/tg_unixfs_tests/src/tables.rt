@@ -1,68 +1,40 @@
-//! Texts under the tables of UnixFS data and of a node, with their fields or faults, and what is written for fields: what `tg_pbtable`
-//! answers.
+//! Texts under the tables of UnixFS data and of a node, with their fields or faults, and what is written for fields:
+//! what `tg_pbtable` answers.
 ghost use Rattle.tg_pbtable.specs.Message.{IsTable};
 
 use std::alloc::Global;
-use std::process::Abort;
-use std::test::Fail;
 use tg_dagpb::NODE;
 use tg_pbtable::{Field, FieldCursor, Order, PbFault, Rule, Value, emit, field_at, scan};
 use tg_unixfs::DATA;
 
-const fn number(number: u32, value: u64) -> Field {
-    Field {
-        number,
-        value: Value::Number(value),
-    }
-}
+/// What is found in a text.
+type Found = Result<&'static [Field], PbFault>;
 
-const fn place(number: u32, start: usize, end: usize) -> Field {
-    Field {
-        number,
-        value: Value::Place { start, end },
-    }
-}
-
-// What is found in a text is written back as that text.
-fn expect<const N: usize>(
-    rt: &impl Abort,
+/// Whether this is found in the text, and written back as that text.
+fn is_found<const N: usize>(
     alloc: Global,
     rules: &[Rule; N],
     order: Order,
     text: &[u8],
-    want: Result<&[Field], PbFault>,
-) -> Result<(), Fail>
+    want: Found,
+) -> bool
     requires { IsTable rules.now }
 {
+    tg_pbtable::laws::table_laws();
     match scan(alloc, rules, order, text) {
-        Ok(fields) => {
-            assert_eq!(rt; want, Ok(fields.as_slice()), "at {text:?}");
-            assert_eq!(rt; emit(alloc, rules, &fields, text)?.as_slice(), text);
-        }
-        Err(fault) => assert_eq!(rt; want, Err(fault), "at {text:?}"),
+        Ok(fields) => match emit(alloc, rules, &fields, text) {
+            Ok(written) => want == Ok(fields.as_slice()) && written.as_slice() == text,
+            Err(_) => false,
+        },
+        Err(fault) => want == Err(fault),
     }
-    Ok(())
-}
-
-// The field at a place of a text.
-fn expect_at<const N: usize>(
-    rt: &impl Abort,
-    rules: &[Rule; N],
-    text: &[u8],
-    at: usize,
-    want: Result<(Field, usize), PbFault>,
-)
-    requires { IsTable rules.now }
-{
-    assert!(rt; at <= text.len());
-    assert_eq!(rt; field_at(rules, text, at), want, "at {at} of {text:?}");
 }
 
 /// A text, and its fault.
 type FaultRow = (&'static [u8], PbFault);
 
-// The texts and their fields are worked out by hand from the encoding guide: a key is the number times eight plus the wire
-// type.
+// The texts and their fields are worked out by hand from the encoding guide: a key is the number times eight plus the
+// wire type.
 const DATA_FAULTS: &[FaultRow] = &[
     (b"", PbFault::Missing { number: 1 }),
     (b"\x12\x00", PbFault::Missing { number: 1 }),
@@ -142,6 +114,16 @@ const DATA_FAULTS: &[FaultRow] = &[
     (b"\x0a\x00", PbFault::WrongWire { at: 0 }),
 ];
 
+#[test]
+fn faults_of_data(rt: HostRuntime) {
+    for (text, fault) in DATA_FAULTS {
+        assert!(rt;
+            is_found(rt.alloc(), DATA, Order::Ascending, text, Err(*fault)),
+            "{text:?}"
+        );
+    }
+}
+
 const NODE_FAULTS: &[FaultRow] = &[
     (b"\x12\x01a\x0a\x00\x12\x00", PbFault::OutOfOrder { at: 5 }),
     (b"\x0a\x00\x12\x00\x0a\x00", PbFault::OutOfOrder { at: 4 }),
@@ -150,86 +132,212 @@ const NODE_FAULTS: &[FaultRow] = &[
 ];
 
 #[test]
-fn faults_of_texts(rt: HostRuntime) -> Result<(), Fail> {
-    tg_pbtable::laws::table_laws();
-    for (text, fault) in DATA_FAULTS {
-        expect(&rt, rt.alloc(), DATA, Order::Ascending, text, Err(*fault))?;
-    }
+fn faults_of_nodes(rt: HostRuntime) {
     for (text, fault) in NODE_FAULTS {
-        expect(&rt, rt.alloc(), NODE, Order::Runs, text, Err(*fault))?;
+        assert!(rt;
+            is_found(rt.alloc(), NODE, Order::Runs, text, Err(*fault)),
+            "{text:?}"
+        );
     }
-    Ok(())
 }
 
-#[test]
-fn fields_of_texts(rt: HostRuntime) -> Result<(), Fail> {
-    tg_pbtable::laws::table_laws();
-    let alloc = rt.alloc();
-    let text = b"\x08\x05\x12\x02hi\x18\xac\x02\x20\x00\x20\x07";
-    let whole = [
-        number(1, 5),
-        place(2, 4, 6),
-        number(3, 300),
-        number(4, 0),
-        number(4, 7),
-    ];
-    expect(&rt, alloc, DATA, Order::Ascending, text, Ok(&whole))?;
-    let text = b"\x08\xff\xff\xff\xff\xff\xff\xff\xff\xff\x01";
-    let greatest = [number(1, u64::MAX)];
-    expect(&rt, alloc, DATA, Order::Ascending, text, Ok(&greatest))?;
-    let text = b"\x12\x01a\x12\x00\x0a\x02bc";
-    let turned = [place(2, 2, 3), place(2, 5, 5), place(1, 7, 9)];
-    expect(&rt, alloc, NODE, Order::Runs, text, Ok(&turned))?;
-    expect(&rt, alloc, NODE, Order::Runs, b"", Ok(&[]))
-}
+/// A text, and its fields.
+type FieldsRow = (&'static [u8], &'static [Field]);
 
-// In the middle of a text a field is read without those before it. The key is the byte at the place: `h` is the number 13
-// with wire type 0, `i` the number 13 with wire type 1.
-const PLACED: &[u8] = b"\x08\x05\x12\x02hi\x18\xac\x02\x20\x00\x08\x07";
-
-// Places where no field stands.
-const NO_PLACES: &[(usize, PbFault)] = &[
-    (1, PbFault::Unknown { at: 1, number: 0 }),
-    (3, PbFault::Short { at: 3 }),
-    (4, PbFault::Unknown { at: 4, number: 13 }),
-    (5, PbFault::Unknown { at: 5, number: 13 }),
-    (7, PbFault::Unknown { at: 7, number: 37 }),
-    (8, PbFault::Short { at: 8 }),
-    (10, PbFault::Unknown { at: 10, number: 0 }),
-    (12, PbFault::Unknown { at: 12, number: 0 }),
-    (13, PbFault::Short { at: 13 }),
+const DATA_FIELDS: &[FieldsRow] = &[
+    (
+        b"\x08\x05\x12\x02hi\x18\xac\x02\x20\x00\x20\x07",
+        &[
+            Field {
+                number: 1,
+                value: Value::Number(5),
+            },
+            Field {
+                number: 2,
+                value: Value::Place { start: 4, end: 6 },
+            },
+            Field {
+                number: 3,
+                value: Value::Number(300),
+            },
+            Field {
+                number: 4,
+                value: Value::Number(0),
+            },
+            Field {
+                number: 4,
+                value: Value::Number(7),
+            },
+        ],
+    ),
+    (
+        b"\x08\xff\xff\xff\xff\xff\xff\xff\xff\xff\x01",
+        &[Field {
+            number: 1,
+            value: Value::Number(u64::MAX),
+        }],
+    ),
 ];
 
 #[test]
-fn places(rt: HostRuntime) {
-    tg_pbtable::laws::table_laws();
-    for (at, fault) in NO_PLACES {
-        expect_at(&rt, DATA, PLACED, *at, Err(*fault));
+fn fields_of_data(rt: HostRuntime) {
+    for (text, fields) in DATA_FIELDS {
+        assert!(rt;
+            is_found(rt.alloc(), DATA, Order::Ascending, text, Ok(fields)),
+            "{text:?}"
+        );
     }
-    expect_at(&rt, DATA, PLACED, 0, Ok((number(1, 5), 2)));
-    expect_at(&rt, DATA, PLACED, 2, Ok((place(2, 4, 6), 6)));
-    expect_at(&rt, DATA, PLACED, 6, Ok((number(3, 300), 9)));
-    expect_at(&rt, DATA, PLACED, 9, Ok((number(4, 0), 11)));
-    expect_at(&rt, DATA, PLACED, 11, Ok((number(1, 7), 13)));
 }
 
-// A cursor gives the fields one by one, and a fault again.
+const NODE_FIELDS: &[FieldsRow] = &[
+    (
+        b"\x12\x01a\x12\x00\x0a\x02bc",
+        &[
+            Field {
+                number: 2,
+                value: Value::Place { start: 2, end: 3 },
+            },
+            Field {
+                number: 2,
+                value: Value::Place { start: 5, end: 5 },
+            },
+            Field {
+                number: 1,
+                value: Value::Place { start: 7, end: 9 },
+            },
+        ],
+    ),
+    (b"", &[]),
+];
+
 #[test]
-fn a_cursor(rt: HostRuntime) -> Result<(), Fail> {
-    tg_pbtable::laws::table_laws();
+fn fields_of_nodes(rt: HostRuntime) {
+    for (text, fields) in NODE_FIELDS {
+        assert!(rt;
+            is_found(rt.alloc(), NODE, Order::Runs, text, Ok(fields)),
+            "{text:?}"
+        );
+    }
+}
+
+// In the middle of a text a field is read without those before it. The key is the byte at the place: `h` is the number
+// 13 with wire type 0, `i` the number 13 with wire type 1.
+const PLACED: &[u8] = b"\x08\x05\x12\x02hi\x18\xac\x02\x20\x00\x08\x07";
+
+/// A place, and the field that stands there with the place behind it, or why none does.
+type PlaceRow = (usize, Result<(Field, usize), PbFault>);
+
+const PLACES: &[PlaceRow] = &[
+    (
+        0,
+        Ok((
+            Field {
+                number: 1,
+                value: Value::Number(5),
+            },
+            2,
+        )),
+    ),
+    (1, Err(PbFault::Unknown { at: 1, number: 0 })),
+    (
+        2,
+        Ok((
+            Field {
+                number: 2,
+                value: Value::Place { start: 4, end: 6 },
+            },
+            6,
+        )),
+    ),
+    (3, Err(PbFault::Short { at: 3 })),
+    (4, Err(PbFault::Unknown { at: 4, number: 13 })),
+    (5, Err(PbFault::Unknown { at: 5, number: 13 })),
+    (
+        6,
+        Ok((
+            Field {
+                number: 3,
+                value: Value::Number(300),
+            },
+            9,
+        )),
+    ),
+    (7, Err(PbFault::Unknown { at: 7, number: 37 })),
+    (8, Err(PbFault::Short { at: 8 })),
+    (
+        9,
+        Ok((
+            Field {
+                number: 4,
+                value: Value::Number(0),
+            },
+            11,
+        )),
+    ),
+    (10, Err(PbFault::Unknown { at: 10, number: 0 })),
+    (
+        11,
+        Ok((
+            Field {
+                number: 1,
+                value: Value::Number(7),
+            },
+            13,
+        )),
+    ),
+    (12, Err(PbFault::Unknown { at: 12, number: 0 })),
+    (13, Err(PbFault::Short { at: 13 })),
+];
+
+/// Whether this stands at the place.
+fn stands(at: usize, want: &Result<(Field, usize), PbFault>) -> bool {
+    at <= PLACED.len() && field_at(DATA, PLACED, at) == *want
+}
+
+#[test]
+fn places(rt: HostRuntime) {
+    for (at, want) in PLACES {
+        assert!(rt; stands(*at, want), "at {at}");
+    }
+}
+
+/// Whether a cursor gives the fields of a text one by one, and a fault again.
+fn goes_on() -> bool {
     let text: &[u8] = b"\x08\x05\x08\x07";
-    let mut cursor = FieldCursor::new();
-    assert_eq!(rt;
-        cursor.next(DATA, Order::Ascending, text),
-        Ok(Some(number(1, 5)))
-    );
-    assert_eq!(rt; cursor.at(), 2);
     let doubled = Err(PbFault::Doubled { at: 2 });
-    assert_eq!(rt; cursor.next(DATA, Order::Ascending, text), doubled);
-    assert_eq!(rt; cursor.next(DATA, Order::Ascending, text), doubled);
-    assert_eq!(rt;
-        format!(in rt.alloc(); "{}", PbFault::Unknown { at: 7, number: 37 })?.as_str(),
-        "Unknown 7 37"
-    );
-    Ok(())
+    let mut cursor = FieldCursor::new();
+    let first = cursor.next(DATA, Order::Ascending, text);
+    let at = cursor.at();
+    let second = cursor.next(DATA, Order::Ascending, text);
+    let third = cursor.next(DATA, Order::Ascending, text);
+    first
+        == Ok(Some(Field {
+            number: 1,
+            value: Value::Number(5),
+        }))
+        && at == 2
+        && second == doubled
+        && third == doubled
+}
+
+#[test]
+fn a_cursor(rt: HostRuntime) {
+    assert!(rt; goes_on());
+}
+
+const FAULTS: &[(PbFault, &str)] = &[(PbFault::Unknown { at: 7, number: 37 }, "Unknown 7 37")];
+
+/// Whether the fault is printed so.
+fn is_printed(alloc: Global, fault: PbFault, message: &str) -> bool {
+    match format!(in alloc; "{fault}") {
+        Ok(text) => text.as_str() == message,
+        Err(_) => false,
+    }
+}
+
+#[test]
+fn faults(rt: HostRuntime) {
+    for (fault, message) in FAULTS {
+        assert!(rt; is_printed(rt.alloc(), *fault, message), "{message}");
+    }
 }

@@ -1,5 +1,5 @@
--- What holds of groups of seven bits: the number that they spell, where they end, and that exactly one of four stands at the
--- front of bytes.
+-- What holds of groups of seven bits: the number that they spell, where they end, and that exactly one of four stands
+-- at the front of bytes.
 use Rattle.std.proofs.Common.{◌≡◌, ℕ, ◌+◌, ◌*◌, ◌^◌, ◌<◌, ◌≤◌, List, [], ◌∷◌, ◌++◌, length, take, drop, get_or, All, refl, ap, ap₂, sym, ◌∙◌, subst, inl, inr, arith}
 use Rattle.std.proofs.Math.Nat.{pow-succ', pow-le-pow_right, mul-le-mul_left}
 use Rattle.std.proofs.lemmas.Bool.{cases_lt}

@@ -3,8 +3,8 @@ use Rattle.std.specs.Prelude.{◌≡◌, ℕ, ◌^◌, ◌<◌, ◌≤◌, ◌�
 use Rattle.tg_varint.specs.Computed.{varint, front_number}
 use Rattle.tg_varint.specs.Varint.{VarintSpelling, EndsInside, PassesNine, EndsInZero}
 
--- what stands at the front of bytes: the spelling of a number, the front of a spelling alone, nine bytes that go on, or a
--- spelling that isn't the shortest
+-- what stands at the front of bytes: the spelling of a number, the front of a spelling alone, nine bytes that go on, or
+-- a spelling that isn't the shortest
 pub data VarintFront : Type 0 where
   spelled : ℕ → List ℕ → VarintFront
   inside : VarintFront

@@ -5,8 +5,6 @@ ghost use Rattle.std.specs.Prelude.{◌≡◌, ℕ, ◌-◌, ◌^◌, ◌<◌, �
 ghost use Rattle.tg_varint.specs.Varint.{VarintSpelling, EndsInside, PassesNine, EndsInZero};
 
 pub mod laws;
-#[cfg(test)]
-mod tests;
 
 use thiserror::Error;
 
@@ -33,7 +31,8 @@ pub enum VarintFault {
 /// `TooLong` where nine bytes stand with the high bit set in each, `NotShortest` where a spelling of at least two bytes
 /// ends in a zero byte. It takes no memory.
 pub fn read(bytes: &[u8]) -> Result<(u64, usize), VarintFault>
-    ensures found { IfOk result (λ found. (found.1 ≤ length bytes.now) × VarintSpelling found.0 (take found.1 bytes.now)) }
+    ensures found { IfOk result (λ found. (found.1 ≤ length bytes.now)
+        × VarintSpelling found.0 (take found.1 bytes.now)) }
     ensures only { (number : ℕ) (spelling rest : List ℕ) → VarintSpelling number spelling → bytes.now ≡ spelling ++ rest
         → result ≡ Ok (number, length spelling) }
     ensures short { IsErrOf result VarintFault.Short ↔ EndsInside bytes.now }

@@ -1,67 +1,65 @@
-//! Each change of one byte of one section: the verifier refuses that section, and has put what the evaluator gives where its block isn't
-//! stored.
-use crate::dags::{Asked, Row, query_of};
-use crate::feeding::{feed, numbers_of, sections_of};
+//! Each change of one byte of one section: the verifier refuses that section, and has put what the evaluator gives
+//! where its block isn't stored.
+use crate::feeding::{Sections, fed, front_of, is_refused};
 use std::alloc::{AllocError, Global};
 use std::rt::HostRuntime;
-use std::test::Fail;
-use tg_bytes::Bytes;
+use tg_bytes::{Bytes, List};
 use tg_cid::Cid;
-use tg_model::{Query, Scope};
-use tg_oracle::{End, Evaluation, Sent, evaluate};
-use tg_test_dags::{Shape, Shelf};
+use tg_oracle::{End, Evaluation, StoredBlock, evaluate};
+use tg_test_dags::{ALL, Asked, Case, ENTITY, Shape, case_of, stored_under};
 use tg_verify::Refusal;
 
-/// The section whose bytes, the CID's and then the block's, differ in one place by these bits; none where the CID is none any more.
-fn changed(
-    alloc: Global,
-    cid: &Cid,
-    block: &[u8],
-    at: usize,
-    bits: u8,
-) -> Result<Option<(Cid, Bytes)>, AllocError> {
-    let name = cid.to_bytes(alloc)?;
-    let size = name.as_slice().len();
-    let mut bytes = Vec::from_slice(alloc, name.as_slice())?;
-    bytes.extend_from_slice(block)?;
-    if let Some(byte) = bytes.as_mut_slice().get_mut(at) {
+/// Changes these bits of the byte at a place.
+fn change(bytes: &mut [u8], at: usize, bits: u8) {
+    if let Some(byte) = bytes.get_mut(at) {
         *byte ^= bits;
     }
-    let (front, rest) = halves(bytes.as_slice(), size);
-    match Cid::from_bytes(front) {
-        Ok(cid) => Ok(Some((cid, Bytes::of(alloc, rest)?))),
-        Err(_) => Ok(None),
-    }
 }
 
-/// The first bytes, so many, and those behind them.
-fn halves(bytes: &[u8], size: usize) -> (&[u8], &[u8]) {
-    (
-        bytes.get(..size).unwrap_or(b""),
-        bytes.get(size..).unwrap_or(b""),
-    )
+/// The CID of which one byte differs by these bits; none where it is none any more.
+fn changed_cid(alloc: Global, cid: Cid, at: usize, bits: u8) -> Result<Option<Cid>, AllocError> {
+    let mut bytes = cid.to_bytes(alloc)?.into_vec();
+    change(bytes.as_mut_slice(), at, bits);
+    Ok(Cid::from_bytes(bytes.as_slice()).ok())
 }
 
-/// The blocks of a shelf but those under a CID.
-fn without(alloc: Global, shelf: &Shelf, cid: &Cid) -> Result<Shelf, AllocError> {
-    let mut others = Shelf::new(alloc);
-    for stored in shelf.blocks.as_slice() {
-        if stored.cid != *cid {
-            others.put_under(stored.cid, stored.block.as_slice())?;
+/// The block of which one byte differs by these bits.
+fn changed_block(alloc: Global, block: &[u8], at: usize, bits: u8) -> Result<Vec<u8>, AllocError> {
+    let mut bytes = Vec::from_slice(alloc, block)?;
+    change(bytes.as_mut_slice(), at, bits);
+    Ok(bytes)
+}
+
+/// The blocks but those under a CID.
+fn without(
+    alloc: Global,
+    blocks: &[StoredBlock],
+    cid: Cid,
+) -> Result<List<StoredBlock>, AllocError> {
+    let mut others = List::new(alloc);
+    for stored in blocks {
+        if stored.cid != cid {
+            others.push(stored_under(alloc, stored.cid, stored.block.as_slice())?)?;
         }
     }
     Ok(others)
 }
 
-/// What the evaluator gives where the block under a CID isn't stored.
-fn evaluated_without(
-    alloc: Global,
-    shelf: &Shelf,
-    query: &Query,
-    cid: &Cid,
-) -> Result<Evaluation, Fail> {
-    let others = without(alloc, shelf, cid)?;
-    Ok(evaluate(alloc, others.blocks.as_slice(), query)?)
+/// What the evaluator gives where the block under a CID isn't stored, and is wanted.
+fn evaluated_without(alloc: Global, case: &Case, cid: Cid) -> Option<Evaluation> {
+    match without(alloc, case.stored.blocks.as_slice(), cid) {
+        Ok(others) => wanted_of(evaluate(alloc, others.as_slice(), &case.query).ok()?, cid),
+        Err(_) => None,
+    }
+}
+
+/// The evaluation, if it ended where the block under this CID is wanted.
+fn wanted_of(found: Evaluation, cid: Cid) -> Option<Evaluation> {
+    if ends_at(&found.end, &cid) {
+        Some(found)
+    } else {
+        None
+    }
 }
 
 /// Whether an evaluation ended where the block under this CID is wanted.
@@ -72,113 +70,157 @@ fn ends_at(end: &End, cid: &Cid) -> bool {
     }
 }
 
-/// The numbers of the blocks that are fed before the section that changes, and what is put for them.
+/// A section that changes: its number among those that are sent, its CID and its block, and what is put for those
+/// before it.
 #[derive(Clone, Copy)]
 struct Place<'a> {
-    shelf: &'a Shelf,
-    query: &'a Query,
-    before: &'a [usize],
+    case: &'a Case,
+    count: usize,
+    want: Cid,
+    block: &'a [u8],
     text: &'a [u8],
 }
 
-/// Whether the section is refused where one byte of it differs by these bits.
-fn refuses(
-    alloc: Global,
-    place: &Place<'_>,
-    want: &Cid,
-    block: &[u8],
-    at: usize,
-    bits: u8,
-) -> Result<bool, AllocError> {
-    let Some((got, block)) = changed(alloc, want, block, at, bits)? else {
-        return Ok(true);
-    };
-    let fault = if got.holds(block.as_slice()) {
-        Refusal::WrongBlock { want: *want, got }
+/// Whether the section is refused where one byte of it, of the CID's and then of the block's, differs by these bits.
+fn refuses(alloc: Global, place: &Place<'_>, at: usize, bits: u8) -> bool {
+    if at < 36 {
+        refuses_cid(alloc, place, at, bits)
+    } else {
+        refuses_block(alloc, place, at - 36, bits)
+    }
+}
+
+fn refuses_cid(alloc: Global, place: &Place<'_>, at: usize, bits: u8) -> bool {
+    match changed_cid(alloc, place.want, at, bits) {
+        Ok(Some(got)) => refuses_section(alloc, place, got, place.block),
+        Ok(None) => true,
+        Err(_) => false,
+    }
+}
+
+fn refuses_block(alloc: Global, place: &Place<'_>, at: usize, bits: u8) -> bool {
+    match changed_block(alloc, place.block, at, bits) {
+        Ok(block) => refuses_section(alloc, place, place.want, block.as_slice()),
+        Err(_) => false,
+    }
+}
+
+/// Whether this section is refused in that place.
+fn refuses_section(alloc: Global, place: &Place<'_>, got: Cid, block: &[u8]) -> bool {
+    match sections_to(alloc, place, got, block) {
+        Some(sections) => is_refused(
+            &fed(alloc, &place.case.query, &sections, &[]),
+            refusal_of(place.want, got, block),
+            place.text,
+        ),
+        None => false,
+    }
+}
+
+/// Why a section is refused in the place of the one that is wanted.
+fn refusal_of(want: Cid, got: Cid, block: &[u8]) -> Refusal {
+    if got.holds(block) {
+        Refusal::WrongBlock { want, got }
     } else {
         Refusal::BadDigest { cid: got }
-    };
-    let mut sections = sections_of(alloc, place.shelf, place.before)?;
-    sections.push((got, block))?;
-    let done = feed(alloc, place.query, &sections, &[])?;
-    Ok(done.is(&Err(fault), place.text))
+    }
+}
+
+/// The sections before that place, and this one.
+fn sections_to(alloc: Global, place: &Place<'_>, got: Cid, block: &[u8]) -> Option<Sections> {
+    match front_of(alloc, place.case, place.count) {
+        Some(sections) => with_section(alloc, sections, got, block),
+        None => None,
+    }
+}
+
+fn with_section(alloc: Global, mut sections: Sections, cid: Cid, block: &[u8]) -> Option<Sections> {
+    match Bytes::of(alloc, block) {
+        Ok(block) => match sections.push((cid, block)) {
+            Ok(()) => Some(sections),
+            Err(_) => None,
+        },
+        Err(_) => None,
+    }
 }
 
 /// Whether the section is refused where the byte at a place is any other.
-fn refuses_each(
-    alloc: Global,
-    place: &Place<'_>,
-    want: &Cid,
-    block: &[u8],
-    at: usize,
-) -> Result<bool, AllocError> {
+fn refuses_each(alloc: Global, place: &Place<'_>, at: usize) -> bool {
     for bits in 1..=255u8 {
-        if !refuses(alloc, place, want, block, at, bits)? {
-            return Ok(false);
+        if !refuses(alloc, place, at, bits) {
+            return false;
         }
     }
-    Ok(true)
+    true
+}
+
+/// Whether the section is refused for each change of one byte.
+fn refuses_bytes(alloc: Global, place: &Place<'_>) -> bool {
+    for at in 0..place.block.len().saturating_add(36) {
+        if !refuses_each(alloc, place, at) {
+            return false;
+        }
+    }
+    true
 }
 
 /// Whether the section with this number is refused for each change of one byte.
-fn refuses_section(
-    alloc: Global,
-    shelf: &Shelf,
-    query: &Query,
-    sent: &[Sent],
-    count: usize,
-) -> Result<bool, Fail> {
-    let Some(section) = sent.get(count) else {
-        return Ok(false);
-    };
-    let Some(stored) = shelf.blocks.as_slice().get(section.index) else {
-        return Ok(false);
-    };
-    let before = evaluated_without(alloc, shelf, query, &section.cid)?;
-    if !ends_at(&before.end, &section.cid) {
-        return Ok(false);
+fn refuses_number(alloc: Global, case: &Case, count: usize) -> bool {
+    match case.found.sent.as_slice().get(count) {
+        Some(section) => refuses_stored(alloc, case, count, section.cid, section.index),
+        None => false,
     }
-    let numbers = numbers_of(alloc, sent)?;
-    let place = Place {
-        shelf,
-        query,
-        before: numbers.get(..count).unwrap_or(&[]),
-        text: before.text.as_slice(),
-    };
-    let block = stored.block.as_slice();
-    for at in 0..block.len().saturating_add(36) {
-        if !refuses_each(alloc, &place, &section.cid, block, at)? {
-            return Ok(false);
-        }
-    }
-    Ok(true)
 }
+
+fn refuses_stored(alloc: Global, case: &Case, count: usize, want: Cid, index: usize) -> bool {
+    match (
+        case.stored.blocks.as_slice().get(index),
+        evaluated_without(alloc, case, want),
+    ) {
+        (Some(stored), Some(before)) => refuses_bytes(
+            alloc,
+            &Place {
+                case,
+                count,
+                want,
+                block: stored.block.as_slice(),
+                text: before.text.as_slice(),
+            },
+        ),
+        _ => false,
+    }
+}
+
+/// A DAG, what is asked for of all of it, and how many sections are sent.
+type Row = (Shape, Asked, usize);
 
 /// Whether each change of one byte of one of so many sections of a row is refused.
-fn refuses_changes(alloc: Global, row: &Row, sections: usize) -> Result<bool, Fail> {
-    let mut shelf = Shelf::new(alloc);
-    let root = row.0.store(&mut shelf)?;
-    let query = query_of(alloc, root, row)?;
-    let found = evaluate(alloc, shelf.blocks.as_slice(), &query)?;
-    let sent = found.sent.as_slice();
-    for count in 0..sections {
-        if !refuses_section(alloc, &shelf, &query, sent, count)? {
-            return Ok(false);
-        }
+fn refuses_changes(alloc: Global, row: &Row) -> bool {
+    let (shape, asked, count) = *row;
+    match case_of(alloc, shape, &[], asked) {
+        Some(case) => case.found.sent.as_slice().len() == count && refuses_all(alloc, &case, count),
+        None => false,
     }
-    Ok(sent.len() == sections)
 }
 
-const CHANGED: &[(Row, usize)] = &[
-    ((Shape::Hello, &[], Asked::Scope(Scope::Entity)), 4),
-    ((Shape::Folder, &[], Asked::Scope(Scope::All)), 5),
-    ((Shape::TwoLevels, &[], Asked::Scope(Scope::All)), 5),
+fn refuses_all(alloc: Global, case: &Case, sections: usize) -> bool {
+    for count in 0..sections {
+        if !refuses_number(alloc, case, count) {
+            return false;
+        }
+    }
+    true
+}
+
+const CHANGED: &[Row] = &[
+    (Shape::Hello, ENTITY, 4),
+    (Shape::Folder, ALL, 5),
+    (Shape::TwoLevels, ALL, 5),
 ];
 
 #[test]
-fn changes_of_one_byte_are_refused(rt: HostRuntime) -> Result<(), Fail> {
-    for (row, sections) in CHANGED {
-        assert!(rt; refuses_changes(rt.alloc(), row, *sections)?, "{row:?}");
+fn changes_of_one_byte_are_refused(rt: HostRuntime) {
+    for row in CHANGED {
+        assert!(rt; refuses_changes(rt.alloc(), row), "{row:?}");
     }
-    Ok(())
 }

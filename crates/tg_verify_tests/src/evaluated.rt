@@ -1,21 +1,16 @@
-//! The verifier beside the evaluator of queries: it takes what the evaluator sends, section by section, puts the text of the evaluation,
-//! and ends as the evaluation does.
-use crate::dags::{Asked, Row, query_of};
-use crate::feeding::{VerifyEnd, feed, numbers_of, sections_of};
-use std::alloc::{AllocError, Global};
+//! The verifier beside the evaluator of queries: it takes what the evaluator sends, section by section, puts the text
+//! of the evaluation, and ends as the evaluation does.
+use crate::feeding::{Sections, Verified, VerifyEnd, fed, front_of, is_refused, push_copy};
+use std::alloc::Global;
 use std::rt::HostRuntime;
-use std::test::Fail;
-use tg_bytes::Bytes;
-use tg_model::{Query, Scope, SpanFrom};
-use tg_oracle::{End, Evaluation, evaluate};
-use tg_test_dags::{Shape, Shelf};
+use tg_cid::Cid;
+use tg_model::SpanFrom;
+use tg_oracle::{End, StoredBlock};
+use tg_test_dags::{ALL, Asked, BLOCK, Case, ENTITY, Shape, case_of};
 use tg_verify::Refusal;
 
-const BLOCK: Asked = Asked::Scope(Scope::Block);
-
-const ENTITY: Asked = Asked::Scope(Scope::Entity);
-
-const ALL: Asked = Asked::Scope(Scope::All);
+/// A DAG, a path in it, and what is asked for there.
+type Row = (Shape, &'static [&'static str], Asked);
 
 const FILES: &[Row] = &[
     (Shape::Hello, &[], BLOCK),
@@ -149,85 +144,107 @@ fn segment_at(at: u64) -> u32 {
     u32::try_from(at).unwrap_or(u32::MAX)
 }
 
-/// Whether the verifier takes the blocks with these numbers, the first that the evaluator sends, wants the next one, and has put a front of
-/// the text; and where these are all, ends as the evaluation does with its text.
-fn takes_front(
-    alloc: Global,
-    shelf: &Shelf,
-    query: &Query,
-    found: &Evaluation,
-    front: &[usize],
-) -> Result<bool, AllocError> {
-    let text = found.text.as_slice();
-    let sections = sections_of(alloc, shelf, front)?;
-    let done = feed(alloc, query, &sections, &[])?;
-    Ok(match found.sent.as_slice().get(front.len()) {
-        Some(next) => done.end == Ok(Some(next.cid)) && text.starts_with(done.text.as_slice()),
-        None => done.is(&end_of(&found.end), text),
-    })
+/// Whether the verifier takes the first blocks that the evaluator sends, so many, wants the next one, and has put a
+/// front of the text; and where these are all, ends as the evaluation does with its text.
+fn takes_front(alloc: Global, case: &Case, count: usize) -> bool {
+    match front_of(alloc, case, count) {
+        Some(sections) => takes(case, &fed(alloc, &case.query, &sections, &[]), count),
+        None => false,
+    }
 }
 
-/// Whether the verifier refuses the block that the evaluator can't read, or that can't stand there, with its fault, behind those with these
-/// numbers.
-fn refuses_bad(
-    alloc: Global,
-    shelf: &Shelf,
-    query: &Query,
-    found: &Evaluation,
-    sent: &[usize],
-) -> Result<bool, AllocError> {
-    let End::BadBlock { cid, fault, .. } = found.end else {
-        return Ok(true);
-    };
-    let mut sections = sections_of(alloc, shelf, sent)?;
-    for stored in shelf.blocks.as_slice() {
-        if stored.cid == cid {
-            sections.push((cid, Bytes::of(alloc, stored.block.as_slice())?))?;
+fn takes(case: &Case, done: &Option<Verified>, count: usize) -> bool {
+    let text = case.found.text.as_slice();
+    match (done, case.found.sent.as_slice().get(count)) {
+        (Some(done), Some(next)) => done.wants(next.cid) && text.starts_with(done.text.as_slice()),
+        (Some(done), None) => done.is(&end_of(&case.found.end), text),
+        (None, _) => false,
+    }
+}
+
+/// Whether the verifier takes each front of what the evaluator sends.
+fn takes_fronts(alloc: Global, case: &Case) -> bool {
+    for count in 0..=case.found.sent.as_slice().len() {
+        if !takes_front(alloc, case, count) {
+            return false;
         }
     }
-    let done = feed(alloc, query, &sections, &[])?;
-    Ok(done.is(
-        &Err(Refusal::BadBlock { cid, fault }),
-        found.text.as_slice(),
-    ))
+    true
+}
+
+/// Whether the verifier refuses the block that the evaluator can't read, or that can't stand there, with its fault,
+/// behind those that the evaluator sends.
+fn refuses_bad(alloc: Global, case: &Case) -> bool {
+    match case.found.end {
+        End::BadBlock { cid, fault, .. } => refuses_so(
+            alloc,
+            case,
+            cid,
+            Refusal::BadBlock { cid, fault },
+        ),
+        _ => true,
+    }
+}
+
+fn refuses_so(alloc: Global, case: &Case, cid: Cid, fault: Refusal) -> bool {
+    match with_block(alloc, case, cid) {
+        Some(sections) => is_refused(
+            &fed(alloc, &case.query, &sections, &[]),
+            fault,
+            case.found.text.as_slice(),
+        ),
+        None => false,
+    }
+}
+
+/// What the evaluator sends, and the block under this CID behind it.
+fn with_block(alloc: Global, case: &Case, cid: Cid) -> Option<Sections> {
+    match front_of(alloc, case, case.found.sent.as_slice().len()) {
+        Some(sections) => with_stored(alloc, sections, case.stored.blocks.as_slice(), cid),
+        None => None,
+    }
+}
+
+fn with_stored(
+    alloc: Global,
+    mut sections: Sections,
+    blocks: &[StoredBlock],
+    cid: Cid,
+) -> Option<Sections> {
+    for stored in blocks {
+        if stored.cid == cid && push_copy(alloc, &mut sections, stored).is_err() {
+            return None;
+        }
+    }
+    Some(sections)
 }
 
 /// Whether the verifier does as the evaluator says on a row.
-fn does_as_evaluated(alloc: Global, row: &Row) -> Result<bool, Fail> {
-    let mut shelf = Shelf::new(alloc);
-    let root = row.0.store(&mut shelf)?;
-    let query = query_of(alloc, root, row)?;
-    let found = evaluate(alloc, shelf.blocks.as_slice(), &query)?;
-    let sent = numbers_of(alloc, found.sent.as_slice())?;
-    for count in 0..=sent.len() {
-        let front = sent.get(..count).unwrap_or(&[]);
-        if !takes_front(alloc, &shelf, &query, &found, front)? {
-            return Ok(false);
-        }
+fn does_as_evaluated(alloc: Global, row: &Row) -> bool {
+    let (shape, path, asked) = *row;
+    match case_of(alloc, shape, path, asked) {
+        Some(case) => takes_fronts(alloc, &case) && refuses_bad(alloc, &case),
+        None => false,
     }
-    Ok(refuses_bad(alloc, &shelf, &query, &found, sent.as_slice())?)
 }
 
 #[test]
-fn files_are_verified(rt: HostRuntime) -> Result<(), Fail> {
+fn files_are_verified(rt: HostRuntime) {
     for row in FILES {
-        assert!(rt; does_as_evaluated(rt.alloc(), row)?, "{row:?}");
+        assert!(rt; does_as_evaluated(rt.alloc(), row), "{row:?}");
     }
-    Ok(())
 }
 
 #[test]
-fn directories_are_verified(rt: HostRuntime) -> Result<(), Fail> {
+fn directories_are_verified(rt: HostRuntime) {
     for row in DIRECTORIES {
-        assert!(rt; does_as_evaluated(rt.alloc(), row)?, "{row:?}");
+        assert!(rt; does_as_evaluated(rt.alloc(), row), "{row:?}");
     }
-    Ok(())
 }
 
 #[test]
-fn shards_are_verified(rt: HostRuntime) -> Result<(), Fail> {
+fn shards_are_verified(rt: HostRuntime) {
     for row in SHARDS {
-        assert!(rt; does_as_evaluated(rt.alloc(), row)?, "{row:?}");
+        assert!(rt; does_as_evaluated(rt.alloc(), row), "{row:?}");
     }
-    Ok(())
 }

@@ -4,8 +4,6 @@
 #[cfg(test)]
 mod changes;
 #[cfg(test)]
-mod dags;
-#[cfg(test)]
 mod evaluated;
 #[cfg(test)]
 mod feeding;

@@ -1,12 +1,12 @@
 //! Sections that are refused, with what was put before.
-use crate::feeding::{VerifyEnd, feed, sections_of};
-use std::alloc::{AllocError, Global};
+use crate::feeding::{Verified, VerifyEnd, fed, sections_of};
+use std::alloc::Global;
 use std::rt::HostRuntime;
-use std::test::Fail;
+use tg_bytes::zeros;
 use tg_cid::Cid;
-use tg_model::{BlockFault, LimitKind, Scope};
+use tg_model::{BlockFault, LimitKind, Query, Scope};
 use tg_oracle::scoped_query;
-use tg_test_dags::{Shape, Shelf, chain, chain_down, hello_root, raw_cid};
+use tg_test_dags::{Shape, Stored, chain, chain_down, raw_stored};
 use tg_verify::Refusal;
 
 /// What is fed.
@@ -14,57 +14,14 @@ use tg_verify::Refusal;
 enum Fed {
     /// Stored blocks of a DAG, by their numbers.
     Stored(Shape, &'static [usize]),
-    /// The same of the file `hello world` in chunks, of which the first leaf's block is `Lell`.
-    Changed(&'static [usize]),
     /// A raw block of so many bytes.
     Large(usize),
     /// A file whose leaf lies so many blocks below the root, the root counted.
     Deep(u32),
 }
 
-/// The root and the blocks, and the numbers of those that are fed.
-type Stored = (Cid, Vec<usize>);
-
-fn numbers(alloc: Global, indexes: &[usize]) -> Result<Vec<usize>, AllocError> {
-    Vec::from_slice(alloc, indexes)
-}
-
-fn stored(shelf: &mut Shelf, shape: Shape, indexes: &[usize]) -> Result<Stored, AllocError> {
-    let root = shape.store(shelf)?;
-    Ok((root, numbers(shelf.alloc(), indexes)?))
-}
-
-fn changed(shelf: &mut Shelf, indexes: &[usize]) -> Result<Stored, AllocError> {
-    let root = hello_root(shelf)?;
-    shelf.put_under(raw_cid(b"hell"), b"Lell")?;
-    shelf.raw(b"o wo")?;
-    shelf.raw(b"rld")?;
-    Ok((root, numbers(shelf.alloc(), indexes)?))
-}
-
-fn large(shelf: &mut Shelf, size: usize) -> Result<Stored, AllocError> {
-    let alloc = shelf.alloc();
-    let block = vec![in alloc; 0; size]?;
-    let root = shelf.raw(block.as_slice())?;
-    Ok((root, numbers(alloc, &[0])?))
-}
-
-fn deep(shelf: &mut Shelf, nodes: u32) -> Result<Stored, AllocError> {
-    let root = chain(shelf, nodes)?;
-    Ok((root, chain_down(shelf.alloc(), nodes)?))
-}
-
-/// Stores what is fed.
-fn store(shelf: &mut Shelf, fed: Fed) -> Result<Stored, AllocError> {
-    match fed {
-        Fed::Stored(shape, indexes) => stored(shelf, shape, indexes),
-        Fed::Changed(indexes) => changed(shelf, indexes),
-        Fed::Large(size) => large(shelf, size),
-        Fed::Deep(nodes) => deep(shelf, nodes),
-    }
-}
-
-/// How the verifier ends, told without CIDs that aren't known before: by the number of the stored block that is wanted, or came.
+/// How the verifier ends, told without CIDs that aren't known before: by the number of the stored block that is
+/// wanted, or came.
 #[derive(Clone, Copy, Debug)]
 enum Ended {
     /// All came.
@@ -88,26 +45,27 @@ enum Ended {
 }
 
 /// The CID of the stored block with this number, or the root's where there is none.
-fn cid_at(shelf: &Shelf, root: Cid, index: usize) -> Cid {
-    match shelf.blocks.as_slice().get(index) {
-        Some(stored) => stored.cid,
-        None => root,
+fn cid_at(stored: &Stored, index: usize) -> Cid {
+    match stored.blocks.as_slice().get(index) {
+        Some(block) => block.cid,
+        None => stored.root,
     }
 }
 
 /// The end with the CIDs.
-fn end_of(shelf: &Shelf, root: Cid, ended: Ended) -> VerifyEnd {
-    let cid = |index: usize| cid_at(shelf, root, index);
+fn end_of(stored: &Stored, ended: Ended) -> VerifyEnd {
     match ended {
         Ended::Done => Ok(None),
-        Ended::Wants(index) => Ok(Some(cid(index))),
+        Ended::Wants(index) => Ok(Some(cid_at(stored, index))),
         Ended::WrongBlock(want, got) => Err(Refusal::WrongBlock {
-            want: cid(want),
-            got: cid(got),
+            want: cid_at(stored, want),
+            got: cid_at(stored, got),
         }),
-        Ended::BadDigest(index) => Err(Refusal::BadDigest { cid: cid(index) }),
+        Ended::BadDigest(index) => Err(Refusal::BadDigest {
+            cid: cid_at(stored, index),
+        }),
         Ended::BadBlock(index, fault) => Err(Refusal::BadBlock {
-            cid: cid(index),
+            cid: cid_at(stored, index),
             fault,
         }),
         Ended::Extra(sections) => Err(Refusal::Extra { sections }),
@@ -119,11 +77,6 @@ fn end_of(shelf: &Shelf, root: Cid, ended: Ended) -> VerifyEnd {
 
 /// What is fed, the numbers of the puts that fail, how the verifier ends, and what was put.
 type Row = (Fed, &'static [u64], Ended, &'static [u8]);
-
-/// The file's size 12 where the parts have 4, 4 and 3, and the sizes 4, 5 and 3 of it.
-const OWN_SIZE: &[u8] = b"\x08\x02\x18\x0c\x20\x04\x20\x04\x20\x03";
-
-const PART_SIZE: &[u8] = b"\x08\x02\x18\x0c\x20\x04\x20\x05\x20\x03";
 
 const ROWS: &[Row] = &[
     (Fed::Stored(Shape::Hello, &[]), &[], Ended::Wants(0), b""),
@@ -171,17 +124,27 @@ const ROWS: &[Row] = &[
         Ended::WrongBlock(1, 0),
         b"",
     ),
-    (Fed::Changed(&[0, 1]), &[], Ended::BadDigest(1), b""),
-    // A block that isn't wanted either is told as one that its CID doesn't name.
-    (Fed::Changed(&[1]), &[], Ended::BadDigest(1), b""),
     (
-        Fed::Stored(Shape::Sizes(OWN_SIZE), &[0]),
+        Fed::Stored(Shape::ChangedLeaf, &[0, 1]),
+        &[],
+        Ended::BadDigest(1),
+        b"",
+    ),
+    // A block that isn't wanted either is told as one that its CID doesn't name.
+    (
+        Fed::Stored(Shape::ChangedLeaf, &[1]),
+        &[],
+        Ended::BadDigest(1),
+        b"",
+    ),
+    (
+        Fed::Stored(Shape::OwnSize, &[0]),
         &[],
         Ended::BadSize(12, 11),
         b"",
     ),
     (
-        Fed::Stored(Shape::Sizes(PART_SIZE), &[0, 1, 2, 3]),
+        Fed::Stored(Shape::PartSize, &[0, 1, 2, 3]),
         &[],
         Ended::BadSize(5, 4),
         b"hell",
@@ -239,20 +202,87 @@ const ROWS: &[Row] = &[
 ];
 
 /// Whether the verifier ends so.
-fn ends_so(alloc: Global, row: &Row) -> Result<bool, Fail> {
+fn ends_so(alloc: Global, row: &Row) -> bool {
     let (fed, fails, ended, text) = *row;
-    let mut shelf = Shelf::new(alloc);
-    let (root, indexes) = store(&mut shelf, fed)?;
-    let query = scoped_query(alloc, root, &[], Scope::Entity)?;
-    let sections = sections_of(alloc, &shelf, indexes.as_slice())?;
-    let done = feed(alloc, &query, &sections, fails)?;
-    Ok(done.is(&end_of(&shelf, root, ended), text))
+    match fed {
+        Fed::Stored(shape, indexes) => match shape.store(alloc) {
+            Ok(stored) => end_over(alloc, &stored, indexes, fails, ended, text),
+            Err(_) => false,
+        },
+        Fed::Large(size) => large_ends_so(alloc, size, ended, text),
+        Fed::Deep(nodes) => deep_ends_so(alloc, nodes, ended, text),
+    }
+}
+
+/// Whether the verifier of a raw block of so many bytes ends so.
+fn large_ends_so(alloc: Global, size: usize, ended: Ended, text: &[u8]) -> bool {
+    match zeros(alloc, size) {
+        Ok(block) => one_ends_so(alloc, block.as_slice(), ended, text),
+        Err(_) => false,
+    }
+}
+
+fn one_ends_so(alloc: Global, block: &[u8], ended: Ended, text: &[u8]) -> bool {
+    match raw_stored(alloc, block) {
+        Ok(stored) => end_over(alloc, &stored, &[0], &[], ended, text),
+        Err(_) => false,
+    }
+}
+
+/// Whether the verifier of a file whose leaf lies so deep ends so.
+fn deep_ends_so(alloc: Global, nodes: u32, ended: Ended, text: &[u8]) -> bool {
+    match chain(alloc, nodes, b"\x08\x02\x18\x01\x20\x01") {
+        Ok(stored) => down_ends_so(alloc, &stored, nodes, ended, text),
+        Err(_) => false,
+    }
+}
+
+fn down_ends_so(alloc: Global, stored: &Stored, nodes: u32, ended: Ended, text: &[u8]) -> bool {
+    match chain_down(alloc, nodes) {
+        Ok(indexes) => end_over(alloc, stored, indexes.as_slice(), &[], ended, text),
+        Err(_) => false,
+    }
+}
+
+/// Whether the verifier ends so over these blocks, where its puts with these numbers fail.
+fn end_over(
+    alloc: Global,
+    stored: &Stored,
+    indexes: &[usize],
+    fails: &[u64],
+    ended: Ended,
+    text: &[u8],
+) -> bool {
+    match done_over(alloc, stored, indexes, fails) {
+        Some(done) => done.is(&end_of(stored, ended), text),
+        None => false,
+    }
+}
+
+/// How a verifier of the whole of a DAG ends over these blocks.
+fn done_over(alloc: Global, stored: &Stored, indexes: &[usize], fails: &[u64]) -> Option<Verified> {
+    match scoped_query(alloc, stored.root, &[], Scope::Entity) {
+        Ok(query) => over_blocks(alloc, stored, &query, indexes, fails),
+        Err(_) => None,
+    }
+}
+
+fn over_blocks(
+    alloc: Global,
+    stored: &Stored,
+    query: &Query,
+    indexes: &[usize],
+    fails: &[u64],
+) -> Option<Verified> {
+    match sections_of(alloc, stored.blocks.as_slice(), indexes) {
+        Some(sections) => fed(alloc, query, &sections, fails),
+        None => None,
+    }
 }
 
 #[test]
-fn sections_end_so(rt: HostRuntime) -> Result<(), Fail> {
+fn sections_end_so(rt: HostRuntime) {
     for row in ROWS {
-        assert!(rt; ends_so(rt.alloc(), row)?, "{row:?}");
+        assert!(rt; ends_so(rt.alloc(), row), "{row:?}");
     }
-    Ok(())
 }
