@@ -1,4 +1,5 @@
-//! The reader of bodies over 256 MB in pieces of 65,536 bytes, of stated length and in chunks, beside a copy of the same memory.
+//! The reader of bodies over 256 MB in pieces of 65,536 bytes, of stated length and in chunks, beside a copy of the
+//! same memory.
 use std::alloc::{AllocError, Global};
 use std::io;
 use std::rt::Clock;

@@ -7,7 +7,8 @@ use tg_edges::{Failed, HostPack, Pack};
 
 const PIECE: usize = 65_536;
 
-/// Prints how many bytes of the file with this path were read, the speed in MB/s, and the most memory that the program held.
+/// Prints how many bytes of the file with this path were read, the speed in MB/s, and the most memory that the program
+/// held.
 pub fn run<R: Files + Clock + Print + AllocGlobal + Clone + Drop>(
     rt: &R,
     path: &str,
