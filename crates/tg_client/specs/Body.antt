@@ -1,4 +1,5 @@
--- What the body of an answer stands for: the bytes that it heard, the sections that it took, and what is written for them.
+-- What the body of an answer stands for: the bytes that it heard, the sections that it took, and what is written for
+-- them.
 use Rattle.std.specs.Prelude.{Err, List, None, Ok, Result, [], length, ⊤, ℕ, ◌++◌, ◌<◌, ◌∷◌, ◌≡◌, ◌≤◌}
 use Rattle.tg_car.specs.History.{History}
 use Rattle.tg_car.specs.State.{StandsFor}
@@ -22,7 +23,8 @@ use Rattle.tg_verify.specs.declared.fault.Refusal.TheVariants as refusals
 abbrev pub going_on : List ℕ → List Event → History
 going_on bytes given = record { fed = bytes; given = given; stop = None }
 
--- nothing was refused: these bytes were heard, these sections stand whole in them and were taken, and this is written for them
+-- nothing was refused: these bytes were heard, these sections stand whole in them and were taken, and this is written
+-- for them
 pub record IsBody (body : Body) (heard : List ℕ) (sections : List Section) (written : List ℕ) : Type 0 where
   pub given : List Event
   pub reads : StandsFor body.reader (going_on heard given)

@@ -87,8 +87,8 @@ SaysFor q d sections text (Ok done) = IsItsAnswer q d sections text
 SaysFor q d sections text (Err (faults.Refused fault)) = IsItsFront q d sections text × SaysOfDag q d sections fault
 SaysFor q d sections text (Err other) = IsItsFront q d sections text
 
--- the bytes that were heard, and those of the last piece behind them; the sections that stand whole in what was heard; the text that was
--- put; how it ended; and what that says of each sound DAG with the query's root
+-- the bytes that were heard, and those of the last piece behind them; the sections that stand whole in what was heard;
+-- the text that was put; how it ended; and what that says of each sound DAG with the query's root
 pub record Verifies (q : QueryParts) (limits : LimitNumbers) (input : Input) (out : Output) (result : Result ⊤ ClientFault) : Type 0 where
   pub heard : List ℕ
   pub unheard : List ℕ
@@ -132,7 +132,8 @@ abbrev pub fault_of_refusal : Refusal → ClientFault
 fault_of_refusal refusals.OutOfMemory = faults.OutOfMemory
 fault_of_refusal refusal = faults.Refused refusal
 
--- a fault of the CAR; a section that declares too large a block is a limit's refusal, and want of memory is the client's own
+-- a fault of the CAR; a section that declares too large a block is a limit's refusal, and want of memory is the
+-- client's own
 abbrev pub fault_of_car : CarFault → ClientFault
 fault_of_car (cars.BlockLimit at number) = faults.Refused (refusals.Limit kinds.Block number)
 fault_of_car cars.OutOfMemory = faults.OutOfMemory

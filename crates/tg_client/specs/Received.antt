@@ -21,7 +21,8 @@ sections_given (events.Need ∷ given) = sections_given given
 sections_given (events.Header header ∷ given) = sections_given given
 sections_given (events.Section at size section ∷ given) = out_of_car section ∷ sections_given given
 
--- a CAR goes on with these bytes, none of its blocks above the limit, and these are all sections that stand whole in them
+-- a CAR goes on with these bytes, none of its blocks above the limit, and these are all sections that stand whole in
+-- them
 pub record HasReceived (limit : ℕ) (bytes : List ℕ) (sections : List Section) : Type 0 where
   pub given : List Event
   pub goes_on : GoesOn limit bytes given

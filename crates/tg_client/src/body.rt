@@ -13,8 +13,8 @@ use tg_model::{LimitKind, Limits, Query};
 use tg_streams::Sink;
 use tg_verify::{Refusal, Verifier};
 
-/// The body of an answer to a query: a CAR, of which each section is verified as soon as its last byte came. No byte of it is kept but
-/// those of the section at hand.
+/// The body of an answer to a query: a CAR, of which each section is verified as soon as its last byte came. No byte of
+/// it is kept but those of the section at hand.
 #[derive(Drop)]
 pub(crate) struct Body {
     reader: CarReader,
@@ -42,20 +42,25 @@ impl Body {
 
     /// Takes all of a piece.
     ///
-    /// Errors, at the first byte where one holds: `Refused` with a `Limit` of kind `Received` where more bytes came than may; with `Extra`
-    /// behind the last wanted section; with a `Limit` of kind `Block` where a section declares too large a block; with a refusal of the
-    /// verifier at the last byte of a section; `BadCar` where no CAR goes on so; and `OutOfMemory`.
+    /// Errors, at the first byte where one holds: `Refused` with a `Limit` of kind `Received` where more bytes came
+    /// than may; with `Extra` behind the last wanted section; with a `Limit` of kind `Block` where a section declares
+    /// too large a block; with a refusal of the verifier at the last byte of a section; `BadCar` where no CAR goes on
+    /// so; and `OutOfMemory`.
     pub(crate) fn feed<S: Sink>(&mut self, piece: &[u8], out: &mut S) -> Result<(), ClientFault>
         ensures query { self.new.verifier.left.query ≡ self.old.verifier.left.query }
         ensures limits { self.new.verifier.limits ≡ self.old.verifier.limits }
         ensures most { self.new.most ≡ self.old.most }
-        ensures heard { self.old.heard ≤ self.old.most → IfOk result (λ _. (self.new.heard ≡ self.old.heard + length piece.now) × (self.new.heard ≤ self.new.most)) }
+        ensures heard { self.old.heard ≤ self.old.most
+            → IfOk result (λ _. (self.new.heard ≡ self.old.heard + length piece.now)
+            × (self.new.heard ≤ self.new.most)) }
         ensures cause { self.old.verifier.refused ≡ None → MatchResult result
             (λ _. (self.new.verifier.refused ≡ None) × OutputQuiet (into S.sink out.old out.new))
             (λ fault. HasOutCause (into S.sink out.old out.new) fault) }
-        ensures stands { (heard : Items ℕ) (sections : Items Section) (written : Items ℕ) → IsBody self.old heard sections written → MatchResult result
+        ensures stands { (heard : Items ℕ) (sections : Items Section) (written : Items ℕ)
+            → IsBody self.old heard sections written → MatchResult result
             (λ _. WentOn self.new (heard ++ piece.now) written (into S.sink out.old out.new))
-            (λ fault. IsStopped self.old.verifier.left.query self.old.verifier.limits (heard ++ piece.now) written (into S.sink out.old out.new) fault) }
+            (λ fault. IsStopped self.old.verifier.left.query self.old.verifier.limits (heard
+            ++ piece.now) written (into S.sink out.old out.new) fault) }
     {
         let mut at = 0;
         while at < piece.len() {
@@ -67,7 +72,8 @@ impl Body {
     /// Says that no more bytes come. Errors: `Refused` with `Truncated` where a block is wanted.
     pub(crate) fn end(&mut self) -> Result<(), ClientFault>
         ensures cause { self.old.verifier.refused ≡ None → IfErr result IsEndFault }
-        ensures stands { (heard : Items ℕ) (sections : Items Section) (written : Items ℕ) → IsBody self.old heard sections written
+        ensures stands { (heard : Items ℕ) (sections : Items Section) (written : Items ℕ)
+            → IsBody self.old heard sections written
             → HasEnded self.old.verifier.left.query self.old.verifier.limits heard sections written result }
     {
         tg_car::laws::car_laws();
@@ -79,8 +85,8 @@ impl Body {
         }
     }
 
-    /// Takes bytes of a piece that has some, up to the end of the header or of a section, and says how many. A byte that is one too many
-    /// isn't looked at.
+    /// Takes bytes of a piece that has some, up to the end of the header or of a section, and says how many. A byte
+    /// that is one too many isn't looked at.
     fn take<S: Sink>(&mut self, piece: &[u8], out: &mut S) -> Result<usize, ClientFault>
         requires { 0 < length piece.now }
         ensures query { self.new.verifier.left.query ≡ self.old.verifier.left.query }
@@ -91,9 +97,11 @@ impl Body {
         ensures cause { self.old.verifier.refused ≡ None → MatchResult result
             (λ _. (self.new.verifier.refused ≡ None) × OutputQuiet (into S.sink out.old out.new))
             (λ fault. HasOutCause (into S.sink out.old out.new) fault) }
-        ensures stands { (heard : Items ℕ) (sections : Items Section) (written : Items ℕ) → IsBody self.old heard sections written → MatchResult result
+        ensures stands { (heard : Items ℕ) (sections : Items Section) (written : Items ℕ)
+            → IsBody self.old heard sections written → MatchResult result
             (λ n. WentOn self.new (heard ++ take n piece.now) written (into S.sink out.old out.new))
-            (λ fault. IsStopped self.old.verifier.left.query self.old.verifier.limits (heard ++ piece.now) written (into S.sink out.old out.new) fault) }
+            (λ fault. IsStopped self.old.verifier.left.query self.old.verifier.limits (heard
+            ++ piece.now) written (into S.sink out.old out.new) fault) }
     {
         tg_verify::laws::verified_answers();
         laws::received_sections();

@@ -56,7 +56,8 @@ impl Calls {
 
     /// Counts a fault of the call that is under way.
     pub fn fault(&mut self) -> Failed
-        ensures count { self.new ≡ record { fails = self.old.fails; made = self.old.made; faults = counted self.old.faults } }
+        ensures count { self.new ≡ record
+            { fails = self.old.fails; made = self.old.made; faults = counted self.old.faults } }
         ensures counted { self.old.faults ≤ self.new.faults }
     {
         self.faults = self.faults.saturating_add(1);

@@ -135,7 +135,8 @@ abbrev pub IsOfChild : Option Place → Type 0
 IsOfChild None = ⊤
 IsOfChild (Some place) = (path : List (List ℕ)) → want_of path place.ask place.depth ≡ want_of [] place.ask place.depth
 
--- what is done there comes first of the tasks `old`, and then come those of `new`; where nothing is done, nothing is left
+-- what is done there comes first of the tasks `old`, and then come those of `new`; where nothing is done, nothing is
+-- left
 abbrev pub IsDone : Option Entry → Option Place → List (Task CidParts) → Type 0
 IsDone None None old = old ≡ []
 IsDone None (Some place) old = ⊤

@@ -107,7 +107,8 @@ IsNext old nexts.Line new = tasks_left old ≡ give_text (line_feed ∷ []) ∷ 
 IsNext old (nexts.Entry entry) new = (directory : List ℕ) × (tasks_left old ≡ give_entries (listed_at directory entry ∷ []) ∷ tasks_left new)
 IsNext old (nexts.Missing miss) new = (more : List (Task CidParts)) × (tasks_left old ≡ stop_at (missing_of miss) ∷ more) × (new ≡ old)
 
--- the block at the wanted place is read there: as this kind, which may stand there; or it has no kind, or one that can't
+-- the block at the wanted place is read there: as this kind, which may stand there; or it has no kind, or one that
+-- can't
 abbrev pub IsReadAs : QueryParts → WantedAt → List ℕ → Result PlacedKind BlockFault → Type 0
 IsReadAs q at block (Ok found) = (kind : Kind) × (read at.cid block ≡ Ok kind) × (fault_at q at.want kind ≡ None) × StandsForKind block found kind
 IsReadAs q at block (Err fault) =

@@ -1,5 +1,5 @@
--- What the block at the wanted place says itself: its text there, and its sizes (UnixFS specification, File; Trustless Gateway
--- specification, entity-bytes).
+-- What the block at the wanted place says itself: its text there, and its sizes (UnixFS specification, File; Trustless
+-- Gateway specification, entity-bytes).
 use Rattle.tg_traversal.specs.declared.position.Ask.TheVariants as asks
 use Rattle.std.specs.Prelude.{List, None, Option, Some, ℕ, ⊤, ◌≡◌, ◌≢◌, ◌⊎◌}
 use Rattle.tg_traversal.specs.Left.{LeftState, WantedAt}
@@ -95,7 +95,8 @@ abbrev pub IsDiffering : Option ℕ → ℕ → Option SizeFault → Type 0
 IsDiffering told actual None = IsSame told actual
 IsDiffering told actual (Some fault) = IsOther told actual fault
 
--- the size that its parent declares for the block and the one that it tells itself are its own; or the first of these that isn't
+-- the size that its parent declares for the block and the one that it tells itself are its own; or the first of these
+-- that isn't
 abbrev pub IsSizeFault : Position → Section → Kind → Option SizeFault → Type 0
 IsSizeFault position section kind None = IsOfSize position (total_of section kind) × TellsSize kind (total_of section kind)
 IsSizeFault position section kind (Some fault) =

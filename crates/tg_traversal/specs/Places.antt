@@ -1,4 +1,5 @@
--- What the places of a traversal ask, as values (Trustless Gateway specification: dag-scope, entity-bytes; UnixFS specification).
+-- What the places of a traversal ask, as values (Trustless Gateway specification: dag-scope, entity-bytes; UnixFS
+-- specification).
 use Rattle.tg_traversal.specs.declared.position.Ask.TheVariants as asks
 use Rattle.tg_traversal.specs.declared.position.Miss.TheVariants as misses
 use Rattle.tg_traversal.specs.declared.position.Position.TheVariants as positions

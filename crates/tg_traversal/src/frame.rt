@@ -13,8 +13,8 @@ use tg_cid::Cid;
 use tg_escape::push_escaped;
 use tg_model::{Entry, PartCursor, Slot, part_at};
 
-/// The parts of a file that are to come, in its block: so many, of which the next begins at the byte `from` of the content; and
-/// the bytes that are asked for, or all where no range is given.
+/// The parts of a file that are to come, in its block: so many, of which the next begins at the byte `from` of the
+/// content; and the bytes that are asked for, or all where no range is given.
 #[derive(Drop)]
 pub(crate) struct PartsLeft {
     pub(crate) block: Bytes,
@@ -24,16 +24,16 @@ pub(crate) struct PartsLeft {
     pub(crate) range: Option<(u64, u64)>,
 }
 
-/// The entries of a directory that are to come, the last of them first; and the path under which they are bundled, or none where
-/// they are listed.
+/// The entries of a directory that are to come, the last of them first; and the path under which they are bundled, or
+/// none where they are listed.
 #[derive(Drop)]
 pub(crate) struct EntriesLeft {
     pub(crate) entries: Vec<Entry>,
     pub(crate) path: Option<Bytes>,
 }
 
-/// The slots of a shard that are to come, the last of them first; the slots that were passed to the shard; and the path under which
-/// the entries are bundled, or none where they are listed.
+/// The slots of a shard that are to come, the last of them first; the slots that were passed to the shard; and the path
+/// under which the entries are bundled, or none where they are listed.
 #[derive(Drop)]
 pub(crate) struct SlotsLeft {
     pub(crate) slots: Vec<Slot>,
@@ -66,8 +66,8 @@ pub(crate) struct Visited {
 }
 
 impl Frame {
-    /// Goes on to the next link at which something is done. The error is want of memory, with which the frame is given back as it
-    /// was.
+    /// Goes on to the next link at which something is done. The error is want of memory, with which the frame is given
+    /// back as it was.
     pub(crate) fn next(self, alloc: Global) -> Result<(Visited, Frame), Frame>
         requires { IsFrame self }
         ensures frame { IfOk result (λ found. IsFrame found.1) }
@@ -190,8 +190,8 @@ impl PartsLeft {
     }
 }
 
-/// What is asked of a part of this size that begins at `from`, where it is gone into: all of it, or the bytes of the range that lie in
-/// it, counted from its first.
+/// What is asked of a part of this size that begins at `from`, where it is gone into: all of it, or the bytes of the
+/// range that lie in it, counted from its first.
 fn reach_of_part(range: Option<(u64, u64)>, from: u64, size: u64) -> Option<Reach>
     requires { from + size < 2 ^ 64 }
     ensures { IsReachOfPart result (part_reach range from size) }
@@ -207,8 +207,8 @@ fn reach_of_part(range: Option<(u64, u64)>, from: u64, size: u64) -> Option<Reac
 }
 
 impl EntriesLeft {
-    /// Meets the next entry, and goes into it where it is bundled; the entries' depth is given. The error is want of memory, with
-    /// which nothing changes.
+    /// Meets the next entry, and goes into it where it is bundled; the entries' depth is given. The error is want of
+    /// memory, with which nothing changes.
     fn next(&mut self, alloc: Global, depth: u64) -> Result<Visited, AllocError>
         ensures next { IfOk result (λ visited. AreEntriesVisited depth self.old visited self.new) }
         ensures err { OnErr result (self.new ≡ self.old) }
@@ -232,7 +232,8 @@ fn place_of_entry(
     cid: Cid,
     depth: u64,
 ) -> Result<Option<Place>, AllocError>
-    ensures { IfOk result (λ place. IsPlaceOf depth cid (entry_visit (directory_reach path.now) name.now cid).into place) }
+    ensures { IfOk result (λ place. IsPlaceOf depth cid
+        (entry_visit (directory_reach path.now) name.now cid).into place) }
 {
     let Some(path) = path else {
         return Ok(None);
@@ -258,8 +259,8 @@ fn joined(alloc: Global, path: &[u8], name: &[u8]) -> Result<Bytes, AllocError>
 }
 
 impl SlotsLeft {
-    /// Meets the entry of the next slot, and goes into it where it is bundled; or goes into the child shard there. The depth of both
-    /// is given. The error is want of memory, with which nothing changes.
+    /// Meets the entry of the next slot, and goes into it where it is bundled; or goes into the child shard there. The
+    /// depth of both is given. The error is want of memory, with which nothing changes.
     fn next(&mut self, alloc: Global, depth: u64) -> Result<Visited, AllocError>
         requires { length self.old.above < 8 }
         ensures next { IfOk result (λ visited. AreSlotsVisited depth self.old visited self.new) }

@@ -26,11 +26,13 @@ pub enum Next {
     Missing(Miss),
 }
 
-/// What is left of the traversal of a DAG for a query, block by block: the frames of the blocks that were opened, the outer ones first,
-/// and the place whose block is wanted now. Contracts see the query, that place, and the tasks behind it.
+/// What is left of the traversal of a DAG for a query, block by block: the frames of the blocks that were opened, the
+/// outer ones first, and the place whose block is wanted now. Contracts see the query, that place, and the tasks behind
+/// it.
 ///
-/// A frame holds a file's block with a cursor over its links, or what is left of a directory's entries; one of which nothing is left
-/// is dropped before its last child is gone into. Trustless Gateway specification, dag-scope, entity-bytes and order dfs.
+/// A frame holds a file's block with a cursor over its links, or what is left of a directory's entries; one of which
+/// nothing is left is dropped before its last child is gone into. Trustless Gateway specification, dag-scope,
+/// entity-bytes and order dfs.
 #[derive(Drop)]
 pub struct Frames {
     pub(crate) alloc: Global,
@@ -60,7 +62,8 @@ impl Frames {
     pub fn new(alloc: Global, query: &Query) -> Result<Frames, AllocError>
         ensures query { IfOk result (λ frames. frames.query ≡ query.now) }
         ensures start { IfOk result (λ frames. tasks_left frames ≡ start query.now query.now.root) }
-        ensures wanted { IfOk result (λ frames. told_wanted frames.wanted ≡ Some (record { cid = query.now.root; depth = 1 })) }
+        ensures wanted { IfOk result (λ frames. told_wanted frames.wanted ≡ Some
+            (record { cid = query.now.root; depth = 1 })) }
     {
         let query = copied(alloc, query)?;
         let place = Place {

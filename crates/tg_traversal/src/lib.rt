@@ -1,5 +1,5 @@
-//! What is left of a query's traversal, as frames of the blocks that were opened: which block is wanted next, what the block at
-//! that place is read as, what it says itself, and what it leaves. It speaks of no store and of no peer.
+//! What is left of a query's traversal, as frames of the blocks that were opened: which block is wanted next, what the
+//! block at that place is read as, what it says itself, and what it leaves. It speaks of no store and of no peer.
 #![tactic(auto)]
 
 mod frame;

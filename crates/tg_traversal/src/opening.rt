@@ -25,16 +25,20 @@ use tg_model::{
 use tg_murmur::{hash64, slot};
 
 impl Frames {
-    /// Opens the block at the place that is wanted now, as what `read` gave for it: what it leaves comes before what was left behind it.
-    /// The bytes are the block's where it is a file with parts, and of other blocks none are needed.
+    /// Opens the block at the place that is wanted now, as what `read` gave for it: what it leaves comes before what
+    /// was left behind it. The bytes are the block's where it is a file with parts, and of other blocks none are
+    /// needed.
     ///
-    /// Path Gateway specification, Path Resolution; Trustless Gateway specification, dag-scope and entity-bytes. The error is want of
-    /// memory, with which the place is given up, and what was left behind it stays.
+    /// Path Gateway specification, Path Resolution; Trustless Gateway specification, dag-scope and entity-bytes. The
+    /// error is want of memory, with which the place is given up, and what was left behind it stays.
     pub fn open(&mut self, found: PlacedKind, block: Bytes) -> Result<(), AllocError>
-        requires here { (at : WantedAt) × (section : Section) × (kind : Kind) × IsReadHere self.old at section kind found block × (depth_of at.want + 1 < 2 ^ 64) }
+        requires here { (at : WantedAt) × (section : Section) × (kind : Kind)
+            × IsReadHere self.old at section kind found block × (depth_of at.want + 1 < 2 ^ 64) }
         ensures query { self.new.query ≡ self.old.query }
-        ensures opened { (at : WantedAt) (section : Section) (kind : Kind) → IsReadHere self.old at section kind found block
-            → OnOk result (tasks_left self.new ≡ tasks_of self.old.query at.want section kind (links_of kind) ++ self.old.later) }
+        ensures opened { (at : WantedAt) (section : Section) (kind : Kind)
+            → IsReadHere self.old at section kind found block
+            → OnOk result (tasks_left self.new ≡ tasks_of self.old.query at.want section kind (links_of kind)
+            ++ self.old.later) }
         ensures err { OnErr result (tasks_left self.new ≡ self.old.later) }
     {
         let Some(Place { depth, ask, .. }) = self.wanted.take() else {
@@ -84,7 +88,8 @@ fn parted(stepped: Result<Place, Miss>) -> (Option<Place>, Option<Miss>)
     }
 }
 
-/// Where the step with the segment of this index leads, from a block that stands there at this depth: to the next place, or nowhere.
+/// Where the step with the segment of this index leads, from a block that stands there at this depth: to the next
+/// place, or nowhere.
 ///
 /// Path Gateway specification, Path Resolution; UnixFS specification, HAMTDirectory.
 fn step_from(
@@ -97,7 +102,8 @@ fn step_from(
     requires index { index < length query.now.path }
     requires depth { depth + 1 < 2 ^ 64 }
     requires read { (section : Section) × (kind : Kind) × IsReadBy position.now section kind found }
-    ensures { (section : Section) (kind : Kind) → IsReadBy position.now section kind found → IsStepLeft query.now index position.now depth section kind result }
+    ensures { (section : Section) (kind : Kind) → IsReadBy position.now section kind found
+        → IsStepLeft query.now index position.now depth section kind result }
 {
     let above = passed(position);
     let level = above.len() as u8;
@@ -146,8 +152,10 @@ fn directory_kind(found: PlacedKind) -> Kind
 ///
 /// Trustless Gateway specification, dag-scope and entity-bytes: a range is ignored where the terminal isn't a file.
 fn terminal_reach(alloc: Global, query: &Query, found: &PlacedKind) -> Result<Reach, AllocError>
-    ensures { (depth : ℕ) (section : Section) (kind : Kind) → IsReadBy Position.Top section kind found.now → query.now.scope ≢ Scope.Block
-        → IfOk result (λ reach. node_tasks (reach_of reach) top depth kind (links_of kind) ≡ terminal_tasks query.now.scope query.now.span depth section kind (links_of kind)) }
+    ensures { (depth : ℕ) (section : Section) (kind : Kind) → IsReadBy Position.Top section kind found.now
+        → query.now.scope ≢ Scope.Block
+        → IfOk result (λ reach. node_tasks (reach_of reach) top depth kind
+        (links_of kind) ≡ terminal_tasks query.now.scope query.now.span depth section kind (links_of kind)) }
 {
     well_formed(query);
     match found {
@@ -193,9 +201,11 @@ fn node_frame(
     block: Bytes,
 ) -> Frame
     requires depth { depth + 1 < 2 ^ 64 }
-    requires read { (section : Section) × (kind : Kind) × IsReadBy position section kind found × IsHeldFor found block section.block }
+    requires read { (section : Section) × (kind : Kind) × IsReadBy position section kind found
+        × IsHeldFor found block section.block }
     ensures frame { IsFrame result }
-    ensures tasks { (section : Section) (kind : Kind) → IsReadBy position section kind found → IsHeldFor found block section.block
+    ensures tasks { (section : Section) (kind : Kind) → IsReadBy position section kind found
+        → IsHeldFor found block section.block
         → frame_tasks result ≡ node_tasks (reach_of reach) (standing_of position) depth kind (links_of kind) }
 {
     let depth = depth + 1;
@@ -236,10 +246,13 @@ fn is_bundled(reach: &Reach) -> bool
 
 /// What is left of the parts of a file; the bytes are its block's where it has parts.
 fn parts_left(reach: Reach, places: FilePlaces, block: Bytes) -> ChildrenLeft
-    requires { (inline : Items ℕ) × (filesize : Option ℕ) × (parts : Items Part) × IsFileHeld places block inline filesize parts }
+    requires { (inline : Items ℕ) × (filesize : Option ℕ) × (parts : Items Part)
+        × IsFileHeld places block inline filesize parts }
     ensures left { AreLeft result }
-    ensures tasks { (depth : ℕ) (inline : Items ℕ) (filesize : Option ℕ) (parts : Items Part) → IsFileHeld places block inline filesize parts
-        → children_left depth result ≡ children_tasks (file_visits (reach_of reach) inline parts) depth (map (λ part. part.cid) parts) }
+    ensures tasks { (depth : ℕ) (inline : Items ℕ) (filesize : Option ℕ) (parts : Items Part)
+        → IsFileHeld places block inline filesize parts
+        → children_left depth result ≡ children_tasks (file_visits (reach_of reach) inline parts) depth
+        (map (λ part. part.cid) parts) }
 {
     let range = match reach {
         Reach::Bundled(_) | Reach::Entire => None,

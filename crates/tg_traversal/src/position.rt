@@ -55,8 +55,8 @@ impl Passed {
     }
 }
 
-/// Where a block stands: at the root or as a directory's entry, as a part of a file with the size that is declared for it, or as
-/// a child of a shard behind the slots that were passed.
+/// Where a block stands: at the root or as a directory's entry, as a part of a file with the size that is declared for
+/// it, or as a child of a shard behind the slots that were passed.
 ///
 /// UnixFS specification, File and HAMTDirectory.
 #[derive(Drop)]
@@ -66,8 +66,8 @@ pub(crate) enum Position {
     Child(Passed),
 }
 
-/// What is asked of a node below the terminal: all below a directory, as records of a bundle under this path; all of a file's
-/// content or a symbolic link's target; its bytes from one up to another; or a directory's entries.
+/// What is asked of a node below the terminal: all below a directory, as records of a bundle under this path; all of a
+/// file's content or a symbolic link's target; its bytes from one up to another; or a directory's entries.
 ///
 /// Trustless Gateway specification, dag-scope and entity-bytes.
 #[derive(Drop)]
@@ -78,8 +78,8 @@ pub(crate) enum Reach {
     Listed,
 }
 
-/// What is asked of a place: the step with the segment of this index; what the query asks of its terminal; or this much of a node
-/// below it.
+/// What is asked of a place: the step with the segment of this index; what the query asks of its terminal; or this much
+/// of a node below it.
 #[derive(Drop)]
 pub(crate) enum Ask {
     Segment(usize, Position),
@@ -87,7 +87,8 @@ pub(crate) enum Ask {
     Node(Reach, Position),
 }
 
-/// A block that is wanted: its CID, how many blocks there are from the root to it, both counted, and what is asked of it.
+/// A block that is wanted: its CID, how many blocks there are from the root to it, both counted, and what is asked of
+/// it.
 #[derive(Drop)]
 pub(crate) struct Place {
     pub(crate) cid: Cid,

@@ -15,8 +15,8 @@ use tg_bytes::List;
 use tg_model::{BlockFault, Kind, PlacedKind, Scope, Slot, check_shard, reads_in_place};
 
 impl Frames {
-    /// Whether the block at the place that is wanted now is read there: it isn't where it is a terminal of which the block alone is asked
-    /// for. It takes no memory.
+    /// Whether the block at the place that is wanted now is read there: it isn't where it is a terminal of which the
+    /// block alone is asked for. It takes no memory.
     ///
     /// Trustless Gateway specification, dag-scope.
     pub fn is_read(&self) -> bool
@@ -33,11 +33,13 @@ impl Frames {
 
     /// What the block at the place that is wanted now is read as, where it may stand there.
     ///
-    /// UnixFS specification, Data Format and node types. Errors, the first of them: why the block has no kind, as `reads` tells it;
-    /// or why a block of its kind can't stand there, as `Misplaced`, `BelowEight`, `NotShard` and `NotPart`. Besides, `OutOfMemory`.
+    /// UnixFS specification, Data Format and node types. Errors, the first of them: why the block has no kind, as
+    /// `reads` tells it; or why a block of its kind can't stand there, as `Misplaced`, `BelowEight`, `NotShard` and
+    /// `NotPart`. Besides, `OutOfMemory`.
     pub fn read(&self, alloc: Global, block: &[u8]) -> Result<PlacedKind, BlockFault>
         requires { (at : WantedAt) × (self.now.wanted ≡ Some at) }
-        ensures { (at : WantedAt) → self.now.wanted ≡ Some at → is_read_at self.now.query at.want ≡ true → IsReadAs self.now.query at block.now result }
+        ensures { (at : WantedAt) → self.now.wanted ≡ Some at → is_read_at self.now.query at.want ≡ true
+            → IsReadAs self.now.query at block.now result }
     {
         let Some(place) = &self.wanted else {
             unreachable!();
@@ -50,11 +52,13 @@ impl Frames {
     }
 }
 
-/// The same kind, where a block of it may stand there. Errors: `Misplaced` and `BelowEight` of a shard, `NotPart` and `NotShard`.
+/// The same kind, where a block of it may stand there. Errors: `Misplaced` and `BelowEight` of a shard, `NotPart` and
+/// `NotShard`.
 ///
 /// UnixFS specification, File and HAMTDirectory.
 fn fitting(found: PlacedKind, position: &Position) -> Result<PlacedKind, BlockFault>
-    ensures { (block : Items ℕ) (kind : Kind) → StandsForKind block found kind → IsFitting (standing_of position.now) kind found result }
+    ensures { (block : Items ℕ) (kind : Kind) → StandsForKind block found kind
+        → IsFitting (standing_of position.now) kind found result }
 {
     match position {
         Position::Top => fitting_top(found),
@@ -78,7 +82,8 @@ fn fitting_top(found: PlacedKind) -> Result<PlacedKind, BlockFault>
 
 /// The same kind, where it may be a file's part: raw, or a file.
 fn fitting_part(found: PlacedKind) -> Result<PlacedKind, BlockFault>
-    ensures { (size : ℕ) (block : Items ℕ) (kind : Kind) → StandsForKind block found kind → IsFitting (part size) kind found result }
+    ensures { (size : ℕ) (block : Items ℕ) (kind : Kind) → StandsForKind block found kind
+        → IsFitting (part size) kind found result }
 {
     match found {
         PlacedKind::Raw => Ok(PlacedKind::Raw),
@@ -93,7 +98,8 @@ fn fitting_part(found: PlacedKind) -> Result<PlacedKind, BlockFault>
 
 /// The same kind, where it may be the child of a shard behind these slots: a shard.
 fn fitting_child(found: PlacedKind, above: &[u8]) -> Result<PlacedKind, BlockFault>
-    ensures { (block : Items ℕ) (kind : Kind) → StandsForKind block found kind → IsFitting (child above.now) kind found result }
+    ensures { (block : Items ℕ) (kind : Kind) → StandsForKind block found kind
+        → IsFitting (child above.now) kind found result }
 {
     match found {
         PlacedKind::Shard { slots } => {
@@ -106,7 +112,8 @@ fn fitting_child(found: PlacedKind, above: &[u8]) -> Result<PlacedKind, BlockFau
 
 /// The slots of a shard, where it may stand behind these. Errors: `BelowEight` and `Misplaced`.
 fn behind(slots: List<Slot>, above: &[u8]) -> Result<List<Slot>, BlockFault>
-    ensures { MatchResult result (λ same. (same ≡ slots) × (shard_fault above.now slots ≡ None)) (λ fault. shard_fault above.now slots ≡ Some fault) }
+    ensures { MatchResult result (λ same. (same ≡ slots)
+        × (shard_fault above.now slots ≡ None)) (λ fault. shard_fault above.now slots ≡ Some fault) }
 {
     let kind = shard_of(slots);
     check_shard(&kind, above)?;

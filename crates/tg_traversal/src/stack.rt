@@ -18,7 +18,8 @@ pub(crate) enum Came {
     Link(Visited),
 }
 
-/// The frames of opened blocks, each below the one whose child it is: as contracts see it, the tasks that are left of them.
+/// The frames of opened blocks, each below the one whose child it is: as contracts see it, the tasks that are left of
+/// them.
 #[derive(Drop)]
 pub(crate) struct Stack {
     top: Option<Frame>,
@@ -49,7 +50,8 @@ impl Stack {
         }
     }
 
-    /// Takes what comes next; a frame of which nothing is left is dropped. The error is want of memory, with which nothing changes.
+    /// Takes what comes next; a frame of which nothing is left is dropped. The error is want of memory, with which
+    /// nothing changes.
     pub(crate) fn next(&mut self, alloc: Global) -> Result<Came, AllocError>
         ensures come { IfOk result (λ came. IsCome self.old came self.new) }
         ensures err { OnErr result (self.new ≡ self.old) }
@@ -80,7 +82,8 @@ impl Stack {
         Ok(Came::Nothing)
     }
 
-    /// Puts a frame on top of the others, where something is left of it. The error is want of memory, with which nothing changes.
+    /// Puts a frame on top of the others, where something is left of it. The error is want of memory, with which
+    /// nothing changes.
     pub(crate) fn push(&mut self, frame: Frame) -> Result<(), AllocError>
         requires { IsFrame frame }
         ensures ok { OnOk result (self.new ≡ frame_tasks frame ++ self.old) }

@@ -18,8 +18,8 @@ use std::alloc::{AllocError, Global};
 use tg_bytes::Bytes;
 use tg_model::{PlacedKind, Query, Scope, Span, resolve_span};
 
-/// The text that a block adds where it stands: the line before a record of a bundle, which is empty elsewhere, and behind it bytes
-/// of the block.
+/// The text that a block adds where it stands: the line before a record of a bundle, which is empty elsewhere, and
+/// behind it bytes of the block.
 #[derive(Debug, Drop)]
 pub struct PlaceText<'a> {
     /// The first line of the block's record in a bundle.
@@ -40,22 +40,25 @@ pub struct SizeFault {
 }
 
 impl Frames {
-    /// The text that the block at the place that is wanted now adds, read there as `found`: a file's own bytes or those of them that
-    /// are asked for, a symbolic link's target, and before them the line of a record where all below a directory is asked for. Of a
-    /// terminal of which the block alone is asked for it is the block.
+    /// The text that the block at the place that is wanted now adds, read there as `found`: a file's own bytes or those
+    /// of them that are asked for, a symbolic link's target, and before them the line of a record where all below a
+    /// directory is asked for. Of a terminal of which the block alone is asked for it is the block.
     ///
-    /// Trustless Gateway specification, dag-scope and entity-bytes; the lines are this project's own. The error is want of memory,
-    /// which only a line takes.
+    /// Trustless Gateway specification, dag-scope and entity-bytes; the lines are this project's own. The error is want
+    /// of memory, which only a line takes.
     pub fn text<'a>(
         &self,
         alloc: Global,
         found: &PlacedKind,
         block: &'a [u8],
     ) -> Result<PlaceText<'a>, AllocError>
-        requires { (at : WantedAt) × (section : Section) × (kind : Kind) × IsBlockHere self.now at section kind found.now block.now }
-        ensures text { (at : WantedAt) (section : Section) (kind : Kind) → IsBlockHere self.now at section kind found.now block.now
+        requires { (at : WantedAt) × (section : Section) × (kind : Kind)
+            × IsBlockHere self.now at section kind found.now block.now }
+        ensures text { (at : WantedAt) (section : Section) (kind : Kind)
+            → IsBlockHere self.now at section kind found.now block.now
             → IfOk result (λ text. text.line ++ text.bytes.now ≡ text_at self.now.query at.want section kind) }
-        ensures err { (at : WantedAt) (section : Section) (kind : Kind) → IsBlockHere self.now at section kind found.now block.now
+        ensures err { (at : WantedAt) (section : Section) (kind : Kind)
+            → IsBlockHere self.now at section kind found.now block.now
             → OnErr result (IsRecordAt self.now.query at.want kind) }
     {
         let Some(place) = &self.wanted else {
@@ -68,12 +71,13 @@ impl Frames {
         }
     }
 
-    /// Where the sizes that are told of the block at the place that is wanted now, read there as `found`, disagree with its own: first
-    /// the one that its parent declares, then a file's filesize. It takes no memory.
+    /// Where the sizes that are told of the block at the place that is wanted now, read there as `found`, disagree with
+    /// its own: first the one that its parent declares, then a file's filesize. It takes no memory.
     ///
     /// UnixFS specification, File.
     pub fn size_fault(&self, found: &PlacedKind, block: &[u8]) -> Option<SizeFault>
-        ensures { (at : WantedAt) (section : Section) (kind : Kind) → IsBlockHere self.now at section kind found.now block.now
+        ensures { (at : WantedAt) (section : Section) (kind : Kind)
+            → IsBlockHere self.now at section kind found.now block.now
             → IsSizeFault (position_of at.want) section kind result }
     {
         let place = self.wanted.as_ref()?;
@@ -106,7 +110,8 @@ fn terminal_text<'a>(
 ) -> Result<PlaceText<'a>, AllocError>
     requires { (section : Section) × (kind : Kind) × IsBlockAt section kind found.now block.now }
     ensures text { (section : Section) (kind : Kind) → IsBlockAt section kind found.now block.now
-        → IfOk result (λ text. text.line ++ text.bytes.now ≡ terminal_text_before query.now.scope query.now.span section kind) }
+        → IfOk result (λ text. text.line
+        ++ text.bytes.now ≡ terminal_text_before query.now.scope query.now.span section kind) }
     ensures err { (section : Section) (kind : Kind) → IsBlockAt section kind found.now block.now
         → OnErr result (IsFirstRecord query.now.scope kind) }
 {
@@ -123,7 +128,8 @@ fn terminal_text<'a>(
     }
 }
 
-/// The first line of a bundle, where the terminal is a directory; of any other there is none. The error is want of memory.
+/// The first line of a bundle, where the terminal is a directory; of any other there is none. The error is want of
+/// memory.
 fn first_line(alloc: Global, found: &PlacedKind) -> Result<Bytes, AllocError>
     ensures line { (block : Items ℕ) (section : Section) (kind : Kind) → IsBlockAt section kind found.now block
         → IfOk result (λ line. line ++ own_text section kind ≡ text_before (all_reach kind) top section kind) }
@@ -155,7 +161,8 @@ fn asked_bytes<'a>(span: Option<Span>, found: &PlacedKind, block: &'a [u8]) -> &
     between(bytes, low, high)
 }
 
-/// The text of a node below a terminal, of which so much is asked. The error is want of memory, which only a line takes.
+/// The text of a node below a terminal, of which so much is asked. The error is want of memory, which only a line
+/// takes.
 ///
 /// Trustless Gateway specification, dag-scope and entity-bytes.
 fn node_text<'a>(
@@ -167,7 +174,8 @@ fn node_text<'a>(
 ) -> Result<PlaceText<'a>, AllocError>
     requires { (section : Section) × (kind : Kind) × IsBlockAt section kind found.now block.now }
     ensures text { (section : Section) (kind : Kind) → IsBlockAt section kind found.now block.now
-        → IfOk result (λ text. text.line ++ text.bytes.now ≡ text_before (reach_of reach.now) (standing_of position.now) section kind) }
+        → IfOk result (λ text. text.line
+        ++ text.bytes.now ≡ text_before (reach_of reach.now) (standing_of position.now) section kind) }
     ensures err { OnErr result (IsBundled (reach_of reach.now)) }
 {
     let bytes = own_bytes(found, block);
@@ -185,8 +193,8 @@ fn node_text<'a>(
     }
 }
 
-/// The line before the record of a block in a bundle, under this path; before a child of a shard there is none. The error is want of
-/// memory.
+/// The line before the record of a block in a bundle, under this path; before a child of a shard there is none. The
+/// error is want of memory.
 fn record_line(
     alloc: Global,
     path: &[u8],
@@ -219,7 +227,8 @@ fn directory_line(alloc: Global, path: &[u8]) -> Result<Bytes, AllocError>
     Ok(line)
 }
 
-/// The line of a file or of a symbolic link in a bundle, with the size of its content or target. The error is want of memory.
+/// The line of a file or of a symbolic link in a bundle, with the size of its content or target. The error is want of
+/// memory.
 fn sized_line(alloc: Global, word: &[u8], size: u64, path: &[u8]) -> Result<Bytes, AllocError>
     ensures { IfOk result (λ line. line ≡ word.now ++ (decimal size ++ space ∷ (path.now ++ line_feed ∷ []))) }
 {
@@ -236,7 +245,8 @@ fn sized_line(alloc: Global, word: &[u8], size: u64, path: &[u8]) -> Result<Byte
 /// UnixFS specification, Data Format.
 fn own_bytes<'a>(found: &PlacedKind, block: &'a [u8]) -> &'a [u8]
     requires { (section : Section) × (kind : Kind) × IsBlockAt section kind found.now block.now }
-    ensures { (section : Section) (kind : Kind) → IsBlockAt section kind found.now block.now → result.now ≡ own_text section kind }
+    ensures { (section : Section) (kind : Kind) → IsBlockAt section kind found.now block.now
+        → result.now ≡ own_text section kind }
 {
     match found {
         PlacedKind::Raw => block,
@@ -259,7 +269,8 @@ fn between(bytes: &[u8], low: u64, high: u64) -> &[u8]
 ///
 /// UnixFS specification, File.
 fn content_size(found: &PlacedKind, block: &[u8]) -> Option<u64>
-    ensures { (section : Section) (kind : Kind) → IsBlockAt section kind found.now block.now → result ≡ content_size section kind }
+    ensures { (section : Section) (kind : Kind) → IsBlockAt section kind found.now block.now
+        → result ≡ content_size section kind }
 {
     match found {
         PlacedKind::Raw => Some(block.len() as u64),
@@ -280,7 +291,8 @@ fn part_size(ask: &Ask) -> Option<u64>
 
 /// The size of all of its content that a file tells.
 fn filesize(found: &PlacedKind) -> Option<u64>
-    ensures { (block : Items ℕ) (section : Section) (kind : Kind) → IsBlockAt section kind found.now block → result ≡ told_size kind }
+    ensures { (block : Items ℕ) (section : Section) (kind : Kind) → IsBlockAt section kind found.now block
+        → result ≡ told_size kind }
 {
     match found {
         PlacedKind::File(places) => places.filesize,

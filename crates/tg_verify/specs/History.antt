@@ -53,7 +53,8 @@ ShowsFor q wanted sections written (Err (refusals.NotThere segment)) = IsNowhere
 ShowsFor q wanted sections written (Err (refusals.NotFolder segment)) = IsNowhereOf q sections written (no_directory segment)
 ShowsFor q wanted sections written (Err other) = ⊤
 
--- a text was put, and with it the verifier stands for these sections; what they are; and what that says of each sound DAG of the root
+-- a text was put, and with it the verifier stands for these sections; what they are; and what that says of each sound
+-- DAG of the root
 pub record HasWritten (state : VerifierState) (sections : List Section) (written : List ℕ) (out : Output) (result : Result Progress Refusal) : Type 0 where
   pub text : List ℕ
   pub put : Put text out

@@ -98,7 +98,8 @@ abbrev pub ProgressIsTaken : Type 0
 ProgressIsTaken = (q : QueryParts) (limits : LimitNumbers) (d : Dag) (sections rest : List Section) (section : Section) (written : List ℕ) (wanted : Spot) (fault : Refusal)
     → IsInProgress d q (sections ++ section ∷ rest) wanted → IsWithinLimits q limits d → HasRefused q limits (sections ++ section ∷ []) written fault → IsOwnFault fault
 
--- once all sections that fit were taken no block is wanted, and their text is written; and for those in progress it is the wanted one
+-- once all sections that fit were taken no block is wanted, and their text is written; and for those in progress it is
+-- the wanted one
 abbrev pub FitIsThrough : Type 0
 FitIsThrough = (state : VerifierState) (d : Dag) (sections : List Section) (written text : List ℕ) → Fits d state.left.query sections text → IsGoing state sections written
     → (state.left.wanted ≡ None) × (written ≡ text)

@@ -11,8 +11,8 @@ use Rattle.tg_model.specs.declared.queries.Scope.TheVariants as scopes
 use Rattle.tg_model.specs.declared.queries.Scope.{Scope}
 use Rattle.tg_verify.specs.declared.fault.Refusal.{Refusal}
 
--- what is left of the query's traversal; the limits; the entries of the directory that is listed, so far; how many sections were taken;
--- and the refusal after which nothing is taken
+-- what is left of the query's traversal; the limits; the entries of the directory that is listed, so far; how many
+-- sections were taken; and the refusal after which nothing is taken
 pub record VerifierState : Type 0 where
   pub left : LeftState
   pub limits : LimitNumbers

@@ -1,4 +1,5 @@
--- How a section is taken: it is checked, its text is put and its block opened, and then what comes before the next place is given.
+-- How a section is taken: it is checked, its text is put and its block opened, and then what comes before the next
+-- place is given.
 use Rattle.std.specs.Prelude.{Err, List, None, Ok, Option, Result, Some, [], false, length, map, ⊤, ℕ, ◌++◌, ◌<◌, ◌∷◌, ◌≡◌}
 use Rattle.tg_cid.specs.Cid.{CidParts}
 use Rattle.tg_traversal.specs.Left.{WantedAt, tasks_left}
@@ -33,7 +34,8 @@ section_with cid block = record { cid = cid; block = block }
 
 -- ---- the checks
 
--- the section passes at the wanted place: it is read there as this kind with right sizes; or it isn't read there, where no kind is given
+-- the section passes at the wanted place: it is read there as this kind with right sizes; or it isn't read there, where
+-- no kind is given
 abbrev pub PassesAs : QueryParts → LimitNumbers → WantedAt → Section → Option Kind → Type 0
 PassesAs q limits at section None = IsWantedBlock limits at section × (is_read_at q at.want ≡ false)
 PassesAs q limits at section (Some kind) = IsReadBlock q limits at section kind × IsSizeFault (position_of at.want) section kind None

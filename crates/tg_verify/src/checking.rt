@@ -11,8 +11,8 @@ use tg_cid::Cid;
 use tg_model::{BlockFault, LimitKind, PlacedKind};
 
 impl Verifier {
-    /// What the section's block is read as at the wanted place, where it passes there; and none where it isn't read, since the query asks
-    /// for the block alone. The block is hashed once.
+    /// What the section's block is read as at the wanted place, where it passes there; and none where it isn't read,
+    /// since the query asks for the block alone. The block is hashed once.
     ///
     /// Errors: those of `section` up to `BadSize`, in their order.
     pub(crate) fn checked(&self, cid: &Cid, block: &[u8]) -> Result<Option<PlacedKind>, Refusal>
@@ -48,7 +48,8 @@ impl Verifier {
         self.read(cid, block)
     }
 
-    /// What the block of the wanted CID is read as, where a block of its kind may stand there and its sizes are those that are told.
+    /// What the block of the wanted CID is read as, where a block of its kind may stand there and its sizes are those
+    /// that are told.
     ///
     /// Errors: `BadBlock`, `BadSize`, and `OutOfMemory`.
     fn read(&self, cid: &Cid, block: &[u8]) -> Result<Option<PlacedKind>, Refusal>

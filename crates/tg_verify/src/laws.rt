@@ -2,10 +2,10 @@
 ghost use Rattle.tg_verify.specs.Laws.{AnswerLaws};
 ghost use Rattle.tg_verify.specs.Own.{OwnLaws};
 
-/// What follows from what a verifier stands for: the sections are in progress, or fit, and their text is written; beside each sound DAG
-/// with the query's root it is the DAG's answer, or a front of it, or a received block and one of the DAG are different bytes with one
-/// SHA-256; and sections that fit, or are in progress, are taken. A verifier that goes on is up to the wanted block, or through where
-/// none is wanted; and an answer is a front of itself.
+/// What follows from what a verifier stands for: the sections are in progress, or fit, and their text is written;
+/// beside each sound DAG with the query's root it is the DAG's answer, or a front of it, or a received block and one of
+/// the DAG are different bytes with one SHA-256; and sections that fit, or are in progress, are taken. A verifier that
+/// goes on is up to the wanted block, or through where none is wanted; and an answer is a front of itself.
 ///
 /// Trustless Gateway specification, dag-scope and entity-bytes.
 pub fn verified_answers()
@@ -17,8 +17,8 @@ pub fn verified_answers()
     tg_traversal_laws::verified_sections();
 }
 
-/// The sections of a sound DAG's own traversal, where its query has an answer, are taken one by one, and what is then written is the
-/// answer.
+/// The sections of a sound DAG's own traversal, where its query has an answer, are taken one by one, and what is then
+/// written is the answer.
 ///
 /// Trustless Gateway specification, dag-scope and entity-bytes.
 pub fn own_sections_taken()

@@ -1,4 +1,5 @@
-//! The verifier of a query's sections: it takes them one by one, each as the next block that the query asks for, and writes what they say.
+//! The verifier of a query's sections: it takes them one by one, each as the next block that the query asks for, and
+//! writes what they say.
 #![tactic(auto)]
 
 mod all;

@@ -15,8 +15,8 @@ use tg_streams::Sink;
 use tg_traversal::{Miss, Next};
 
 impl Verifier {
-    /// Gives what comes before the next place: ends of lines are put, entries of a listing are kept. Where no place is left, the listing is
-    /// put.
+    /// Gives what comes before the next place: ends of lines are put, entries of a listing are kept. Where no place is
+    /// left, the listing is put.
     ///
     /// Errors: `NotThere` and `NotFolder` where a segment of the path leads nowhere; `SinkFault`; and `OutOfMemory`.
     pub(crate) fn settle<S: Sink>(&mut self, out: &mut S) -> Result<Progress, Refusal>
@@ -30,7 +30,8 @@ impl Verifier {
         }
     }
 
-    /// Gives the next of what comes before the next place; or says that a block is wanted, or, once all is put, that none is.
+    /// Gives the next of what comes before the next place; or says that a block is wanted, or, once all is put, that
+    /// none is.
     ///
     /// Errors: those of `settle`.
     fn advance<S: Sink>(&mut self, out: &mut S) -> Result<Option<Progress>, Refusal>
@@ -58,7 +59,8 @@ impl Verifier {
     /// Keeps an entry of a directory that is listed. The error is want of memory.
     fn meet(&mut self, entry: Entry) -> Result<(), Refusal>
         ensures others { self.new ≡ record self.old { entries = self.new.entries } }
-        ensures met { MatchResult result (λ _. map named_entry self.new.entries ≡ map named_entry self.old.entries ++ listed_entry self.old.left.query.scope entry)
+        ensures met { MatchResult result (λ _. map named_entry self.new.entries ≡ map named_entry self.old.entries
+            ++ listed_entry self.old.left.query.scope entry)
             (λ fault. fault ≡ Refusal.OutOfMemory) }
     {
         match self.scope {

@@ -33,12 +33,12 @@ pub enum Progress {
     Done,
 }
 
-/// A verifier of the sections of a query with repeats. It is handed them one by one and takes each where it is the block that the query
-/// asks for next; what the block says is written before the call returns, but for the listing of a directory, which is written at the
-/// end. It trusts the query's root alone.
+/// A verifier of the sections of a query with repeats. It is handed them one by one and takes each where it is the
+/// block that the query asks for next; what the block says is written before the call returns, but for the listing of a
+/// directory, which is written at the end. It trusts the query's root alone.
 ///
-/// It holds the blocks on the way to the wanted place of which links are to come, and of a listing names and CIDs. Trustless Gateway
-/// specification, CAR responses, dag-scope, entity-bytes and order dfs.
+/// It holds the blocks on the way to the wanted place of which links are to come, and of a listing names and CIDs.
+/// Trustless Gateway specification, CAR responses, dag-scope, entity-bytes and order dfs.
 #[derive(Drop)]
 pub struct Verifier {
     pub(crate) alloc: Global,
@@ -103,12 +103,13 @@ impl Verifier {
 
     /// Takes the next section and puts what it says, and says whether more are wanted.
     ///
-    /// Errors, the first of these checks that fails: `Extra` where no block is wanted any more; `Limit` of kind `Block` where the block is
-    /// larger than the limit; `BadDigest` where the CID doesn't name the block; `WrongBlock` where another block is wanted; `Limit` of kind
-    /// `Depth` where it lies deeper than the limit; `BadBlock` where it has no kind, or one that can't stand there; `BadSize` where the size
-    /// that its parent declares, or a file's own, isn't that of its content; `NotFolder` and `NotThere` where a segment of the path leads
-    /// nowhere; `SinkFault` where out failed, which then has a front of what the section says; and `OutOfMemory`. Each further call gives
-    /// the same error and changes nothing.
+    /// Errors, the first of these checks that fails: `Extra` where no block is wanted any more; `Limit` of kind `Block`
+    /// where the block is larger than the limit; `BadDigest` where the CID doesn't name the block; `WrongBlock` where
+    /// another block is wanted; `Limit` of kind `Depth` where it lies deeper than the limit; `BadBlock` where it has no
+    /// kind, or one that can't stand there; `BadSize` where the size that its parent declares, or a file's own, isn't
+    /// that of its content; `NotFolder` and `NotThere` where a segment of the path leads nowhere; `SinkFault` where out
+    /// failed, which then has a front of what the section says; and `OutOfMemory`. Each further call gives the same
+    /// error and changes nothing.
     pub fn section<S: Sink>(
         &mut self,
         cid: Cid,
@@ -118,16 +119,22 @@ impl Verifier {
         ensures query { self.new.left.query ≡ self.old.left.query }
         ensures limits { self.new.limits ≡ self.old.limits }
         // What was received, this section with it, and what is written for it.
-        ensures stands { (sections : Items Section) (written : Items ℕ) → self.old.refused ≡ None → StandsFor self.old sections written
-            → HasWritten self.new (sections ++ section_with cid block ∷ []) written (into S.sink out.old out.new) result }
+        ensures stands { (sections : Items Section) (written : Items ℕ) → self.old.refused ≡ None
+            → StandsFor self.old sections written
+            → HasWritten self.new (sections ++ section_with cid block
+            ∷ []) written (into S.sink out.old out.new) result }
         ensures progress { IfOk result (λ progress. IsProgress progress self.new) }
         ensures cause { self.old.refused ≡ None → HasPutCause result (into S.sink out.old out.new) }
         // The next of sections that fit, or that are in progress, is taken, but for a fault of out and want of memory.
-        ensures fitting { (d : Dag) (sections rest : Items Section) (written text : Items ℕ) → self.old.refused ≡ None → StandsFor self.old sections written
-            → Fits d self.old.left.query (sections ++ section_with cid block ∷ rest) text → IsWithinLimits self.old.left.query self.old.limits d
+        ensures fitting { (d : Dag) (sections rest : Items Section) (written text : Items ℕ) → self.old.refused ≡ None
+            → StandsFor self.old sections written
+            → Fits d self.old.left.query (sections ++ section_with cid block ∷ rest) text
+            → IsWithinLimits self.old.left.query self.old.limits d
             → IfErr result IsOwnFault }
-        ensures in_progress { (d : Dag) (sections rest : Items Section) (written : Items ℕ) (wanted : Spot) → self.old.refused ≡ None
-            → StandsFor self.old sections written → IsInProgress d self.old.left.query (sections ++ section_with cid block ∷ rest) wanted
+        ensures in_progress { (d : Dag) (sections rest : Items Section) (written : Items ℕ) (wanted : Spot)
+            → self.old.refused ≡ None
+            → StandsFor self.old sections written → IsInProgress d self.old.left.query (sections
+            ++ section_with cid block ∷ rest) wanted
             → IsWithinLimits self.old.left.query self.old.limits d → IfErr result IsOwnFault }
         ensures again { (fault : Refusal) → self.old.refused ≡ Some fault
             → (result ≡ Err fault) × (self.new ≡ self.old) × (out.new ≡ out.old) }
@@ -144,21 +151,25 @@ impl Verifier {
 
     /// Says that no more sections come. It takes no memory.
     ///
-    /// Errors: `Truncated` where a block is still wanted, with its CID and the number of sections that were taken; and a refusal of before.
-    /// Each further call gives the same error and changes nothing.
+    /// Errors: `Truncated` where a block is still wanted, with its CID and the number of sections that were taken; and
+    /// a refusal of before. Each further call gives the same error and changes nothing.
     pub fn finish(&mut self) -> Result<(), Refusal>
         ensures query { self.new.left.query ≡ self.old.left.query }
         ensures limits { self.new.limits ≡ self.old.limits }
-        ensures stands { (sections : Items Section) (written : Items ℕ) → StandsFor self.old sections written → StandsFor self.new sections written }
+        ensures stands { (sections : Items Section) (written : Items ℕ) → StandsFor self.old sections written
+            → StandsFor self.new sections written }
         // On Ok the sections fit; and what the answer says of each sound DAG with the query's root.
-        ensures fits { (sections : Items Section) (written : Items ℕ) → StandsFor self.old sections written → OnOk result (IsFitOf self.new.left.query sections written) }
+        ensures fits { (sections : Items Section) (written : Items ℕ) → StandsFor self.old sections written
+            → OnOk result (IsFitOf self.new.left.query sections written) }
         ensures sound { (sections : Items Section) (written : Items ℕ) → StandsFor self.old sections written
             → ForEachSound self.new.left.query (λ d. EndsFor self.new.left.query d sections written result) }
         // Ok exactly where nothing was refused and no block is wanted.
         ensures done { OnOk result ((self.old.refused ≡ None) × (self.old.left.wanted ≡ None) × (self.new ≡ self.old)) }
         ensures through { self.old.refused ≡ None → self.old.left.wanted ≡ None → result ≡ Ok tt }
-        ensures cut { (at : WantedAt) → self.old.refused ≡ None → self.old.left.wanted ≡ Some at → result ≡ Err (Refusal.Truncated at.cid self.old.taken) }
-        ensures again { (fault : Refusal) → self.old.refused ≡ Some fault → (result ≡ Err fault) × (self.new ≡ self.old) }
+        ensures cut { (at : WantedAt) → self.old.refused ≡ None → self.old.left.wanted ≡ Some at
+            → result ≡ Err (Refusal.Truncated at.cid self.old.taken) }
+        ensures again { (fault : Refusal) → self.old.refused ≡ Some fault → (result ≡ Err fault)
+            × (self.new ≡ self.old) }
         ensures refused { MatchResult result (λ _. self.new.refused ≡ None) (λ fault. self.new.refused ≡ Some fault) }
     {
         laws::verified_answers();
@@ -173,7 +184,8 @@ impl Verifier {
     /// Whether no block is wanted, of a verifier that refused nothing. The error is `Truncated`.
     fn ended(&self) -> Result<(), Refusal>
         ensures done { self.now.left.wanted ≡ None → result ≡ Ok tt }
-        ensures cut { (at : WantedAt) → self.now.left.wanted ≡ Some at → result ≡ Err (Refusal.Truncated at.cid self.now.taken) }
+        ensures cut { (at : WantedAt) → self.now.left.wanted ≡ Some at
+            → result ≡ Err (Refusal.Truncated at.cid self.now.taken) }
     {
         match self.frames.wanted() {
             None => Ok(()),
@@ -212,14 +224,17 @@ impl Verifier {
         block: Bytes,
         out: &mut S,
     ) -> Result<(), Refusal>
-        requires here { (at : WantedAt) × (section : Section) × (kind : Option Kind) × IsPassingHere self.old at section kind found × (section.block ≡ block) }
+        requires here { (at : WantedAt) × (section : Section) × (kind : Option Kind)
+            × IsPassingHere self.old at section kind found × (section.block ≡ block) }
         ensures query { self.new.left.query ≡ self.old.left.query }
         ensures limits { self.new.limits ≡ self.old.limits }
         ensures entries { self.new.entries ≡ self.old.entries }
         ensures taken { self.new.taken ≡ self.old.taken }
         ensures refused { self.new.refused ≡ self.old.refused }
-        ensures opened { (at : WantedAt) (section : Section) (kind : Option Kind) → IsPassingHere self.old at section kind found → section.block ≡ block
-            → IsOpenedAt (text_of self.old.left.query at section kind) (tasks_behind self.old.left.query at section kind ++ self.old.left.later)
+        ensures opened { (at : WantedAt) (section : Section) (kind : Option Kind)
+            → IsPassingHere self.old at section kind found → section.block ≡ block
+            → IsOpenedAt (text_of self.old.left.query at section kind) (tasks_behind self.old.left.query at section kind
+            ++ self.old.left.later)
             (into S.sink out.old out.new) self.new result }
     {
         let Some(found) = found else {

@@ -51,7 +51,8 @@ pub record StopsAt (store : Store) (root : CidParts) (path : List (List ℕ)) (s
   pub root_stored : IsStoredRoot store root
   pub end : end_over store root path ≡ not_reached stop
 
--- each answer is the end of the path walk; where the root isn't stored, none comes but `NoRoot`, `Store` and `OutOfMemory`
+-- each answer is the end of the path walk; where the root isn't stored, none comes but `NoRoot`, `Store` and
+-- `OutOfMemory`
 abbrev pub IsResolvedTo : Store → CidParts → List (List ℕ) → Result CidParts ResolveFault → Type 0
 IsResolvedTo store root path (Ok cid) = LeadsTo store root path cid
 IsResolvedTo store root path (Err refusals.NoRoot) = store root ≡ None

@@ -1,4 +1,5 @@
--- What a walk over a store has given, and why it gives no more (Trustless Gateway specification: dag-scope, entity-bytes, order dfs).
+-- What a walk over a store has given, and why it gives no more (Trustless Gateway specification: dag-scope,
+-- entity-bytes, order dfs).
 use Rattle.std.specs.Prelude.{Err, List, None, Ok, Option, Result, Some, [], false, length, map, suc, true, zero, ⊤, ℕ, ◌*◌, ◌++◌, ◌+◌, ◌-◌, ◌<◌, ◌^◌, ◌∷◌, ◌≡◌, ◌≤◌, ◌⊎◌}
 use Rattle.tg_cid.specs.Cid.{CidParts}
 use Rattle.tg_cid.specs.Limits.{max_block_len}
@@ -87,7 +88,8 @@ StandsBy (Some fault) most left store sections = HasWalkCause left.query store m
 abbrev pub StandsFor : WalkState → Store → List Section → Type 0
 StandsFor state store sections = StandsBy state.refused max_depth state.left store sections
 
--- how many blocks a walk gives at most from a place on, with so many levels of blocks below it: a block has less than 2 ^ 64 links
+-- how many blocks a walk gives at most from a place on, with so many levels of blocks below it: a block has less than 2
+-- ^ 64 links
 abbrev pub blocks_from : ℕ → ℕ
 blocks_from zero = 1
 blocks_from (suc levels) = 2 ^ 64 * blocks_from levels
@@ -170,8 +172,8 @@ IsNextPlace old (Err fault) new =
 abbrev pub fault_of_block : CidParts → BlockFault → WalkFault
 fault_of_block cid fault = fault_said faults.OutOfMemory faults.BadBlock cid fault
 
--- the block was opened at the wanted place: passed over where the block alone is asked for, or read, with the tasks that it leaves before
--- those that were left
+-- the block was opened at the wanted place: passed over where the block alone is asked for, or read, with the tasks
+-- that it leaves before those that were left
 pub record IsOpenedThere (old : LeftState) (at : WantedAt) (block : List ℕ) (new : LeftState) : Type 0 where
   pub kind : Kind
   pub is_read : is_read_at old.query at.want ≡ true

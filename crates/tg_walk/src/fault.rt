@@ -112,7 +112,8 @@ impl From<WalkFault> for ResolveFault {
 
     ghost from_gives = { λ fault given. given ≡ refusal_of_walk fault };
 
-    /// The refusal of the same name. A walk along a path isn't too deep: its depth is bounded by the number of segments.
+    /// The refusal of the same name. A walk along a path isn't too deep: its depth is bounded by the number of
+    /// segments.
     fn from(fault: WalkFault) -> ResolveFault {
         match fault {
             WalkFault::BadBlock { cid, fault } => ResolveFault::BadBlock { cid, fault },

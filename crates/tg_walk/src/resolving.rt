@@ -12,16 +12,17 @@ use tg_cid::Cid;
 use tg_model::{Blocks, Path, Query, Scope};
 use tg_traversal::{Frames, copied_path};
 
-/// How many places a path of 128 segments has at most: 1,025 blocks, which are eight shards a segment and the root, and one where the
-/// last segment leads nowhere.
+/// How many places a path of 128 segments has at most: 1,025 blocks, which are eight shards a segment and the root, and
+/// one where the last segment leads nowhere.
 const MAX_PATH_PLACES: u32 = 1026;
 
-/// The CID of the block that a path leads to from a root, in a store that has it. A path has at most 128 segments, each the name of an
-/// entry.
+/// The CID of the block that a path leads to from a root, in a store that has it. A path has at most 128 segments, each
+/// the name of an entry.
 ///
-/// Path Gateway specification, Path Resolution. Errors, at the first place where one holds: `NoRoot` where the root isn't stored;
-/// `Gone` where a block below it isn't; `BadBlock` where a block of the path has no kind or can't stand there; `NotThere` and
-/// `NotFolder` where a segment leads nowhere; `Store` where the store gave no answer; and `OutOfMemory`.
+/// Path Gateway specification, Path Resolution. Errors, at the first place where one holds: `NoRoot` where the root
+/// isn't stored; `Gone` where a block below it isn't; `BadBlock` where a block of the path has no kind or can't stand
+/// there; `NotThere` and `NotFolder` where a segment leads nowhere; `Store` where the store gave no answer; and
+/// `OutOfMemory`.
 pub fn resolve<B: Blocks>(
     alloc: Global,
     blocks: &mut B,
@@ -30,7 +31,8 @@ pub fn resolve<B: Blocks>(
 ) -> Result<Cid, ResolveFault>
     requires few { length path.now ≤ 128 }
     requires good { All IsGoodName path.now }
-    ensures end { (store : Store) → B.blocks.stored blocks.old ≡ Some store → IsResolvedTo store root.now path.now result }
+    ensures end { (store : Store) → B.blocks.stored blocks.old ≡ Some store
+        → IsResolvedTo store root.now path.now result }
     ensures looked { (cids : List CidParts) × LookedUp cids (looked_in B.blocks blocks.old blocks.new) }
     ensures cause { HasResolveCause result (B.blocks.stored blocks.old) (looked_in B.blocks blocks.old blocks.new) }
 {

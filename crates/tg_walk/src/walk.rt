@@ -16,8 +16,8 @@ use tg_traversal::{Frames, Miss, Next, Wanted};
 /// How many blocks there are at most from the root to a block that a walk gives, both counted.
 pub const MAX_DEPTH: u64 = 512;
 
-/// A walk over the blocks of a store for a query with repeats: it gives the blocks that the query asks for one by one, in order, and
-/// fetches each when it gives it.
+/// A walk over the blocks of a store for a query with repeats: it gives the blocks that the query asks for one by one,
+/// in order, and fetches each when it gives it.
 ///
 /// Trustless Gateway specification, dag-scope, entity-bytes and order dfs.
 #[derive(Drop)]
@@ -52,17 +52,21 @@ impl Walk {
 
     /// The next block with its CID, or none behind the last one.
     ///
-    /// Errors, at the next place: `NotThere` and `NotFolder` where a segment of the path leads nowhere; `TooDeep` where it lies
-    /// more than 512 blocks deep, stored or not; `Store` where the store gave no answer; `Gone` where it isn't stored; `BadBlock`
-    /// where its block has no kind or can't stand there; and `OutOfMemory`. Each further call gives the same error and changes nothing.
+    /// Errors, at the next place: `NotThere` and `NotFolder` where a segment of the path leads nowhere; `TooDeep` where
+    /// it lies more than 512 blocks deep, stored or not; `Store` where the store gave no answer; `Gone` where it isn't
+    /// stored; `BadBlock` where its block has no kind or can't stand there; and `OutOfMemory`. Each further call gives
+    /// the same error and changes nothing.
     pub fn next<B: Blocks>(&mut self, blocks: &mut B) -> Result<Option<(Cid, Bytes)>, WalkFault>
         ensures query { self.new.left.query ≡ self.old.left.query }
-        ensures stands { (store : Store) (sections : List Section) → B.blocks.stored blocks.old ≡ Some store → StandsFor self.old store sections
+        ensures stands { (store : Store) (sections : List Section) → B.blocks.stored blocks.old ≡ Some store
+            → StandsFor self.old store sections
             → HasStepped result self.new store sections }
         ensures named { IsNamedFound result }
-        ensures fewer { IfOk result (λ found. IfSome found (λ _. blocks_left self.new.left < blocks_left self.old.left)) }
+        ensures fewer { IfOk result (λ found. IfSome found
+            (λ _. blocks_left self.new.left < blocks_left self.old.left)) }
         ensures looked { HasLookedUp result (looked_in B.blocks blocks.old blocks.new) }
-        ensures cause { self.old.refused ≡ None → HasStoreCause result (B.blocks.stored blocks.old) (looked_in B.blocks blocks.old blocks.new) }
+        ensures cause { self.old.refused ≡ None
+            → HasStoreCause result (B.blocks.stored blocks.old) (looked_in B.blocks blocks.old blocks.new) }
         ensures again { (fault : WalkFault) → self.old.refused ≡ Some fault
             → (result ≡ Err fault) × (self.new ≡ self.old) × (blocks.new ≡ blocks.old) }
         ensures refused { MatchResult result (λ _. self.new.refused ≡ None) (λ fault. self.new.refused ≡ Some fault) }
@@ -71,18 +75,8 @@ impl Walk {
             return Err(fault);
         }
         let stepped = step(self.alloc, MAX_DEPTH, &mut self.frames, blocks);
-        self.refused = refusal_of(&stepped);
+        self.refused = stepped.as_ref().err().copied();
         stepped
-    }
-}
-
-/// The refusal, where a step gave one.
-fn refusal_of(stepped: &Result<Option<(Cid, Bytes)>, WalkFault>) -> Option<WalkFault>
-    ensures { MatchResult stepped.now (λ _. result ≡ None) (λ fault. result ≡ Some fault) }
-{
-    match stepped {
-        Ok(_) => None,
-        Err(fault) => Some(*fault),
     }
 }
 
@@ -95,10 +89,12 @@ fn step<B: Blocks>(
 ) -> Result<Option<(Cid, Bytes)>, WalkFault>
     requires { most ≤ 1100 }
     ensures query { frames.new.query ≡ frames.old.query }
-    ensures stands { (store : Store) (sections : List Section) → B.blocks.stored blocks.old ≡ Some store → IsOnWalk most frames.old store sections
+    ensures stands { (store : Store) (sections : List Section) → B.blocks.stored blocks.old ≡ Some store
+        → IsOnWalk most frames.old store sections
         → HasGone result most frames.new store sections }
     ensures named { IsNamedFound result }
-    ensures fewer { IfOk result (λ found. IfSome found (λ _. blocks_over most (tasks_left frames.new) < blocks_over most (tasks_left frames.old))) }
+    ensures fewer { IfOk result (λ found. IfSome found
+        (λ _. blocks_over most (tasks_left frames.new) < blocks_over most (tasks_left frames.old))) }
     ensures looked { HasLookedUp result (looked_in B.blocks blocks.old blocks.new) }
     ensures cause { HasStoreCause result (B.blocks.stored blocks.old) (looked_in B.blocks blocks.old blocks.new) }
 {
@@ -150,7 +146,8 @@ pub(crate) fn open(
 ) -> Result<(), WalkFault>
     requires { IsWantedHere frames.old cid }
     ensures query { frames.new.query ≡ frames.old.query }
-    ensures opened { (at : WantedAt) → frames.old.wanted ≡ Some at → IsOpened frames.old at block.now result frames.new }
+    ensures opened { (at : WantedAt) → frames.old.wanted ≡ Some at
+        → IsOpened frames.old at block.now result frames.new }
     ensures fewer { OnOk result (HasFewer frames.old frames.new) }
 {
     if !frames.is_read() {
@@ -191,7 +188,8 @@ fn fault_of_block(cid: Cid, fault: BlockFault) -> WalkFault
     }
 }
 
-/// The bytes that a frame of the block needs: a copy of a file with parts, and of other blocks none. The error is want of memory.
+/// The bytes that a frame of the block needs: a copy of a file with parts, and of other blocks none. The error is want
+/// of memory.
 fn held_for(alloc: Global, found: &PlacedKind, block: &Bytes) -> Result<Bytes, AllocError>
     ensures { IfOk result (λ held. IsHeldFor found.now held block.now) }
 {
