@@ -10,4 +10,4 @@ mod room;
 pub use ascii::{LINE_FEED, SLASH, SPACE, named_bytes};
 pub use digits::number_of;
 pub use lists::{Bytes, List};
-pub use room::{fill_front, zeros};
+pub use room::{fill_both, fill_front, zeros};

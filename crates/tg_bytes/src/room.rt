@@ -1,5 +1,5 @@
 //! Room for bytes: made to be read into, and filled from the front.
-ghost use Rattle.std.specs.Prelude.{◌≡◌, ◌≤◌, ◌++◌, length, drop, replicate, IfOk};
+ghost use Rattle.std.specs.Prelude.{◌≡◌, ◌+◌, ◌≤◌, ◌++◌, length, drop, replicate, IfOk};
 
 use std::alloc::{AllocError, Global};
 
@@ -17,4 +17,14 @@ pub fn fill_front(room: &mut [u8], bytes: &[u8])
     ensures { room.new ≡ bytes.now ++ drop (length bytes.now) room.old }
 {
     room[..bytes.len()].copy_from_slice(bytes);
+}
+
+/// Copies the one bytes and then the others into the front of the room, and leaves what is behind them.
+pub fn fill_both(room: &mut [u8], first: &[u8], second: &[u8])
+    requires { length first.now + length second.now ≤ length room.old }
+    ensures { room.new ≡ first.now ++ (second.now ++ drop (length first.now + length second.now) room.old) }
+{
+    let (head, rest) = room.split_at_mut(first.len());
+    head.copy_from_slice(first);
+    fill_front(rest, second);
 }

@@ -7,7 +7,7 @@ ghost use Rattle.tg_car.specs.Writing.{HeaderOf};
 
 use crate::section::MAX_HEAD_LEN;
 use std::alloc::{AllocError, Global};
-use tg_bytes::{Bytes, fill_front};
+use tg_bytes::{Bytes, fill_both};
 use tg_cid::Cid;
 
 // The map up to the byte string of its one root, and behind it.
@@ -63,14 +63,4 @@ pub fn section_head(cid: &Cid, size: u64) -> ([u8; MAX_HEAD_LEN], usize)
     let mut head = [0; MAX_HEAD_LEN];
     fill_both(&mut head, &number[..number_size], &name[..name_size]);
     (head, number_size + name_size)
-}
-
-/// Copies the one bytes and then the others into the front of the room.
-fn fill_both(room: &mut [u8], first: &[u8], second: &[u8])
-    requires { length first.now + length second.now ≤ length room.old }
-    ensures { room.new ≡ first.now ++ (second.now ++ drop (length first.now + length second.now) room.old) }
-{
-    let (head, rest) = room.split_at_mut(first.len());
-    head.copy_from_slice(first);
-    fill_front(rest, second);
 }

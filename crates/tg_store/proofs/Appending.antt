@@ -43,3 +43,11 @@ module _ {S : Type 0} (m : PackMeaning S) (joins : (a b c : S) (u v : List PackW
 
 pub torn_once : {S : Type 0} (m : PackMeaning S) (a b : S) → Untold (pack_step m a b) → Torn (pack_step m a b)
 torn_once m a b q = record { writes = torn ∷ []; did = q; growth = All-cons IsGrowth torn [] tt (All-nil IsGrowth); untold = q.content }
+
+pub appended_once : {S : Type 0} (m : PackMeaning S) (a b : S) (text : List ℕ) → Did (append text ∷ []) (pack_step m a b) → Appended text (pack_step m a b)
+appended_once m a b text did = record {
+  writes = append text ∷ [];
+  did = did;
+  growth = All-cons IsGrowth (append text) [] tt (All-nil IsGrowth);
+  told = did.content;
+}

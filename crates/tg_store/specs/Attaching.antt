@@ -1,5 +1,6 @@
 -- What attaching a pack says of its content, and why it is refused.
-use Rattle.std.specs.Prelude.{◌≡◌, ◌≢◌, ◌≤◌, ◌+◌, ◌-◌, ◌⊎◌, ⊤, ℕ, false, cond, List, [], ◌∷◌, ◌++◌, length, All, Option, Some, None}
+use Rattle.std.specs.Prelude.{◌≡◌, ◌≢◌, ◌≤◌, ◌+◌, ◌-◌, ◌⊎◌, ⊤, ℕ, false, cond, List, [], ◌∷◌, ◌++◌, length, All, Option}
+use Rattle.std.specs.Prelude.{Some, None}
 use Rattle.std.specs.Map.{lookup}
 use Rattle.tg_bytes.specs.Told.{after_front}
 use Rattle.tg_car.specs.CarText.{CarText, HeaderText, SectionText, header_map}
@@ -28,7 +29,8 @@ use Rattle.tg_store.specs.Packs.{AreSmall, IsIndexed, block_at, unfinished_root}
 -- sha2-256
 abbrev pub first_under : Key → List CarSection → Option (List ℕ)
 first_under key [] = None
-first_under key (section ∷ sections) = cond (same_key key (key_of section.cid)) (Some section.block) (first_under key sections)
+first_under key (section ∷ sections) =
+    cond (same_key key (key_of section.cid)) (Some section.block) (first_under key sections)
 
 abbrev pub first_block : List CarSection → Store
 first_block sections cid = of_hash cid.hash (first_under (key_of cid) sections)
@@ -143,7 +145,8 @@ IsRefusal step (faults.BlockLimit at) = PackQuiet step × HasCauseIn step.conten
 -- what is found in a pack that was read to its end
 abbrev pub IsFoundIn : Option (List ℕ) → List (Key × Place) → ℕ → Type 0
 IsFoundIn None places end = ⊤
-IsFoundIn (Some content) places end = IsIndexed content false places end × IsAttached content (store_of (block_at content) places)
+IsFoundIn (Some content) places end =
+    IsIndexed content false places end × IsAttached content (store_of (block_at content) places)
 
 pub record IsFound (told : Option (List ℕ)) (places : List (Key × Place)) (end : ℕ) : Type 0 where
   pub small : AreSmall places

@@ -1,5 +1,6 @@
 -- What is stored, by entries of keys, and which sections are kept.
-use Rattle.std.specs.Prelude.{◌≡◌, ◌≤◌, ◌+◌, ℕ, cond, ◌&&◌, nat_lt, bytes_eq, List, [], ◌∷◌, ◌++◌, length, map, Option, Some, None, option_and_then}
+use Rattle.std.specs.Prelude.{◌≡◌, ◌≤◌, ◌+◌, ℕ, cond, ◌&&◌, nat_lt, bytes_eq, List, [], ◌∷◌, ◌++◌, length, map, Option}
+use Rattle.std.specs.Prelude.{Some, None, option_and_then}
 use Rattle.std.specs.List.{list_any}
 use Rattle.std.specs.Map.{keys_of, lookup}
 use Rattle.sha2.specs.Sha256.{sha256}
@@ -11,7 +12,8 @@ use Rattle.tg_store.specs.Keys.{key_of, of_hash, same_key}
 
 -- the block, where it has the key's digest and is no larger than a block may be
 abbrev pub checked : Key → List ℕ → Option (List ℕ)
-checked key block = cond (bytes_eq key.digest (sha256 block) && nat_lt (length block) (max_block_len + 1)) (Some block) None
+checked key block =
+    cond (bytes_eq key.digest (sha256 block) && nat_lt (length block) (max_block_len + 1)) (Some block) None
 
 -- the block has the key's digest and is no larger than a block may be
 pub record IsGood (key : Key) (block : List ℕ) : Type 0 where

@@ -1,5 +1,6 @@
 -- What is stored by entries is a store, to which an entry under a new key adds its block.
-use Rattle.std.specs.Prelude.{◌≡◌, ◌≢◌, ◌≤◌, ◌+◌, ◌⊎◌, ℕ, Bool, true, false, cond, ◌&&◌, nat_lt, bytes_eq, List, [], ◌∷◌, ◌++◌, length, map, Option, Some, None, option_and_then, is_some, unwrap_or, refl}
+use Rattle.std.specs.Prelude.{◌≡◌, ◌≢◌, ◌≤◌, ◌+◌, ◌⊎◌, ℕ, Bool, true, false, cond, ◌&&◌, nat_lt, bytes_eq, List, []}
+use Rattle.std.specs.Prelude.{◌∷◌, ◌++◌, length, map, Option, Some, None, option_and_then, is_some, unwrap_or, refl}
 use Rattle.std.specs.List.{list_any}
 use Rattle.std.specs.Map.{keys_of, lookup}
 use Rattle.std.proofs.Common.{inl, inr, ap, ap₂, sym, subst, ◌∙◌, arith}
@@ -32,7 +33,8 @@ pub small_test : (n m : ℕ) → n ≤ m → nat_lt n (m + 1) ≡ true
 small_test n m h = grind (arith, common_steps)
 
 -- a checked block
-pub checked_is : (key : Key) (block found : List ℕ) → checked key block ≡ Some found → (block ≡ found) × IsGood key found
+pub checked_is : (key : Key) (block found : List ℕ) → checked key block ≡ Some found
+    → (block ≡ found) × IsGood key found
 checked_is key block found h =
     let p = cond_some (bytes_eq key.digest (sha256 block) && nat_lt (length block) (max_block_len + 1)) block found h in
     let tests = and_parts _ _ p.0 in
@@ -46,7 +48,8 @@ good_checked key block good =
     (and_from _ _ ((bytes_eq-Decides key.digest (sha256 block)).1 good.named) (small_test (length block) max_block_len good.small))
 
 -- that of a CID with sha2-256
-pub of_hash_some : {A : Type 0} (hash : HashKind) (o : Option A) (x : A) → of_hash hash o ≡ Some x → (hash ≡ Sha256) × (o ≡ Some x)
+pub of_hash_some : {A : Type 0} (hash : HashKind) (o : Option A) (x : A) → of_hash hash o ≡ Some x
+    → (hash ≡ Sha256) × (o ≡ Some x)
 of_hash_some Sha256 o x h = (refl, h)
 of_hash_some Identity o x h = cc
 
@@ -67,7 +70,8 @@ names_sha256 cid block n = by cid.hash cid.digest n
     by Identity digest n = absurd n
 
 -- and its block the key's digest
-pub named_good : (cid : CidParts) (block : List ℕ) → Names cid block → length block ≤ max_block_len → IsGood (key_of cid) block
+pub named_good : (cid : CidParts) (block : List ℕ) → Names cid block → length block ≤ max_block_len
+    → IsGood (key_of cid) block
 named_good cid block n small = record { named = by cid.hash cid.digest n; small = small }
   where
     by : (hash : HashKind) (digest : List ℕ) → IsDigestOf hash digest block → digest ≡ sha256 block
@@ -79,14 +83,16 @@ pub good_named : (cid : CidParts) (block : List ℕ) → cid.hash ≡ Sha256 →
 good_named cid block e good = subst (λ (hash : HashKind). IsDigestOf hash cid.digest block) (sym e) good.named
 
 -- what a found value leads to
-and_then_some : {A B : Type 0} (f : A → Option B) (o : Option A) (y : B) → option_and_then f o ≡ Some y → (x : A) × (o ≡ Some x) × (f x ≡ Some y)
+and_then_some : {A B : Type 0} (f : A → Option B) (o : Option A) (y : B) → option_and_then f o ≡ Some y
+    → (x : A) × (o ≡ Some x) × (f x ≡ Some y)
 and_then_some f None y h = cc
 and_then_some f (Some x) y h = (x, refl, h)
 
 -- ---- look-ups
 
 -- a further entry is found where nothing stands before it
-pub lookup_push : {V : Type 0} (test : Key → Bool) (entries : List (Key × V)) (key : Key) (v : V) → lookup test entries ≡ None
+pub lookup_push : {V : Type 0} (test : Key → Bool) (entries : List (Key × V)) (key : Key) (v : V)
+    → lookup test entries ≡ None
     → lookup test (entries ++ (key, v) ∷ []) ≡ cond (test key) (Some v) None
 lookup_push test [] key v h = refl
 lookup_push {V} test (e ∷ entries) key v h = by (test e.0) h (lookup_push test entries key v)
@@ -98,7 +104,8 @@ lookup_push {V} test (e ∷ entries) key v h = by (test e.0) h (lookup_push test
     by false h behind = behind h
 
 -- and what is found before it stays
-pub lookup_kept : {V : Type 0} (test : Key → Bool) (entries : List (Key × V)) (key : Key) (v w : V) → lookup test entries ≡ Some w
+pub lookup_kept : {V : Type 0} (test : Key → Bool) (entries : List (Key × V)) (key : Key) (v w : V)
+    → lookup test entries ≡ Some w
     → lookup test (entries ++ (key, v) ∷ []) ≡ Some w
 lookup_kept test [] key v w h = cc
 lookup_kept {V} test (e ∷ entries) key v w h = by (test e.0) h (lookup_kept test entries key v w)
@@ -116,14 +123,16 @@ lookup_other test [] key v h = ap (λ (b : Bool). cond b (Some v) None) h
 lookup_other {V} test (e ∷ entries) key v h = ap (λ o. cond (test e.0) (Some e.1) o) (lookup_other test entries key v h)
 
 -- what is found with a further entry was found before, or is it
-pub lookup_pushed : {V : Type 0} (test : Key → Bool) (entries : List (Key × V)) (key : Key) (v w : V) → lookup test (entries ++ (key, v) ∷ []) ≡ Some w
+pub lookup_pushed : {V : Type 0} (test : Key → Bool) (entries : List (Key × V)) (key : Key) (v w : V)
+    → lookup test (entries ++ (key, v) ∷ []) ≡ Some w
     → (lookup test entries ≡ Some w) ⊎ ((lookup test entries ≡ None) × (test key ≡ true) × (w ≡ v))
 lookup_pushed {V} test entries key v w h = by (lookup test entries) refl
   where
     last : (b : Bool) → cond b (Some v) None ≡ Some w → (b ≡ true) × (w ≡ v)
     last b e = let p = cond_some b v w e in (p.0, sym p.1)
 
-    by : (o : Option V) → lookup test entries ≡ o → (lookup test entries ≡ Some w) ⊎ ((lookup test entries ≡ None) × (test key ≡ true) × (w ≡ v))
+    by : (o : Option V) → lookup test entries ≡ o
+        → (lookup test entries ≡ Some w) ⊎ ((lookup test entries ≡ None) × (test key ≡ true) × (w ≡ v))
     by None e = let p = last (test key) (sym (lookup_push test entries key v e) ∙ h) in inr (e, p.0, p.1)
     by (Some x) e = inl (e ∙ sym (lookup_kept test entries key v x e) ∙ h)
 
@@ -131,7 +140,8 @@ lookup_pushed {V} test entries key v w h = by (lookup test entries) refl
 
 module _ {V : Type 0} (block_of : V → List ℕ) where
   -- a stored block is good
-  pub stored_good : (entries : List (Key × V)) (cid : CidParts) (block : List ℕ) → store_of block_of entries cid ≡ Some block → (cid.hash ≡ Sha256) × IsGood (key_of cid) block
+  pub stored_good : (entries : List (Key × V)) (cid : CidParts) (block : List ℕ)
+      → store_of block_of entries cid ≡ Some block → (cid.hash ≡ Sha256) × IsGood (key_of cid) block
   stored_good entries cid block h =
       let p = of_hash_some cid.hash _ block h in
       let q = and_then_some (λ (v : V). checked (key_of cid) (block_of v)) (lookup (same_key (key_of cid)) entries) block p.1 in
@@ -145,13 +155,15 @@ module _ {V : Type 0} (block_of : V → List ℕ) where
   }
 
   -- under a key with a good block
-  pub stored_at : (entries : List (Key × V)) (cid : CidParts) (v : V) → cid.hash ≡ Sha256 → lookup (same_key (key_of cid)) entries ≡ Some v → IsGood (key_of cid) (block_of v)
+  pub stored_at : (entries : List (Key × V)) (cid : CidParts) (v : V) → cid.hash ≡ Sha256
+      → lookup (same_key (key_of cid)) entries ≡ Some v → IsGood (key_of cid) (block_of v)
       → store_of block_of entries cid ≡ Some (block_of v)
   stored_at entries cid v sha found good =
       of_hash_same cid.hash _ sha ∙ ap (option_and_then (λ (v : V). checked (key_of cid) (block_of v))) found ∙ good_checked (key_of cid) (block_of v) good
 
   -- under a key that has no entry
-  pub stored_none : (entries : List (Key × V)) (cid : CidParts) → lookup (same_key (key_of cid)) entries ≡ None → store_of block_of entries cid ≡ None
+  pub stored_none : (entries : List (Key × V)) (cid : CidParts) → lookup (same_key (key_of cid)) entries ≡ None
+      → store_of block_of entries cid ≡ None
   stored_none entries cid none = by cid.hash
     where
       inner : option_and_then (λ (v : V). checked (key_of cid) (block_of v)) (lookup (same_key (key_of cid)) entries) ≡ None
@@ -172,7 +184,8 @@ module _ {V : Type 0} (block_of : V → List ℕ) where
       }
 
   -- an entry under a new key is added
-  pub adds_entry : (entries : List (Key × V)) (cid : CidParts) (v : V) → cid.hash ≡ Sha256 → lookup (same_key (key_of cid)) entries ≡ None → IsGood (key_of cid) (block_of v)
+  pub adds_entry : (entries : List (Key × V)) (cid : CidParts) (v : V) → cid.hash ≡ Sha256
+      → lookup (same_key (key_of cid)) entries ≡ None → IsGood (key_of cid) (block_of v)
       → Adds (store_of block_of entries) (store_of block_of (entries ++ (key_of cid, v) ∷ [])) cid (block_of v)
   adds_entry entries cid v sha none good =
       let all : List (Key × V) = entries ++ (key_of cid, v) ∷ [] in
@@ -185,7 +198,8 @@ module _ {V : Type 0} (block_of : V → List ℕ) where
         others = λ other apart. elsewhere other.hash other refl apart;
       }
     where
-      differ : (other : CidParts) → other.hash ≡ Sha256 → as_v1 other ≢ as_v1 cid → (b : Bool) → same_key (key_of other) (key_of cid) ≡ b → b ≡ false
+      differ : (other : CidParts) → other.hash ≡ Sha256 → as_v1 other ≢ as_v1 cid → (b : Bool)
+          → same_key (key_of other) (key_of cid) ≡ b → b ≡ false
       differ other e apart true h =
           let same : key_of other ≡ key_of cid = same_key_is (key_of other) (key_of cid) h in
           absurd (apart (λ i. record { version = 1; codec = (same i).codec; hash = (e ∙ sym sha) i; digest = (same i).digest }))
@@ -216,7 +230,8 @@ new_beside-append keys (section ∷ u) v =
     again : List Key
     again = keys ++ key_of section.cid ∷ []
 
-    by : (b : Bool) → new_beside keys (u ++ v) ≡ new_beside keys u ++ new_beside (keys ++ section_keys (new_beside keys u)) v
+    by : (b : Bool)
+        → new_beside keys (u ++ v) ≡ new_beside keys u ++ new_beside (keys ++ section_keys (new_beside keys u)) v
         → new_beside again (u ++ v) ≡ new_beside again u ++ new_beside (again ++ section_keys (new_beside again u)) v
         → cond b (new_beside keys (u ++ v)) (section ∷ new_beside again (u ++ v))
         ≡ cond b (new_beside keys u) (section ∷ new_beside again u) ++ new_beside (keys ++ section_keys (cond b (new_beside keys u) (section ∷ new_beside again u))) v
@@ -226,11 +241,13 @@ new_beside-append keys (section ∷ u) v =
         ∙ ap (λ (ks : List Key). new_beside again u ++ new_beside ks v) (keys_join keys (key_of section.cid) (section_keys (new_beside again u))))
 
 -- of one section
-pub none_new : {V : Type 0} (entries : List (Key × V)) (section : Section) (v : V) → lookup (same_key (key_of section.cid)) entries ≡ Some v → new_beside (keys_of entries) (section ∷ []) ≡ []
+pub none_new : {V : Type 0} (entries : List (Key × V)) (section : Section) (v : V)
+    → lookup (same_key (key_of section.cid)) entries ≡ Some v → new_beside (keys_of entries) (section ∷ []) ≡ []
 none_new entries section v found =
     ap (λ (b : Bool). cond b [] (section ∷ [])) (sym (is_some-lookup (same_key (key_of section.cid)) entries) ∙ ap is_some found)
 
-pub one_new : {V : Type 0} (entries : List (Key × V)) (section : Section) → lookup (same_key (key_of section.cid)) entries ≡ None → new_beside (keys_of entries) (section ∷ []) ≡ section ∷ []
+pub one_new : {V : Type 0} (entries : List (Key × V)) (section : Section)
+    → lookup (same_key (key_of section.cid)) entries ≡ None → new_beside (keys_of entries) (section ∷ []) ≡ section ∷ []
 one_new entries section none =
     ap (λ (b : Bool). cond b [] (section ∷ [])) (sym (is_some-lookup (same_key (key_of section.cid)) entries) ∙ ap is_some none)
 
@@ -243,7 +260,8 @@ entry_keys (section ∷ sections) = ap (λ (ks : List Key). key_of section.cid �
 pub holds_rests : (entries : List (Key × List ℕ)) → HoldsMore entries entries []
 holds_rests entries = sym (append-nil entries)
 
-pub holds_joins : (a b c : List (Key × List ℕ)) (u v : List Section) → HoldsMore a b u → HoldsMore b c v → HoldsMore a c (u ++ v)
+pub holds_joins : (a b c : List (Key × List ℕ)) (u v : List Section) → HoldsMore a b u → HoldsMore b c v
+    → HoldsMore a c (u ++ v)
 holds_joins a b c u v p q =
     let front : List Section = new_beside (keys_of a) u in
     let keys : keys_of b ≡ keys_of a ++ section_keys front =

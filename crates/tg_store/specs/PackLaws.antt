@@ -11,7 +11,8 @@ use Rattle.tg_store.specs.declared.key.Key.{Key}
 use Rattle.tg_store.specs.declared.place.Place.{Place}
 use Rattle.tg_store.specs.Entries.{new_beside, section_keys}
 use Rattle.tg_store.specs.EntryLaws.{is_store, new_beside-append}
-use Rattle.tg_store.specs.Packs.{PackStoreState, ArePlacedAt, GrewBy, HasGrown, HasKept, HasSearched, IsGrowth, block_at, entry_before, stored_in}
+use Rattle.tg_store.specs.Packs.{PackStoreState, ArePlacedAt, GrewBy, HasGrown, HasKept, HasSearched, IsGrowth}
+use Rattle.tg_store.specs.Packs.{block_at, entry_before, stored_in}
 
 pub told_store : (told : Option (List ℕ)) (places : List (Key × Place)) → IsToldStore (stored_in told places)
 told_store None places = tt
@@ -19,7 +20,8 @@ told_store (Some content) places = is_store (block_at content) places
 
 -- ---- sections one after another
 
-pub placed_joins : (at : ℕ) (u v : List Section) (a b : List ℕ) (p q : List (Key × Place)) → ArePlacedAt at u a p → ArePlacedAt (at + length a) v b q
+pub placed_joins : (at : ℕ) (u v : List Section) (a b : List ℕ) (p q : List (Key × Place)) → ArePlacedAt at u a p
+    → ArePlacedAt (at + length a) v b q
     → ArePlacedAt at (u ++ v) (a ++ b) (p ++ q)
 placed_joins at [] v a b p q h k =
     let none : length a ≡ 0 = ap length h.0 in
@@ -41,12 +43,14 @@ placed_joins at (section ∷ u) v a b p q h k =
     )
 
 -- the keys of the entries are those of the sections
-pub placed_keys : (at : ℕ) (sections : List Section) (bytes : List ℕ) (places : List (Key × Place)) → ArePlacedAt at sections bytes places → keys_of places ≡ section_keys sections
+pub placed_keys : (at : ℕ) (sections : List Section) (bytes : List ℕ) (places : List (Key × Place))
+    → ArePlacedAt at sections bytes places → keys_of places ≡ section_keys sections
 placed_keys at [] bytes places h = ap keys_of h.1
 placed_keys at (section ∷ sections) bytes places h =
     ap keys_of h.5 ∙ ap (λ (ks : List Key). (entry_before (at + length h.0) section).0 ∷ ks) (placed_keys (at + length h.0) sections h.1 h.2 h.6)
 
-pub grown_joins : (a b c : List ℕ) (p q r : List (Key × Place)) (u v : List Section) → HasGrown a b p q (new_beside (keys_of p) u)
+pub grown_joins : (a b c : List ℕ) (p q r : List (Key × Place)) (u v : List Section)
+    → HasGrown a b p q (new_beside (keys_of p) u)
     → HasGrown b c q r (new_beside (keys_of q) v) → HasGrown a c p r (new_beside (keys_of p) (u ++ v))
 grown_joins a b c p q r u v h k =
     let front : List Section = new_beside (keys_of p) u in
@@ -65,7 +69,8 @@ grown_joins a b c p q r u v h k =
           (placed_joins (length a) front (new_beside (keys_of p ++ section_keys front) v) h.texts k.texts h.places k.places h.placed rest);
     }
 
-pub grew_joins : (a b c : Option (List ℕ)) (p q r : List (Key × Place)) (u v : List Section) → GrewBy a b p q u → GrewBy b c q r v → GrewBy a c p r (u ++ v)
+pub grew_joins : (a b c : Option (List ℕ)) (p q r : List (Key × Place)) (u v : List Section) → GrewBy a b p q u
+    → GrewBy b c q r v → GrewBy a c p r (u ++ v)
 grew_joins a b None p q r u v h k = tt
 grew_joins a None (Some new) p q r u v h k = absurd k
 grew_joins None (Some between) (Some new) p q r u v h k = absurd h
@@ -99,7 +104,8 @@ module _ {P : Type 0} (m : PackMeaning P) (rests : (p : P) → m.did p p []) (jo
   pub kept_rests : (s : PackStoreState P) → HasKept m s s []
   kept_rests s = record { writes = []; did = did_nothing s.pack; growth = All-nil IsGrowth; fresh = refl; grew = grew_nothing _ _ s.places s.places refl refl }
 
-  pub kept_joins : (a b c : PackStoreState P) (u v : List Section) → HasKept m a b u → HasKept m b c v → HasKept m a c (u ++ v)
+  pub kept_joins : (a b c : PackStoreState P) (u v : List Section) → HasKept m a b u → HasKept m b c v
+      → HasKept m a c (u ++ v)
   kept_joins a b c u v h k = record {
     writes = h.writes ++ k.writes;
     did = did_joins m joins a.pack b.pack c.pack h.writes k.writes h.did k.did;

@@ -1,5 +1,6 @@
 -- A store in a pack: where its blocks lie, what is stored, and how it grows.
-use Rattle.std.specs.Prelude.{◌≡◌, ◌≤◌, ◌<◌, ◌+◌, ◌-◌, ◌^◌, ⊤, ℕ, Bool, true, List, [], ◌∷◌, ◌++◌, length, take, drop, replicate, All, Option, Some, None}
+use Rattle.std.specs.Prelude.{◌≡◌, ◌≤◌, ◌<◌, ◌+◌, ◌-◌, ◌^◌, ⊤, ℕ, Bool, true, List, [], ◌∷◌, ◌++◌, length, take, drop}
+use Rattle.std.specs.Prelude.{replicate, All, Option, Some, None}
 use Rattle.std.specs.Map.{keys_of, lookup}
 use Rattle.tg_cid.specs.Limits.{max_block_len}
 use Rattle.tg_car.specs.CarText.{HeaderText, SectionText}
@@ -49,10 +50,12 @@ pub record HasOneRoot (content : List ℕ) : Type 0 where
 -- the places are those of blocks in the content, named by their keys
 pub record IsIndexed (content : List ℕ) (fresh : Bool) (places : List (Key × Place)) (end : ℕ) : Type 0 where
   pub end_is : end ≡ length content
-  pub within : (key : Key) (place : Place) → lookup (same_key key) places ≡ Some place → place.offset + place.size ≤ length content
+  pub within : (key : Key) (place : Place) → lookup (same_key key) places ≡ Some place
+      → place.offset + place.size ≤ length content
   pub good : AreGood (block_at content) places
   pub one_root : fresh ≡ true → HasOneRoot content
-  pub behind : fresh ≡ true → (key : Key) (place : Place) → lookup (same_key key) places ≡ Some place → 59 ≤ place.offset
+  pub behind : fresh ≡ true → (key : Key) (place : Place) → lookup (same_key key) places ≡ Some place
+      → 59 ≤ place.offset
 
 -- as far as the content is told
 abbrev pub IsIndexedIn : Option (List ℕ) → Bool → List (Key × Place) → ℕ → Type 0
@@ -81,7 +84,8 @@ in_car section = record { cid = section.cid; block = section.block }
 
 -- the entry of a section whose text ends at this offset
 abbrev pub entry_before : ℕ → Section → Key × Place
-entry_before end section = (key_of section.cid, record { offset = end - length section.block; size = length section.block })
+entry_before end section =
+    (key_of section.cid, record { offset = end - length section.block; size = length section.block })
 
 -- the bytes from this offset on are the texts of the sections, and these are the entries of their blocks
 abbrev pub ArePlacedAt : ℕ → List Section → List ℕ → List (Key × Place) → Type 0
@@ -103,7 +107,8 @@ pub record HasGrown (old new : List ℕ) (before after : List (Key × Place)) (s
 abbrev pub GrewBy : Option (List ℕ) → Option (List ℕ) → List (Key × Place) → List (Key × Place) → List Section → Type 0
 GrewBy old None before after sections = ⊤
 GrewBy None (Some new) before after sections = ⊥
-GrewBy (Some old) (Some new) before after sections = HasGrown old new before after (new_beside (keys_of before) sections)
+GrewBy (Some old) (Some new) before after sections =
+    HasGrown old new before after (new_beside (keys_of before) sections)
 
 -- these sections were kept, one after another
 pub record HasKept {P : Type 0} (m : PackMeaning P) (a b : PackStoreState P) (sections : List Section) : Type 0 where

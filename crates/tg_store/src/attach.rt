@@ -3,7 +3,8 @@ ghost use Rattle.std.specs.Prelude.{◌≡◌, ◌≤◌, ◌<◌, ◌++◌, ◌
 ghost use Rattle.tg_bytes.specs.Told.{IsNothing};
 ghost use Rattle.tg_car.specs.History.{given_by};
 ghost use Rattle.tg_files.specs.Packs.{PackQuiet, SameContent, pack_step, rest_at};
-ghost use Rattle.tg_store.specs.Attaching.{HasPackCause, HasStopCause, IsAlong, IsFound, IsNotNoted, IsReadTo, IsRefusal, Noted};
+ghost use Rattle.tg_store.specs.Attaching.{HasPackCause, HasStopCause, IsAlong, IsFound, IsNotNoted, IsReadTo};
+ghost use Rattle.tg_store.specs.Attaching.{IsRefusal, Noted};
 
 use crate::fault::PackFault;
 use crate::key::Key;

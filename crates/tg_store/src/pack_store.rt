@@ -60,7 +60,8 @@ impl<P: Pack> Model for PackStore<P> {
 
     ghost view = { λ s. record { pack = s.pack; fresh = s.fresh; places = s.places.entries; end = s.end } };
 
-    ghost invariant = { λ s. AreSmall s.places.entries × IsIndexedIn (P.pack.content s.pack) s.fresh s.places.entries s.end };
+    ghost invariant = { λ s. AreSmall s.places.entries × IsIndexedIn
+        (P.pack.content s.pack) s.fresh s.places.entries s.end };
 }
 
 impl<P: Pack> PackStore<P> {

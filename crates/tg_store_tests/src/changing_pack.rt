@@ -31,7 +31,13 @@ impl ChangingPack {
 }
 
 impl Pack for ChangingPack {
-    ghost pack = { record { content = λ _. None; place = λ _. None; faults = λ p. p.calls.faults; calls = λ _. None; did = λ _ _ _. ⊤ } };
+    ghost pack = { record {
+      content = λ _. None;
+      place = λ _. None;
+      faults = λ p. p.calls.faults;
+      calls = λ _. None;
+      did = λ _ _ _. ⊤;
+    } };
 
     ghost rests = { λ _. tt };
 

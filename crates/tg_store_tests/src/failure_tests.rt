@@ -1,17 +1,16 @@
 //! Stores whose pack fails at one call after another, and stores in memory.
-ghost use Rattle.std.specs.Prelude.{◌≡◌, ◌≤◌, length, OnOk};
+ghost use Rattle.std.specs.Prelude.{◌≡◌, OnOk};
 
 use crate::rows::{
     DIRECTORY, DIRECTORY_ONE, DIRECTORY_ZERO, HEADER, SECTION, gives, gives_under, joined, lacks,
 };
 use std::alloc::Global;
-use tg_bytes::{Bytes, List};
-use tg_cid::{Cid, Codec};
+use tg_bytes::{Bytes, List, zeros};
+use tg_cid::{Cid, Codec, MAX_BLOCK_LEN};
 use tg_files::MemPack;
+use tg_known_bytes::HELLO;
 use tg_model::{Blocks, BlocksFault, Keep, KeepFault};
 use tg_store::{MemStore, PackFault, PackStore};
-
-const HELLO: &[u8] = b"hello world";
 
 // The section of `hello world` under its raw CID, and of the empty directory's bytes under theirs, by Python's hashlib.
 const HELLO_SECTION: &[u8] =
@@ -21,6 +20,18 @@ const HELLO_SECTION: &[u8] =
 const RAW_SECTION: &[u8] =
     b"\x28\x01\x55\x12\x20\x59\x94\x84\x39\x06\x5f\x29\x61\x9e\xf4\x12\x80\xcb\xb9\x32\xbe\x52\xc5\
         \x6d\x99\xc5\x96\x6b\x65\xe0\x11\x12\x39\xf0\x98\xbb\xef\x0a\x02\x08\x01";
+
+// A block of so many zeros stands in a section of 4,096 bytes, the longest that one write adds. Its section up to the
+// block, and that of a block of one zero more, which two writes add, by Python's hashlib.
+const SHORT_LEN: usize = 4_058;
+
+const SHORT_HEAD: &[u8] =
+    b"\xfe\x1f\x01\x55\x12\x20\x42\x69\x57\x0d\xbe\x05\x23\xe2\xe6\x36\xc0\x06\x5b\x9d\xaf\xa4\x09\
+        \x4d\x9f\xf2\xb1\x2f\x72\xbb\x53\x4f\xad\x07\xb6\x8d\x0b\x54";
+
+const LONG_HEAD: &[u8] =
+    b"\xff\x1f\x01\x55\x12\x20\xb8\x17\x81\x99\x81\x76\x6d\xb8\x4e\x56\xbe\x42\x64\xdf\xb1\x97\x55\
+        \x0a\x14\x32\x50\xac\x24\xa0\x91\x22\xb0\x29\xea\xc7\x3b\x34";
 
 // Where the first call failed.
 #[derive(Clone, Copy, Debug, PartialEq, Eq)]
@@ -53,32 +64,42 @@ fn pack_of(alloc: Global, parts: &[&[u8]], number: u64) -> Option<MemPack> {
 
 /// Keeps the block, where the CID names it.
 fn keep(store: &mut PackStore<MemPack>, cid: Cid, block: &[u8]) -> Result<(), KeepFault>
-    requires { length block.now ≤ 2097152 }
     ensures { OnOk result (store.new.fresh ≡ store.old.fresh) }
 {
-    if !cid.holds(block) {
+    if block.len() > MAX_BLOCK_LEN || !cid.holds(block) {
         return Ok(());
     }
     store.keep(cid, block)
 }
 
-/// Keeps the directory, the same under its CIDv0, `hello world`, and the directory's bytes as raw ones.
-fn keep_all(store: &mut PackStore<MemPack>, zero: Cid) -> Result<(), KeepFault>
+/// Keeps the directory, the same under its CIDv0, `hello world`, the directory's bytes as raw ones, all of these zeros
+/// but the last, and all of them.
+fn keep_all(store: &mut PackStore<MemPack>, zero: Cid, zeros: &[u8]) -> Result<(), KeepFault>
     ensures { OnOk result (store.new.fresh ≡ store.old.fresh) }
 {
     keep(store, Cid::of_block(Codec::DagPb, DIRECTORY), DIRECTORY)?;
     keep(store, zero, DIRECTORY)?;
-    keep(store, Cid::of_block(Codec::Raw, HELLO), HELLO)?;
-    keep(store, Cid::of_block(Codec::Raw, DIRECTORY), DIRECTORY)
+    let short = &zeros[..zeros.len().min(SHORT_LEN)];
+    keep_raw(store, HELLO)?;
+    keep_raw(store, DIRECTORY)?;
+    keep_raw(store, short)?;
+    keep_raw(store, zeros)
+}
+
+/// Keeps the block under its raw CID.
+fn keep_raw(store: &mut PackStore<MemPack>, block: &[u8]) -> Result<(), KeepFault>
+    ensures { OnOk result (store.new.fresh ≡ store.old.fresh) }
+{
+    keep(store, Cid::of_block(Codec::Raw, block), block)
 }
 
 /// Creates a store in the pack, keeps blocks and finishes it.
-fn make(alloc: Global, fails: List<u64>, zero: Cid) -> (Fails, MemPack) {
+fn make(alloc: Global, fails: List<u64>, zero: Cid, zeros: &[u8]) -> (Fails, MemPack) {
     let mut store = match PackStore::create(alloc, MemPack::new(Bytes::new(alloc), fails)) {
         Ok(store) => store,
         Err(refused) => return (Fails::Create, refused.pack),
     };
-    let Ok(()) = keep_all(&mut store, zero) else {
+    let Ok(()) = keep_all(&mut store, zero, zeros) else {
         return (Fails::Keep, store.into_pack());
     };
     match store.finish(Cid::of_block(Codec::DagPb, DIRECTORY)) {
@@ -92,13 +113,16 @@ fn make_failing(alloc: Global, number: u64) -> Option<(Fails, MemPack)> {
     let Ok(zero) = Cid::from_bytes(DIRECTORY_ZERO) else {
         return None;
     };
+    let Ok(zeros) = zeros(alloc, SHORT_LEN + 1) else {
+        return None;
+    };
     match fails_at(alloc, number) {
-        Some(fails) => Some(make(alloc, fails, zero)),
+        Some(fails) => Some(make(alloc, fails, zero, zeros.as_slice())),
         None => None,
     }
 }
 
-// Which call fails, and where that is.
+// Which call fails, and where that is. A section is added by one call, and the last one by two.
 const CALLS: &[(u64, Fails)] = &[
     (0, Fails::Create),
     (1, Fails::Keep),
@@ -116,7 +140,22 @@ const NO_CALL: u64 = 1_000;
 
 /// Whether the pack holds the CAR of what was kept, and none of its calls failed.
 fn is_whole(alloc: Global, pack: &MemPack) -> bool {
-    match joined(alloc, &[HEADER, SECTION, HELLO_SECTION, RAW_SECTION]) {
+    let Ok(zeros) = zeros(alloc, SHORT_LEN + 1) else {
+        return false;
+    };
+    let long = zeros.as_slice();
+    let short = &long[..long.len().min(SHORT_LEN)];
+    let parts = [
+        HEADER,
+        SECTION,
+        HELLO_SECTION,
+        RAW_SECTION,
+        SHORT_HEAD,
+        short,
+        LONG_HEAD,
+        long,
+    ];
+    match joined(alloc, &parts) {
         Some(wanted) => pack.count() == 0 && pack.content() == Some(wanted.as_slice()),
         None => false,
     }
