@@ -66,7 +66,8 @@ abbrev pub written : Option (List ℕ) → List PackWrite → Option (List ℕ)
 written content [] = content
 written content (write ∷ writes) = written (once_written content write) writes
 
-pub written-append : (content : Option (List ℕ)) (u v : List PackWrite) → written (written content u) v ≡ written content (u ++ v)
+pub written-append : (content : Option (List ℕ)) (u v : List PackWrite)
+    → written (written content u) v ≡ written content (u ++ v)
 written-append content [] v = refl
 written-append content (write ∷ u) v = written-append (once_written content write) u v
 
@@ -81,7 +82,8 @@ abbrev pub placed : Option PackPlace → List PackWrite → Option PackPlace
 placed place [] = place
 placed place (write ∷ writes) = placed (once_placed place write) writes
 
-pub placed-append : (place : Option PackPlace) (u v : List PackWrite) → placed (placed place u) v ≡ placed place (u ++ v)
+pub placed-append : (place : Option PackPlace) (u v : List PackWrite)
+    → placed (placed place u) v ≡ placed place (u ++ v)
 placed-append place [] v = refl
 placed-append place (write ∷ u) v = placed-append (once_placed place write) u v
 
@@ -127,7 +129,8 @@ pub record Did (writes : List PackWrite) (step : PackStep) : Type 0 where
   pub place : step.place_new ≡ placed step.place_old writes
 
 -- one thing after another was done to a kind of pack whose changes come one after another
-pub did_joins : {S : Type 0} (m : PackMeaning S) → ((a b c : S) (u v : List PackWrite) → m.did a b u → m.did b c v → m.did a c (u ++ v))
+pub did_joins : {S : Type 0} (m : PackMeaning S)
+    → ((a b c : S) (u v : List PackWrite) → m.did a b u → m.did b c v → m.did a c (u ++ v))
     → (a b c : S) (u v : List PackWrite) → Did u (pack_step m a b) → Did v (pack_step m b c) → Did (u ++ v) (pack_step m a c)
 did_joins m joins a b c u v p q = record {
   moved = joins a b c u v p.moved q.moved;

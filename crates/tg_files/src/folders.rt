@@ -1,7 +1,8 @@
 //! Trees of files that are read.
 ghost use Rattle.std.specs.Prelude.{◌≡◌, ℕ, All, IfOk, IfErr, OnOk, OnErr};
 ghost use Rattle.tg_files.specs.Packs.{ReadAt};
-ghost use Rattle.tg_files.specs.Folders.{AttachedAt, FolderCalled, FolderCounts, FolderMeaning, FolderQuiet, FolderRose, Leads, Lists, SameFolder, TellsFolder, folder_step};
+ghost use Rattle.tg_files.specs.Folders.{AttachedAt, FolderCalled, FolderCounts, FolderMeaning, FolderQuiet};
+ghost use Rattle.tg_files.specs.Folders.{FolderRose, Leads, Lists, SameFolder, TellsFolder, folder_step};
 ghost use Rattle.tg_tree.specs.Tree.{HasFileAt, HasFolderAt, bytes_of, tree_at};
 ghost use Rattle.tg_files.specs.declared.folders.FolderFault.TheVariants.{Failed as FolderFailed, OutOfMemory};
 

@@ -1,10 +1,11 @@
 //! Trees of files of the system.
-ghost use Rattle.std.specs.Prelude.{◌≡◌, ◌≤◌, ◌↔◌, length, None, All, IsTrue, IfOk, IfNone, IfSome, IsSomeAnd, OnOk, Some, ◌≢◌, option_map, string_bytes, string_cmp};
-ghost use Rattle.std.specs.BTreeMap.{InsertsAll, get_by_text};
+ghost use Rattle.std.specs.Prelude.{◌≡◌, ◌≤◌, ◌↔◌, length, None, All, IsTrue, IfOk, IfNone, IfSome, IsSomeAnd, OnOk};
+ghost use Rattle.std.specs.Prelude.{Some, ◌≢◌, option_map, string_bytes, string_cmp};
+ghost use Rattle.std.specs.BTreeMap.{IsFromIterResult};
 ghost use Rattle.std.specs.Fs.{IsDir, IsFile, IsSymlink, dir_entry_name, file_type, metadata_len};
 ghost use Rattle.std.specs.List.{AllZip};
 ghost use Rattle.tg_files.specs.Folders.{IsEntryName, path_below};
-ghost use Rattle.tg_files.specs.System.{HasSort, IsEntryOf};
+ghost use Rattle.tg_files.specs.System.{HasSort, IsEntryOf, KeepsLevel, listed_at};
 
 use crate::folders::{Folder, FolderFault};
 use crate::place::{Place, Target};
@@ -21,12 +22,14 @@ use tg_tree::{Item, Sort};
 
 /// A tree of files of the system that is read, as its folders listed it. Its files aren't told.
 ///
-/// What a folder didn't list isn't there. Below the attached folder no symbolic link is followed: what stands at a path
-/// is looked at before it is opened and again once it is open, and it is a fault where it isn't the same object of the
-/// system that was listed. The file that was read last stays open until another path is read or listed. A file has as
-/// many bytes as it had when its folder was listed last: no byte behind them is given, and where it became shorter it
-/// is a fault. Every call before it is attached is a fault, and so is a path with a name that isn't text or that
-/// doesn't lead into a folder: an empty one, one with a slash, one dot and two.
+/// What a folder didn't list isn't there. What was listed is known on the way to the folder that was listed last: a
+/// folder is listed once the one above it was, and what it lists is forgotten once a folder is listed that isn't within
+/// it. Below the attached folder no symbolic link is followed: what stands at a path is looked at before it is opened
+/// and again once it is open, and it is a fault where it isn't the same object of the system that was listed. The file
+/// that was read last stays open until another path is read or listed. A file has as many bytes as it had when its
+/// folder was listed last: no byte behind them is given, and where it became shorter it is a fault. Every call before
+/// it is attached is a fault, and so is a path with a name that isn't text or that doesn't lead into a folder: an empty
+/// one, one with a slash, one dot and two.
 #[derive(Drop)]
 pub struct HostFolder<R: Files> {
     rt: R,
@@ -36,11 +39,12 @@ pub struct HostFolder<R: Files> {
     failed: u64,
 }
 
-/// The folder of the system that is read, and what was listed in it, by its path of the system.
+/// The folder of the system that is read, and what was listed on the way to the folder that was listed last, by its
+/// path of the system: first what the root listed, then what a folder in it listed, and so on.
 #[derive(Drop)]
 struct Attached {
     root: String,
-    listed: BTreeMap<String, Listed>,
+    levels: Vec<BTreeMap<String, Listed>>,
 }
 
 /// A file that is open, and the path of the system at which it stood.
@@ -107,16 +111,17 @@ impl<R: Files + AllocGlobal + Clone + Drop> HostFolder<R> {
         };
         let path = joined(self.rt.alloc(), attached.root.as_str(), names)?;
         let Listing { items, found } = entries_of(&self.rt, path.as_str())?;
-        let is_root = names.is_empty();
-        if !is_root
+        let depth = names.len();
+        if depth > 0
             && !attached.is_folder(
                 &fs::symlink_metadata(&self.rt, path.as_str())?,
+                depth,
                 path.as_str(),
             )
         {
             return Err(FolderFault::Failed);
         }
-        attached.keep(found)?;
+        attached.keep(self.rt.alloc(), depth, found)?;
         Ok(items)
     }
 
@@ -130,7 +135,7 @@ impl<R: Files + AllocGlobal + Clone + Drop> HostFolder<R> {
             return Err(FolderFault::Failed);
         };
         let path = joined(self.rt.alloc(), attached.root.as_str(), names)?;
-        let Some(listed) = attached.file(path.as_str()) else {
+        let Some(listed) = attached.file(names.len(), path.as_str()) else {
             return Err(FolderFault::Failed);
         };
         let mut opened = match self.reading.take() {
@@ -144,7 +149,12 @@ impl<R: Files + AllocGlobal + Clone + Drop> HostFolder<R> {
 }
 
 impl<R: Files + AllocGlobal + Clone + Drop> Folder for HostFolder<R> {
-    ghost folder = { record { tree = λ _. None; place = λ f. option_map (λ p. p.path) f.place.at; faults = λ f. f.failed; calls = λ _. None } };
+    ghost folder = { record {
+      tree = λ _. None;
+      place = λ f. option_map (λ p. p.path) f.place.at;
+      faults = λ f. f.failed;
+      calls = λ _. None;
+    } };
 
     fn tells(&self) {}
 
@@ -152,8 +162,8 @@ impl<R: Files + AllocGlobal + Clone + Drop> Folder for HostFolder<R> {
     fn attach(&mut self, path: &str) -> Result<(), Failed> {
         match root_of(&self.rt, path) {
             Ok(root) => {
-                let listed = BTreeMap::new(self.rt.alloc());
-                self.attached = Some(Attached { root, listed });
+                let levels = Vec::new(self.rt.alloc());
+                self.attached = Some(Attached { root, levels });
                 self.reading = None;
                 self.place = Place::of(&Target { path, fresh: false });
                 Ok(())
@@ -188,37 +198,63 @@ impl<R: Files + AllocGlobal + Clone + Drop> Folder for HostFolder<R> {
 }
 
 impl Attached {
-    /// Whether a folder was listed at the path, and this is it.
-    fn is_folder(&self, found: &Metadata, path: &str) -> bool
+    /// What stood at a path of so many names when the folder above it was listed.
+    fn found(&self, depth: usize, path: &str) -> Option<Listed>
+        ensures { result ≡ listed_at self.now.levels.items depth path.now }
+    {
+        let above = depth.checked_sub(1)?;
+        self.levels.get(above)?.get(path).copied()
+    }
+
+    /// Whether a folder was listed at a path of so many names, and this is it.
+    fn is_folder(&self, found: &Metadata, depth: usize, path: &str) -> bool
         ensures folder { IsTrue result → IsDir (file_type found.now) }
-        ensures listed { IsTrue result → IsSomeAnd (get_by_text self.now.listed path.now)
+        ensures listed { IsTrue result → IsSomeAnd (listed_at self.now.levels.items depth path.now)
             (λ listed. HasSort (file_type found.now) listed.sort) }
     {
-        match self.listed.get(path) {
+        match self.found(depth, path) {
             Some(listed) => found.is_dir() && listed.is_same(found),
             None => false,
         }
     }
 
-    /// The file that was listed at the path.
-    fn file(&self, path: &str) -> Option<Listed>
-        ensures listed { IfSome result (λ listed. get_by_text self.now.listed path.now ≡ Some listed) }
+    /// The file that was listed at a path of so many names.
+    fn file(&self, depth: usize, path: &str) -> Option<Listed>
+        ensures listed { IfSome result (λ listed. listed_at self.now.levels.items depth path.now ≡ Some listed) }
         ensures file { IfSome result (λ listed. listed.sort ≡ Sort.File) }
-        ensures none { IfNone result (IfSome (get_by_text self.now.listed path.now)
+        ensures none { IfNone result (IfSome (listed_at self.now.levels.items depth path.now)
             (λ listed. listed.sort ≢ Sort.File)) }
     {
-        match self.listed.get(path) {
-            Some(listed) if listed.sort == Sort::File => Some(*listed),
+        match self.found(depth, path) {
+            Some(listed) if listed.sort == Sort::File => Some(listed),
             _ => None,
         }
     }
 
-    /// Keeps what a folder listed, in place of what it listed before.
-    fn keep(&mut self, found: Vec<(String, Listed)>) -> Result<(), AllocError>
-        ensures { OnOk result (InsertsAll string_cmp self.old.listed found.items self.new.listed) }
+    /// Keeps what the folder at a path of so many names listed, behind what was listed on the way to it alone.
+    fn keep(
+        &mut self,
+        alloc: Global,
+        depth: usize,
+        found: Vec<(String, Listed)>,
+    ) -> Result<(), FolderFault>
+        ensures { OnOk result (KeepsLevel depth found.items self.old.levels.items self.new.levels.items) }
     {
-        self.listed.extend(found)
+        let level = level_of(alloc, found)?;
+        self.levels.truncate(depth);
+        self.levels.push(level)?;
+        Ok(())
     }
+}
+
+/// What stood in a folder when it was listed, by its path of the system.
+fn level_of(
+    alloc: Global,
+    found: Vec<(String, Listed)>,
+) -> Result<BTreeMap<String, Listed>, AllocError>
+    ensures { IfOk result (IsFromIterResult string_cmp found.items) }
+{
+    BTreeMap::from_iter(alloc, found)
 }
 
 impl Listed {

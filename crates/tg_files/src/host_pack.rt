@@ -1,5 +1,6 @@
 //! Packs that are files of the system.
-ghost use Rattle.std.specs.Prelude.{◌≡◌, ◌≤◌, ◌↔◌, ◌++◌, None, Some, false, true, take, IfErr, IfSome, IsOk, OnOk, OnErr, refl};
+ghost use Rattle.std.specs.Prelude.{◌≡◌, ◌≤◌, ◌↔◌, ◌++◌, None, Some, false, true, take, IfErr, IfSome, IsOk, OnOk};
+ghost use Rattle.std.specs.Prelude.{OnErr, refl};
 ghost use Rattle.std.specs.Fs.{IsFile, file_type, new_options, with_create, with_read, with_truncate, with_write};
 ghost use Rattle.std.specs.Result.{result_ok};
 ghost use Rattle.std.specs.IoError.{error_kind};

@@ -1,8 +1,10 @@
 //! A tree of files in memory, which is read and fails at the calls that it is given.
-ghost use Rattle.std.specs.Prelude.{◌≡◌, ◌-◌, ◌↔◌, min, [], length, drop, Some, None, All, IsErr, IsErrOf, Contains, OnErr, OnOk, IfOk, IfErr, IfSome, MatchOption};
+ghost use Rattle.std.specs.Prelude.{◌≡◌, ◌-◌, ◌↔◌, min, [], length, drop, Some, None, All, IsErr, IsErrOf, Contains};
+ghost use Rattle.std.specs.Prelude.{OnErr, OnOk, IfOk, IfErr, IfSome, MatchOption};
 ghost use Rattle.tg_faults.specs.Faults.{counted};
 ghost use Rattle.tg_files.specs.Packs.{ReadAt};
-ghost use Rattle.tg_files.specs.Folders.{AttachedAt, FolderCalled, FolderCounts, FolderQuiet, FolderRose, Leads, Lists, SameFolder, TellsFolder, folder_step, mem_folder};
+ghost use Rattle.tg_files.specs.Folders.{AttachedAt, FolderCalled, FolderCounts, FolderQuiet, FolderRose, Leads, Lists};
+ghost use Rattle.tg_files.specs.Folders.{SameFolder, TellsFolder, folder_step, mem_folder};
 ghost use Rattle.tg_tree.specs.Tree.{IsFolderOfFiles, bytes_of, items_of, tree_at};
 
 use crate::folders::{Folder, FolderFault};
@@ -34,7 +36,13 @@ impl Model for MemFolder {
 
     ghost coded = { Prim.hlevel (codes, trees.the_row.coded) };
 
-    ghost view = { λ f. record { tree = f.tree; place = option_map (λ p. p.path) f.place.at; fails = f.calls.fails; calls = f.calls.made; faults = f.calls.faults } };
+    ghost view = { λ f. record {
+      tree = f.tree;
+      place = option_map (λ p. p.path) f.place.at;
+      fails = f.calls.fails;
+      calls = f.calls.made;
+      faults = f.calls.faults;
+    } };
 
     ghost invariant = { λ f. IsFolderOfFiles f.tree };
 }

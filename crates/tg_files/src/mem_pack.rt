@@ -1,7 +1,9 @@
 //! A pack in memory, which fails at the calls that it is given.
-ghost use Rattle.std.specs.Prelude.{◌≡◌, ◌+◌, ◌-◌, ◌↔◌, min, [], ◌∷◌, length, drop, Some, None, IsErr, Contains, OnErr, OnOk, IfOk, IfSome, option_copied};
+ghost use Rattle.std.specs.Prelude.{◌≡◌, ◌+◌, ◌-◌, ◌↔◌, min, [], ◌∷◌, length, drop, Some, None, IsErr, Contains, OnErr};
+ghost use Rattle.std.specs.Prelude.{OnOk, IfOk, IfSome, option_copied};
 ghost use Rattle.tg_faults.specs.Faults.{counted};
-ghost use Rattle.tg_files.specs.Packs.{Did, HasLength, PackCalled, PackQuiet, PackRose, ReadAt, Reaches, SameContent, Untold, mem_pack, pack_joins, pack_rests, pack_step};
+ghost use Rattle.tg_files.specs.Packs.{Did, HasLength, PackCalled, PackQuiet, PackRose, ReadAt, Reaches, SameContent};
+ghost use Rattle.tg_files.specs.Packs.{Untold, mem_pack, pack_joins, pack_rests, pack_step};
 ghost use Rattle.tg_files.specs.Packs.PackWrite.{append as added, attach as attached, overwrite as overwritten};
 
 use crate::packs::Pack;
@@ -25,7 +27,13 @@ impl Model for MemPack {
 
     ghost Value = { PackState };
 
-    ghost view = { λ p. record { content = p.content; place = p.place.at; fails = p.calls.fails; calls = p.calls.made; faults = p.calls.faults } };
+    ghost view = { λ p. record {
+      content = p.content;
+      place = p.place.at;
+      fails = p.calls.fails;
+      calls = p.calls.made;
+      faults = p.calls.faults;
+    } };
 }
 
 impl MemPack {

@@ -1,6 +1,7 @@
 //! Bytes that are kept in one place, read and written at any offset in it.
 ghost use Rattle.std.specs.Prelude.{◌≡◌, ◌+◌, List, length, [], ◌∷◌, ◌++◌, IfOk, OnOk, OnErr};
-ghost use Rattle.tg_files.specs.Packs.{Did, HasLength, PackCalled, PackMeaning, PackQuiet, PackRose, PackWrite, ReadAt, Reaches, SameContent, Untold, pack_step};
+ghost use Rattle.tg_files.specs.Packs.{Did, HasLength, PackCalled, PackMeaning, PackQuiet, PackRose, PackWrite, ReadAt};
+ghost use Rattle.tg_files.specs.Packs.{Reaches, SameContent, Untold, pack_step};
 ghost use Rattle.tg_files.specs.Packs.PackWrite.{append as added, attach as attached, overwrite as overwritten};
 
 use tg_faults::Failed;
@@ -41,8 +42,8 @@ pub trait Pack {
         ensures call { PackCalled (pack_step pack self.old self.new) }
         ensures err_rose { OnErr result (PackRose (pack_step pack self.old self.new)) };
 
-    /// Puts all of the bytes in place of as many from `offset` on; a pack that outlives the program then lasts, with all
-    /// that was written to it. The error is a fault of the pack, whose bytes then aren't told any more.
+    /// Puts all of the bytes in place of as many from `offset` on; a pack that outlives the program then lasts, with
+    /// all that was written to it. The error is a fault of the pack, whose bytes then aren't told any more.
     fn write_at(&mut self, offset: u64, bytes: &[u8]) -> Result<(), Failed>
         requires { Reaches (pack.content self.old) (offset + length bytes.now) }
         ensures did { OnOk result (Did (overwritten offset bytes.now ∷ []) (pack_step pack self.old self.new)) }

@@ -127,11 +127,12 @@ fn docs(alloc: Global) -> Option<Tree> {
     }
 }
 
-/// A folder with a folder of two files and a symbolic link.
+/// A folder with a folder of two files, a symbolic link and something else.
 fn sample(alloc: Global) -> Option<Tree> {
     let mut entries = List::new(alloc);
     let are_there = push_entry(alloc, &mut entries, b"docs", docs(alloc))
-        && push_entry(alloc, &mut entries, b"link", link_to(alloc, b"docs"));
+        && push_entry(alloc, &mut entries, b"link", link_to(alloc, b"docs"))
+        && push_entry(alloc, &mut entries, b"pipe", Some(Tree::Other));
     if are_there {
         Some(Tree::Folder(entries.into_vec()))
     } else {
@@ -210,7 +211,14 @@ fn is_read(alloc: Global, folder: &mut MemFolder) -> bool {
         )
         && reads_b(alloc, folder, 1, b"bc")
         && reads_b(alloc, folder, u64::MAX, b"")
-        && has_at_top(folder, &[("docs", Sort::Folder), ("link", Sort::Symlink)])
+        && has_at_top(
+            folder,
+            &[
+                ("docs", Sort::Folder),
+                ("link", Sort::Symlink),
+                ("pipe", Sort::Other),
+            ],
+        )
         && fails_at_top(folder)
         && folder.count() == 1
 }
@@ -624,6 +632,34 @@ const LISTED: &[Row] = &[
         Call::Read(&["docs", "file"], 0, "within"),
         true,
     ),
+    // A folder beside the one that was listed last.
+    (
+        "another folder below",
+        Call::List(&["other"], &[("file", Sort::File)]),
+        true,
+    ),
+    (
+        "a file of the folder before",
+        Call::Read(&["docs", "file"], 0, "within"),
+        false,
+    ),
+    (
+        "a file of the other folder",
+        Call::Read(&["other", "file"], 2, "thin"),
+        true,
+    ),
+    ("a file above", Call::Read(&["grows"], 0, "bytes"), true),
+    (
+        "a folder in a file",
+        Call::List(&["grows", "file"], &[]),
+        false,
+    ),
+    (
+        "the folder before",
+        Call::List(&["docs"], &[("file", Sort::File)]),
+        true,
+    ),
+    ("its file", Call::Read(&["docs", "file"], 0, "within"), true),
 ];
 
 // The calls once `change` has changed what was listed.
@@ -719,7 +755,7 @@ const LED_OUT: &[Row] = &[
         Call::Read(&["docs", "file"], 0, "within"),
         false,
     ),
-    ("each is counted", Call::Count(19), true),
+    ("each is counted", Call::Count(21), true),
     // What grew, shrank and was changed is read as it was listed last.
     (
         "grew and listed again",
