@@ -27,6 +27,7 @@ bytes_are : (o : Tree-F Tree) → sort_within o ≡ sorts.File → (bytes : List
 bytes_are (trees.File bytes) e = (bytes, refl)
 bytes_are (trees.Folder entries) e = absurd (cc)
 bytes_are (trees.Symlink target) e = absurd (cc)
+bytes_are trees.Other e = absurd (cc)
 
 shown_where : (d : Dag) (found : Option Tree) → option_map sort_of found ≡ Some sorts.File → IfSome (bytes_of found) (λ bytes. content d ≡ bytes)
     → ((tree : Tree) → bytes_of (Some tree) ≡ Some (content d) → Shows d tree) → IfSome found (Shows d)

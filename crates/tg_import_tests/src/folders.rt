@@ -251,6 +251,8 @@ fn path_of(fault: &ImportFault) -> &[Bytes] {
 enum Odd {
     /// A folder `d` with a symbolic link.
     Link,
+    /// A folder `d` with something else, such as a named pipe.
+    Other,
     /// A file, and behind it one with a slash in its name.
     Slash,
     /// A file whose name has so many bytes.
@@ -269,6 +271,11 @@ fn one_entry(alloc: Global, name: &[u8], tree: Tree) -> Result<Tree, AllocError>
 fn with_link(alloc: Global) -> Result<Tree, AllocError> {
     let target = Bytes::of(alloc, b"a")?;
     let inside = one_entry(alloc, b"link", Tree::Symlink(target))?;
+    one_entry(alloc, b"d", inside)
+}
+
+fn with_other(alloc: Global) -> Result<Tree, AllocError> {
+    let inside = one_entry(alloc, b"pipe", Tree::Other)?;
     one_entry(alloc, b"d", inside)
 }
 
@@ -296,6 +303,7 @@ fn nested(alloc: Global, levels: u32) -> Result<Tree, AllocError> {
 fn odd_tree(alloc: Global, odd: Odd) -> Result<Tree, AllocError> {
     match odd {
         Odd::Link => with_link(alloc),
+        Odd::Other => with_other(alloc),
         Odd::Slash => with_slash(alloc),
         Odd::Long(size) => with_name(alloc, size),
         Odd::Deep(levels) => nested(alloc, levels),
@@ -316,6 +324,7 @@ enum Want {
 /// A folder, the threshold, and what comes of its import.
 const ODD: &[(Odd, u64, Want)] = &[
     (Odd::Link, 100, Want::Fault(b"NotPlain/d/link")),
+    (Odd::Other, 100, Want::Fault(b"NotPlain/d/pipe")),
     // The names are looked at before the file is read.
     (Odd::Slash, 100, Want::Fault(b"BadName/b/c")),
     (Odd::Long(255), 1000, Want::Folders(1)),

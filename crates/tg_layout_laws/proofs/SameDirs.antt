@@ -39,6 +39,7 @@ file_or_folder : (bytes : List ℕ) (t : (Tree-F Tree)) → bytes_within t ≡ S
 file_or_folder bytes (trees.File own) e f = absurd (cc)
 file_or_folder bytes (trees.Folder inner) e f = absurd (cc)
 file_or_folder bytes (trees.Symlink target) e f = absurd (cc)
+file_or_folder bytes trees.Other e f = absurd (cc)
 
 not_folder : (tree : Tree) (bytes : List ℕ) → bytes_of (Some tree) ≡ Some bytes → sort_of tree ≡ sorts.Folder → ⊥
 not_folder tree bytes e f = file_or_folder bytes (out-Tree tree) e f

@@ -16,6 +16,7 @@ abbrev pub target_within : Tree-F Tree → Option (List ℕ)
 target_within (trees.File bytes) = None
 target_within (trees.Folder entries) = None
 target_within (trees.Symlink target) = Some target
+target_within trees.Other = None
 
 abbrev pub target_of : Tree → Option (List ℕ)
 target_of tree = target_within (out-Tree tree)
@@ -23,7 +24,8 @@ target_of tree = target_within (out-Tree tree)
 -- a folder, of which the entries have just the names
 pub record HasNamesOf (listed : List DirEntry) (tree : Tree) : Type 0 where
   pub folder : sort_of tree ≡ sorts.Folder
-  pub names : (name : List ℕ) → (Contains (map (λ entry. entry.name) listed) name ↔ Contains (names_of (Some tree)) name)
+  pub names : (name : List ℕ)
+      → (Contains (map (λ entry. entry.name) listed) name ↔ Contains (names_of (Some tree)) name)
 
 -- an entry, or a child shard
 abbrev pub SlotShows : (List ℕ → Type 0) → Type 0 → Option (List ℕ) → Type 0
@@ -37,15 +39,19 @@ abbrev mutual
   Shows (unopened cid) tree = ⊥
   Shows (bare section fault) tree = ⊥
   Shows (node section Raw children) tree = bytes_of (Some tree) ≡ Some section.block
-  Shows (node section (File inline filesize parts) children) tree = bytes_of (Some tree) ≡ Some (content (node section (File inline filesize parts) children))
-  Shows (node section (Basic es) children) tree = HasNamesOf (entries (node section (Basic es) children)) tree × EntriesShow es children tree
-  Shows (node section (Shard slots) children) tree = HasNamesOf (entries (node section (Shard slots) children)) tree × SlotsShow slots children tree
+  Shows (node section (File inline filesize parts) children) tree =
+      bytes_of (Some tree) ≡ Some (content (node section (File inline filesize parts) children))
+  Shows (node section (Basic es) children) tree =
+      HasNamesOf (entries (node section (Basic es) children)) tree × EntriesShow es children tree
+  Shows (node section (Shard slots) children) tree =
+      HasNamesOf (entries (node section (Shard slots) children)) tree × SlotsShow slots children tree
   Shows (node section (Symlink target) children) tree = target_of tree ≡ Some target
 
   pub EntriesShow : List Entry → Children → Tree → Type 0
   EntriesShow es no_child tree = ⊤
   EntriesShow [] (with_child d children) tree = ⊤
-  EntriesShow (entry ∷ es) (with_child d children) tree = ((below : Tree) × (child tree entry.name ≡ Some below) × Shows d below) × EntriesShow es children tree
+  EntriesShow (entry ∷ es) (with_child d children) tree =
+      ((below : Tree) × (child tree entry.name ≡ Some below) × Shows d below) × EntriesShow es children tree
 
   pub SlotsShow : List Slot → Children → Tree → Type 0
   SlotsShow slots no_child tree = ⊤

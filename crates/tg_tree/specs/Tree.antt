@@ -10,13 +10,14 @@ use Rattle.tg_tree.specs.declared.items.Item.{Item}
 use Rattle.tg_tree.specs.declared.items.Sort.{Sort}
 use Rattle.tg_tree.specs.declared.items.Sort.TheVariants as sorts
 use Rattle.tg_tree.specs.declared.tree.Tree.{Tree, Tree-F, out-Tree}
-use Rattle.tg_tree.specs.declared.tree.Tree.TheOpen.{File, Folder, Symlink}
+use Rattle.tg_tree.specs.declared.tree.Tree.TheOpen.{File, Folder, Symlink, Other}
 
 -- what a tree is
 abbrev pub sort_within : Tree-F Tree → Sort
 sort_within (File bytes) = sorts.File
 sort_within (Folder entries) = sorts.Folder
 sort_within (Symlink target) = sorts.Symlink
+sort_within Other = sorts.Other
 
 abbrev pub sort_of : Tree → Sort
 sort_of tree = sort_within (out-Tree tree)
@@ -26,6 +27,7 @@ abbrev pub entries_within : Tree-F Tree → List (List ℕ × Tree)
 entries_within (File bytes) = []
 entries_within (Folder entries) = entries.items
 entries_within (Symlink target) = []
+entries_within Other = []
 
 abbrev pub entries_of : Tree → List (List ℕ × Tree)
 entries_of tree = entries_within (out-Tree tree)
@@ -35,6 +37,7 @@ abbrev pub bytes_within : Tree-F Tree → Option (List ℕ)
 bytes_within (File bytes) = Some bytes
 bytes_within (Folder entries) = None
 bytes_within (Symlink target) = None
+bytes_within Other = None
 
 abbrev pub bytes_of : Option Tree → Option (List ℕ)
 bytes_of (Some tree) = bytes_within (out-Tree tree)
@@ -87,4 +90,5 @@ items_of tree = map item_of (entries_of tree)
 
 -- each name comes before the next in the order of their bytes, or is the same
 abbrev pub NamesRise : List Item → Type 0
-NamesRise items = AllAdjacentBelow (λ before next. IsTrue (is_le (bytes_cmp before.name next.name))) items (length items)
+NamesRise items =
+    AllAdjacentBelow (λ before next. IsTrue (is_le (bytes_cmp before.name next.name))) items (length items)

@@ -1,5 +1,6 @@
 //! Trees of files in memory.
-ghost use Rattle.std.specs.Prelude.{◌≡◌, ◌↔◌, ◌+◌, ◌-◌, Some, IsTrue, IfOk, IfSome, length, min, take, drop, map, [], ◌++◌, option_copied};
+ghost use Rattle.std.specs.Prelude.{◌≡◌, ◌↔◌, ◌+◌, ◌-◌, Some, IsTrue, IfOk, IfSome, length, min, take, drop, map, []};
+ghost use Rattle.std.specs.Prelude.{◌++◌, option_copied};
 ghost use Rattle.std.specs.Map.{lookup};
 ghost use Rattle.std.specs.Str.{bytes_eq};
 ghost use Rattle.tg_tree.specs.Tree.{bytes_of, entries_of, item_of, sort_of, tree_at, NamesDiffer};
@@ -17,10 +18,12 @@ pub enum Tree {
     Folder(Vec<(Bytes, Tree)>),
     /// The target of a symbolic link.
     Symlink(Bytes),
+    /// Anything else, such as a device or a named pipe.
+    Other,
 }
 
 impl Tree {
-    /// What the tree itself is, which is never `Sort::Other`.
+    /// What the tree itself is.
     pub fn sort(&self) -> Sort
         ensures { result ≡ sort_of self.now }
     {
@@ -28,6 +31,7 @@ impl Tree {
             Tree::File(_) => Sort::File,
             Tree::Folder(_) => Sort::Folder,
             Tree::Symlink(_) => Sort::Symlink,
+            Tree::Other => Sort::Other,
         }
     }
 
