@@ -6,11 +6,9 @@ use Rattle.tg_words.specs.CommandLine.{CommandLine}
 use Rattle.tg_words.specs.ExportLines.{ExportParts}
 use Rattle.tg_words.specs.Operands.{Exact, ExportGiven, QueryBy}
 use Rattle.tg_words.specs.QueryWords.{query_names}
-use Rattle.tg_words.specs.declared.Command.{Command}
-use Rattle.tg_words.specs.declared.Command.TheVariants.{Check, Node, CidToHex, CidToText, Export, Import, Verify}
+use Rattle.tg_words.specs.declared.Command.TheVariants.{Export}
 use Rattle.tg_words.proofs.Options.{have_values}
-use Rattle.tg_words.proofs.LineParts.{no_line, the_line}
-use Rattle.tg_words.proofs.Positional.{Form, IsOf, two_words}
+use Rattle.tg_words.proofs.Positional.{Form, IsOf, the_line, two_words}
 use Rattle.tg_words.proofs.QueryAnswers.{asked_by, given_by}
 
 abbrev pub export_form : Form (List ℕ × List ℕ) ExportParts
@@ -34,26 +32,22 @@ pub one_export : ((target : List ℕ) (options : List Given) (a b : QueryParts) 
 one_export one pair options a b p q = same_export a b (p.pack_is ∙ sym q.pack_is) (one pair.1 options a.query b.query p.query q.query)
 
 -- a line by its operands, and the operands of a line
-pub export_by : (rest : List (List ℕ)) (pack target : List ℕ) (options : List Given) (parts : ExportParts) → WordsSpelling query_names rest (pack ∷ target ∷ []) options
-    → ExportGiven pack target options parts → CommandLine (codes "export" ∷ rest) (Export parts)
-export_by rest pack target options parts operands is = record {
-  target = target;
+pub export_by : (rest : List (List ℕ)) (pair : List ℕ × List ℕ) (options : List Given) (parts : ExportParts) → WordsSpelling query_names rest (two_words.texts pair) options
+    → ExportGiven pair.0 pair.1 options parts → CommandLine (codes "export" ∷ rest) (Export parts)
+export_by rest pair options parts operands is = record {
+  target = pair.1;
   options = options;
   line = record {
     rest = rest;
     begins = refl;
-    operands = subst (λ p. WordsSpelling query_names rest (p ∷ target ∷ []) options) (sym is.pack_is) operands;
+    operands = subst (λ p. WordsSpelling query_names rest (p ∷ pair.1 ∷ []) options) (sym is.pack_is) operands;
   };
   named = λ none. is.named (sym is.pack_is ∙ none);
-  asked = asked_by target options parts.query (have_values query_names.valued rest (pack ∷ target ∷ []) options operands) is.query;
+  asked = asked_by pair.1 options parts.query (have_values query_names.valued rest (two_words.texts pair) options operands) is.query;
 }
 
-pub export_line : (rest : List (List ℕ)) (command : Command) → CommandLine (codes "export" ∷ rest) command → IsOf export_form rest command
-export_line rest (Check cid) line = absurd (no_line (codes "export") (codes "check") rest line.line.rest refl line.line.begins)
-export_line rest (Node cid) line = absurd (no_line (codes "export") (codes "node") rest line.line.rest refl line.line.begins)
-export_line rest (CidToHex cid) line = absurd (no_line (codes "export") (codes "cid") rest line.line.rest refl line.line.begins)
-export_line rest (CidToText cid) line = absurd (no_line (codes "export") (codes "cid") rest line.line.rest refl line.line.begins)
-export_line rest (Export parts) line =
+pub export_line : (rest : List (List ℕ)) (parts : ExportParts) → CommandLine (codes "export" ∷ rest) (Export parts) → IsOf export_form rest (Export parts)
+export_line rest parts line =
     let operands = the_line (codes "export") query_names rest (parts.pack ∷ line.target ∷ []) line.options line.line in
     record {
       parts = parts;
@@ -63,5 +57,3 @@ export_line rest (Export parts) line =
       operands = operands;
       asked = record { pack_is = refl; named = line.named; query = given_by line.target line.options parts.query operands.once line.asked };
     }
-export_line rest (Import parts) line = absurd (no_line (codes "export") (codes "import") rest line.line.rest refl line.line.begins)
-export_line rest (Verify query) line = absurd (no_line (codes "export") (codes "verify") rest line.line.rest refl line.line.begins)

@@ -8,11 +8,9 @@ use Rattle.tg_words.specs.CommandLine.{CommandLine}
 use Rattle.tg_words.specs.ImportLines.{ImportParts, NumberAsked, NumberText, import_names}
 use Rattle.tg_words.specs.Operands.{Exact, ImportGiven, NumberGiven, value_at}
 use Rattle.tg_words.specs.declared.WordsFault.{WordsFault}
-use Rattle.tg_words.specs.declared.Command.{Command}
-use Rattle.tg_words.specs.declared.Command.TheVariants.{Check, Node, CidToHex, CidToText, Export, Import, Verify}
+use Rattle.tg_words.specs.declared.Command.TheVariants.{Import}
 use Rattle.tg_words.proofs.Options.{HaveValues, gives_value, value_gives, one_given, have_values}
-use Rattle.tg_words.proofs.LineParts.{no_line, the_line}
-use Rattle.tg_words.proofs.Positional.{Form, IsOf, two_words}
+use Rattle.tg_words.proofs.Positional.{Form, IsOf, the_line, two_words}
 
 abbrev pub import_form : Form (List ℕ × List ℕ) ImportParts
 import_form = record { name = codes "import"; names = import_names; writing = two_words; make = Import; asks = λ pair. ImportGiven pair.0 pair.1 }
@@ -63,17 +61,17 @@ given_by options name low high default number once is = record {
 }
 
 -- a line by its operands, and the operands of a line
-pub import_by : (rest : List (List ℕ)) (folder pack : List ℕ) (options : List Given) (parts : ImportParts) → WordsSpelling import_names rest (folder ∷ pack ∷ []) options
-    → ImportGiven folder pack options parts → CommandLine (codes "import" ∷ rest) (Import parts)
-import_by rest folder pack options parts operands is =
-    let have = have_values import_names.valued rest (folder ∷ pack ∷ []) options operands in
+pub import_by : (rest : List (List ℕ)) (pair : List ℕ × List ℕ) (options : List Given) (parts : ImportParts) → WordsSpelling import_names rest (two_words.texts pair) options
+    → ImportGiven pair.0 pair.1 options parts → CommandLine (codes "import" ∷ rest) (Import parts)
+import_by rest pair options parts operands is =
+    let have = have_values import_names.valued rest (two_words.texts pair) options operands in
     record {
       options = options;
       line = record {
         rest = rest;
         begins = refl;
         operands = subst (λ p. WordsSpelling import_names rest (parts.folder ∷ p ∷ []) options) (sym is.pack_is)
-            (subst (λ f. WordsSpelling import_names rest (f ∷ pack ∷ []) options) (sym is.folder_is) operands);
+            (subst (λ f. WordsSpelling import_names rest (f ∷ pair.1 ∷ []) options) (sym is.folder_is) operands);
       };
       folder_named = λ none. is.folder_named (sym is.folder_is ∙ none);
       pack_named = λ none. is.pack_named (sym is.pack_is ∙ none);
@@ -82,13 +80,8 @@ import_by rest folder pack options parts operands is =
       shard = asked_by options (codes "shard") 0 1048576 262144 parts.shard have is.shard;
     }
 
-pub import_line : (rest : List (List ℕ)) (command : Command) → CommandLine (codes "import" ∷ rest) command → IsOf import_form rest command
-import_line rest (Check cid) line = absurd (no_line (codes "import") (codes "check") rest line.line.rest refl line.line.begins)
-import_line rest (Node cid) line = absurd (no_line (codes "import") (codes "node") rest line.line.rest refl line.line.begins)
-import_line rest (CidToHex cid) line = absurd (no_line (codes "import") (codes "cid") rest line.line.rest refl line.line.begins)
-import_line rest (CidToText cid) line = absurd (no_line (codes "import") (codes "cid") rest line.line.rest refl line.line.begins)
-import_line rest (Export parts) line = absurd (no_line (codes "import") (codes "export") rest line.line.rest refl line.line.begins)
-import_line rest (Import parts) line =
+pub import_line : (rest : List (List ℕ)) (parts : ImportParts) → CommandLine (codes "import" ∷ rest) (Import parts) → IsOf import_form rest (Import parts)
+import_line rest parts line =
     let operands = the_line (codes "import") import_names rest (parts.folder ∷ parts.pack ∷ []) line.options line.line in
     record {
       parts = parts;
@@ -106,4 +99,3 @@ import_line rest (Import parts) line =
         shard = given_by line.options (codes "shard") 0 1048576 262144 parts.shard operands.once line.shard;
       };
     }
-import_line rest (Verify query) line = absurd (no_line (codes "import") (codes "verify") rest line.line.rest refl line.line.begins)

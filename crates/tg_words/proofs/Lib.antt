@@ -10,7 +10,6 @@ mod Parses
 mod Matches
 mod Known
 mod Options
-mod LineParts
 mod Positional
 mod QueryAnswers
 mod ExportAnswers

@@ -1,28 +1,28 @@
 -- The answers to the lines of each command, and that words spell at most one.
-use Rattle.std.proofs.Common.{◌≡◌, ℕ, ◌⊎◌, inl, inr, List, [], ◌∷◌, ◌++◌, length, codes, Ok, Err, Option, Some, None, Bor, true, false, refl, sym, ap, ◌∙◌, subst, arith}
-use Rattle.std.specs.Prelude.{Contains, Result, IfOk, MatchResult, find, option_and_then, ◌==◌}
+use Rattle.std.proofs.Common.{◌≡◌, ℕ, ◌⊎◌, inl, inr, List, [], ◌∷◌, ◌++◌, length, codes, Ok, Err, Option, Some, None, Bool, Bor, true, false, refl, sym, ap, ◌∙◌, subst, arith}
+use Rattle.std.specs.Prelude.{Contains, Result, IfOk, option_map, ◌==◌}
 use Rattle.std.proofs.lemmas.Bool.Decides.{nat_tests}
 use Rattle.std.specs.Str.{bytes_eq}
 use Rattle.hex.specs.Hex.{decode_of}
 use Rattle.tg_cid.specs.Cid.{CidParts}
 use Rattle.tg_cid.specs.Spelling.{CidText, CidBytes}
-use Rattle.tg_bytes.specs.Lists.{none_in}
+use Rattle.tg_bytes.specs.Lists.{none_in, same_only}
 use Rattle.tg_words.specs.Words.{Given, StandOnce, WordsSpelling}
-use Rattle.tg_words.specs.CommandLine.{CommandLine, OneCidLine, no_names, cid_names}
+use Rattle.tg_words.specs.CommandLine.{CommandLine, CidHexLine, CidLine, OneCidLine, no_names, cid_names}
 use Rattle.tg_model.specs.Queries.{QueryParts}
 use Rattle.tg_words.specs.ImportLines.{import_names}
 use Rattle.tg_words.specs.QueryWords.{query_names}
-use Rattle.tg_words.specs.Operands.{Answers, OneCid, QueryBy, texts_of}
+use Rattle.tg_words.specs.Operands.{Answers, Exact, OneCid, QueryBy, givens, texts_of, value_at}
 use Rattle.tg_words.specs.declared.Command.{Command}
 use Rattle.tg_words.specs.declared.Command.TheVariants.{Check, Node, CidToHex, CidToText, Export, Import, Verify}
 use Rattle.tg_words.specs.declared.WordsFault.{WordsFault}
 use Rattle.tg_words.specs.declared.WordsFault.TheVariants.{Usage, OutOfMemory}
+use Rattle.tg_words.specs.declared.operands.GivenOption.{GivenOption}
 use Rattle.tg_words.proofs.Readings.{one_spelling_of_words}
-use Rattle.tg_words.proofs.LineParts.{no_line, the_line}
-use Rattle.tg_words.proofs.Positional.{OnlyThese, one_of_form}
-use Rattle.tg_words.proofs.ExportAnswers.{export_form, export_line, one_export}
-use Rattle.tg_words.proofs.ImportAnswers.{import_form, import_line, one_import}
-use Rattle.tg_words.proofs.VerifyAnswers.{verify_form, verify_line}
+use Rattle.tg_words.proofs.Positional.{IsOf, Lines, answer_of, exact_answer, one_of_form, the_line}
+use Rattle.tg_words.proofs.ExportAnswers.{export_by, export_form, export_line, one_export}
+use Rattle.tg_words.proofs.ImportAnswers.{import_by, import_form, import_line, one_import}
+use Rattle.tg_words.proofs.VerifyAnswers.{verify_by, verify_form, verify_line}
 use Rattle.tg_words.proofs.Known.{AreKnown, known}
 use Rattle.tg_words.proofs.Names.{are_by, at_first, later_too, first_or_later}
 
@@ -30,40 +30,9 @@ use Rattle.tg_words.proofs.Names.{are_by, at_first, later_too, first_or_later}
 abbrev pub IsOneCid : (CidParts → Command) → List (List ℕ) → Command → Type 0
 IsOneCid make rest command = (cid : CidParts) × (command ≡ make cid) × OneCid rest cid
 
-pub check_line : (rest : List (List ℕ)) (command : Command) → CommandLine (codes "check" ∷ rest) command → IsOneCid Check rest command
-check_line rest (Check cid) line = (cid, refl, record { text = line.text; operands = the_line (codes "check") no_names rest (line.text ∷ []) [] line.line; text_is = line.text_is })
-check_line rest (Node cid) line = absurd (no_line (codes "check") (codes "node") rest line.line.rest refl line.line.begins)
-check_line rest (CidToHex cid) line = absurd (no_line (codes "check") (codes "cid") rest line.line.rest refl line.line.begins)
-check_line rest (CidToText cid) line = absurd (no_line (codes "check") (codes "cid") rest line.line.rest refl line.line.begins)
-check_line rest (Export parts) line = absurd (no_line (codes "check") (codes "export") rest line.line.rest refl line.line.begins)
-check_line rest (Import parts) line = absurd (no_line (codes "check") (codes "import") rest line.line.rest refl line.line.begins)
-check_line rest (Verify query) line = absurd (no_line (codes "check") (codes "verify") rest line.line.rest refl line.line.begins)
-
-pub node_line : (rest : List (List ℕ)) (command : Command) → CommandLine (codes "node" ∷ rest) command → IsOneCid Node rest command
-node_line rest (Check cid) line = absurd (no_line (codes "node") (codes "check") rest line.line.rest refl line.line.begins)
-node_line rest (Node cid) line = (cid, refl, record { text = line.text; operands = the_line (codes "node") no_names rest (line.text ∷ []) [] line.line; text_is = line.text_is })
-node_line rest (CidToHex cid) line = absurd (no_line (codes "node") (codes "cid") rest line.line.rest refl line.line.begins)
-node_line rest (CidToText cid) line = absurd (no_line (codes "node") (codes "cid") rest line.line.rest refl line.line.begins)
-node_line rest (Export parts) line = absurd (no_line (codes "node") (codes "export") rest line.line.rest refl line.line.begins)
-node_line rest (Import parts) line = absurd (no_line (codes "node") (codes "import") rest line.line.rest refl line.line.begins)
-node_line rest (Verify query) line = absurd (no_line (codes "node") (codes "verify") rest line.line.rest refl line.line.begins)
-
-abbrev pub ReadsOneCid : List ℕ → (CidParts → Command) → List (List ℕ) → Type 0
-ReadsOneCid name make rest = (command : Command) → CommandLine (name ∷ rest) command → IsOneCid make rest command
-
-pub one_cid_err : (name : List ℕ) (make : CidParts → Command) (rest : List (List ℕ)) (e : WordsFault) → ReadsOneCid name make rest
-    → ((cid : CidParts) → OneCid rest cid → e ≡ OutOfMemory) → Answers (name ∷ rest) (Err e)
-one_cid_err name make rest e reads only = record {
-  found = tt;
-  only = λ command line. let l = reads command line in only l.0 l.2;
-}
-
-pub one_cid_ok : (name : List ℕ) (make : CidParts → Command) (rest : List (List ℕ)) (cid : CidParts) → ReadsOneCid name make rest
-    → CommandLine (name ∷ rest) (make cid) → ((other : CidParts) → OneCid rest other → cid ≡ other) → Answers (name ∷ rest) (Ok (make cid))
-one_cid_ok name make rest cid reads line only = record {
-  found = line;
-  only = λ command other. let l = reads command other in ap make (only l.0 l.2) ∙ sym l.1;
-}
+one_cid_of : (name : List ℕ) (make : CidParts → Command) (rest : List (List ℕ)) (cid : CidParts) → OneCidLine name (name ∷ rest) cid → IsOneCid make rest (make cid)
+one_cid_of name make rest cid line =
+    (cid, refl, record { text = line.text; operands = the_line name no_names rest (line.text ∷ []) [] line.line; text_is = line.text_is })
 
 -- a command without options has none
 no_options_by : (options : List Given) → AreKnown no_names options → options ≡ []
@@ -83,18 +52,15 @@ abbrev pub HexIs : Option (List ℕ) → List Given → Type 0
 HexIs None options = options ≡ []
 HexIs (Some digits) options = options ≡ hex_option digits ∷ []
 
-abbrev pub hex_value : List Given → Option (List ℕ)
-hex_value options = option_and_then (λ (o : Given). o.1) (find (λ (o : Given). bytes_eq o.0 (codes "hex")) options)
-
 is_hex : (name : List ℕ) → Contains cid_names.valued name → codes "hex" ≡ name
 is_hex name among = elim (first_or_later (codes "hex") name [] among) [ inl is ↦ is | inr later ↦ absurd (none_in name later) ]
 
-hex_alone : (options : List Given) → StandOnce options → AreKnown cid_names options → HexIs (hex_value options) options
+hex_alone : (options : List Given) → StandOnce options → AreKnown cid_names options → HexIs (value_at options (codes "hex")) options
 hex_alone [] once known = refl
 hex_alone ((name, None) ∷ options) once known = absurd (none_in name (known (name, None) (at_first (name, None) (name, None) options refl)))
 hex_alone ((name, Some value) ∷ []) once known =
     let is = is_hex name (known (name, Some value) (at_first (name, Some value) (name, Some value) [] refl)) in
-    subst (λ (n : List ℕ). HexIs (hex_value ((n, Some value) ∷ [])) ((n, Some value) ∷ [])) is refl
+    subst (λ (n : List ℕ). HexIs (value_at ((n, Some value) ∷ []) (codes "hex")) ((n, Some value) ∷ [])) is refl
 hex_alone ((name, Some value) ∷ (other, None) ∷ options) once known =
     absurd (none_in other (known (other, None) (later_too (name, Some value) (other, None) ((other, None) ∷ options) (at_first (other, None) (other, None) options refl))))
 hex_alone ((name, Some value) ∷ (other, Some second) ∷ options) once known =
@@ -102,10 +68,11 @@ hex_alone ((name, Some value) ∷ (other, Some second) ∷ options) once known =
     let also = is_hex other (known (other, Some second) (later_too (name, Some value) (other, Some second) ((other, Some second) ∷ options) (at_first (other, Some second) (other, Some second) options refl))) in
     absurd (once 0 1 (name, Some value) (other, Some second) (omega arith) refl refl (sym is ∙ also))
 
-pub hex_is : (words texts_in : List (List ℕ)) (options : List Given) (value : Option (List ℕ)) → WordsSpelling cid_names words texts_in options
-    → value ≡ hex_value options → HexIs value options
-hex_is words texts_in options value s is =
-    subst (λ v. HexIs v options) (sym is) (hex_alone options s.once (known cid_names words texts_in options s))
+pub hex_is : (words texts : List (List ℕ)) (options seen : List GivenOption) (result value : Option (Bor (List ℕ))) → WordsSpelling cid_names words texts (givens options)
+    → result ≡ value → option_map (λ v. v.now) result ≡ value_at (givens seen) (codes "hex") → seen ≡ options → HexIs (option_map (λ v. v.now) value) (givens options)
+hex_is words texts options seen result value s is gives same =
+    let here : option_map (λ v. v.now) value ≡ value_at (givens options) (codes "hex") = sym (ap (option_map (λ v. v.now)) is) ∙ gives ∙ ap (λ xs. value_at (givens xs) (codes "hex")) same in
+    subst (λ v. HexIs v (givens options)) (sym here) (hex_alone (givens options) s.once (known cid_names words texts (givens options) s))
 
 abbrev pub IsToHex : List (List ℕ) → Command → Type 0
 IsToHex rest command = (cid : CidParts) × (text : List ℕ) × (command ≡ CidToHex cid) × WordsSpelling cid_names rest (text ∷ []) [] × CidText cid text
@@ -114,15 +81,50 @@ abbrev pub IsToText : List (List ℕ) → Command → Type 0
 IsToText rest command = (cid : CidParts) × (digits : List ℕ) × (bytes : List ℕ) × (command ≡ CidToText cid)
     × WordsSpelling cid_names rest [] (hex_option digits ∷ []) × (decode_of digits ≡ Ok bytes) × CidBytes cid bytes
 
-pub cid_line : (rest : List (List ℕ)) (command : Command) → CommandLine (codes "cid" ∷ rest) command → IsToHex rest command ⊎ IsToText rest command
-cid_line rest (Check cid) line = absurd (no_line (codes "cid") (codes "check") rest line.line.rest refl line.line.begins)
-cid_line rest (Node cid) line = absurd (no_line (codes "cid") (codes "node") rest line.line.rest refl line.line.begins)
-cid_line rest (CidToHex cid) line = inl (cid, line.text, refl, the_line (codes "cid") cid_names rest (line.text ∷ []) [] line.line, line.text_is)
-cid_line rest (CidToText cid) line =
-    inr (cid, line.digits, line.bytes, refl, the_line (codes "cid") cid_names rest [] (hex_option line.digits ∷ []) line.line, line.digits_are, line.bytes_are)
-cid_line rest (Export parts) line = absurd (no_line (codes "cid") (codes "export") rest line.line.rest refl line.line.begins)
-cid_line rest (Import parts) line = absurd (no_line (codes "cid") (codes "import") rest line.line.rest refl line.line.begins)
-cid_line rest (Verify query) line = absurd (no_line (codes "cid") (codes "verify") rest line.line.rest refl line.line.begins)
+to_hex_of : (rest : List (List ℕ)) (cid : CidParts) → CidLine (codes "cid" ∷ rest) cid → IsToHex rest (CidToHex cid)
+to_hex_of rest cid line = (cid, line.text, refl, the_line (codes "cid") cid_names rest (line.text ∷ []) [] line.line, line.text_is)
+
+to_text_of : (rest : List (List ℕ)) (cid : CidParts) → CidHexLine (codes "cid" ∷ rest) cid → IsToText rest (CidToText cid)
+to_text_of rest cid line =
+    (cid, line.digits, line.bytes, refl, the_line (codes "cid") cid_names rest [] (hex_option line.digits ∷ []) line.line, line.digits_are, line.bytes_are)
+
+-- what a line asks, by the command's name
+abbrev pub Where : Bool → Type 0 → Type 0 → Type 0
+Where true Here Else = Here
+Where false Here Else = Else
+
+abbrev pub IsAsked : List ℕ → List (List ℕ) → Command → Type 0
+IsAsked name rest command =
+    Where (bytes_eq name (codes "check")) (IsOneCid Check rest command)
+    (Where (bytes_eq name (codes "node")) (IsOneCid Node rest command)
+    (Where (bytes_eq name (codes "cid")) (IsToHex rest command ⊎ IsToText rest command)
+    (Where (bytes_eq name (codes "export")) (IsOf export_form rest command)
+    (Where (bytes_eq name (codes "import")) (IsOf import_form rest command)
+    (Where (bytes_eq name (codes "verify")) (IsOf verify_form rest command) ⊥)))))
+
+named : (name other : List ℕ) (rest more : List (List ℕ)) (command : Command) → name ∷ rest ≡ other ∷ more
+    → (CommandLine (other ∷ rest) command → IsAsked other rest command) → CommandLine (name ∷ rest) command → IsAsked name rest command
+named name other rest more command begins asked line =
+    let same : name ≡ other = cc in
+    subst (λ n. IsAsked n rest command) (sym same) (asked (subst (λ n. CommandLine (n ∷ rest) command) same line))
+
+pub asked_by_line : (name : List ℕ) (rest : List (List ℕ)) (command : Command) → CommandLine (name ∷ rest) command → IsAsked name rest command
+asked_by_line name rest (Check cid) line = named name (codes "check") rest line.line.rest (Check cid) line.line.begins (one_cid_of (codes "check") Check rest cid) line
+asked_by_line name rest (Node cid) line = named name (codes "node") rest line.line.rest (Node cid) line.line.begins (one_cid_of (codes "node") Node rest cid) line
+asked_by_line name rest (CidToHex cid) line = named name (codes "cid") rest line.line.rest (CidToHex cid) line.line.begins (λ l. inl (to_hex_of rest cid l)) line
+asked_by_line name rest (CidToText cid) line = named name (codes "cid") rest line.line.rest (CidToText cid) line.line.begins (λ l. inr (to_text_of rest cid l)) line
+asked_by_line name rest (Export parts) line = named name (codes "export") rest line.line.rest (Export parts) line.line.begins (export_line rest parts) line
+asked_by_line name rest (Import parts) line = named name (codes "import") rest line.line.rest (Import parts) line.line.begins (import_line rest parts) line
+asked_by_line name rest (Verify query) line = named name (codes "verify") rest line.line.rest (Verify query) line.line.begins (verify_line rest query) line
+
+pub export_lines : Lines export_form
+export_lines = record { reads = asked_by_line (codes "export"); writes = export_by }
+
+pub import_lines : Lines import_form
+import_lines = record { reads = asked_by_line (codes "import"); writes = import_by }
+
+pub verify_lines : Lines verify_form
+verify_lines = record { reads = asked_by_line (codes "verify"); writes = verify_by }
 
 -- the words are these operands, and no others
 pub record AreOperands (rest texts : List (List ℕ)) (options : List Given) : Type 0 where
@@ -131,11 +133,11 @@ pub record AreOperands (rest texts : List (List ℕ)) (options : List Given) : T
 
 same_digits : (digits other : List ℕ) → hex_option digits ∷ [] ≡ hex_option other ∷ [] → digits ≡ other
 same_digits digits other e =
-    let values : hex_value (hex_option digits ∷ []) ≡ hex_value (hex_option other ∷ []) = ap hex_value e in
+    let values : value_at (hex_option digits ∷ []) (codes "hex") ≡ value_at (hex_option other ∷ []) (codes "hex") = ap (λ options. value_at options (codes "hex")) e in
     let somes : Some digits ≡ Some other = values in
     cc
 
-no_digits : (digits : List ℕ) → [] ≡ hex_option digits ∷ [] → ⊥
+pub no_digits : (digits : List ℕ) → [] ≡ hex_option digits ∷ [] → ⊥
 no_digits digits e = cc
 
 -- no memory for the operands
@@ -143,86 +145,54 @@ pub cid_memory : (rest : List (List ℕ)) (e : WordsFault) → ((texts_in : List
     → Answers (codes "cid" ∷ rest) (Err e)
 cid_memory rest e only = record {
   found = tt;
-  only = λ command line. elim (cid_line rest command line) [ inl l ↦ only (l.1 ∷ []) [] l.3 | inr l ↦ only [] (hex_option l.1 ∷ []) l.4 ];
+  only = λ command line. elim (asked_by_line (codes "cid") rest command line) [ inl l ↦ only (l.1 ∷ []) [] l.3 | inr l ↦ only [] (hex_option l.1 ∷ []) l.4 ];
 }
 
-pub cid_err : (rest texts : List (List ℕ)) (options : List Given) (e : WordsFault) → AreOperands rest texts options
-    → ((text : List ℕ) → texts ≡ text ∷ [] → options ≡ [] → (cid : CidParts) → CidText cid text → e ≡ OutOfMemory)
-    → ((digits : List ℕ) → texts ≡ [] → options ≡ hex_option digits ∷ [] → (cid : CidParts) (bytes : List ℕ) → decode_of digits ≡ Ok bytes → CidBytes cid bytes → e ≡ OutOfMemory)
-    → Answers (codes "cid" ∷ rest) (Err e)
-cid_err rest texts options e are wants_text wants_hex = record {
+-- the operands are of neither form
+pub cid_refused : (rest texts : List (List ℕ)) (options : List Given) (e : WordsFault) → AreOperands rest texts options → ((text : List ℕ) → texts ≡ text ∷ [] → options ≡ [] → ⊥)
+    → ((digits : List ℕ) → texts ≡ [] → options ≡ hex_option digits ∷ [] → ⊥) → Answers (codes "cid" ∷ rest) (Err e)
+cid_refused rest texts options e are no_text no_hex = record {
   found = tt;
-  only = λ command line. elim (cid_line rest command line) [
-    | inl l ↦
-        let same = are.only (l.1 ∷ []) [] l.3 in
-        wants_text l.1 same.0 same.1 l.0 l.4
-    | inr l ↦
-        let same = are.only [] (hex_option l.1 ∷ []) l.4 in
-        wants_hex l.1 same.0 same.1 l.0 l.2 l.5 l.6
+  only = λ command line. elim (asked_by_line (codes "cid") rest command line) [
+    | inl l ↦ let same = are.only (l.1 ∷ []) [] l.3 in absurd (no_text l.1 same.0 same.1)
+    | inr l ↦ let same = are.only [] (hex_option l.1 ∷ []) l.4 in absurd (no_hex l.1 same.0 same.1)
   ];
 }
 
--- without `--hex`: the positional words aren't one, or the one is no text of a CID
-pub cid_no_text : (rest texts : List (List ℕ)) (options : List Given) (e : WordsFault) → AreOperands rest texts options → options ≡ []
-    → ((text : List ℕ) → texts ≡ text ∷ [] → (cid : CidParts) → CidText cid text → e ≡ OutOfMemory) → Answers (codes "cid" ∷ rest) (Err e)
-cid_no_text rest texts options e are none wants =
-    cid_err rest texts options e are (λ text is also cid spelled. wants text is cid spelled)
-    (λ digits is also cid bytes decoded spelled. absurd (no_digits digits (sym none ∙ also)))
+pub cid_text_answer : (rest texts : List (List ℕ)) (options : List Given) (text : List ℕ) (answer : Result CidParts WordsFault) → AreOperands rest texts options
+    → texts ≡ text ∷ [] → options ≡ [] → Exact (λ cid. CidText cid text) answer → Answers (codes "cid" ∷ rest) (answer_of CidToHex answer)
+cid_text_answer rest texts options text answer are is none exact =
+    exact_answer CidToHex (λ cid. CidText cid text) (codes "cid" ∷ rest) answer
+    (λ command line. elim (asked_by_line (codes "cid") rest command line) [
+      | inl l ↦ (l.0, l.2, subst (λ t. CidText l.0 t) (same_only l.1 text (sym (are.only (l.1 ∷ []) [] l.3).0 ∙ is)) l.4)
+      | inr l ↦ absurd (no_digits l.1 (sym none ∙ (are.only [] (hex_option l.1 ∷ []) l.4).1))
+    ])
+    (λ cid text_is. record {
+      text = text;
+      line = record { rest = rest; begins = refl; operands = subst (λ p. WordsSpelling cid_names rest p []) is (subst (λ o. WordsSpelling cid_names rest texts o) none are.spelled) };
+      text_is = text_is;
+    })
+    exact
 
--- with `--hex`: there are positional words, or the digits aren't those of a CID
-pub cid_no_hex : (rest texts : List (List ℕ)) (options : List Given) (digits : List ℕ) (e : WordsFault) → AreOperands rest texts options → options ≡ hex_option digits ∷ []
-    → (texts ≡ [] → (cid : CidParts) (bytes : List ℕ) → decode_of digits ≡ Ok bytes → CidBytes cid bytes → e ≡ OutOfMemory) → Answers (codes "cid" ∷ rest) (Err e)
-cid_no_hex rest texts options digits e are one wants =
-    cid_err rest texts options e are (λ text is also cid spelled. absurd (no_digits digits (sym also ∙ one)))
-    (λ other is also cid bytes decoded spelled.
-    let same : other ≡ digits = same_digits other digits (sym also ∙ one) in
-    wants is cid bytes (subst (λ (d : List ℕ). decode_of d ≡ Ok bytes) same decoded) spelled)
-
-pub cid_text_ok : (rest texts : List (List ℕ)) (options : List Given) (text : List ℕ) (cid : CidParts) → AreOperands rest texts options → texts ≡ text ∷ [] → options ≡ []
-    → CidText cid text → ((other : CidParts) → CidText other text → cid ≡ other)
-    → Answers (codes "cid" ∷ rest) (Ok (CidToHex cid))
-cid_text_ok rest texts options text cid are texts_are none text_is one = record {
-  found = record {
-    text = text;
-    line = record {
-      rest = rest;
-      begins = refl;
-      operands = subst (λ p. WordsSpelling cid_names rest p []) texts_are (subst (λ o. WordsSpelling cid_names rest texts o) none are.spelled);
-    };
-    text_is = text_is;
-  };
-  only = λ command line. elim (cid_line rest command line) [
-    | inl l ↦
-        let both : text ∷ [] ≡ l.1 ∷ [] = sym texts_are ∙ (are.only (l.1 ∷ []) [] l.3).0 in
-        let same : l.1 ≡ text = cc in
-        ap CidToHex (one l.0 (subst (λ t. CidText l.0 t) same l.4)) ∙ sym l.2
-    | inr l ↦ absurd (no_digits l.1 (sym none ∙ (are.only [] (hex_option l.1 ∷ []) l.4).1))
-  ];
-}
-
-pub cid_hex_ok : (rest texts : List (List ℕ)) (options : List Given) (digits bytes : List ℕ) (cid : CidParts) → AreOperands rest texts options → texts ≡ []
-    → options ≡ hex_option digits ∷ [] → decode_of digits ≡ Ok bytes → CidBytes cid bytes
-    → ((other : CidParts) (spelling : List ℕ) → decode_of digits ≡ Ok spelling → CidBytes other spelling → cid ≡ other)
-    → Answers (codes "cid" ∷ rest) (Ok (CidToText cid))
-cid_hex_ok rest texts options digits bytes cid are texts_are options_are digits_are bytes_are one = record {
-  found = record {
-    digits = digits;
-    line = record {
-      rest = rest;
-      begins = refl;
-      operands = subst (λ p. WordsSpelling cid_names rest p (hex_option digits ∷ [])) texts_are (subst (λ o. WordsSpelling cid_names rest texts o) options_are are.spelled);
-    };
-    bytes = bytes;
-    digits_are = digits_are;
-    bytes_are = bytes_are;
-  };
-  only = λ command line. elim (cid_line rest command line) [
-    | inl l ↦ absurd (no_digits digits (sym (are.only (l.1 ∷ []) [] l.3).1 ∙ options_are))
-    | inr l ↦
-        let same : l.1 ≡ digits = same_digits l.1 digits (sym (are.only [] (hex_option l.1 ∷ []) l.4).1 ∙ options_are) in
-        ap CidToText (one l.0 l.2 (subst (λ (d : List ℕ). decode_of d ≡ Ok l.2) same l.5) l.6) ∙ sym l.3
-  ];
-}
+pub cid_hex_answer : (rest texts : List (List ℕ)) (options : List Given) (digits : List ℕ) (answer : Result CidParts WordsFault) → AreOperands rest texts options
+    → texts ≡ [] → options ≡ hex_option digits ∷ [] → Exact (λ cid. (bytes : List ℕ) × (decode_of digits ≡ Ok bytes) × CidBytes cid bytes) answer
+    → Answers (codes "cid" ∷ rest) (answer_of CidToText answer)
+cid_hex_answer rest texts options digits answer are none is exact =
+    exact_answer CidToText (λ cid. (bytes : List ℕ) × (decode_of digits ≡ Ok bytes) × CidBytes cid bytes) (codes "cid" ∷ rest) answer
+    (λ command line. elim (asked_by_line (codes "cid") rest command line) [
+      | inl l ↦ absurd (no_digits digits (sym (are.only (l.1 ∷ []) [] l.3).1 ∙ is))
+      | inr l ↦
+          let same : l.1 ≡ digits = same_digits l.1 digits (sym (are.only [] (hex_option l.1 ∷ []) l.4).1 ∙ is) in
+          (l.0, l.3, (l.2, subst (λ (d : List ℕ). decode_of d ≡ Ok l.2) same l.5, l.6))
+    ])
+    (λ cid hex. record {
+      digits = digits;
+      line = record { rest = rest; begins = refl; operands = subst (λ p. WordsSpelling cid_names rest p (hex_option digits ∷ [])) none (subst (λ o. WordsSpelling cid_names rest texts o) is are.spelled) };
+      bytes = hex.0;
+      digits_are = hex.1;
+      bytes_are = hex.2;
+    })
+    exact
 
 -- words are one CID at most
 pub same_cid : ((a b : CidParts) (text : List ℕ) → CidText a text → CidText b text → a ≡ b)
@@ -241,13 +211,13 @@ pub one_line : ((a b : CidParts) (text : List ℕ) → CidText a text → CidTex
     → ((target : List ℕ) (options : List Given) (a b : QueryParts) → QueryBy target options a → QueryBy target options b → a ≡ b)
     → (words : List (List ℕ)) (a b : Command) → CommandLine words a → CommandLine words b → a ≡ b
 one_line one_cid no_front one_query words (Check cid) b line other =
-    let l = check_line line.line.rest b (subst (λ ws. CommandLine ws b) line.line.begins other) in
+    let l = asked_by_line (codes "check") line.line.rest b (subst (λ ws. CommandLine ws b) line.line.begins other) in
     ap Check (same_cid one_cid line.line.rest cid l.0 (record { text = line.text; operands = line.line.operands; text_is = line.text_is }) l.2) ∙ sym l.1
 one_line one_cid no_front one_query words (Node cid) b line other =
-    let l = node_line line.line.rest b (subst (λ ws. CommandLine ws b) line.line.begins other) in
+    let l = asked_by_line (codes "node") line.line.rest b (subst (λ ws. CommandLine ws b) line.line.begins other) in
     ap Node (same_cid one_cid line.line.rest cid l.0 (record { text = line.text; operands = line.line.operands; text_is = line.text_is }) l.2) ∙ sym l.1
 one_line one_cid no_front one_query words (CidToHex cid) b line other =
-    elim (cid_line line.line.rest b (subst (λ ws. CommandLine ws b) line.line.begins other)) [
+    elim (asked_by_line (codes "cid") line.line.rest b (subst (λ ws. CommandLine ws b) line.line.begins other)) [
       | inl l ↦
           let both : line.text ∷ [] ≡ l.1 ∷ [] = (one_of_cid line.line.rest (line.text ∷ []) (l.1 ∷ []) [] [] line.line.operands l.3).0 in
           let same : l.1 ≡ line.text = cc in
@@ -255,7 +225,7 @@ one_line one_cid no_front one_query words (CidToHex cid) b line other =
       | inr l ↦ absurd (no_digits l.1 (one_of_cid line.line.rest (line.text ∷ []) [] [] (hex_option l.1 ∷ []) line.line.operands l.4).1)
     ]
 one_line one_cid no_front one_query words (CidToText cid) b line other =
-    elim (cid_line line.line.rest b (subst (λ ws. CommandLine ws b) line.line.begins other)) [
+    elim (asked_by_line (codes "cid") line.line.rest b (subst (λ ws. CommandLine ws b) line.line.begins other)) [
       | inl l ↦ absurd (no_digits line.digits (sym (one_of_cid line.line.rest [] (l.1 ∷ []) (hex_option line.digits ∷ []) [] line.line.operands l.3).1))
       | inr l ↦
           let same : l.1 ≡ line.digits = sym (same_digits line.digits l.1 (one_of_cid line.line.rest [] [] (hex_option line.digits ∷ []) (hex_option l.1 ∷ []) line.line.operands l.4).1) in
@@ -264,17 +234,11 @@ one_line one_cid no_front one_query words (CidToText cid) b line other =
           ap CidToText (no_front cid l.0 line.bytes l.2 [] [] line.bytes_are l.6 (ap (λ bs. bs ++ []) bytes)).1 ∙ sym l.3
     ]
 one_line one_cid no_front one_query words (Export parts) b line other =
-    let begins = subst (λ ws. CommandLine ws b) line.line.begins other in
-    let own = export_line line.line.rest (Export parts) (subst (λ ws. CommandLine ws (Export parts)) line.line.begins line) in
-    one_of_form export_form line.line.rest (Export parts) b (are_by query_names refl) (one_export one_query) own (export_line line.line.rest b begins)
+    one_of_form export_form words line.line.rest (Export parts) b export_lines (are_by query_names refl) (one_export one_query) line.line.begins line other
 one_line one_cid no_front one_query words (Import parts) b line other =
-    let begins = subst (λ ws. CommandLine ws b) line.line.begins other in
-    let own = import_line line.line.rest (Import parts) (subst (λ ws. CommandLine ws (Import parts)) line.line.begins line) in
-    one_of_form import_form line.line.rest (Import parts) b (are_by import_names refl) one_import own (import_line line.line.rest b begins)
+    one_of_form import_form words line.line.rest (Import parts) b import_lines (are_by import_names refl) one_import line.line.begins line other
 one_line one_cid no_front one_query words (Verify query) b line other =
-    let begins = subst (λ ws. CommandLine ws b) line.line.begins other in
-    let own = verify_line line.line.rest (Verify query) (subst (λ ws. CommandLine ws (Verify query)) line.line.begins line) in
-    one_of_form verify_form line.line.rest (Verify query) b (are_by query_names refl) one_query own (verify_line line.line.rest b begins)
+    one_of_form verify_form words line.line.rest (Verify query) b verify_lines (are_by query_names refl) one_query line.line.begins line other
 
 -- what is no command is refused
 pub refused : (words : List (List ℕ)) (answer : Result Command WordsFault) → IfOk answer (λ command. CommandLine words command)
@@ -283,37 +247,27 @@ refused words (Ok command) found none = absurd (none command found)
 refused words (Err Usage) found none = inl refl
 refused words (Err OutOfMemory) found none = inr refl
 
--- the line of one CID
-pub one_cid_line : (name : List ℕ) (rest : List (List ℕ)) (cid : CidParts) → OneCid rest cid → OneCidLine name (name ∷ rest) cid
+-- the answers to `check` and `node`
+one_cid_line : (name : List ℕ) (rest : List (List ℕ)) (cid : CidParts) → OneCid rest cid → OneCidLine name (name ∷ rest) cid
 one_cid_line name rest cid p = record { text = p.text; line = record { rest = rest; begins = refl; operands = p.operands }; text_is = p.text_is }
 
+pub check_answer : (rest : List (List ℕ)) (answer : Result CidParts WordsFault) → Exact (OneCid rest) answer → Answers (codes "check" ∷ rest) (answer_of Check answer)
+check_answer rest answer exact = exact_answer Check (OneCid rest) (codes "check" ∷ rest) answer (asked_by_line (codes "check") rest) (one_cid_line (codes "check") rest) exact
+
+pub node_answer : (rest : List (List ℕ)) (answer : Result CidParts WordsFault) → Exact (OneCid rest) answer → Answers (codes "node" ∷ rest) (answer_of Node answer)
+node_answer rest answer exact = exact_answer Node (OneCid rest) (codes "node" ∷ rest) answer (asked_by_line (codes "node") rest) (one_cid_line (codes "node") rest) exact
+
 -- the answer to the operands of one CID
-pub one_cid_none : (rest texts : List (List ℕ)) (options : List Given) → OnlyThese no_names rest texts options → ((text : List ℕ) → texts ≡ text ∷ [] → ⊥)
-    → (cid : CidParts) → OneCid rest cid → ⊥
-one_cid_none rest texts options only none cid line = none line.text (only (line.text ∷ []) [] line.operands).0
-
-pub one_cid_found : (rest texts : List (List ℕ)) (options : List Given) (text : List ℕ) (answer : Result CidParts WordsFault) → WordsSpelling no_names rest texts options
-    → texts ≡ text ∷ [] → IfOk answer (λ cid. CidText cid text) → IfOk answer (λ cid. OneCid rest cid)
-one_cid_found rest texts options text (Err e) spelled is found = tt
-one_cid_found rest texts options text (Ok cid) spelled is found = record {
-  text = text;
-  operands = no_options rest (text ∷ []) options (subst (λ p. WordsSpelling no_names rest p options) is spelled);
-  text_is = found;
-}
-
-pub one_cid_only : (rest texts : List (List ℕ)) (options : List Given) (text : List ℕ) (answer : Result CidParts WordsFault) → OnlyThese no_names rest texts options
-    → texts ≡ text ∷ [] → ((cid : CidParts) → CidText cid text → MatchResult answer (λ found. found ≡ cid) (λ e. e ≡ OutOfMemory))
-    → (cid : CidParts) → OneCid rest cid → MatchResult answer (λ found. found ≡ cid) (λ e. e ≡ OutOfMemory)
-one_cid_only rest texts options text answer only is wants cid line =
-    let both : text ∷ [] ≡ line.text ∷ [] = sym is ∙ (only (line.text ∷ []) [] line.operands).0 in
-    let same : line.text ≡ text = cc in
-    wants cid (subst (λ t. CidText cid t) same line.text_is)
+pub one_cid_found : (rest : List (List ℕ)) (text : List ℕ) (options : List Given) (answer : Result CidParts WordsFault) → WordsSpelling no_names rest (text ∷ []) options
+    → IfOk answer (λ cid. CidText cid text) → IfOk answer (λ cid. OneCid rest cid)
+one_cid_found rest text options (Err e) spelled found = tt
+one_cid_found rest text options (Ok cid) spelled found = record { text = text; operands = no_options rest (text ∷ []) options spelled; text_is = found }
 
 -- whether there are positional words
-pub no_texts : (xs : List (Bor (List ℕ))) → (length xs == 0) ≡ true → texts_of xs ≡ []
-no_texts [] e = refl
-no_texts (x ∷ xs) e = absurd (grind (arith, nat_tests))
+pub no_texts : (xs : List (Bor (List ℕ))) (size : ℕ) → size ≡ length xs → (size == 0) ≡ true → texts_of xs ≡ []
+no_texts [] size is e = refl
+no_texts (x ∷ xs) size is e = absurd (grind (arith, nat_tests))
 
-pub some_texts : (xs : List (Bor (List ℕ))) → (length xs == 0) ≡ false → texts_of xs ≡ [] → ⊥
-some_texts [] e none = absurd (grind (arith, nat_tests))
-some_texts (x ∷ xs) e none = cc
+pub some_texts : (xs : List (Bor (List ℕ))) (size : ℕ) → size ≡ length xs → (size == 0) ≡ false → texts_of xs ≡ [] → ⊥
+some_texts [] size is e none = absurd (grind (arith, nat_tests))
+some_texts (x ∷ xs) size is e none = cc

@@ -1,18 +1,14 @@
 -- The answers to the lines of a command whose positional words are of one form, as one word or two.
-use Rattle.std.proofs.Common.{◌≡◌, ℕ, List, [], ◌∷◌, Ok, Err, refl, sym, ap, ap₂, ◌∙◌, subst}
+use Rattle.std.proofs.Common.{◌≡◌, ℕ, List, [], ◌∷◌, Ok, Err, sym, ap, ap₂, ◌∙◌, subst}
+use Rattle.std.specs.Prelude.{Result}
 use Rattle.tg_bytes.specs.Lists.{same_only}
-use Rattle.tg_words.specs.Words.{Names, Given, WordsSpelling}
+use Rattle.tg_words.specs.Words.{Names, Given, Line, WordsSpelling}
 use Rattle.tg_words.specs.CommandLine.{CommandLine}
 use Rattle.tg_words.specs.Operands.{Answers, Exact}
 use Rattle.tg_words.specs.declared.Command.{Command}
 use Rattle.tg_words.specs.declared.WordsFault.{WordsFault}
-use Rattle.tg_words.specs.declared.WordsFault.TheVariants.{Usage, OutOfMemory}
+use Rattle.tg_words.specs.declared.WordsFault.TheVariants.{OutOfMemory}
 use Rattle.tg_words.proofs.Readings.{AreNames, one_spelling_of_words}
-
--- the words are these operands alone
-abbrev pub OnlyThese : Names → List (List ℕ) → List (List ℕ) → List Given → Type 0
-OnlyThese names rest texts options =
-    (texts_in : List (List ℕ)) (others : List Given) → WordsSpelling names rest texts_in others → (texts ≡ texts_in) × (options ≡ others)
 
 -- an answer that lacks a part
 pub exact_err : {A B : Type 0} (P : A → Type 0) (Q : B → Type 0) (e : WordsFault) → Exact P (Err e) → ((b : B) → Q b → (a : A) × P a) → Exact Q (Err e)
@@ -52,66 +48,77 @@ pub record IsOf {Words Parts : Type 0} (form : Form Words Parts) (rest : List (L
   pub operands : WordsSpelling form.names rest (form.writing.texts words) options
   pub asked : form.asks words options parts
 
-abbrev pub Reads : {Words Parts : Type 0} → Form Words Parts → List (List ℕ) → Type 0
-Reads form rest = (command : Command) → CommandLine (form.name ∷ rest) command → IsOf form rest command
+-- the lines of the command are those of the form
+pub record Lines {Words Parts : Type 0} (form : Form Words Parts) : Type 0 where
+  pub reads : (rest : List (List ℕ)) (command : Command) → CommandLine (form.name ∷ rest) command → IsOf form rest command
+  pub writes : (rest : List (List ℕ)) (words : Words) (options : List Given) (parts : Parts) → WordsSpelling form.names rest (form.writing.texts words) options
+      → form.asks words options parts → CommandLine (form.name ∷ rest) (form.make parts)
 
-pub no_memory : {Words Parts : Type 0} (form : Form Words Parts) (rest : List (List ℕ)) (e : WordsFault) → Reads form rest
-    → ((texts : List (List ℕ)) (options : List Given) → WordsSpelling form.names rest texts options → e ≡ OutOfMemory)
-    → Answers (form.name ∷ rest) (Err e)
-no_memory form rest e reads only = record {
-  found = tt;
-  only = λ command line. let l = reads command line in only (form.writing.texts l.words) l.options l.operands;
-}
-
-pub other_words : {Words Parts : Type 0} (form : Form Words Parts) (rest texts : List (List ℕ)) (options : List Given) → Reads form rest
-    → OnlyThese form.names rest texts options → ((words : Words) → texts ≡ form.writing.texts words → ⊥)
-    → Answers (form.name ∷ rest) (Err Usage)
-other_words form rest texts options reads only none = record {
-  found = tt;
-  only = λ command line. let l = reads command line in absurd (none l.words (only (form.writing.texts l.words) l.options l.operands).0);
-}
-
--- the operands that are found, seen as other lists that are the same
-pub only_seen : (names : Names) (rest texts : List (List ℕ)) (options seen : List Given) → seen ≡ options → OnlyThese names rest texts options
-    → OnlyThese names rest texts seen
-only_seen names rest texts options seen is only = λ texts_in others s. let both = only texts_in others s in (both.0, is ∙ both.1)
-
-pub spelling_seen : (names : Names) (rest texts texts_seen : List (List ℕ)) (options seen : List Given) → texts ≡ texts_seen → seen ≡ options
-    → WordsSpelling names rest texts options → WordsSpelling names rest texts_seen seen
-spelling_seen names rest texts texts_seen options seen are is s =
-    subst (λ o. WordsSpelling names rest texts_seen o) (sym is) (subst (λ t. WordsSpelling names rest t options) are s)
+-- the words are these operands of the form alone
+abbrev pub OnlyThese : {Words Parts : Type 0} → Form Words Parts → List (List ℕ) → Words → List Given → Type 0
+OnlyThese {Words = Words} form rest words options =
+    (others : Words) (more : List Given) → WordsSpelling form.names rest (form.writing.texts others) more → (words ≡ others) × (options ≡ more)
 
 -- what the line asks, said of the operands that are found
-asked_here : {Words Parts : Type 0} (form : Form Words Parts) (rest texts : List (List ℕ)) (options : List Given) (words : Words) (command : Command)
-    → OnlyThese form.names rest texts options → texts ≡ form.writing.texts words → (l : IsOf form rest command) → form.asks words options l.parts
-asked_here form rest texts options words command only are l =
-    let same = only (form.writing.texts l.words) l.options l.operands in
-    subst (λ w. form.asks w options l.parts) (form.writing.one l.words words (sym same.0 ∙ are)) (subst (λ o. form.asks l.words o l.parts) (sym same.1) l.asked)
+asked_here : {Words Parts : Type 0} (form : Form Words Parts) (rest : List (List ℕ)) (words : Words) (options : List Given) (command : Command)
+    → OnlyThese form rest words options → (l : IsOf form rest command) → form.asks words options l.parts
+asked_here form rest words options command only l =
+    let same = only l.words l.options l.operands in
+    subst (λ w. form.asks w options l.parts) (sym same.0) (subst (λ o. form.asks l.words o l.parts) (sym same.1) l.asked)
 
-pub not_asked : {Words Parts : Type 0} (form : Form Words Parts) (rest texts : List (List ℕ)) (options : List Given) (words : Words) (e : WordsFault) → Reads form rest
-    → OnlyThese form.names rest texts options → texts ≡ form.writing.texts words → Exact (form.asks words options) (Err e)
+-- the operands of a line
+pub the_line : (name : List ℕ) (names : Names) (rest texts : List (List ℕ)) (options : List Given) → Line name names (name ∷ rest) texts options → WordsSpelling names rest texts options
+the_line name names rest texts options line =
+    let all : name ∷ rest ≡ name ∷ line.rest = line.begins in
+    let same : line.rest ≡ rest = cc in
+    subst (λ ws. WordsSpelling names ws texts options) same line.operands
+
+-- no operands were found
+pub no_operands : {Words Parts : Type 0} (form : Form Words Parts) (rest : List (List ℕ)) (e : WordsFault) → Lines form
+    → ((words : Words) (options : List Given) → WordsSpelling form.names rest (form.writing.texts words) options → e ≡ OutOfMemory)
     → Answers (form.name ∷ rest) (Err e)
-not_asked form rest texts options words e reads only are exact = record {
+no_operands form rest e lines only = record {
   found = tt;
-  only = λ command line. let l = reads command line in exact.only l.parts (asked_here form rest texts options words command only are l);
+  only = λ command line. let l = lines.reads rest command line in only l.words l.options l.operands;
 }
 
-pub is_asked : {Words Parts : Type 0} (form : Form Words Parts) (rest texts : List (List ℕ)) (options : List Given) (words : Words) (parts : Parts) → Reads form rest
-    → OnlyThese form.names rest texts options → texts ≡ form.writing.texts words → Exact (form.asks words options) (Ok parts)
-    → CommandLine (form.name ∷ rest) (form.make parts) → Answers (form.name ∷ rest) (Ok (form.make parts))
-is_asked form rest texts options words parts reads only are exact line = record {
-  found = line;
-  only = λ command other.
-      let l = reads command other in
-      ap form.make (exact.only l.parts (asked_here form rest texts options words command only are l)) ∙ sym l.is;
+-- the answer to a line is that to what it asks
+abbrev pub answer_of : {Parts : Type 0} → (Parts → Command) → Result Parts WordsFault → Result Command WordsFault
+answer_of make (Err e) = Err e
+answer_of make (Ok parts) = Ok (make parts)
+
+pub exact_answer : {Parts : Type 0} (make : Parts → Command) (Is : Parts → Type 0) (words : List (List ℕ)) (answer : Result Parts WordsFault)
+    → ((command : Command) → CommandLine words command → (parts : Parts) × (command ≡ make parts) × Is parts)
+    → ((parts : Parts) → Is parts → CommandLine words (make parts)) → Exact Is answer → Answers words (answer_of make answer)
+exact_answer make Is words (Err e) reads writes exact = record { found = tt; only = λ command line. let l = reads command line in exact.only l.0 l.2 }
+exact_answer make Is words (Ok parts) reads writes exact = record {
+  found = writes parts exact.found;
+  only = λ command line. let l = reads command line in ap make (exact.only l.0 l.2) ∙ sym l.1;
 }
+
+-- operands were found, and what they ask is answered
+pub answered : {Words Parts : Type 0} (form : Form Words Parts) (rest : List (List ℕ)) (words : Words) (options seen : List Given) (answer : Result Parts WordsFault)
+    → Lines form → seen ≡ options → WordsSpelling form.names rest (form.writing.texts words) options → OnlyThese form rest words options
+    → Exact (form.asks words seen) answer → Answers (form.name ∷ rest) (answer_of form.make answer)
+answered form rest words options seen answer lines is spelled only exact =
+    exact_answer form.make (form.asks words options) (form.name ∷ rest) answer
+    (λ command line. let l = lines.reads rest command line in (l.parts, l.is, asked_here form rest words options command only l))
+    (λ parts asked. lines.writes rest words options parts spelled asked) (subst (λ o. Exact (form.asks words o) answer) is exact)
+
+-- the same of two words said one by one
+pub two_only : (names : Names) (rest : List (List ℕ)) (first second : List ℕ) (options : List Given)
+    → ((a b : List ℕ) (more : List Given) → WordsSpelling names rest (a ∷ b ∷ []) more → (first ≡ a) × (second ≡ b) × (options ≡ more))
+    → (pair : List ℕ × List ℕ) (more : List Given) → WordsSpelling names rest (two_words.texts pair) more → ((first, second) ≡ pair) × (options ≡ more)
+two_only names rest first second options only pair more s = let same = only pair.0 pair.1 more s in (ap₂ (λ a b. (a, b)) same.0 same.1, same.2)
 
 -- the words are one command
-pub one_of_form : {Words Parts : Type 0} (form : Form Words Parts) (rest : List (List ℕ)) (a b : Command) → AreNames form.names
-    → ((words : Words) (options : List Given) (x y : Parts) → form.asks words options x → form.asks words options y → x ≡ y)
-    → IsOf form rest a → IsOf form rest b → a ≡ b
-one_of_form form rest a b are one l m =
-    let texts = form.writing.texts l.words in
-    let only : OnlyThese form.names rest texts l.options = λ texts_in others s. one_spelling_of_words form.names rest texts texts_in l.options others are l.operands s in
-    let same = asked_here form rest texts l.options l.words b only refl m in
-    l.is ∙ ap form.make (one l.words l.options l.parts m.parts l.asked same) ∙ sym m.is
+pub one_of_form : {Words Parts : Type 0} (form : Form Words Parts) (words rest : List (List ℕ)) (a b : Command) → Lines form → AreNames form.names
+    → ((these : Words) (options : List Given) (x y : Parts) → form.asks these options x → form.asks these options y → x ≡ y)
+    → words ≡ form.name ∷ rest → CommandLine words a → CommandLine words b → a ≡ b
+one_of_form form words rest a b lines are one begins line other =
+    let l = lines.reads rest a (subst (λ ws. CommandLine ws a) begins line) in
+    let m = lines.reads rest b (subst (λ ws. CommandLine ws b) begins other) in
+    let only : OnlyThese form rest l.words l.options = λ others more s.
+    let same = one_spelling_of_words form.names rest (form.writing.texts l.words) (form.writing.texts others) l.options more are l.operands s in
+    (form.writing.one l.words others same.0, same.1) in
+    l.is ∙ ap form.make (one l.words l.options l.parts m.parts l.asked (asked_here form rest l.words l.options b only m)) ∙ sym m.is

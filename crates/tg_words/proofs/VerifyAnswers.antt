@@ -5,11 +5,9 @@ use Rattle.tg_words.specs.Words.{Given, WordsSpelling}
 use Rattle.tg_words.specs.CommandLine.{CommandLine}
 use Rattle.tg_words.specs.Operands.{QueryBy}
 use Rattle.tg_words.specs.QueryWords.{query_names}
-use Rattle.tg_words.specs.declared.Command.{Command}
-use Rattle.tg_words.specs.declared.Command.TheVariants.{Check, Node, CidToHex, CidToText, Export, Import, Verify}
+use Rattle.tg_words.specs.declared.Command.TheVariants.{Verify}
 use Rattle.tg_words.proofs.Options.{have_values}
-use Rattle.tg_words.proofs.LineParts.{no_line, the_line}
-use Rattle.tg_words.proofs.Positional.{Form, IsOf, one_word}
+use Rattle.tg_words.proofs.Positional.{Form, IsOf, one_word, the_line}
 use Rattle.tg_words.proofs.QueryAnswers.{asked_by, given_by}
 
 abbrev pub verify_form : Form (List ℕ) QueryParts
@@ -25,14 +23,8 @@ verify_by rest target options query operands is = record {
   asked = asked_by target options query (have_values query_names.valued rest (target ∷ []) options operands) is;
 }
 
-pub verify_line : (rest : List (List ℕ)) (command : Command) → CommandLine (codes "verify" ∷ rest) command → IsOf verify_form rest command
-verify_line rest (Check cid) line = absurd (no_line (codes "verify") (codes "check") rest line.line.rest refl line.line.begins)
-verify_line rest (Node cid) line = absurd (no_line (codes "verify") (codes "node") rest line.line.rest refl line.line.begins)
-verify_line rest (CidToHex cid) line = absurd (no_line (codes "verify") (codes "cid") rest line.line.rest refl line.line.begins)
-verify_line rest (CidToText cid) line = absurd (no_line (codes "verify") (codes "cid") rest line.line.rest refl line.line.begins)
-verify_line rest (Export parts) line = absurd (no_line (codes "verify") (codes "export") rest line.line.rest refl line.line.begins)
-verify_line rest (Import parts) line = absurd (no_line (codes "verify") (codes "import") rest line.line.rest refl line.line.begins)
-verify_line rest (Verify query) line =
+pub verify_line : (rest : List (List ℕ)) (query : QueryParts) → CommandLine (codes "verify" ∷ rest) (Verify query) → IsOf verify_form rest (Verify query)
+verify_line rest query line =
     let operands = the_line (codes "verify") query_names rest (line.target ∷ []) line.options line.line in
     record {
       parts = query;

@@ -1,5 +1,6 @@
 -- What the reader of a command's operands keeps and answers, and how faults of the crates below are faults of words.
-use Rattle.std.specs.Prelude.{◌≡◌, ◌≢◌, ℕ, ◌≤◌, List, [], ◌∷◌, true, map, find, codes, Option, Some, None, option_map, option_and_then, Result, MatchResult, IfOk}
+use Rattle.std.specs.Prelude.{◌≡◌, ◌≢◌, ℕ, ◌≤◌, List, [], ◌∷◌, true, map, find, codes, Option, Some, None, option_map}
+use Rattle.std.specs.Prelude.{option_and_then, Result, MatchResult, IfOk}
 use Rattle.std.specs.Option.{unwrap_or}
 use Rattle.std.specs.Str.{bytes_eq}
 use Rattle.hex.specs.declared.error.FromHexError.{FromHexError}
@@ -102,7 +103,8 @@ pub record OneCid (words : List (List ℕ)) (cid : CidParts) : Type 0 where
 -- the answer to words is exact: a command that they spell, and the one that they spell unless memory is wanted
 pub record Answers (words : List (List ℕ)) (answer : Result Command WordsFault) : Type 0 where
   pub found : IfOk answer (λ command. CommandLine words command)
-  pub only : (command : Command) → CommandLine words command → MatchResult answer (λ found. found ≡ command) (λ e. e ≡ OutOfMemory)
+  pub only : (command : Command) → CommandLine words command
+      → MatchResult answer (λ found. found ≡ command) (λ e. e ≡ OutOfMemory)
 
 -- want of memory stays so, and every other fault is one of usage
 abbrev pub fault_of_cid : CidFault → WordsFault

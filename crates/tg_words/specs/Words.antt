@@ -1,5 +1,6 @@
 -- How the words behind a command are positional words and options. A word is a list of bytes.
-use Rattle.std.specs.Prelude.{◌≡◌, ◌≢◌, ℕ, ◌<◌, ◌⊎◌, List, [], ◌∷◌, ◌++◌, Bool, false, not, ◌&&◌, ◌==◌, nat_lt, length, Contains, codes, slice_get, Option, Some, None}
+use Rattle.std.specs.Prelude.{◌≡◌, ◌≢◌, ℕ, ◌<◌, ◌⊎◌, List, [], ◌∷◌, ◌++◌, Bool, false, not, ◌&&◌, ◌==◌, nat_lt, length}
+use Rattle.std.specs.Prelude.{Contains, codes, slice_get, Option, Some, None}
 use Rattle.std.specs.List.{list_all, list_any}
 use Rattle.std.specs.Str.{bytes_eq}
 
@@ -70,7 +71,8 @@ IsEnd rest late = ((rest ≡ []) × (late ≡ [])) ⊎ (rest ≡ codes "--" ∷ 
 
 -- each option stands at most once
 abbrev pub StandOnce : List Given → Type 0
-StandOnce options = (i j : ℕ) (a b : Given) → i < j → slice_get options i ≡ Some a → slice_get options j ≡ Some b → a.0 ≢ b.0
+StandOnce options =
+    (i j : ℕ) (a b : Given) → i < j → slice_get options i ≡ Some a → slice_get options j ≡ Some b → a.0 ≢ b.0
 
 -- the words are these positional words and these options, of the names that a command has; an option may stand more
 -- than once

@@ -1,9 +1,9 @@
 //! The command `export`.
 
 ghost use Rattle.std.specs.Prelude.{◌∷◌, map, string_bytes, codes};
-ghost use Rattle.tg_words.specs.Operands.{Answers, Exact, ExportGiven, givens};
+ghost use Rattle.tg_words.specs.Operands.{Answers};
 
-use crate::operands::{GivenOption, named, operands_of, two_words};
+use crate::operands::{named, two_operands};
 use crate::queries::{QUERY_NAMES, query_with};
 use crate::{Command, WordsFault};
 use std::alloc::Global;
@@ -32,24 +32,9 @@ impl Model for Export {
 pub fn export_of(alloc: Global, words: &[String]) -> Result<Command, WordsFault>
     ensures { Answers (codes "export" ∷ map string_bytes words.now) result }
 {
-    let found = operands_of(alloc, words, QUERY_NAMES)?;
-    let Some((pack, target)) = two_words(found.positional.as_slice()) else {
-        return Err(WordsFault::Usage);
-    };
-    let export = export_with(alloc, pack, target, found.options.as_slice())?;
-    Ok(Command::Export(export))
-}
-
-/// The export from this pack of what the word ROOT/PATH and these options ask for.
-fn export_with(
-    alloc: Global,
-    pack: &str,
-    target: &str,
-    options: &[GivenOption],
-) -> Result<Export, WordsFault>
-    ensures { Exact (ExportGiven pack.now target.now (givens options.now)) result }
-{
-    let pack = named(alloc, pack)?;
-    let query = query_with(alloc, target, options)?;
-    Ok(Export { pack, query })
+    let (pack, target, options) = two_operands(alloc, words, QUERY_NAMES)?;
+    Ok(Command::Export(Export {
+        pack: named(alloc, pack)?,
+        query: query_with(alloc, target, options.as_slice())?,
+    }))
 }

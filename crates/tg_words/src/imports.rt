@@ -4,7 +4,7 @@ ghost use Rattle.std.specs.Prelude.{◌≡◌, ℕ, ◌^◌, ◌≤◌, ◌∷�
 ghost use Rattle.tg_words.specs.ImportLines.{ImportParts, NumberText};
 ghost use Rattle.tg_words.specs.Operands.{Answers, Exact, ImportGiven, NumberGiven, givens};
 
-use crate::operands::{GivenOption, OptionNames, named, operands_of, two_words, value_of};
+use crate::operands::{GivenOption, OptionNames, named, two_operands, value_of};
 use crate::{Command, WordsFault};
 use std::alloc::Global;
 use std::marker::Model;
@@ -31,7 +31,13 @@ impl Model for Import {
 
     ghost Value = { ImportParts };
 
-    ghost view = { λ i. record { folder = string_bytes i.folder; pack = string_bytes i.pack; chunk = i.chunk; width = i.width; shard = i.shard } };
+    ghost view = { λ i. record {
+      folder = string_bytes i.folder;
+      pack = string_bytes i.pack;
+      chunk = i.chunk;
+      width = i.width;
+      shard = i.shard;
+    } };
 }
 
 /// The least and the greatest number that an option may have, and the one where the option is absent.
@@ -68,11 +74,8 @@ pub fn import_of(alloc: Global, words: &[String]) -> Result<Command, WordsFault>
         valued: &["chunk", "width", "shard"],
         flags: &[],
     };
-    let found = operands_of(alloc, words, names)?;
-    let Some((folder, pack)) = two_words(found.positional.as_slice()) else {
-        return Err(WordsFault::Usage);
-    };
-    let import = import_with(alloc, folder, pack, found.options.as_slice())?;
+    let (folder, pack, options) = two_operands(alloc, words, names)?;
+    let import = import_with(alloc, folder, pack, options.as_slice())?;
     Ok(Command::Import(import))
 }
 

@@ -1,10 +1,11 @@
 //! The words of the command line: the grammar of the program's commands, and its reader.
 //!
-//! A command is one line of `dispatch` and a constructor, which has `operands_of` read the words behind the command's
-//! name.
+//! A command is one line of `dispatch` and a constructor, which has the words behind the command's name read by
+//! `one_operand`, `two_operands` or, where they are of another form, `operands_of`.
 #![tactic(auto)]
 
-ghost use Rattle.std.specs.Prelude.{◌≡◌, ℕ, ◌⊎◌, List, ◌∷◌, map, string_bytes, codes, Contains, IfOk, IsErrOf, MatchResult};
+ghost use Rattle.std.specs.Prelude.{◌≡◌, ℕ, ◌⊎◌, List, ◌∷◌, map, string_bytes, codes, Contains, IfOk, IsErrOf};
+ghost use Rattle.std.specs.Prelude.{MatchResult};
 ghost use Rattle.hex.specs.Hex.{decode_of};
 ghost use Rattle.tg_cid.specs.Cid.{CidParts};
 ghost use Rattle.tg_cid.specs.Spelling.{CidText, CidBytes};
@@ -26,7 +27,7 @@ use hex::FromHexError;
 pub use imports::Import;
 use imports::import_of;
 pub use operands::{GivenOption, Operands, OptionNames, operands_of};
-use operands::{one_word, value_of};
+use operands::{one_operand, one_word, value_of};
 use std::alloc::{AllocError, Global};
 use tg_cid::{Cid, CidFault};
 use tg_model::Query;
@@ -237,10 +238,7 @@ fn one_cid(alloc: Global, words: &[String]) -> Result<Cid, WordsFault>
         valued: &[],
         flags: &[],
     };
-    let found = operands_of(alloc, words, names)?;
-    let Some(text) = one_word(found.positional.as_slice()) else {
-        return Err(WordsFault::Usage);
-    };
+    let (text, _) = one_operand(alloc, words, names)?;
     cid_of_text(alloc, text)
 }
 
@@ -255,17 +253,13 @@ fn cid(alloc: Global, words: &[String]) -> Result<Command, WordsFault>
     let found = operands_of(alloc, words, names)?;
     match value_of(found.options.as_slice(), "hex") {
         None => {
-            let Some(text) = one_word(found.positional.as_slice()) else {
-                return Err(WordsFault::Usage);
-            };
+            let text = one_word(found.positional.as_slice()).ok_or(WordsFault::Usage)?;
             Ok(Command::CidToHex(cid_of_text(alloc, text)?))
         }
-        Some(digits) => {
-            if !found.positional.as_slice().is_empty() {
-                return Err(WordsFault::Usage);
-            }
+        Some(digits) if found.positional.is_empty() => {
             Ok(Command::CidToText(cid_of_hex(alloc, digits)?))
         }
+        Some(_) => Err(WordsFault::Usage),
     }
 }
 

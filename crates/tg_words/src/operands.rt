@@ -1,6 +1,7 @@
 //! Words as positional words and options, for a command whose options have these names.
 
-ghost use Rattle.std.specs.Prelude.{◌≡◌, ◌≢◌, ℕ, List, [], ◌∷◌, map, string_bytes, option_map, IfOk, IfErr, IfSome, IfNone, IsTrue, MatchResult, find};
+ghost use Rattle.std.specs.Prelude.{◌≡◌, ◌≢◌, ℕ, List, [], ◌∷◌, map, string_bytes, option_map, IfOk, IfErr, IfSome};
+ghost use Rattle.std.specs.Prelude.{IfNone, IsTrue, MatchResult, find};
 ghost use Rattle.std.specs.Str.{bytes_eq};
 ghost use Rattle.clap.specs.Words.{app_of, found_of, rows_of};
 ghost use Rattle.tg_words.specs.Operands.{given, givens, names_of, texts_of, value_at};
@@ -59,6 +60,49 @@ pub fn operands_of<'a>(
     let command = command_of(alloc, names)?;
     let matches = command.try_get_matches_from(words)?;
     Ok(operands_in(alloc, &matches, names)?)
+}
+
+/// The one positional word and the options that words spell, where the command has options of these names.
+///
+/// Errors: `Usage` where the words aren't of this form or have another number of positional words, `OutOfMemory` for
+/// want of memory alone.
+pub fn one_operand<'a>(
+    alloc: Global,
+    words: &'a [String],
+    names: OptionNames<'a>,
+) -> Result<(&'a str, Vec<GivenOption<'a>>), WordsFault>
+    requires { IsTrue (are_names (names_of names)) }
+    ensures found { IfOk result (λ found. WordsSpelling (names_of names.entry) (map string_bytes words.now)
+        (found.0.now ∷ []) (givens found.1.items)) }
+    ensures only { (word : List ℕ) (options : List Given)
+        → WordsSpelling (names_of names.entry) (map string_bytes words.now) (word ∷ []) options
+        → MatchResult result (λ found. (found.0.now ≡ word) × (givens found.1.items ≡ options))
+        (λ e. e ≡ WordsFault.OutOfMemory) }
+{
+    let found = operands_of(alloc, words, names)?;
+    let word = one_word(found.positional.as_slice()).ok_or(WordsFault::Usage)?;
+    Ok((word, found.options))
+}
+
+/// The two positional words and the options that words spell, where the command has options of these names.
+///
+/// Errors: as in `one_operand`.
+pub fn two_operands<'a>(
+    alloc: Global,
+    words: &'a [String],
+    names: OptionNames<'a>,
+) -> Result<(&'a str, &'a str, Vec<GivenOption<'a>>), WordsFault>
+    requires { IsTrue (are_names (names_of names)) }
+    ensures found { IfOk result (λ found. WordsSpelling (names_of names.entry) (map string_bytes words.now)
+        (found.0.now ∷ found.1.now ∷ []) (givens found.2.items)) }
+    ensures only { (first second : List ℕ) (options : List Given)
+        → WordsSpelling (names_of names.entry) (map string_bytes words.now) (first ∷ second ∷ []) options
+        → MatchResult result (λ found. (found.0.now ≡ first) × (found.1.now ≡ second)
+        × (givens found.2.items ≡ options)) (λ e. e ≡ WordsFault.OutOfMemory) }
+{
+    let found = operands_of(alloc, words, names)?;
+    let (first, second) = two_words(found.positional.as_slice()).ok_or(WordsFault::Usage)?;
+    Ok((first, second, found.options))
 }
 
 /// The command whose arguments are positional words of any number and the options of these names.
@@ -146,7 +190,7 @@ pub fn one_word<'a>(words: &[&'a str]) -> Option<&'a str>
 }
 
 /// The two words that stand alone.
-pub fn two_words<'a>(words: &[&'a str]) -> Option<(&'a str, &'a str)>
+fn two_words<'a>(words: &[&'a str]) -> Option<(&'a str, &'a str)>
     ensures some { IfSome result (λ pair. texts_of words.now ≡ pair.0.now ∷ pair.1.now ∷ []) }
     ensures none { IfNone result ((first second : List ℕ) → texts_of words.now ≢ first ∷ second ∷ []) }
 {

@@ -1,45 +1,35 @@
-use Rattle.std.proofs.Common.{[], ◌∷◌, map, string_bytes, Global, sym, ap, ◌∙◌}
+use Rattle.std.proofs.Common.{Ok, Err, refl, ap}
 use Rattle.std.proofs.lemmas.Result.{err_from_is_err_and}
-use Rattle.tg_words.specs.Operands.{givens, texts_of}
+use Rattle.tg_words.specs.Operands.{ExportGiven, givens}
 use Rattle.tg_words.specs.QueryWords.{query_names}
-use Rattle.tg_words.proofs.ExportAnswers.{export_by, export_form, export_line}
-use Rattle.tg_words.proofs.Positional.{no_memory, only_seen, other_words, not_asked, is_asked, spelling_seen}
+use Rattle.tg_words.proofs.ExportAnswers.{export_form, export_found}
+use Rattle.tg_words.proofs.Lines.{export_lines}
+use Rattle.tg_words.proofs.Positional.{answered, exact_err, no_operands, two_only}
 use Rattle.tg_words.proofs.exports.export_of.Goals as goal
 
-pub returns-in_err-found : goal.returns-in_err-found
-returns-in_err-found c =
+pub returns-in_err-pack : goal.returns-in_err-pack
+returns-in_err-pack c =
     let p = err_from_is_err_and c.from_residual.result c.from_residual.ensures.1 in
-    let rest = map (string_bytes {Z = Global}) c.args.words.now in
-    rw (p.1, p.2) (no_memory export_form rest _ (export_line rest) (λ texts options s. c.in_err-found.ensures.only texts options s))
+    rw (p.1, p.2) (no_operands export_form _ _ export_lines (λ pair options s. c.in_err-pack.ensures.only pair.0 pair.1 options s))
 
-pub returns-in_default : goal.returns-in_default
-returns-in_default c =
-    let rest = map (string_bytes {Z = Global}) c.args.words.now in
-    other_words export_form rest (texts_of c.in_ok-found.found.positional.items) (givens c.in_ok-found.found.options.items) (export_line rest)
-    c.in_ok-found.ensures.only (λ pair are. c.in_default.ensures.none pair.0 pair.1 (ap texts_of c.as_slice.ensures.value ∙ are))
-
-pub returns-in_err-export : goal.returns-in_err-export
-returns-in_err-export c =
-    let p = err_from_is_err_and c.from_residual-in_err-export.result c.from_residual-in_err-export.ensures.1 in
-    let rest = map (string_bytes {Z = Global}) c.args.words.now in
-    let found = texts_of c.in_ok-found.found.positional.items in
-    let seen = givens c.as_slice-2.result.now in
-    let same = ap givens c.as_slice-2.ensures.value in
-    let only = only_seen query_names rest found (givens c.in_ok-found.found.options.items) seen same c.in_ok-found.ensures.only in
+pub returns-in_err-named : goal.returns-in_err-named
+returns-in_err-named c =
+    let p = err_from_is_err_and c.from_residual-in_err-named.result c.from_residual-in_err-named.ensures.1 in
     rw (p.1, p.2)
-    (not_asked export_form rest found seen (c.in-Some.pack.now, c.in-Some.target.now) _
-    (export_line rest) only
-    (ap texts_of (sym c.as_slice.ensures.value) ∙ c.in-Some.ensures.some) c.in_err-export.ensures)
+    (answered export_form _ (c.in_ok-pack.pack.now, c.in_ok-pack.target.now) _ _ (Err c.in_err-named.field-0.0) export_lines refl
+    c.in_ok-pack.ensures.found (two_only query_names _ _ _ _ c.in_ok-pack.ensures.only)
+    (record { found = tt; only = λ parts is. c.in_err-named.ensures.only is.named }))
+
+pub returns-in_err-query_with : goal.returns-in_err-query_with
+returns-in_err-query_with c =
+    let p = err_from_is_err_and c.from_residual-in_err-query_with.result c.from_residual-in_err-query_with.ensures.1 in
+    rw (p.1, p.2)
+    (answered export_form _ (c.in_ok-pack.pack.now, c.in_ok-pack.target.now) _ (givens c.as_slice.result.now) (Err c.in_err-query_with.field-0.0) export_lines (ap givens c.as_slice.ensures.value)
+    c.in_ok-pack.ensures.found (two_only query_names _ _ _ _ c.in_ok-pack.ensures.only)
+    (exact_err _ (ExportGiven c.in_ok-pack.pack.now c.in_ok-pack.target.now (givens c.as_slice.result.now)) _ c.in_err-query_with.ensures (λ parts is. (parts.query, is.query))))
 
 pub returns : goal.returns
 returns c =
-    let rest = map (string_bytes {Z = Global}) c.args.words.now in
-    let are = ap texts_of (sym c.as_slice.ensures.value) ∙ c.in-Some.ensures.some in
-    let found = texts_of c.in_ok-found.found.positional.items in
-    let seen = givens c.as_slice-2.result.now in
-    let same = ap givens c.as_slice-2.ensures.value in
-    let only = only_seen query_names rest found (givens c.in_ok-found.found.options.items) seen same c.in_ok-found.ensures.only in
-    let operands = spelling_seen query_names rest found (c.in-Some.pack.now ∷ c.in-Some.target.now ∷ []) (givens c.in_ok-found.found.options.items) seen are same c.in_ok-found.ensures.found in
-    is_asked export_form rest found seen (c.in-Some.pack.now, c.in-Some.target.now)
-    c.in_ok-export.export (export_line rest) only
-    are c.in_ok-export.ensures (export_by rest c.in-Some.pack.now c.in-Some.target.now seen c.in_ok-export.export operands c.in_ok-export.ensures.found)
+    answered export_form _ (c.in_ok-pack.pack.now, c.in_ok-pack.target.now) _ (givens c.as_slice.result.now) (Ok _) export_lines (ap givens c.as_slice.ensures.value)
+    c.in_ok-pack.ensures.found (two_only query_names _ _ _ _ c.in_ok-pack.ensures.only)
+    (export_found c.in_ok-pack.pack.now c.in_ok-pack.target.now (givens c.as_slice.result.now) _ c.in_ok-named.ensures.found.0 c.in_ok-named.ensures.found.1 c.in_ok-query_with.ensures)
