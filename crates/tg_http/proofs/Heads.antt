@@ -4,7 +4,7 @@ use Rattle.std.specs.Prelude.{All}
 use Rattle.std.proofs.lemmas.List.Elements.{All-head, All-tail, All-nil, All-cons}
 use Rattle.httparse.specs.Grammar.{LineEnd, print_end, print_blank}
 use Rattle.tg_bytes.specs.Lists.{joined}
-use Rattle.tg_http.specs.HeadText.{HasNoFeed, IsLine, IsEmptyLine, IsFullLine, HeadText}
+use Rattle.tg_http.specs.HeadText.{HasNoFeed, HasNoHead, IsLine, IsEmptyLine, IsFullLine, HeadText}
 use Rattle.tg_http.specs.Lines.{one_line, end_line, feed_in_line}
 
 -- what of a head text is left behind its start line and lines of fields
@@ -191,3 +191,7 @@ tail_has_feed (suc done) more rest count t none = by_fields t.2.fields t.2.field
     by_fields (field ∷ fields) full whole =
         feed_in_line field _ (All-head IsFullLine field fields full).line_is
         (subst HasNoFeed (ap (λ (s : List ℕ). s ++ rest) (whole ∙ append_assoc field (joined fields) _) ∙ append_assoc field _ rest) none)
+
+-- bytes without a line feed begin with no head text
+pub no_feed_no_head : (bytes : List ℕ) → HasNoFeed bytes → HasNoHead bytes
+no_feed_no_head bytes none text count b = tail_has_feed zero text b.rest count b.text_is (subst HasNoFeed b.whole none)

@@ -4,7 +4,7 @@ use Rattle.std.proofs.lemmas.List.{take_at, take-append-le, take-append-drop, le
 use Rattle.tg_http.specs.declared.fault.HttpFault.{HttpFault}
 use Rattle.tg_http.specs.declared.fault.HttpFault.TheVariants as faults
 use Rattle.tg_http.specs.HeadText.{BeginsHead}
-use Rattle.tg_http.specs.Heads.{HasHeadCause}
+use Rattle.tg_http.specs.Heads.{HasHeadCause, HeadStays, IsNoHead}
 
 pub longer_head : (bytes more text : List ℕ) (count : ℕ) → BeginsHead bytes text count → BeginsHead (bytes ++ more) text count
 longer_head bytes more text count b = record {
@@ -32,3 +32,10 @@ longer_cause none bytes more faults.HeadLimit (inr many) = inr (many.0, many.1, 
 longer_cause none bytes more faults.BadHead h = (h.0, h.1, longer_head bytes more h.0 h.1 h.2, h.3, h.4)
 longer_cause none bytes more faults.BadFraming h = h
 longer_cause none bytes more faults.OutOfMemory h = h
+
+-- heads of any grammar
+pub stays : {Tree : Type 0} (Reads : List ℕ → Tree → List ℕ → Type 0) → HeadStays Reads
+stays Reads = (
+  λ bytes more text tree i. record { count = i.count; begins = longer_head bytes more text i.count i.begins; few = i.few; reads = i.reads },
+  λ bytes more fault h. longer_cause (IsNoHead Reads) bytes more fault h,
+)

@@ -1,5 +1,6 @@
 -- The fields of a head by their names, which are compared without regard to case (RFC 9110, section 5.1).
-use Rattle.std.specs.Prelude.{◌≡◌, ℕ, ◌<◌, ◌==◌, List, [], ◌∷◌, Bool, not, Option, Some, None, length, find, codes, if◌then◌else◌}
+use Rattle.std.specs.Prelude.{◌≡◌, ℕ, ◌<◌, ◌==◌, List, [], ◌∷◌, Bool, not, Option, Some, None, length, find, codes}
+use Rattle.std.specs.Prelude.{if◌then◌else◌}
 use Rattle.std.specs.List.{filter_map, list_any, slice_split}
 use Rattle.std.specs.Option.{option_or}
 use Rattle.std.specs.Str.{str_eq_ignore_ascii_case}
@@ -17,7 +18,8 @@ values name fields = filter_map (value_under name) fields
 
 -- the value is a list of elements with commas between them, and one of them is this token (RFC 9110, section 5.6.1)
 abbrev pub lists_token : List ℕ → List ℕ → Bool
-lists_token token value = list_any (λ part. str_eq_ignore_ascii_case (trim_ows part) token) (slice_split (λ b. b == 44) value)
+lists_token token value =
+    list_any (λ part. str_eq_ignore_ascii_case (trim_ows part) token) (slice_split (λ b. b == 44) value)
 
 -- some `Connection` field has the token `close` (RFC 9112, section 9.6)
 abbrev pub closes : List (List ℕ × List ℕ) → Bool

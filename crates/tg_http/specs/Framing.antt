@@ -24,7 +24,8 @@ HasFraming fields Broken = ⊥
 
 -- the framing of a reply, which is broken where it has none
 abbrev pub IsFramingOf : List (List ℕ × List ℕ) → Framing → Type 0
-IsFramingOf fields framing = HasFraming fields framing ⊎ ((framing ≡ Broken) × ((other : Framing) → HasFraming fields other → ⊥))
+IsFramingOf fields framing =
+    HasFraming fields framing ⊎ ((framing ≡ Broken) × ((other : Framing) → HasFraming fields other → ⊥))
 
 -- a request has no body where it has no `Transfer-Encoding`, and no `Content-Length` but one of 1 to 19 digits of value
 -- 0

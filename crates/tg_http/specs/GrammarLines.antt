@@ -1,13 +1,18 @@
 -- A head of the grammar is a head text: its lines are of bytes that end no line (RFC 9112, sections 2 to 5).
-use Rattle.std.proofs.Common.{◌≡◌, ◌≢◌, ℕ, ◌+◌, ◌<◌, true, false, List, [], ◌∷◌, ◌++◌, map, length, refl, sym, ap, ◌∙◌, arith, append_assoc}
+use Rattle.std.proofs.Common.{◌≡◌, ◌≢◌, ℕ, ◌+◌, ◌<◌, true, false, List, [], ◌∷◌, ◌++◌, map, length, refl, sym, ap, ◌∙◌}
+use Rattle.std.proofs.Common.{arith, append_assoc}
 use Rattle.std.specs.Char.{is_ascii_digit}
 use Rattle.std.specs.List.{flat_map, list_all}
 use Rattle.std.specs.Prelude.{All, Bool, Option, Some, None, IsTrue, codes}
 use Rattle.std.proofs.lemmas.Bool.{false≢true}
 use Rattle.std.proofs.lemmas.List.{length-append, length-map}
-use Rattle.std.proofs.lemmas.List.Elements.{All-head, All-nil, All-cons, All-append, All-weaker, All-map, All-from_recursion}
+use Rattle.std.proofs.lemmas.List.Elements.{All-head, All-nil, All-cons, All-append, All-weaker, All-map}
+use Rattle.std.proofs.lemmas.List.Elements.{All-from_recursion}
 use Rattle.std.proofs.lemmas.List.Sums.{AllPass-from_list_all}
-use Rattle.httparse.specs.Grammar.{LineEnd, crlf, lf, AllPass, IsToken, is_token_byte, is_uri_byte, is_value_byte, print_end, print_blank, print_version, Field, print_field, IsField, print_section, RequestHead, print_request, IsRequestHead, ResponseHead, print_response, print_reason, reason_phrase, IsResponseHead}
+use Rattle.httparse.specs.Grammar.{LineEnd, crlf, lf, AllPass, IsToken, is_token_byte, is_uri_byte, is_value_byte}
+use Rattle.httparse.specs.Grammar.{print_end, print_blank, print_version, Field, print_field, IsField, print_section}
+use Rattle.httparse.specs.Grammar.{RequestHead, print_request, IsRequestHead, ResponseHead, print_response}
+use Rattle.httparse.specs.Grammar.{print_reason, reason_phrase, IsResponseHead}
 use Rattle.httparse.proofs.GrammarLemmas.{cons-append}
 use Rattle.tg_bytes.specs.Lists.{joined}
 use Rattle.tg_http.specs.HeadText.{HasNoFeed, HeadText, IsFullLine, IsLine}
@@ -20,7 +25,8 @@ IsPlain b = (b ≢ 10) × (b ≢ 13)
 
 -- as one that passes a test which both fail
 pub plain_by : (test : ℕ → Bool) (b : ℕ) → test 10 ≡ false → test 13 ≡ false → test b ≡ true → IsPlain b
-plain_by test b feed return t = (λ e. false≢true (sym feed ∙ ap test (sym e) ∙ t), λ e. false≢true (sym return ∙ ap test (sym e) ∙ t))
+plain_by test b feed return t =
+    (λ e. false≢true (sym feed ∙ ap test (sym e) ∙ t), λ e. false≢true (sym return ∙ ap test (sym e) ∙ t))
 
 pub plain_token : (b : ℕ) → IsTrue (is_token_byte b) → IsPlain b
 unfolding is_token_byte
@@ -39,7 +45,8 @@ plain_above : (b : ℕ) → 13 < b → IsPlain b
 plain_above b h = (λ e. omega (arith, e, h), λ e. omega (arith, e, h))
 
 -- plain bytes and a line end are a line that isn't empty
-plain_line : (bytes : List ℕ) (end : LineEnd) → 0 < length bytes → All IsPlain bytes → IsFullLine (bytes ++ print_end end)
+plain_line : (bytes : List ℕ) (end : LineEnd) → 0 < length bytes → All IsPlain bytes
+    → IsFullLine (bytes ++ print_end end)
 plain_line [] end some plain = absurd (omega (arith, some))
 plain_line (b ∷ bytes) end some plain = record { line_is = line end; not_empty = λ e. by_end e.0 e.1 }
   where
@@ -76,10 +83,12 @@ abbrev pub field_print : Field → List ℕ
 field_print f = field_text f ++ print_end f.end
 
 field_full : (f : Field) → IsField f → IsFullLine (field_print f)
-field_full f i = plain_line (field_text f) f.end (omega (arith, i.name.0, length-append f.name (58 ∷ f.raw))) (field_plain f i)
+field_full f i =
+    plain_line (field_text f) f.end (omega (arith, i.name.0, length-append f.name (58 ∷ f.raw))) (field_plain f i)
 
 pub fields_full : (fields : List Field) → All IsField fields → All IsFullLine (map field_print fields)
-fields_full fields all = All-map IsFullLine field_print fields (All-weaker IsField (λ f. IsFullLine (field_print f)) field_full fields all)
+fields_full fields all =
+    All-map IsFullLine field_print fields (All-weaker IsField (λ f. IsFullLine (field_print f)) field_full fields all)
 
 fields_joined : (fields : List Field) → joined (map field_print fields) ≡ flat_map print_field fields
 fields_joined [] = refl
@@ -125,7 +134,8 @@ status_plain h i =
     (All-append IsPlain h.digits (print_reason h.reason) (All-weaker (λ (b : ℕ). IsTrue (is_ascii_digit b)) IsPlain plain_digit h.digits i.digits.1)
     (by_reason h.reason i.reason)))
   where
-    by_reason : (reason : Option (List ℕ)) → AllPass is_value_byte (reason_phrase reason) → All IsPlain (print_reason reason)
+    by_reason : (reason : Option (List ℕ)) → AllPass is_value_byte (reason_phrase reason)
+        → All IsPlain (print_reason reason)
     by_reason None pass = All-nil IsPlain
     by_reason (Some phrase) pass =
         All-cons IsPlain 32 phrase (plain_above 32 (omega arith)) (All-weaker (λ (b : ℕ). IsTrue (is_value_byte b)) IsPlain plain_value phrase pass)
@@ -144,7 +154,8 @@ request_lines h =
     rw (fields_joined h.fields)
     (spread (print_blank h.blank) h.method h.target (print_version h.minor) (print_end h.line_end) (print_section h.fields h.last))
   where
-    spread : (b m t v e s : List ℕ) → b ++ m ++ 32 ∷ t ++ 32 ∷ v ++ e ++ s ≡ b ++ (((m ++ 32 ∷ (t ++ 32 ∷ v)) ++ e) ++ s)
+    spread : (b m t v e s : List ℕ)
+        → b ++ m ++ 32 ∷ t ++ 32 ∷ v ++ e ++ s ≡ b ++ (((m ++ 32 ∷ (t ++ 32 ∷ v)) ++ e) ++ s)
     spread b m t v e s = simp (append_assoc, cons-append)
 
 pub request_text : (h : RequestHead) → IsRequestHead h → HeadText (print_request h) (length h.fields)

@@ -1,6 +1,8 @@
 -- What the head of a request or of a reply is, and why bytes have none (RFC 9112, sections 2 to 6).
-use Rattle.std.specs.Prelude.{◌≡◌, ◌↔◌, ℕ, ◌<◌, ◌≤◌, ◌⊎◌, List, [], ◌++◌, map, length, codes, IsFalse, Option, MatchOption}
-use Rattle.httparse.specs.Grammar.{RequestHead as RequestTree, ResponseHead as ReplyTree, ReadsRequest, ReadsResponse, status_code}
+use Rattle.std.specs.Prelude.{◌≡◌, ◌↔◌, ℕ, ◌<◌, ◌≤◌, ◌⊎◌, List, [], ◌++◌, map, length, codes, IsFalse, Option}
+use Rattle.std.specs.Prelude.{MatchOption}
+use Rattle.httparse.specs.Grammar.{RequestHead as RequestTree, ResponseHead as ReplyTree, ReadsRequest, ReadsResponse}
+use Rattle.httparse.specs.Grammar.{status_code}
 use Rattle.httparse.specs.Spans.{name_and_value}
 use Rattle.tg_http.specs.declared.fault.HttpFault.{HttpFault}
 use Rattle.tg_http.specs.declared.fault.HttpFault.TheVariants as faults
@@ -39,29 +41,31 @@ TellsRequest tree used head = TellsParts used tree.method tree.target tree.minor
 abbrev pub TellsReply : ReplyTree → ℕ → ReplyHead → Type 0
 TellsReply tree used head = TellsReplyParts used (status_code tree) (map name_and_value tree.fields) head
 
--- The bytes begin with a head text of at most 64 fields, which is this head of the grammar.
-pub record IsRequest (bytes text : List ℕ) (tree : RequestTree) : Type 0 where
+-- The bytes begin with a head text of at most 64 fields, which is this head of a grammar, that of requests or of replies.
+pub record IsHead {Tree : Type 0} (Reads : List ℕ → Tree → List ℕ → Type 0) (bytes text : List ℕ) (tree : Tree) : Type 0 where
   pub count : ℕ
   pub begins : BeginsHead bytes text count
   pub few : count ≤ 64
-  pub reads : ReadsRequest text tree []
+  pub reads : Reads text tree []
 
-pub record IsReply (bytes text : List ℕ) (tree : ReplyTree) : Type 0 where
-  pub count : ℕ
-  pub begins : BeginsHead bytes text count
-  pub few : count ≤ 64
-  pub reads : ReadsResponse text tree []
+abbrev pub IsRequest : List ℕ → List ℕ → RequestTree → Type 0
+IsRequest bytes text tree = IsHead ReadsRequest bytes text tree
+
+abbrev pub IsReply : List ℕ → List ℕ → ReplyTree → Type 0
+IsReply bytes text tree = IsHead ReadsResponse bytes text tree
 
 -- what a reader of heads that refused nothing tells
-abbrev pub FindsRequest : List ℕ → Option RequestHead → Type 0
-FindsRequest bytes told =
+abbrev pub FindsHead : {Tree Head : Type 0} → (List ℕ → Tree → List ℕ → Type 0) → (Tree → ℕ → Head → Type 0) → List ℕ
+    → Option Head → Type 0
+FindsHead {Tree} Reads Tells bytes told =
     MatchOption told (IsWaiting bytes)
-    (λ head. (text : List ℕ) × (tree : RequestTree) × IsRequest bytes text tree × TellsRequest tree (length text) head)
+    (λ head. (text : List ℕ) × (tree : Tree) × IsHead Reads bytes text tree × Tells tree (length text) head)
+
+abbrev pub FindsRequest : List ℕ → Option RequestHead → Type 0
+FindsRequest bytes told = FindsHead ReadsRequest TellsRequest bytes told
 
 abbrev pub FindsReply : List ℕ → Option ReplyHead → Type 0
-FindsReply bytes told =
-    MatchOption told (IsWaiting bytes)
-    (λ head. (text : List ℕ) × (tree : ReplyTree) × IsReply bytes text tree × TellsReply tree (length text) head)
+FindsReply bytes told = FindsHead ReadsResponse TellsReply bytes told
 
 -- the first 16,384 bytes hold no whole head text, or the head text has more than 64 fields
 abbrev pub PassesLimit : List ℕ → Type 0
@@ -72,12 +76,15 @@ PassesLimit bytes =
 abbrev pub HasWholeText : (List ℕ → Type 0) → List ℕ → Type 0
 HasWholeText P bytes = (text : List ℕ) × (count : ℕ) × BeginsHead bytes text count × (count ≤ 64) × P text
 
--- the text is no head of the grammar
+-- the text is no head of a grammar
+abbrev pub IsNoHead : {Tree : Type 0} → (List ℕ → Tree → List ℕ → Type 0) → List ℕ → Type 0
+IsNoHead {Tree} Reads text = (tree : Tree) → Reads text tree [] → ⊥
+
 abbrev pub IsNoRequest : List ℕ → Type 0
-IsNoRequest text = (tree : RequestTree) → ReadsRequest text tree [] → ⊥
+IsNoRequest text = IsNoHead ReadsRequest text
 
 abbrev pub IsNoReply : List ℕ → Type 0
-IsNoReply text = (tree : ReplyTree) → ReadsResponse text tree [] → ⊥
+IsNoReply text = IsNoHead ReadsResponse text
 
 -- the cause of each refusal of a head but want of memory
 abbrev pub HasHeadCause : (List ℕ → Type 0) → List ℕ → HttpFault → Type 0
@@ -86,14 +93,14 @@ HasHeadCause none bytes faults.BadHead = HasWholeText none bytes
 HasHeadCause none bytes faults.BadFraming = ⊥
 HasHeadCause none bytes faults.OutOfMemory = ⊥
 
--- what the front of bytes says of a request stays true whatever comes behind them
-abbrev pub RequestStays : Type 0
-RequestStays =
-    ((bytes more text : List ℕ) (tree : RequestTree) → IsRequest bytes text tree → IsRequest (bytes ++ more) text tree)
-    × ((bytes more : List ℕ) (fault : HttpFault) → HasHeadCause IsNoRequest bytes fault → HasHeadCause IsNoRequest (bytes ++ more) fault)
+-- what the front of bytes says of a head stays true whatever comes behind them
+abbrev pub HeadStays : {Tree : Type 0} → (List ℕ → Tree → List ℕ → Type 0) → Type 0
+HeadStays {Tree} Reads =
+    ((bytes more text : List ℕ) (tree : Tree) → IsHead Reads bytes text tree → IsHead Reads (bytes ++ more) text tree)
+    × ((bytes more : List ℕ) (fault : HttpFault) → HasHeadCause (IsNoHead Reads) bytes fault → HasHeadCause (IsNoHead Reads) (bytes ++ more) fault)
 
--- the same of a reply
+abbrev pub RequestStays : Type 0
+RequestStays = HeadStays ReadsRequest
+
 abbrev pub ReplyStays : Type 0
-ReplyStays =
-    ((bytes more text : List ℕ) (tree : ReplyTree) → IsReply bytes text tree → IsReply (bytes ++ more) text tree)
-    × ((bytes more : List ℕ) (fault : HttpFault) → HasHeadCause IsNoReply bytes fault → HasHeadCause IsNoReply (bytes ++ more) fault)
+ReplyStays = HeadStays ReadsResponse

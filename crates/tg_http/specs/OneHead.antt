@@ -1,5 +1,6 @@
 -- Bytes have one head text at their front.
-use Rattle.std.proofs.Common.{◌≡◌, ℕ, suc, ◌≤◌, List, [], ◌∷◌, ◌++◌, inl, inr, length, refl, sym, ap, ap₂, ◌∙◌, arith, append_assoc}
+use Rattle.std.proofs.Common.{◌≡◌, ℕ, suc, ◌≤◌, List, [], ◌∷◌, ◌++◌, inl, inr, length, refl, sym, ap, ap₂, ◌∙◌, arith}
+use Rattle.std.proofs.Common.{append_assoc}
 use Rattle.std.specs.Prelude.{All}
 use Rattle.std.proofs.lemmas.List.Elements.{All-head, All-tail}
 use Rattle.httparse.specs.Grammar.{LineEnd, print_blank, print_end}
@@ -9,7 +10,8 @@ use Rattle.tg_http.specs.Heads.{IsWaiting, PassesLimit}
 use Rattle.tg_http.specs.Lines.{end_line, one_line}
 
 -- a line, and what is behind it
-first_lines : (line other more rest r q : List ℕ) → IsLine line → IsLine other → (line ++ more) ++ r ≡ (other ++ rest) ++ q
+first_lines : (line other more rest r q : List ℕ) → IsLine line → IsLine other
+    → (line ++ more) ++ r ≡ (other ++ rest) ++ q
     → (line ≡ other) × (more ++ r ≡ rest ++ q)
 first_lines line other more rest r q l o e =
     one_line line other (more ++ r) (rest ++ q) l o (sym (append_assoc line more r) ∙ e ∙ append_assoc other rest q)
@@ -21,10 +23,12 @@ no_end line rest r q end full e =
     full.not_empty (end, one.0)
 
 -- lines up to and with the first empty one are determined
-pub one_section : (fields others : List (List ℕ)) (last end : LineEnd) (r q : List ℕ) → All IsFullLine fields → All IsFullLine others
+pub one_section : (fields others : List (List ℕ)) (last end : LineEnd) (r q : List ℕ) → All IsFullLine fields
+    → All IsFullLine others
     → (joined fields ++ print_end last) ++ r ≡ (joined others ++ print_end end) ++ q
     → (joined fields ++ print_end last ≡ joined others ++ print_end end) × (length fields ≡ length others)
-one_section [] [] last end r q full all e = ((one_line (print_end last) (print_end end) r q (end_line last) (end_line end) e).0, refl)
+one_section [] [] last end r q full all e =
+    ((one_line (print_end last) (print_end end) r q (end_line last) (end_line end) e).0, refl)
 one_section [] (other ∷ others) last end r q full all e =
     absurd (no_end other (joined others ++ print_end end) q r last (All-head IsFullLine other others all)
     (ap (λ (l : List ℕ). l ++ q) (sym (append_assoc other (joined others) (print_end end))) ∙ sym e))
@@ -70,16 +74,19 @@ same_heads (b ∷ blank) (c ∷ ends) start other fields others last end r q s o
     let below = same_heads blank ends start other fields others last end r q s o f g one.1 in
     (left ∙ ap₂ (λ (a b : List ℕ). a ++ b) one.0 below.0 ∙ sym right, below.1)
 
-pub one_head : (text other r q : List ℕ) (count number : ℕ) → HeadText text count → HeadText other number → text ++ r ≡ other ++ q
+pub one_head : (text other r q : List ℕ) (count number : ℕ) → HeadText text count → HeadText other number
+    → text ++ r ≡ other ++ q
     → (text ≡ other) × (count ≡ number)
 one_head text other r q count number t u e =
     let same = same_heads t.blank u.blank t.start u.start t.fields u.fields t.last u.last r q t.start_is u.start_is t.fields_are u.fields_are
     (ap (λ (l : List ℕ). l ++ r) (sym t.whole) ∙ e ∙ ap (λ (l : List ℕ). l ++ q) u.whole) in
     (t.whole ∙ same.0 ∙ sym u.whole, t.count_is ∙ same.1 ∙ sym u.count_is)
 
-pub one_beginning : (bytes text other : List ℕ) (count number : ℕ) → BeginsHead bytes text count → BeginsHead bytes other number
+pub one_beginning : (bytes text other : List ℕ) (count number : ℕ) → BeginsHead bytes text count
+    → BeginsHead bytes other number
     → (text ≡ other) × (count ≡ number)
-one_beginning bytes text other count number b d = one_head text other b.rest d.rest count number b.text_is d.text_is (sym b.whole ∙ d.whole)
+one_beginning bytes text other count number b d =
+    one_head text other b.rest d.rest count number b.text_is d.text_is (sym b.whole ∙ d.whole)
 
 -- bytes that pass the limits begin with no head text within them
 pub limit_only : (bytes text : List ℕ) (count : ℕ) → PassesLimit bytes → BeginsHead bytes text count → count ≤ 64 → ⊥

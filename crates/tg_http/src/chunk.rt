@@ -1,5 +1,6 @@
 //! The lines before chunks.
-ghost use Rattle.std.specs.Prelude.{◌≡◌, ◌≤◌, ◌<◌, ◌^◌, ◌-◌, ◌+◌, ◌/◌, ◌∷◌, [], take, drop, map, length, replicate, if◌then◌else◌, slice_set};
+ghost use Rattle.std.specs.Prelude.{◌≡◌, ◌≤◌, ◌<◌, ◌^◌, ◌-◌, ◌+◌, ◌/◌, ◌∷◌, [], take, drop, map, length, replicate};
+ghost use Rattle.std.specs.Prelude.{if◌then◌else◌, slice_set};
 ghost use Rattle.std.specs.Int.Digits.{digits_of};
 ghost use Rattle.tg_http.specs.Chunks.{hex_digit, hex_text, chunk_line};
 

@@ -1,10 +1,12 @@
 //! The fields of a head by their names.
-ghost use Rattle.std.specs.Prelude.{◌≡◌, ◌↔◌, ℕ, ◌⊎◌, ◌<◌, ◌≤◌, List as Items, [], ◌∷◌, ◌++◌, map, length, All, IfOk, codes, option_copied};
+ghost use Rattle.std.specs.Prelude.{◌≡◌, ◌↔◌, ℕ, ◌⊎◌, ◌<◌, ◌≤◌, List as Items, [], ◌∷◌, ◌++◌, map, length, All, IfOk};
+ghost use Rattle.std.specs.Prelude.{codes, option_copied};
 ghost use Rattle.std.specs.List.{list_any};
 ghost use Rattle.std.specs.Str.{str_eq_ignore_ascii_case};
 ghost use Rattle.httparse.specs.Grammar.{trim_ows};
 ghost use Rattle.httparse.specs.Spans.{IsHeaderWithin, header_bytes};
-ghost use Rattle.tg_http.specs.Fields.{value_under, values, lists_token, closes, first, coding_of, is_identity, AreValues};
+ghost use Rattle.tg_http.specs.Fields.{value_under, values, lists_token, closes, first, coding_of, is_identity};
+ghost use Rattle.tg_http.specs.Fields.{AreValues};
 
 use httparse::is_space_or_tab;
 use httparse::spans::HeaderSpan;

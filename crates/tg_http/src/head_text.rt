@@ -1,5 +1,6 @@
 //! The text of a head, found before it is read.
-ghost use Rattle.std.specs.Prelude.{◌≡◌, ◌≢◌, ℕ, ◌+◌, ◌<◌, ◌≤◌, ◌⊎◌, ◌↔◌, List, ◌++◌, length, take, All, Some, IsTrue, IfSome, MatchOption, MatchResult};
+ghost use Rattle.std.specs.Prelude.{◌≡◌, ◌≢◌, ℕ, ◌+◌, ◌<◌, ◌≤◌, ◌⊎◌, ◌↔◌, List, ◌++◌, length, take, All, Some, IsTrue};
+ghost use Rattle.std.specs.Prelude.{IfSome, MatchOption, MatchResult};
 ghost use Rattle.tg_http.specs.HeadText.{IsLine, IsEmptyLine, HeadText, BeginsHead};
 ghost use Rattle.tg_http.specs.Heads.{IsWaiting, PassesLimit};
 ghost use Rattle.tg_http.specs.declared.fault.HttpFault.{HttpFault};

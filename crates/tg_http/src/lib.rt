@@ -2,6 +2,7 @@
 #![tactic(auto)]
 
 mod chunk;
+mod examples;
 mod fault;
 mod fields;
 mod framing;
@@ -11,6 +12,7 @@ mod reply;
 mod request;
 
 pub use chunk::chunk_head;
+pub use examples::endless_line;
 pub use fault::HttpFault;
 pub use fields::without_spaces;
 pub use framing::Framing;

@@ -1,9 +1,11 @@
 //! The head of a reply.
-ghost use Rattle.std.specs.Prelude.{◌≡◌, ℕ, ◌≤◌, ◌⊎◌, List, [], map, length, All, Ok, Err, None, IfOk, IfErr, IsSomeAnd, MatchResult, option_copied};
+ghost use Rattle.std.specs.Prelude.{◌≡◌, ℕ, ◌≤◌, ◌⊎◌, List, [], map, length, All, Ok, Err, None, IfOk, IfErr};
+ghost use Rattle.std.specs.Prelude.{IsSomeAnd, MatchResult, option_copied};
 ghost use Rattle.httparse.specs.Grammar.{ResponseHead as ReplyTree, ReadsResponse};
 ghost use Rattle.httparse.specs.Spans.{IsHeaderWithin, header_bytes};
 ghost use Rattle.tg_http.specs.HeadText.{HeadText};
-ghost use Rattle.tg_http.specs.Heads.{IsWaiting, IsReply, IsNoReply, TellsReplyParts, TellsReply, FindsReply, HasHeadCause};
+ghost use Rattle.tg_http.specs.Heads.{IsWaiting, IsReply, IsNoReply, TellsReplyParts, TellsReply, FindsReply};
+ghost use Rattle.tg_http.specs.Heads.{HasHeadCause};
 ghost use Rattle.tg_http.specs.declared.fault.HttpFault.{HttpFault};
 
 use crate::fault::HttpFault;

@@ -1,9 +1,11 @@
 //! The head of a request.
-ghost use Rattle.std.specs.Prelude.{◌≡◌, ℕ, ◌≤◌, ◌⊎◌, List as Items, [], map, length, All, Ok, Err, None, IfOk, IfErr, IsSomeAnd, MatchResult};
+ghost use Rattle.std.specs.Prelude.{◌≡◌, ℕ, ◌≤◌, ◌⊎◌, List as Items, [], map, length, All, Ok, Err, None, IfOk, IfErr};
+ghost use Rattle.std.specs.Prelude.{IsSomeAnd, MatchResult};
 ghost use Rattle.httparse.specs.Grammar.{RequestHead as RequestTree, ReadsRequest};
 ghost use Rattle.httparse.specs.Spans.{IsWithin, IsHeaderWithin, header_bytes, span_bytes};
 ghost use Rattle.tg_http.specs.HeadText.{HeadText};
-ghost use Rattle.tg_http.specs.Heads.{IsWaiting, IsRequest, IsNoRequest, TellsParts, TellsRequest, FindsRequest, HasHeadCause};
+ghost use Rattle.tg_http.specs.Heads.{IsWaiting, IsRequest, IsNoRequest, TellsParts, TellsRequest, FindsRequest};
+ghost use Rattle.tg_http.specs.Heads.{HasHeadCause};
 ghost use Rattle.tg_http.specs.declared.fault.HttpFault.{HttpFault};
 
 use crate::fault::HttpFault;
