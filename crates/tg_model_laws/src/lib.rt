@@ -14,6 +14,6 @@ pub use examples::parts_at_a_range;
 pub use fitting::{against_every_peer, front_sections, one_fit, own_sections};
 pub use partial::{opened_texts, partial_dags};
 pub use places::{met_parts, placed_children, placed_shards};
-pub use sound::{paths, sound_dags, traversals};
+pub use sound::{paths, traversals};
 pub use steps::{traversal_steps, traversals_joined};
 pub use stores::{cut_traversals, kept_sections, shown_dags};

@@ -1,15 +1,14 @@
 //! Laws of sound DAGs.
-ghost use Rattle.std.specs.Prelude.{◌≡◌, ◌++◌, ℕ, true, false, List, length, map};
+ghost use Rattle.std.specs.Prelude.{◌≡◌, ◌++◌, ℕ, true, false, List, map};
 ghost use Rattle.tg_model.specs.Answer.{is_listed, named_of, node_text};
-ghost use Rattle.tg_model.specs.Content.{content, entries};
-ghost use Rattle.tg_model.specs.Dag.{Dag, IsWhole, Children, Section, blocks, node, total_of};
+ghost use Rattle.tg_model.specs.Content.{entries};
+ghost use Rattle.tg_model.specs.Dag.{Dag, blocks};
 ghost use Rattle.tg_model.specs.Ends.{EndsAlike};
 ghost use Rattle.tg_model.specs.Lookup.{lookup_path};
 ghost use Rattle.tg_model.specs.PathWalk.{path_walk, terminal, whole};
 ghost use Rattle.tg_model.specs.Queries.{QueryParts};
-ghost use Rattle.tg_model.specs.Sound.{IsFileKind, IsSound};
+ghost use Rattle.tg_model.specs.Sound.{IsSound};
 ghost use Rattle.tg_model.specs.Traversal.{named_met, opened_list, traversal};
-ghost use Rattle.tg_model.specs.declared.kinds.Kind.{Kind};
 ghost use Rattle.tg_model.specs.declared.queries.Scope.TheVariants as scopes;
 
 /// In a sound DAG the walk along a path by slots ends as the look-up by names does: at the same node, or with the same
@@ -18,16 +17,6 @@ ghost use Rattle.tg_model.specs.declared.queries.Scope.TheVariants as scopes;
 /// Path Gateway specification, Path Resolution; UnixFS specification, HAMTDirectory.
 pub fn paths()
     ensures { (d : Dag) (path : List (List ℕ)) → IsSound d → EndsAlike (path_walk path d).end (lookup_path path d) }
-{}
-
-/// A sound DAG is whole, and a sound file's content has as many bytes as the file declares.
-///
-/// UnixFS specification, File.
-pub fn sound_dags()
-    ensures whole { (d : Dag) → IsSound d → IsWhole d }
-    ensures size { (section : Section) (kind : Kind) (children : Children) → IsSound (node section kind children)
-        → IsFileKind kind
-        → length (content (node section kind children)) ≡ total_of section kind }
 {}
 
 /// Where the path of a query leads to a terminal in a sound DAG, the traversal comes through.
