@@ -42,6 +42,8 @@ enum Shape {
     Below(&'static [u8]),
     /// A symbolic link `s`.
     Link,
+    /// Something else of this name, such as a named pipe.
+    Other(&'static [u8]),
     /// Two files of no bytes.
     Two(&'static [u8], &'static [u8]),
     /// Folders `d` in one another, so many with this one.
@@ -133,6 +135,7 @@ fn folder_with(alloc: Global, shape: Shape) -> Result<Tree, AllocError> {
         Shape::File(name, bytes) => folder_of_file(alloc, name, bytes),
         Shape::Below(name) => folder_of(alloc, b"d e", folder_of_file(alloc, name, b"")?),
         Shape::Link => folder_of(alloc, b"s", Tree::Symlink(Bytes::of(alloc, b"h")?)),
+        Shape::Other(name) => folder_of(alloc, name, Tree::Other),
         Shape::Two(one, other) => folder_of_two(alloc, one, other),
         Shape::Nested(levels) => nested(alloc, levels),
         Shape::Long(size) => folder_of_file(alloc, long_name(alloc, size)?.as_slice(), b""),
@@ -305,6 +308,7 @@ type Refused = (Shape, u8, &'static str);
 
 const REFUSED: &[Refused] = &[
     (Shape::Link, 6, "tgate: NotPlain s\n"),
+    (Shape::Other(b"pipe"), 6, "tgate: NotPlain pipe\n"),
     (Shape::File(b"", b""), 6, "tgate: BadName \n"),
     (Shape::File(b"..", b""), 6, "tgate: BadName ..\n"),
     (Shape::File(b"a/b", b""), 6, "tgate: BadName a%2Fb\n"),

@@ -2,4 +2,6 @@
 #![tactic(auto)]
 
 #[cfg(test)]
+mod cars;
+#[cfg(test)]
 mod tests;

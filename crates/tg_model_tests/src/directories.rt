@@ -3,6 +3,7 @@ use crate::rows::{Ended, RangeRow, Row, SizeRow, has_range, has_row, has_size};
 use std::alloc::Global;
 use std::rt::HostRuntime;
 use tg_cid::Cid;
+use tg_known_bytes::DIRECTORY;
 use tg_model::SpanFrom;
 use tg_oracle::{Sent, car_size};
 use tg_test_dags::{ALL, BLOCK, Case, ENTITY, Shape, case_of, text_of};
@@ -70,14 +71,7 @@ const ROWS: &[Row] = &[
         Ended::NotFolder(1),
         b"",
     ),
-    (
-        Shape::Empty,
-        &[],
-        BLOCK,
-        &[0],
-        Ended::Whole,
-        b"\x0a\x02\x08\x01",
-    ),
+    (Shape::Empty, &[], BLOCK, &[0], Ended::Whole, DIRECTORY),
     (Shape::Empty, &[], ENTITY, &[0], Ended::Whole, b""),
     (Shape::Empty, &[], ALL, &[0], Ended::Whole, b"dir /\n"),
     (Shape::Empty, &["x"], ALL, &[0], Ended::NotThere(0), b""),

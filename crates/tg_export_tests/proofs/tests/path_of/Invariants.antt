@@ -1,6 +1,0 @@
-use Rattle.std.proofs.Common.{◌≤◌, length, All}
-use Rattle.tg_model.specs.EntryNames.{IsGoodName}
-use Rattle.tg_export_tests.proofs.tests.path_of.Given as goal
-
-abbrev pub invariant-loop-name : goal.invariant-loop-name
-invariant-loop-name l = (length l.path ≤ l.name-index) × All IsGoodName l.path
