@@ -20,12 +20,15 @@ use Rattle.tg_app.specs.declared.fault.CommandFault.TheVariants.{Usage, OutOfMem
 abbrev pub CommandEnds : Command → Objects → Option CommandFault → Type 0
 CommandEnds (Check cid) objects end = SameFiles objects.files × CheckEnds cid objects.input objects.out end
 CommandEnds (Node cid) objects end = SameFiles objects.files × NodeEnds cid objects.input objects.out end
-CommandEnds (CidToHex cid) objects end = SameFiles objects.files × InputUntouched objects.input × PrintEnds (HexLine cid) objects.out end
-CommandEnds (CidToText cid) objects end = SameFiles objects.files × InputUntouched objects.input × PrintEnds (TextLine cid) objects.out end
+CommandEnds (CidToHex cid) objects end =
+    SameFiles objects.files × InputUntouched objects.input × PrintEnds (HexLine cid) objects.out end
+CommandEnds (CidToText cid) objects end =
+    SameFiles objects.files × InputUntouched objects.input × PrintEnds (TextLine cid) objects.out end
 CommandEnds (Export parts) objects end =
     objects.files.same_folder × InputUntouched objects.input × ExportAnswers parts.pack parts.query objects.files.pack objects.files.same_pack objects.out end
 CommandEnds (Verify q) objects end = SameFiles objects.files × VerifyEnds q objects.input objects.out end
-CommandEnds (Import parts) objects end = InputUntouched objects.input × ImportAnswers parts objects.files objects.out end
+CommandEnds (Import parts) objects end =
+    InputUntouched objects.input × ImportAnswers parts objects.files objects.out end
 
 -- a command that neither reads nor writes files
 abbrev pub UsesNoFiles : Command → Type 0

@@ -49,13 +49,15 @@ TellsExport (faults.Pack packs.OutOfMemory) refusal = refusal ≡ refusals.OutOf
 TellsExport (faults.Resolve paths.NoRoot) refusal = refusal ≡ refusals.NoRoot
 TellsExport (faults.Resolve (paths.NotThere segment)) refusal = refusal ≡ refusals.NotThere segment
 TellsExport (faults.Resolve (paths.NotFolder segment)) refusal = refusal ≡ refusals.NotFolder segment
-TellsExport (faults.Resolve (paths.BadBlock cid fault)) refusal = ShowsCid (λ text. refusals.BadStored text fault) cid refusal
+TellsExport (faults.Resolve (paths.BadBlock cid fault)) refusal =
+    ShowsCid (λ text. refusals.BadStored text fault) cid refusal
 TellsExport (faults.Resolve (paths.Gone cid)) refusal = ShowsCid refusals.Gone cid refusal
 TellsExport (faults.Resolve (paths.Store fault)) refusal = refusal ≡ store_refusal fault
 TellsExport (faults.Resolve paths.OutOfMemory) refusal = refusal ≡ refusals.OutOfMemory
 TellsExport (faults.Walk (walks.NotThere segment)) refusal = refusal ≡ refusals.NotThere segment
 TellsExport (faults.Walk (walks.NotFolder segment)) refusal = refusal ≡ refusals.NotFolder segment
-TellsExport (faults.Walk (walks.BadBlock cid fault)) refusal = ShowsCid (λ text. refusals.BadStored text fault) cid refusal
+TellsExport (faults.Walk (walks.BadBlock cid fault)) refusal =
+    ShowsCid (λ text. refusals.BadStored text fault) cid refusal
 TellsExport (faults.Walk (walks.Gone cid)) refusal = ShowsCid refusals.Gone cid refusal
 TellsExport (faults.Walk walks.TooDeep) refusal = refusal ≡ refusals.TooDeep
 TellsExport (faults.Walk (walks.Store fault)) refusal = refusal ≡ store_refusal fault

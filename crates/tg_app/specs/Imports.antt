@@ -175,7 +175,8 @@ AttachedAnswers parts files out (Some refusal) = AttachedRefused parts files out
 
 abbrev pub ImportAnswers : ImportParts → Files → Output → Option CommandFault → Type 0
 ImportAnswers parts files out None = Imported parts files out
-ImportAnswers parts files out (Some refusal) = AttachedRefused parts files out refusal ⊎ (NoFolder files out refusal ⊎ ImportUnbegun files out refusal)
+ImportAnswers parts files out (Some refusal) =
+    AttachedRefused parts files out refusal ⊎ (NoFolder files out refusal ⊎ ImportUnbegun files out refusal)
 
 -- nothing in the folder, as far as it is told, is a cause of a refusal
 abbrev pub IsGoodFolder : Options → Option Tree → Type 0

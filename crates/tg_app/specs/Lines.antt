@@ -8,7 +8,13 @@ use Rattle.tg_words.specs.declared.WordsFault.TheVariants as words
 use Rattle.tg_node.specs.declared.fault.NodeFault.{NodeFault}
 use Rattle.tg_node.specs.declared.fault.NodeFault.TheVariants.{BadNode, BadLink, BadUnix}
 use Rattle.tg_app.specs.declared.fault.CommandFault.{CommandFault}
-use Rattle.tg_app.specs.declared.fault.CommandFault.TheVariants.{Usage, BadDigest, BadBlock, BlockLimit, InputFault, SinkFault, OutOfMemory, PackFault, FolderFault, NotCar, BadPack, Unfinished, TornPack, PackLimit, WrongBlock, BadReceived, BadSize, Truncated, Extra, BadCar, Limit, NoRoot, NotThere, NotFolder, BadStored, Gone, Changed, TooDeep, DeepFolder, BadName, LongName, SameHash, NotPlain, TooBig}
+use Rattle.tg_app.specs.declared.fault.CommandFault.TheVariants.{Usage, BadDigest, BadBlock, BlockLimit, InputFault}
+use Rattle.tg_app.specs.declared.fault.CommandFault.TheVariants.{SinkFault, OutOfMemory, PackFault, FolderFault, NotCar}
+use Rattle.tg_app.specs.declared.fault.CommandFault.TheVariants.{BadPack, Unfinished, TornPack, PackLimit, WrongBlock}
+use Rattle.tg_app.specs.declared.fault.CommandFault.TheVariants.{BadReceived, BadSize, Truncated, Extra, BadCar, Limit}
+use Rattle.tg_app.specs.declared.fault.CommandFault.TheVariants.{NoRoot, NotThere, NotFolder, BadStored, Gone, Changed}
+use Rattle.tg_app.specs.declared.fault.CommandFault.TheVariants.{TooDeep, DeepFolder, BadName, LongName, SameHash}
+use Rattle.tg_app.specs.declared.fault.CommandFault.TheVariants.{NotPlain, TooBig}
 use Rattle.tg_model.specs.declared.fault.BlockFault.{BlockFault}
 use Rattle.tg_model.specs.declared.fault.BlockFault.TheVariants as blocks
 use Rattle.tg_model.specs.declared.limits.LimitKind.{LimitKind}

@@ -62,7 +62,8 @@ HasNoText cid bytes = (Names cid bytes → ⊥)
 
 -- there is a text and no cause of a fault
 abbrev pub HasText : CidParts → List ℕ → Type 0
-HasText cid bytes = ((text : List ℕ) × IsNodeTextOf cid bytes text) × ((fault : NodeFault) → HasNodeTextCause cid bytes fault → ⊥)
+HasText cid bytes =
+    ((text : List ℕ) × IsNodeTextOf cid bytes text) × ((fault : NodeFault) → HasNodeTextCause cid bytes fault → ⊥)
 
 -- the status of `node` over an input of these bytes, where no fault was counted and memory was found
 abbrev pub NodeStatus : CidParts → List ℕ → ℕ → Type 0

@@ -3,7 +3,8 @@ use Rattle.std.specs.Prelude.{List, Option, Some, ℕ, ◌≡◌, ◌≢◌, ◌
 use Rattle.tg_app.specs.Blocks.{OutputUntouched, PassedLimit}
 use Rattle.tg_app.specs.Check.{Agrees, CheckEnds, CheckStatus, Checked, CheckedOther}
 use Rattle.tg_app.specs.CidLines.{HexLine, PutsLine, TextLine}
-use Rattle.tg_app.specs.Commands.{AllUntouched, Answers, CommandEnds, Ends, IsNoCommand, ReadsBlock, UsesNoFiles, WantsMemory}
+use Rattle.tg_app.specs.Commands.{AllUntouched, Answers, CommandEnds, Ends, IsNoCommand, ReadsBlock, UsesNoFiles}
+use Rattle.tg_app.specs.Commands.{WantsMemory}
 use Rattle.tg_app.specs.Exports.{Exported, ExportedNothing, HasAnswer, IsRisen}
 use Rattle.tg_app.specs.Imports.{Imported, IsGoodFolder, options_of}
 use Rattle.tg_app.specs.Node.{NodeEnds, NodeStatus, Noded, NodedOther}
@@ -108,7 +109,8 @@ pub record ImportRun (parts : ImportParts) (run : Run) : Type 0 where
   pub ends : EndsAs (Import parts) run
   pub imported : run.status ≡ 0 → Imported parts run.objects.files run.objects.out
   -- of a good folder, where no fault is counted and memory is found, it is 0
-  pub answered : IsGoodFolder (options_of parts) run.objects.files.folder.tree_new → (FolderRose run.objects.files.folder → ⊥)
+  pub answered : IsGoodFolder (options_of parts) run.objects.files.folder.tree_new
+      → (FolderRose run.objects.files.folder → ⊥)
       → (PackRose run.objects.files.pack → ⊥) → (OutputRose run.objects.out → ⊥) → (run.status ≡ 8) ⊎ (run.status ≡ 0)
 
 -- `verify`: at 0 the whole input is a CAR of sections that fit the query, and out grew by their text
@@ -120,7 +122,8 @@ pub record VerifyRun (q : QueryParts) (run : Run) : Type 0 where
       → (run.status ≡ 8) ⊎ (run.status ≡ 0)
   -- for every sound DAG with the query's root, whatever the input: at 0 out grew by the DAG's answer, and else by a
   -- front of it, or a received block and one of the DAG are different bytes with one SHA-256
-  pub vouched_answer : (d : Dag) → IsSound d → root_cid d ≡ q.root → Vouched q d run.objects.input run.objects.out run.status
+  pub vouched_answer : (d : Dag) → IsSound d → root_cid d ≡ q.root
+      → Vouched q d run.objects.input run.objects.out run.status
 
 -- what a run says, by the command that its words spell
 pub record Runs (run : Run) : Type 0 where

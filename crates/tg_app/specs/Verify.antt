@@ -25,7 +25,8 @@ use Rattle.tg_verify.specs.declared.fault.Refusal.TheVariants as verifiers
 
 -- a refusal that shows two CIDs, by their texts in version 1
 abbrev pub ShowsCids : (List ℕ → List ℕ → CommandFault) → CidParts → CidParts → CommandFault → Type 0
-ShowsCids of first second refusal = (a : List ℕ) × (b : List ℕ) × IsTextOf first a × IsTextOf second b × (refusal ≡ of a b)
+ShowsCids of first second refusal =
+    (a : List ℕ) × (b : List ℕ) × IsTextOf first a × IsTextOf second b × (refusal ≡ of a b)
 
 -- the refusal that tells why a CAR isn't accepted: by its kind alone, with its CIDs, numbers or segment
 abbrev pub TellsVerify : ClientFault → CommandFault → Type 0
@@ -33,12 +34,14 @@ TellsVerify (clients.Refused (verifiers.Extra sections)) refusal = refusal ≡ r
 TellsVerify (clients.Refused (verifiers.Limit kind number)) refusal = refusal ≡ refusals.Limit kind number
 TellsVerify (clients.Refused (verifiers.BadDigest cid)) refusal = ShowsCid refusals.BadDigest cid refusal
 TellsVerify (clients.Refused (verifiers.WrongBlock want got)) refusal = ShowsCids refusals.WrongBlock want got refusal
-TellsVerify (clients.Refused (verifiers.BadBlock cid fault)) refusal = ShowsCid (λ text. refusals.BadReceived text fault) cid refusal
+TellsVerify (clients.Refused (verifiers.BadBlock cid fault)) refusal =
+    ShowsCid (λ text. refusals.BadReceived text fault) cid refusal
 TellsVerify (clients.Refused (verifiers.BadSize declared actual)) refusal = refusal ≡ refusals.BadSize declared actual
 TellsVerify (clients.Refused (verifiers.NotFolder segment)) refusal = refusal ≡ refusals.NotFolder segment
 TellsVerify (clients.Refused (verifiers.NotThere segment)) refusal = refusal ≡ refusals.NotThere segment
 TellsVerify (clients.Refused verifiers.SinkFault) refusal = refusal ≡ refusals.SinkFault
-TellsVerify (clients.Refused (verifiers.Truncated want sections)) refusal = ShowsCid (λ text. refusals.Truncated text sections) want refusal
+TellsVerify (clients.Refused (verifiers.Truncated want sections)) refusal =
+    ShowsCid (λ text. refusals.Truncated text sections) want refusal
 TellsVerify (clients.Refused verifiers.OutOfMemory) refusal = refusal ≡ refusals.OutOfMemory
 TellsVerify (clients.BadCar fault) refusal = refusal ≡ refusals.BadCar
 TellsVerify clients.InputFault refusal = refusal ≡ refusals.InputFault
@@ -115,7 +118,8 @@ pub record VerifiedInput (q : QueryParts) (input : Input) (out : Output) : Type 
 
 -- the path leads nowhere in the DAG
 abbrev pub IsNoAnswer : QueryParts → Dag → Type 0
-IsNoAnswer q d = ((i : ℕ) × (lookup_path q.path d ≡ lookups.not_there i)) ⊎ ((i : ℕ) × (lookup_path q.path d ≡ lookups.not_folder i))
+IsNoAnswer q d =
+    ((i : ℕ) × (lookup_path q.path d ≡ lookups.not_there i)) ⊎ ((i : ℕ) × (lookup_path q.path d ≡ lookups.not_folder i))
 
 -- `verify` at any status, beside a sound DAG with the query's root: of the bytes that were heard these sections stand
 -- whole; what was put is the DAG's answer at status 0, and else a front of it; at status 9 its path leads nowhere; or

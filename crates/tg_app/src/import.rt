@@ -1,6 +1,7 @@
 //! `import`.
 ghost use Rattle.std.specs.Prelude.{◌≡◌, ◌++◌, IfOk, IsSome, OnErr, OnOk, Some, codes, decimal};
-ghost use Rattle.tg_app.specs.Imports.{AttachedAnswers, HasText, ImportAnswers, ImportLines, IsImportRefusal, LinesEnd, options_of, path_text, refusal_of_import};
+ghost use Rattle.tg_app.specs.Imports.{AttachedAnswers, HasText, ImportAnswers, ImportLines, IsImportRefusal, LinesEnd};
+ghost use Rattle.tg_app.specs.Imports.{options_of, path_text, refusal_of_import};
 ghost use Rattle.tg_app.specs.Lines.{end_of};
 ghost use Rattle.tg_app.specs.Objects.{Files, files_between};
 ghost use Rattle.tg_files.specs.Folders.{TellsFolder};

@@ -46,7 +46,8 @@ pub fn run<F: Folder, P: Pack, I: Source, O: Sink, E: Sink>(
 
     ensures runs { Runs (record {
       words = map string_bytes words.now;
-      objects = objects_between F.folder P.pack I.source O.sink folder.old folder.new pack.old pack.new input.old input.new out.old out.new;
+      objects = objects_between F.folder P.pack I.source O.sink
+          folder.old folder.new pack.old pack.new input.old input.new out.old out.new;
       err = into E.sink err.old err.new;
       status = result;
     }) }
@@ -69,7 +70,8 @@ fn command<F: Folder, P: Pack, I: Source, O: Sink>(
     requires { IsSome pack.old }
     ensures back { IsSome pack.new }
     ensures ends { Ends (map string_bytes words.now)
-        (objects_between F.folder P.pack I.source O.sink folder.old folder.new pack.old pack.new input.old input.new out.old out.new)
+        (objects_between F.folder P.pack I.source O.sink
+        folder.old folder.new pack.old pack.new input.old input.new out.old out.new)
         (end_of result) }
 {
     match tg_words::read(alloc, words)? {

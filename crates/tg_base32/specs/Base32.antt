@@ -1,5 +1,6 @@
 -- Base 32 encoding (RFC 4648, section 6) in lower case and without padding, as multibase `b` has it.
-use Rattle.std.specs.Prelude.{◌≡◌, ℕ, zero, suc, ◌-◌, ◌*◌, ◌/◌, ◌%◌, ◌^◌, ◌<◌, ◌≤◌, ◌⊎◌, List, [], ◌∷◌, ◌++◌, length, drop, replicate, All, Any, slice_get, Some, if◌then◌else◌, nat_lt}
+use Rattle.std.specs.Prelude.{◌≡◌, ℕ, zero, suc, ◌-◌, ◌*◌, ◌/◌, ◌%◌, ◌^◌, ◌<◌, ◌≤◌, ◌⊎◌, List, [], ◌∷◌, ◌++◌, length}
+use Rattle.std.specs.Prelude.{drop, replicate, All, Any, slice_get, Some, if◌then◌else◌, nat_lt}
 use Rattle.std.specs.List.{flat_map}
 
 -- a letter of the alphabet: `a` to `z` stand for 0 to 25, `2` to `7` for 26 to 31

@@ -1,8 +1,10 @@
 //! Base 32 in lower case and without padding (RFC 4648, section 6), the encoding of multibase `b`.
 #![tactic(auto)]
 
-ghost use Rattle.std.specs.Prelude.{◌≡◌, ℕ, ◌+◌, ◌*◌, ◌/◌, ◌<◌, ◌↔◌, List, ◌++◌, length, drop, All, Any, IfOk, IsErrOf, IsTrue, MatchOption, MatchResult};
-ghost use Rattle.tg_base32.specs.Base32.{Base32Text, IsFirstOutside, HasNoLength, HasTail, IsLetter, IsNoLength, value_of, bits, bits_of_bytes, bits_of_text};
+ghost use Rattle.std.specs.Prelude.{◌≡◌, ℕ, ◌+◌, ◌*◌, ◌/◌, ◌<◌, ◌↔◌, List, ◌++◌, length, drop, All, Any, IfOk, IsErrOf};
+ghost use Rattle.std.specs.Prelude.{IsTrue, MatchOption, MatchResult};
+ghost use Rattle.tg_base32.specs.Base32.{Base32Text, IsFirstOutside, HasNoLength, HasTail, IsLetter, IsNoLength};
+ghost use Rattle.tg_base32.specs.Base32.{value_of, bits, bits_of_bytes, bits_of_text};
 ghost use Rattle.tg_base32.specs.Held.{IsHeld, bits_of, Reads, TakesLetter, TakesByte, MovesLetter};
 ghost use Rattle.tg_base32.specs.declared.Base32Fault.{Base32Fault};
 ghost use Rattle.tg_base32.specs.declared.Base32Fault.TheVariants.{OutOfMemory};

@@ -1,5 +1,6 @@
 -- What a log of sections tells is a store, to which each further section is added.
-use Rattle.std.specs.Prelude.{◌≡◌, ◌≢◌, ◌≤◌, ◌++◌, ◌∷◌, ℕ, Bool, true, false, cond, List, [], length, map, unwrap_or, Some, None, Option, refl, ⊤}
+use Rattle.std.specs.Prelude.{◌≡◌, ◌≢◌, ◌≤◌, ◌++◌, ◌∷◌, ℕ, Bool, true, false, cond, List, [], length, map, unwrap_or}
+use Rattle.std.specs.Prelude.{Some, None, Option, refl, ⊤}
 use Rattle.tg_cid.specs.Limits.{max_block_len}
 use Rattle.std.proofs.Common.{ap, sym, subst, ◌∙◌}
 use Rattle.std.proofs.lemmas.List.{append-nil, append_assoc, map-append}
@@ -18,26 +19,31 @@ pub record IsGoodSection (section : Section) : Type 0 where
   pub small : length section.block ≤ max_block_len
 
 -- a block that is found is that of a section, or found behind it
-first_found : (P : List ℕ → Type 0) (section : Section) (test : Bool) (rest : Option (List ℕ)) (block : List ℕ) → (test ≡ true → P section.block) → (rest ≡ Some block → P block)
+first_found : (P : List ℕ → Type 0) (section : Section) (test : Bool) (rest : Option (List ℕ)) (block : List ℕ)
+    → (test ≡ true → P section.block) → (rest ≡ Some block → P block)
     → cond test (Some section.block) rest ≡ Some block → P block
 first_found P section true rest block here later e = let same : section.block ≡ block = cc in subst P same (here refl)
 first_found P section false rest block here later e = later e
 
 module _ {H : Type 0} (section_of : H → Section) (good : (held : H) → IsGoodSection (section_of held)) where
   -- a CID and its version 1 form find the same
-  twins : (held : List H) (cid : CidParts) → first_block (map section_of held) cid ≡ first_block (map section_of held) (as_v1 cid)
+  twins : (held : List H) (cid : CidParts)
+      → first_block (map section_of held) cid ≡ first_block (map section_of held) (as_v1 cid)
   twins [] cid = refl
-  twins (h ∷ held) cid = ap (λ (o : Option (List ℕ)). cond (same_v1 cid (section_of h).cid) (Some (section_of h).block) o) (twins held cid)
+  twins (h ∷ held) cid =
+      ap (λ (o : Option (List ℕ)). cond (same_v1 cid (section_of h).cid) (Some (section_of h).block) o) (twins held cid)
 
   -- a found block is named by the CID
-  named : (held : List H) (cid : CidParts) (block : List ℕ) → first_block (map section_of held) cid ≡ Some block → Names cid block
+  named : (held : List H) (cid : CidParts) (block : List ℕ) → first_block (map section_of held) cid ≡ Some block
+      → Names cid block
   named [] cid block e = absurd (cc)
   named (h ∷ held) cid block e =
       first_found (λ block. Names cid block) (section_of h) (same_v1 cid (section_of h).cid) (first_block (map section_of held) cid) block
       (λ same. named_too cid (section_of h).cid (section_of h).block (same_v1_is cid (section_of h).cid same) (good h).named) (named held cid block) e
 
   -- and no larger than a block may be
-  small : (held : List H) (cid : CidParts) (block : List ℕ) → first_block (map section_of held) cid ≡ Some block → length block ≤ max_block_len
+  small : (held : List H) (cid : CidParts) (block : List ℕ) → first_block (map section_of held) cid ≡ Some block
+      → length block ≤ max_block_len
   small [] cid block e = absurd (cc)
   small (h ∷ held) cid block e =
       first_found (λ block. length block ≤ max_block_len) (section_of h) (same_v1 cid (section_of h).cid) (first_block (map section_of held) cid) block
@@ -50,7 +56,8 @@ module _ {H : Type 0} (section_of : H → Section) (good : (held : H) → IsGood
 -- ---- a further section
 
 -- what is found among sections and behind them
-pub found_behind : (test : Bool) (block more : List ℕ) (rest : Option (List ℕ)) → cond test (Some block) (Some (unwrap_or rest more)) ≡ Some (unwrap_or (cond test (Some block) rest) more)
+pub found_behind : (test : Bool) (block more : List ℕ) (rest : Option (List ℕ))
+    → cond test (Some block) (Some (unwrap_or rest more)) ≡ Some (unwrap_or (cond test (Some block) rest) more)
 found_behind true block more rest = refl
 found_behind false block more rest = refl
 
@@ -71,7 +78,8 @@ not_passed false block h = refl
 -- under another CID it changes nothing
 added_elsewhere : (sections : List Section) (cid other : CidParts) (block : List ℕ) → as_v1 other ≢ as_v1 cid
     → first_block (sections ++ section_v1 (record { cid = cid; block = block }) ∷ []) other ≡ first_block sections other
-added_elsewhere [] cid other block ne = not_passed (same_v1 other (as_v1 cid)) block (λ same. ne (same_v1_is other (as_v1 cid) same))
+added_elsewhere [] cid other block ne =
+    not_passed (same_v1 other (as_v1 cid)) block (λ same. ne (same_v1_is other (as_v1 cid) same))
 added_elsewhere (section ∷ sections) cid other block ne =
     ap (λ (o : Option (List ℕ)). cond (same_v1 other section.cid) (Some section.block) o) (added_elsewhere sections cid other block ne)
 
@@ -91,7 +99,8 @@ pub searched_logs : (m n : ℕ) (old new : List Section) → Searched m n old ne
 searched_logs m n old new h = record { number = h.number; more = h.same ∙ sym (append-nil old) }
 
 -- one step after another
-pub logged_joins : (k m n : ℕ) (a b c u v : List Section) → Logged k m a b u → Logged m n b c v → Logged k n a c (u ++ v)
+pub logged_joins : (k m n : ℕ) (a b c u v : List Section) → Logged k m a b u → Logged m n b c v
+    → Logged k n a c (u ++ v)
 logged_joins k m n a b c u v h g = record {
   number = g.number ∙ h.number;
   more = g.more ∙ ap (λ (sections : List Section). sections ++ map section_v1 v) h.more ∙ append_assoc a (map section_v1 u) (map section_v1 v)
@@ -102,6 +111,7 @@ pub searched_joins : (k m n : ℕ) (a b c : List Section) → Searched k m a b �
 searched_joins k m n a b c h g = record { number = g.number ∙ h.number; same = g.same ∙ h.same }
 
 -- a found block is named by the CID and no larger than a block may be
-pub found_named : (store : Store) (cid : CidParts) (found : Option (List ℕ)) → IsStore store → found ≡ store cid → IsNamedBlock cid found
+pub found_named : (store : Store) (cid : CidParts) (found : Option (List ℕ)) → IsStore store → found ≡ store cid
+    → IsNamedBlock cid found
 found_named store cid None is e = tt
 found_named store cid (Some block) is e = (is.named cid block (sym e), is.small cid block (sym e))

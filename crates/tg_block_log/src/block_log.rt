@@ -48,7 +48,8 @@ impl Blocks for BlockLog {
 
     ghost rests = { λ s. record { number = refl; same = refl } };
 
-    ghost joins = { λ a b c u v. searched_joins a.number b.number c.number (map section_of a.blocks) (map section_of b.blocks) (map section_of c.blocks) };
+    ghost joins = { λ a b c u v. searched_joins a.number b.number c.number
+        (map section_of a.blocks) (map section_of b.blocks) (map section_of c.blocks) };
 
     /// A copy of the first block under the CID. It fails for want of memory alone.
     fn get(&mut self, cid: &Cid) -> Result<Option<Bytes>, BlocksFault> {
@@ -71,7 +72,8 @@ impl Keep for BlockLog {
 
     ghost rests = { λ s. logged_rests s.number (map section_of s.blocks) };
 
-    ghost joins = { λ a b c u v. logged_joins a.number b.number c.number (map section_of a.blocks) (map section_of b.blocks) (map section_of c.blocks) u v };
+    ghost joins = { λ a b c u v. logged_joins a.number b.number c.number
+        (map section_of a.blocks) (map section_of b.blocks) (map section_of c.blocks) u v };
 
     /// It fails for want of memory alone.
     fn keep(&mut self, cid: Cid, block: &[u8]) -> Result<(), KeepFault> {

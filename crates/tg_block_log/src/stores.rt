@@ -1,5 +1,6 @@
 //! What generic code knows of any store that keeps blocks, and what a concrete store still knows behind it.
-ghost use Rattle.std.specs.Prelude.{◌≡◌, ◌≤◌, ◌++◌, ◌∷◌, [], length, map, Option, Some, None, IfOk, IfSome, OnOk, OnErr, unwrap_or, refl, List, ◌⊎◌};
+ghost use Rattle.std.specs.Prelude.{◌≡◌, ◌≤◌, ◌++◌, ◌∷◌, [], length, map, Option, Some, None, IfOk, IfSome, OnOk};
+ghost use Rattle.std.specs.Prelude.{OnErr, unwrap_or, refl, List, ◌⊎◌};
 ghost use Rattle.tg_cid.specs.Cid.{CidParts};
 ghost use Rattle.tg_cid.specs.Limits.{max_block_len};
 ghost use Rattle.tg_cid.specs.Names.{Names};
@@ -22,7 +23,8 @@ trait KeptBlocks: Blocks + Keep {
 
     ghost one_count: { (s : Self) → Self.Keep.keeper.faults s ≡ Self.Blocks.blocks.faults s };
 
-    ghost looks: { (a b : Self) (cids : List CidParts) → Self.Blocks.blocks.looked a b cids → Self.Keep.keeper.kept a b [] };
+    ghost looks: { (a b : Self) (cids : List CidParts) → Self.Blocks.blocks.looked a b cids
+        → Self.Keep.keeper.kept a b [] };
 }
 
 impl KeptBlocks for BlockLog {

@@ -99,7 +99,8 @@ pub record InTrailer (bytes : List ℕ) : Type 0 where
 
 -- what came last, behind whole chunks, and the bytes of a chunk that are in it
 abbrev pub InChunk : List ℕ → List ℕ → Type 0
-InChunk part bytes = ((part ≡ []) × IsOpenLine bytes) ⊎ (InData part bytes ⊎ (InDataEnd part bytes ⊎ ((part ≡ []) × InTrailer bytes)))
+InChunk part bytes =
+    ((part ≡ []) × IsOpenLine bytes) ⊎ (InData part bytes ⊎ (InDataEnd part bytes ⊎ ((part ≡ []) × InTrailer bytes)))
 
 -- chunks, and a front of what goes on; this body came in them
 pub record ChunkedFront (body bytes : List ℕ) : Type 0 where

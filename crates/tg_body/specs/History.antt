@@ -1,5 +1,6 @@
 -- What a reader of a body stands for: what it was fed and what it gave.
-use Rattle.std.specs.Prelude.{◌≡◌, ◌≢◌, ℕ, ◌<◌, ◌≤◌, ◌⊎◌, ⊤, Bool, true, false, Option, Some, None, List, [], ◌∷◌, ◌++◌, length, take, slice_range, All, Result, Ok, Err}
+use Rattle.std.specs.Prelude.{◌≡◌, ◌≢◌, ℕ, ◌<◌, ◌≤◌, ◌⊎◌, ⊤, Bool, true, false, Option, Some, None, List, [], ◌∷◌, ◌++◌}
+use Rattle.std.specs.Prelude.{length, take, slice_range, All, Result, Ok, Err}
 use Rattle.tg_bytes.specs.Lists.{joined}
 use Rattle.tg_http.specs.declared.fault.HttpFault.{HttpFault}
 use Rattle.tg_http.specs.declared.fault.HttpFault.TheVariants as faults
@@ -8,7 +9,8 @@ use Rattle.tg_http.specs.declared.framing.Framing.TheVariants as framings
 use Rattle.tg_body.specs.declared.body.Body.{Body}
 use Rattle.tg_body.specs.declared.body.Body.TheVariants as events
 use Rattle.tg_http.specs.HeadText.{IsLine, IsEmptyLine, IsFullLine}
-use Rattle.tg_body.specs.Bodies.{SizeLine, ChunksText, TrailerText, IsOpenLine, InTrailer, ChunkedFront, BodyText, BodyFront}
+use Rattle.tg_body.specs.Bodies.{SizeLine, ChunksText, TrailerText, IsOpenLine, InTrailer, ChunkedFront, BodyText}
+use Rattle.tg_body.specs.Bodies.{BodyFront}
 
 -- how a reader stopped: `feed` refused this piece, or `end` refused
 pub data Stop : Type 0 where
@@ -29,7 +31,8 @@ nothing = record { fed = []; given = []; ended = false; stop = None }
 -- the history with what was taken of a piece and given for it
 abbrev pub with_body : History → List ℕ → ℕ → Body → History
 with_body h piece taken events.Need = record h { fed = h.fed ++ take taken piece }
-with_body h piece taken (events.Part start end) = record h { fed = h.fed ++ take taken piece; given = h.given ++ slice_range piece start end }
+with_body h piece taken (events.Part start end) =
+    record h { fed = h.fed ++ take taken piece; given = h.given ++ slice_range piece start end }
 with_body h piece taken events.End = record h { fed = h.fed ++ take taken piece; ended = true }
 
 -- the history with a refusal; the calls after the first one add nothing
@@ -115,7 +118,8 @@ pub record WantsMemory (fed given piece : List ℕ) : Type 0 where
 
 -- the cause of each refusal of `feed`
 abbrev pub HasFeedCause : Framing → List ℕ → List ℕ → List ℕ → HttpFault → Type 0
-HasFeedCause framing fed given piece faults.BadFraming = (framing ≡ framings.Broken) ⊎ ((framing ≡ framings.Chunked) × StopsAtByte fed given piece)
+HasFeedCause framing fed given piece faults.BadFraming =
+    (framing ≡ framings.Broken) ⊎ ((framing ≡ framings.Chunked) × StopsAtByte fed given piece)
 HasFeedCause framing fed given piece faults.OutOfMemory = (framing ≡ framings.Chunked) × WantsMemory fed given piece
 HasFeedCause framing fed given piece faults.BadHead = ⊥
 HasFeedCause framing fed given piece faults.HeadLimit = ⊥

@@ -1,5 +1,6 @@
 -- What a reader of a body holds, and the histories that it stands for.
-use Rattle.std.specs.Prelude.{◌≡◌, ◌≢◌, ℕ, ◌+◌, ◌<◌, ⊤, Bool, true, false, None, List, [], ◌∷◌, ◌++◌, length, All, option_map}
+use Rattle.std.specs.Prelude.{◌≡◌, ◌≢◌, ℕ, ◌+◌, ◌<◌, ⊤, Bool, true, false, None, List, [], ◌∷◌, ◌++◌, length, All}
+use Rattle.std.specs.Prelude.{option_map}
 use Rattle.tg_bytes.specs.Lists.{joined}
 use Rattle.tg_http.specs.declared.fault.HttpFault.{HttpFault}
 use Rattle.tg_http.specs.declared.framing.Framing.{Framing}
@@ -25,7 +26,8 @@ abbrev pub Holds : Framing → Stage → List ℕ → List ℕ → List ℕ → 
 Holds framing (stages.Length left) came body bytes =
     (came ≡ []) × (body ≡ bytes) × (framing ≡ framings.Length (length bytes + left))
 Holds framing stages.UntilClose came body bytes = (came ≡ []) × (body ≡ bytes) × (framing ≡ framings.UntilClose)
-Holds framing stages.Line came body bytes = (framing ≡ framings.Chunked) × BehindChunks body bytes [] came × IsOpenLine came
+Holds framing stages.Line came body bytes =
+    (framing ≡ framings.Chunked) × BehindChunks body bytes [] came × IsOpenLine came
 Holds framing (stages.Data left) came body bytes =
     (framing ≡ framings.Chunked) × (came ≡ [])
     × (line : List ℕ) × (part : List ℕ) × BehindChunks body bytes part (line ++ part) × SizeLine (length part + left) line

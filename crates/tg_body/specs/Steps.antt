@@ -1,5 +1,6 @@
 -- What one step of a reader of a body takes, gives and refuses.
-use Rattle.std.specs.Prelude.{◌≡◌, ◌≢◌, ℕ, ◌+◌, ◌-◌, ◌<◌, ◌≤◌, ◌⊎◌, ⊤, Bool, true, false, List, [], ◌++◌, length, take, slice_range, All}
+use Rattle.std.specs.Prelude.{◌≡◌, ◌≢◌, ℕ, ◌+◌, ◌-◌, ◌<◌, ◌≤◌, ◌⊎◌, ⊤, Bool, true, false, List, [], ◌++◌, length, take}
+use Rattle.std.specs.Prelude.{slice_range, All}
 use Rattle.tg_http.specs.declared.fault.HttpFault.{HttpFault}
 use Rattle.tg_body.specs.declared.stage.Step.{Step}
 use Rattle.tg_body.specs.declared.stage.Step.TheVariants as steps
@@ -47,7 +48,8 @@ pub record Stops (old new : BodyReader) (piece : List ℕ) (fault : HttpFault) :
   pub refused : new.refused ≡ old.refused
   pub goes_on : is_done old.stage ≡ false
   pub left : HasNothingLeft old.stage → ⊥
-  pub cause : (body bytes : List ℕ) → Holds old.framing old.stage old.came body bytes → HasFeedCause old.framing bytes body piece fault
+  pub cause : (body bytes : List ℕ) → Holds old.framing old.stage old.came body bytes
+      → HasFeedCause old.framing bytes body piece fault
 
 abbrev pub body_ends : Body → Bool
 body_ends bodies.Need = false

@@ -1,5 +1,6 @@
 //! Chunk lines and trailers.
-ghost use Rattle.std.specs.Prelude.{◌≡◌, ℕ, ◌<◌, ◌≤◌, ◌⊎◌, ◌↔◌, List, ◌++◌, length, All, IsTrue, MatchOption, MatchResult};
+ghost use Rattle.std.specs.Prelude.{◌≡◌, ℕ, ◌<◌, ◌≤◌, ◌⊎◌, ◌↔◌, List, ◌++◌, length, All, IsTrue, MatchOption};
+ghost use Rattle.std.specs.Prelude.{MatchResult};
 ghost use Rattle.httparse.specs.Grammar.{LineEnd, print_end};
 ghost use Rattle.tg_bytes.specs.Lists.{joined};
 ghost use Rattle.tg_http.specs.HeadText.{IsLine, IsFullLine};

@@ -16,7 +16,8 @@ digits_decide [] = (λ t. tt, λ t. refl)
 digits_decide (b ∷ text) = Decides-and _ _ (Decides-ltb (digit_value b) 10) (digits_decide text)
 
 -- what holds of each digit holds of each byte of digits
-pub digits_all : (P : ℕ → Type 0) → ((b : ℕ) → digit_value b < 10 → P b) → (text : List ℕ) → AllDigits 10 text → All P text
+pub digits_all : (P : ℕ → Type 0) → ((b : ℕ) → digit_value b < 10 → P b) → (text : List ℕ) → AllDigits 10 text
+    → All P text
 digits_all P each [] all = All-nil P
 digits_all P each (b ∷ text) all = All-cons P b text (each b all.0) (digits_all P each text all.1)
 

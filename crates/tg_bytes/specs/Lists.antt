@@ -1,5 +1,6 @@
 -- Lists of bytes and of lists: what two of them have in common, and what stands where.
-use Rattle.std.proofs.Common.{◌≡◌, ◌≢◌, ℕ, ◌+◌, ◌-◌, ◌<◌, ◌≤◌, Bool, true, false, List, [], ◌∷◌, ◌++◌, length, take, drop, get_or, refl, sym, ap, ap₂, ◌∙◌, append_assoc, arith}
+use Rattle.std.proofs.Common.{◌≡◌, ◌≢◌, ℕ, ◌+◌, ◌-◌, ◌<◌, ◌≤◌, Bool, true, false, List, [], ◌∷◌, ◌++◌, length, take}
+use Rattle.std.proofs.Common.{drop, get_or, refl, sym, ap, ap₂, ◌∙◌, append_assoc, arith}
 use Rattle.std.specs.Prelude.{All, Contains, bytes_eq, slice_range, ◌||◌}
 use Rattle.std.specs.List.{flat_map}
 use Rattle.std.specs.List.Sorted.{IsNonDecreasing}
@@ -56,13 +57,15 @@ other_bytes a b differ = go (bytes_eq a b) refl
 -- ---- what stands where
 
 -- what stands between two others
-pub between : (a b c : List ℕ) (start end : ℕ) → start ≡ length a → end ≡ start + length b → slice_range (a ++ (b ++ c)) start end ≡ b
+pub between : (a b c : List ℕ) (start end : ℕ) → start ≡ length a → end ≡ start + length b
+    → slice_range (a ++ (b ++ c)) start end ≡ b
 between a b c start end s e =
     let size : length b ≡ end - start = omega arith in
     ap (take (end - start)) (drop_at a (b ++ c) start (sym s)) ∙ take_at b c (end - start) size
 
 -- a list from an index on begins with the value there
-pub drop_from : {X : Type 0} (xs : List X) (i : ℕ) (x : X) → x ≡ get_or xs i x → i < length xs → drop i xs ≡ x ∷ drop (i + 1) xs
+pub drop_from : {X : Type 0} (xs : List X) (i : ℕ) (x : X) → x ≡ get_or xs i x → i < length xs
+    → drop i xs ≡ x ∷ drop (i + 1) xs
 drop_from xs i x is within = drop_more xs i x within ∙ ap (λ y. y ∷ drop (i + 1) xs) (sym is)
 
 -- what follows a list of two parts follows the second
@@ -92,7 +95,8 @@ joined_push lists list =
     flat_map-append (λ (l : List ℕ). l) lists (list ∷ []) ∙ ap (λ (s : List ℕ). joined lists ++ s) (append-nil list)
 
 -- numbers that don't fall, and one more that is at least the last
-pub rises : (numbers : List ℕ) (n : ℕ) → IsNonDecreasing numbers → (0 < length numbers → get_or numbers (length numbers - 1) 0 ≤ n)
+pub rises : (numbers : List ℕ) (n : ℕ) → IsNonDecreasing numbers
+    → (0 < length numbers → get_or numbers (length numbers - 1) 0 ≤ n)
     → IsNonDecreasing (numbers ++ n ∷ [])
 rises numbers n is last = IsNonDecreasingBy-push (λ (x : ℕ). x) numbers n is (λ d p.
     let e : get_or numbers (length numbers - 1) d ≡ get_or numbers (length numbers - 1) 0 = get_or_default numbers (length numbers - 1) d 0 (omega arith) in

@@ -1,12 +1,14 @@
 -- What is told of bytes that are taken or put one after another.
-use Rattle.std.proofs.Common.{◌≡◌, ℕ, ◌+◌, ◌≤◌, Option, Some, None, List, [], ◌++◌, length, take, refl, sym, ap, ◌∙◌, append_assoc, append-nil, length-append, arith}
+use Rattle.std.proofs.Common.{◌≡◌, ℕ, ◌+◌, ◌≤◌, Option, Some, None, List, [], ◌++◌, length, take, refl, sym, ap, ◌∙◌}
+use Rattle.std.proofs.Common.{append_assoc, append-nil, length-append, arith}
 use Rattle.std.proofs.lemmas.List.{length-take-le, take-take}
 use Rattle.std.proofs.lemmas.Slice.{take-put_mid}
 use Rattle.std.proofs.Math.Seq.{take-append-add}
 use borrow.Rule.Slice.PartMut.{put_mid, post_of}
 use Rattle.tg_bytes.specs.Told.{after_front, grown}
 
-pub after_front-after_front : (u v : List ℕ) (rest : Option (List ℕ)) → after_front u (after_front v rest) ≡ after_front (u ++ v) rest
+pub after_front-after_front : (u v : List ℕ) (rest : Option (List ℕ))
+    → after_front u (after_front v rest) ≡ after_front (u ++ v) rest
 after_front-after_front u v None = refl
 after_front-after_front u v (Some xs) = ap (λ ys. Some ys) (sym (append_assoc u v xs))
 
@@ -35,7 +37,8 @@ front_more at size n old mid h k =
     sym fewer ∙ ap (take (at + n)) all ∙ ap (λ m. take (m + n) (take at old ++ mid)) (sym size_is) ∙ split
 
 -- they fit into the whole
-pub front_fits : (at size n : ℕ) (old mid : List ℕ) → at ≤ length old → n ≤ length mid → at + n ≤ length (put_mid at size old mid)
+pub front_fits : (at size n : ℕ) (old mid : List ℕ) → at ≤ length old → n ≤ length mid
+    → at + n ≤ length (put_mid at size old mid)
 front_fits at size n old mid h k =
     let outer = length-append (take at old) (mid ++ post_of at size old) in
     let inner = length-append mid (post_of at size old) in

@@ -62,7 +62,8 @@ pub record WantsBlock (limit : ℕ) (bytes : List ℕ) : Type 0 where
 
 -- memory is taken for the bytes of a header that come with a piece, and for a block once its length and CID are whole
 abbrev pub TakesMemory : ℕ → List ℕ → Type 0
-TakesMemory limit bytes = IsInHeader bytes ⊎ (((roots : List (List ℕ)) × HeaderText roots bytes) ⊎ WantsBlock limit bytes)
+TakesMemory limit bytes =
+    IsInHeader bytes ⊎ (((roots : List (List ℕ)) × HeaderText roots bytes) ⊎ WantsBlock limit bytes)
 
 -- the bytes end inside the header, or inside the section that begins at `at`
 pub record EndsInSection (limit : ℕ) (bytes : List ℕ) (at : ℕ) : Type 0 where
@@ -77,7 +78,8 @@ pub record EndsInSection (limit : ℕ) (bytes : List ℕ) (at : ℕ) : Type 0 wh
 abbrev pub Brings : ℕ → List ℕ → CarFault → Type 0
 Brings limit bytes (faults.BadHeader at) = (at ≡ 0) × BreaksHeader bytes
 Brings limit bytes (faults.BadSection at) = (place : ℕ) × (at ≡ shown place) × BreaksSection limit bytes place
-Brings limit bytes (faults.BlockLimit at number) = (number ≡ limit) × (place : ℕ) × (at ≡ shown place) × PassesLimit limit bytes place
+Brings limit bytes (faults.BlockLimit at number) =
+    (number ≡ limit) × (place : ℕ) × (at ≡ shown place) × PassesLimit limit bytes place
 Brings limit bytes (faults.Torn at) = ⊥
 Brings limit bytes faults.OutOfMemory = TakesMemory limit bytes
 
@@ -87,7 +89,8 @@ HasCarCause limit bytes fault = (fault ≢ faults.OutOfMemory) × (front : List 
 
 -- the cause of each refusal of the end
 abbrev pub HasEndCause : ℕ → List ℕ → CarFault → Type 0
-HasEndCause limit bytes (faults.Torn at) = ((at ≡ 0) × IsInHeader bytes) ⊎ ((place : ℕ) × (at ≡ shown place) × EndsInSection limit bytes place)
+HasEndCause limit bytes (faults.Torn at) =
+    ((at ≡ 0) × IsInHeader bytes) ⊎ ((place : ℕ) × (at ≡ shown place) × EndsInSection limit bytes place)
 HasEndCause limit bytes (faults.BadHeader at) = ⊥
 HasEndCause limit bytes (faults.BadSection at) = ⊥
 HasEndCause limit bytes (faults.BlockLimit at number) = ⊥

@@ -1,5 +1,6 @@
 -- How the bytes of a section come: its length and CID, and then its block.
-use Rattle.std.specs.Prelude.{◌≡◌, ℕ, ◌+◌, ◌<◌, ◌≤◌, Option, Some, None, List, [], ◌∷◌, ◌++◌, length, take, vec_capacity, All}
+use Rattle.std.specs.Prelude.{◌≡◌, ℕ, ◌+◌, ◌<◌, ◌≤◌, Option, Some, None, List, [], ◌∷◌, ◌++◌, length, take}
+use Rattle.std.specs.Prelude.{vec_capacity, All}
 use Rattle.tg_car.specs.declared.section.Section.{Section}
 use Rattle.tg_car.specs.declared.head.Declared.{Declared}
 use Rattle.tg_car.specs.declared.head.Front.{Front}
@@ -36,7 +37,8 @@ Fills old new piece taken fronts.Broken = BreaksHead old piece
 -- bytes of a section's length and CID came, or these and fewer bytes than those of its block
 abbrev pub IsPartOf : Option Declared → Part → Type 0
 IsPartOf None part = IsInHead part.head × (part.block.items ≡ [])
-IsPartOf (Some declared) part = HeadText declared.cid declared.number part.head × (length part.block.items < declared.number)
+IsPartOf (Some declared) part =
+    HeadText declared.cid declared.number part.head × (length part.block.items < declared.number)
     × All (λ b. b < 256) part.block.items × (declared.number ≤ vec_capacity part.block)
 
 abbrev pub IsPart : Part → Type 0
@@ -48,7 +50,8 @@ came_of part = part.head ++ part.block.items
 
 -- the piece was taken into the length and the CID, or so many of its bytes, which made them whole
 abbrev pub TakesHead : ℕ → Part → Part → List ℕ → ℕ → Option Declared → Type 0
-TakesHead limit old new piece taken None = Fills old.head new.head piece taken fronts.Open × IsPart new × (new.block.items ≡ [])
+TakesHead limit old new piece taken None =
+    Fills old.head new.head piece taken fronts.Open × IsPart new × (new.block.items ≡ [])
 TakesHead limit old new piece taken (Some declared) =
     Fills old.head new.head piece taken (fronts.Whole declared) × (declared.number ≤ limit) × (new.block.items ≡ [])
     × (declared.number ≤ vec_capacity new.block)
@@ -80,5 +83,7 @@ pub record Completes (head piece : List ℕ) (declared : Declared) : Type 0 wher
 -- why a section doesn't go on
 abbrev pub StopsPart : ℕ → List ℕ → List ℕ → PartFault → Type 0
 StopsPart limit old piece faults.Bad = BreaksHead old piece
-StopsPart limit old piece faults.AboveLimit = (declared : Declared) × Completes old piece declared × (limit < declared.number)
-StopsPart limit old piece faults.OutOfMemory = (declared : Declared) × Completes old piece declared × (declared.number ≤ limit) × (0 < declared.number)
+StopsPart limit old piece faults.AboveLimit =
+    (declared : Declared) × Completes old piece declared × (limit < declared.number)
+StopsPart limit old piece faults.OutOfMemory =
+    (declared : Declared) × Completes old piece declared × (declared.number ≤ limit) × (0 < declared.number)

@@ -8,7 +8,8 @@ use Rattle.tg_car.specs.CarText.{HeaderText, SectionText, SectionsText, CarText}
 
 -- some CAR begins with these bytes
 abbrev pub IsCarFront : List ℕ → Type 0
-IsCarFront bytes = (roots : List (List ℕ)) × (sections : List Section) × (more : List ℕ) × CarText roots sections (bytes ++ more)
+IsCarFront bytes =
+    (roots : List (List ℕ)) × (sections : List Section) × (more : List ℕ) × CarText roots sections (bytes ++ more)
 
 -- some header begins with these bytes, and more are to come
 pub record IsInHeader (bytes : List ℕ) : Type 0 where

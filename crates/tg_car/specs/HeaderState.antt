@@ -1,5 +1,6 @@
 -- What of a header is to come in each state of the machine that looks at its bytes.
-use Rattle.std.specs.Prelude.{◌≡◌, ◌≢◌, ◌↔◌, ℕ, ◌+◌, ◌*◌, ◌<◌, ◌≤◌, Option, Some, None, List, [], ◌∷◌, ◌++◌, length, drop, All, codes}
+use Rattle.std.specs.Prelude.{◌≡◌, ◌≢◌, ◌↔◌, ℕ, ◌+◌, ◌*◌, ◌<◌, ◌≤◌, Option, Some, None, List, [], ◌∷◌, ◌++◌, length}
+use Rattle.std.specs.Prelude.{drop, All, codes}
 use Rattle.std.specs.List.{flat_map}
 use Rattle.tg_car.specs.CarText.{IsRoot, root_text, array_head, header_map, HeaderText}
 use Rattle.tg_car.specs.declared.header_state.Roots.{Roots}
@@ -57,7 +58,8 @@ Follows (states.Root roots) rest = RootsThen roots.count roots.bytes rest
 Follows (states.Tag roots) rest = RootsThen roots.count roots.bytes (0xd8 ∷ rest)
 Follows (states.StringHead roots) rest = RootsThen roots.count roots.bytes (0xd8 ∷ 0x2a ∷ rest)
 Follows (states.StringSize roots) rest = RootsThen roots.count roots.bytes (0xd8 ∷ 0x2a ∷ 0x58 ∷ rest)
-Follows (states.Zero size roots) rest = (more : List ℕ) × (rest ≡ 0 ∷ more) × (left : ℕ) × (size ≡ left + 1) × BytesThen left roots more
+Follows (states.Zero size roots) rest =
+    (more : List ℕ) × (rest ≡ 0 ∷ more) × (left : ℕ) × (size ≡ left + 1) × BytesThen left roots more
 Follows (states.Bytes left roots) rest = BytesThen left roots rest
 Follows (states.Back at) rest = rest ≡ drop at map_back
 
@@ -71,7 +73,8 @@ IsLive (states.ArrayCount size) = (138 ≤ size) × (size ≤ 13074)
 IsLive (states.Root roots) = CanBe roots.count roots.bytes
 IsLive (states.Tag roots) = (0 < roots.count) × CanBe roots.count roots.bytes
 IsLive (states.StringHead roots) = (0 < roots.count) × CanBe roots.count roots.bytes
-IsLive (states.StringSize roots) = (0 < roots.count) × CanBe roots.count roots.bytes × (5 * roots.count + 23 ≤ roots.bytes)
+IsLive (states.StringSize roots) =
+    (0 < roots.count) × CanBe roots.count roots.bytes × (5 * roots.count + 23 ≤ roots.bytes)
 IsLive (states.Zero size roots) = (2 ≤ size) × (size ≤ 200) × CanBe roots.count roots.bytes
 IsLive (states.Bytes left roots) = (1 ≤ left) × CanBe roots.count roots.bytes
 IsLive (states.Back at) = at ≤ 9
@@ -84,4 +87,5 @@ pub record FollowsHeader (state : HeaderState) (bytes : List ℕ) : Type 0 where
 -- behind one more byte a state goes on as the next one, or nothing may follow
 abbrev pub GoesOn : HeaderState → ℕ → Option HeaderState → Type 0
 GoesOn state byte None = IsLive state → (rest : List ℕ) → Follows state (byte ∷ rest) → ⊥
-GoesOn state byte (Some next) = IsLive state → IsLive next × ((rest : List ℕ) → Follows state (byte ∷ rest) ↔ Follows next rest)
+GoesOn state byte (Some next) =
+    IsLive state → IsLive next × ((rest : List ℕ) → Follows state (byte ∷ rest) ↔ Follows next rest)

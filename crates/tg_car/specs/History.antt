@@ -1,5 +1,6 @@
 -- What a reader of a CAR stands for: what it was fed and what it gave.
-use Rattle.std.specs.Prelude.{◌≡◌, ℕ, ◌+◌, ◌⊎◌, ⊤, Option, Some, None, List, [], ◌∷◌, ◌++◌, length, take, Result, Ok, Err}
+use Rattle.std.specs.Prelude.{◌≡◌, ℕ, ◌+◌, ◌⊎◌, ⊤, Option, Some, None, List, [], ◌∷◌, ◌++◌, length, take, Result, Ok}
+use Rattle.std.specs.Prelude.{Err}
 use Rattle.tg_car.specs.declared.section.Section.{Section}
 use Rattle.tg_car.specs.declared.fault.CarFault.{CarFault}
 use Rattle.tg_car.specs.declared.fault.CarFault.TheVariants.{OutOfMemory}
@@ -37,7 +38,8 @@ stopped h stop (Some before) = h
 
 -- the history with one call of `feed` added: what was taken of the piece and given for it, or the piece and its refusal
 abbrev pub with_feed : History → List ℕ → Result (ℕ × Event) CarFault → History
-with_feed h piece (Ok found) = record { fed = h.fed ++ take found.0 piece; given = h.given ++ given_by found.1; stop = h.stop }
+with_feed h piece (Ok found) =
+    record { fed = h.fed ++ take found.0 piece; given = h.given ++ given_by found.1; stop = h.stop }
 with_feed h piece (Err fault) = stopped h (at_piece piece fault) h.stop
 
 -- the history with one call of `end` added

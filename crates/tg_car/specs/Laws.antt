@@ -9,10 +9,12 @@ use Rattle.tg_car.specs.History.{History, at_piece, IsExact}
 
 pub record CarLaws : Type 0 where
   -- no header begins another, a header is of one list of roots, and a list of roots has one header
-  pub one_header : (a b : List (List ℕ)) (u v x y : List ℕ) → HeaderText a u → HeaderText b v → u ++ x ≡ v ++ y → (u ≡ v) × (a ≡ b)
+  pub one_header : (a b : List (List ℕ)) (u v x y : List ℕ) → HeaderText a u → HeaderText b v → u ++ x ≡ v ++ y
+      → (u ≡ v) × (a ≡ b)
   pub header_text : (roots : List (List ℕ)) (u v : List ℕ) → HeaderText roots u → HeaderText roots v → u ≡ v
   -- no section begins another, the bytes of a section are of one section, and a section has one text
-  pub one_section : (a b : Section) (u v x y : List ℕ) → SectionText a u → SectionText b v → u ++ x ≡ v ++ y → (u ≡ v) × (a ≡ b)
+  pub one_section : (a b : Section) (u v x y : List ℕ) → SectionText a u → SectionText b v → u ++ x ≡ v ++ y
+      → (u ≡ v) × (a ≡ b)
   pub section_text : (section : Section) (u v : List ℕ) → SectionText section u → SectionText section v → u ≡ v
   -- a reader missed no refusal: no cause of one holds of the bytes that it took
   pub none_missed : (limit : ℕ) (h : History) (fault : CarFault) → IsExact limit h → HasCarCause limit h.fed fault → ⊥

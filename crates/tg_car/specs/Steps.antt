@@ -47,4 +47,5 @@ pub record Steps (old new : ReaderState) (piece : List ℕ) (taken : ℕ) (event
 -- the piece is refused with this fault
 pub record Stops (old new : ReaderState) (piece : List ℕ) (fault : CarFault) : Type 0 where
   pub limit : new.limit ≡ old.limit
-  pub stops : (fed : List ℕ) (given : List Event) → Holds old.in_header old fed given → StopsAt old.limit fed given piece fault
+  pub stops : (fed : List ℕ) (given : List Event) → Holds old.in_header old fed given
+      → StopsAt old.limit fed given piece fault

@@ -1,5 +1,6 @@
 //! The header of a CAR, looked at byte by byte: it is refused at the first byte after which no header goes on.
-ghost use Rattle.std.specs.Prelude.{◌≡◌, ℕ, ◌+◌, ◌-◌, ◌≤◌, ◌<◌, ◌↔◌, List, [], ◌∷◌, ◌++◌, IsTrue, MatchBool, MatchOption};
+ghost use Rattle.std.specs.Prelude.{◌≡◌, ℕ, ◌+◌, ◌-◌, ◌≤◌, ◌<◌, ◌↔◌, List, [], ◌∷◌, ◌++◌, IsTrue, MatchBool};
+ghost use Rattle.std.specs.Prelude.{MatchOption};
 ghost use Rattle.tg_car.specs.CarText.{HeaderText};
 ghost use Rattle.tg_car.specs.Fronts.{IsInHeader};
 ghost use Rattle.tg_car.specs.HeaderState.{FollowsHeader, GoesOn, CanBe, IsMapSize};

@@ -1,5 +1,6 @@
 //! The section at hand: what of it came.
-ghost use Rattle.std.specs.Prelude.{◌≡◌, ◌↔◌, ◌<◌, ◌≤◌, [], length, Option, Some, None, IsTrue, All, vec_capacity, OnOk, OnErr, MatchResult};
+ghost use Rattle.std.specs.Prelude.{◌≡◌, ◌↔◌, ◌<◌, ◌≤◌, [], length, Option, Some, None, IsTrue, All, vec_capacity};
+ghost use Rattle.std.specs.Prelude.{OnOk, OnErr, MatchResult};
 ghost use Rattle.tg_car.specs.Faults.{shown};
 ghost use Rattle.tg_car.specs.Filling.{IsPart, StopsPart, Takes, TakesBlock, TakesHead, came_of};
 ghost use Rattle.tg_car.specs.Heads.{HeadText};

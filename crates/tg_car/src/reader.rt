@@ -1,5 +1,6 @@
 //! A CAR read in pieces of any lengths.
-ghost use Rattle.std.specs.Prelude.{◌≡◌, ℕ, ◌<◌, ◌≤◌, true, false, List, ◌++◌, length, Option, Some, None, IfOk, IfSome, OnOk, OnErr, MatchResult};
+ghost use Rattle.std.specs.Prelude.{◌≡◌, ℕ, ◌<◌, ◌≤◌, true, false, List, ◌++◌, length, Option, Some, None, IfOk};
+ghost use Rattle.std.specs.Prelude.{IfSome, OnOk, OnErr, MatchResult};
 ghost use Rattle.tg_car.specs.Fronts.{IsInHeader};
 ghost use Rattle.tg_car.specs.HeaderState.{FollowsHeader};
 ghost use Rattle.tg_car.specs.History.{History, IsGivenOf, nothing, with_end, with_feed};

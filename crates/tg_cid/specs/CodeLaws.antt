@@ -1,5 +1,6 @@
 -- What holds of the numbers of codecs and hashes, of the tests whether two are equal, and of digests.
-use Rattle.std.proofs.Common.{◌≡◌, ℕ, ◌<◌, Bool, true, false, List, length, refl, ap, inl, inr, length-append, append_assoc, append-nil, Decides, eq-eqb, sym, ◌∙◌, [], ◌∷◌, ◌++◌, arith}
+use Rattle.std.proofs.Common.{◌≡◌, ℕ, ◌<◌, Bool, true, false, List, length, refl, ap, inl, inr, length-append}
+use Rattle.std.proofs.Common.{append_assoc, append-nil, Decides, eq-eqb, sym, ◌∙◌, [], ◌∷◌, ◌++◌, arith}
 use Rattle.std.proofs.lemmas.Bool.{eqb-true}
 use Rattle.std.specs.Coded.{Coded-set, coded_list, coded_ℕ}
 use Rattle.tg_cid.specs.Cid.{CidParts}
@@ -41,7 +42,8 @@ size_decides Sha256 size = (eqb-true size 32, eq-eqb size 32)
 size_decides Identity size = (λ e. absurd cc, λ h. absurd h)
 
 -- one number more behind others
-pub varints_push : (numbers front : List ℕ) (number : ℕ) (spelling : List ℕ) → Varints numbers front → VarintSpelling number spelling
+pub varints_push : (numbers front : List ℕ) (number : ℕ) (spelling : List ℕ) → Varints numbers front
+    → VarintSpelling number spelling
     → Varints (numbers ++ number ∷ []) (front ++ spelling)
 varints_push [] front number spelling e v =
     (spelling, [], ap (λ (l : List ℕ). l ++ spelling) e ∙ sym (append-nil spelling), v, refl)

@@ -1,5 +1,6 @@
 -- The CID of bytes, and the bytes and the text of a CID, as functions (CID specification; multihash; multibase `b`).
-use Rattle.std.specs.Prelude.{ℕ, List, [], ◌∷◌, ◌++◌, length, Option, Some, None, Bool, false, if◌then◌else◌, ◌==◌, ◌&&◌}
+use Rattle.std.specs.Prelude.{ℕ, List, [], ◌∷◌, ◌++◌, length, Option, Some, None, Bool, false, if◌then◌else◌, ◌==◌}
+use Rattle.std.specs.Prelude.{◌&&◌}
 use Rattle.tg_base32.specs.Computed.{base32}
 use Rattle.tg_varint.specs.Computed.{varint, front_number}
 use Rattle.tg_cid.specs.Cid.{CidParts}
@@ -37,7 +38,8 @@ abbrev pub size_then : Codec → HashKind → List ℕ → Option CidParts
 size_then codec hash bytes = with_number (front_number bytes) (λ size digest. with_digest 1 codec hash size digest)
 
 abbrev pub hash_then : Codec → List ℕ → Option CidParts
-hash_then codec bytes = with_number (front_number bytes) (λ code rest. with_hash code (λ hash. size_then codec hash rest))
+hash_then codec bytes =
+    with_number (front_number bytes) (λ code rest. with_hash code (λ hash. size_then codec hash rest))
 
 abbrev pub codec_then : List ℕ → Option CidParts
 codec_then bytes = with_number (front_number bytes) (λ code rest. with_codec code (λ codec. hash_then codec rest))

@@ -81,11 +81,13 @@ abbrev pub HasPrefixCause : List ℕ → CidFault → Type 0
 HasPrefixCause bytes faults.BadText = ⊥
 HasPrefixCause bytes (faults.BadVersion number) = NextNumber [] bytes number × (number ≢ 1)
 HasPrefixCause bytes (faults.BadCodec number) = NextNumber (1 ∷ []) bytes number × (IsCodec number → ⊥)
-HasPrefixCause bytes (faults.BadHash number) = (codec : ℕ) × IsCodec codec × NextNumber (1 ∷ codec ∷ []) bytes number × (IsHash number → ⊥)
+HasPrefixCause bytes (faults.BadHash number) =
+    (codec : ℕ) × IsCodec codec × NextNumber (1 ∷ codec ∷ []) bytes number × (IsHash number → ⊥)
 HasPrefixCause bytes (faults.BadLength number) = (codec : ℕ) × (hash : HashKind) × IsCodec codec × IsTaken hash
     × NextNumber (1 ∷ codec ∷ hash_code hash ∷ []) bytes number × (IsDigestSize hash number → ⊥)
 HasPrefixCause bytes (faults.Trailing at) = ⊥
-HasPrefixCause bytes (faults.Short at) = (at ≡ length bytes) × (EndsInV0 bytes ⊎ (EndsInVarint bytes ⊎ EndsInDigest bytes))
+HasPrefixCause bytes (faults.Short at) =
+    (at ≡ length bytes) × (EndsInV0 bytes ⊎ (EndsInVarint bytes ⊎ EndsInDigest bytes))
 HasPrefixCause bytes (faults.BadVarint at) = HasBadVarint bytes at
 HasPrefixCause bytes faults.OutOfMemory = ⊥
 

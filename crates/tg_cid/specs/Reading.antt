@@ -34,7 +34,8 @@ NumberThen bytes at Tells answer = ((fault : CidFault) × (answer ≡ Err fault)
 
 -- the answer where the digest begins at `at`
 abbrev pub DigestThen : ℕ → Codec → HashKind → ℕ → List ℕ → ℕ → Answer → Type 0
-DigestThen version codec hash size bytes at answer = ((length bytes < at + size) × (answer ≡ Err (faults.Short (length bytes))))
+DigestThen version codec hash size bytes at answer =
+    ((length bytes < at + size) × (answer ≡ Err (faults.Short (length bytes))))
     ⊎ ((at + size ≤ length bytes) × (answer
     ≡ Ok (record { version = version; codec = codec; hash = hash; digest = take size (drop at bytes) }, at + size)))
 

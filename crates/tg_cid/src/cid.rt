@@ -3,14 +3,16 @@ ghost use Rattle.std.proofs.Common.{rules};
 ghost use Rattle.std.specs.Cmp.Lexicographic.{pointwise};
 ghost use Rattle.std.specs.Cmp.Rules.{comparing, hashing};
 ghost use Rattle.std.specs.Hash as fed;
-ghost use Rattle.std.specs.Prelude.{◌≡◌, ℕ, ◌+◌, ◌-◌, ◌<◌, ◌≤◌, ◌↔◌, ◌⊎◌, List, ◌∷◌, ◌++◌, ◌==◌, ◌&&◌, nat_eq, length, take, drop, replicate, All, IsTrue, IfOk, IfErr, IsErrOf, MatchResult};
+ghost use Rattle.std.specs.Prelude.{◌≡◌, ℕ, ◌+◌, ◌-◌, ◌<◌, ◌≤◌, ◌↔◌, ◌⊎◌, List, ◌∷◌, ◌++◌, ◌==◌, ◌&&◌, nat_eq, length};
+ghost use Rattle.std.specs.Prelude.{take, drop, replicate, All, IsTrue, IfOk, IfErr, IsErrOf, MatchResult};
 ghost use Rattle.sha2.specs.Sha256.{sha256};
 ghost use Rattle.tg_cid.specs.Cid.{CidParts};
 ghost use Rattle.tg_cid.specs.Faults.{HasPrefixCause, HasBytesCause, HasTextCause, IsCodec, IsHash};
 ghost use Rattle.tg_cid.specs.Limits.{max_cid_len, max_digest_len};
 ghost use Rattle.tg_cid.specs.Names.{Names};
 ghost use Rattle.tg_cid.specs.Reading.{DigestThen, ReadsAsOne};
-ghost use Rattle.tg_cid.specs.Spelling.{CidBytes, CidV1Bytes, CidText, IsDigestSize, IsTaken, MultibaseText, codec_code, hash_code};
+ghost use Rattle.tg_cid.specs.Spelling.{CidBytes, CidV1Bytes, CidText, IsDigestSize, IsTaken, MultibaseText};
+ghost use Rattle.tg_cid.specs.Spelling.{codec_code, hash_code};
 ghost use Rattle.tg_cid.specs.declared.fault.CidFault.{CidFault};
 
 use crate::fault::CidFault;
@@ -69,7 +71,8 @@ impl Model for Cid {
 
     ghost view = { λ c. record { version = c.version; codec = c.codec; hash = c.hash; digest = take c.size c.digest } };
 
-    ghost invariant = { λ c. (c.version ≤ 1) × (c.size ≤ 128) × (length c.digest ≡ 128) × (drop c.size c.digest ≡ replicate (128 - c.size) 0)
+    ghost invariant = { λ c. (c.version ≤ 1) × (c.size ≤ 128) × (length c.digest ≡ 128)
+        × (drop c.size c.digest ≡ replicate (128 - c.size) 0)
         × IsDigestSize c.hash c.size × (c.version ≡ 0 → (c.codec ≡ DagPb) × (c.hash ≡ Sha256)) };
 
     ghost inverse = { λ p. record {

@@ -33,7 +33,8 @@ pub fn in_longest(codes: &[u8], size: &[u8], digest: &[u8]) -> ([u8; MAX_CID_LEN
 fn fill_parts(room: &mut [u8], codes: &[u8], size: &[u8], digest: &[u8])
     requires { length codes.now + length size.now + length digest.now ≤ length room.old }
     ensures { room.new
-        ≡ codes.now ++ (size.now ++ (digest.now ++ drop (length digest.now) (drop (length size.now) (drop (length codes.now) room.old)))) }
+        ≡ codes.now ++ (size.now ++ (digest.now
+        ++ drop (length digest.now) (drop (length size.now) (drop (length codes.now) room.old)))) }
 {
     let (front, rest) = room.split_at_mut(codes.len());
     front.copy_from_slice(codes);

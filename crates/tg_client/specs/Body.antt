@@ -85,8 +85,10 @@ pub record IsVerified (q : QueryParts) (limits : LimitNumbers) (input : Input) (
 -- how it ends where no more bytes come
 abbrev pub EndsAt : QueryParts → LimitNumbers → List ℕ → List Section → List ℕ → Result ⊤ ClientFault → Type 0
 EndsAt q limits heard sections text (Ok done) = IsAccepted q limits heard sections text
-EndsAt q limits heard sections text (Err (faults.Refused (refusals.Truncated want number))) = (at : WantedAt) × (want ≡ at.cid) × IsCutShort q sections text at number
-EndsAt q limits heard sections text (Err (faults.Refused (refusals.Extra number))) = HasSurplus q heard sections text number
+EndsAt q limits heard sections text (Err (faults.Refused (refusals.Truncated want number))) =
+    (at : WantedAt) × (want ≡ at.cid) × IsCutShort q sections text at number
+EndsAt q limits heard sections text (Err (faults.Refused (refusals.Extra number))) =
+    HasSurplus q heard sections text number
 EndsAt q limits heard sections text (Err other) = ⊥
 
 pub record HasEnded (q : QueryParts) (limits : LimitNumbers) (heard : List ℕ) (sections : List Section) (text : List ℕ) (result : Result ⊤ ClientFault) : Type 0 where

@@ -65,9 +65,12 @@ pub record IsAccepted (q : QueryParts) (limits : LimitNumbers) (heard : List ℕ
   pub through : IsThrough q sections text
   pub within : length heard ≤ limits.received
 
-abbrev pub EndsBy : QueryParts → LimitNumbers → Input → List ℕ → List ℕ → List Section → List ℕ → Result ⊤ ClientFault → Type 0
-EndsBy q limits input heard unheard sections text (Ok done) = IsAllHeard unheard input × IsAccepted q limits heard sections text
-EndsBy q limits input heard unheard sections text (Err (faults.Refused (refusals.Extra number))) = (HasSurplus q (heard ++ unheard) sections text number)
+abbrev pub EndsBy : QueryParts → LimitNumbers → Input → List ℕ → List ℕ → List Section → List ℕ → Result ⊤ ClientFault
+    → Type 0
+EndsBy q limits input heard unheard sections text (Ok done) =
+    IsAllHeard unheard input × IsAccepted q limits heard sections text
+EndsBy q limits input heard unheard sections text (Err (faults.Refused (refusals.Extra number))) =
+    (HasSurplus q (heard ++ unheard) sections text number)
 EndsBy q limits input heard unheard sections text (Err (faults.Refused (refusals.Limit kinds.Received number))) =
     (IsPastReceived q limits heard unheard sections text number)
 EndsBy q limits input heard unheard sections text (Err (faults.Refused (refusals.Limit kinds.Block number))) =
@@ -75,11 +78,13 @@ EndsBy q limits input heard unheard sections text (Err (faults.Refused (refusals
 EndsBy q limits input heard unheard sections text (Err (faults.Refused (refusals.Truncated want number))) =
     IsAllHeard unheard input × ((at : WantedAt) × (want ≡ at.cid) × IsCutShort q sections text at number)
 EndsBy q limits input heard unheard sections text (Err (faults.Refused refusals.OutOfMemory)) = ⊥
-EndsBy q limits input heard unheard sections text (Err (faults.Refused fault)) = (HasRefused q limits sections text fault)
+EndsBy q limits input heard unheard sections text (Err (faults.Refused fault)) =
+    (HasRefused q limits sections text fault)
 EndsBy q limits input heard unheard sections text (Err (faults.BadCar fault)) =
     (IsNoCar fault × IsBrokenBy q heard unheard sections text (λ bytes. Brings limits.block bytes fault))
 EndsBy q limits input heard unheard sections text (Err faults.InputFault) = ((unheard ≡ []) × IsHeld q sections text)
-EndsBy q limits input heard unheard sections text (Err faults.OutOfMemory) = (HasRefused q limits sections text refusals.OutOfMemory ⊎ IsHeld q sections text)
+EndsBy q limits input heard unheard sections text (Err faults.OutOfMemory) =
+    (HasRefused q limits sections text refusals.OutOfMemory ⊎ IsHeld q sections text)
 
 -- what an answer says of a sound DAG: its answer, or a front of it; and what a refusal says of it
 abbrev pub SaysFor : QueryParts → Dag → List Section → List ℕ → Result ⊤ ClientFault → Type 0

@@ -14,19 +14,26 @@ IsNoCar other = ⊥
 
 pub record ReceivedLaws : Type 0 where
   -- of a CAR whose blocks are within the limit all sections stand whole
-  pub whole : (limit : ℕ) (bytes : List ℕ) (sections : List Section) → IsCarOf bytes sections → All (λ section. length section.block ≤ limit) sections
+  pub whole : (limit : ℕ) (bytes : List ℕ) (sections : List Section) → IsCarOf bytes sections
+      → All (λ section. length section.block ≤ limit) sections
       → HasReceived limit bytes sections
   -- what was received is determined, and no block of it is above the limit
-  pub one : (limit : ℕ) (bytes : List ℕ) (a b : List Section) → HasReceived limit bytes a → HasReceived limit bytes b → a ≡ b
-  pub within : (limit : ℕ) (bytes : List ℕ) (sections : List Section) → HasReceived limit bytes sections → All (λ section. length section.block ≤ limit) sections
+  pub one : (limit : ℕ) (bytes : List ℕ) (a b : List Section) → HasReceived limit bytes a → HasReceived limit bytes b
+      → a ≡ b
+  pub within : (limit : ℕ) (bytes : List ℕ) (sections : List Section) → HasReceived limit bytes sections
+      → All (λ section. length section.block ≤ limit) sections
   -- of a front fewer sections stand whole, or the same
-  pub front : (limit : ℕ) (heard more : List ℕ) (some sections : List Section) → HasReceived limit heard some → HasReceived limit (heard ++ more) sections
+  pub front : (limit : ℕ) (heard more : List ℕ) (some sections : List Section) → HasReceived limit heard some
+      → HasReceived limit (heard ++ more) sections
       → (rest : List Section) × (sections ≡ some ++ rest)
   -- behind a CAR come its sections, and then others
-  pub behind : (limit : ℕ) (car more : List ℕ) (sections all : List Section) → IsCarOf car sections → HasReceived limit (car ++ more) all
+  pub behind : (limit : ℕ) (car more : List ℕ) (sections all : List Section) → IsCarOf car sections
+      → HasReceived limit (car ++ more) all
       → (rest : List Section) × (all ≡ sections ++ rest)
   -- no CAR is broken, and none of its blocks above the limit, where one goes on
-  pub unbroken : (limit : ℕ) (heard more : List ℕ) (last : ℕ) (sections : List Section) (fault : CarFault) → HasReceived limit (heard ++ last ∷ more) sections
+  pub unbroken : (limit : ℕ) (heard more : List ℕ) (last : ℕ) (sections : List Section) (fault : CarFault)
+      → HasReceived limit (heard ++ last ∷ more) sections
       → IsNoCar fault → Brings limit (heard ++ last ∷ []) fault → ⊥
-  pub unpassed : (limit : ℕ) (heard more : List ℕ) (last place : ℕ) (sections : List Section) → HasReceived limit (heard ++ last ∷ more) sections
+  pub unpassed : (limit : ℕ) (heard more : List ℕ) (last place : ℕ) (sections : List Section)
+      → HasReceived limit (heard ++ last ∷ more) sections
       → PassesLimit limit (heard ++ last ∷ []) place → ⊥

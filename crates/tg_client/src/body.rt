@@ -1,5 +1,6 @@
 //! The bytes of a CAR, verified while they come.
-ghost use Rattle.std.specs.Prelude.{◌≡◌, ◌++◌, ◌+◌, ◌<◌, ◌≤◌, [], ℕ, List as Items, None, IfErr, IfOk, MatchResult, length, take, true};
+ghost use Rattle.std.specs.Prelude.{◌≡◌, ◌++◌, ◌+◌, ◌<◌, ◌≤◌, [], ℕ, List as Items, None, IfErr, IfOk, MatchResult};
+ghost use Rattle.std.specs.Prelude.{length, take, true};
 ghost use Rattle.tg_client.specs.Body.{HasEnded, HasOutCause, IsBody, IsEndFault, IsStopped, WentOn};
 ghost use Rattle.tg_model.specs.Dag.{Section};
 ghost use Rattle.tg_streams.specs.Streams.{OutputQuiet, into};

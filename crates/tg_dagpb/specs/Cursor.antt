@@ -37,7 +37,8 @@ link_of span = record { hash = span.hash.now; name = held span.name; tsize = spa
 
 -- the link whose parts lie at the places
 abbrev pub placed_link : List ℕ → LinkPlaces → Link
-placed_link text places = record { hash = bytes_of text places.hash; name = placed_bytes text places.name; tsize = places.tsize }
+placed_link text places =
+    record { hash = bytes_of text places.hash; name = placed_bytes text places.name; tsize = places.tsize }
 
 -- the places lie inside the text
 pub record LieInside (text : List ℕ) (places : LinkPlaces) : Type 0 where

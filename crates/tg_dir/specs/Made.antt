@@ -21,7 +21,8 @@ use Rattle.tg_node_writing.specs.Nodes.{LeadTo}
 
 -- the directory's root is a shard, or holds all of the entries
 abbrev pub IsSharded : Dag → Type 0
-IsSharded d = (section : Section) × (slots : List Slot) × (children : Children) × (d ≡ node section (Shard slots) children)
+IsSharded d =
+    (section : Section) × (slots : List Slot) × (children : Children) × (d ≡ node section (Shard slots) children)
 
 abbrev pub IsBasic : Dag → Type 0
 IsBasic d = (section : Section) × (es : List Entry) × (children : Children) × (d ≡ node section (Basic es) children)
@@ -32,7 +33,8 @@ pub record IsMadeBy (threshold : ℕ) (new : List NewEntry) (children : Children
   pub directory : IsMadeDirectory new children made sections d
   pub sharded : threshold < weight_for new → IsSharded d
   pub basic : weight_for new ≤ threshold → IsBasic d
-  pub laid : (options : LayoutOptions) → options.shard ≡ threshold → AreLaidOut options children → IsLaidAt options top d
+  pub laid : (options : LayoutOptions) → options.shard ≡ threshold → AreLaidOut options children
+      → IsLaidAt options top d
 
 -- whatever the sound DAGs to which the entries lead: the directory is made, each of its blocks behind those to which it
 -- links
@@ -40,7 +42,8 @@ pub record MakesDirectory (threshold : ℕ) (new : List NewEntry) (made : Made) 
   pub sections : List Section
   pub keeps : Keeps sections keeping
   pub order : AreBehindLinks (entry_cids new) sections
-  pub directory : (children : Children) → LeadTo new children → AreSound children → (d : Dag) × IsMadeBy threshold new children made sections d
+  pub directory : (children : Children) → LeadTo new children → AreSound children
+      → (d : Dag) × IsMadeBy threshold new children made sections d
 
 -- a directory in one block is its only block, and nothing was kept before a fault
 abbrev pub IsBasicCause : HamtFault → Keeping → Type 0
@@ -51,7 +54,8 @@ IsBasicCause faults.OutOfMemory keeping = StopsAfter [] OutOfMemory keeping
 -- what was kept before a fault: each block stands behind those to which it links, and nothing was kept where two names
 -- have one hash
 abbrev pub StopsDirectory : List NewEntry → KeepFault → Keeping → Type 0
-StopsDirectory new fault keeping = (sections : List Section) × StopsAfter sections fault keeping × AreBehindLinks (entry_cids new) sections
+StopsDirectory new fault keeping =
+    (sections : List Section) × StopsAfter sections fault keeping × AreBehindLinks (entry_cids new) sections
 
 abbrev pub StopsInOrder : List NewEntry → HamtFault → Keeping → Type 0
 StopsInOrder new (faults.SameHash first second) keeping = Keeps [] keeping

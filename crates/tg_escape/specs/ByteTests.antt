@@ -5,7 +5,8 @@ use Rattle.std.proofs.lemmas.List.Elements.{All-get_or}
 use Rattle.std.proofs.lemmas.List.FromFn.{get_or-range_with_len, length-range_with_len}
 use Rattle.std.proofs.lemmas.List.Sums.{AllPass-from_list_all}
 
-pub by_table : (test : ℕ → Bool) (size : ℕ) → list_all test (range_with_len 0 size) ≡ true → (b : ℕ) → b < size → test b ≡ true
+pub by_table : (test : ℕ → Bool) (size : ℕ) → list_all test (range_with_len 0 size) ≡ true → (b : ℕ) → b < size
+    → test b ≡ true
 by_table test size all b below =
     let numbers = range_with_len 0 size in
     subst (λ (n : ℕ). test n ≡ true) (get_or-range_with_len 0 size b 0 below ∙ zero-add b)

@@ -66,7 +66,8 @@ pub record HasResolved (store : Store) (q : QueryParts) : Type 0 where
 abbrev pub CarEnds : QueryParts → Option Store → Output → Result ⊤ ExportFault → Type 0
 CarEnds q told out (Ok done) =
     HasCar q.root told (λ store sections. HasResolved store q × HasEnded q store max_depth sections whole) (PutWhole out)
-CarEnds q told out (Err (faults.Resolve fault)) = PutNothing out × IfSome told (λ store. IsResolvedTo store q.root q.path (Err fault))
+CarEnds q told out (Err (faults.Resolve fault)) =
+    PutNothing out × IfSome told (λ store. IsResolvedTo store q.root q.path (Err fault))
 CarEnds q told out (Err (faults.Walk fault)) =
     HasCar q.root told (λ store sections. HasResolved store q × HasWalkCause q store max_depth sections fault) (PutWhole out)
 CarEnds q told out (Err faults.SinkFault) =
@@ -77,8 +78,10 @@ CarEnds q told out (Err (faults.Pack fault)) = ⊥
 
 -- a fault of the store comes as it came; no other end hides one
 abbrev pub HasCarCause : Option Store → Lookups → Result ⊤ ExportFault → Type 0
-HasCarCause told lookups (Err (faults.Resolve (refusals.Store fault))) = (cid : CidParts) × IsCauseOf told cid lookups.faults_old lookups.faults_new fault
-HasCarCause told lookups (Err (faults.Walk (walks.Store fault))) = (cid : CidParts) × IsCauseOf told cid lookups.faults_old lookups.faults_new fault
+HasCarCause told lookups (Err (faults.Resolve (refusals.Store fault))) =
+    (cid : CidParts) × IsCauseOf told cid lookups.faults_old lookups.faults_new fault
+HasCarCause told lookups (Err (faults.Walk (walks.Store fault))) =
+    (cid : CidParts) × IsCauseOf told cid lookups.faults_old lookups.faults_new fault
 HasCarCause told lookups end = LookupsQuiet lookups
 
 -- where the whole traversal can be given, no end comes but it, a counted fault, or want of memory
@@ -140,9 +143,13 @@ pub record HasTexts (told : Option Store) (holds : Store → List Section → Ty
 
 -- how the sections behind the header end
 abbrev pub SectionsEnd : QueryParts → Option Store → Output → Result ⊤ ExportFault → Type 0
-SectionsEnd q told out (Ok done) = HasTexts told (λ store sections. HasEnded q store max_depth sections whole) (PutWhole out)
-SectionsEnd q told out (Err (faults.Walk fault)) = HasTexts told (λ store sections. HasWalkCause q store max_depth sections fault) (PutWhole out)
-SectionsEnd q told out (Err faults.SinkFault) = HasTexts told (λ store sections. IsFront q store sections) (λ bytes. PutFront bytes out)
-SectionsEnd q told out (Err faults.OutOfMemory) = HasTexts told (λ store sections. IsFront q store sections) (PutWhole out)
+SectionsEnd q told out (Ok done) =
+    HasTexts told (λ store sections. HasEnded q store max_depth sections whole) (PutWhole out)
+SectionsEnd q told out (Err (faults.Walk fault)) =
+    HasTexts told (λ store sections. HasWalkCause q store max_depth sections fault) (PutWhole out)
+SectionsEnd q told out (Err faults.SinkFault) =
+    HasTexts told (λ store sections. IsFront q store sections) (λ bytes. PutFront bytes out)
+SectionsEnd q told out (Err faults.OutOfMemory) =
+    HasTexts told (λ store sections. IsFront q store sections) (PutWhole out)
 SectionsEnd q told out (Err (faults.Resolve fault)) = ⊥
 SectionsEnd q told out (Err (faults.Pack fault)) = ⊥

@@ -27,13 +27,15 @@ pub record StoreEnds (q : QueryParts) (content : Option (List ℕ)) (out : Outpu
 -- how an export ends: the pack is refused, and nothing is put; or it is attached
 abbrev pub ExportEnds : QueryParts → PackStep → Output → Result ⊤ ExportFault → Type 0
 ExportEnds q step out (Err (faults.Pack fault)) = IsRefusal step fault × PutNothing out
-ExportEnds q step out (Err faults.OutOfMemory) = PutNothing out ⊎ StoreEnds q step.content_old out (Err faults.OutOfMemory)
+ExportEnds q step out (Err faults.OutOfMemory) =
+    PutNothing out ⊎ StoreEnds q step.content_old out (Err faults.OutOfMemory)
 ExportEnds q step out end = StoreEnds q step.content_old out end
 
 -- the pack failed and counted it, or a stored block isn't any more what it was, which no pack shows that tells its
 -- content
 abbrev pub IsStoreCause : PackStep → BlocksFault → Type 0
-IsStoreCause step (store_faults.Changed want got) = (step.content_old ≡ None) × ((cid : CidParts) × IsChanged cid want got) × PackQuiet step
+IsStoreCause step (store_faults.Changed want got) =
+    (step.content_old ≡ None) × ((cid : CidParts) × IsChanged cid want got) × PackQuiet step
 IsStoreCause step store_faults.Failed = Rose step.faults_old step.faults_new
 IsStoreCause step store_faults.OutOfMemory = PackQuiet step
 

@@ -2,7 +2,8 @@
 ghost use Rattle.std.specs.Prelude.{◌≡◌, ◌≤◌, [], List, None, Some, length};
 ghost use Rattle.tg_cid.specs.Cid.{CidParts};
 ghost use Rattle.tg_cid.specs.Limits.{max_block_len};
-ghost use Rattle.tg_export.specs.Cars.{BytesEnd, CarEnds, HasCarCause, HasOwnMemory, IsOtherwiseWhole, SectionEnds, SectionsEnd};
+ghost use Rattle.tg_export.specs.Cars.{BytesEnd, CarEnds, HasCarCause, HasOwnMemory, IsOtherwiseWhole, SectionEnds};
+ghost use Rattle.tg_export.specs.Cars.{SectionsEnd};
 ghost use Rattle.tg_model.specs.Dag.{Section};
 ghost use Rattle.tg_model.specs.PathWalk.{TraversalEnd, whole};
 ghost use Rattle.tg_model.specs.Stores.{LookedUp, Store, looked_in};

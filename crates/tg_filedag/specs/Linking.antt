@@ -42,7 +42,8 @@ HasRoom chunks chunk = (length chunks + 1 ≤ 1099511627776) × (length (joined 
 
 -- a leaf was taken: the subtrees stand for one more chunk, and have no full level
 abbrev pub TakesLeaf : ℕ → List Subtree → List Subtree → List ℕ → Keeping → Type 0
-TakesLeaf width old new chunk keeping = (chunks : List (List ℕ)) (kept : List Section) → IsGrowing width old chunks kept → HasRoom chunks chunk
+TakesLeaf width old new chunk keeping =
+    (chunks : List (List ℕ)) (kept : List Section) → IsGrowing width old chunks kept → HasRoom chunks chunk
     → (sections : List Section) × Keeps sections keeping × IsGrowing width new (chunks ++ chunk ∷ []) (kept ++ sections) × HasNoFullLevel width new
 
 -- all was linked into one file
@@ -56,5 +57,6 @@ StopsLinking width old fault keeping = (chunks : List (List ℕ)) (kept : List S
     → (sections : List Section) × StopsAfter sections fault keeping × IsFrontFor width chunks kept sections
 
 abbrev pub StopsLeaf : ℕ → List Subtree → List ℕ → KeepFault → Keeping → Type 0
-StopsLeaf width old chunk fault keeping = (chunks : List (List ℕ)) (kept : List Section) → IsGrowing width old chunks kept → HasRoom chunks chunk
+StopsLeaf width old chunk fault keeping =
+    (chunks : List (List ℕ)) (kept : List Section) → IsGrowing width old chunks kept → HasRoom chunks chunk
     → (sections : List Section) × StopsAfter sections fault keeping × IsFrontFor width (chunks ++ chunk ∷ []) kept sections

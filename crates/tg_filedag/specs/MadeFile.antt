@@ -22,4 +22,5 @@ pub record IsMadeFile (width : ℕ) (chunks : List (List ℕ)) (d : Dag) (made :
   pub leaves_are : leaves d ≡ leaves_for chunks
   pub made_of : IsMadeOf made d
   pub plain : All HasPlainCid (blocks d)
-  pub laid : (options : LayoutOptions) → options.width ≡ width → 1 ≤ options.chunk → AreChunks options.chunk chunks → IsLaidAt options top d
+  pub laid : (options : LayoutOptions) → options.width ≡ width → 1 ≤ options.chunk → AreChunks options.chunk chunks
+      → IsLaidAt options top d

@@ -45,7 +45,8 @@ IsClosing width subtrees chunks kept = IsForest (IsLastSubtree width) width subt
 -- before a fault no section was kept, or with those of before the sections of subtrees over these chunks: a front of
 -- the file's
 abbrev pub IsFrontFor : ℕ → List (List ℕ) → List Section → List Section → Type 0
-IsFrontFor width chunks kept sections = (sections ≡ []) ⊎ ((subtrees : List Subtree) × IsClosing width subtrees chunks (kept ++ sections))
+IsFrontFor width chunks kept sections =
+    (sections ≡ []) ⊎ ((subtrees : List Subtree) × IsClosing width subtrees chunks (kept ++ sections))
 
 -- fewer than `width` subtrees have one height
 abbrev pub HasNoFullLevel : ℕ → List Subtree → Type 0
@@ -67,6 +68,8 @@ IsBalanced state = state.refused ≡ None → (chunks : List (List ℕ)) × (kep
 -- stands, and those that were kept before a fault, which are of parts of the file
 pub record KeptInOrder : Type 0 where
   pub whole : (d : Dag) → IsSound d → AreBehindLinks [] (bottom_up d)
-  pub stands : (state : BalancedState) (chunks : List (List ℕ)) (kept : List Section) → StandsFor state chunks kept → AreOfFileParts kept
-  pub front : (state : BalancedState) (chunks more : List (List ℕ)) (kept sections : List Section) → StandsFor state chunks kept
+  pub stands : (state : BalancedState) (chunks : List (List ℕ)) (kept : List Section) → StandsFor state chunks kept
+      → AreOfFileParts kept
+  pub front : (state : BalancedState) (chunks more : List (List ℕ)) (kept sections : List Section)
+      → StandsFor state chunks kept
       → IsFrontFor state.width more kept sections → AreOfFileParts (kept ++ sections)

@@ -6,8 +6,10 @@ use Rattle.tg_cid.specs.declared.cid.Codec.TheVariants as codecs
 use Rattle.tg_cid.specs.declared.cid.HashKind.TheVariants.{Sha256}
 use Rattle.tg_filedag.specs.declared.subtree.Subtree.{Subtree}
 use Rattle.tg_model.specs.Content.{content}
-use Rattle.tg_model.specs.Dag.{Children, Dag, IsWhole, Section, bare, blocks, no_child, node, root_cid, unopened, with_child}
-use Rattle.tg_model.specs.ImportLayout.{AreFull, HasLeavesAt, HasPlainCid, IsLaidAt, LayoutOptions, file_unix, leaves, level_widths, tsize_of}
+use Rattle.tg_model.specs.Dag.{Children, Dag, IsWhole, Section, bare, blocks, no_child, node, root_cid, unopened}
+use Rattle.tg_model.specs.Dag.{with_child}
+use Rattle.tg_model.specs.ImportLayout.{AreFull, HasLeavesAt, HasPlainCid, IsLaidAt, LayoutOptions, file_unix, leaves}
+use Rattle.tg_model.specs.ImportLayout.{level_widths, tsize_of}
 use Rattle.tg_model.specs.Sound.{IsCheckedAt, part}
 use Rattle.tg_model.specs.declared.kinds.Kind.{Kind}
 use Rattle.tg_model.specs.declared.kinds.Kind.TheVariants.{File, Raw}
@@ -42,7 +44,8 @@ part_for subtree = record { cid = subtree.made.cid; size = subtree.made.content 
 
 -- the block of a file's node over these links, and what is told of the node
 abbrev pub IsFileBlock : List Subtree → List ℕ → Type 0
-IsFileBlock links block = IsNodeOf (map entry_for links) (file_unix (sum_by content_in links) (map content_in links)) block
+IsFileBlock links block =
+    IsNodeOf (map entry_for links) (file_unix (sum_by content_in links) (map content_in links)) block
 
 abbrev pub file_kind : List Subtree → Kind
 file_kind links = File [] (Some (sum_by content_in links)) (map part_for links)
@@ -129,5 +132,6 @@ pub record IsLastSubtree (width : ℕ) (subtree : Subtree) (d : Dag) : Type 0 wh
 abbrev pub AreTrees : (Subtree → Dag → Type 0) → ℕ → List Subtree → Children → Type 0
 AreTrees Last width [] no_child = ⊤
 AreTrees Last width (subtree ∷ []) (with_child d no_child) = Last subtree d
-AreTrees Last width (subtree ∷ next ∷ subtrees) (with_child d children) = IsSubtree width subtree d × AreTrees Last width (next ∷ subtrees) children
+AreTrees Last width (subtree ∷ next ∷ subtrees) (with_child d children) =
+    IsSubtree width subtree d × AreTrees Last width (next ∷ subtrees) children
 AreTrees Last width _ _ = ⊥

@@ -1,5 +1,6 @@
 //! A file whose chunks are linked while they come.
-ghost use Rattle.std.specs.Prelude.{◌≡◌, ◌<◌, ◌≤◌, ◌+◌, ◌++◌, ◌∷◌, ℕ, List, [], IfErr, IfOk, None, OnErr, OnOk, Some, length};
+ghost use Rattle.std.specs.Prelude.{◌≡◌, ◌<◌, ◌≤◌, ◌+◌, ◌++◌, ◌∷◌, ℕ, List, [], IfErr, IfOk, None, OnErr, OnOk, Some};
+ghost use Rattle.std.specs.Prelude.{length};
 ghost use Rattle.tg_cid.specs.Limits.{max_block_len};
 ghost use Rattle.tg_node_writing.specs.BlockOrder.{AreBehindLinks};
 ghost use Rattle.tg_node_writing.specs.Keeping.{IsCountedBy, Keeps, StopsAfter};

@@ -22,7 +22,8 @@ impl Model for Chunker {
 
     ghost view = { λ c. record { size = c.size; bytes = c.bytes.items } };
 
-    ghost invariant = { λ c. (c.size ≤ max_block_len) × (length c.bytes.items ≤ c.size) × (c.size ≤ vec_capacity c.bytes) };
+    ghost invariant = { λ c. (c.size ≤ max_block_len) × (length c.bytes.items ≤ c.size)
+        × (c.size ≤ vec_capacity c.bytes) };
 }
 
 impl Chunker {

@@ -1,9 +1,11 @@
 //! Subtrees of a file, linked from the lowest level up.
-ghost use Rattle.std.specs.Prelude.{◌≡◌, ◌≢◌, ◌↔◌, ◌<◌, ◌≤◌, ◌+◌, ◌-◌, ℕ, List, [], ◌∷◌, ◌++◌, All, IfOk, IfErr, IsTrue, OnErr, OnOk, drop, length, slice_index};
+ghost use Rattle.std.specs.Prelude.{◌≡◌, ◌≢◌, ◌↔◌, ◌<◌, ◌≤◌, ◌+◌, ◌-◌, ℕ, List, [], ◌∷◌, ◌++◌, All, IfOk, IfErr};
+ghost use Rattle.std.specs.Prelude.{IsTrue, OnErr, OnOk, drop, length, slice_index};
 ghost use Rattle.std.specs.List.{sum_by};
 ghost use Rattle.tg_cid.specs.Limits.{max_block_len};
 ghost use Rattle.tg_node_writing.specs.Keeping.{StopsAfter};
-ghost use Rattle.tg_filedag.specs.Linking.{Closes, HasFullLevel, HasRoom, MakesFile, Raises, StopsLeaf, StopsLinking, TakesLeaf};
+ghost use Rattle.tg_filedag.specs.Linking.{Closes, HasFullLevel, HasRoom, MakesFile, Raises, StopsLeaf, StopsLinking};
+ghost use Rattle.tg_filedag.specs.Linking.{TakesLeaf};
 ghost use Rattle.tg_filedag.specs.State.{HasNoFullLevel, IsGrowing, heights};
 ghost use Rattle.tg_filedag.specs.Trees.{IsPlain, content_in, tsize_in};
 ghost use Rattle.tg_model.specs.Dag.{Section};

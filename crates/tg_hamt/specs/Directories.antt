@@ -10,7 +10,8 @@ use Rattle.tg_hamt.specs.Shards.{shards_of}
 use Rattle.tg_hamt.specs.declared.fault.HamtFault.TheVariants as faults
 use Rattle.tg_hamt.specs.declared.fault.HamtFault.{HamtFault}
 use Rattle.tg_model.specs.Content.{DirEntry, entries}
-use Rattle.tg_model.specs.Dag.{Children, Dag, IsWhole, Section, blocks, blocks_of_children, no_child, node, root_cid, with_child}
+use Rattle.tg_model.specs.Dag.{Children, Dag, IsWhole, Section, blocks, blocks_of_children, no_child, node, root_cid}
+use Rattle.tg_model.specs.Dag.{with_child}
 use Rattle.tg_model.specs.ImportLayout.{HasPlainCid, IsLaidAt, IsShardAt, LayoutOptions, tsize_of}
 use Rattle.tg_model.specs.Sound.{IsCheckedAt, IsSound, child, top}
 use Rattle.tg_model.specs.Stores.{Keeping}
@@ -47,7 +48,8 @@ listed_for (entry ∷ new) (with_child d children) = record { name = entry.name;
 pub record IsMadeDirectory (new : List NewEntry) (children : Children) (made : Made) (sections : List Section) (d : Dag) : Type 0 where
   pub sound : IsSound d
   pub lists : IsPermutation (listed_for new children) (entries d)
-  pub blocks_are : (section : Section) → Contains (blocks d) section → Contains sections section ⊎ Contains (blocks_of_children children) section
+  pub blocks_are : (section : Section) → Contains (blocks d) section
+      → Contains sections section ⊎ Contains (blocks_of_children children) section
   pub own_blocks : (section : Section) → Contains sections section → Contains (blocks d) section
   pub plain : All HasPlainCid sections
   pub cid : made.cid ≡ root_cid d
@@ -66,7 +68,8 @@ pub record IsMadeSharded (new : List NewEntry) (children : Children) (made : Mad
   pub slots : List Slot
   pub below : Children
   pub sharded : d ≡ node section (Shard slots) below
-  pub laid : (options : LayoutOptions) → AreLaidOut options children → IsShardAt options top (entries d) → IsLaidAt options top d
+  pub laid : (options : LayoutOptions) → AreLaidOut options children → IsShardAt options top (entries d)
+      → IsLaidAt options top d
 
 -- two entries' names, in the order of their bytes, have one hash
 pub record HaveSameHash (new : List NewEntry) (first second : List ℕ) : Type 0 where
@@ -81,7 +84,8 @@ pub record MakesSharded (new : List NewEntry) (made : Made) (keeping : Keeping) 
   pub sections : List Section
   pub keeps : Keeps sections keeping
   pub order : AreBehindLinks (entry_cids new) sections
-  pub directory : (children : Children) → LeadTo new children → AreSound children → (d : Dag) × IsMadeSharded new children made sections d
+  pub directory : (children : Children) → LeadTo new children → AreSound children
+      → (d : Dag) × IsMadeSharded new children made sections d
 
 -- a section of a shard that lists some of the entries and is sound behind some slots
 pub record IsOfSharded (new : List NewEntry) (children : Children) (section : Section) : Type 0 where
@@ -125,4 +129,5 @@ IsNamePair a b faults.OutOfMemory = ⊤
 
 -- the fault of these two names, in the order of their bytes, or want of memory
 abbrev pub IsPairFault : List ℕ → List ℕ → HamtFault → Type 0
-IsPairFault a b fault = ((bytes_cmp a b ≡ Less) × IsNamePair a b fault) ⊎ ((bytes_cmp b a ≡ Less) × IsNamePair b a fault)
+IsPairFault a b fault =
+    ((bytes_cmp a b ≡ Less) × IsNamePair a b fault) ⊎ ((bytes_cmp b a ≡ Less) × IsNamePair b a fault)

@@ -8,7 +8,8 @@ use Rattle.std.proofs.lemmas.Slice.Eq.{bytes_eq-Decides}
 use Rattle.tg_model.specs.declared.kinds.NewEntry.{NewEntry}
 
 -- two entries of distinct names have different names
-pub other_names : (es : List NewEntry) (i j : ℕ) (d : NewEntry) → IsDistinct bytes_eq (map (λ (e : NewEntry). e.name) es) → i < j → j < length es
+pub other_names : (es : List NewEntry) (i j : ℕ) (d : NewEntry)
+    → IsDistinct bytes_eq (map (λ (e : NewEntry). e.name) es) → i < j → j < length es
     → (get_or es i d).name ≢ (get_or es j d).name
 other_names es i j d differ lt inside same =
     let f = λ (e : NewEntry). e.name in

@@ -70,8 +70,10 @@ IsPassed above order = All (λ item. take (length above) (slots_of item) ≡ abo
 pub record IsRun (order : List Hashed) (start end level : ℕ) : Type 0 where
   pub begins : start < end
   pub ends : end ≤ length order
-  pub same : (i : ℕ) (d : Hashed) → start ≤ i → i < end → slot_in (slice_index_or order i d) level ≡ slot_in (slice_index_or order start d) level
-  pub next : (d : Hashed) → end < length order → slot_in (slice_index_or order end d) level ≢ slot_in (slice_index_or order start d) level
+  pub same : (i : ℕ) (d : Hashed) → start ≤ i → i < end
+      → slot_in (slice_index_or order i d) level ≡ slot_in (slice_index_or order start d) level
+  pub next : (d : Hashed) → end < length order
+      → slot_in (slice_index_or order end d) level ≢ slot_in (slice_index_or order start d) level
 
 -- the Tsizes of these entries together
 abbrev pub tsizes_in : List NewEntry → List Hashed → ℕ

@@ -1,10 +1,13 @@
 -- The shards of a directory (UnixFS specification, HAMTDirectory).
-use Rattle.std.specs.Prelude.{All, Contains, List, None, Option, Some, [], length, map, ℕ, ◌*◌, ◌++◌, ◌+◌, ◌-◌, ◌∷◌, ◌≡◌, ◌⊎◌}
+use Rattle.std.specs.Prelude.{All, Contains, List, None, Option, Some, [], length, map, ℕ, ◌*◌, ◌++◌, ◌+◌, ◌-◌, ◌∷◌}
+use Rattle.std.specs.Prelude.{◌≡◌, ◌⊎◌}
 use Rattle.tg_hamt.specs.Order.{IsHashed, IsPassed, entry_at}
 use Rattle.tg_hamt.specs.declared.order.Hashed.{Hashed}
 use Rattle.tg_model.specs.Content.{DirEntry, entries_of_slots}
-use Rattle.tg_model.specs.Dag.{AreWhole, Children, Dag, Section, bare, blocks, blocks_of_children, no_child, node, root_cid, unopened, with_child}
-use Rattle.tg_model.specs.ImportLayout.{AreLaidAt, HasPlainCid, IsLaidAt, IsShardWritten, LayoutOptions, tsize_of, tsizes_of}
+use Rattle.tg_model.specs.Dag.{AreWhole, Children, Dag, Section, bare, blocks, blocks_of_children, no_child, node}
+use Rattle.tg_model.specs.Dag.{root_cid, unopened, with_child}
+use Rattle.tg_model.specs.ImportLayout.{AreLaidAt, HasPlainCid, IsLaidAt, IsShardWritten, LayoutOptions, tsize_of}
+use Rattle.tg_model.specs.ImportLayout.{tsizes_of}
 use Rattle.tg_model.specs.Sound.{AreCheckedAt, IsNodeAt, IsSound, child, slot_position, top}
 use Rattle.tg_model.specs.Stores.{Keeping}
 use Rattle.tg_model.specs.declared.kinds.Kind.TheVariants.{Basic, File, Raw, Shard, Symlink}
@@ -33,7 +36,8 @@ abbrev mutual
   pub shards_of_slots : List Slot → Children → List Section
   shards_of_slots slots no_child = []
   shards_of_slots [] (with_child d children) = []
-  shards_of_slots (slot ∷ slots) (with_child d children) = in_child slot.name (shards_of d) ++ shards_of_slots slots children
+  shards_of_slots (slot ∷ slots) (with_child d children) =
+      in_child slot.name (shards_of d) ++ shards_of_slots slots children
 
 -- the entry with this index leads to its DAG, which is sound
 pub record LeadsTo (entries : List NewEntry) (dags : ℕ → Dag) (item : Hashed) : Type 0 where
@@ -70,11 +74,13 @@ pub record IsMadeShard (entries : List NewEntry) (dags : ℕ → Dag) (order : L
   pub checked : AreCheckedAt (map (slot_position above) slots) children
   pub listed : entries_of_slots slots children ≡ map (listed_as entries dags) order
   pub sections_are : shards_of_slots slots children ++ section ∷ [] ≡ sections
-  pub blocks_are : (s : Section) → Contains (section ∷ blocks_of_children children) s → Contains sections s ⊎ IsBelow dags order s
+  pub blocks_are : (s : Section) → Contains (section ∷ blocks_of_children children) s
+      → Contains sections s ⊎ IsBelow dags order s
   pub own_blocks : (s : Section) → Contains sections s → Contains (section ∷ blocks_of_children children) s
   pub plain : All HasPlainCid sections
   pub written : IsShardWritten section.block slots children
-  pub laid : (options : LayoutOptions) → AreLaidIn options dags order → AreLaidAt options (map (slot_position above) slots) children
+  pub laid : (options : LayoutOptions) → AreLaidIn options dags order
+      → AreLaidAt options (map (slot_position above) slots) children
 
 -- whatever the DAGs to which the entries lead: the shard at a level is made, its block with the others, each behind
 -- those to which it links
@@ -83,7 +89,8 @@ pub record MakesShard (entries : List NewEntry) (order : List Hashed) (level : �
   pub keeps : Keeps sections keeping
   pub behind_links : AreBehindLinks (entry_cids entries) sections
   pub root : Contains (cids_of sections) made.cid
-  pub shard : (dags : ℕ → Dag) (above : List ℕ) → All (LeadsTo entries dags) order → length above ≡ level → IsPassed above order → IsMadeShard entries dags order above made sections
+  pub shard : (dags : ℕ → Dag) (above : List ℕ) → All (LeadsTo entries dags) order → length above ≡ level
+      → IsPassed above order → IsMadeShard entries dags order above made sections
 
 -- a section of a shard of some of the entries
 pub record IsOfShard (entries : List NewEntry) (dags : ℕ → Dag) (section : Section) : Type 0 where
@@ -99,7 +106,8 @@ pub record StopsShard (entries : List NewEntry) (order : List Hashed) (level : �
   pub sections : List Section
   pub stops : StopsAfter sections fault keeping
   pub behind_links : AreBehindLinks (entry_cids entries) sections
-  pub each : (dags : ℕ → Dag) (above : List ℕ) → All (LeadsTo entries dags) order → length above ≡ level → IsPassed above order → All (IsOfShard entries dags) sections
+  pub each : (dags : ℕ → Dag) (above : List ℕ) → All (LeadsTo entries dags) order → length above ≡ level
+      → IsPassed above order → All (IsOfShard entries dags) sections
 
 -- how many bytes the shards of so many entries have at most, from this level on
 abbrev pub shard_room : ℕ → ℕ → ℕ

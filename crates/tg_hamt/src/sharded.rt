@@ -1,6 +1,8 @@
 //! A sharded directory from its entries.
-ghost use Rattle.std.specs.Prelude.{◌≡◌, ◌≢◌, ◌≤◌, List, ℕ, Contains, ⊤, IfOk, IfErr, MatchResult, OnErr, OnOk, map, true};
-ghost use Rattle.tg_hamt.specs.Directories.{AreGoodEntries, HaveSameHash, IsCause, IsCountedBy, IsNamePair, IsPairFault, IsSameHashFault, MakesSharded};
+ghost use Rattle.std.specs.Prelude.{◌≡◌, ◌≢◌, ◌≤◌, List, ℕ, Contains, ⊤, IfOk, IfErr, MatchResult, OnErr, OnOk, map};
+ghost use Rattle.std.specs.Prelude.{true};
+ghost use Rattle.tg_hamt.specs.Directories.{AreGoodEntries, HaveSameHash, IsCause, IsCountedBy, IsNamePair};
+ghost use Rattle.tg_hamt.specs.Directories.{IsPairFault, IsSameHashFault, MakesSharded};
 ghost use Rattle.tg_model.specs.Stores.{KeepingQuiet, kept_in};
 
 use crate::fault::HamtFault;

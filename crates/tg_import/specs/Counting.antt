@@ -35,7 +35,8 @@ abbrev mutual
   counts_of (unopened cid) = nothing
   counts_of (bare section fault) = nothing
   counts_of (node section Raw children) = one_file (length section.block)
-  counts_of (node section (File inline filesize parts) children) = one_file (length (content (node section (File inline filesize parts) children)))
+  counts_of (node section (File inline filesize parts) children) =
+      one_file (length (content (node section (File inline filesize parts) children)))
   counts_of (node section (Basic es) children) = plus one_folder (counts_of_children children)
   counts_of (node section (Shard slots) children) = plus one_sharded (counts_of_slots slots children)
   counts_of (node section (Symlink target) children) = nothing
@@ -47,7 +48,8 @@ abbrev mutual
   pub counts_of_slots : List Slot → Children → Summary
   counts_of_slots slots no_child = nothing
   counts_of_slots [] (with_child d children) = nothing
-  counts_of_slots (slot ∷ slots) (with_child d children) = plus (slot_counts slot.name (counts_of d) (counts_inside d)) (counts_of_slots slots children)
+  counts_of_slots (slot ∷ slots) (with_child d children) =
+      plus (slot_counts slot.name (counts_of d) (counts_inside d)) (counts_of_slots slots children)
 
   -- what the entries of a child shard count
   pub counts_inside : Dag → Summary

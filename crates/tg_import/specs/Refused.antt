@@ -1,6 +1,7 @@
 -- Why a folder isn't imported: the first place, depth first and in the order of the names' bytes, that can't be.
 use Rattle.std.specs.List.{sum_by}
-use Rattle.std.specs.Prelude.{Contains, IfSome, List, Option, [], cond, length, map, nat_lt, suc, zero, ℕ, ◌+◌, ◌++◌, ◌<◌, ◌^◌, ◌∷◌, ◌≡◌, ◌≤◌, ◌⊎◌, ◌↔◌}
+use Rattle.std.specs.Prelude.{Contains, IfSome, List, Option, [], cond, length, map, nat_lt, suc, zero, ℕ, ◌+◌, ◌++◌}
+use Rattle.std.specs.Prelude.{◌<◌, ◌^◌, ◌∷◌, ◌≡◌, ◌≤◌, ◌⊎◌, ◌↔◌}
 use Rattle.std.specs.declared.cmp.Ordering.TheVariants.{Less}
 use Rattle.tg_bytes.specs.Order.{bytes_cmp}
 use Rattle.tg_files.specs.Folders.{FolderQuiet, FolderRose, FolderStep}
@@ -46,8 +47,10 @@ PassesTotal s = (max_total < s.files) ⊎ ((max_total < s.folders) ⊎ ((max_tot
 
 -- the first name that may not stand in the folder: it isn't good or equals one before it; or it is too long
 abbrev pub IsNameFault : List (List ℕ) → List Item → Item → ImportFault → Type 0
-IsNameFault path before item (faults.BadName at) = (at ≡ path ++ item.name ∷ []) × ((IsGoodName item.name → ⊥) ⊎ Contains (item_names before) item.name)
-IsNameFault path before item (faults.LongName at) = (at ≡ path ++ item.name ∷ []) × IsGoodName item.name × (255 < length item.name)
+IsNameFault path before item (faults.BadName at) =
+    (at ≡ path ++ item.name ∷ []) × ((IsGoodName item.name → ⊥) ⊎ Contains (item_names before) item.name)
+IsNameFault path before item (faults.LongName at) =
+    (at ≡ path ++ item.name ∷ []) × IsGoodName item.name × (255 < length item.name)
 IsNameFault path before item other = ⊥
 
 pub record HasNameFault (path : List (List ℕ)) (items : List Item) (fault : ImportFault) : Type 0 where
@@ -86,11 +89,13 @@ sort_fault FolderFault told path counted sorts.Symlink kept fault = IsSortFault 
 sort_fault FolderFault told path counted sorts.Other kept fault = IsSortFault path kept fault
 
 abbrev pub item_fault : Refusal → Option Tree → List (List ℕ) → Summary → Item → List Section → ImportFault → Type 0
-item_fault FolderFault told path counted item kept fault = sort_fault FolderFault told (path ++ item.name ∷ []) counted item.sort kept fault
+item_fault FolderFault told path counted item kept fault =
+    sort_fault FolderFault told (path ++ item.name ∷ []) counted item.sort kept fault
 
 -- the sections are the blocks of these DAGs, repeats aside
 abbrev pub AreBlocksOfAll : Children → List Section → Type 0
-AreBlocksOfAll children sections = (section : Section) → (Contains (blocks_of_children children) section ↔ Contains sections section)
+AreBlocksOfAll children sections =
+    (section : Section) → (Contains (blocks_of_children children) section ↔ Contains sections section)
 
 -- the first entry that can't be imported; those before it were, and of the sections that were kept the first are their
 -- blocks
@@ -165,7 +170,8 @@ RefusesFolder (suc levels) options told path counted kept fault =
 
 -- whatever was kept before
 abbrev pub HasFolderFault : ℕ → Options → Option Tree → List (List ℕ) → Summary → ImportFault → Type 0
-HasFolderFault levels options told path counted fault = (kept : List Section) × RefusesFolder levels options told path counted kept fault
+HasFolderFault levels options told path counted fault =
+    (kept : List Section) × RefusesFolder levels options told path counted kept fault
 
 -- these sections were kept, each behind those to which it links, and no more; or no more before this fault of the store
 abbrev pub KeepsSome : Keeping → Type 0
@@ -176,7 +182,8 @@ StopsSome fault keeping = (sections : List Section) × StopsAfter sections fault
 
 -- these were kept, and it is refused
 abbrev pub KeepsRefused : (List Section → Type 0) → Keeping → Type 0
-KeepsRefused Refused keeping = (sections : List Section) × Keeps sections keeping × AreBehindLinks [] sections × Refused sections
+KeepsRefused Refused keeping =
+    (sections : List Section) × Keeps sections keeping × AreBehindLinks [] sections × Refused sections
 
 -- why an import stops: the folder or the store failed, memory is wanted, or it is refused; and what was kept before
 abbrev pub IsCauseBy : (List Section → ImportFault → Type 0) → ImportFault → FolderStep → Keeping → Type 0
@@ -186,6 +193,7 @@ IsCauseBy Refused faults.OutOfMemory step keeping = FolderQuiet step × StopsSom
 IsCauseBy Refused fault step keeping = FolderQuiet step × KeepsRefused (λ sections. Refused sections fault) keeping
 
 -- why the import of the folder at a path stops
-abbrev pub IsImportCause : ℕ → Options → Option Tree → List (List ℕ) → Summary → ImportFault → FolderStep → Keeping → Type 0
+abbrev pub IsImportCause : ℕ → Options → Option Tree → List (List ℕ) → Summary → ImportFault → FolderStep → Keeping
+    → Type 0
 IsImportCause levels options told path counted fault step keeping =
     IsCauseBy (λ kept fault. RefusesFolder levels options told path counted kept fault) fault step keeping

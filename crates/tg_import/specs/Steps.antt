@@ -1,6 +1,7 @@
 -- The steps of an import: what each did, and why it stopped.
 use Rattle.std.specs.List.{IsDistinct, sum_by}
-use Rattle.std.specs.Prelude.{All, List, Option, [], bytes_eq, cond, length, map, nat_lt, slice_index_or, ℕ, ⊤, ◌-◌, ◌^◌, ◌<◌, ◌≡◌, ◌⊎◌}
+use Rattle.std.specs.Prelude.{All, List, Option, [], bytes_eq, cond, length, map, nat_lt, slice_index_or, ℕ, ⊤, ◌-◌}
+use Rattle.std.specs.Prelude.{◌^◌, ◌<◌, ◌≡◌, ◌⊎◌}
 use Rattle.tg_dir.specs.Made.{StopsDirectory}
 use Rattle.tg_dir.specs.Weights.{weight_for}
 use Rattle.tg_files.specs.Folders.{FolderQuiet, FolderRose, FolderStep}
@@ -76,5 +77,6 @@ IsEntriesCause shard path counted entries (faults.SameHash first second) keeping
     Keeps [] keeping × (shard < weight_for entries) × HaveSameHash entries first second × (max_total < tsizes_for entries → ⊥)
     × (PassesTotal (plus counted (own_count_for shard entries)) → ⊥)
 IsEntriesCause shard path counted entries faults.Keep keeping = StopsDirectory entries keep_faults.Failed keeping
-IsEntriesCause shard path counted entries faults.OutOfMemory keeping = StopsDirectory entries keep_faults.OutOfMemory keeping
+IsEntriesCause shard path counted entries faults.OutOfMemory keeping =
+    StopsDirectory entries keep_faults.OutOfMemory keeping
 IsEntriesCause shard path counted entries fault keeping = ⊥

@@ -6,7 +6,8 @@ ghost use Rattle.tg_files.specs.Folders.{FolderQuiet, SameFolder, folder_step};
 ghost use Rattle.tg_import.specs.Counting.{nothing, plus};
 ghost use Rattle.tg_import.specs.Imported.{AreOptions};
 ghost use Rattle.tg_import.specs.Refused.{IsCauseBy, IsFileFault, IsImportCause, PassesTotal};
-ghost use Rattle.tg_import.specs.Steps.{AreNewEntries, ImportsAs, IsEntriesCause, IsWriterFor, own_count_for, tsizes_for};
+ghost use Rattle.tg_import.specs.Steps.{AreNewEntries, ImportsAs, IsEntriesCause, IsWriterFor, own_count_for};
+ghost use Rattle.tg_import.specs.Steps.{tsizes_for};
 ghost use Rattle.tg_model.specs.Stores.{kept_in};
 ghost use Rattle.tg_tree.specs.Tree.{HasFileAt, HasFolderAt};
 

@@ -79,5 +79,6 @@ AreOfFile sections = AreOfFileParts sections ⊎ ((d : Dag) × IsSound d × AreB
 abbrev pub IsFileCause : Option (List ℕ) → FileFault → FolderStep → Keeping → Type 0
 IsFileCause bytes faults.Folder step keeping = FolderRose step × KeepsParts keeping
 IsFileCause bytes faults.Keep step keeping = FolderQuiet step × StopsParts keep_faults.Failed keeping
-IsFileCause bytes faults.TooBig step keeping = FolderQuiet step × KeepsParts keeping × IfSome bytes (λ bytes. max_file_len < length bytes)
+IsFileCause bytes faults.TooBig step keeping =
+    FolderQuiet step × KeepsParts keeping × IfSome bytes (λ bytes. max_file_len < length bytes)
 IsFileCause bytes faults.OutOfMemory step keeping = FolderQuiet step × StopsParts keep_faults.OutOfMemory keeping

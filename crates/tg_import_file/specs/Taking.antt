@@ -30,7 +30,8 @@ pub record MayTake (chunker : ChunkerState) (balanced : BalancedState) (more : �
 
 -- a piece was taken behind the bytes of before, and further sections were kept
 abbrev pub TakesPiece : ChunkerState → BalancedState → ChunkerState → BalancedState → List ℕ → Keeping → Type 0
-TakesPiece chunker balanced chunker_new balanced_new piece keeping = (bytes : List ℕ) (kept : List Section) → HasTaken chunker balanced bytes kept
+TakesPiece chunker balanced chunker_new balanced_new piece keeping =
+    (bytes : List ℕ) (kept : List Section) → HasTaken chunker balanced bytes kept
     → (sections : List Section) × Keeps sections keeping × HasTaken chunker_new balanced_new (bytes ++ piece) (kept ++ sections)
 
 -- the bytes of a file, as far as they are told, were taken, and sections were kept
@@ -51,7 +52,8 @@ pub record HasLinked (size : ℕ) (balanced : BalancedState) (bytes : List ℕ) 
 
 -- what was taken was linked, and further sections were kept
 abbrev pub LinksLast : ChunkerState → BalancedState → BalancedState → Keeping → Type 0
-LinksLast chunker balanced balanced_new keeping = (bytes : List ℕ) (kept : List Section) → HasTaken chunker balanced bytes kept
+LinksLast chunker balanced balanced_new keeping =
+    (bytes : List ℕ) (kept : List Section) → HasTaken chunker balanced bytes kept
     → (sections : List Section) × Keeps sections keeping × HasLinked chunker.size balanced_new bytes (kept ++ sections)
 
 -- what was taken was linked into one file, and further sections were kept

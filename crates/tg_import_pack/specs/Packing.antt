@@ -98,4 +98,5 @@ abbrev pub IsPackingCause : Options → Option Tree → ImportFault → FolderSt
 IsPackingCause options told faults.Folder folder pack = FolderRose folder × PackQuiet pack
 IsPackingCause options told faults.Keep folder pack = FolderQuiet folder × PackRose pack
 IsPackingCause options told faults.OutOfMemory folder pack = FolderQuiet folder × PackQuiet pack
-IsPackingCause options told fault folder pack = FolderQuiet folder × PackQuiet pack × HasFolderFault max_levels options told [] nothing fault
+IsPackingCause options told fault folder pack =
+    FolderQuiet folder × PackQuiet pack × HasFolderFault max_levels options told [] nothing fault

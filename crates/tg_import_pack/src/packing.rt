@@ -4,7 +4,8 @@ ghost use Rattle.tg_bytes.specs.Told.{IsNothing};
 ghost use Rattle.tg_files.specs.Folders.{FolderQuiet, SameFolder, folder_step};
 ghost use Rattle.tg_files.specs.Packs.{pack_step};
 ghost use Rattle.tg_import.specs.Imported.{AreOptions};
-ghost use Rattle.tg_import_pack.specs.Packing.{Grows, GrowsWithRoot, IsPacked, IsPackingCause, IsUnfinished, StaysTold, StopsWriting, WritesPack};
+ghost use Rattle.tg_import_pack.specs.Packing.{Grows, GrowsWithRoot, IsPacked, IsPackingCause, IsUnfinished, StaysTold};
+ghost use Rattle.tg_import_pack.specs.Packing.{StopsWriting, WritesPack};
 ghost use Rattle.tg_store.specs.Finishing.{IsNew};
 
 use std::alloc::Global;

@@ -42,7 +42,8 @@ abbrev mutual
   pub bundle_of_entries : List ℕ → List Entry → Children → List ℕ
   bundle_of_entries path entries no_child = []
   bundle_of_entries path [] (with_child d children) = []
-  bundle_of_entries path (entry ∷ entries) (with_child d children) = bundle (joined path entry.name) d ++ bundle_of_entries path entries children
+  bundle_of_entries path (entry ∷ entries) (with_child d children) =
+      bundle (joined path entry.name) d ++ bundle_of_entries path entries children
 
   pub bundle_of_slots : List ℕ → List Slot → Children → List ℕ
   bundle_of_slots path slots no_child = []
@@ -69,7 +70,8 @@ abbrev pub entity_text : Option SpanParts → Dag → List ℕ
 entity_text span (unopened cid) = []
 entity_text span (bare section fault) = []
 entity_text span (node section Raw children) = content_text span (content (node section Raw children))
-entity_text span (node section (File inline filesize parts) children) = content_text span (content (node section (File inline filesize parts) children))
+entity_text span (node section (File inline filesize parts) children) =
+    content_text span (content (node section (File inline filesize parts) children))
 entity_text span (node section (Basic es) children) = listing_of (node section (Basic es) children)
 entity_text span (node section (Shard slots) children) = listing_of (node section (Shard slots) children)
 entity_text span (node section (Symlink target) children) = target
@@ -78,7 +80,8 @@ abbrev pub all_text : Dag → List ℕ
 all_text (unopened cid) = []
 all_text (bare section fault) = []
 all_text (node section Raw children) = content (node section Raw children)
-all_text (node section (File inline filesize parts) children) = content (node section (File inline filesize parts) children)
+all_text (node section (File inline filesize parts) children) =
+    content (node section (File inline filesize parts) children)
 all_text (node section (Basic es) children) = bundle (slash ∷ []) (node section (Basic es) children)
 all_text (node section (Shard slots) children) = bundle (slash ∷ []) (node section (Shard slots) children)
 all_text (node section (Symlink target) children) = target

@@ -3,7 +3,9 @@ use Rattle.tg_cid.specs.declared.cid.Codec.TheVariants as codecs
 use Rattle.tg_bytes.specs.Ascii.{slash}
 use Rattle.tg_model.specs.declared.fault.BlockFault.TheVariants as faults
 use Rattle.std.specs.List.{list_all, list_any}
-use Rattle.std.specs.Prelude.{min, ◌-◌, Bool, Err, List, None, Ok, Option, Result, Some, [], bytes_eq, drop, false, if◌then◌else◌, length, map, nat_lt, not, sum, take, true, ℕ, ◌&&◌, ◌+◌, ◌==◌, ◌^◌, ◌∷◌, ◌≡◌, ◌⊎◌}
+use Rattle.std.specs.Prelude.{min, ◌-◌, Bool, Err, List, None, Ok, Option, Result, Some, [], bytes_eq, drop, false}
+use Rattle.std.specs.Prelude.{if◌then◌else◌, length, map, nat_lt, not, sum, take, true, ℕ, ◌&&◌, ◌+◌, ◌==◌, ◌^◌, ◌∷◌}
+use Rattle.std.specs.Prelude.{◌≡◌, ◌⊎◌}
 use Rattle.tg_cid.specs.Cid.{CidParts}
 use Rattle.tg_cid.specs.Computed.{cid_of}
 use Rattle.tg_cid.specs.declared.cid.Codec.{Codec}
@@ -49,7 +51,8 @@ is_good_name name = not (bytes_eq name []) && (list_all (λ b. not (b == slash) 
 -- the index of the first name that stands before, counted from `at`
 abbrev pub doubled_from : ℕ → List (List ℕ) → List (List ℕ) → Option ℕ
 doubled_from at before [] = None
-doubled_from at before (name ∷ names) = if list_any (bytes_eq name) before then Some at else doubled_from (at + 1) (name ∷ before) names
+doubled_from at before (name ∷ names) =
+    if list_any (bytes_eq name) before then Some at else doubled_from (at + 1) (name ∷ before) names
 
 -- a CID, or the fault of the link at `at`
 abbrev pub cid_or_fault : ℕ → Option CidParts → Result CidParts BlockFault
@@ -59,7 +62,8 @@ cid_or_fault at (Some cid) = Ok cid
 -- the CIDs that the hashes of links are
 abbrev pub cids_from : ℕ → List Link → Result (List CidParts) BlockFault
 cids_from at [] = Ok []
-cids_from at (link ∷ links) = cid_or_fault at (cid_of link.hash) >>= λ cid. cids_from (at + 1) links >>= λ cids. Ok (cid ∷ cids)
+cids_from at (link ∷ links) =
+    cid_or_fault at (cid_of link.hash) >>= λ cid. cids_from (at + 1) links >>= λ cids. Ok (cid ∷ cids)
 
 -- UnixFS Raw and File
 abbrev pub file_kind : List CidParts → Unix → Result Kind BlockFault
@@ -138,7 +142,8 @@ unix_or_fault None = Err faults.NoUnix
 unix_or_fault (Some payload) = unix_with_fault (unix_of payload)
 
 abbrev pub read_node : Node → Result Kind BlockFault
-read_node node = cids_from 0 node.links >>= λ cids. unix_or_fault node.payload >>= λ unix. kind_by unix.kind node.links cids unix
+read_node node =
+    cids_from 0 node.links >>= λ cids. unix_or_fault node.payload >>= λ unix. kind_by unix.kind node.links cids unix
 
 abbrev pub read_under : Codec → List ℕ → Result Kind BlockFault
 read_under codecs.Raw block = Ok Raw

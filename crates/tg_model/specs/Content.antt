@@ -35,12 +35,14 @@ abbrev mutual
   pub content_at : Position → Dag → List ℕ
   content_at position (unopened cid) = zeros_for position
   content_at position (bare section fault) = []
-  content_at position (node section kind children) = own_content section kind ++ content_of_children (part_positions position kind) children
+  content_at position (node section kind children) =
+      own_content section kind ++ content_of_children (part_positions position kind) children
 
   pub content_of_children : List Position → Children → List ℕ
   content_of_children positions no_child = []
   content_of_children [] (with_child d children) = []
-  content_of_children (position ∷ positions) (with_child d children) = content_at position d ++ content_of_children positions children
+  content_of_children (position ∷ positions) (with_child d children) =
+      content_at position d ++ content_of_children positions children
 
 abbrev pub content : Dag → List ℕ
 content d = content_at top d
@@ -53,7 +55,8 @@ pub record DirEntry : Type 0 where
 abbrev pub named_children : List Entry → Children → List DirEntry
 named_children entries no_child = []
 named_children [] (with_child d children) = []
-named_children (entry ∷ entries) (with_child d children) = record { name = entry.name; dag = d } ∷ named_children entries children
+named_children (entry ∷ entries) (with_child d children) =
+    record { name = entry.name; dag = d } ∷ named_children entries children
 
 -- a slot is an entry where it has a name, and else it has those of its child shard
 abbrev pub slot_entries : Option (List ℕ) → Dag → List DirEntry → List DirEntry
@@ -74,4 +77,5 @@ abbrev mutual
   pub entries_of_slots : List Slot → Children → List DirEntry
   entries_of_slots slots no_child = []
   entries_of_slots [] (with_child d children) = []
-  entries_of_slots (slot ∷ slots) (with_child d children) = slot_entries slot.name d (entries d) ++ entries_of_slots slots children
+  entries_of_slots (slot ∷ slots) (with_child d children) =
+      slot_entries slot.name d (entries d) ++ entries_of_slots slots children

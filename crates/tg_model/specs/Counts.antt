@@ -1,6 +1,7 @@
 -- What the limits of a query count.
 use Rattle.std.specs.List.{flat_map}
-use Rattle.std.specs.Prelude.{Bool, List, [], bytes_eq, false, filter, if◌then◌else◌, length, map, max, sum, true, ℕ, ◌+◌, ◌-◌, ◌∷◌}
+use Rattle.std.specs.Prelude.{Bool, List, [], bytes_eq, false, filter, if◌then◌else◌, length, map, max, sum, true, ℕ}
+use Rattle.std.specs.Prelude.{◌+◌, ◌-◌, ◌∷◌}
 use Rattle.tg_model.specs.Dag.{Dag}
 use Rattle.tg_model.specs.LimitNumbers.{LimitNumbers}
 use Rattle.tg_model.specs.Queries.{QueryParts}

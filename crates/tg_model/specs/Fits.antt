@@ -12,7 +12,8 @@ use Rattle.tg_model.specs.declared.queries.Scope.{Scope}
 
 -- one block stands under each CID
 abbrev pub HasOneBlockEach : List Section → Type 0
-HasOneBlockEach sections = (a b : Section) → Contains sections a → Contains sections b → a.cid ≡ b.cid → a.block ≡ b.block
+HasOneBlockEach sections =
+    (a b : Section) → Contains sections a → Contains sections b → a.cid ≡ b.cid → a.block ≡ b.block
 
 -- where each block is sent once
 abbrev pub IfOnce : Bool → Type 0 → Type 0
@@ -82,7 +83,8 @@ so_far false end all text = text
 
 -- what is written for a partial DAG: the text in preorder up to the first block that isn't opened
 abbrev pub output_so_far : QueryParts → Dag → List ℕ
-output_so_far q d = so_far (is_late_terminal q.scope (path_walk q.path d).end) (traversal q d).end (whole_text q d) (traversal q d).text
+output_so_far q d =
+    so_far (is_late_terminal q.scope (path_walk q.path d).end) (traversal q d).end (whole_text q d) (traversal q d).text
 
 -- a received section and a node of the DAG have one CID and different blocks with one SHA-256
 pub record CollisionPair (sections : List Section) (d : Dag) : Type 0 where

@@ -13,4 +13,5 @@ last_one number n (suc i) m most is e = absurd (omega arith)
 
 -- one number is full where it is at most the number asked for
 pub full_one : (number n : ℕ) → n ≤ number → AreFull number (n ∷ [])
-full_one number n most = record { full = λ i m before e. absurd (omega arith); last = λ i m is e. last_one number n i m most is e }
+full_one number n most =
+    record { full = λ i m before e. absurd (omega arith); last = λ i m is e. last_one number n i m most is e }

@@ -1,5 +1,6 @@
 -- The layout that the importer gives a tree of files, as properties of the DAG (this project's own profile of UnixFS).
-use Rattle.std.specs.Prelude.{unwrap_or, All, List, None, Some, [], length, map, slice_get, suc, sum, true, zero, ℕ, ⊤, ◌++◌, ◌+◌, ◌<◌, ◌∷◌, ◌≡◌, ◌≢◌, ◌≤◌}
+use Rattle.std.specs.Prelude.{unwrap_or, All, List, None, Some, [], length, map, slice_get, suc, sum, true, zero, ℕ, ⊤}
+use Rattle.std.specs.Prelude.{◌++◌, ◌+◌, ◌<◌, ◌∷◌, ◌≡◌, ◌≢◌, ◌≤◌}
 use Rattle.tg_cid.specs.Computed.{v1_bytes}
 use Rattle.tg_cid.specs.Spelling.{CidBytes}
 use Rattle.tg_cid.specs.declared.cid.HashKind.TheVariants.{Sha256}
@@ -7,7 +8,8 @@ use Rattle.tg_dagpb.specs.Node.{CanonicalText}
 use Rattle.tg_dagpb.specs.declared.Link.{Link}
 use Rattle.tg_tree.specs.declared.tree.Tree.{Tree}
 use Rattle.tg_model.specs.Content.{DirEntry, content, entries}
-use Rattle.tg_model.specs.Dag.{Dag, Children, Section, bare, blocks, with_child, no_child, node, root_cid, total_of, unopened}
+use Rattle.tg_model.specs.Dag.{Dag, Children, Section, bare, blocks, with_child, no_child, node, root_cid, total_of}
+use Rattle.tg_model.specs.Dag.{unopened}
 use Rattle.tg_model.specs.Reading.{slot_digits, used_slots}
 use Rattle.tg_model.specs.ShowsTree.{Shows}
 use Rattle.tg_model.specs.Sound.{Position, child, part, positions, top}
@@ -47,14 +49,16 @@ abbrev mutual
   level_widths (bare section fault) level = []
   level_widths (node section Raw children) level = []
   level_widths (node section (File inline filesize parts) children) zero = length parts ∷ []
-  level_widths (node section (File inline filesize parts) children) (suc level) = level_widths_of_children children level
+  level_widths (node section (File inline filesize parts) children) (suc level) =
+      level_widths_of_children children level
   level_widths (node section (Basic es) children) level = []
   level_widths (node section (Shard slots) children) level = []
   level_widths (node section (Symlink target) children) level = []
 
   pub level_widths_of_children : Children → ℕ → List ℕ
   level_widths_of_children no_child level = []
-  level_widths_of_children (with_child d children) level = level_widths d level ++ level_widths_of_children children level
+  level_widths_of_children (with_child d children) level =
+      level_widths d level ++ level_widths_of_children children level
 
 -- every leaf is so many links below the node
 abbrev mutual
@@ -120,13 +124,15 @@ AreLinks _ _ _ = ⊥
 
 -- the data of a file's node, of a directory in one block, and of a shard
 abbrev pub file_unix : ℕ → List ℕ → Unix
-file_unix total sizes = record { kind = 2; inline = None; filesize = Some total; sizes = sizes; hash = None; fanout = None }
+file_unix total sizes =
+    record { kind = 2; inline = None; filesize = Some total; sizes = sizes; hash = None; fanout = None }
 
 abbrev pub basic_unix : Unix
 basic_unix = record { kind = 1; inline = None; filesize = None; sizes = []; hash = None; fanout = None }
 
 abbrev pub shard_unix : List ℕ → Unix
-shard_unix bits = record { kind = 5; inline = Some bits; filesize = None; sizes = []; hash = Some 0x22; fanout = Some 256 }
+shard_unix bits =
+    record { kind = 5; inline = Some bits; filesize = None; sizes = []; hash = Some 0x22; fanout = Some 256 }
 
 -- the block is the canonical text of a node with these links and this data
 pub record IsWritten (block : List ℕ) (names : List (List ℕ)) (children : Children) (unix : Unix) : Type 0 where
@@ -151,7 +157,8 @@ pub record AreBitsOf (slots : List Slot) (bits : List ℕ) : Type 0 where
 
 -- the entries stand in the order of their names' bytes
 abbrev pub AreSorted : List Entry → Type 0
-AreSorted es = (i : ℕ) (a b : Entry) → slice_get es i ≡ Some a → slice_get es (i + 1) ≡ Some b → is_before a.name b.name ≡ true
+AreSorted es =
+    (i : ℕ) (a b : Entry) → slice_get es i ≡ Some a → slice_get es (i + 1) ≡ Some b → is_before a.name b.name ≡ true
 
 -- ---- directories
 
@@ -201,7 +208,8 @@ abbrev mutual
   pub AreLaidAt : LayoutOptions → List Position → Children → Type 0
   AreLaidAt options positions no_child = ⊤
   AreLaidAt options [] (with_child d children) = ⊥
-  AreLaidAt options (position ∷ positions) (with_child d children) = IsLaidAt options position d × AreLaidAt options positions children
+  AreLaidAt options (position ∷ positions) (with_child d children) =
+      IsLaidAt options position d × AreLaidAt options positions children
 
 -- each CID is a CIDv1 of sha2-256
 abbrev pub HasPlainCid : Section → Type 0

@@ -1,6 +1,7 @@
 -- The walk along a path by the slots of shards (Path Gateway specification, Path Resolution; UnixFS specification,
 -- HAMTDirectory).
-use Rattle.std.specs.Prelude.{List, None, Option, Some, [], bytes_eq, if◌then◌else◌, length, suc, zero, ℕ, ◌++◌, ◌+◌, ◌==◌, ◌∷◌}
+use Rattle.std.specs.Prelude.{List, None, Option, Some, [], bytes_eq, if◌then◌else◌, length, suc, zero, ℕ, ◌++◌, ◌+◌}
+use Rattle.std.specs.Prelude.{◌==◌, ◌∷◌}
 use Rattle.tg_cid.specs.Cid.{CidParts}
 use Rattle.tg_model.specs.Dag.{Dag, Children, Section, bare, with_child, no_child, node, unopened}
 use Rattle.tg_model.specs.Sound.{Position, child, passed, position_fault, top}
@@ -21,7 +22,8 @@ pub data StepTo : Type 0 where
 -- the first entry of that name, its index counted from `at`
 abbrev pub entry_step : ℕ → List ℕ → List Entry → StepTo
 entry_step at name [] = absent
-entry_step at name (entry ∷ entries) = if bytes_eq name entry.name then to_entry at else entry_step (at + 1) name entries
+entry_step at name (entry ∷ entries) =
+    if bytes_eq name entry.name then to_entry at else entry_step (at + 1) name entries
 
 -- a slot is an entry of another name, one of this name, or a child shard
 abbrev pub slot_step : ℕ → List ℕ → Option (List ℕ) → StepTo
@@ -31,7 +33,8 @@ slot_step at name (Some other) = if bytes_eq name other then to_entry at else ab
 -- the slot with this number, its index counted from `at`
 abbrev pub slots_step : ℕ → ℕ → List ℕ → List Slot → StepTo
 slots_step at number name [] = absent
-slots_step at number name (slot ∷ slots) = if slot.slot == number then slot_step at name slot.name else slots_step (at + 1) number name slots
+slots_step at number name (slot ∷ slots) =
+    if slot.slot == number then slot_step at name slot.name else slots_step (at + 1) number name slots
 
 -- the step with a name at a level of shards
 abbrev pub step_of : Kind → ℕ → List ℕ → StepTo
@@ -104,8 +107,10 @@ abbrev mutual
   walk_from i position depth path (unopened cid) = stopped_at (gone (spot_at cid depth position))
   walk_from i position depth [] (bare section fault) = record { sections = []; end = terminal (bare section fault) }
   walk_from i position depth (name ∷ path) (bare section None) = stopped_at (gone (spot_at section.cid depth position))
-  walk_from i position depth (name ∷ path) (bare section (Some fault)) = stopped_at (bad_block (spot_at section.cid depth position) fault)
-  walk_from i position depth [] (node section kind children) = record { sections = []; end = terminal (node section kind children) }
+  walk_from i position depth (name ∷ path) (bare section (Some fault)) =
+      stopped_at (bad_block (spot_at section.cid depth position) fault)
+  walk_from i position depth [] (node section kind children) =
+      record { sections = []; end = terminal (node section kind children) }
   walk_from i position depth (name ∷ path) (node section kind children) =
       unless_misfit section (spot_at section.cid depth position) (position_fault position kind) (walk_step i
       (λ k. walk_child k (i + 1) top (depth + 1) path children)

@@ -95,4 +95,5 @@ StandsForAnswer block (Err found) (Err fault) = found ≡ fault
 
 -- the same, or memory was wanted where it is taken
 abbrev pub GivesPlaced : List ℕ → Result PlacedKind BlockFault → Result Kind BlockFault → Type 0
-GivesPlaced block result computed = StandsForAnswer block result computed ⊎ ((result ≡ Err faults.OutOfMemory) × TakesMemory computed)
+GivesPlaced block result computed =
+    StandsForAnswer block result computed ⊎ ((result ≡ Err faults.OutOfMemory) × TakesMemory computed)

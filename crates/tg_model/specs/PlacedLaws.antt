@@ -11,4 +11,5 @@ pub kind_of : (block : List ℕ) (placed : PlacedKind) (computed : Result Kind B
     → GivesPlaced block (Ok placed) computed → (kind : Kind) × (computed ≡ Ok kind) × StandsForKind block placed kind
 kind_of block placed (Ok kind) (inl h) = (kind, refl, h)
 kind_of block placed (Err fault) (inl h) = absurd h
-kind_of block placed computed (inr h) = let wrong : ◌≡◌ {A = Result PlacedKind BlockFault} (Ok placed) (Err faults.OutOfMemory) = h.0 in absurd (cc)
+kind_of block placed computed (inr h) =
+    let wrong : ◌≡◌ {A = Result PlacedKind BlockFault} (Ok placed) (Err faults.OutOfMemory) = h.0 in absurd (cc)

@@ -2,7 +2,8 @@
 use Rattle.tg_cid.specs.declared.cid.Codec.TheVariants as codecs
 use Rattle.std.specs.Fmt.{digit_glyph}
 use Rattle.std.specs.List.{IsDistinct}
-use Rattle.std.specs.Prelude.{All, List, None, Option, Some, [], bytes_eq, filter, fold, length, map, suc, sum, true, unwrap_or, zero, ℕ, ⊤, ◌%◌, ◌*◌, ◌++◌, ◌+◌, ◌/◌, ◌<◌, ◌==◌, ◌^◌, ◌∷◌, ◌≡◌, ◌≤◌, ◌⊎◌}
+use Rattle.std.specs.Prelude.{All, List, None, Option, Some, [], bytes_eq, filter, fold, length, map, suc, sum, true}
+use Rattle.std.specs.Prelude.{unwrap_or, zero, ℕ, ⊤, ◌%◌, ◌*◌, ◌++◌, ◌+◌, ◌/◌, ◌<◌, ◌==◌, ◌^◌, ◌∷◌, ◌≡◌, ◌≤◌, ◌⊎◌}
 use Rattle.tg_cid.specs.Cid.{CidParts}
 use Rattle.tg_cid.specs.Spelling.{CidBytes}
 use Rattle.tg_cid.specs.declared.cid.Codec.{Codec}
@@ -97,7 +98,8 @@ pub record IsSlotLink (number : ℕ) (link : Link) (cid : CidParts) (slot : Slot
 -- the links are the slots with these numbers, one by one
 abbrev pub AreSlots : List ℕ → List Link → List CidParts → List Slot → Type 0
 AreSlots [] [] [] [] = ⊤
-AreSlots (number ∷ numbers) (link ∷ links) (cid ∷ cids) (slot ∷ slots) = IsSlotLink number link cid slot × AreSlots numbers links cids slots
+AreSlots (number ∷ numbers) (link ∷ links) (cid ∷ cids) (slot ∷ slots) =
+    IsSlotLink number link cid slot × AreSlots numbers links cids slots
 AreSlots _ _ _ _ = ⊥
 
 -- UnixFS HAMTShard: at most 32 bytes of bits, and a link for each bit that is set

@@ -1,9 +1,11 @@
 -- Where a node stands in a DAG, what it has to be there, and when a DAG is sound (UnixFS specification: File,
 -- Directory, HAMTDirectory).
 use Rattle.tg_model.specs.declared.fault.BlockFault.TheVariants as faults
-use Rattle.std.specs.Prelude.{Bool, IfSome, List, None, Option, Some, [], false, if◌then◌else◌, length, map, nat_lt, not, true, unwrap_or, ℕ, ⊤, ◌&&◌, ◌++◌, ◌+◌, ◌==◌, ◌∷◌, ◌≡◌}
+use Rattle.std.specs.Prelude.{Bool, IfSome, List, None, Option, Some, [], false, if◌then◌else◌, length, map, nat_lt}
+use Rattle.std.specs.Prelude.{not, true, unwrap_or, ℕ, ⊤, ◌&&◌, ◌++◌, ◌+◌, ◌==◌, ◌∷◌, ◌≡◌}
 use Rattle.tg_cid.specs.Names.{Names}
-use Rattle.tg_model.specs.Dag.{Dag, IsWhole, Children, Section, bare, with_child, links_of, no_child, node, root_cids, total_of, unopened}
+use Rattle.tg_model.specs.Dag.{Dag, IsWhole, Children, Section, bare, with_child, links_of, no_child, node, root_cids}
+use Rattle.tg_model.specs.Dag.{total_of, unopened}
 use Rattle.tg_model.specs.Reading.{Reads}
 use Rattle.tg_model.specs.declared.fault.BlockFault.{BlockFault}
 use Rattle.tg_model.specs.declared.kinds.Kind.{Kind}
@@ -56,7 +58,8 @@ is_misplaced above slot = is_name_elsewhere (above ++ slot.slot ∷ []) slot.nam
 -- the first slot with an entry that stands elsewhere, its index counted from `at`
 abbrev pub misplaced_from : ℕ → List ℕ → List Slot → Option BlockFault
 misplaced_from at above [] = None
-misplaced_from at above (slot ∷ slots) = if is_misplaced above slot then Some (faults.Misplaced at) else misplaced_from (at + 1) above slots
+misplaced_from at above (slot ∷ slots) =
+    if is_misplaced above slot then Some (faults.Misplaced at) else misplaced_from (at + 1) above slots
 
 -- a shard behind these slots: at most 7 of them, and each entry behind its own
 abbrev pub shard_fault : List ℕ → List Slot → Option BlockFault
@@ -121,7 +124,8 @@ abbrev mutual
   pub IsCheckedAt : Position → Dag → Type 0
   IsCheckedAt position (unopened cid) = ⊤
   IsCheckedAt position (bare section fault) = IsBareBlock section fault
-  IsCheckedAt position (node section kind children) = IsNodeAt position section kind children × AreCheckedAt (positions position kind) children
+  IsCheckedAt position (node section kind children) =
+      IsNodeAt position section kind children × AreCheckedAt (positions position kind) children
 
   pub AreCheckedAt : List Position → Children → Type 0
   AreCheckedAt positions no_child = ⊤

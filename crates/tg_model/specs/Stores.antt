@@ -30,7 +30,8 @@ pub record Adds (old new : Store) (cid : CidParts) (block : List ℕ) : Type 0 w
 -- the sections' blocks are kept under their CIDs, one after another
 abbrev pub AddsEach : Store → Store → List Section → Type 0
 AddsEach old new [] = new ≡ old
-AddsEach old new (section ∷ sections) = (between : Store) × Adds old between section.cid section.block × AddsEach between new sections
+AddsEach old new (section ∷ sections) =
+    (between : Store) × Adds old between section.cid section.block × AddsEach between new sections
 
 -- told or not
 abbrev pub AreKeptAs : Option Store → Option Store → List Section → Type 0

@@ -2,7 +2,8 @@
 use Rattle.std.specs.Fmt.{digit_glyph}
 use Rattle.tg_bytes.specs.Ascii.{line_feed, slash, space}
 use Rattle.std.specs.List.{flat_map}
-use Rattle.std.specs.Prelude.{Bool, List, [], bytes_eq, codes, decimal, false, if◌then◌else◌, nat_le, nat_lt, true, ℕ, ◌%◌, ◌&&◌, ◌++◌, ◌/◌, ◌==◌, ◌||◌, ◌∷◌}
+use Rattle.std.specs.Prelude.{Bool, List, [], bytes_eq, codes, decimal, false, if◌then◌else◌, nat_le, nat_lt, true, ℕ}
+use Rattle.std.specs.Prelude.{◌%◌, ◌&&◌, ◌++◌, ◌/◌, ◌==◌, ◌||◌, ◌∷◌}
 use Rattle.tg_cid.specs.Cid.{CidParts}
 use Rattle.tg_cid.specs.Computed.{cid_text}
 

@@ -3,11 +3,13 @@
 -- dfs).
 use Rattle.tg_model.specs.declared.queries.Scope.TheVariants as scopes
 use Rattle.tg_bytes.specs.Ascii.{line_feed, slash}
-use Rattle.std.specs.Prelude.{Bool, List, None, Option, Some, [], drop, if◌then◌else◌, length, map, nat_lt, take, ℕ, ◌&&◌, ◌++◌, ◌+◌, ◌-◌, ◌∷◌}
+use Rattle.std.specs.Prelude.{Bool, List, None, Option, Some, [], drop, if◌then◌else◌, length, map, nat_lt, take, ℕ}
+use Rattle.std.specs.Prelude.{◌&&◌, ◌++◌, ◌+◌, ◌-◌, ◌∷◌}
 use Rattle.tg_cid.specs.Cid.{CidParts}
 use Rattle.tg_model.specs.ByteRanges.{high_of, low_of}
 use Rattle.tg_model.specs.Dag.{Dag, Children, Section, bare, with_child, no_child, node, total_of, unopened}
-use Rattle.tg_model.specs.PathWalk.{PathEnd, Spot, Stop, TraversalEnd, bad_block, child_below, gone, not_reached, path_walk, spot_at, stopped, terminal, whole}
+use Rattle.tg_model.specs.PathWalk.{PathEnd, Spot, Stop, TraversalEnd, bad_block, child_below, gone, not_reached}
+use Rattle.tg_model.specs.PathWalk.{path_walk, spot_at, stopped, terminal, whole}
 use Rattle.tg_model.specs.Queries.{QueryParts, SpanParts}
 use Rattle.tg_model.specs.Sound.{Position, child, part, position_fault, top}
 use Rattle.tg_model.specs.Texts.{Named, dir_line, file_line, joined, link_line}
@@ -57,7 +59,8 @@ giving_place p text = record { places = p ∷ []; text = text; met = []; end = w
 
 -- one traversal, and behind it another where the first came through
 abbrev pub after_end : TraversalEnd → Traversal → Traversal → Traversal
-after_end whole a b = record { places = a.places ++ b.places; text = a.text ++ b.text; met = a.met ++ b.met; end = b.end }
+after_end whole a b =
+    record { places = a.places ++ b.places; text = a.text ++ b.text; met = a.met ++ b.met; end = b.end }
 after_end (stopped stop) a b = a
 
 abbrev pub and_then : Traversal → Traversal → Traversal
@@ -188,7 +191,8 @@ abbrev mutual
   pub traverse : Reach → Position → ℕ → Dag → Traversal
   traverse reach position depth (unopened cid) = ended (gone (spot_at cid depth position))
   traverse reach position depth (bare section None) = ended (gone (spot_at section.cid depth position))
-  traverse reach position depth (bare section (Some fault)) = ended (bad_block (spot_at section.cid depth position) fault)
+  traverse reach position depth (bare section (Some fault)) =
+      ended (bad_block (spot_at section.cid depth position) fault)
   traverse reach position depth (node section kind children) =
       unless_bad (spot_at section.cid depth position) (position_fault position kind)
       (and_then (giving_place (record { section = section; depth = depth }) (text_before reach position section kind))
@@ -226,7 +230,8 @@ all_reach (Symlink target) = entire
 abbrev pub block_alone : ℕ → Dag → Traversal
 block_alone depth (unopened cid) = ended (gone (spot_at cid depth top))
 block_alone depth (bare section fault) = giving_place (record { section = section; depth = depth }) section.block
-block_alone depth (node section kind children) = giving_place (record { section = section; depth = depth }) section.block
+block_alone depth (node section kind children) =
+    giving_place (record { section = section; depth = depth }) section.block
 
 -- a terminal with a kind, or one without
 abbrev pub kind_reach : (Section → Kind → Reach) → Dag → Reach

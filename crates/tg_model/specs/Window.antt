@@ -28,4 +28,5 @@ pub record IsNoRun (inline : ℕ) (parts : List Part) (low high first end : ℕ)
   pub end_is : end ≡ 0
 
 abbrev pub IsWindow : ℕ → List Part → ℕ → ℕ → ℕ → ℕ → Type 0
-IsWindow inline parts low high first end = IsRun inline parts low high first end ⊎ IsNoRun inline parts low high first end
+IsWindow inline parts low high first end =
+    IsRun inline parts low high first end ⊎ IsNoRun inline parts low high first end

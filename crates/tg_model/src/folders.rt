@@ -1,8 +1,10 @@
 //! Directories and shards read from their blocks.
 ghost use Rattle.std.specs.Fmt.{digit_glyph};
-ghost use Rattle.std.specs.Prelude.{true, [], ◌≡◌, ℕ, ◌+◌, ◌-◌, ◌*◌, ◌/◌, ◌%◌, ◌^◌, ◌<◌, ◌≤◌, ◌==◌, not, min, map, length, IfOk};
+ghost use Rattle.std.specs.Prelude.{true, [], ◌≡◌, ℕ, ◌+◌, ◌-◌, ◌*◌, ◌/◌, ◌%◌, ◌^◌, ◌<◌, ◌≤◌, ◌==◌, not, min, map};
+ghost use Rattle.std.specs.Prelude.{length, IfOk};
 ghost use Rattle.tg_dagpb.specs.Cursor.{link_of};
-ghost use Rattle.tg_model.specs.Computed.{Gives, basic_kind, doubled_from, first_from, has_bad_suffix, has_digits, is_good_name, shard_kind, slot_at, slots_from};
+ghost use Rattle.tg_model.specs.Computed.{Gives, basic_kind, doubled_from, first_from, has_bad_suffix, has_digits};
+ghost use Rattle.tg_model.specs.Computed.{is_good_name, shard_kind, slot_at, slots_from};
 ghost use Rattle.tg_model.specs.Placed.{AreLinksAhead, GivesPlaced};
 ghost use Rattle.tg_model.specs.PlacedSteps.{AllAhead, block_cids, block_links};
 ghost use Rattle.tg_model.specs.Reading.{big_endian, entries_of, name_of, used_slots};

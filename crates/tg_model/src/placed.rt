@@ -1,10 +1,14 @@
 //! What a block is read as where it stands, without copies of its bytes.
-ghost use Rattle.std.specs.Prelude.{◌≡◌, ℕ, ◌+◌, ◌-◌, ◌^◌, ◌⊎◌, min, sum, length, unwrap_or, Some, IfErr, IfOk, MatchResult};
+ghost use Rattle.std.specs.Prelude.{◌≡◌, ℕ, ◌+◌, ◌-◌, ◌^◌, ◌⊎◌, min, sum, length, unwrap_or, Some, IfErr, IfOk};
+ghost use Rattle.std.specs.Prelude.{MatchResult};
 ghost use Rattle.tg_dagpb.specs.Computed.{node_of};
-ghost use Rattle.tg_model.specs.Computed.{file_kind, kind_by, node_or_fault, read, read_under, symlink_kind, unix_or_fault};
+ghost use Rattle.tg_model.specs.Computed.{file_kind, kind_by, node_or_fault, read, read_under, symlink_kind};
+ghost use Rattle.tg_model.specs.Computed.{unix_or_fault};
 ghost use Rattle.tg_model.specs.InnerFaults.{IsNoWantOfMemory};
-ghost use Rattle.tg_model.specs.Placed.{AreLinksAhead, AreSizesAhead, GivesPlaced, HasPartCursor, LieAt, StandsForAnswer, StandsForKind};
-ghost use Rattle.tg_model.specs.PlacedSteps.{AllAhead, AreDataPlaces, IsDataAt, IsNodeWith, block_cids, block_links, data_unix, text_sizes};
+ghost use Rattle.tg_model.specs.Placed.{AreLinksAhead, AreSizesAhead, GivesPlaced, HasPartCursor, LieAt};
+ghost use Rattle.tg_model.specs.Placed.{StandsForAnswer, StandsForKind};
+ghost use Rattle.tg_model.specs.PlacedSteps.{AllAhead, AreDataPlaces, IsDataAt, IsNodeWith, block_cids, block_links};
+ghost use Rattle.tg_model.specs.PlacedSteps.{data_unix, text_sizes};
 ghost use Rattle.tg_model.specs.Reading.{Reads, inline_of};
 ghost use Rattle.tg_model.specs.declared.fault.BlockFault.{BlockFault};
 ghost use Rattle.tg_model.specs.declared.kinds.Kind.{Kind};

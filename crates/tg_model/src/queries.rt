@@ -1,5 +1,6 @@
 //! What is asked of a DAG: queries and their byte ranges.
-ghost use Rattle.std.specs.Prelude.{◌≡◌, ℕ, ◌^◌, ◌<◌, ◌≤◌, [], Option, Some, None, true, length, All, IfSome, List as Items};
+ghost use Rattle.std.specs.Prelude.{◌≡◌, ℕ, ◌^◌, ◌<◌, ◌≤◌, [], Option, Some, None, true, length, All, IfSome};
+ghost use Rattle.std.specs.Prelude.{List as Items};
 ghost use Rattle.tg_cid.specs.Cid.{CidParts};
 ghost use Rattle.tg_model.specs.EntryNames.{IsGoodName};
 ghost use Rattle.tg_model.specs.Queries.{IsFrom, IsSpan, IsUpTo, QueryParts, SpanParts, WellFormed};
@@ -131,9 +132,23 @@ impl Model for Query {
 
     ghost Value = { QueryParts };
 
-    ghost view = { λ q. record { root = q.root; path = q.path; form = q.form; scope = q.scope; span = q.span; dups = q.dups } };
+    ghost view = { λ q. record {
+      root = q.root;
+      path = q.path;
+      form = q.form;
+      scope = q.scope;
+      span = q.span;
+      dups = q.dups;
+    } };
 
-    ghost invariant = { λ q. WellFormed (record { root = q.root; path = q.path; form = q.form; scope = q.scope; span = q.span; dups = q.dups }) };
+    ghost invariant = { λ q. WellFormed (record {
+      root = q.root;
+      path = q.path;
+      form = q.form;
+      scope = q.scope;
+      span = q.span;
+      dups = q.dups;
+    }) };
 }
 
 impl Query {

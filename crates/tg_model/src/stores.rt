@@ -4,7 +4,9 @@ ghost use Rattle.std.specs.Prelude.{◌≡◌, ◌≤◌, ◌++◌, ◌∷◌, [
 ghost use Rattle.tg_cid.specs.Cid.{CidParts};
 ghost use Rattle.tg_cid.specs.Names.{Names};
 ghost use Rattle.tg_model.specs.Dag.{Section};
-ghost use Rattle.tg_model.specs.Stores.{BlocksMeaning, IsCauseOf, IsGotten, IsToldStore, KeepMeaning, KeepingQuiet, KeepingRose, Kept, KeptNothing, KeptSame, LookedUp, LookupsQuiet, kept_in, looked_in};
+ghost use Rattle.tg_model.specs.Stores.{BlocksMeaning, IsCauseOf, IsGotten, IsToldStore, KeepMeaning, KeepingQuiet};
+ghost use Rattle.tg_model.specs.Stores.{KeepingRose, Kept, KeptNothing, KeptSame, LookedUp, LookupsQuiet, kept_in};
+ghost use Rattle.tg_model.specs.Stores.{looked_in};
 
 use tg_bytes::Bytes;
 use tg_cid::Cid;
@@ -65,7 +67,8 @@ pub trait Blocks {
     // Nothing looked up relates a value to itself, and one step after another is a step.
     ghost rests: { (s : Self) → blocks.looked s s [] };
 
-    ghost joins: { (a b c : Self) (u v : List CidParts) → blocks.looked a b u → blocks.looked b c v → blocks.looked a c (u ++ v) };
+    ghost joins: { (a b c : Self) (u v : List CidParts) → blocks.looked a b u → blocks.looked b c v
+        → blocks.looked a c (u ++ v) };
 }
 
 /// A store that keeps blocks.
@@ -100,5 +103,6 @@ pub trait Keep {
     // Nothing kept relates a value to itself, and one step after another is a step.
     ghost rests: { (s : Self) → keeper.kept s s [] };
 
-    ghost joins: { (a b c : Self) (u v : List Section) → keeper.kept a b u → keeper.kept b c v → keeper.kept a c (u ++ v) };
+    ghost joins: { (a b c : Self) (u v : List Section) → keeper.kept a b u → keeper.kept b c v
+        → keeper.kept a c (u ++ v) };
 }

@@ -15,11 +15,13 @@ abbrev mutual
   pub down_to : ℕ → ℕ → Dag → Dag
   down_to most depth (unopened cid) = unopened cid
   down_to most depth (bare section fault) = if nat_lt most depth then unopened section.cid else bare section fault
-  down_to most depth (node section kind children) = if nat_lt most depth then unopened section.cid else node section kind (children_down_to most (depth + 1) children)
+  down_to most depth (node section kind children) =
+      if nat_lt most depth then unopened section.cid else node section kind (children_down_to most (depth + 1) children)
 
   pub children_down_to : ℕ → ℕ → Children → Children
   children_down_to most depth no_child = no_child
-  children_down_to most depth (with_child d children) = with_child (down_to most depth d) (children_down_to most depth children)
+  children_down_to most depth (with_child d children) =
+      with_child (down_to most depth d) (children_down_to most depth children)
 
 -- cut at a depth of at most 1,100 blocks, what a store shows is the sound DAG of which it holds the blocks
 abbrev pub ShowsDownTo : Type 0
@@ -45,4 +47,5 @@ pub record IsCutAt (most : ℕ) (t u : Traversal) : Type 0 where
 
 -- so is the traversal of a sound DAG that is cut at the depth
 abbrev pub CutsAtDepths : Type 0
-CutsAtDepths = (q : QueryParts) (d : Dag) (most : ℕ) → IsSound d → IsCutAt most (traversal q (down_to most 1 d)) (traversal q d)
+CutsAtDepths =
+    (q : QueryParts) (d : Dag) (most : ℕ) → IsSound d → IsCutAt most (traversal q (down_to most 1 d)) (traversal q d)

@@ -18,13 +18,16 @@ use Rattle.tg_model.specs.declared.queries.Scope.TheVariants as scopes
 mutual
   pub data OpenedFrom : Dag → Dag → Type 0 where
     unseen : (cid : CidParts) (d : Dag) → cid ≡ root_cid d → OpenedFrom (unopened cid) d
-    alone : (section : Section) (kind : Kind) (children : Children) → OpenedFrom (bare section None) (node section kind children)
+    alone : (section : Section) (kind : Kind) (children : Children)
+        → OpenedFrom (bare section None) (node section kind children)
     same_bare : (section : Section) (fault : Option BlockFault) → OpenedFrom (bare section fault) (bare section fault)
-    opened : (section : Section) (kind : Kind) (children others : Children) → ChildrenOpenedFrom children others → OpenedFrom (node section kind children) (node section kind others)
+    opened : (section : Section) (kind : Kind) (children others : Children) → ChildrenOpenedFrom children others
+        → OpenedFrom (node section kind children) (node section kind others)
 
   pub data ChildrenOpenedFrom : Children → Children → Type 0 where
     none : ChildrenOpenedFrom no_child no_child
-    each : (s d : Dag) (children others : Children) → OpenedFrom s d → ChildrenOpenedFrom children others → ChildrenOpenedFrom (with_child s children) (with_child d others)
+    each : (s d : Dag) (children others : Children) → OpenedFrom s d → ChildrenOpenedFrom children others
+        → ChildrenOpenedFrom (with_child s children) (with_child d others)
 
 -- a received block and one of a DAG that one CID names are equal, or they are a collision pair
 abbrev pub AreOneBlock : Type 0
@@ -33,7 +36,8 @@ AreOneBlock = (d : Dag) (received held : Section) → Contains (blocks d) held �
 
 -- a checked partial DAG is the sound DAG of its root with some blocks unopened, or there is a collision pair
 abbrev pub AreOpenedFrom : Type 0
-AreOpenedFrom = (d s : Dag) → IsSound d → IsChecked s → root_cid s ≡ root_cid d → OpenedFrom s d ⊎ CollisionPair (blocks s) d
+AreOpenedFrom =
+    (d s : Dag) → IsSound d → IsChecked s → root_cid s ≡ root_cid d → OpenedFrom s d ⊎ CollisionPair (blocks s) d
 
 -- a sound DAG with some blocks unopened is checked, and has its root
 abbrev pub AreChecked : Type 0

@@ -1,5 +1,6 @@
 -- When a range meets a part, and when a shard may stand behind the slots that were passed.
-use Rattle.std.specs.Prelude.{All, List, None, Option, Some, [], length, slice_get, true, ℕ, ⊤, ◌++◌, ◌+◌, ◌<◌, ◌∷◌, ◌≡◌, ◌≤◌, ◌↔◌}
+use Rattle.std.specs.Prelude.{All, List, None, Option, Some, [], length, slice_get, true, ℕ, ⊤, ◌++◌, ◌+◌, ◌<◌, ◌∷◌}
+use Rattle.std.specs.Prelude.{◌≡◌, ◌≤◌, ◌↔◌}
 use Rattle.tg_model.specs.Sound.{shard_fault}
 use Rattle.tg_model.specs.Traversal.{is_met}
 use Rattle.tg_model.specs.declared.kinds.Slot.{Slot}

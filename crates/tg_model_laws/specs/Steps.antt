@@ -2,10 +2,13 @@
 -- below it.
 use Rattle.std.specs.Prelude.{List, None, Some, [], length, ℕ, ◌++◌, ◌+◌, ◌∷◌, ◌≡◌}
 use Rattle.tg_model.specs.Dag.{Children, Dag, Section, node}
-use Rattle.tg_model.specs.PathWalk.{PathWalk, StepTo, absent, bad_block, child_below, not_folder_here, not_folder, not_there, spot_at, step_of, to_child, to_entry, walk_child, walk_from}
+use Rattle.tg_model.specs.PathWalk.{PathWalk, StepTo, absent, bad_block, child_below, not_folder_here, not_folder}
+use Rattle.tg_model.specs.PathWalk.{not_there, spot_at, step_of, to_child, to_entry, walk_child, walk_from}
 use Rattle.tg_model.specs.Queries.{QueryParts}
 use Rattle.tg_model.specs.Sound.{Position, passed, position_fault, top}
-use Rattle.tg_model.specs.Traversal.{Reach, Traversal, and_then, at_terminal, ended, from_end, giving_place, giving_text, text_before, text_behind, traversal, traverse, traverse_children, visits, walk_places}
+use Rattle.tg_model.specs.Traversal.{Reach, Traversal, and_then, at_terminal, ended, from_end, giving_place}
+use Rattle.tg_model.specs.Traversal.{giving_text, text_before, text_behind, traversal, traverse, traverse_children}
+use Rattle.tg_model.specs.Traversal.{visits, walk_places}
 use Rattle.tg_model.specs.declared.fault.BlockFault.{BlockFault}
 use Rattle.tg_model.specs.declared.kinds.Kind.{Kind}
 use Rattle.tg_murmur.specs.NameHash.{slot_of}
@@ -63,7 +66,8 @@ StopsOnPath = (q : QueryParts) (i : ℕ) (position : Position) (depth : ℕ) (na
 
 -- with no segment left: what is asked of the terminal
 abbrev pub EndsAtTerminal : Type 0
-EndsAtTerminal = (q : QueryParts) (i : ℕ) (position : Position) (depth : ℕ) (section : Section) (kind : Kind) (children : Children)
+EndsAtTerminal =
+    (q : QueryParts) (i : ℕ) (position : Position) (depth : ℕ) (section : Section) (kind : Kind) (children : Children)
     → from_node q i position depth [] (node section kind children) ≡ at_terminal q.scope q.span depth (node section kind children)
 
 -- below the terminal: a node's place with its text, what is below it, and the text behind it

@@ -37,7 +37,8 @@ KeepingStays = (old new : Store) (sections : List Section) (cid : CidParts) (blo
 
 -- each section that was kept is stored, or two different blocks have one SHA-256
 abbrev pub KeepingHolds : Type 0
-KeepingHolds = (old new : Store) (sections : List Section) → IsStore old → All MayKeep sections → AddsEach old new sections
+KeepingHolds =
+    (old new : Store) (sections : List Section) → IsStore old → All MayKeep sections → AddsEach old new sections
     → All (λ section. new section.cid ≡ Some section.block) sections ⊎ BlocksCollide
 
 -- how many blocks deep an opened DAG goes

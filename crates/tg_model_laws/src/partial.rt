@@ -1,5 +1,6 @@
 //! Laws of partial DAGs.
-ghost use Rattle.tg_model_laws.specs.PartialDags.{AreChecked, AreFollowed, AreOneBlock, AreOpenedFrom, MeetEntries, SayTexts};
+ghost use Rattle.tg_model_laws.specs.PartialDags.{AreChecked, AreFollowed, AreOneBlock, AreOpenedFrom, MeetEntries};
+ghost use Rattle.tg_model_laws.specs.PartialDags.{SayTexts};
 
 /// A received block and one of a DAG that one CID names are equal, or they are a collision pair. A checked partial DAG
 /// is the sound DAG of its root with some blocks unopened, or there is a collision pair; and a sound DAG with some

@@ -1,5 +1,6 @@
 //! One traversal behind another, and one step of a traversal.
-ghost use Rattle.tg_model_laws.specs.Steps.{BeginsAtRoot, EndsAtTerminal, GoesBelow, IsAssociative, NothingBefore, NothingBehind, StepsOn, StopsBelow, StopsOnPath};
+ghost use Rattle.tg_model_laws.specs.Steps.{BeginsAtRoot, EndsAtTerminal, GoesBelow, IsAssociative, NothingBefore};
+ghost use Rattle.tg_model_laws.specs.Steps.{NothingBehind, StepsOn, StopsBelow, StopsOnPath};
 
 /// Traversals one behind another: nothing before or behind one changes it, and of three it doesn't matter which two are
 /// taken together.

@@ -1,6 +1,7 @@
 //! Laws of stores.
 ghost use Rattle.tg_model_laws.specs.Depths.{CutsAtDepths, ShowsDownTo};
-ghost use Rattle.tg_model_laws.specs.Stores.{KeepingHolds, KeepingJoins, KeepingStays, KeepingStores, ShowsFront, ShowsSound};
+ghost use Rattle.tg_model_laws.specs.Stores.{KeepingHolds, KeepingJoins, KeepingStays, KeepingStores, ShowsFront};
+ghost use Rattle.tg_model_laws.specs.Stores.{ShowsSound};
 
 /// Sections that were kept one after another: what was stored stays, the store is still one, and each section is
 /// stored, or two different blocks have one SHA-256.

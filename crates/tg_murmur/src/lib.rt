@@ -3,7 +3,8 @@
 
 ghost use Rattle.std.specs.Prelude.{◌≡◌, ℕ, ◌-◌, ◌^◌, ◌<◌, List, ◌++◌, length, replicate, slice_index};
 ghost use Rattle.std.specs.Int.{w64, to_be_bytes};
-ghost use Rattle.tg_murmur.specs.NameHash.{name_hash, slot_of, scrambled1, scrambled2, first_word, second_word, with_block, with_rest, final_mix, finished};
+ghost use Rattle.tg_murmur.specs.NameHash.{name_hash, slot_of, scrambled1, scrambled2, first_word, second_word};
+ghost use Rattle.tg_murmur.specs.NameHash.{with_block, with_rest, final_mix, finished};
 
 mod examples;
 pub mod laws;

@@ -1,5 +1,6 @@
 -- What `node` writes of a block, and why there is nothing to write.
-use Rattle.std.specs.Prelude.{◌≡◌, ℕ, List, [], ◌∷◌, ◌++◌, length, codes, decimal, Option, Some, None, Result, Err, IfOk, IfErr, MatchResult, ◌⊎◌, Contains, All, ⊤}
+use Rattle.std.specs.Prelude.{◌≡◌, ℕ, List, [], ◌∷◌, ◌++◌, length, codes, decimal, Option, Some, None, Result, Err}
+use Rattle.std.specs.Prelude.{IfOk, IfErr, MatchResult, ◌⊎◌, Contains, All, ⊤}
 use Rattle.std.specs.List.{flat_map}
 use Rattle.tg_cid.specs.Cid.{CidParts}
 use Rattle.tg_cid.specs.Spelling.{CidBytes, CidText}
@@ -40,7 +41,8 @@ count_line words number = words ++ (decimal number ++ 10 ∷ [])
 
 -- `link CID TSIZE NAME`
 abbrev pub link_line : List ℕ → Link → List ℕ
-link_line shown link = codes "link " ++ (shown ++ (labelled (codes " ") link.tsize ++ (codes " " ++ (name_text link.name ++ 10 ∷ []))))
+link_line shown link =
+    codes "link " ++ (shown ++ (labelled (codes " ") link.tsize ++ (codes " " ++ (name_text link.name ++ 10 ∷ []))))
 
 -- the line of a link, with the text of the CID that its hash is
 pub record LinkLine (link : Link) (line : List ℕ) : Type 0 where
@@ -53,7 +55,8 @@ pub record LinkLine (link : Link) (line : List ℕ) : Type 0 where
 -- the lines of links in order
 abbrev pub LinkLines : List Link → List ℕ → Type 0
 LinkLines [] lines = lines ≡ []
-LinkLines (link ∷ links) lines = (line : List ℕ) × (rest : List ℕ) × LinkLine link line × (lines ≡ line ++ rest) × LinkLines links rest
+LinkLines (link ∷ links) lines =
+    (line : List ℕ) × (rest : List ℕ) × LinkLine link line × (lines ≡ line ++ rest) × LinkLines links rest
 
 -- `unix KIND filesize N inline N sizes N hash N fanout N`, where the number behind `inline` is the length of the inline
 -- bytes; and a line `size N` for each blocksize

@@ -6,7 +6,10 @@ ghost use Rattle.tg_cid.specs.declared.cid.Codec.{Codec};
 ghost use Rattle.tg_dagpb.specs.Node.{NodeText};
 ghost use Rattle.tg_dagpb.specs.declared.Node.{Node};
 ghost use Rattle.tg_node.specs.declared.fault.TextFault.{TextFault};
-ghost use Rattle.tg_node.specs.NodeTexts.{Exact, IsCid, IsNodeTextOf, HasNodeTextCause, NodeLines, HasDagPbCause, LinesOfNode, HasLinesCause, IsCaused, LinkLine, LinkLines, HasLinkCause, PayloadLines, HasBadPayload, HasPayloadCause, count_line, size_line, unix_line, link_line, labelled, name_text, inline_length};
+ghost use Rattle.tg_node.specs.NodeTexts.{Exact, IsCid, IsNodeTextOf, HasNodeTextCause, NodeLines, HasDagPbCause};
+ghost use Rattle.tg_node.specs.NodeTexts.{LinesOfNode, HasLinesCause, IsCaused, LinkLine, LinkLines, HasLinkCause};
+ghost use Rattle.tg_node.specs.NodeTexts.{PayloadLines, HasBadPayload, HasPayloadCause, count_line, size_line};
+ghost use Rattle.tg_node.specs.NodeTexts.{unix_line, link_line, labelled, name_text, inline_length};
 
 use crate::fault::{NodeFault, TextFault};
 use crate::laws;

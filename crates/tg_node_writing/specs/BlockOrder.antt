@@ -21,7 +21,8 @@ LinksInto known section = (kind : Kind) → Reads section.cid section.block kind
 -- the list
 abbrev pub AreBehindLinks : List CidParts → List Section → Type 0
 AreBehindLinks known sections =
-    (before : List Section) (section : Section) (after : List Section) → sections ≡ before ++ section ∷ after → LinksInto (known ++ cids_of before) section
+    (before : List Section) (section : Section) (after : List Section) → sections ≡ before ++ section ∷ after
+    → LinksInto (known ++ cids_of before) section
 
 -- the CIDs of entries
 abbrev pub entry_cids : List NewEntry → List CidParts

@@ -17,11 +17,13 @@ pub record Keeps (sections : List Section) (keeping : Keeping) : Type 0 where
 
 -- a block under its CIDv1 of sha2-256
 abbrev pub section_of : Codec → List ℕ → Section
-section_of codec block = record { cid = record { version = 1; codec = codec; hash = Sha256; digest = sha256 block }; block = block }
+section_of codec block =
+    record { cid = record { version = 1; codec = codec; hash = Sha256; digest = sha256 block }; block = block }
 
 -- what is told of a block over this content and these Tsizes
 abbrev pub made_of : Codec → List ℕ → ℕ → ℕ → Made
-made_of codec block content tsizes = record { cid = (section_of codec block).cid; content = content; tsize = length block + tsizes }
+made_of codec block content tsizes =
+    record { cid = (section_of codec block).cid; content = content; tsize = length block + tsizes }
 
 -- the block was kept, and of it this is told
 pub record KeepsBlock (codec : Codec) (block : List ℕ) (content tsizes : ℕ) (made : Made) (keeping : Keeping) : Type 0 where

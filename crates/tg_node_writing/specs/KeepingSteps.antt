@@ -4,7 +4,8 @@ use Rattle.tg_cid.specs.declared.cid.Codec.{Codec}
 use Rattle.tg_node_writing.specs.Keeping.{IsCountedBy, Keeps, KeepsBlock, StopsAfter}
 use Rattle.tg_model_laws.specs.Stores.{KeepingJoins}
 use Rattle.tg_model.specs.Dag.{Section}
-use Rattle.tg_model.specs.Stores.{AreKeptAs, KeepMeaning, Keeping, KeepingQuiet, KeepingRose, KeptNothing, KeptSame, Store, kept_in}
+use Rattle.tg_model.specs.Stores.{AreKeptAs, KeepMeaning, Keeping, KeepingQuiet, KeepingRose, KeptNothing, KeptSame}
+use Rattle.tg_model.specs.Stores.{Store, kept_in}
 use Rattle.tg_model.specs.declared.kinds.Made.{Made}
 use Rattle.tg_model.specs.declared.stores.KeepFault.{KeepFault}
 use Rattle.tg_model.specs.declared.stores.KeepFault.TheVariants as faults
@@ -27,7 +28,8 @@ keeps_both m joins stores a b c u v p q = record {
 pub counted_on : (fault : KeepFault) (a b c : ℕ) → b ≡ a → IsCountedBy fault b c → IsCountedBy fault a c
 counted_on fault a b c e h = subst (λ (n : ℕ). IsCountedBy fault n c) e h
 
-pub stops_behind : {S : Type 0} → (m : KeepMeaning S) → Joins m → KeepingJoins → (a b c : S) (u v : List Section) (fault : KeepFault)
+pub stops_behind : {S : Type 0} → (m : KeepMeaning S) → Joins m → KeepingJoins
+    → (a b c : S) (u v : List Section) (fault : KeepFault)
     → Keeps u (kept_in m a b) → StopsAfter v fault (kept_in m b c) → StopsAfter (u ++ v) fault (kept_in m a c)
 stops_behind m joins stores a b c u v fault p q = record {
   moved = joins a b c u v p.kept.moved q.moved;
@@ -53,15 +55,18 @@ counted_behind a b c e h = subst (λ (n : ℕ). n ≤ c) e h
 failed_stops : (keeping : Keeping) → KeepingRose keeping → KeptNothing keeping → StopsAfter [] faults.Failed keeping
 failed_stops keeping rose nothing = record { moved = nothing.moved; between = keeping.stored_old; stored = nothing_as keeping.stored_old; left = nothing.stored; counted = rose }
 
-pub memory_stops : (keeping : Keeping) → KeptSame keeping → KeepingQuiet keeping → StopsAfter [] faults.OutOfMemory keeping
+pub memory_stops : (keeping : Keeping) → KeptSame keeping → KeepingQuiet keeping
+    → StopsAfter [] faults.OutOfMemory keeping
 memory_stops keeping same quiet = record { moved = same.moved; between = keeping.stored_old; stored = nothing_as keeping.stored_old; left = same.stored; counted = quiet }
 
-pub call_stops : {T : Type 0} → (keeping : Keeping) (fault : KeepFault) → (◌≡◌ {A = Result T KeepFault} (Err fault) (Err faults.Failed) → KeepingRose keeping)
+pub call_stops : {T : Type 0} → (keeping : Keeping) (fault : KeepFault)
+    → (◌≡◌ {A = Result T KeepFault} (Err fault) (Err faults.Failed) → KeepingRose keeping)
     → (◌≡◌ {A = Result T KeepFault} (Err fault) (Err faults.OutOfMemory) → KeptSame keeping × KeepingQuiet keeping) → KeptNothing keeping → StopsAfter [] fault keeping
 call_stops keeping faults.Failed failed memory nothing = failed_stops keeping (failed refl) nothing
 call_stops keeping faults.OutOfMemory failed memory nothing = let h = memory refl in memory_stops keeping h.0 h.1
 
-pub same_stops : {S : Type 0} → (m : KeepMeaning S) → ((s : S) → m.kept s s []) → (s : S) → StopsAfter [] faults.OutOfMemory (kept_in m s s)
+pub same_stops : {S : Type 0} → (m : KeepMeaning S) → ((s : S) → m.kept s s []) → (s : S)
+    → StopsAfter [] faults.OutOfMemory (kept_in m s s)
 same_stops m rests s = memory_stops (kept_in m s s) (record { moved = rests s; stored = refl }) refl
 
 -- a block that was kept, under equal numbers

@@ -35,13 +35,15 @@ pub record IsNodeOf (entries : List NewEntry) (unix : Unix) (block : List ℕ) :
 -- the entries tell the CIDs and the Tsizes of these DAGs, one by one
 abbrev pub LeadTo : List NewEntry → Children → Type 0
 LeadTo [] no_child = ⊤
-LeadTo (entry ∷ entries) (with_child d children) = (entry.cid ≡ root_cid d) × (entry.tsize ≡ tsize_of d) × LeadTo entries children
+LeadTo (entry ∷ entries) (with_child d children) =
+    (entry.cid ≡ root_cid d) × (entry.tsize ≡ tsize_of d) × LeadTo entries children
 LeadTo [] (with_child d children) = ⊥
 LeadTo (entry ∷ entries) no_child = ⊥
 
 -- a node's block is written over the DAGs to which its entries lead, and it is a UnixFS node with their CIDs and names
 pub record NodeLaws : Type 0 where
-  pub written : (entries : List NewEntry) (unix : Unix) (block : List ℕ) (children : Children) → IsNodeOf entries unix block → LeadTo entries children
+  pub written : (entries : List NewEntry) (unix : Unix) (block : List ℕ) (children : Children)
+      → IsNodeOf entries unix block → LeadTo entries children
       → IsWritten block (map (λ e. e.name) entries) children unix
   pub unix_node : (entries : List NewEntry) (unix : Unix) (block : List ℕ) → IsNodeOf entries unix block
       → (links : List Link) × IsUnixNode block links (map (λ e. e.cid) entries) unix × (map name_of links ≡ map (λ e. e.name) entries)

@@ -145,7 +145,8 @@ all_sections = d ∷ f ∷ l1 ∷ l2 ∷ l3 ∷ []
 -- the block of the first section with this digest
 abbrev pub held_in : List Section → List ℕ → Option (List ℕ)
 held_in [] digest = None
-held_in (section ∷ sections) digest = if bytes_eq section.cid.digest digest then Some section.block else held_in sections digest
+held_in (section ∷ sections) digest =
+    if bytes_eq section.cid.digest digest then Some section.block else held_in sections digest
 
 -- a store that holds D, F and L2
 abbrev pub holding : Store

@@ -23,7 +23,8 @@ raw_leaf section = node section Raw no_child
 
 -- a query under any root, with repeats
 abbrev pub asking : List (List ℕ) → Scope → Option SpanParts → QueryParts
-asking path scope span = record { root = (node_with 0).cid; path = path; form = Car; scope = scope; span = span; dups = true }
+asking path scope span =
+    record { root = (node_with 0).cid; path = path; form = Car; scope = scope; span = span; dups = true }
 
 -- the bytes 2 to 5, and the last no bytes
 abbrev pub two_to_five : SpanParts

@@ -9,7 +9,11 @@ ghost use Rattle.tg_model.specs.Counts.{counts};
 ghost use Rattle.tg_model.specs.Dag.{Dag, Section, blocks, root_cid};
 ghost use Rattle.tg_model.specs.Fits.{Fits, IsInProgress, output_so_far};
 ghost use Rattle.tg_model.specs.ImportLayout.{IsImportLayout};
-ghost use Rattle.tg_oracle.specs.HelloWorld.{IsHelloFolder, IsNamed, all_sections, at_h, d, d_block, d_cid, d_kind, directory_of, f, f_block, f_cid, f_kind, file_of, first_dag, five_to_six, holding, l1, l1_cid, l2, l2_cid, l2_spot, l3, l3_cid, last_three, leaf, leafless_dag, middle_dag, options_of_four, past_the_end, query_for, whole_dag};
+ghost use Rattle.tg_oracle.specs.HelloWorld.{IsHelloFolder, IsNamed, all_sections, at_h, d, d_block, d_cid, d_kind};
+ghost use Rattle.tg_oracle.specs.HelloWorld.{directory_of, f, f_block, f_cid, f_kind, file_of, first_dag, five_to_six};
+ghost use Rattle.tg_oracle.specs.HelloWorld.{holding, l1, l1_cid, l2, l2_cid, l2_spot, l3, l3_cid, last_three, leaf};
+ghost use Rattle.tg_oracle.specs.HelloWorld.{leafless_dag, middle_dag, options_of_four, past_the_end, query_for};
+ghost use Rattle.tg_oracle.specs.HelloWorld.{whole_dag};
 ghost use Rattle.tg_model.specs.Lookup.{found, lookup_path, not_folder, not_there};
 ghost use Rattle.tg_model.specs.PathWalk.{gone, path_walk, stopped, terminal, whole};
 ghost use Rattle.tg_model.specs.ShowsTree.{Shows};
@@ -63,9 +67,29 @@ pub fn example_partial()
     ensures wanted { (traversal (query_for at_h scopes.Entity None) first_dag).end ≡ stopped (gone l2_spot) }
     ensures so_far { output_so_far (query_for at_h scopes.Entity None) first_dag ≡ codes "hell" }
     ensures counts { counts (query_for at_h scopes.Entity None) whole_dag
-        ≡ record { block = 144; depth = 3; entries = 0; names = 0; received = 0; output = 11; seen_blocks = 0; seen_bytes = 0; reused = 0 } }
+        ≡ record {
+          block = 144;
+          depth = 3;
+          entries = 0;
+          names = 0;
+          received = 0;
+          output = 11;
+          seen_blocks = 0;
+          seen_bytes = 0;
+          reused = 0;
+        } }
     ensures listed { counts (query_for [] scopes.Entity None) whole_dag
-        ≡ record { block = 50; depth = 1; entries = 1; names = 1; received = 0; output = 62; seen_blocks = 0; seen_bytes = 0; reused = 0 } }
+        ≡ record {
+          block = 50;
+          depth = 1;
+          entries = 1;
+          names = 1;
+          received = 0;
+          output = 62;
+          seen_blocks = 0;
+          seen_bytes = 0;
+          reused = 0;
+        } }
     ensures view { store_view holding d_cid ≡ middle_dag }
 {
     example_blocks();

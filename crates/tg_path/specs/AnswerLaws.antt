@@ -4,7 +4,8 @@ use Rattle.std.specs.Prelude.{Err, Ok, Result, ◌≡◌}
 use Rattle.tg_path.specs.Answers.{◌>>=◌}
 use Rattle.tg_path.specs.declared.fault.QueryFault.{QueryFault}
 
-pub bind_ok : {A B : Type 0} (m : Result A QueryFault) (f : A → Result B QueryFault) (b : B) → (m >>= f) ≡ Ok b → (a : A) × (m ≡ Ok a) × (f a ≡ Ok b)
+pub bind_ok : {A B : Type 0} (m : Result A QueryFault) (f : A → Result B QueryFault) (b : B) → (m >>= f) ≡ Ok b
+    → (a : A) × (m ≡ Ok a) × (f a ≡ Ok b)
 bind_ok (Ok a) f b e = (a, refl, e)
 bind_ok (Err fault) f b e = absurd cc
 

@@ -1,6 +1,7 @@
 -- The CID that a text spells, or why it spells none, as a function (CID specification; multihash; multibase `b`; RFC
 -- 4648, section 6). The faults are those of the first place at which the grammar is broken.
-use Rattle.std.specs.Prelude.{Bool, Err, List, None, Ok, Option, Result, Some, [], bytes_eq, false, if◌then◌else◌, length, nat_le, nat_lt, ℕ, ◌&&◌, ◌*◌, ◌+◌, ◌-◌, ◌==◌, ◌∷◌}
+use Rattle.std.specs.Prelude.{Bool, Err, List, None, Ok, Option, Result, Some, [], bytes_eq, false, if◌then◌else◌}
+use Rattle.std.specs.Prelude.{length, nat_le, nat_lt, ℕ, ◌&&◌, ◌*◌, ◌+◌, ◌-◌, ◌==◌, ◌∷◌}
 use Rattle.std.specs.List.{list_all}
 use Rattle.tg_base32.specs.Base32.{bits_of_text}
 use Rattle.tg_base32.specs.Computed.{base32}
@@ -56,7 +57,8 @@ digest_then total codec hash size digest =
     else Ok (record { version = 1; codec = codec; hash = hash; digest = digest }))
 
 abbrev pub by_size : ℕ → Codec → HashKind → ℕ → List ℕ → CidAnswer
-by_size total codec hash size digest = if is_digest_size hash size then digest_then total codec hash size digest else Err (faults.BadLength size)
+by_size total codec hash size digest =
+    if is_digest_size hash size then digest_then total codec hash size digest else Err (faults.BadLength size)
 
 abbrev pub size_then : ℕ → Codec → HashKind → List ℕ → CidAnswer
 size_then total codec hash bytes = number_then total bytes (front_number bytes) (by_size total codec hash)

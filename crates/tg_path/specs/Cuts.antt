@@ -1,6 +1,7 @@
 -- Texts that are cut at a byte.
 use Rattle.std.specs.List.{filter, slice_split}
-use Rattle.std.specs.Prelude.{All, List, None, Option, Some, [], if◌then◌else◌, length, not, ℕ, ◌++◌, ◌==◌, ◌∷◌, ◌≡◌, ◌≢◌}
+use Rattle.std.specs.Prelude.{All, List, None, Option, Some, [], if◌then◌else◌, length, not, ℕ, ◌++◌, ◌==◌, ◌∷◌, ◌≡◌}
+use Rattle.std.specs.Prelude.{◌≢◌}
 
 -- the parts between the places where the byte stands
 abbrev pub cut_at : ℕ → List ℕ → List (List ℕ)

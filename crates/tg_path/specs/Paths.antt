@@ -2,7 +2,8 @@
 -- section 3.3).
 use Rattle.percent_encoding.specs.Percent.{percent_decode}
 use Rattle.std.specs.List.{list_all}
-use Rattle.std.specs.Prelude.{All, Bool, Err, List, None, Ok, Option, Result, Some, [], if◌then◌else◌, length, map, nat_le, ℕ, ◌&&◌, ◌≡◌, ◌≤◌}
+use Rattle.std.specs.Prelude.{All, Bool, Err, List, None, Ok, Option, Result, Some, [], if◌then◌else◌, length, map}
+use Rattle.std.specs.Prelude.{nat_le, ℕ, ◌&&◌, ◌≡◌, ◌≤◌}
 use Rattle.tg_bytes.specs.Ascii.{slash}
 use Rattle.tg_model.specs.Computed.{is_good_name}
 use Rattle.tg_model.specs.EntryNames.{IsGoodName}

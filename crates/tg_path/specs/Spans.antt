@@ -2,7 +2,8 @@
 -- project's own).
 use Rattle.std.specs.Char.{is_digit}
 use Rattle.std.specs.List.{list_all}
-use Rattle.std.specs.Prelude.{Bool, Err, List, None, Ok, Option, Result, Some, [], bytes_eq, if◌then◌else◌, length, nat_le, nat_lt, option_map, true, ℕ, ◌&&◌, ◌++◌, ◌<◌, ◌^◌, ◌∷◌, ◌≡◌}
+use Rattle.std.specs.Prelude.{Bool, Err, List, None, Ok, Option, Result, Some, [], bytes_eq, if◌then◌else◌, length}
+use Rattle.std.specs.Prelude.{nat_le, nat_lt, option_map, true, ℕ, ◌&&◌, ◌++◌, ◌<◌, ◌^◌, ◌∷◌, ◌≡◌}
 use Rattle.std.specs.Str.Parse.{digits_value}
 use Rattle.tg_bytes.specs.Digits.{IsDigits}
 use Rattle.tg_model.specs.Queries.{IsSpan, SpanParts}

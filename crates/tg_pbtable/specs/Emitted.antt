@@ -24,7 +24,8 @@ IsSameValue source (Place start end) text (Number n) = ⊥
 -- the same fields in the same order, places aside
 abbrev pub AreSameFields : List ℕ → List Field → List ℕ → List Field → Type 0
 AreSameFields source [] text [] = ⊤
-AreSameFields source (f ∷ fs) text (g ∷ gs) = (f.number ≡ g.number) × IsSameValue source f.value text g.value × AreSameFields source fs text gs
+AreSameFields source (f ∷ fs) text (g ∷ gs) =
+    (f.number ≡ g.number) × IsSameValue source f.value text g.value × AreSameFields source fs text gs
 AreSameFields source [] text (g ∷ gs) = ⊥
 AreSameFields source (f ∷ fs) text [] = ⊥
 

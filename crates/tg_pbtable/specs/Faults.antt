@@ -113,9 +113,11 @@ pub record IsMissing (rules : List Rule) (order : Order) (text : List ℕ) (numb
 abbrev pub HasCause : List Rule → Order → List ℕ → PbFault → Type 0
 HasCause rules order text (faults.Short at) = FirstAt rules order text at (λ _ rest. IsShort rest)
 HasCause rules order text (faults.BadVarint at) = FirstAt rules order text at (λ _ rest. HasBadVarint rest)
-HasCause rules order text (faults.Unknown at number) = FirstAt rules order text at (λ _ rest. IsUnknown rules number rest)
+HasCause rules order text (faults.Unknown at number) =
+    FirstAt rules order text at (λ _ rest. IsUnknown rules number rest)
 HasCause rules order text (faults.WrongWire at) = FirstAt rules order text at (λ _ rest. HasWrongWire rules rest)
-HasCause rules order text (faults.OutOfOrder at) = FirstAt rules order text at (λ fields rest. IsOutOfOrder rules order fields rest)
+HasCause rules order text (faults.OutOfOrder at) =
+    FirstAt rules order text at (λ fields rest. IsOutOfOrder rules order fields rest)
 HasCause rules order text (faults.Doubled at) = FirstAt rules order text at (λ fields rest. IsDoubled rules fields rest)
 HasCause rules order text (faults.Missing number) = IsMissing rules order text number
 HasCause rules order text faults.OutOfMemory = ⊥

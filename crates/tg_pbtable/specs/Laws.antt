@@ -1,12 +1,14 @@
 -- What follows from the definitions of tables, messages and values, in plain words for those who call this crate.
-use Rattle.std.specs.Prelude.{◌≡◌, ◌≢◌, ℕ, ◌+◌, ◌<◌, ◌≤◌, ◌↔◌, Option, Some, None, unwrap_or, List, [], ◌∷◌, ◌++◌, length, slice_range, All, Bool, true, nat_lt, ◌&&◌, Ok, Err}
+use Rattle.std.specs.Prelude.{◌≡◌, ◌≢◌, ℕ, ◌+◌, ◌<◌, ◌≤◌, ◌↔◌, Option, Some, None, unwrap_or, List, [], ◌∷◌, ◌++◌}
+use Rattle.std.specs.Prelude.{length, slice_range, All, Bool, true, nat_lt, ◌&&◌, Ok, Err}
 use Rattle.tg_pbtable.specs.declared.table.Rule.{Rule}
 use Rattle.tg_pbtable.specs.declared.table.Wire.TheVariants.{Varint, Bytes}
 use Rattle.tg_pbtable.specs.declared.table.Order.{Order}
 use Rattle.tg_pbtable.specs.declared.table.Order.TheVariants.{Ascending}
 use Rattle.tg_pbtable.specs.declared.table.Field.{Field}
 use Rattle.tg_pbtable.specs.declared.fault.PbFault.{PbFault}
-use Rattle.tg_pbtable.specs.Message.{Message, IsTable, Spelled, HasRule, AreRuled, IsCount, IsInOrder, count_of, numbers_of}
+use Rattle.tg_pbtable.specs.Message.{Message, IsTable, Spelled, HasRule, AreRuled, IsCount, IsInOrder, count_of}
+use Rattle.tg_pbtable.specs.Message.{numbers_of}
 use Rattle.tg_pbtable.specs.Faults.{HasCause}
 use Rattle.tg_pbtable.specs.Emitted.{AreSameFields, FieldTexts}
 use Rattle.tg_pbtable.specs.Values.{number_in, bytes_in, numbers_at, bytes_at, listed, later, HasSameValues, IsSameFor}
@@ -24,7 +26,8 @@ pub record MessageLaws : Type 0 where
   pub one_reading : (at : ℕ) (text : List ℕ) (a b : List Field) → Spelled at a text → Spelled at b text → a ≡ b
   pub one_cause : (rules : List Rule) (order : Order) (text : List ℕ) (a b : PbFault) → IsTable rules
       → HasCause rules order text a → HasCause rules order text b → a ≡ b
-  pub no_cause : (rules : List Rule) (order : Order) (text : List ℕ) (fields : List Field) (fault : PbFault) → IsTable rules
+  pub no_cause : (rules : List Rule) (order : Order) (text : List ℕ) (fields : List Field) (fault : PbFault)
+      → IsTable rules
       → Message rules order text fields → HasCause rules order text fault → ⊥
   -- what is computed of a text of bytes
   pub computed : (rules : List Rule) (order : Order) (text : List ℕ) (fields : List Field) → IsTable rules
@@ -49,7 +52,8 @@ pub record ValueLaws : Type 0 where
       → bytes_at text n (f ∷ fs) ≡ bytes_in text f.value ++ bytes_at text n fs
   pub bytes_other : (text : List ℕ) (n : ℕ) (f : Field) (fs : List Field) → f.number ≢ n
       → bytes_at text n (f ∷ fs) ≡ bytes_at text n fs
-  pub no_numbers : (n : ℕ) (fs : List Field) → All (λ f. f.number ≡ n → number_in f.value ≡ []) fs → numbers_at n fs ≡ []
+  pub no_numbers : (n : ℕ) (fs : List Field) → All (λ f. f.number ≡ n → number_in f.value ≡ []) fs
+      → numbers_at n fs ≡ []
   pub no_bytes : (text : List ℕ) (n : ℕ) (fs : List Field) → All (λ f. f.number ≡ n → bytes_in text f.value ≡ []) fs
       → bytes_at text n fs ≡ []
   -- a field has one value, and under a table one of its rule's wire type
@@ -61,15 +65,18 @@ pub record ValueLaws : Type 0 where
       → AreRuled rules fs → length (bytes_at text n fs) ≡ count_of fs n
   -- the same fields have the same values, and those of each rule are all
   pub same : (s t : List ℕ) (a b : List Field) → AreSameFields s a t b → HasSameValues s a t b
-  pub by_rules : (rules : List Rule) (s t : List ℕ) (a b : List Field) → IsTable rules → AreRuled rules a → AreRuled rules b
+  pub by_rules : (rules : List Rule) (s t : List ℕ) (a b : List Field) → IsTable rules → AreRuled rules a
+      → AreRuled rules b
       → All (λ rule. IsSameFor s a t b rule.number rule.wire) rules → HasSameValues s a t b
 
 -- the last of some values, and the first
 pub record LastLaws (A : Type 0) : Type 0 where
-  pub later_more : (before mid now : Option A) (xs ys zs : List A) → zs ≡ xs ++ ys → mid ≡ later before xs → now ≡ later mid ys
+  pub later_more : (before mid now : Option A) (xs ys zs : List A) → zs ≡ xs ++ ys → mid ≡ later before xs
+      → now ≡ later mid ys
       → now ≡ later before zs
   pub at_most_one : (xs : List A) (one : Option A) → length xs ≤ 1 → one ≡ later None xs → xs ≡ listed one
-  pub exactly_one : (before : A) (xs : List A) (one : A) → length xs ≡ 1 → Some one ≡ later (Some before) xs → xs ≡ one ∷ []
+  pub exactly_one : (before : A) (xs : List A) (one : A) → length xs ≡ 1 → Some one ≡ later (Some before) xs
+      → xs ≡ one ∷ []
   -- the first of them, where there is one at most, or just one
   pub first_listed : (xs : List A) → length xs ≤ 1 → xs ≡ listed (first_of xs)
   pub first_alone : (other : A) (xs : List A) → length xs ≡ 1 → xs ≡ unwrap_or (first_of xs) other ∷ []
@@ -79,9 +86,11 @@ pub record LastLaws (A : Type 0) : Type 0 where
 pub record WritingLaws : Type 0 where
   pub append : (source : List ℕ) (xs ys : List Field) (s t : List ℕ) → FieldTexts source xs s → FieldTexts source ys t
       → FieldTexts source (xs ++ ys) (s ++ t)
-  pub are_bytes : (source : List ℕ) (fields : List Field) (text : List ℕ) → FieldTexts source fields text → All (λ b. b < 256) text
+  pub are_bytes : (source : List ℕ) (fields : List Field) (text : List ℕ) → FieldTexts source fields text
+      → All (λ b. b < 256) text
   -- where the table, the counts and the order allow the fields, it is a message of them, at their places in it
-  pub message : (rules : List Rule) (order : Order) (source : List ℕ) (fields : List Field) (text : List ℕ) → AreRuled rules fields
+  pub message : (rules : List Rule) (order : Order) (source : List ℕ) (fields : List Field) (text : List ℕ)
+      → AreRuled rules fields
       → All (λ rule. IsCount rule.times (count_of fields rule.number)) rules → IsInOrder order (numbers_of fields)
       → FieldTexts source fields text → (placed : List Field) × Message rules order text placed × AreSameFields source fields text placed
 

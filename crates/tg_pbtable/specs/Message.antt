@@ -1,6 +1,7 @@
 -- A message under a table of fields, as a relation between the whole text and its fields (protobuf encoding guide,
 -- Message Structure and Length-Delimited Records; the order and the rule on doubled fields are this project's own).
-use Rattle.std.specs.Prelude.{◌≡◌, ℕ, ◌+◌, ◌*◌, ◌<◌, ◌≤◌, List, [], ◌∷◌, ◌++◌, length, map, All, Contains, slice_index, ◌==◌, ⊤}
+use Rattle.std.specs.Prelude.{◌≡◌, ℕ, ◌+◌, ◌*◌, ◌<◌, ◌≤◌, List, [], ◌∷◌, ◌++◌, length, map, All, Contains, slice_index}
+use Rattle.std.specs.Prelude.{◌==◌, ⊤}
 use Rattle.std.specs.List.{count_by}
 use Rattle.std.specs.List.Sorted.{IsNonDecreasing}
 use Rattle.tg_pbtable.specs.declared.table.Rule.{Rule}
@@ -110,4 +111,5 @@ pub record Message (rules : List Rule) (order : Order) (text : List ℕ) (fields
 pub record IsTable (rules : List Rule) : Type 0 where
   pub low : All (λ rule. 1 ≤ rule.number) rules
   pub high : All (λ rule. rule.number < 536870912) rules
-  pub differ : (i j : ℕ) → i < j → j < length rules → slice_index (map (λ rule. rule.number) rules) i ≡ slice_index (map (λ rule. rule.number) rules) j → ⊥
+  pub differ : (i j : ℕ) → i < j → j < length rules
+      → slice_index (map (λ rule. rule.number) rules) i ≡ slice_index (map (λ rule. rule.number) rules) j → ⊥

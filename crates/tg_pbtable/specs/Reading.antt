@@ -1,5 +1,6 @@
 -- What the scanner's private functions say.
-use Rattle.std.specs.Prelude.{◌≡◌, ℕ, ◌+◌, ◌<◌, ◌≤◌, Option, Some, None, Bool, true, false, List, ◌++◌, length, take, All, slice_get, slice_index_or}
+use Rattle.std.specs.Prelude.{◌≡◌, ℕ, ◌+◌, ◌<◌, ◌≤◌, Option, Some, None, Bool, true, false, List, ◌++◌, length, take}
+use Rattle.std.specs.Prelude.{All, slice_get, slice_index_or}
 use Rattle.tg_pbtable.specs.declared.table.Rule.{Rule}
 use Rattle.tg_pbtable.specs.declared.table.Times.TheVariants.{One}
 use Rattle.tg_pbtable.specs.declared.table.Wire.{Wire}
@@ -106,7 +107,8 @@ pub record IsRuled (rules : List Rule) (at : ℕ) (rest : List ℕ) (i : ℕ) (f
 
 -- the first n rules that ask for a field have one
 abbrev pub AreMet : List Rule → List Bool → ℕ → Type 0
-AreMet rules seen n = (k : ℕ) (d : Rule) → k < n → (slice_index_or rules k d).times ≡ One → slice_index_or seen k false ≡ true
+AreMet rules seen n =
+    (k : ℕ) (d : Rule) → k < n → (slice_index_or rules k d).times ≡ One → slice_index_or seen k false ≡ true
 
 -- the lowest number of those of the first n rules that ask for a field and have none
 pub record IsLowestUnmet (rules : List Rule) (seen : List Bool) (n number : ℕ) : Type 0 where
@@ -117,7 +119,8 @@ pub record IsLowestUnmet (rules : List Rule) (seen : List Bool) (n number : ℕ)
   pub number_is : rule.number ≡ number
   pub asks : rule.times ≡ One
   pub unmet : slice_index_or seen k false ≡ false
-  pub lowest : (j : ℕ) (d : Rule) → j < n → (slice_index_or rules j d).times ≡ One → slice_index_or seen j false ≡ false → number ≤ (slice_index_or rules j d).number
+  pub lowest : (j : ℕ) (d : Rule) → j < n → (slice_index_or rules j d).times ≡ One → slice_index_or seen j false ≡ false
+      → number ≤ (slice_index_or rules j d).number
 
 abbrev pub IsLowest : List Rule → List Bool → ℕ → Option ℕ → Type 0
 IsLowest rules seen n None = AreMet rules seen n

@@ -11,5 +11,6 @@ use Rattle.tg_pbtable.specs.Message.{HasRule}
 abbrev pub any_rule : Rule
 any_rule = record { number = 1; wire = Varint; times = One }
 
-pub rule_at : (rules : List Rule) (i : ℕ) → i < length rules → HasRule rules (get_or rules i any_rule).number (get_or rules i any_rule).wire
+pub rule_at : (rules : List Rule) (i : ℕ) → i < length rules
+    → HasRule rules (get_or rules i any_rule).number (get_or rules i any_rule).wire
 rule_at rules i l = record { rule = get_or rules i any_rule; among = Contains-get_or rules i any_rule l; number_is = refl; wire_is = refl }

@@ -6,7 +6,8 @@ use Rattle.std.proofs.lemmas.List.{append-nil, length-append}
 
 -- the parts are the first of all, and the cursor stands behind them
 abbrev pub AreFirst : {X : Type 0} → (ℕ → List X → List X → Type 0) → ℕ → List X → Type 0
-AreFirst {X} Between at behind = (all : List X) → Between 0 [] all → (ahead : List X) × (all ≡ behind ++ ahead) × Between at behind ahead
+AreFirst {X} Between at behind =
+    (all : List X) → Between 0 [] all → (ahead : List X) × (all ≡ behind ++ ahead) × Between at behind ahead
 
 pub one_more : {X : Type 0} (Between : ℕ → List X → List X → Type 0) (at next : ℕ) (behind : List X) (part : X)
     → ((ahead : List X) → Between at behind ahead → (more : List X) × (ahead ≡ part ∷ more) × Between next (behind ++ part ∷ []) more)

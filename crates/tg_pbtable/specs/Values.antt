@@ -17,7 +17,8 @@ bytes_in text (Place start end) = slice_range text start end ∷ []
 
 abbrev pub numbers_at : ℕ → List Field → List ℕ
 numbers_at number [] = []
-numbers_at number (field ∷ fields) = if field.number == number then number_in field.value ++ numbers_at number fields else numbers_at number fields
+numbers_at number (field ∷ fields) =
+    if field.number == number then number_in field.value ++ numbers_at number fields else numbers_at number fields
 
 abbrev pub bytes_at : List ℕ → ℕ → List Field → List (List ℕ)
 bytes_at text number [] = []

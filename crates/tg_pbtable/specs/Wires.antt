@@ -40,7 +40,8 @@ pub record WireType : Type 1 where
 
 abbrev pub wire_type : Wire → WireType
 wire_type Varint = record { code = 0; whole = HasNumber; cut = EndsInside; bad = IsBadVarint }
-wire_type Bytes = record { code = 2; whole = HasBytes; cut = λ after. EndsInside after ⊎ EndsInBytes after; bad = IsBadVarint }
+wire_type Bytes =
+    record { code = 2; whole = HasBytes; cut = λ after. EndsInside after ⊎ EndsInBytes after; bad = IsBadVarint }
 
 -- the wire types' numbers
 abbrev pub wire_code : Wire → ℕ

@@ -1,5 +1,6 @@
 //! The fields of a text one after another.
-ghost use Rattle.std.specs.Prelude.{◌≡◌, ◌<◌, ◌≤◌, ◌↔◌, ◌++◌, ◌∷◌, ℕ, List, [], length, take, Contains, IsTrue, MatchBool, MatchOption, MatchResult, min, ⊤};
+ghost use Rattle.std.specs.Prelude.{◌≡◌, ◌<◌, ◌≤◌, ◌↔◌, ◌++◌, ◌∷◌, ℕ, List, [], length, take, Contains, IsTrue};
+ghost use Rattle.std.specs.Prelude.{MatchBool, MatchOption, MatchResult, min, ⊤};
 ghost use Rattle.tg_pbtable.specs.Message.{Message, IsTable, Spelled, IsInOrder};
 ghost use Rattle.tg_pbtable.specs.Faults.{HasCause, BreaksOrder};
 ghost use Rattle.tg_pbtable.specs.Emitted.{LiesIn};

@@ -1,5 +1,6 @@
 //! One field of a text, with the table's rule for it.
-ghost use Rattle.std.specs.Prelude.{◌≡◌, ◌≢◌, ◌≤◌, ℕ, List, [], length, drop, All, IfOk, IfErr, MatchOption, MatchResult};
+ghost use Rattle.std.specs.Prelude.{◌≡◌, ◌≢◌, ◌≤◌, ℕ, List, [], length, drop, All, IfOk, IfErr, MatchOption};
+ghost use Rattle.std.specs.Prelude.{MatchResult};
 ghost use Rattle.tg_pbtable.specs.Message.{IsTable, wire_of};
 ghost use Rattle.tg_pbtable.specs.Emitted.{LiesIn};
 ghost use Rattle.tg_pbtable.specs.Cursor.{StandsAt, StandsBetween, IsNextField, IsRefused};

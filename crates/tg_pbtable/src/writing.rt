@@ -2,8 +2,10 @@
 ghost use Rattle.std.specs.Prelude.{◌≡◌, ◌+◌, ◌*◌, ◌<◌, ◌≤◌, ℕ, List, [], length, All, IfOk, OnOk, OnErr};
 ghost use Rattle.tg_pbtable.specs.Wires.{wire_code};
 ghost use Rattle.tg_pbtable.specs.Varint.{VarintSpelling};
-ghost use Rattle.tg_pbtable.specs.Message.{Message, IsTable, KeySpelling, NumberSpelling, Spelled, AreRuled, IsCount, count_of, IsInOrder, numbers_of};
-ghost use Rattle.tg_pbtable.specs.Emitted.{LiesIn, AreSameFields, HeadSpelling, BytesSpelling, SizedSpelling, ValueText, Puts, IsSizeOf};
+ghost use Rattle.tg_pbtable.specs.Message.{Message, IsTable, KeySpelling, NumberSpelling, Spelled, AreRuled, IsCount};
+ghost use Rattle.tg_pbtable.specs.Message.{count_of, IsInOrder, numbers_of};
+ghost use Rattle.tg_pbtable.specs.Emitted.{LiesIn, AreSameFields, HeadSpelling, BytesSpelling, SizedSpelling};
+ghost use Rattle.tg_pbtable.specs.Emitted.{ValueText, Puts, IsSizeOf};
 ghost use Rattle.tg_pbtable.specs.declared.table.Field.{Field};
 ghost use Rattle.tg_pbtable.specs.declared.table.Order.{Order};
 

@@ -55,7 +55,8 @@ pub record ParamText (name value param : List ℕ) : Type 0 where
 
 -- the value of the first parameter of this name, or the default
 abbrev pub ParamOr : List ℕ → List ℕ → List (List ℕ) → List ℕ → Type 0
-ParamOr name default params value = (asked : Option (List ℕ)) × FirstSaid (ParamText name) params asked × (value ≡ unwrap_or asked default)
+ParamOr name default params value =
+    (asked : Option (List ℕ)) × FirstSaid (ParamText name) params asked × (value ≡ unwrap_or asked default)
 
 -- a media range that asks for a CAR with these parameters
 pub record CarText (choice : CarChoice) (range : List ℕ) : Type 0 where

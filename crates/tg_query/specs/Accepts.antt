@@ -3,7 +3,8 @@
 use Rattle.httparse.specs.Grammar.{trim_ows}
 use Rattle.std.specs.List.{filter_map, flat_map}
 use Rattle.std.specs.Option.{unwrap_or}
-use Rattle.std.specs.Prelude.{Bool, List, None, Option, Some, [], codes, false, find, if◌then◌else◌, option_map, true, ℕ, ◌∷◌}
+use Rattle.std.specs.Prelude.{Bool, List, None, Option, Some, [], codes, false, find, if◌then◌else◌, option_map, true}
+use Rattle.std.specs.Prelude.{ℕ, ◌∷◌}
 use Rattle.std.specs.Str.{str_eq_ignore_ascii_case}
 use Rattle.tg_http.specs.Fields.{first as first_of}
 use Rattle.tg_model.specs.declared.queries.Form.{Form}
@@ -75,4 +76,5 @@ abbrev pub first_car : List (List ℕ) → Option (List ℕ)
 first_car ranges = find (λ range. is_car_form (form_of_range range)) ranges
 
 abbrev pub accepted_of : List (List ℕ) → Accepted
-accepted_of values = record { first = first_form (ranges_of values); car = option_map choice_of (first_car (ranges_of values)) }
+accepted_of values =
+    record { first = first_form (ranges_of values); car = option_map choice_of (first_car (ranges_of values)) }

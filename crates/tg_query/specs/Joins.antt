@@ -1,6 +1,7 @@
 -- The query that a target and `Accept` ask for together (Trustless Gateway specification).
 use Rattle.std.specs.Option.{unwrap_or}
-use Rattle.std.specs.Prelude.{Bool, Err, List, None, Ok, Option, Result, Some, [], bytes_eq, codes, if◌then◌else◌, length, true, ℕ, ◌&&◌, ◌==◌, ◌||◌}
+use Rattle.std.specs.Prelude.{Bool, Err, List, None, Ok, Option, Result, Some, [], bytes_eq, codes, if◌then◌else◌}
+use Rattle.std.specs.Prelude.{length, true, ℕ, ◌&&◌, ◌==◌, ◌||◌}
 use Rattle.tg_model.specs.Queries.{QueryParts, SpanParts}
 use Rattle.tg_model.specs.declared.queries.Form.{Form}
 use Rattle.tg_model.specs.declared.queries.Form.TheVariants as forms
@@ -25,7 +26,8 @@ abbrev pub default_choice : CarChoice
 default_choice = record { version = codes "1"; order = codes "dfs"; dups = codes "y" }
 
 abbrev pub raw_query : Target → QueryParts
-raw_query target = record { root = target.root; path = []; form = forms.Raw; scope = scopes.Block; span = None; dups = true }
+raw_query target =
+    record { root = target.root; path = []; form = forms.Raw; scope = scopes.Block; span = None; dups = true }
 
 -- a range asks for the entity; without a scope all is asked
 abbrev pub scope_for : Option Scope → Option SpanParts → Scope

@@ -1,7 +1,8 @@
 -- The request that a client prints for a query (RFC 9112, section 3; Trustless Gateway specification), and its law.
 use Rattle.httparse.specs.Ascii.{crlf_bytes}
 use Rattle.std.specs.List.{flat_map}
-use Rattle.std.specs.Prelude.{All, Bool, List, None, Option, Some, [], codes, decimal, if◌then◌else◌, length, ℕ, ◌++◌, ◌∷◌, ◌≡◌, ◌≤◌}
+use Rattle.std.specs.Prelude.{All, Bool, List, None, Option, Some, [], codes, decimal, if◌then◌else◌, length, ℕ, ◌++◌}
+use Rattle.std.specs.Prelude.{◌∷◌, ◌≡◌, ◌≤◌}
 use Rattle.std.specs.Str.Parse.{IsNumeral, digits_value}
 use Rattle.tg_bytes.specs.Ascii.{slash}
 use Rattle.tg_cid.specs.Computed.{cid_text}

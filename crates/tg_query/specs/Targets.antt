@@ -2,7 +2,8 @@
 -- Gateway and Trustless Gateway specifications).
 use Rattle.percent_encoding.specs.Percent.{percent_decode}
 use Rattle.std.specs.List.{filter_map}
-use Rattle.std.specs.Prelude.{All, Bool, Err, IfSome, List, None, Ok, Option, Result, Some, [], bytes_eq, codes, false, if◌then◌else◌, length, true, ℕ, ◌++◌, ◌∷◌, ◌≡◌, ◌≢◌, ◌≤◌}
+use Rattle.std.specs.Prelude.{All, Bool, Err, IfSome, List, None, Ok, Option, Result, Some, [], bytes_eq, codes, false}
+use Rattle.std.specs.Prelude.{if◌then◌else◌, length, true, ℕ, ◌++◌, ◌∷◌, ◌≡◌, ◌≢◌, ◌≤◌}
 use Rattle.tg_model.specs.EntryNames.{IsGoodName}
 use Rattle.tg_model.specs.Queries.{IsSpan}
 use Rattle.tg_model.specs.declared.queries.Form.{Form}
@@ -94,13 +95,16 @@ scope_of word =
 
 -- a key that stands twice is refused before its value
 abbrev pub with_format : Asked → List ℕ → Result Asked QueryFault
-with_format asked word = unless (is_given asked.format) Doubled (form_of word >>= λ form. Ok (record asked { format = Some form }))
+with_format asked word =
+    unless (is_given asked.format) Doubled (form_of word >>= λ form. Ok (record asked { format = Some form }))
 
 abbrev pub with_scope : Asked → List ℕ → Result Asked QueryFault
-with_scope asked word = unless (is_given asked.scope) Doubled (scope_of word >>= λ scope. Ok (record asked { scope = Some scope }))
+with_scope asked word =
+    unless (is_given asked.scope) Doubled (scope_of word >>= λ scope. Ok (record asked { scope = Some scope }))
 
 abbrev pub with_span : Asked → List ℕ → Result Asked QueryFault
-with_span asked text = unless (is_given asked.span) Doubled (span_of text >>= λ span. Ok (record asked { span = Some span }))
+with_span asked text =
+    unless (is_given asked.span) Doubled (span_of text >>= λ span. Ok (record asked { span = Some span }))
 
 abbrev pub with_param : Asked → List ℕ → List ℕ → Result Asked QueryFault
 with_param asked key value =

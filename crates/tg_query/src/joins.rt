@@ -1,7 +1,8 @@
 //! A target and `Accept` as one query.
 ghost use Rattle.std.specs.Option.{unwrap_or};
 ghost use Rattle.std.specs.Prelude.{◌≡◌};
-ghost use Rattle.tg_query.specs.Joins.{car_or_fault, default_choice, dups_of, format_for, is_either, is_served, join_of, raw_or_fault, scope_for};
+ghost use Rattle.tg_query.specs.Joins.{car_or_fault, default_choice, dups_of, format_for, is_either, is_served};
+ghost use Rattle.tg_query.specs.Joins.{join_of, raw_or_fault, scope_for};
 ghost use Rattle.tg_query.specs.Targets.{IsTarget};
 
 use crate::accepts::{Accepted, CarChoice};

@@ -2,7 +2,9 @@
 ghost use Rattle.std.specs.Prelude.{◌≡◌, ◌++◌, ◌∷◌, IfOk, OnOk, decimal};
 ghost use Rattle.tg_cid.specs.Computed.{cid_text};
 ghost use Rattle.tg_model.specs.Queries.{IsSpan};
-ghost use Rattle.tg_query.specs.Requests.{IsAddr, accept_text, car_params, car_with_dups, dups_word, from_text, params_text, path_text, request_text, span_param, span_text, target_text, to_text};
+ghost use Rattle.tg_query.specs.Requests.{IsAddr, accept_text, car_params, car_with_dups, dups_word, from_text};
+ghost use Rattle.tg_query.specs.Requests.{params_text, path_text, request_text, span_param, span_text, target_text};
+ghost use Rattle.tg_query.specs.Requests.{to_text};
 ghost use Rattle.tg_query.specs.Targets.{scope_word};
 
 use itoa::Buffer;

@@ -3,7 +3,8 @@ ghost use Rattle.std.specs.Prelude.{◌≡◌, IfOk, option_copied};
 ghost use Rattle.percent_encoding.specs.Percent.{percent_decode};
 ghost use Rattle.tg_path.specs.Answers.{Gives};
 ghost use Rattle.tg_path.specs.Cuts.{cut_at};
-ghost use Rattle.tg_query.specs.Targets.{IsTarget, asked_of, form_of, nothing, scope_of, target_of, with_format, with_param, with_piece, with_pieces, with_scope, with_span};
+ghost use Rattle.tg_query.specs.Targets.{IsTarget, asked_of, form_of, nothing, scope_of, target_of, with_format};
+ghost use Rattle.tg_query.specs.Targets.{with_param, with_piece, with_pieces, with_scope, with_span};
 
 use percent_encoding::percent_decode;
 use std::alloc::{AllocError, Global};

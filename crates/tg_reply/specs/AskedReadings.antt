@@ -36,11 +36,13 @@ pub record IsSpelledQuery (q : QueryParts) : Type 0 where
 
 -- a query that a target of bytes asks is spelled
 abbrev pub AskedSpells : Type 0
-AskedSpells = (head : RequestHead) (q : QueryParts) → All (λ b. b < 256) head.target → asked head ≡ Ok q → IsSpelledQuery q
+AskedSpells =
+    (head : RequestHead) (q : QueryParts) → All (λ b. b < 256) head.target → asked head ≡ Ok q → IsSpelledQuery q
 
 -- the target of a request is bytes
 abbrev pub TargetsAreBytes : Type 0
-TargetsAreBytes = (bytes rest : List ℕ) (head : RequestHead) → BeginsRequest bytes head rest → All (λ b. b < 256) head.target
+TargetsAreBytes =
+    (bytes rest : List ℕ) (head : RequestHead) → BeginsRequest bytes head rest → All (λ b. b < 256) head.target
 
 -- a store whose blocks are bytes
 pub record IsByteStore (store : Store) : Type 0 where

@@ -18,7 +18,8 @@ IsPart part = (0 < length part) × (length part < 2 ^ 63)
 
 -- parts in chunks are a whole body, which is the parts
 abbrev pub WholeInChunks : Type 0
-WholeInChunks = (parts : List (List ℕ)) → All IsPart parts → BodyText framings.Chunked (joined parts) (chunked false parts)
+WholeInChunks =
+    (parts : List (List ℕ)) → All IsPart parts → BodyText framings.Chunked (joined parts) (chunked false parts)
 
 -- cut, they are the front of one that goes on
 abbrev pub CutGoesOn : Type 0

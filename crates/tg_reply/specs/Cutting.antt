@@ -19,4 +19,5 @@ pub record IsCutBefore (most : ℕ) (cut full : Traversal) : Type 0 where
 
 -- so does the traversal of any DAG with the blocks below a depth unopened
 abbrev pub CutsBeforeDeeper : Type 0
-CutsBeforeDeeper = (q : QueryParts) (d : Dag) (most : ℕ) → IsCutBefore most (traversal q (down_to most 1 d)) (traversal q d)
+CutsBeforeDeeper =
+    (q : QueryParts) (d : Dag) (most : ℕ) → IsCutBefore most (traversal q (down_to most 1 d)) (traversal q d)

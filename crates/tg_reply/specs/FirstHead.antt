@@ -1,10 +1,12 @@
 -- The request at the front of bytes, found and read by computing (RFC 9112, sections 2 to 6).
-use Rattle.httparse.specs.Grammar.{Field, LineEnd, RequestHead as RequestTree, crlf, is_token, is_uri_byte, is_value_byte, lf, print_blank, print_end, print_request}
+use Rattle.httparse.specs.Grammar.{Field, LineEnd, RequestHead as RequestTree, crlf, is_token, is_uri_byte}
+use Rattle.httparse.specs.Grammar.{is_value_byte, lf, print_blank, print_end, print_request}
 use Rattle.httparse.specs.Spans.{name_and_value}
 use Rattle.std.specs.Char.{is_digit}
 use Rattle.std.specs.List.{after_first, before_first, list_all, list_any}
 use Rattle.std.specs.Option.{option_map}
-use Rattle.std.specs.Prelude.{Bool, List, None, Option, Some, [], bytes_eq, codes, drop, false, if◌then◌else◌, length, map, nat_le, nat_lt, not, slice_index, true, ℕ, ◌&&◌, ◌++◌, ◌-◌, ◌<◌, ◌==◌, ◌∷◌, ◌||◌}
+use Rattle.std.specs.Prelude.{Bool, List, None, Option, Some, [], bytes_eq, codes, drop, false, if◌then◌else◌, length}
+use Rattle.std.specs.Prelude.{map, nat_le, nat_lt, not, slice_index, true, ℕ, ◌&&◌, ◌++◌, ◌-◌, ◌<◌, ◌==◌, ◌∷◌, ◌||◌}
 use Rattle.std.specs.Str.{is_utf8}
 use Rattle.std.specs.Str.Parse.{digits_value}
 use Rattle.tg_bytes.specs.Lists.{joined}
@@ -28,7 +30,8 @@ lines_of (b ∷ bytes) = if b == 10 then (10 ∷ []) ∷ lines_of bytes else wit
 
 -- the end that an empty line is
 abbrev pub empty_end : List ℕ → Option LineEnd
-empty_end line = if bytes_eq line (print_end lf) then Some lf else (if bytes_eq line (print_end crlf) then Some crlf else None)
+empty_end line =
+    if bytes_eq line (print_end lf) then Some lf else (if bytes_eq line (print_end crlf) then Some crlf else None)
 
 -- ---- the lines of a head text
 
@@ -70,7 +73,8 @@ head_lines (line ∷ lines) = head_from line (empty_end line) (section_lines lin
 
 -- the head text that they are
 abbrev pub text_of_lines : HeadLines → List ℕ
-text_of_lines head = print_blank head.blank ++ (head.start ++ (joined head.section.fields ++ print_end head.section.last))
+text_of_lines head =
+    print_blank head.blank ++ (head.start ++ (joined head.section.fields ++ print_end head.section.last))
 
 -- ---- the request that a head text is: what is read of its lines, where that is of the grammar and prints as the text
 
@@ -165,7 +169,8 @@ pub data First : Type 0 where
   begins : (head : RequestHead) (rest : List ℕ) → First
 
 abbrev pub first_of_request : List ℕ → List ℕ → RequestTree → First
-first_of_request bytes text tree = if is_request tree text then begins (told_of (length text) tree) (drop (length text) bytes) else no_head
+first_of_request bytes text tree =
+    if is_request tree text then begins (told_of (length text) tree) (drop (length text) bytes) else no_head
 
 abbrev pub first_of_lines : List ℕ → Option HeadLines → First
 first_of_lines bytes None = if nat_lt (length bytes) 16384 then waits else passes_limit

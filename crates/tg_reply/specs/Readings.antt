@@ -29,7 +29,8 @@ RefusalsRead = (head : RequestHead) (refusal : Refusal) → is_head head.method 
     → Reads (refused_request head refusal) text_type (Length (length (text_of refusal))) (text_of refusal)
 
 abbrev pub RefusedBytesRead : Type 0
-RefusedBytesRead = (refusal : Refusal) → Reads (refused_bytes refusal) text_type (Length (length (text_of refusal))) (text_of refusal)
+RefusedBytesRead =
+    (refusal : Refusal) → Reads (refused_bytes refusal) text_type (Length (length (text_of refusal))) (text_of refusal)
 
 -- a request by GET for a query whose root is spelled and whose names are bytes
 pub record IsGet (head : RequestHead) (q : QueryParts) : Type 0 where

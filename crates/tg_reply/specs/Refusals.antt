@@ -4,7 +4,8 @@ use Rattle.std.specs.Prelude.{Bool, List, codes, false, true, ℕ}
 use Rattle.tg_path.specs.declared.fault.QueryFault.{QueryFault}
 use Rattle.tg_path.specs.declared.fault.QueryFault.TheVariants as faults
 use Rattle.tg_reply.specs.declared.refusal.Refusal.{Refusal}
-use Rattle.tg_reply.specs.declared.refusal.Refusal.TheVariants.{BadBlock, BadFraming, BadHead, BadMethod, Gone, HeadLimit, NoRoot, NotFolder, NotThere, Query, Store}
+use Rattle.tg_reply.specs.declared.refusal.Refusal.TheVariants.{BadBlock, BadFraming, BadHead, BadMethod, Gone}
+use Rattle.tg_reply.specs.declared.refusal.Refusal.TheVariants.{HeadLimit, NoRoot, NotFolder, NotThere, Query, Store}
 use Rattle.tg_reply.specs.declared.status.Status.{Status}
 use Rattle.tg_reply.specs.declared.status.Status.TheVariants as statuses
 

@@ -1,13 +1,15 @@
 -- The reply of a gateway over a store to the head of a request (Path Gateway and Trustless Gateway specifications; RFC
 -- 9110, sections 9 and 15; RFC 9112, sections 6, 7 and 9).
-use Rattle.std.specs.Prelude.{Bool, Err, List, None, Ok, Option, Result, Some, [], false, if◌then◌else◌, length, not, true, ℕ, ◌&&◌, ◌++◌, ◌==◌, ◌||◌}
+use Rattle.std.specs.Prelude.{Bool, Err, List, None, Ok, Option, Result, Some, [], false, if◌then◌else◌, length, not}
+use Rattle.std.specs.Prelude.{true, ℕ, ◌&&◌, ◌++◌, ◌==◌, ◌||◌}
 use Rattle.tg_bytes.specs.Lists.{joined}
 use Rattle.tg_cid.specs.Cid.{CidParts}
 use Rattle.tg_http.specs.declared.request.RequestHead.{RequestHead}
 use Rattle.tg_model_laws.specs.Depths.{down_to}
 use Rattle.tg_model.specs.Answer.{block_of}
 use Rattle.tg_model.specs.Dag.{Dag, Section}
-use Rattle.tg_model.specs.PathWalk.{PathEnd, Stop, TraversalEnd, bad_block, gone, not_folder, not_reached, not_there, path_walk, stopped, terminal, whole}
+use Rattle.tg_model.specs.PathWalk.{PathEnd, Stop, TraversalEnd, bad_block, gone, not_folder, not_reached, not_there}
+use Rattle.tg_model.specs.PathWalk.{path_walk, stopped, terminal, whole}
 use Rattle.tg_model.specs.Queries.{QueryParts}
 use Rattle.tg_model.specs.StoreView.{store_view}
 use Rattle.tg_model.specs.Stores.{Store}
@@ -52,7 +54,8 @@ refused refusal closes body =
 
 -- the reply to a request that is refused
 abbrev pub refused_request : RequestHead → Refusal → Reply
-refused_request head refusal = refused refusal (asks_close head || ends_connection refusal) (unless_head head (text_of refusal))
+refused_request head refusal =
+    refused refusal (asks_close head || ends_connection refusal) (unless_head head (text_of refusal))
 
 -- and to bytes that are no head, of whatever method
 abbrev pub refused_bytes : Refusal → Reply

@@ -23,12 +23,14 @@ pub data Replies (store : Store) : List ℕ → List ℕ → Type 0 where
   -- no head is whole within the limit, or it has too many fields
   passes_limit : (bytes : List ℕ) → PassesLimit bytes → Replies store bytes (reply_bytes (refused_bytes HeadLimit))
   -- the head text is no head
-  no_head : (bytes : List ℕ) → HasWholeText IsNoRequest bytes → Replies store bytes (reply_bytes (refused_bytes BadHead))
+  no_head : (bytes : List ℕ) → HasWholeText IsNoRequest bytes
+      → Replies store bytes (reply_bytes (refused_bytes BadHead))
   -- the reply to the first request closes
   closes : (bytes rest : List ℕ) (head : RequestHead) → BeginsRequest bytes head rest → (reply store head).closes ≡ true
       → Replies store bytes (reply_bytes (reply store head))
   -- or the replies to what follows come behind it
-  goes_on : (bytes rest written : List ℕ) (head : RequestHead) → BeginsRequest bytes head rest → (reply store head).closes ≡ false
+  goes_on : (bytes rest written : List ℕ) (head : RequestHead) → BeginsRequest bytes head rest
+      → (reply store head).closes ≡ false
       → Replies store rest written → Replies store bytes (reply_bytes (reply store head) ++ written)
 
 -- what is written for bytes is determined by them

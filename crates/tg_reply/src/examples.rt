@@ -1,7 +1,12 @@
 //! Worked examples of replies.
 ghost use Rattle.std.specs.Prelude.{◌≡◌, ◌++◌, ◌∷◌, [], codes, length, take, true};
 ghost use Rattle.tg_reply.specs.Asked.{asked};
-ghost use Rattle.tg_reply.specs.Examples.{bad_framing, bad_head, bad_method, bad_request, empty_car_header, empty_car_section, empty_chunks, empty_head, empty_head_plain, empty_head_raw, empty_root, first_bytes, first_target, folder_chunks, folder_head, folder_root, get, head_limit, hello_root, folder_alone, not_acceptable, not_found, open_reply, request, request_lines, second_bytes, second_target, server_error, lines, three_roots, unreadable_root};
+ghost use Rattle.tg_reply.specs.Examples.{bad_framing, bad_head, bad_method, bad_request, empty_car_header};
+ghost use Rattle.tg_reply.specs.Examples.{empty_car_section, empty_chunks, empty_head, empty_head_plain};
+ghost use Rattle.tg_reply.specs.Examples.{empty_head_raw, empty_root, first_bytes, first_target, folder_chunks};
+ghost use Rattle.tg_reply.specs.Examples.{folder_head, folder_root, get, head_limit, hello_root, folder_alone};
+ghost use Rattle.tg_reply.specs.Examples.{not_acceptable, not_found, open_reply, request, request_lines, second_bytes};
+ghost use Rattle.tg_reply.specs.Examples.{second_target, server_error, lines, three_roots, unreadable_root};
 ghost use Rattle.tg_reply.specs.Streams.{Replies};
 ghost use Rattle.tg_reply.specs.Replies.{refused_bytes, refused_request, reply, reply_bytes};
 ghost use Rattle.tg_reply.specs.Written.{replies_for};

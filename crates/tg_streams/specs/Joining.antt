@@ -1,12 +1,14 @@
 -- One move of a stream after another is a move: how what went through a source or a sink between two moments, and then
 -- between the second and a third, went through it between the first and the third.
 use Rattle.std.specs.Prelude.{ℕ, ◌+◌, ◌<◌, List, [], ◌++◌, length, take, refl}
-use Rattle.std.proofs.Common.{◌∙◌, ap, sym, subst, append-nil, length-append, add-lt-add_of_le_of_lt, lt_of_lt_of_le, le-add_right, le_refl, le_of_lt}
+use Rattle.std.proofs.Common.{◌∙◌, ap, sym, subst, append-nil, length-append, add-lt-add_of_le_of_lt, lt_of_lt_of_le}
+use Rattle.std.proofs.Common.{le-add_right, le_refl, le_of_lt}
 use Rattle.std.proofs.Math.Seq.{take-append-add, take-append-le}
 use Rattle.tg_bytes.specs.Told.{after_front, grown}
 use Rattle.tg_faults.specs.Faults.{Rose}
 use Rattle.tg_bytes.specs.ToldLaws.{after_front-after_front, after_front-nothing, grown-grown, grown-nothing}
-use Rattle.tg_streams.specs.Streams.{SourceMeaning, SinkMeaning, through, into, OutputQuiet, OutputRose, Took, Untaken, Put, Unput, PutFront}
+use Rattle.tg_streams.specs.Streams.{SourceMeaning, SinkMeaning, through, into, OutputQuiet, OutputRose, Took, Untaken}
+use Rattle.tg_streams.specs.Streams.{Put, Unput, PutFront}
 
 -- the law of sources, and that of sinks: one step after another is a step
 abbrev pub SourceJoins : (S : Type 0) → SourceMeaning S → Type 0
@@ -66,7 +68,8 @@ put_put_front S m a b c u v joins first quiet next = record {
 }
 
 -- a front of these bytes put with no fault, not all, and then nothing with one
-pub put_unput_front : (S : Type 0) (m : SinkMeaning S) (a b c : S) (n : ℕ) (bytes : List ℕ) → SinkJoins S m → n < length bytes
+pub put_unput_front : (S : Type 0) (m : SinkMeaning S) (a b c : S) (n : ℕ) (bytes : List ℕ) → SinkJoins S m
+    → n < length bytes
     → Put (take n bytes) (into m a b) → OutputQuiet (into m a b) → Unput (into m b c) → OutputRose (into m b c) → PutFront bytes (into m a c)
 put_unput_front S m a b c n bytes joins within first quiet next rose = record {
   count = n;
@@ -76,7 +79,8 @@ put_unput_front S m a b c n bytes joins within first quiet next rose = record {
 }
 
 -- a front of bytes is a front of more bytes
-pub put_front_more : (S : Type 0) (m : SinkMeaning S) (a b : S) (u v : List ℕ) → PutFront u (into m a b) → PutFront (u ++ v) (into m a b)
+pub put_front_more : (S : Type 0) (m : SinkMeaning S) (a b : S) (u v : List ℕ) → PutFront u (into m a b)
+    → PutFront (u ++ v) (into m a b)
 put_front_more S m a b u v front = record {
   count = front.count;
   within = subst (λ (n : ℕ). front.count < n) (sym (length-append u v)) (lt_of_lt_of_le front.within (le-add_right (length u) (length v)));

@@ -42,5 +42,6 @@ appends_joins (Some xs) (Some ys) (Some zs) u v p q = q ∙ ap (λ held. held ++
 pub beside_rests : (grows stays : List ℕ) → (grows ≡ grows ++ []) × (stays ≡ stays)
 beside_rests grows stays = (sym (append-nil grows), refl)
 
-pub beside_joins : (a b c x y z u v : List ℕ) → (b ≡ a ++ u) × (y ≡ x) → (c ≡ b ++ v) × (z ≡ y) → (c ≡ a ++ (u ++ v)) × (z ≡ x)
+pub beside_joins : (a b c x y z u v : List ℕ) → (b ≡ a ++ u) × (y ≡ x) → (c ≡ b ++ v) × (z ≡ y)
+    → (c ≡ a ++ (u ++ v)) × (z ≡ x)
 beside_joins a b c x y z u v p q = (q.0 ∙ ap (λ held. held ++ v) p.0 ∙ append_assoc a u v, q.1 ∙ p.1)

@@ -53,7 +53,8 @@ mem_sink = record {
 pub source_rests : (s : SourceState) → SourceMoves s s []
 source_rests s = record { rest = refl; piece = refl; fails = refl }
 
-pub source_joins : (a b c : SourceState) (u v : List ℕ) → SourceMoves a b u → SourceMoves b c v → SourceMoves a c (u ++ v)
+pub source_joins : (a b c : SourceState) (u v : List ℕ) → SourceMoves a b u → SourceMoves b c v
+    → SourceMoves a c (u ++ v)
 source_joins a b c u v p q = record {
   rest = p.rest ∙ ap (λ xs. u ++ xs) q.rest ∙ sym (append_assoc u v c.rest);
   piece = q.piece ∙ p.piece;

@@ -1,7 +1,9 @@
 //! Sources and sinks in memory, which fail at the calls that they are given.
-ghost use Rattle.std.specs.Prelude.{◌≡◌, ◌<◌, ◌≤◌, ◌↔◌, min, List, [], length, take, drop, option_map, IsErr, Contains, OnErr, OnOk, IfOk};
+ghost use Rattle.std.specs.Prelude.{◌≡◌, ◌<◌, ◌≤◌, ◌↔◌, min, List, [], length, take, drop, option_map, IsErr, Contains};
+ghost use Rattle.std.specs.Prelude.{OnErr, OnOk, IfOk};
 ghost use Rattle.tg_faults.specs.Faults.{counted};
-ghost use Rattle.tg_streams.specs.Streams.{Ended, InputQuiet, InputRose, OutputQuiet, OutputRose, Put, Took, Unput, Untaken, into, through};
+ghost use Rattle.tg_streams.specs.Streams.{Ended, InputQuiet, InputRose, OutputQuiet, OutputRose, Put, Took, Unput};
+ghost use Rattle.tg_streams.specs.Streams.{Untaken, into, through};
 ghost use Rattle.tg_streams.specs.Memory.{mem_source, mem_sink, source_rests, source_joins, sink_rests, sink_joins};
 
 use crate::sinks::Sink;
@@ -26,7 +28,13 @@ impl Model for MemSource {
 
     ghost Value = { SourceState };
 
-    ghost view = { λ s. record { rest = drop s.at s.bytes; piece = s.piece; fails = s.calls.fails; calls = s.calls.made; faults = s.calls.faults } };
+    ghost view = { λ s. record {
+      rest = drop s.at s.bytes;
+      piece = s.piece;
+      fails = s.calls.fails;
+      calls = s.calls.made;
+      faults = s.calls.faults;
+    } };
 
     ghost invariant = { λ s. (s.at ≤ length s.bytes) × (0 < s.piece) };
 }
@@ -118,7 +126,13 @@ impl Model for MemSink {
 
     ghost Value = { SinkState };
 
-    ghost view = { λ s. record { content = s.content; piece = s.piece; fails = s.calls.fails; calls = s.calls.made; faults = s.calls.faults } };
+    ghost view = { λ s. record {
+      content = s.content;
+      piece = s.piece;
+      fails = s.calls.fails;
+      calls = s.calls.made;
+      faults = s.calls.faults;
+    } };
 
     ghost invariant = { λ s. 0 < s.piece };
 }

@@ -54,7 +54,8 @@ impl<R: Read> Source for StdSource<R> {
 
     ghost rests = { λ s. consumes_nothing (R.remaining s.reader) };
 
-    ghost joins = { λ a b c u v. consumes_joins (R.remaining a.reader) (R.remaining b.reader) (R.remaining c.reader) u v };
+    ghost joins = { λ a b c u v. consumes_joins
+        (R.remaining a.reader) (R.remaining b.reader) (R.remaining c.reader) u v };
 
     /// One read, begun anew where it is interrupted. Any other error of the reader is counted.
     fn take(&mut self, buf: &mut [u8]) -> Result<usize, Failed> {

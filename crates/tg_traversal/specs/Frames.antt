@@ -1,6 +1,7 @@
 -- What a frame of an opened block stands for: the tasks that its children leave, and a line's end behind them.
 use Rattle.tg_traversal.specs.declared.frame.ChildrenLeft.TheVariants as left
-use Rattle.std.specs.Prelude.{Bool, Err, List, None, Ok, Option, Result, Some, [], drop, false, length, map, reverse, sum, true, ⊤, ℕ, ◌+◌, ◌++◌, ◌-◌, ◌<◌, ◌^◌, ◌∷◌, ◌≡◌, ◌≤◌}
+use Rattle.std.specs.Prelude.{Bool, Err, List, None, Ok, Option, Result, Some, [], drop, false, length, map, reverse}
+use Rattle.std.specs.Prelude.{sum, true, ⊤, ℕ, ◌+◌, ◌++◌, ◌-◌, ◌<◌, ◌^◌, ◌∷◌, ◌≡◌, ◌≤◌}
 use Rattle.tg_bytes.specs.Ascii.{line_feed}
 use Rattle.tg_cid.specs.Cid.{CidParts}
 use Rattle.tg_cid.specs.declared.cid.Codec.TheVariants as codecs
@@ -154,13 +155,16 @@ pub record AreVisited (directory : List ℕ) (visited : Visited) (old new : List
   pub of_child : IsOfChild visited.into
 
 abbrev pub ArePartsVisited : ℕ → PartsLeft → Option Place → PartsLeft → Type 0
-ArePartsVisited depth old into new = AreVisited [] (record { met = None; into = into }) (part_tasks depth old) (part_tasks depth new)
+ArePartsVisited depth old into new =
+    AreVisited [] (record { met = None; into = into }) (part_tasks depth old) (part_tasks depth new)
 
 abbrev pub AreEntriesVisited : ℕ → EntriesLeft → Visited → EntriesLeft → Type 0
-AreEntriesVisited depth old visited new = (new.path ≡ old.path) × AreVisited (directory_at old.path) visited (entry_tasks depth old) (entry_tasks depth new)
+AreEntriesVisited depth old visited new =
+    (new.path ≡ old.path) × AreVisited (directory_at old.path) visited (entry_tasks depth old) (entry_tasks depth new)
 
 abbrev pub AreSlotsVisited : ℕ → SlotsLeft → Visited → SlotsLeft → Type 0
-AreSlotsVisited depth old visited new = (new.path ≡ old.path) × AreVisited (directory_at old.path) visited (slot_tasks depth old) (slot_tasks depth new)
+AreSlotsVisited depth old visited new =
+    (new.path ≡ old.path) × AreVisited (directory_at old.path) visited (slot_tasks depth old) (slot_tasks depth new)
 
 pub record IsVisited (old : Frame) (visited : Visited) (new : Frame) : Type 0 where
   pub depth : new.depth ≡ old.depth

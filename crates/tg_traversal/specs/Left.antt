@@ -97,20 +97,24 @@ told_wanted (Some at) = Some (record { cid = at.cid; depth = depth_of at.want })
 abbrev pub IsCome : List (Task CidParts) → Came → List (Task CidParts) → Type 0
 IsCome old comes.Nothing new = (old ≡ []) × (new ≡ [])
 IsCome old comes.Line new = old ≡ give_text (line_feed ∷ []) ∷ new
-IsCome old (comes.Link visited) new = (directory : List ℕ) × AreVisited directory visited old new × IsSomething visited.met visited.into
+IsCome old (comes.Link visited) new =
+    (directory : List ℕ) × AreVisited directory visited old new × IsSomething visited.met visited.into
 
 -- what comes next of the tasks: it is taken, but a wanted block and a segment that leads nowhere stay
 abbrev pub IsNext : LeftState → Next → LeftState → Type 0
 IsNext old nexts.Nothing new = (tasks_left old ≡ []) × (tasks_left new ≡ [])
 IsNext old nexts.Block new = (at : WantedAt) × (new.wanted ≡ Some at) × (tasks_left new ≡ tasks_left old)
 IsNext old nexts.Line new = tasks_left old ≡ give_text (line_feed ∷ []) ∷ tasks_left new
-IsNext old (nexts.Entry entry) new = (directory : List ℕ) × (tasks_left old ≡ give_entries (listed_at directory entry ∷ []) ∷ tasks_left new)
-IsNext old (nexts.Missing miss) new = (more : List (Task CidParts)) × (tasks_left old ≡ stop_at (missing_of miss) ∷ more) × (new ≡ old)
+IsNext old (nexts.Entry entry) new =
+    (directory : List ℕ) × (tasks_left old ≡ give_entries (listed_at directory entry ∷ []) ∷ tasks_left new)
+IsNext old (nexts.Missing miss) new =
+    (more : List (Task CidParts)) × (tasks_left old ≡ stop_at (missing_of miss) ∷ more) × (new ≡ old)
 
 -- the block at the wanted place is read there: as this kind, which may stand there; or it has no kind, or one that
 -- can't
 abbrev pub IsReadAs : QueryParts → WantedAt → List ℕ → Result PlacedKind BlockFault → Type 0
-IsReadAs q at block (Ok found) = (kind : Kind) × (read at.cid block ≡ Ok kind) × (fault_at q at.want kind ≡ None) × StandsForKind block found kind
+IsReadAs q at block (Ok found) =
+    (kind : Kind) × (read at.cid block ≡ Ok kind) × (fault_at q at.want kind ≡ None) × StandsForKind block found kind
 IsReadAs q at block (Err fault) =
     (fault ≡ faults.OutOfMemory) ⊎ ((read at.cid block ≡ Err fault) ⊎ ((kind : Kind) × (read at.cid block ≡ Ok kind) × (fault_at q at.want kind ≡ Some fault)))
 

@@ -4,7 +4,8 @@ use Rattle.tg_traversal.specs.declared.position.Place.{Place}
 use Rattle.tg_traversal.specs.declared.position.Position.{Position}
 use Rattle.tg_model.specs.declared.placed.PlacedKind.TheVariants as placed
 use Rattle.tg_model.specs.declared.queries.Scope.TheVariants as scopes
-use Rattle.std.specs.Prelude.{Bool, Err, List, None, Ok, Option, Result, Some, [], drop, false, length, true, ℕ, ◌∷◌, ◌≡◌, ◌⊎◌}
+use Rattle.std.specs.Prelude.{Bool, Err, List, None, Ok, Option, Result, Some, [], drop, false, length, true, ℕ, ◌∷◌}
+use Rattle.std.specs.Prelude.{◌≡◌, ◌⊎◌}
 use Rattle.tg_bytes.specs.Ascii.{slash}
 use Rattle.tg_traversal.specs.Frames.{block_parts}
 use Rattle.tg_traversal.specs.Left.{IsOnPath}

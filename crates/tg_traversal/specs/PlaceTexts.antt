@@ -98,7 +98,8 @@ IsDiffering told actual (Some fault) = IsOther told actual fault
 -- the size that its parent declares for the block and the one that it tells itself are its own; or the first of these
 -- that isn't
 abbrev pub IsSizeFault : Position → Section → Kind → Option SizeFault → Type 0
-IsSizeFault position section kind None = IsOfSize position (total_of section kind) × TellsSize kind (total_of section kind)
+IsSizeFault position section kind None =
+    IsOfSize position (total_of section kind) × TellsSize kind (total_of section kind)
 IsSizeFault position section kind (Some fault) =
     IsOther (part_size position) (total_of section kind) fault
     ⊎ (IsOfSize position (total_of section kind) × IsOther (told_size kind) (total_of section kind) fault)

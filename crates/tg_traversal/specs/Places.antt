@@ -55,7 +55,8 @@ directory_reach (Some path) = bundled path
 -- what is asked of a part that begins at `from`, where it is gone into
 abbrev pub part_reach : Option (ℕ × ℕ) → ℕ → ℕ → Option Reaching
 part_reach None from size = Some entire
-part_reach (Some range) from size = if is_met range.0 range.1 from size then Some (ranged (range.0 - from) (range.1 - from)) else None
+part_reach (Some range) from size =
+    if is_met range.0 range.1 from size then Some (ranged (range.0 - from) (range.1 - from)) else None
 
 abbrev pub IsReachOfPart : Option Reach → Option Reaching → Type 0
 IsReachOfPart None None = ⊤

@@ -1,6 +1,7 @@
 //! A block that was opened, and what of its children is to come.
 ghost use Rattle.std.specs.Prelude.{◌≡◌, ◌<◌, ◌+◌, ◌^◌, [], false, true, None, Some, IfErr, IfOk, OnErr, length};
-ghost use Rattle.tg_traversal.specs.Frames.{AreEntriesVisited, ArePartsLeft, ArePartsVisited, AreSlotsVisited, IsFrame, IsVisited, IsSomething, entry_in, frame_tasks};
+ghost use Rattle.tg_traversal.specs.Frames.{AreEntriesVisited, ArePartsLeft, ArePartsVisited, AreSlotsVisited, IsFrame};
+ghost use Rattle.tg_traversal.specs.Frames.{IsVisited, IsSomething, entry_in, frame_tasks};
 ghost use Rattle.tg_traversal.specs.Places.{IsPlaceOf, IsReachOfPart, directory_reach, part_reach};
 ghost use Rattle.tg_model.specs.Sound.{child};
 ghost use Rattle.tg_model.specs.Texts.{joined};

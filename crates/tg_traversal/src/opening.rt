@@ -1,8 +1,10 @@
 //! What the block at the wanted place leaves.
-ghost use Rattle.std.specs.Prelude.{◌≡◌, ◌≢◌, ℕ, ◌+◌, ◌++◌, ◌<◌, ◌^◌, IfOk, None, OnErr, OnOk, Option, length, map, List as Items};
+ghost use Rattle.std.specs.Prelude.{◌≡◌, ◌≢◌, ℕ, ◌+◌, ◌++◌, ◌<◌, ◌^◌, IfOk, None, OnErr, OnOk, Option, length, map};
+ghost use Rattle.std.specs.Prelude.{List as Items};
 ghost use Rattle.tg_traversal.specs.Frames.{AreLeft, IsFrame, children_left, frame_tasks};
 ghost use Rattle.tg_traversal.specs.Left.{IsHeldFor, IsReadHere, WantedAt, tasks_left};
-ghost use Rattle.tg_traversal.specs.Opening.{IsFileHeld, IsParted, IsReadBy, IsStepLeft, directory_asked, directory_kind, file_asked, is_bundled};
+ghost use Rattle.tg_traversal.specs.Opening.{IsFileHeld, IsParted, IsReadBy, IsStepLeft, directory_asked};
+ghost use Rattle.tg_traversal.specs.Opening.{directory_kind, file_asked, is_bundled};
 ghost use Rattle.tg_model.specs.Sound.{passed, position_fault, top};
 ghost use Rattle.tg_model.specs.Traversal.{entry_visit, file_visits, slot_visit};
 ghost use Rattle.tg_model.specs.declared.kinds.Part.{Part};
@@ -275,7 +277,8 @@ fn parts_left(reach: Reach, places: FilePlaces, block: Bytes) -> ChildrenLeft
 fn entries_left(reach: Reach, entries: List<Entry>) -> ChildrenLeft
     ensures left { AreLeft result }
     ensures tasks { (depth : ℕ) → children_left depth result
-        ≡ children_tasks (map (λ entry. entry_visit (reach_of reach) entry.name entry.cid) entries) depth (map (λ entry. entry.cid) entries) }
+        ≡ children_tasks (map (λ entry. entry_visit (reach_of reach) entry.name entry.cid) entries) depth
+        (map (λ entry. entry.cid) entries) }
 {
     let path = match reach {
         Reach::Bundled(path) => Some(path),
@@ -292,7 +295,8 @@ fn slots_left(reach: Reach, position: Position, slots: List<Slot>) -> ChildrenLe
     requires { position_fault (standing_of position) (Kind.Shard slots) ≡ None }
     ensures left { AreLeft result }
     ensures tasks { (depth : ℕ) → children_left depth result
-        ≡ children_tasks (map (slot_visit (reach_of reach) (standing_of position)) slots) depth (map (λ slot. slot.cid) slots) }
+        ≡ children_tasks (map (slot_visit (reach_of reach) (standing_of position)) slots) depth
+        (map (λ slot. slot.cid) slots) }
 {
     let path = match reach {
         Reach::Bundled(path) => Some(path),

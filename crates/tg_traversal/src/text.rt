@@ -2,7 +2,9 @@
 ghost use Rattle.std.specs.Prelude.{◌≡◌, ◌++◌, ◌∷◌, [], ℕ, IfOk, List as Items, OnErr, decimal};
 ghost use Rattle.tg_bytes.specs.Ascii.{line_feed, space};
 ghost use Rattle.tg_traversal.specs.Left.{WantedAt};
-ghost use Rattle.tg_traversal.specs.PlaceTexts.{IsBlockAt, IsBlockHere, IsBundled, IsDiffering, IsFirstRecord, IsRecordAt, IsSizeFault, content_size, part_size, standing_at, told_size};
+ghost use Rattle.tg_traversal.specs.PlaceTexts.{IsBlockAt, IsBlockHere, IsBundled, IsDiffering, IsFirstRecord};
+ghost use Rattle.tg_traversal.specs.PlaceTexts.{IsRecordAt, IsSizeFault, content_size, part_size, standing_at};
+ghost use Rattle.tg_traversal.specs.PlaceTexts.{told_size};
 ghost use Rattle.tg_traversal.specs.Places.{reach_of, standing_of};
 ghost use Rattle.tg_model.specs.Dag.{Section};
 ghost use Rattle.tg_model.specs.Sound.{top};

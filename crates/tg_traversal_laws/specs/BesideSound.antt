@@ -12,7 +12,8 @@ use Rattle.tg_model.specs.Traversal.{Place, opened_list, traversal}
 use Rattle.tg_model.specs.declared.kinds.Kind.{Kind}
 use Rattle.tg_traversal_laws.specs.Openings.{EachPlace, IsReadAt, opened_by, root_cids_at}
 use Rattle.tg_traversal_laws.specs.Stages.{Given, IsStage, ending, nothing_given, place_of, up_to_next, with_place}
-use Rattle.tg_traversal_laws.specs.Tasks.{Miss, Task, Want, is_read_at, open_block, position_of, spot_of, start, stop_at, stop_of, tasks_of, tasks_then, text_at}
+use Rattle.tg_traversal_laws.specs.Tasks.{Miss, Task, Want, is_read_at, open_block, position_of, spot_of, start}
+use Rattle.tg_traversal_laws.specs.Tasks.{stop_at, stop_of, tasks_of, tasks_then, text_at}
 
 -- a checked part of a DAG, where it stands, whole where the DAG is
 pub record IsPartAt (d : Dag) (position : Position) (below : Dag) : Type 0 where
@@ -37,7 +38,8 @@ abbrev pub Passes : QueryParts → Want → Section → Type 0
 Passes q w section = PassesIf (is_read_at q w) w section
 
 abbrev pub BesideStarts : Type 0
-BesideStarts = (q : QueryParts) (d : Dag) → IsChecked d → root_cid d ≡ q.root → IsBeside q d nothing_given (start q q.root)
+BesideStarts =
+    (q : QueryParts) (d : Dag) → IsChecked d → root_cid d ≡ q.root → IsBeside q d nothing_given (start q q.root)
 
 abbrev pub BesideGives : Type 0
 BesideGives = (q : QueryParts) (d : Dag) (given : Given) (tasks : List (Task CidParts)) → IsBeside q d given tasks → IsBeside q d (up_to_next tasks given) (tasks_then tasks)
@@ -75,13 +77,15 @@ BesideOpens = (q : QueryParts) (d : Dag) (given : Given) (w : Want) (section : S
     → IsBeside q d (with_place w section (text_at q w section kind) given) (tasks_of q w section kind (links_of kind) ++ tasks) ⊎ CollisionPair (section ∷ []) d
 
 abbrev pub BesideOpensAlone : Type 0
-BesideOpensAlone = (q : QueryParts) (d : Dag) (given : Given) (w : Want) (section : Section) (tasks : List (Task CidParts)) → IsSound d
+BesideOpensAlone =
+    (q : QueryParts) (d : Dag) (given : Given) (w : Want) (section : Section) (tasks : List (Task CidParts)) → IsSound d
     → is_read_at q w ≡ false → Names section.cid section.block → IsBeside q d given (open_block w section.cid ∷ tasks)
     → IsBeside q d (with_place w section section.block given) tasks ⊎ CollisionPair (section ∷ []) d
 
 -- one that isn't read, can't stand there or has wrong sizes is one of a collision pair
 abbrev pub BesideRefuses : Type 0
-BesideRefuses = (q : QueryParts) (d : Dag) (given : Given) (w : Want) (section : Section) (tasks : List (Task CidParts)) → IsSound d
+BesideRefuses =
+    (q : QueryParts) (d : Dag) (given : Given) (w : Want) (section : Section) (tasks : List (Task CidParts)) → IsSound d
     → Names section.cid section.block → ((kind : Kind) → IsReadAt (position_of w) section kind → ⊥) → IsBeside q d given (open_block w section.cid ∷ tasks)
     → CollisionPair (section ∷ []) d
 

@@ -12,7 +12,9 @@ use Rattle.tg_model.specs.Traversal.{Place, traversal}
 use Rattle.tg_model.specs.declared.kinds.Kind.{Kind}
 use Rattle.tg_traversal_laws.specs.PathStages.{IsPathEnd}
 use Rattle.tg_traversal_laws.specs.Stages.{Given, IsStage, ending, nothing_given, up_to_next, with_place}
-use Rattle.tg_traversal_laws.specs.Tasks.{Task, Want, give_entries, give_text, is_read_at, mapped, node_want, open_block, position_of, segment_want, spot_of, start, stop_at, stop_of, tasks_of, tasks_then, terminal_want, text_at}
+use Rattle.tg_traversal_laws.specs.Tasks.{Task, Want, give_entries, give_text, is_read_at, mapped, node_want}
+use Rattle.tg_traversal_laws.specs.Tasks.{open_block, position_of, segment_want, spot_of, start, stop_at, stop_of}
+use Rattle.tg_traversal_laws.specs.Tasks.{tasks_of, tasks_then, terminal_want, text_at}
 
 -- a block is read as this kind, may stand there, and has the sizes that are told for it
 pub record IsReadAt (position : Position) (section : Section) (kind : Kind) : Type 0 where
@@ -105,7 +107,8 @@ OpeningGives = (q : QueryParts) (given : Given) (tasks : List (Task CidParts)) �
 
 -- a block that passes there is opened
 abbrev pub OpeningOpens : Type 0
-OpeningOpens = (q : QueryParts) (given : Given) (w : Want) (section : Section) (kind : Kind) (tasks : List (Task CidParts))
+OpeningOpens =
+    (q : QueryParts) (given : Given) (w : Want) (section : Section) (kind : Kind) (tasks : List (Task CidParts))
     → is_read_at q w ≡ true → IsReadAt (position_of w) section kind → Opening q given (open_block w section.cid ∷ tasks)
     → Opening q (with_place w section (text_at q w section kind) given) (tasks_of q w section kind (links_of kind) ++ tasks)
 

@@ -13,7 +13,8 @@ use Rattle.tg_model.specs.declared.fault.BlockFault.{BlockFault}
 use Rattle.tg_model.specs.declared.kinds.Kind.{Kind}
 use Rattle.tg_traversal_laws.specs.Stages.{IsOpened}
 use Rattle.tg_traversal_laws.specs.StoreWalks.{section_of, shown_tasks, shown_at}
-use Rattle.tg_traversal_laws.specs.Tasks.{Miss, Task, Want, depth_of, give_entries, give_text, node_want, open_block, segment_want, spot_of, start, stop_at, stop_of, tasks_of, terminal_want}
+use Rattle.tg_traversal_laws.specs.Tasks.{Miss, Task, Want, depth_of, give_entries, give_text, node_want, open_block}
+use Rattle.tg_traversal_laws.specs.Tasks.{segment_want, spot_of, start, stop_at, stop_of, tasks_of, terminal_want}
 
 -- the walk from a place of the path on ends so
 abbrev pub LeadsToEnd : Want → Dag → PathEnd → Type 0
@@ -33,7 +34,8 @@ IsPathEnd (stop_at miss ∷ tasks) end = (end ≡ not_reached (stop_of miss)) ×
 
 -- a place of a path of `n` segments: at most 8 shards a segment were passed
 abbrev pub IsWithinPath : ℕ → Want → Type 0
-IsWithinPath n (segment_want i position name path depth) = (i + 1 + length path ≡ n) × (depth ≤ 1 + 8 * i + length (passed position)) × (length (passed position) ≤ 8)
+IsWithinPath n (segment_want i position name path depth) =
+    (i + 1 + length path ≡ n) × (depth ≤ 1 + 8 * i + length (passed position)) × (length (passed position) ≤ 8)
 IsWithinPath n (terminal_want depth) = depth ≤ 1 + 8 * n
 IsWithinPath n (node_want reach position depth) = ⊥
 
@@ -69,7 +71,8 @@ ResolveOpens = (q : QueryParts) (store : Store) (i : ℕ) (position : Position) 
 
 -- a terminal that is stored is where the walk leads; it isn't read
 abbrev pub ResolveEnds : Type 0
-ResolveEnds = (q : QueryParts) (store : Store) (depth : ℕ) (cid : CidParts) (block : List ℕ) (tasks : List (Task CidParts))
+ResolveEnds =
+    (q : QueryParts) (store : Store) (depth : ℕ) (cid : CidParts) (block : List ℕ) (tasks : List (Task CidParts))
     → length q.path ≤ 128 → block_at store cid ≡ Some block → IsResolved q store (open_block (terminal_want depth) cid ∷ tasks)
     → (store_end q store ≡ terminal (shown_at store depth cid)) × IsOpened (shown_at store depth cid) (section_of cid block)
 

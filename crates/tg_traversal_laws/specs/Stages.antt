@@ -6,10 +6,13 @@ use Rattle.tg_model_laws.specs.Steps.{from_node}
 use Rattle.tg_model.specs.Dag.{Children, Dag, Section, bare, node, unopened}
 use Rattle.tg_model.specs.PathWalk.{TraversalEnd, bad_block, gone, stopped, whole}
 use Rattle.tg_model.specs.Queries.{QueryParts}
-use Rattle.tg_model.specs.Traversal.{ListedEntry, Place, Traversal, and_then, at_terminal, ended, giving_entries, giving_text, traversal, traverse}
+use Rattle.tg_model.specs.Traversal.{ListedEntry, Place, Traversal, and_then, at_terminal, ended, giving_entries}
+use Rattle.tg_model.specs.Traversal.{giving_text, traversal, traverse}
 use Rattle.tg_model.specs.declared.fault.BlockFault.{BlockFault}
 use Rattle.tg_model.specs.declared.kinds.Kind.{Kind}
-use Rattle.tg_traversal_laws.specs.Tasks.{Miss, Task, Want, dags_of, depth_of, entries_now, fault_at, give_entries, give_text, is_read_at, node_want, open_block, segment_want, spot_of, start, stop_at, stop_of, tasks_of, tasks_then, terminal_want, text_at, text_now}
+use Rattle.tg_traversal_laws.specs.Tasks.{Miss, Task, Want, dags_of, depth_of, entries_now, fault_at, give_entries}
+use Rattle.tg_traversal_laws.specs.Tasks.{give_text, is_read_at, node_want, open_block, segment_want, spot_of, start}
+use Rattle.tg_traversal_laws.specs.Tasks.{stop_at, stop_of, tasks_of, tasks_then, terminal_want, text_at, text_now}
 
 -- ---- what tasks over the nodes of a DAG give
 
@@ -43,11 +46,13 @@ abbrev pub place_of : Want → Section → Place
 place_of w section = record { section = section; depth = depth_of w }
 
 abbrev pub with_place : Want → Section → List ℕ → Given → Given
-with_place w section text given = record { places = given.places ++ place_of w section ∷ []; text = given.text ++ text; met = given.met }
+with_place w section text given =
+    record { places = given.places ++ place_of w section ∷ []; text = given.text ++ text; met = given.met }
 
 -- what comes before the next place was given
 abbrev pub up_to_next : {X : Type 0} → List (Task X) → Given → Given
-up_to_next tasks given = record { places = given.places; text = given.text ++ text_now tasks; met = given.met ++ entries_now tasks }
+up_to_next tasks given =
+    record { places = given.places; text = given.text ++ text_now tasks; met = given.met ++ entries_now tasks }
 
 -- a traversal that gives this, and ends so
 abbrev pub ending : Given → TraversalEnd → Traversal
@@ -81,7 +86,8 @@ StageOpens = (q : QueryParts) (d : Dag) (given : Given) (w : Want) (section : Se
 
 -- or a terminal of which the block alone is asked for, whatever it is read as
 abbrev pub StageOpensAlone : Type 0
-StageOpensAlone = (q : QueryParts) (d : Dag) (given : Given) (w : Want) (x : Dag) (section : Section) (tasks : List (Task Dag))
+StageOpensAlone =
+    (q : QueryParts) (d : Dag) (given : Given) (w : Want) (x : Dag) (section : Section) (tasks : List (Task Dag))
     → is_read_at q w ≡ false → IsOpened x section → IsStage q d given (open_block w x ∷ tasks)
     → IsStage q d (with_place w section section.block given) tasks
 

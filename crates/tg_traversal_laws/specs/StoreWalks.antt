@@ -12,7 +12,8 @@ use Rattle.tg_model.specs.Traversal.{Traversal, and_then, traversal}
 use Rattle.tg_model.specs.declared.fault.BlockFault.{BlockFault}
 use Rattle.tg_model.specs.declared.kinds.Kind.{Kind}
 use Rattle.tg_traversal_laws.specs.Stages.{Given, IsStage, ending, nothing_given, up_to_next, with_place}
-use Rattle.tg_traversal_laws.specs.Tasks.{Miss, Task, Want, depth_of, fault_at, is_read_at, mapped, open_block, spot_of, start, stop_at, stop_of, tasks_of, tasks_then, text_at}
+use Rattle.tg_traversal_laws.specs.Tasks.{Miss, Task, Want, depth_of, fault_at, is_read_at, mapped, open_block, spot_of}
+use Rattle.tg_traversal_laws.specs.Tasks.{start, stop_at, stop_of, tasks_of, tasks_then, text_at}
 
 -- what is shown of a CID at a depth: of the root 1,100 blocks' depth are shown
 abbrev pub shown_at : Store → ℕ → CidParts → Dag

@@ -2,14 +2,17 @@
 -- that are to be given. What stands at a place is told by its CID, or by a DAG (Trustless Gateway specification:
 -- dag-scope, entity-bytes, order dfs).
 use Rattle.tg_model.specs.declared.queries.Scope.TheVariants as scopes
-use Rattle.std.specs.Prelude.{Bool, List, None, Option, Some, [], length, not, refl, suc, true, zero, ℕ, ◌++◌, ◌+◌, ◌∷◌, ◌≡◌}
+use Rattle.std.specs.Prelude.{Bool, List, None, Option, Some, [], length, not, refl, suc, true, zero, ℕ, ◌++◌, ◌+◌, ◌∷◌}
+use Rattle.std.specs.Prelude.{◌≡◌}
 use Rattle.tg_cid.specs.Cid.{CidParts}
 use Rattle.tg_model.specs.Dag.{Children, Dag, Section, no_child, with_child}
 use Rattle.tg_model.specs.Fits.{is_block}
-use Rattle.tg_model.specs.PathWalk.{Spot, StepTo, Stop, absent, child_below, not_folder, not_folder_here, not_there, spot_at, step_of, to_child, to_entry}
+use Rattle.tg_model.specs.PathWalk.{Spot, StepTo, Stop, absent, child_below, not_folder, not_folder_here, not_there}
+use Rattle.tg_model.specs.PathWalk.{spot_at, step_of, to_child, to_entry}
 use Rattle.tg_model.specs.Queries.{QueryParts, SpanParts}
 use Rattle.tg_model.specs.Sound.{Position, passed, position_fault, top}
-use Rattle.tg_model.specs.Traversal.{ListedEntry, Reach, Visit, all_reach, entity_reach, text_before, text_behind, visits}
+use Rattle.tg_model.specs.Traversal.{ListedEntry, Reach, Visit, all_reach, entity_reach, text_before, text_behind}
+use Rattle.tg_model.specs.Traversal.{visits}
 use Rattle.tg_model.specs.declared.fault.BlockFault.{BlockFault}
 use Rattle.tg_model.specs.declared.kinds.Kind.{Kind}
 use Rattle.tg_model.specs.declared.queries.Scope.{Scope}
@@ -94,11 +97,13 @@ child_then (Some into) depth x tasks = open_block (node_want into.0 into.1 depth
 abbrev pub children_tasks : {X : Type 0} → List Visit → ℕ → List X → List (Task X)
 children_tasks todo depth [] = []
 children_tasks [] depth (x ∷ xs) = []
-children_tasks (visit ∷ todo) depth (x ∷ xs) = entries_then visit.met (child_then visit.into depth x (children_tasks todo depth xs))
+children_tasks (visit ∷ todo) depth (x ∷ xs) =
+    entries_then visit.met (child_then visit.into depth x (children_tasks todo depth xs))
 
 -- of a node of this depth
 abbrev pub node_tasks : {X : Type 0} → Reach → Position → ℕ → Kind → List X → List (Task X)
-node_tasks reach position depth kind xs = children_tasks (visits reach position kind) (depth + 1) xs ++ text_last (text_behind reach kind)
+node_tasks reach position depth kind xs =
+    children_tasks (visits reach position kind) (depth + 1) xs ++ text_last (text_behind reach kind)
 
 -- of a step to the link with this index
 abbrev pub link_tasks : {X : Type 0} → ℕ → ℕ → Want → List X → List (Task X)

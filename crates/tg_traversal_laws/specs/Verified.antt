@@ -16,7 +16,8 @@ use Rattle.tg_model.specs.declared.queries.Scope.{Scope}
 use Rattle.tg_traversal_laws.specs.BesideSound.{IsBeside, Passes}
 use Rattle.tg_traversal_laws.specs.Openings.{IsReadAt, Opening, opened_by}
 use Rattle.tg_traversal_laws.specs.Stages.{Given, ending, nothing_given, up_to_next, with_place}
-use Rattle.tg_traversal_laws.specs.Tasks.{Miss, Task, Want, is_read_at, open_block, position_of, spot_of, start, stop_at, stop_of, tasks_of, tasks_then, text_at}
+use Rattle.tg_traversal_laws.specs.Tasks.{Miss, Task, Want, is_read_at, open_block, position_of, spot_of, start}
+use Rattle.tg_traversal_laws.specs.Tasks.{stop_at, stop_of, tasks_of, tasks_then, text_at}
 
 -- the sections were sent, of the places that were opened; each opened block was received; and these tasks are left, of
 -- the partial DAG and beside each checked DAG of the query's root that opens with the same blocks
@@ -25,7 +26,8 @@ pub record Verified (q : QueryParts) (sections : List Section) (given : Given) (
   pub received : (section : Section) → Contains (opened_by given) section → Contains sections section
   pub one_each : IfOnce q.dups (HasOneBlockEach (opened_by given))
   pub opening : Opening q given tasks
-  pub beside : (d : Dag) (rest : List Section) → IsChecked d → root_cid d ≡ q.root → opened_list q d ≡ opened_by given ++ rest → IsBeside q d given tasks
+  pub beside : (d : Dag) (rest : List Section) → IsChecked d → root_cid d ≡ q.root
+      → opened_list q d ≡ opened_by given ++ rest → IsBeside q d given tasks
 
 -- what is written at the end behind the text that was given: the listing of the entries that were met, where an entity
 -- is asked for
@@ -79,7 +81,8 @@ pub record WantsAt (tasks : List (Task CidParts)) (spot : Spot) : Type 0 where
 -- how tasks go on: none is left, a block is wanted, or a segment leads nowhere
 pub data Then (tasks : List (Task CidParts)) : Type 0 where
   then_none : tasks_then tasks ≡ [] → Then tasks
-  then_block : (w : Want) (cid : CidParts) (more : List (Task CidParts)) → tasks_then tasks ≡ open_block w cid ∷ more → Then tasks
+  then_block : (w : Want) (cid : CidParts) (more : List (Task CidParts)) → tasks_then tasks ≡ open_block w cid ∷ more
+      → Then tasks
   then_stop : (miss : Miss) (more : List (Task CidParts)) → tasks_then tasks ≡ stop_at miss ∷ more → Then tasks
 
 -- ---- from section to section

@@ -1,7 +1,8 @@
 //! UnixFS data: the message in a DAG-PB node's payload.
 #![tactic(auto)]
 
-ghost use Rattle.std.specs.Prelude.{◌≡◌, ℕ, ◌<◌, ◌⊎◌, [], List as Items, length, IfOk, IfErr, IsErrOf, OnOk, OnErr, MatchResult};
+ghost use Rattle.std.specs.Prelude.{◌≡◌, ℕ, ◌<◌, ◌⊎◌, [], List as Items, length, IfOk, IfErr, IsErrOf, OnOk, OnErr};
+ghost use Rattle.std.specs.Prelude.{MatchResult};
 ghost use Rattle.tg_pbtable.specs.Emitted.{FieldTexts, Puts, IsSizeOf};
 ghost use Rattle.tg_pbtable.specs.Place.{AreInside};
 ghost use Rattle.tg_unixfs.specs.Unix.{UnixText, CanonicalText, HasContent, IsUnix};

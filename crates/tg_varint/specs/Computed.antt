@@ -1,5 +1,6 @@
 -- The unsigned varints of multiformats as functions.
-use Rattle.std.specs.Prelude.{ℕ, zero, suc, ◌+◌, ◌*◌, ◌/◌, ◌%◌, List, [], ◌∷◌, Option, Some, None, if◌then◌else◌, nat_lt, nat_eq}
+use Rattle.std.specs.Prelude.{ℕ, zero, suc, ◌+◌, ◌*◌, ◌/◌, ◌%◌, List, [], ◌∷◌, Option, Some, None, if◌then◌else◌}
+use Rattle.std.specs.Prelude.{nat_lt, nat_eq}
 
 -- the spelling of a number with at most `more` groups behind the first
 abbrev pub varint_within : ℕ → ℕ → List ℕ

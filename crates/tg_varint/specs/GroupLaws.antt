@@ -1,9 +1,11 @@
 -- What holds of groups of seven bits: the number that they spell, where they end, and that exactly one of four stands
 -- at the front of bytes.
-use Rattle.std.proofs.Common.{◌≡◌, ℕ, ◌+◌, ◌*◌, ◌^◌, ◌<◌, ◌≤◌, List, [], ◌∷◌, ◌++◌, length, take, drop, get_or, All, refl, ap, ap₂, sym, ◌∙◌, subst, inl, inr, arith}
+use Rattle.std.proofs.Common.{◌≡◌, ℕ, ◌+◌, ◌*◌, ◌^◌, ◌<◌, ◌≤◌, List, [], ◌∷◌, ◌++◌, length, take, drop, get_or, All}
+use Rattle.std.proofs.Common.{refl, ap, ap₂, sym, ◌∙◌, subst, inl, inr, arith}
 use Rattle.std.proofs.Math.Nat.{pow-succ', pow-le-pow_right, mul-le-mul_left}
 use Rattle.std.proofs.lemmas.Bool.{cases_lt}
-use Rattle.std.proofs.lemmas.List.{append_assoc, get_or_at, get_or-take, length-take-le, length_push, take-append-drop, drop_more, take_all, take_more}
+use Rattle.std.proofs.lemmas.List.{append_assoc, get_or_at, get_or-take, length-take-le, length_push, take-append-drop}
+use Rattle.std.proofs.lemmas.List.{drop_more, take_all, take_more}
 use Rattle.std.proofs.lemmas.List.Elements.{All-cons, All-head, All-nil, All-tail, All-take, All-get_or}
 use Rattle.tg_varint.specs.Varint.{number_of, AllGoOn, Groups, GroupsInside, GroupsPast, GroupsInZero}
 
@@ -53,7 +55,8 @@ first_stop (x ∷ f) (y ∷ g) l m r s p a q b e =
 -- where one stands, not all bytes go on
 pub no_stop : (front : List ℕ) (last : ℕ) (rest : List ℕ) → AllGoOn (front ++ last ∷ rest) → last < 128 → ⊥
 no_stop [] last rest g low = let high : 128 ≤ last = All-head (λ (b : ℕ). 128 ≤ b) last rest g in omega arith
-no_stop (x ∷ front) last rest g low = no_stop front last rest (All-tail (λ (b : ℕ). 128 ≤ b) x (front ++ last ∷ rest) g) low
+no_stop (x ∷ front) last rest g low =
+    no_stop front last rest (All-tail (λ (b : ℕ). 128 ≤ b) x (front ++ last ∷ rest) g) low
 
 -- nor do the first bytes, where it is one of them
 pub no_stop_within : {most : ℕ} (front : List ℕ) (last : ℕ) (rest : List ℕ) → length front < most → last < 128
@@ -81,14 +84,16 @@ one_group m n a b r s g h e =
     let bytes : a ≡ b = g.whole ∙ ap₂ (λ (f : List ℕ) (l : ℕ). f ++ l ∷ []) same.0 same.1 ∙ sym h.whole in
     (g.spells ∙ ap number_of bytes ∙ sym h.spells, bytes, same.2)
 
-pub inside_group : {most : ℕ} (n : ℕ) (a r bytes : List ℕ) → GroupsInside most bytes → Groups most n a → bytes ≡ a ++ r → ⊥
+pub inside_group : {most : ℕ} (n : ℕ) (a r bytes : List ℕ) → GroupsInside most bytes → Groups most n a → bytes ≡ a ++ r
+    → ⊥
 inside_group n a r bytes i g e = no_stop g.front g.last r (subst AllGoOn (e ∙ group_whole n a r g) i.goes_on) g.ends
 
 pub past_group : {most : ℕ} (n : ℕ) (a r bytes : List ℕ) → GroupsPast most bytes → Groups most n a → bytes ≡ a ++ r → ⊥
 past_group {most} n a r bytes p g e =
     no_stop_within g.front g.last r g.at_most g.ends (subst (λ (t : List ℕ). GroupsPast most t) (e ∙ group_whole n a r g) p)
 
-pub zero_group : {most : ℕ} (n : ℕ) (a r bytes : List ℕ) → GroupsInZero most bytes → Groups most n a → bytes ≡ a ++ r → ⊥
+pub zero_group : {most : ℕ} (n : ℕ) (a r bytes : List ℕ) → GroupsInZero most bytes → Groups most n a → bytes ≡ a ++ r
+    → ⊥
 zero_group n a r bytes z g e =
     let low : 0 < 128 = omega arith in
     let same = first_stop z.front g.front 0 g.last z.rest r z.goes_on low g.goes_on g.ends (sym z.whole ∙ e ∙ group_whole n a r g) in
@@ -110,8 +115,10 @@ past_zero {most} bytes p z =
 -- ---- what stands there, as bytes are read one by one
 
 -- the bytes before a place, the byte there and those behind it
-pub parted_at : (bytes : List ℕ) (at : ℕ) → at < length bytes → bytes ≡ take at bytes ++ get_or bytes at 0 ∷ drop (at + 1) bytes
-parted_at bytes at within = sym (take-append-drop at bytes) ∙ ap (λ (t : List ℕ). take at bytes ++ t) (drop_more bytes at 0 within)
+pub parted_at : (bytes : List ℕ) (at : ℕ) → at < length bytes
+    → bytes ≡ take at bytes ++ get_or bytes at 0 ∷ drop (at + 1) bytes
+parted_at bytes at within =
+    sym (take-append-drop at bytes) ∙ ap (λ (t : List ℕ). take at bytes ++ t) (drop_more bytes at 0 within)
 
 pub group_at : (most : ℕ) (bytes : List ℕ) (at number : ℕ) → All (λ b. b < 256) bytes → at < length bytes → at < most
     → AllGoOn (take at bytes) → get_or bytes at 0 < 128 → (0 < at → 0 < get_or bytes at 0)
@@ -130,7 +137,8 @@ group_at most bytes at number are within few on low some spells =
       spells = spells;
     }
 
-pub zero_at : (most : ℕ) (bytes : List ℕ) (at : ℕ) → at < length bytes → at < most → AllGoOn (take at bytes) → get_or bytes at 0 ≡ 0
+pub zero_at : (most : ℕ) (bytes : List ℕ) (at : ℕ) → at < length bytes → at < most → AllGoOn (take at bytes)
+    → get_or bytes at 0 ≡ 0
     → 0 < at → GroupsInZero most bytes
 zero_at most bytes at within few on zero more =
     let size : length (take at bytes) ≡ at = length-take-le at bytes (omega arith) in
@@ -143,8 +151,10 @@ zero_at most bytes at within few on zero more =
       at_most = omega arith;
     }
 
-pub inside_at : (most : ℕ) (bytes : List ℕ) (at : ℕ) → length bytes ≤ at → at < most → AllGoOn (take at bytes) → GroupsInside most bytes
-inside_at most bytes at past few on = record { goes_on = subst AllGoOn (take_all at bytes past) on; fewer = omega arith }
+pub inside_at : (most : ℕ) (bytes : List ℕ) (at : ℕ) → length bytes ≤ at → at < most → AllGoOn (take at bytes)
+    → GroupsInside most bytes
+inside_at most bytes at past few on =
+    record { goes_on = subst AllGoOn (take_all at bytes past) on; fewer = omega arith }
 
 -- ---- a number has one spelling
 

@@ -20,7 +20,8 @@ Begins bytes not_shortest = EndsInZero bytes
 pub record SpellingLaws : Type 0 where
   -- a number has one spelling, no spelling begins another, and the numbers are below 2 ^ 63
   pub one_spelling : (n : ℕ) (a b : List ℕ) → VarintSpelling n a → VarintSpelling n b → a ≡ b
-  pub no_front : (m n : ℕ) (a b x y : List ℕ) → VarintSpelling m a → VarintSpelling n b → a ++ x ≡ b ++ y → (a ≡ b) × (m ≡ n)
+  pub no_front : (m n : ℕ) (a b x y : List ℕ) → VarintSpelling m a → VarintSpelling n b → a ++ x ≡ b ++ y
+      → (a ≡ b) × (m ≡ n)
   pub below : (n : ℕ) (a : List ℕ) → VarintSpelling n a → n < 2 ^ 63
   -- a number below 128 is spelled by one byte, itself
   pub one_byte : (n : ℕ) → n < 128 → VarintSpelling n (n ∷ [])

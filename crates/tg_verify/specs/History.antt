@@ -50,7 +50,8 @@ ShowsFor q wanted sections written (Ok progresses.More) =
     (at : WantedAt) × (wanted ≡ Some at) × IsProgressOf q sections written (spot_of at.want at.cid)
 ShowsFor q wanted sections written (Ok progresses.Done) = IsFitOf q sections written
 ShowsFor q wanted sections written (Err (refusals.NotThere segment)) = IsNowhereOf q sections written (no_entry segment)
-ShowsFor q wanted sections written (Err (refusals.NotFolder segment)) = IsNowhereOf q sections written (no_directory segment)
+ShowsFor q wanted sections written (Err (refusals.NotFolder segment)) =
+    IsNowhereOf q sections written (no_directory segment)
 ShowsFor q wanted sections written (Err other) = ⊤
 
 -- a text was put, and with it the verifier stands for these sections; what they are; and what that says of each sound
@@ -95,5 +96,7 @@ pub record HasRefusedFront (q : QueryParts) (limits : LimitNumbers) (sections : 
 -- how a list of sections ends: all came; or a block is wanted behind them; or one of them was refused
 abbrev pub AllEnd : QueryParts → LimitNumbers → List Section → Output → Result (Option CidParts) Refusal → Type 0
 AllEnd q limits sections out (Ok None) = HasPut out (λ text. IsThrough q sections text) × OutputQuiet out
-AllEnd q limits sections out (Ok (Some want)) = HasPut out (λ text. (at : WantedAt) × (want ≡ at.cid) × IsUpTo q sections text at) × OutputQuiet out
-AllEnd q limits sections out (Err fault) = HasPut out (λ text. HasRefusedFront q limits sections text fault) × HasPutCause (Err fault) out
+AllEnd q limits sections out (Ok (Some want)) =
+    HasPut out (λ text. (at : WantedAt) × (want ≡ at.cid) × IsUpTo q sections text at) × OutputQuiet out
+AllEnd q limits sections out (Err fault) =
+    HasPut out (λ text. HasRefusedFront q limits sections text fault) × HasPutCause (Err fault) out

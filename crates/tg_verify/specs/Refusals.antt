@@ -1,5 +1,6 @@
 -- Why a verifier refuses a section, or that no more come.
-use Rattle.std.specs.Prelude.{All, Err, List, None, Ok, Some, [], length, true, ⊤, ℕ, ◌++◌, ◌<◌, ◌∷◌, ◌≡◌, ◌≢◌, ◌≤◌, ◌⊎◌}
+use Rattle.std.specs.Prelude.{All, Err, List, None, Ok, Some, [], length, true, ⊤, ℕ, ◌++◌, ◌<◌, ◌∷◌, ◌≡◌, ◌≢◌, ◌≤◌}
+use Rattle.std.specs.Prelude.{◌⊎◌}
 use Rattle.tg_cid.specs.Cid.{CidParts}
 use Rattle.tg_cid.specs.Names.{Names}
 use Rattle.tg_traversal.specs.Left.{WantedAt}
@@ -100,10 +101,13 @@ pub record IsCutShort (q : QueryParts) (sections : List Section) (written : List
 abbrev pub HasSectionCause : QueryParts → LimitNumbers → WantedAt → Section → Refusal → Type 0
 HasSectionCause q limits at section (refusals.Limit kinds.Block number) = IsTooLarge limits section number
 HasSectionCause q limits at section (refusals.BadDigest cid) = (cid ≡ section.cid) × IsMisnamed limits section
-HasSectionCause q limits at section (refusals.WrongBlock want got) = (want ≡ at.cid) × (got ≡ section.cid) × IsAnother limits at section
+HasSectionCause q limits at section (refusals.WrongBlock want got) =
+    (want ≡ at.cid) × (got ≡ section.cid) × IsAnother limits at section
 HasSectionCause q limits at section (refusals.Limit kinds.Depth number) = IsTooDeep limits at section number
-HasSectionCause q limits at section (refusals.BadBlock cid fault) = (cid ≡ section.cid) × IsBadBlock q limits at section fault
-HasSectionCause q limits at section (refusals.BadSize declared actual) = IsMissized q limits at section (record { declared = declared; actual = actual })
+HasSectionCause q limits at section (refusals.BadBlock cid fault) =
+    (cid ≡ section.cid) × IsBadBlock q limits at section fault
+HasSectionCause q limits at section (refusals.BadSize declared actual) =
+    IsMissized q limits at section (record { declared = declared; actual = actual })
 HasSectionCause q limits at section refusals.OutOfMemory = ⊤
 HasSectionCause q limits at section other = ⊥
 
@@ -112,11 +116,13 @@ abbrev pub HasRefused : QueryParts → LimitNumbers → List Section → List �
 HasRefused q limits sections written (refusals.Extra number) = IsSurplus q sections written number
 HasRefused q limits sections written (refusals.NotFolder segment) = IsNowhere q sections written (no_directory segment)
 HasRefused q limits sections written (refusals.NotThere segment) = IsNowhere q sections written (no_entry segment)
-HasRefused q limits sections written (refusals.Truncated want number) = (at : WantedAt) × (want ≡ at.cid) × IsCutShort q sections written at number
+HasRefused q limits sections written (refusals.Truncated want number) =
+    (at : WantedAt) × (want ≡ at.cid) × IsCutShort q sections written at number
 HasRefused q limits sections written refusals.SinkFault = IsFrontWritten q sections written
 HasRefused q limits sections written refusals.OutOfMemory =
     IsRefusedAt q sections written (λ at section. HasSectionCause q limits at section refusals.OutOfMemory) ⊎ IsFrontWritten q sections written
-HasRefused q limits sections written fault = IsRefusedAt q sections written (λ at section. HasSectionCause q limits at section fault)
+HasRefused q limits sections written fault =
+    IsRefusedAt q sections written (λ at section. HasSectionCause q limits at section fault)
 
 -- the refusal at a block with this fault; want of memory is the verifier's own
 abbrev pub refusal_of_block : CidParts → BlockFault → Refusal

@@ -24,8 +24,10 @@ IsItsFront q d sections written = IsFrontOfAnswer written (answer q d) ⊎ Colli
 
 -- what a refusal says of the DAG: its path leads nowhere at that segment; it is that deep; or there is a pair
 abbrev pub SaysOfDag : QueryParts → Dag → List Section → Refusal → Type 0
-SaysOfDag q d sections (refusals.NotThere segment) = (lookup_path q.path d ≡ lookups.not_there segment) ⊎ CollisionPair sections d
-SaysOfDag q d sections (refusals.NotFolder segment) = (lookup_path q.path d ≡ lookups.not_folder segment) ⊎ CollisionPair sections d
+SaysOfDag q d sections (refusals.NotThere segment) =
+    (lookup_path q.path d ≡ lookups.not_there segment) ⊎ CollisionPair sections d
+SaysOfDag q d sections (refusals.NotFolder segment) =
+    (lookup_path q.path d ≡ lookups.not_folder segment) ⊎ CollisionPair sections d
 SaysOfDag q d sections (refusals.Limit kinds.Depth number) = (number < (counts q d).depth) ⊎ CollisionPair sections d
 SaysOfDag q d sections (refusals.BadBlock cid fault) = CollisionPair sections d
 SaysOfDag q d sections (refusals.BadSize declared actual) = CollisionPair sections d

@@ -1,6 +1,7 @@
 -- How a section is taken: it is checked, its text is put and its block opened, and then what comes before the next
 -- place is given.
-use Rattle.std.specs.Prelude.{Err, List, None, Ok, Option, Result, Some, [], false, length, map, ⊤, ℕ, ◌++◌, ◌<◌, ◌∷◌, ◌≡◌}
+use Rattle.std.specs.Prelude.{Err, List, None, Ok, Option, Result, Some, [], false, length, map, ⊤, ℕ, ◌++◌, ◌<◌, ◌∷◌}
+use Rattle.std.specs.Prelude.{◌≡◌}
 use Rattle.tg_cid.specs.Cid.{CidParts}
 use Rattle.tg_traversal.specs.Left.{WantedAt, tasks_left}
 use Rattle.tg_traversal.specs.PlaceTexts.{IsSizeFault}
@@ -20,7 +21,8 @@ use Rattle.tg_model.specs.declared.placed.PlacedKind.{PlacedKind}
 use Rattle.tg_model.specs.declared.queries.Scope.TheVariants as scopes
 use Rattle.tg_model.specs.declared.queries.Scope.{Scope}
 use Rattle.tg_streams.specs.Streams.{Output, OutputQuiet, OutputRose, Put, PutFront}
-use Rattle.tg_traversal_laws.specs.Tasks.{Miss, Task, entries_now, is_read_at, no_directory, no_entry, position_of, stop_at, tasks_of, tasks_then, text_at, text_now}
+use Rattle.tg_traversal_laws.specs.Tasks.{Miss, Task, entries_now, is_read_at, no_directory, no_entry, position_of}
+use Rattle.tg_traversal_laws.specs.Tasks.{stop_at, tasks_of, tasks_then, text_at, text_now}
 use Rattle.tg_verify.specs.Refusals.{HasSectionCause, IsReadBlock, IsWantedBlock}
 use Rattle.tg_verify.specs.State.{VerifierState, listed_of}
 use Rattle.tg_verify.specs.declared.fault.Refusal.{Refusal}
@@ -38,7 +40,8 @@ section_with cid block = record { cid = cid; block = block }
 -- no kind is given
 abbrev pub PassesAs : QueryParts → LimitNumbers → WantedAt → Section → Option Kind → Type 0
 PassesAs q limits at section None = IsWantedBlock limits at section × (is_read_at q at.want ≡ false)
-PassesAs q limits at section (Some kind) = IsReadBlock q limits at section kind × IsSizeFault (position_of at.want) section kind None
+PassesAs q limits at section (Some kind) =
+    IsReadBlock q limits at section kind × IsSizeFault (position_of at.want) section kind None
 
 -- what it was read as stands for the kind
 abbrev pub StandsForRead : List ℕ → Option PlacedKind → Option Kind → Type 0
@@ -94,7 +97,8 @@ IsOpenedAt text tasks out new (Err other) = ⊥
 
 -- the entries of a listing with those that come before the next place
 abbrev pub names_then : VerifierState → List Named
-names_then state = map named_entry state.entries ++ listed_of state.left.query.scope (entries_now (tasks_left state.left))
+names_then state =
+    map named_entry state.entries ++ listed_of state.left.query.scope (entries_now (tasks_left state.left))
 
 -- the listing is put where no place is left
 abbrev pub late_text : List (Task CidParts) → List Named → List ℕ

@@ -59,7 +59,8 @@ HasNoStop (stop_at miss ∷ tasks) = ⊥
 -- as long as a block is wanted, the text that was given is written, and the entries of a listing are kept; and then all
 -- is written
 abbrev pub IsWrittenAt : VerifierState → Given → List ℕ → Option WantedAt → Type 0
-IsWrittenAt state given written (Some at) = (written ≡ given.text) × (map named_entry state.entries ≡ listed_of state.left.query.scope given.met)
+IsWrittenAt state given written (Some at) =
+    (written ≡ given.text) × (map named_entry state.entries ≡ listed_of state.left.query.scope given.met)
 IsWrittenAt state given written None = (state.left.later ≡ []) × (written ≡ written_whole state.left.query given)
 
 pub record IsGoing (state : VerifierState) (sections : List Section) (written : List ℕ) : Type 0 where

@@ -3,7 +3,8 @@ ghost use Rattle.std.specs.Prelude.{◌≡◌, ◌++◌, ◌∷◌, [], map, Mat
 ghost use Rattle.tg_listing.specs.Listings.{named_entry};
 ghost use Rattle.tg_model.specs.Texts.{listing};
 ghost use Rattle.tg_streams.specs.Streams.{into};
-ghost use Rattle.tg_verify.specs.Steps.{IsAdvanced, IsSameVerifier, IsSettled, PutOrWants, listed_entry, refusal_of_miss};
+ghost use Rattle.tg_verify.specs.Steps.{IsAdvanced, IsSameVerifier, IsSettled, PutOrWants, listed_entry};
+ghost use Rattle.tg_verify.specs.Steps.{refusal_of_miss};
 
 use crate::fault::Refusal;
 use crate::verifier::{Progress, Verifier, put_from};

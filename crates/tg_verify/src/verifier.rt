@@ -1,5 +1,6 @@
 //! A verifier that is handed a query's sections one by one.
-ghost use Rattle.std.specs.Prelude.{◌≡◌, ◌++◌, ◌∷◌, [], ℕ, List as Items, None, Ok, Option, Some, IfErr, IfOk, MatchResult, OnErr, OnOk, true};
+ghost use Rattle.std.specs.Prelude.{◌≡◌, ◌++◌, ◌∷◌, [], ℕ, List as Items, None, Ok, Option, Some, IfErr, IfOk};
+ghost use Rattle.std.specs.Prelude.{MatchResult, OnErr, OnOk, true};
 ghost use Rattle.tg_traversal.specs.Left.{WantedAt};
 ghost use Rattle.tg_model.specs.Dag.{Dag, Section};
 ghost use Rattle.tg_model.specs.Fits.{Fits, IsInProgress};
@@ -56,7 +57,13 @@ impl Model for Verifier {
 
     ghost Value = { VerifierState };
 
-    ghost view = { λ v. record { left = v.frames; limits = v.limits; entries = v.entries; taken = v.taken; refused = v.refused } };
+    ghost view = { λ v. record {
+      left = v.frames;
+      limits = v.limits;
+      entries = v.entries;
+      taken = v.taken;
+      refused = v.refused;
+    } };
 
     ghost invariant = { λ v. v.scope ≡ v.frames.query.scope };
 }

@@ -6,7 +6,8 @@ use Rattle.tg_walk.specs.declared.fault.ResolveFault.TheVariants as refusals
 use Rattle.tg_walk.specs.declared.fault.WalkFault.{WalkFault}
 use Rattle.tg_walk.specs.declared.fault.WalkFault.TheVariants as walks
 use Rattle.tg_model.specs.Dag.{Dag}
-use Rattle.tg_model.specs.PathWalk.{PathEnd, Spot, Stop, bad_block, gone, not_folder, not_reached, not_there, path_walk, terminal}
+use Rattle.tg_model.specs.PathWalk.{PathEnd, Spot, Stop, bad_block, gone, not_folder, not_reached, not_there, path_walk}
+use Rattle.tg_model.specs.PathWalk.{terminal}
 use Rattle.tg_model.specs.StoreView.{store_view}
 use Rattle.tg_model.specs.Stores.{IsCauseOf, Lookups, LookupsQuiet, Store}
 use Rattle.tg_model.specs.declared.stores.BlocksFault.{BlocksFault}
@@ -58,15 +59,18 @@ IsResolvedTo store root path (Ok cid) = LeadsTo store root path cid
 IsResolvedTo store root path (Err refusals.NoRoot) = store root ≡ None
 IsResolvedTo store root path (Err (refusals.NotThere i)) = StopsAt store root path (not_there i)
 IsResolvedTo store root path (Err (refusals.NotFolder i)) = StopsAt store root path (not_folder i)
-IsResolvedTo store root path (Err (refusals.BadBlock cid fault)) = (spot : Spot) × (spot.cid ≡ cid) × StopsAt store root path (bad_block spot fault)
-IsResolvedTo store root path (Err (refusals.Gone cid)) = (spot : Spot) × (spot.cid ≡ cid) × (store cid ≡ None) × StopsAt store root path (gone spot)
+IsResolvedTo store root path (Err (refusals.BadBlock cid fault)) =
+    (spot : Spot) × (spot.cid ≡ cid) × StopsAt store root path (bad_block spot fault)
+IsResolvedTo store root path (Err (refusals.Gone cid)) =
+    (spot : Spot) × (spot.cid ≡ cid) × (store cid ≡ None) × StopsAt store root path (gone spot)
 IsResolvedTo store root path (Err (refusals.Store fault)) = ⊤
 IsResolvedTo store root path (Err refusals.OutOfMemory) = ⊤
 
 -- a fault of the store comes as it came; no other refusal hides one
 abbrev pub HasResolveCause : Result CidParts ResolveFault → Option Store → Lookups → Type 0
 HasResolveCause (Ok cid) told lookups = LookupsQuiet lookups
-HasResolveCause (Err (refusals.Store fault)) told lookups = (cid : CidParts) × IsCauseOf told cid lookups.faults_old lookups.faults_new fault
+HasResolveCause (Err (refusals.Store fault)) told lookups =
+    (cid : CidParts) × IsCauseOf told cid lookups.faults_old lookups.faults_new fault
 HasResolveCause (Err other) told lookups = LookupsQuiet lookups
 
 -- one place of the path is left, at this depth; or a segment led nowhere

@@ -1,6 +1,7 @@
 -- What a walk over a store has given, and why it gives no more (Trustless Gateway specification: dag-scope,
 -- entity-bytes, order dfs).
-use Rattle.std.specs.Prelude.{Err, List, None, Ok, Option, Result, Some, [], false, length, map, suc, true, zero, ⊤, ℕ, ◌*◌, ◌++◌, ◌+◌, ◌-◌, ◌<◌, ◌^◌, ◌∷◌, ◌≡◌, ◌≤◌, ◌⊎◌}
+use Rattle.std.specs.Prelude.{Err, List, None, Ok, Option, Result, Some, [], false, length, map, suc, true, zero, ⊤, ℕ}
+use Rattle.std.specs.Prelude.{◌*◌, ◌++◌, ◌+◌, ◌-◌, ◌<◌, ◌^◌, ◌∷◌, ◌≡◌, ◌≤◌, ◌⊎◌}
 use Rattle.tg_cid.specs.Cid.{CidParts}
 use Rattle.tg_cid.specs.Limits.{max_block_len}
 use Rattle.tg_cid.specs.Names.{Names}
@@ -28,7 +29,8 @@ use Rattle.tg_model.specs.Traversal.{Traversal, and_then, traversal}
 use Rattle.tg_model.specs.declared.stores.BlocksFault.{BlocksFault}
 use Rattle.tg_traversal_laws.specs.StoreWalks.{IsWalked, WalkEnds, WalkTooDeep, section_of}
 use Rattle.tg_traversal_laws.specs.Stages.{Given, ending}
-use Rattle.tg_traversal_laws.specs.Tasks.{Task, Want, depth_of, fault_at, give_entries, give_text, is_read_at, open_block, stop_at, tasks_of, tasks_then}
+use Rattle.tg_traversal_laws.specs.Tasks.{Task, Want, depth_of, fault_at, give_entries, give_text, is_read_at}
+use Rattle.tg_traversal_laws.specs.Tasks.{open_block, stop_at, tasks_of, tasks_then}
 
 -- how many blocks there are at most from the root to a block that a walk gives, both counted
 abbrev pub max_depth : ℕ
@@ -72,8 +74,10 @@ pub record HasStoppedDeep (q : QueryParts) (store : Store) (most : ℕ) (section
 
 -- why a walk gives no more, by what it has given
 abbrev pub HasWalkCause : QueryParts → Store → ℕ → List Section → WalkFault → Type 0
-HasWalkCause q store most sections (faults.BadBlock cid fault) = (spot : Spot) × (spot.cid ≡ cid) × HasEnded q store most sections (stopped (bad_block spot fault))
-HasWalkCause q store most sections (faults.Gone cid) = (spot : Spot) × (spot.cid ≡ cid) × HasEnded q store most sections (stopped (gone spot))
+HasWalkCause q store most sections (faults.BadBlock cid fault) =
+    (spot : Spot) × (spot.cid ≡ cid) × HasEnded q store most sections (stopped (bad_block spot fault))
+HasWalkCause q store most sections (faults.Gone cid) =
+    (spot : Spot) × (spot.cid ≡ cid) × HasEnded q store most sections (stopped (gone spot))
 HasWalkCause q store most sections faults.TooDeep = HasStoppedDeep q store most sections
 HasWalkCause q store most sections (faults.Store fault) = IsFront q store sections
 HasWalkCause q store most sections (faults.NotThere i) = HasEnded q store most sections (stopped (not_there i))
@@ -109,7 +113,8 @@ blocks_left left = blocks_over max_depth (tasks_left left)
 -- what a step gave, and what the walk stands for behind it: one section more; or all were given
 abbrev pub HasStepped : Result (Option (CidParts × List ℕ)) WalkFault → WalkState → Store → List Section → Type 0
 HasStepped (Ok (Some found)) new store sections = StandsFor new store (sections ++ section_of found.0 found.1 ∷ [])
-HasStepped (Ok None) new store sections = StandsFor new store sections × HasEnded new.left.query store max_depth sections whole
+HasStepped (Ok None) new store sections =
+    StandsFor new store sections × HasEnded new.left.query store max_depth sections whole
 HasStepped (Err fault) new store sections = StandsFor new store sections
 
 -- a block that is given is named by its CID, and was looked up alone; at the end nothing was
@@ -126,7 +131,8 @@ IsNamedFound (Err fault) = ⊤
 -- a fault of the store comes as it came; no other fault hides one
 abbrev pub HasStoreCause : Result (Option (CidParts × List ℕ)) WalkFault → Option Store → Lookups → Type 0
 HasStoreCause (Ok found) told lookups = ⊤
-HasStoreCause (Err (faults.Store fault)) told lookups = (cid : CidParts) × IsCauseOf told cid lookups.faults_old lookups.faults_new fault
+HasStoreCause (Err (faults.Store fault)) told lookups =
+    (cid : CidParts) × IsCauseOf told cid lookups.faults_old lookups.faults_new fault
 HasStoreCause (Err other) told lookups = LookupsQuiet lookups
 
 -- a store's fault; its want of memory is the walk's
@@ -194,6 +200,8 @@ IsOpened old at block (Err fault) new =
 
 -- what a step gave, and what the walk has given behind it
 abbrev pub HasGone : Result (Option (CidParts × List ℕ)) WalkFault → ℕ → LeftState → Store → List Section → Type 0
-HasGone (Ok (Some found)) most new store sections = IsOnWalk most new store (sections ++ section_of found.0 found.1 ∷ [])
-HasGone (Ok None) most new store sections = IsOnWalk most new store sections × HasEnded new.query store most sections whole
+HasGone (Ok (Some found)) most new store sections =
+    IsOnWalk most new store (sections ++ section_of found.0 found.1 ∷ [])
+HasGone (Ok None) most new store sections =
+    IsOnWalk most new store sections × HasEnded new.query store most sections whole
 HasGone (Err fault) most new store sections = HasWalkCause new.query store most sections fault

@@ -1,7 +1,9 @@
 //! A walk over the blocks of a store.
 ghost use Rattle.std.specs.Prelude.{◌≡◌, ◌≤◌, ◌<◌, ◌^◌, List, [], None, Some, IfOk, IfSome, MatchResult, OnOk};
 ghost use Rattle.tg_traversal.specs.Left.{IsHeldFor, WantedAt, tasks_left};
-ghost use Rattle.tg_walk.specs.Walks.{HasFewer, HasGone, HasLookedUp, HasStepped, HasStoreCause, IsNamedFound, IsNextPlace, IsOnWalk, IsOpened, IsWantedHere, StandsFor, blocks_left, blocks_over, fault_of_block, fault_of_miss, placed_links};
+ghost use Rattle.tg_walk.specs.Walks.{HasFewer, HasGone, HasLookedUp, HasStepped, HasStoreCause, IsNamedFound};
+ghost use Rattle.tg_walk.specs.Walks.{IsNextPlace, IsOnWalk, IsOpened, IsWantedHere, StandsFor, blocks_left};
+ghost use Rattle.tg_walk.specs.Walks.{blocks_over, fault_of_block, fault_of_miss, placed_links};
 ghost use Rattle.tg_model.specs.Dag.{Section};
 ghost use Rattle.tg_model.specs.Stores.{Store, looked_in};
 
