@@ -15,4 +15,5 @@ mod Lasts
 mod ComputedValues
 mod ComputedVarints
 mod ComputedRules
+mod Rules
 mod ComputedFields

@@ -64,10 +64,11 @@ pub(crate) fn ruled_field<const N: usize>(
             number: raw.number,
         });
     };
+    let rule = rules[index];
     match raw.value {
-        Some((value, next)) if wire_of(value) == rules[index].wire => {
+        Some((value, next)) if wire_of(value) == rule.wire => {
             let field = Field {
-                number: rules[index].number,
+                number: rule.number,
                 value,
             };
             Ok((index, field, next))
