@@ -5,6 +5,7 @@ mod PartOffsets
 mod ComputedSteps
 mod NameTests
 mod SlotLinks
+mod KindAnswers
 mod KindTests
 mod LinkCids
 mod BlockKinds

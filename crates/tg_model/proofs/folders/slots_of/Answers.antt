@@ -1,13 +1,27 @@
-use Rattle.std.proofs.Common.{◌≡◌, ℕ, ◌+◌, ◌<◌, suc, subst, List, [], ◌∷◌, ◌++◌, length, get_or, ap, sym, ◌∙◌, length-append, arith}
+use Rattle.tg_model.specs.declared.fault.BlockFault.TheVariants as faults
+use Rattle.std.proofs.Common.{Err, inl, ◌≡◌, ℕ, ◌+◌, ◌<◌, suc, subst, List, [], ◌∷◌, ◌++◌, length, get_or, ap, sym, ◌∙◌, length-append, arith}
 use Rattle.tg_cid.specs.Cid.{CidParts}
 use Rattle.tg_dagpb.specs.Cursor.{link_of}
 use Rattle.tg_dagpb.specs.declared.Link.{Link}
-use Rattle.tg_model.proofs.NameLemmas.{slots_behind, slots_more}
+use Rattle.tg_model.proofs.NameLemmas.{slots_bad, slots_behind, slots_more}
 use Rattle.tg_model.specs.Computed.{has_digits, slot_at, slots_from}
 use Rattle.tg_model.specs.PlacedSteps.{block_cids, block_links}
 use Rattle.tg_model.proofs.Ahead.{CidsLeft}
 use Rattle.tg_model.specs.declared.kinds.Slot.{Slot}
 use Rattle.tg_model.proofs.folders.slots_of.Goals as goal
+
+pub returns-then-not-has_digits : goal.returns-then-not-has_digits
+returns-then-not-has_digits c =
+    let numbers = c.args.numbers.now in
+    let front = c.loop-link.slots in
+    let link = link_of c.in-Some.link in
+    let left = c.loop-link.invariant in
+    let next = c.in-Some.ensures.next left.links left.cids left.ahead in
+    let longer : length left.links ≡ suc (length next.more_links) = ap (λ (links : List Link). length links) next.links_are in
+    let within : length front < length numbers = omega (arith, left.so_far.0) in
+    let digits = ap (λ (slots : List Slot). has_digits (get_or numbers (length slots) 0) link) (sym c.as_slice-index.ensures) ∙ sym c.has_digits.ensures ∙ c.if-not-has_digits.true in
+    let bad = slots_bad front numbers left.links next.more_links left.cids next.more_cids link c.in-Some.cid within next.links_are next.cids_are digits in
+    inl (sym (left.so_far.1 ∙ bad ∙ ap (λ (slots : List Slot). Err (faults.BadSlot (length slots))) (sym c.as_slice-index.ensures)))
 
 pub loop-link-preserved : goal.loop-link-preserved
 loop-link-preserved c =
