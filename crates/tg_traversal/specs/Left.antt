@@ -4,12 +4,13 @@ use Rattle.tg_traversal.specs.declared.stack.Came.TheVariants as comes
 use Rattle.tg_traversal.specs.declared.position.Ask.TheVariants as asks
 use Rattle.tg_traversal.specs.declared.position.Position.TheVariants as positions
 use Rattle.tg_model.specs.declared.placed.PlacedKind.TheVariants as placed
-use Rattle.std.specs.Prelude.{All, Err, List, None, Ok, Option, Result, Some, [], ⊤, ℕ, ◌++◌, ◌<◌, ◌∷◌, ◌≡◌, ◌⊎◌}
+use Rattle.std.specs.Prelude.{All, Err, IfSome, List, None, Ok, Option, Result, Some, [], ⊤, ℕ, ◌++◌, ◌<◌, ◌∷◌, ◌≡◌, ◌⊎◌}
 use Rattle.tg_bytes.specs.Ascii.{line_feed}
 use Rattle.tg_cid.specs.Cid.{CidParts}
-use Rattle.tg_traversal.specs.Frames.{AreVisited, IsFrame, IsSomething, frame_tasks, listed_at}
+use Rattle.tg_traversal.specs.Frames.{AreVisited, IsFrame, IsSomething, directory_of, frame_tasks, listed_at}
 use Rattle.tg_traversal.specs.Places.{missing_of, want_of}
 use Rattle.tg_traversal.specs.declared.frame.Frame.{Frame}
+use Rattle.tg_traversal.specs.declared.frame.Visited.{Visited}
 use Rattle.tg_traversal.specs.declared.frames.Next.{Next}
 use Rattle.tg_traversal.specs.declared.stack.Came.{Came}
 use Rattle.tg_traversal.specs.declared.position.Ask.{Ask}
@@ -99,6 +100,18 @@ IsCome old comes.Nothing new = (old ≡ []) × (new ≡ [])
 IsCome old comes.Line new = old ≡ give_text (line_feed ∷ []) ∷ new
 IsCome old (comes.Link visited) new =
     (directory : List ℕ) × AreVisited directory visited old new × IsSomething visited.met visited.into
+
+-- what is done at a link comes first of one frame's tasks, before those of other frames too
+pub record IsLinkTurned (old : Frame) (visited : Visited) (left : Option Frame) : Type 0 where
+  pub done : (rest : List (Task CidParts)) → AreVisited (directory_of old.children) visited (frame_tasks old ++ rest) (top_tasks left ++ rest)
+  pub something : IsSomething visited.met visited.into
+  pub frame : IfSome left IsFrame
+
+-- what comes next of one frame is taken, and the frame is left where something of it may be to come
+abbrev pub IsTurned : Frame → Came → Option Frame → Type 0
+IsTurned old comes.Nothing left = (frame_tasks old ≡ []) × (left ≡ None)
+IsTurned old comes.Line left = (frame_tasks old ≡ give_text (line_feed ∷ []) ∷ []) × (left ≡ None)
+IsTurned old (comes.Link visited) left = IsLinkTurned old visited left
 
 -- what comes next of the tasks: it is taken, but a wanted block and a segment that leads nowhere stay
 abbrev pub IsNext : LeftState → Next → LeftState → Type 0

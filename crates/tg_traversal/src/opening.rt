@@ -5,7 +5,9 @@ ghost use Rattle.tg_traversal.specs.Frames.{AreLeft, IsFrame, children_left, fra
 ghost use Rattle.tg_traversal.specs.Left.{IsHeldFor, IsReadHere, WantedAt, tasks_left};
 ghost use Rattle.tg_traversal.specs.Opening.{IsFileHeld, IsParted, IsReadBy, IsStepLeft, directory_asked};
 ghost use Rattle.tg_traversal.specs.Opening.{directory_kind, file_asked, is_bundled};
+ghost use Rattle.tg_model.specs.PathWalk.{step_of};
 ghost use Rattle.tg_model.specs.Sound.{passed, position_fault, top};
+ghost use Rattle.tg_model.specs.StepAnswers.{IsStep};
 ghost use Rattle.tg_model.specs.Traversal.{entry_visit, file_visits, slot_visit};
 ghost use Rattle.tg_model.specs.declared.kinds.Part.{Part};
 ghost use Rattle.tg_traversal.specs.Places.{reach_of, standing_of};
@@ -110,7 +112,7 @@ fn step_from(
     let above = passed(position);
     let level = above.len() as u8;
     let name = query.path().as_slice()[index].as_slice();
-    match step(&directory_kind(found), level, name) {
+    match directory_step(found, level, name) {
         Step::Found(cid) => Ok(Place {
             cid,
             depth: depth + 1,
@@ -137,6 +139,14 @@ fn passed(position: &Position) -> &[u8]
         Position::Child(above) => above.as_slice(),
         Position::Top | Position::Part(_) => &[],
     }
+}
+
+/// Where the step with this name leads from a block, at a level of shards.
+fn directory_step(found: PlacedKind, level: u8, name: &[u8]) -> Step
+    requires { level < 8 }
+    ensures { IsStep (directory_kind found) (step_of (directory_kind found) level name.now) result }
+{
+    step(&directory_kind(found), level, name)
 }
 
 /// The kind of a directory, moved; any other block is taken as raw, from which no step leads on.

@@ -1,7 +1,7 @@
 //! A stack of frames.
-ghost use Rattle.std.specs.Prelude.{◌≡◌, ◌++◌, [], IfOk, OnErr, OnOk};
+ghost use Rattle.std.specs.Prelude.{◌≡◌, ◌+◌, ◌++◌, [], All, IfErr, IfOk, IfSome, OnErr, OnOk, length, option_to_list};
 ghost use Rattle.tg_traversal.specs.Frames.{IsFrame, frame_tasks};
-ghost use Rattle.tg_traversal.specs.Left.{IsCome};
+ghost use Rattle.tg_traversal.specs.Left.{IsCome, IsStack, IsTurned, stack_tasks, top_tasks};
 
 use crate::frame::{Frame, Visited};
 use std::alloc::{AllocError, Global};
@@ -57,26 +57,17 @@ impl Stack {
         ensures err { OnErr result (self.new ≡ self.old) }
     {
         while let Some(frame) = self.top.take() {
-            let line = frame.line;
-            let (visited, frame) = match frame.next(alloc) {
+            let (came, left) = match turned(frame, alloc) {
                 Ok(found) => found,
                 Err(frame) => {
                     self.top = Some(frame);
                     return Err(AllocError);
                 }
             };
-            if !visited.is_nothing() {
-                let top = if frame.is_spent() {
-                    self.below.pop()
-                } else {
-                    Some(frame)
-                };
-                self.top = top;
-                return Ok(Came::Link(visited));
-            }
-            self.top = self.below.pop();
-            if line {
-                return Ok(Came::Line);
+            self.top = uppermost(left, &mut self.below);
+            match came {
+                Came::Nothing => {}
+                came => return Ok(came),
             }
         }
         Ok(Came::Nothing)
@@ -92,13 +83,45 @@ impl Stack {
         if frame.is_spent() {
             return Ok(());
         }
-        if let Some(top) = self.top.take() {
-            if let Err(failed) = self.below.push(top) {
-                self.top = Some(failed.value);
-                return Err(AllocError);
-            }
+        let Some(top) = self.top.replace(frame) else {
+            return Ok(());
+        };
+        if let Err(failed) = self.below.push(top) {
+            self.top = Some(failed.value);
+            return Err(AllocError);
         }
-        self.top = Some(frame);
         Ok(())
+    }
+}
+
+/// What comes next of one frame, and the frame where something may be left of it. The error is want of memory, with
+/// which the frame is given back as it was.
+fn turned(frame: Frame, alloc: Global) -> Result<(Came, Option<Frame>), Frame>
+    requires { IsFrame frame }
+    ensures turned { IfOk result (λ found. IsTurned frame found.0 found.1) }
+    ensures err { IfErr result (λ same. same ≡ frame) }
+{
+    let line = frame.line;
+    let (visited, frame) = frame.next(alloc)?;
+    if visited.is_nothing() {
+        let came = if line { Came::Line } else { Came::Nothing };
+        return Ok((came, None));
+    }
+    let left = if frame.is_spent() { None } else { Some(frame) };
+    Ok((Came::Link(visited), left))
+}
+
+/// The frame that is on top: what is left of the one that was there, or the last of those below.
+fn uppermost(left: Option<Frame>, below: &mut Vec<Frame>) -> Option<Frame>
+    requires left { IfSome left IsFrame }
+    requires below { All IsFrame below.old.items }
+    ensures stack { IsStack result below.new.items }
+    ensures tasks { top_tasks result ++ stack_tasks below.new.items ≡ top_tasks left ++ stack_tasks below.old.items }
+    ensures count { length below.new.items + length (option_to_list result)
+        ≡ length below.old.items + length (option_to_list left) }
+{
+    match left {
+        Some(frame) => Some(frame),
+        None => below.pop(),
     }
 }

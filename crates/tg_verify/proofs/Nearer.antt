@@ -1,15 +1,23 @@
 -- What comes before the next place, one after another.
-use Rattle.std.proofs.Common.{Err, List, Ok, [], ap, append_assoc, refl, subst, sym, ℕ, ◌++◌, ◌∙◌, ◌≡◌}
-use Rattle.std.specs.Prelude.{Result}
+use Rattle.std.proofs.Common.{Err, List, None, Ok, [], ap, append_assoc, arith, length, map, refl, subst, sym, ℕ, ◌++◌, ◌<◌, ◌∙◌, ◌∷◌, ◌≡◌}
+use Rattle.std.specs.Prelude.{MatchResult, Result, ⊤}
+use Rattle.std.specs.Result.{result_and}
 use Rattle.tg_cid.specs.Cid.{CidParts}
 use Rattle.tg_faults.specs.Faults.{Rose}
-use Rattle.tg_traversal.specs.Left.{tasks_left}
+use Rattle.tg_traversal.specs.Frames.{listed_at}
+use Rattle.tg_traversal.specs.Left.{LeftState, tasks_left}
+use Rattle.tg_listing.specs.Listings.{named_entry}
+use Rattle.tg_model.specs.Queries.{QueryParts}
 use Rattle.tg_model.specs.Texts.{Named}
+use Rattle.tg_model.specs.Traversal.{ListedEntry}
+use Rattle.tg_model.specs.declared.kinds.Entry.{Entry}
+use Rattle.tg_model.specs.declared.queries.Scope.{Scope}
+use Rattle.tg_model.specs.declared.queries.Scope.TheVariants as scopes
 use Rattle.tg_streams.specs.Joining.{SinkJoins, put_nothing, put_put}
 use Rattle.tg_streams.specs.Streams.{Output, OutputQuiet, OutputRose, Put, SinkMeaning, into}
-use Rattle.tg_traversal_laws.specs.Tasks.{Miss, Task, tasks_then, text_now}
-use Rattle.tg_verify.specs.State.{VerifierState}
-use Rattle.tg_verify.specs.Steps.{IsNearer, IsSettled, PutFrontOf, StopsThere, late_text, names_then, text_then}
+use Rattle.tg_traversal_laws.specs.Tasks.{Miss, Task, entries_now, give_entries, tasks_then, text_now}
+use Rattle.tg_verify.specs.State.{VerifierState, listed_of}
+use Rattle.tg_verify.specs.Steps.{IsAdvanced, IsNearer, IsSettled, PutFrontOf, StopsThere, late_text, listed_entry, names_then, text_then}
 use Rattle.tg_verify.specs.declared.fault.Refusal.{Refusal}
 use Rattle.tg_verify.specs.declared.fault.Refusal.TheVariants as refusals
 use Rattle.tg_verify.specs.declared.verifier.Progress.{Progress}
@@ -79,3 +87,55 @@ module _ {S : Type 0} (m : SinkMeaning S) (joins : SinkJoins S m) where
   settled_from a b c old mid new (Err (refusals.BadBlock cid fault)) p h = absurd h
   settled_from a b c old mid new (Err (refusals.BadSize declared actual)) p h = absurd h
   settled_from a b c old mid new (Err (refusals.Truncated want sections)) p h = absurd h
+
+-- ---- an entry comes
+
+listed_more : (scope : Scope) (directory : List ℕ) (entry : Entry) (met : List ListedEntry) → listed_entry scope entry ++ listed_of scope met ≡ listed_of scope (listed_at directory entry ∷ met)
+listed_more scopes.Block directory entry met = refl
+listed_more scopes.Entity directory entry met = refl
+listed_more scopes.All directory entry met = refl
+
+shorter : (first : Task CidParts) (rest : List (Task CidParts)) → length rest < length (first ∷ rest)
+shorter first rest = omega arith
+
+module _ {S : Type 0} (m : SinkMeaning S) (a : S) (rests : m.wrote a a []) (old new : VerifierState) (directory : List ℕ) (entry : Entry)
+    (left : tasks_left old.left ≡ give_entries (listed_at directory entry ∷ []) ∷ tasks_left new.left) (query : new.left.query ≡ old.left.query) where
+  entry_names : map named_entry new.entries ≡ map named_entry old.entries ++ listed_entry new.left.query.scope entry → names_then new ≡ names_then old
+  entry_names kept =
+      let names = map named_entry old.entries in
+      let more = entries_now (tasks_left new.left) in
+      ap (λ (some : List Named). some ++ listed_of new.left.query.scope more) kept
+      ∙ append_assoc names (listed_entry new.left.query.scope entry) (listed_of new.left.query.scope more)
+      ∙ ap (λ (some : List Named). names ++ some) (listed_more new.left.query.scope directory entry more)
+      ∙ ap (λ (scope : Scope). names ++ listed_of scope (listed_at directory entry ∷ more)) (ap (λ (q : QueryParts). q.scope) query)
+      ∙ ap (λ (tasks : List (Task CidParts)). names ++ listed_of old.left.query.scope (entries_now tasks)) (sym left)
+
+  -- it is kept, or memory was wanted
+  entry_ends : (kept : Result ⊤ Refusal)
+      → MatchResult kept (λ done. map named_entry new.entries ≡ map named_entry old.entries ++ listed_entry new.left.query.scope entry) (λ fault. fault ≡ refusals.OutOfMemory)
+      → IsAdvanced old (into m a a) new (result_and kept (Ok None))
+  entry_ends (Ok done) p = (
+    record {
+      text = [];
+      put = put_nothing S m a rests;
+      quiet = refl;
+      text_is = ap (λ (tasks : List (Task CidParts)). text_now tasks) left;
+      then_is = sym (ap (λ (tasks : List (Task CidParts)). tasks_then tasks) left);
+      names = entry_names p;
+    },
+    subst (λ (tasks : List (Task CidParts)). length (tasks_left new.left) < length tasks) (sym left) (shorter (give_entries (listed_at directory entry ∷ [])) (tasks_left new.left)),
+  )
+  entry_ends (Err fault) p =
+      subst (λ (fault : Refusal). IsSettled old (into m a a) new (Err fault)) (sym p)
+      (record { front = []; rest = text_then old; whole = refl; put = put_nothing S m a rests }, refl)
+
+pub entry_met : {S : Type 0} (m : SinkMeaning S) (a : S) → m.wrote a a [] → (was old new : VerifierState) (left : LeftState) (directory : List ℕ) (entry : Entry) (kept : Result ⊤ Refusal)
+    → was ≡ old → new.left ≡ left → tasks_left was.left ≡ give_entries (listed_at directory entry ∷ []) ∷ tasks_left left → left.query ≡ was.left.query
+    → MatchResult kept (λ done. map named_entry new.entries ≡ map named_entry was.entries ++ listed_entry left.query.scope entry) (λ fault. fault ≡ refusals.OutOfMemory)
+    → IsAdvanced old (into m a a) new (result_and kept (Ok None))
+entry_met m a rests was old new left directory entry kept is left_is tasks query p =
+    subst (λ (v : VerifierState). IsAdvanced v (into m a a) new (result_and kept (Ok None))) is
+    (entry_ends m a rests was new directory entry
+    (subst (λ (l : LeftState). tasks_left was.left ≡ give_entries (listed_at directory entry ∷ []) ∷ tasks_left l) (sym left_is) tasks)
+    (ap (λ (l : LeftState). l.query) left_is ∙ query) kept
+    (subst (λ (l : LeftState). MatchResult kept (λ done. map named_entry new.entries ≡ map named_entry was.entries ++ listed_entry l.query.scope entry) (λ fault. fault ≡ refusals.OutOfMemory)) (sym left_is) p))

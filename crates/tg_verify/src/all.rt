@@ -1,7 +1,7 @@
 //! A query's sections in a list.
-ghost use Rattle.std.specs.Prelude.{◌≡◌, true, map};
+ghost use Rattle.std.specs.Prelude.{◌≡◌, [], None, true, map};
 ghost use Rattle.tg_streams.specs.Streams.{into};
-ghost use Rattle.tg_verify.specs.History.{AllEnd, section_of_pair};
+ghost use Rattle.tg_verify.specs.History.{AllEnd, StandsFor, section_of_pair};
 
 use crate::fault::Refusal;
 use crate::verifier::Verifier;
@@ -26,7 +26,26 @@ pub fn verify_all<S: Sink>(
         → AllEnd query.now limits (map section_of_pair sections.now) (into S.sink out.old out.new) result }
 {
     tg_traversal_laws::verified_sections();
-    let mut verifier = Verifier::new(alloc, query, limits)?;
+    match Verifier::new(alloc, query, limits) {
+        Ok(mut verifier) => take_all(alloc, &mut verifier, sections, out),
+        Err(_) => Err(Refusal::OutOfMemory),
+    }
+}
+
+/// Hands these sections to a verifier that took none, and answers the CID of the block that is wanted behind them.
+/// Errors: those of `Verifier::section`.
+fn take_all<S: Sink>(
+    alloc: Global,
+    verifier: &mut Verifier,
+    sections: &List<(Cid, Bytes)>,
+    out: &mut S,
+) -> Result<Option<Cid>, Refusal>
+    requires fresh { verifier.old.refused ≡ None }
+    requires stands { verifier.old.left.query.dups ≡ true → StandsFor verifier.old [] [] }
+    ensures { verifier.old.left.query.dups ≡ true
+        → AllEnd verifier.old.left.query verifier.old.limits (map section_of_pair sections.now)
+        (into S.sink out.old out.new) result }
+{
     for (cid, block) in sections.as_slice() {
         let block = Bytes::of(alloc, block.as_slice())?;
         verifier.section(*cid, block, out)?;

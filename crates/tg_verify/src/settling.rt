@@ -40,19 +40,10 @@ impl Verifier {
         ensures step { IsAdvanced self.old (into S.sink out.old out.new) self.new result }
     {
         match self.frames.next()? {
-            Next::Nothing => {
-                self.put_entries(out)?;
-                Ok(Some(Progress::Done))
-            }
+            Next::Nothing => self.put_entries(out).and(Ok(Some(Progress::Done))),
             Next::Block => Ok(Some(Progress::More)),
-            Next::Line => {
-                put_from(out, &[], b"\n")?;
-                Ok(None)
-            }
-            Next::Entry(entry) => {
-                self.meet(entry)?;
-                Ok(None)
-            }
+            Next::Line => put_from(out, &[], b"\n").and(Ok(None)),
+            Next::Entry(entry) => self.meet(entry).and(Ok(None)),
             Next::Missing(miss) => Err(refusal_of_miss(miss)),
         }
     }

@@ -5,7 +5,7 @@ use Rattle.tg_cid.specs.Cid.{CidParts}
 use Rattle.tg_walk.proofs.PathPlaces.{first_place, next_on_path}
 use Rattle.tg_traversal.specs.Left.{LeftState, WantedAt, tasks_left, wanted_tasks}
 use Rattle.tg_traversal.specs.Places.{missing_of}
-use Rattle.tg_walk.specs.Resolving.{HasResolveCause, IsPathPlace, IsResolvedTo, IsStoredRoot, LeadsTo, refusal_of_store, refusal_of_walk}
+use Rattle.tg_walk.specs.Resolving.{HasResolveCause, IsPathPlace, IsResolvedTo, IsStoredRoot, LeadsTo, path_query, refusal_of_store, refusal_of_walk}
 use Rattle.tg_walk.specs.Walks.{IsNextPlace, IsOpened, IsOpenedThere, IsWantedHere, fault_of_miss}
 use Rattle.tg_walk.specs.declared.fault.ResolveFault.TheVariants as refusals
 use Rattle.tg_walk.specs.declared.fault.WalkFault.{WalkFault}
@@ -19,17 +19,11 @@ use Rattle.tg_model.specs.Queries.{QueryParts}
 use Rattle.tg_model.specs.Stores.{BlocksMeaning, IsCauseOf, LookedUp, Lookups, LookupsQuiet, Store, looked_in}
 use Rattle.tg_model.specs.declared.fault.BlockFault.{BlockFault}
 use Rattle.tg_model.specs.declared.kinds.Kind.{Kind}
-use Rattle.tg_model.specs.declared.queries.Form.TheVariants as forms
-use Rattle.tg_model.specs.declared.queries.Scope.TheVariants as scopes
 use Rattle.tg_model.specs.declared.stores.BlocksFault.{BlocksFault}
 use Rattle.tg_model.specs.declared.stores.BlocksFault.TheVariants as store_faults
 use Rattle.tg_traversal_laws.specs.PathStages.{IsResolved, ResolveLaws}
 use Rattle.tg_traversal_laws.specs.StoreWalks.{section_of, shown_at}
 use Rattle.tg_traversal_laws.specs.Tasks.{Task, Want, depth_of, fault_at, give_entries, give_text, is_read_at, node_want, open_block, path_want, segment_want, spot_of, start, stop_at, tasks_of, tasks_then, terminal_want}
-
--- the query by which a path is followed
-abbrev pub path_query : CidParts → List (List ℕ) → QueryParts
-path_query root path = record { root = root; path = path; form = forms.Car; scope = scopes.Block; span = None; dups = true }
 
 -- behind so many blocks one place is left, at first the root's; and in a told store it leads where the path does, and behind the first
 -- block the root is stored

@@ -1,5 +1,5 @@
 -- Where a path leads over what a store shows (Path Gateway specification, Path Resolution).
-use Rattle.std.specs.Prelude.{Err, List, None, Ok, Option, Result, Some, [], ⊤, ℕ, ◌∷◌, ◌≡◌}
+use Rattle.std.specs.Prelude.{Err, List, None, Ok, Option, Result, Some, [], true, ⊤, ℕ, ◌∷◌, ◌≡◌}
 use Rattle.tg_cid.specs.Cid.{CidParts}
 use Rattle.tg_walk.specs.declared.fault.ResolveFault.{ResolveFault}
 use Rattle.tg_walk.specs.declared.fault.ResolveFault.TheVariants as refusals
@@ -8,8 +8,11 @@ use Rattle.tg_walk.specs.declared.fault.WalkFault.TheVariants as walks
 use Rattle.tg_model.specs.Dag.{Dag}
 use Rattle.tg_model.specs.PathWalk.{PathEnd, Spot, Stop, bad_block, gone, not_folder, not_reached, not_there, path_walk}
 use Rattle.tg_model.specs.PathWalk.{terminal}
+use Rattle.tg_model.specs.Queries.{QueryParts}
 use Rattle.tg_model.specs.StoreView.{store_view}
 use Rattle.tg_model.specs.Stores.{IsCauseOf, Lookups, LookupsQuiet, Store}
+use Rattle.tg_model.specs.declared.queries.Form.TheVariants as forms
+use Rattle.tg_model.specs.declared.queries.Scope.TheVariants as scopes
 use Rattle.tg_model.specs.declared.stores.BlocksFault.{BlocksFault}
 use Rattle.tg_model.specs.declared.stores.BlocksFault.TheVariants as store_faults
 use Rattle.tg_traversal_laws.specs.Stages.{IsOpened}
@@ -30,6 +33,10 @@ refusal_of_walk (walks.Store fault) = refusals.Store fault
 refusal_of_walk (walks.NotThere i) = refusals.NotThere i
 refusal_of_walk (walks.NotFolder i) = refusals.NotFolder i
 refusal_of_walk walks.OutOfMemory = refusals.OutOfMemory
+
+-- the query by which a path is followed
+abbrev pub path_query : CidParts → List (List ℕ) → QueryParts
+path_query root path = record { root = root; path = path; form = forms.Car; scope = scopes.Block; span = None; dups = true }
 
 -- where the path walk over what the store shows ends
 abbrev pub end_over : Store → CidParts → List (List ℕ) → PathEnd

@@ -1,13 +1,15 @@
 //! Where a path leads in a store.
-ghost use Rattle.std.specs.Prelude.{◌≡◌, ◌≤◌, All, List, Some, length};
+ghost use Rattle.std.specs.Prelude.{◌≡◌, ◌≤◌, All, IfOk, List, Some, length};
 ghost use Rattle.tg_cid.specs.Cid.{CidParts};
-ghost use Rattle.tg_walk.specs.Resolving.{HasResolveCause, IsResolvedTo};
+ghost use Rattle.tg_walk.specs.Resolving.{HasResolveCause, IsResolvedTo, path_query};
+ghost use Rattle.tg_traversal.specs.Left.{tasks_left};
+ghost use Rattle.tg_traversal_laws.specs.Tasks.{start};
 ghost use Rattle.tg_model.specs.EntryNames.{IsGoodName};
 ghost use Rattle.tg_model.specs.Stores.{LookedUp, Store, looked_in};
 
 use crate::fault::ResolveFault;
 use crate::walk::{next_place, open};
-use std::alloc::Global;
+use std::alloc::{AllocError, Global};
 use tg_cid::Cid;
 use tg_model::{Blocks, Path, Query, Scope};
 use tg_traversal::{Frames, copied_path};
@@ -36,12 +38,42 @@ pub fn resolve<B: Blocks>(
     ensures looked { (cids : List CidParts) × LookedUp cids (looked_in B.blocks blocks.old blocks.new) }
     ensures cause { HasResolveCause result (B.blocks.stored blocks.old) (looked_in B.blocks blocks.old blocks.new) }
 {
+    match path_frames(alloc, root, path) {
+        Ok(mut frames) => follow(alloc, &mut frames, blocks, root),
+        Err(_) => Err(ResolveFault::OutOfMemory),
+    }
+}
+
+/// The traversal of the places of a path, before the root. The error is want of memory.
+fn path_frames(alloc: Global, root: &Cid, path: &Path) -> Result<Frames, AllocError>
+    requires few { length path.now ≤ 128 }
+    requires good { All IsGoodName path.now }
+    ensures query { IfOk result (λ frames. frames.query ≡ path_query root.now path.now) }
+    ensures start { IfOk result (λ frames. tasks_left frames ≡ start (path_query root.now path.now) root.now) }
+{
+    let path = copied_path(alloc, path)?;
+    Frames::new(alloc, &Query::car(*root, path, Scope::Block, None, true))
+}
+
+/// Follows a path from its first place, which is the root, to the block that it leads to. Errors: those of `resolve`.
+fn follow<B: Blocks>(
+    alloc: Global,
+    frames: &mut Frames,
+    blocks: &mut B,
+    root: &Cid,
+) -> Result<Cid, ResolveFault>
+    requires few { length frames.old.query.path ≤ 128 }
+    requires query { frames.old.query ≡ path_query root.now frames.old.query.path }
+    requires start { tasks_left frames.old ≡ start (path_query root.now frames.old.query.path) root.now }
+    ensures end { (store : Store) → B.blocks.stored blocks.old ≡ Some store
+        → IsResolvedTo store root.now frames.old.query.path result }
+    ensures looked { (cids : List CidParts) × LookedUp cids (looked_in B.blocks blocks.old blocks.new) }
+    ensures cause { HasResolveCause result (B.blocks.stored blocks.old) (looked_in B.blocks blocks.old blocks.new) }
+{
     tg_traversal_laws::resolved_paths();
-    let query = Query::car(*root, copied_path(alloc, path)?, Scope::Block, None, true);
-    let mut frames = Frames::new(alloc, &query)?;
     let mut last = *root;
     for passed in 0..MAX_PATH_PLACES {
-        let Some(place) = next_place(&mut frames)? else {
+        let Some(place) = next_place(frames)? else {
             break;
         };
         last = place.cid;
@@ -55,7 +87,7 @@ pub fn resolve<B: Blocks>(
         if !frames.is_read() {
             return Ok(place.cid);
         }
-        open(alloc, &mut frames, place.cid, &block)?;
+        open(alloc, frames, place.cid, &block)?;
     }
     Err(ResolveFault::Gone { cid: last })
 }

@@ -1,5 +1,5 @@
 use Rattle.tg_model.specs.declared.kinds.Step.TheVariants as steps
-use Rattle.std.proofs.Common.{◌≡◌, ◌∙◌, List, [], ap, drop, length, sym, ℕ, ◌+◌, ◌++◌, ◌∷◌}
+use Rattle.std.proofs.Common.{◌≡◌, ◌∙◌, List, [], ap, drop, length, refl, sym, ℕ, ◌+◌, ◌++◌, ◌∷◌}
 use Rattle.std.specs.Int.{to_be_bytes, w64}
 use Rattle.std.specs.Prelude.{slice_index}
 use Rattle.tg_traversal.proofs.StepsLeft.{absent_left, down_left, found_left, nowhere_left, step_there}
@@ -15,7 +15,7 @@ pub returns-in-Found : goal.returns-in-Found
 returns-in-Found c = λ section kind read.
     let there = step_there c.args.query.now c.args.index (standing_of c.args.position.now) c.args.depth section kind c.args.found (steps.Found c.in-Found.cid) _
     c.requires.index (c.as_slice-name.ensures ∙ c.index-as_slice-index.is) (c.as_slice.ensures ∙ c.path.ensures.path) c.passed-above.ensures
-    c.directory_kind.ensures read.stands c.in-Found.is c.step.ensures in (
+    refl read.stands c.in-Found.is c.directory_step.ensures in (
       there.tasks ∙ (found_left c.args.index _ _ there.step (links_of kind) c.in-Found.cid there.over
           ∙ ap (λ (w : Want). open_block w c.in-Found.cid ∷ []) (sym (c.ask_behind.ensures.want (c.args.depth + 1)))),
       c.ask_behind.ensures.on_path,
@@ -25,7 +25,7 @@ pub returns-in-Down : goal.returns-in-Down
 returns-in-Down c = λ section kind read.
     let there = step_there c.args.query.now c.args.index (standing_of c.args.position.now) c.args.depth section kind c.args.found (steps.Down c.in-Down.cid) _
     c.requires.index (c.as_slice-name.ensures ∙ c.index-as_slice-index.is) (c.as_slice.ensures ∙ c.path.ensures.path) c.passed-above.ensures
-    c.directory_kind.ensures read.stands c.in-Down.is c.step.ensures in
+    refl read.stands c.in-Down.is c.directory_step.ensures in
     let standing : Standing = standing_of c.args.position.now in
     let name : List ℕ = c.as_slice-name.result.now in
     let slot_is : c.slot.result ≡ slot_of name (length c.passed-above.result.now) =
@@ -43,12 +43,12 @@ pub returns-in-Absent : goal.returns-in-Absent
 returns-in-Absent c = λ section kind read.
     let there = step_there c.args.query.now c.args.index (standing_of c.args.position.now) c.args.depth section kind c.args.found steps.Absent _
     c.requires.index (c.as_slice-name.ensures ∙ c.index-as_slice-index.is) (c.as_slice.ensures ∙ c.path.ensures.path) c.passed-above.ensures
-    c.directory_kind.ensures read.stands c.in-Absent.is c.step.ensures in
+    refl read.stands c.in-Absent.is c.directory_step.ensures in
     there.tasks ∙ absent_left c.args.index _ _ there.step (links_of kind) there.over
 
-pub returns : goal.returns
-returns c = λ section kind read.
+pub returns-in-NotFolder : goal.returns-in-NotFolder
+returns-in-NotFolder c = λ section kind read.
     let there = step_there c.args.query.now c.args.index (standing_of c.args.position.now) c.args.depth section kind c.args.found steps.NotFolder _
     c.requires.index (c.as_slice-name.ensures ∙ c.index-as_slice-index.is) (c.as_slice.ensures ∙ c.path.ensures.path) c.passed-above.ensures
-    c.directory_kind.ensures read.stands c.in-NotFolder.is c.step.ensures in
+    refl read.stands c.in-NotFolder.is c.directory_step.ensures in
     there.tasks ∙ nowhere_left c.args.index _ _ there.step (links_of kind) there.over

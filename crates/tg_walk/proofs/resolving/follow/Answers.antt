@@ -1,31 +1,25 @@
-use Rattle.std.proofs.Common.{Err, Ok, Option, [], ap, arith, refl, subst, sym, ◌∙◌, ◌∷◌, ◌≡◌}
+use Rattle.std.proofs.Common.{Err, Ok, Option, [], arith, refl, subst, sym, ◌∙◌, ◌∷◌}
 use Rattle.std.proofs.lemmas.Result.{err_from_is_err_and}
-use Rattle.tg_walk.proofs.PathSteps.{IsPlaceAlong, before_cause, block_cause, cause_since, goes_on, gone_there, leads_there, looked_since, looks_on, never_ends, no_root, path_query, place_along, starts, stops_at_block, stops_before, store_stops, wanted_here}
+use Rattle.tg_walk.proofs.PathSteps.{IsPlaceAlong, before_cause, block_cause, cause_since, goes_on, gone_there, leads_there, looked_since, looks_on, never_ends, no_root, place_along, starts, stops_at_block, stops_before, store_stops, wanted_here}
 use Rattle.tg_walk.proofs.WalkSteps.{found_in}
-use Rattle.tg_walk.proofs.resolving.resolve.Goals.{else-loop-passed-test, else-passed-eq0, then-loop-passed-test+in_ok-place+in_default, then-passed-eq0}
+use Rattle.tg_walk.proofs.resolving.follow.Goals.{else-loop-passed-test, else-passed-eq0, then-loop-passed-test+in_ok-place+in_default, then-passed-eq0}
 use Rattle.tg_walk.specs.Resolving.{HasResolveCause, IsResolvedTo}
 use Rattle.tg_walk.specs.Walks.{IsNextPlace}
 use Rattle.tg_walk.specs.declared.fault.ResolveFault.{ResolveFault}
 use Rattle.tg_traversal.specs.declared.position.Wanted.{Wanted}
-use Rattle.tg_model.specs.Queries.{QueryParts}
 use Rattle.tg_model.specs.Stores.{looked_in}
-use Rattle.tg_traversal.specs.Left.{tasks_left}
-use Rattle.tg_traversal_laws.specs.Tasks.{start}
-use Rattle.tg_walk.proofs.resolving.resolve.Goals as goal
+use Rattle.tg_walk.proofs.resolving.follow.Goals as goal
 
 pub loop-passed-init : goal.loop-passed-init
-loop-passed-init g c =
-    let made : c.car-query.result ≡ path_query c.args.root.now c.args.path.now = c.car-query.ensures ∙ ap (path_query c.args.root.now) c.in_ok-copied_path.ensures in
-    record {
-      along = starts c.resolved_paths.ensures c.args.root.now c.args.path.now (g.B.Blocks.blocks.stored c.args.blocks.now) c.in_ok-frames.frames (c.in_ok-frames.ensures.query ∙ made)
-          (subst (λ (q : QueryParts). tasks_left c.in_ok-frames.frames ≡ start q q.root) made c.in_ok-frames.ensures.start);
-      looked = record { cids = []; looked = record { moved = g.met.B.Blocks.rests c.args.blocks.now; stored = refl }; quiet = refl };
-    }
+loop-passed-init g c = record {
+  along = starts c.resolved_paths.ensures c.args.root.now c.args.frames.now.query.path (g.B.Blocks.blocks.stored c.args.blocks.now) c.args.frames.now c.requires.query c.requires.start;
+  looked = record { cids = []; looked = record { moved = g.met.B.Blocks.rests c.args.blocks.now; stored = refl }; quiet = refl };
+}
 
 pub returns-in_err-place-clause-end : goal.returns-in_err-place-clause-end
 returns-in_err-place-clause-end g c store told =
-    let p = err_from_is_err_and c.from_residual-in_err-place.result c.from_residual-in_err-place.ensures.1 in
-    rw (p.1, p.2) (stops_before c.resolved_paths.ensures c.args.root.now c.args.path.now (g.B.Blocks.blocks.stored c.args.blocks.now) store c.loop-passed.passed c.loop-passed.frames c.next_place.new.frames c.in_err-place.field-0.0 told c.loop-passed.invariant.along c.in_err-place.ensures.next)
+    let p = err_from_is_err_and c.from_residual.result c.from_residual.ensures.1 in
+    rw (p.1, p.2) (stops_before c.resolved_paths.ensures c.args.root.now c.args.frames.now.query.path (g.B.Blocks.blocks.stored c.args.blocks.now) store c.loop-passed.passed c.loop-passed.frames c.next_place.new.frames c.in_err-place.field-0.0 told c.loop-passed.invariant.along c.in_err-place.ensures.next)
 
 pub returns-in_err-place-clause-looked : goal.returns-in_err-place-clause-looked
 returns-in_err-place-clause-looked g c =
@@ -33,13 +27,13 @@ returns-in_err-place-clause-looked g c =
 
 pub returns-in_err-place-clause-cause : goal.returns-in_err-place-clause-cause
 returns-in_err-place-clause-cause g c =
-    let p = err_from_is_err_and c.from_residual-in_err-place.result c.from_residual-in_err-place.ensures.1 in
+    let p = err_from_is_err_and c.from_residual.result c.from_residual.ensures.1 in
     rw (p.1, p.2) (before_cause (g.B.Blocks.blocks.stored c.args.blocks.now) (looked_in g.B.Blocks.blocks c.args.blocks.now c.loop-passed.blocks) c.loop-passed.frames c.next_place.new.frames c.in_err-place.field-0.0 c.in_err-place.ensures.next c.loop-passed.invariant.looked.quiet)
 
 pub returns-in_err-block-clause-end : goal.returns-in_err-block-clause-end
 returns-in_err-block-clause-end g c store told =
     let p = err_from_is_err_and c.from_residual-in_err-block.result c.from_residual-in_err-block.ensures.1 in
-    rw (p.1, p.2) (store_stops store c.args.root.now c.args.path.now c.in_err-block.field-0.0)
+    rw (p.1, p.2) (store_stops store c.args.root.now c.args.frames.now.query.path c.in_err-block.field-0.0)
 
 pub returns-in_err-block-clause-looked : goal.returns-in_err-block-clause-looked
 returns-in_err-block-clause-looked g c =
@@ -52,13 +46,13 @@ returns-in_err-block-clause-cause g c =
 
 pub returns-in_default-2-clause-end : goal.returns-in_default-2-clause-end
 returns-in_default-2-clause-end g c store told =
-    let there : IsPlaceAlong c.args.root.now c.args.path.now (g.B.Blocks.blocks.stored c.args.blocks.now) c.loop-passed.passed c.next_place.new.frames c.in-Some.place = (place_along c.args.root.now c.args.path.now (g.B.Blocks.blocks.stored c.args.blocks.now) c.loop-passed.passed c.loop-passed.frames c.next_place.new.frames c.in-Some.place c.next_place.ensures.query c.loop-passed.invariant.along
+    let there : IsPlaceAlong c.args.root.now c.args.frames.now.query.path (g.B.Blocks.blocks.stored c.args.blocks.now) c.loop-passed.passed c.next_place.new.frames c.in-Some.place = (place_along c.args.root.now c.args.frames.now.query.path (g.B.Blocks.blocks.stored c.args.blocks.now) c.loop-passed.passed c.loop-passed.frames c.next_place.new.frames c.in-Some.place c.next_place.ensures.query c.loop-passed.invariant.along
     (subst (λ (found : Option Wanted). IsNextPlace c.loop-passed.frames (Ok found) c.next_place.new.frames) c.in-Some.is c.in_ok-place.ensures.next)) in
     elim c.if-passed-eq0.branch [
-      | then-passed-eq0 w ↦ subst (λ (fault : ResolveFault). IsResolvedTo store c.args.root.now c.args.path.now (Err fault)) (sym w.result-is)
-          (no_root c.args.root.now c.args.path.now (g.B.Blocks.blocks.stored c.args.blocks.now) store c.loop-passed.passed c.next_place.new.frames c.in-Some.place there w.if-passed-eq0.true (found_in (g.B.Blocks.blocks.stored c.loop-passed.blocks) store c.in-Some.place.cid c.in_ok-block.field-0 (c.loop-passed.invariant.looked.looked.stored ∙ told) c.in_ok-block.ensures.gotten ∙ c.in_default-2.is))
-      | else-passed-eq0 w ↦ subst (λ (fault : ResolveFault). IsResolvedTo store c.args.root.now c.args.path.now (Err fault)) (sym w.result-is)
-          (gone_there c.resolved_paths.ensures c.args.root.now c.args.path.now (g.B.Blocks.blocks.stored c.args.blocks.now) store c.loop-passed.passed c.next_place.new.frames c.in-Some.place c.requires.few told there w.if-passed-eq0.false (found_in (g.B.Blocks.blocks.stored c.loop-passed.blocks) store c.in-Some.place.cid c.in_ok-block.field-0 (c.loop-passed.invariant.looked.looked.stored ∙ told) c.in_ok-block.ensures.gotten ∙ c.in_default-2.is))
+      | then-passed-eq0 w ↦ subst (λ (fault : ResolveFault). IsResolvedTo store c.args.root.now c.args.frames.now.query.path (Err fault)) (sym w.result-is)
+          (no_root c.args.root.now c.args.frames.now.query.path (g.B.Blocks.blocks.stored c.args.blocks.now) store c.loop-passed.passed c.next_place.new.frames c.in-Some.place there w.if-passed-eq0.true (found_in (g.B.Blocks.blocks.stored c.loop-passed.blocks) store c.in-Some.place.cid c.in_ok-block.field-0 (c.loop-passed.invariant.looked.looked.stored ∙ told) c.in_ok-block.ensures.gotten ∙ c.in_default-2.is))
+      | else-passed-eq0 w ↦ subst (λ (fault : ResolveFault). IsResolvedTo store c.args.root.now c.args.frames.now.query.path (Err fault)) (sym w.result-is)
+          (gone_there c.resolved_paths.ensures c.args.root.now c.args.frames.now.query.path (g.B.Blocks.blocks.stored c.args.blocks.now) store c.loop-passed.passed c.next_place.new.frames c.in-Some.place c.requires.few told there w.if-passed-eq0.false (found_in (g.B.Blocks.blocks.stored c.loop-passed.blocks) store c.in-Some.place.cid c.in_ok-block.field-0 (c.loop-passed.invariant.looked.looked.stored ∙ told) c.in_ok-block.ensures.gotten ∙ c.in_default-2.is))
     ]
 
 pub returns-in_default-2-clause-looked : goal.returns-in_default-2-clause-looked
@@ -74,9 +68,9 @@ returns-in_default-2-clause-cause g c =
 
 pub returns-then-not-is_read-clause-end : goal.returns-then-not-is_read-clause-end
 returns-then-not-is_read-clause-end g c store told =
-    let there : IsPlaceAlong c.args.root.now c.args.path.now (g.B.Blocks.blocks.stored c.args.blocks.now) c.loop-passed.passed c.next_place.new.frames c.in-Some.place = (place_along c.args.root.now c.args.path.now (g.B.Blocks.blocks.stored c.args.blocks.now) c.loop-passed.passed c.loop-passed.frames c.next_place.new.frames c.in-Some.place c.next_place.ensures.query c.loop-passed.invariant.along
+    let there : IsPlaceAlong c.args.root.now c.args.frames.now.query.path (g.B.Blocks.blocks.stored c.args.blocks.now) c.loop-passed.passed c.next_place.new.frames c.in-Some.place = (place_along c.args.root.now c.args.frames.now.query.path (g.B.Blocks.blocks.stored c.args.blocks.now) c.loop-passed.passed c.loop-passed.frames c.next_place.new.frames c.in-Some.place c.next_place.ensures.query c.loop-passed.invariant.along
     (subst (λ (found : Option Wanted). IsNextPlace c.loop-passed.frames (Ok found) c.next_place.new.frames) c.in-Some.is c.in_ok-place.ensures.next)) in
-    leads_there c.resolved_paths.ensures c.args.root.now c.args.path.now (g.B.Blocks.blocks.stored c.args.blocks.now) store c.loop-passed.passed c.next_place.new.frames c.in-Some.place c.in-Some-2.block c.requires.few told there (found_in (g.B.Blocks.blocks.stored c.loop-passed.blocks) store c.in-Some.place.cid c.in_ok-block.field-0 (c.loop-passed.invariant.looked.looked.stored ∙ told) c.in_ok-block.ensures.gotten ∙ c.in-Some-2.is) (λ at w. sym (c.is_read.ensures at w) ∙ c.if-not-is_read.true)
+    leads_there c.resolved_paths.ensures c.args.root.now c.args.frames.now.query.path (g.B.Blocks.blocks.stored c.args.blocks.now) store c.loop-passed.passed c.next_place.new.frames c.in-Some.place c.in-Some-2.block c.requires.few told there (found_in (g.B.Blocks.blocks.stored c.loop-passed.blocks) store c.in-Some.place.cid c.in_ok-block.field-0 (c.loop-passed.invariant.looked.looked.stored ∙ told) c.in_ok-block.ensures.gotten ∙ c.in-Some-2.is) (λ at w. sym (c.is_read.ensures at w) ∙ c.if-not-is_read.true)
 
 pub returns-then-not-is_read-clause-looked : goal.returns-then-not-is_read-clause-looked
 returns-then-not-is_read-clause-looked g c =
@@ -88,16 +82,16 @@ returns-then-not-is_read-clause-cause g c =
 
 pub open-requires : goal.open-requires
 open-requires g c =
-    let there : IsPlaceAlong c.args.root.now c.args.path.now (g.B.Blocks.blocks.stored c.args.blocks.now) c.loop-passed.passed c.next_place.new.frames c.in-Some.place = (place_along c.args.root.now c.args.path.now (g.B.Blocks.blocks.stored c.args.blocks.now) c.loop-passed.passed c.loop-passed.frames c.next_place.new.frames c.in-Some.place c.next_place.ensures.query c.loop-passed.invariant.along
+    let there : IsPlaceAlong c.args.root.now c.args.frames.now.query.path (g.B.Blocks.blocks.stored c.args.blocks.now) c.loop-passed.passed c.next_place.new.frames c.in-Some.place = (place_along c.args.root.now c.args.frames.now.query.path (g.B.Blocks.blocks.stored c.args.blocks.now) c.loop-passed.passed c.loop-passed.frames c.next_place.new.frames c.in-Some.place c.next_place.ensures.query c.loop-passed.invariant.along
     (subst (λ (found : Option Wanted). IsNextPlace c.loop-passed.frames (Ok found) c.next_place.new.frames) c.in-Some.is c.in_ok-place.ensures.next)) in
-    wanted_here c.args.root.now c.args.path.now (g.B.Blocks.blocks.stored c.args.blocks.now) c.loop-passed.passed c.next_place.new.frames c.in-Some.place there (let b = c.loop-passed-test.true in omega (arith, b))
+    wanted_here c.args.root.now c.args.frames.now.query.path (g.B.Blocks.blocks.stored c.args.blocks.now) c.loop-passed.passed c.next_place.new.frames c.in-Some.place there (let b = c.loop-passed-test.true in omega (arith, b))
 
 pub returns-in_err-open-clause-end : goal.returns-in_err-open-clause-end
 returns-in_err-open-clause-end g c store told =
-    let there : IsPlaceAlong c.args.root.now c.args.path.now (g.B.Blocks.blocks.stored c.args.blocks.now) c.loop-passed.passed c.next_place.new.frames c.in-Some.place = (place_along c.args.root.now c.args.path.now (g.B.Blocks.blocks.stored c.args.blocks.now) c.loop-passed.passed c.loop-passed.frames c.next_place.new.frames c.in-Some.place c.next_place.ensures.query c.loop-passed.invariant.along
+    let there : IsPlaceAlong c.args.root.now c.args.frames.now.query.path (g.B.Blocks.blocks.stored c.args.blocks.now) c.loop-passed.passed c.next_place.new.frames c.in-Some.place = (place_along c.args.root.now c.args.frames.now.query.path (g.B.Blocks.blocks.stored c.args.blocks.now) c.loop-passed.passed c.loop-passed.frames c.next_place.new.frames c.in-Some.place c.next_place.ensures.query c.loop-passed.invariant.along
     (subst (λ (found : Option Wanted). IsNextPlace c.loop-passed.frames (Ok found) c.next_place.new.frames) c.in-Some.is c.in_ok-place.ensures.next)) in
     let p = err_from_is_err_and c.from_residual-in_err-open.result c.from_residual-in_err-open.ensures.1 in
-    rw (p.1, p.2) (stops_at_block c.resolved_paths.ensures c.args.root.now c.args.path.now (g.B.Blocks.blocks.stored c.args.blocks.now) store c.loop-passed.passed c.next_place.new.frames c.open.new.frames c.in-Some.place c.in-Some-2.block c.in_err-open.field-0.0
+    rw (p.1, p.2) (stops_at_block c.resolved_paths.ensures c.args.root.now c.args.frames.now.query.path (g.B.Blocks.blocks.stored c.args.blocks.now) store c.loop-passed.passed c.next_place.new.frames c.open.new.frames c.in-Some.place c.in-Some-2.block c.in_err-open.field-0.0
     c.requires.few told there (found_in (g.B.Blocks.blocks.stored c.loop-passed.blocks) store c.in-Some.place.cid c.in_ok-block.field-0 (c.loop-passed.invariant.looked.looked.stored ∙ told) c.in_ok-block.ensures.gotten ∙ c.in-Some-2.is) c.in_err-open.ensures.opened)
 
 pub returns-in_err-open-clause-looked : goal.returns-in_err-open-clause-looked
@@ -106,18 +100,18 @@ returns-in_err-open-clause-looked g c =
 
 pub returns-in_err-open-clause-cause : goal.returns-in_err-open-clause-cause
 returns-in_err-open-clause-cause g c =
-    let there : IsPlaceAlong c.args.root.now c.args.path.now (g.B.Blocks.blocks.stored c.args.blocks.now) c.loop-passed.passed c.next_place.new.frames c.in-Some.place = (place_along c.args.root.now c.args.path.now (g.B.Blocks.blocks.stored c.args.blocks.now) c.loop-passed.passed c.loop-passed.frames c.next_place.new.frames c.in-Some.place c.next_place.ensures.query c.loop-passed.invariant.along
+    let there : IsPlaceAlong c.args.root.now c.args.frames.now.query.path (g.B.Blocks.blocks.stored c.args.blocks.now) c.loop-passed.passed c.next_place.new.frames c.in-Some.place = (place_along c.args.root.now c.args.frames.now.query.path (g.B.Blocks.blocks.stored c.args.blocks.now) c.loop-passed.passed c.loop-passed.frames c.next_place.new.frames c.in-Some.place c.next_place.ensures.query c.loop-passed.invariant.along
     (subst (λ (found : Option Wanted). IsNextPlace c.loop-passed.frames (Ok found) c.next_place.new.frames) c.in-Some.is c.in_ok-place.ensures.next)) in
     let p = err_from_is_err_and c.from_residual-in_err-open.result c.from_residual-in_err-open.ensures.1 in
-    rw (p.1, p.2) (block_cause c.args.root.now c.args.path.now (g.B.Blocks.blocks.stored c.args.blocks.now) (g.B.Blocks.blocks.stored c.args.blocks.now) (looked_in g.B.Blocks.blocks c.args.blocks.now c.get.new.self) c.loop-passed.passed c.next_place.new.frames c.open.new.frames c.in-Some.place c.in-Some-2.block c.in_err-open.field-0.0
+    rw (p.1, p.2) (block_cause c.args.root.now c.args.frames.now.query.path (g.B.Blocks.blocks.stored c.args.blocks.now) (g.B.Blocks.blocks.stored c.args.blocks.now) (looked_in g.B.Blocks.blocks c.args.blocks.now c.get.new.self) c.loop-passed.passed c.next_place.new.frames c.open.new.frames c.in-Some.place c.in-Some-2.block c.in_err-open.field-0.0
     there c.in_err-open.ensures.opened (looks_on g.B.Blocks.blocks g.met.B.Blocks.joins c.args.blocks.now c.loop-passed.blocks c.get.new.self (c.in-Some.place.cid ∷ []) c.loop-passed.invariant.looked c.in_ok-block.ensures.looked c.in_ok-block.ensures.quiet).quiet)
 
 pub loop-passed-preserved : goal.loop-passed-preserved
 loop-passed-preserved g c =
-    let there : IsPlaceAlong c.args.root.now c.args.path.now (g.B.Blocks.blocks.stored c.args.blocks.now) c.loop-passed.passed c.next_place.new.frames c.in-Some.place = (place_along c.args.root.now c.args.path.now (g.B.Blocks.blocks.stored c.args.blocks.now) c.loop-passed.passed c.loop-passed.frames c.next_place.new.frames c.in-Some.place c.next_place.ensures.query c.loop-passed.invariant.along
+    let there : IsPlaceAlong c.args.root.now c.args.frames.now.query.path (g.B.Blocks.blocks.stored c.args.blocks.now) c.loop-passed.passed c.next_place.new.frames c.in-Some.place = (place_along c.args.root.now c.args.frames.now.query.path (g.B.Blocks.blocks.stored c.args.blocks.now) c.loop-passed.passed c.loop-passed.frames c.next_place.new.frames c.in-Some.place c.next_place.ensures.query c.loop-passed.invariant.along
     (subst (λ (found : Option Wanted). IsNextPlace c.loop-passed.frames (Ok found) c.next_place.new.frames) c.in-Some.is c.in_ok-place.ensures.next)) in
     record {
-      along = goes_on c.resolved_paths.ensures c.args.root.now c.args.path.now (g.B.Blocks.blocks.stored c.args.blocks.now) c.loop-passed.passed c.next_place.new.frames c.open.new.frames c.in-Some.place c.in-Some-2.block _ c.requires.few there
+      along = goes_on c.resolved_paths.ensures c.args.root.now c.args.frames.now.query.path (g.B.Blocks.blocks.stored c.args.blocks.now) c.loop-passed.passed c.next_place.new.frames c.open.new.frames c.in-Some.place c.in-Some-2.block _ c.requires.few there
           (λ store told. (found_in (g.B.Blocks.blocks.stored c.loop-passed.blocks) store c.in-Some.place.cid c.in_ok-block.field-0 (c.loop-passed.invariant.looked.looked.stored ∙ told) c.in_ok-block.ensures.gotten ∙ c.in-Some-2.is)) c.open.ensures.query (λ at w. sym (c.is_read.ensures at w) ∙ c.if-not-is_read.false) c.in_ok-open.ensures.opened;
       looked = looks_on g.B.Blocks.blocks g.met.B.Blocks.joins c.args.blocks.now c.loop-passed.blocks c.get.new.self (c.in-Some.place.cid ∷ []) c.loop-passed.invariant.looked c.in_ok-block.ensures.looked c.in_ok-block.ensures.quiet;
     }
@@ -126,7 +120,7 @@ pub returns-clause-end : goal.returns-clause-end
 returns-clause-end g c store told =
     elim c.loop-passed-test.branch [
       | else-loop-passed-test w ↦ absurd (let m = (c.loop-passed.invariant.along.way store told).1 in let b = w.loop-passed-test.false in omega (arith, m, b))
-      | then-loop-passed-test+in_ok-place+in_default w ↦ never_ends c.args.root.now c.args.path.now (g.B.Blocks.blocks.stored c.args.blocks.now) c.loop-passed.passed c.loop-passed.frames w.next_place.new.frames c.loop-passed.invariant.along
+      | then-loop-passed-test+in_ok-place+in_default w ↦ never_ends c.args.root.now c.args.frames.now.query.path (g.B.Blocks.blocks.stored c.args.blocks.now) c.loop-passed.passed c.loop-passed.frames w.next_place.new.frames c.loop-passed.invariant.along
           (subst (λ (found : Option Wanted). IsNextPlace c.loop-passed.frames (Ok found) w.next_place.new.frames) w.in_default.is w.in_ok-place.ensures.next)
     ]
 
