@@ -1,3 +1,4 @@
+mod Counted
 mod Entries
 mod Moves
 mod Places

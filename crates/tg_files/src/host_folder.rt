@@ -1,9 +1,10 @@
 //! Trees of files of the system.
 ghost use Rattle.std.specs.Prelude.{◌≡◌, ◌≤◌, ◌↔◌, length, None, All, IsTrue, IfOk, IfNone, IfSome, IsSomeAnd, OnOk};
-ghost use Rattle.std.specs.Prelude.{Some, ◌≢◌, option_map, string_bytes, string_cmp};
+ghost use Rattle.std.specs.Prelude.{Some, ◌≢◌, ◌++◌, ◌∷◌, [], option_map, string_bytes, string_cmp};
 ghost use Rattle.std.specs.BTreeMap.{IsFromIterResult};
 ghost use Rattle.std.specs.Fs.{IsDir, IsFile, IsSymlink, dir_entry_name, file_type, metadata_len};
 ghost use Rattle.std.specs.List.{AllZip};
+ghost use Rattle.tg_bytes.specs.Ascii.{slash};
 ghost use Rattle.tg_files.specs.Folders.{IsEntryName, path_below};
 ghost use Rattle.tg_files.specs.System.{HasSort, IsEntryOf, KeepsLevel, listed_at};
 
@@ -109,19 +110,8 @@ impl<R: Files + AllocGlobal + Clone + Drop> HostFolder<R> {
         let Some(attached) = &mut self.attached else {
             return Err(FolderFault::Failed);
         };
-        let path = joined(self.rt.alloc(), attached.root.as_str(), names)?;
-        let Listing { items, found } = entries_of(&self.rt, path.as_str())?;
-        let depth = names.len();
-        if depth > 0
-            && !attached.is_folder(
-                &fs::symlink_metadata(&self.rt, path.as_str())?,
-                depth,
-                path.as_str(),
-            )
-        {
-            return Err(FolderFault::Failed);
-        }
-        attached.keep(self.rt.alloc(), depth, found)?;
+        let Listing { items, found } = attached.listing_of(&self.rt, names)?;
+        attached.keep(self.rt.alloc(), names.len(), found)?;
         Ok(items)
     }
 
@@ -131,20 +121,34 @@ impl<R: Files + AllocGlobal + Clone + Drop> HostFolder<R> {
         ensures failed { self.new.failed ≡ self.old.failed }
         ensures place { self.new.place ≡ self.old.place }
     {
+        let (path, listed) = self.file_at(names)?;
+        let mut opened = self.opened(path, &listed)?;
+        let n = read_within(&mut opened.file, listed.size, offset, buf)?;
+        self.reading = Some(opened);
+        Ok(n)
+    }
+
+    /// The path of the system that the names lead to, and the file that was listed there.
+    fn file_at(&self, names: &[Bytes]) -> Result<(String, Listed), FolderFault> {
         let Some(attached) = &self.attached else {
             return Err(FolderFault::Failed);
         };
         let path = joined(self.rt.alloc(), attached.root.as_str(), names)?;
-        let Some(listed) = attached.file(names.len(), path.as_str()) else {
-            return Err(FolderFault::Failed);
-        };
-        let mut opened = match self.reading.take() {
-            Some(opened) if opened.path.as_str() == path.as_str() => opened,
-            _ => open_listed(&self.rt, path, &listed)?,
-        };
-        let n = read_within(&mut opened.file, listed.size, offset, buf)?;
-        self.reading = Some(opened);
-        Ok(n)
+        match attached.file(names.len(), path.as_str()) {
+            Some(listed) => Ok((path, listed)),
+            None => Err(FolderFault::Failed),
+        }
+    }
+
+    /// The file that was listed at a path: the one that is open, or else it is opened.
+    fn opened(&mut self, path: String, listed: &Listed) -> Result<OpenedFile<R::File>, FolderFault>
+        ensures failed { self.new.failed ≡ self.old.failed }
+        ensures place { self.new.place ≡ self.old.place }
+    {
+        match self.reading.take() {
+            Some(opened) if opened.path.as_str() == path.as_str() => Ok(opened),
+            _ => open_listed(&self.rt, path, listed),
+        }
     }
 }
 
@@ -216,6 +220,22 @@ impl Attached {
             Some(listed) => found.is_dir() && listed.is_same(found),
             None => false,
         }
+    }
+
+    /// What stands in the folder at a path, which is a fault where it isn't the one that was listed below the root.
+    fn listing_of<R: Files + AllocGlobal + Clone + Drop>(
+        &self,
+        rt: &R,
+        names: &[Bytes],
+    ) -> Result<Listing, FolderFault> {
+        let path = joined(rt.alloc(), self.root.as_str(), names)?;
+        let path = path.as_str();
+        let listing = entries_of(rt, path)?;
+        let depth = names.len();
+        if depth > 0 && !self.is_folder(&fs::symlink_metadata(rt, path)?, depth, path) {
+            return Err(FolderFault::Failed);
+        }
+        Ok(listing)
     }
 
     /// The file that was listed at a path of so many names.
@@ -308,14 +328,35 @@ fn entries_of<R: Files + AllocGlobal + Clone + Drop>(
         (string_bytes found.0) found.1) listing.items listing.found.items) }
 {
     let alloc = rt.alloc();
-    let mut items = List::new(alloc);
-    let mut found = Vec::new(alloc);
-    for entry in fs::read_dir(rt, path)? {
-        let (item, path, listed) = entry_of(alloc, path, &entry?)?;
-        found.push((path, listed))?;
-        items.push(item)?;
+    let entries = fs::read_dir(rt, path)?;
+    let mut listing = Listing {
+        items: List::new(alloc),
+        found: Vec::new(alloc),
+    };
+    for entry in entries {
+        listing.add(alloc, path, entry)?;
     }
-    Ok(Listing { items, found })
+    Ok(listing)
+}
+
+impl Listing {
+    /// Adds an entry that the system gave of the folder at a path, or its error is a fault.
+    fn add<R: Files + Drop>(
+        &mut self,
+        alloc: Global,
+        folder: &str,
+        entry: io::Result<DirEntry<R>>,
+    ) -> Result<(), FolderFault>
+        ensures { AllZip (λ item found. IsEntryOf folder.now item
+            (string_bytes found.0) found.1) self.old.items self.old.found.items
+            → OnOk result (AllZip (λ item found. IsEntryOf folder.now item
+            (string_bytes found.0) found.1) self.new.items self.new.found.items) }
+    {
+        let (item, path, listed) = entry_of(alloc, folder, &entry?)?;
+        self.found.push((path, listed))?;
+        self.items.push(item)?;
+        Ok(())
+    }
 }
 
 /// One entry of the folder at a path of the system: its item, its own path, and what stands there.
@@ -330,8 +371,7 @@ fn entry_of<R: Files>(
     let name = entry.file_name();
     let listed = Listed::of(&entry.metadata()?);
     let mut path = String::from_str(alloc, folder)?;
-    path.push_str("/")?;
-    path.push_str(name)?;
+    push_name(&mut path, name)?;
     Ok((item_of(alloc, name, listed.sort)?, path, listed))
 }
 
@@ -373,14 +413,19 @@ fn joined(alloc: Global, root: &str, names: &[Bytes]) -> Result<String, FolderFa
     let mut path = String::from_str(alloc, root)?;
     for name in names {
         match str::from_utf8(name.as_slice()) {
-            Ok(name) if is_entry_name(name) => {
-                path.push_str("/")?;
-                path.push_str(name)?;
-            }
+            Ok(name) if is_entry_name(name) => push_name(&mut path, name)?,
             _ => return Err(FolderFault::Failed),
         }
     }
     Ok(path)
+}
+
+/// Makes the path of a folder that of a name in it.
+fn push_name(path: &mut String, name: &str) -> Result<(), AllocError>
+    ensures { OnOk result (string_bytes path.new ≡ (string_bytes path.old ++ slash ∷ []) ++ name.now) }
+{
+    path.push_str("/")?;
+    path.push_str(name)
 }
 
 /// Whether a name leads into a folder, and no further.

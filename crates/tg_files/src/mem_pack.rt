@@ -175,16 +175,16 @@ impl Pack for MemPack {
         ensures kept { self.new.fails ≡ self.old.fails }
         ensures err_count { OnErr result (self.new.faults ≡ counted self.old.faults) }
     {
-        let mut called = self.calls.next();
-        if called.is_ok()
-            && let Some(content) = &mut self.content
+        if let Err(fault) = self.calls.next() {
+            self.content = None;
+            return Err(fault);
+        }
+        if let Some(content) = &mut self.content
             && content.push_all(bytes).is_err()
         {
-            called = Err(self.calls.fault());
-        }
-        if called.is_err() {
             self.content = None;
+            return Err(self.calls.fault());
         }
-        called
+        Ok(())
     }
 }

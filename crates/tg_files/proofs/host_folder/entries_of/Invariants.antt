@@ -5,4 +5,4 @@ use Rattle.tg_files.proofs.host_folder.entries_of.Given as goal
 
 -- each item says what was found at the path in its place
 abbrev pub invariant-loop-entry : goal.invariant-loop-entry
-invariant-loop-entry g l = AllZip (λ item found. IsEntryOf l.path item (string_bytes found.0) found.1) l.items l.found.items
+invariant-loop-entry g l = AllZip (λ item found. IsEntryOf l.path item (string_bytes found.0) found.1) l.listing.items l.listing.found.items

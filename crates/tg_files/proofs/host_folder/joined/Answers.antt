@@ -10,8 +10,8 @@ loop-name-preserved c =
     let i = c.loop-name.name-index in
     let name = c.name-item.result in
     let same : c.in-Ok.name.now ≡ name = c.in-Ok.ensures.cases.0 ∙ c.as_slice.ensures in
-    let grown : string_bytes c.push_str-in-Ok.new.self ≡ (string_bytes c.loop-name.path ++ 47 ∷ []) ++ name =
-    c.in_ok-push_str-in-Ok-2.ensures.bytes ∙ ap (λ path. path ++ c.in-Ok.name.now) c.in_ok-push_str-in-Ok.ensures.bytes ∙ ap (λ n. (string_bytes c.loop-name.path ++ 47 ∷ []) ++ n) same in
+    let grown : string_bytes c.push_name.new.path ≡ (string_bytes c.loop-name.path ++ 47 ∷ []) ++ name =
+    c.in_ok-push_name-in-Ok.ensures ∙ ap (λ n. (string_bytes c.loop-name.path ++ 47 ∷ []) ++ n) same in
     let leads : IsEntryName name = subst IsEntryName same (c.is_entry_name.ensures.0 c.if-is_entry_name.true) in
     record {
       path = path_on _ _ c.args.names.now i name c.loop-name-test.true c.name-item.is c.loop-name.invariant.path ∙ ap (λ path. path_below path (drop (i + 1) c.args.names.now)) (sym grown);
