@@ -42,3 +42,12 @@ returns-clause-answered g c store sections told all =
     store sections c.write_sections.result (returns-clause-ends g c)
     (car_cause g.B.Blocks.blocks c.args.blocks.now c.resolve.new.blocks c.write_sections.new.blocks c.write_sections.result
     (record { cids = first.0; looked = first.1; quiet = c.in_ok-resolve.ensures.cause }) c.write_sections.ensures.cause) c.write_sections.ensures.memory told all
+
+pub returns-clause-cause : goal.returns-clause-cause
+returns-clause-cause g c =
+    let first = c.in_ok-resolve.ensures.looked in
+    car_cause g.B.Blocks.blocks c.args.blocks.now c.resolve.new.blocks c.write_sections.new.blocks c.write_sections.result
+    (record { cids = first.0; looked = first.1; quiet = c.in_ok-resolve.ensures.cause }) c.write_sections.ensures.cause
+
+pub returns-clause-memory : goal.returns-clause-memory
+returns-clause-memory g c = c.write_sections.ensures.memory

@@ -11,6 +11,8 @@ use Rattle.tg_import.specs.Refused.{IsFileFault, RefusesFolder}
 use Rattle.tg_import.specs.Steps.{AreNewEntries, IsEntriesCause, own_count_for}
 use Rattle.tg_import.specs.declared.fault.ImportFault.TheVariants as faults
 use Rattle.tg_import.specs.declared.fault.ImportFault.{ImportFault}
+use Rattle.std.specs.Prelude.{Err, Ok, OnErr, OnOk, Result}
+use Rattle.tg_files.specs.Folders.{FolderMeaning, SameFolder, folder_step}
 use Rattle.tg_import.specs.Counting.{plus}
 use Rattle.tg_import.specs.declared.summary.Summary.{Summary}
 use Rattle.std.proofs.lemmas.List.{append-nil}
@@ -26,6 +28,21 @@ below_next levels t e some = omega arith
 
 quiet_twice : (a b c : ℕ) → b ≡ a → c ≡ b → a ≤ c
 quiet_twice a b c p q = omega (arith, p, q)
+
+behind_quiet : (a b c : ℕ) → b ≡ a → b ≤ c → a ≤ c
+behind_quiet a b c p q = omega (arith, p, q)
+
+same_twice : {S : Type 0} → (f : FolderMeaning S) (a b c : S) → SameFolder (folder_step f a b) → SameFolder (folder_step f b c) → SameFolder (folder_step f a c)
+same_twice f a b c p q = record { tree = q.tree ∙ p.tree; place = q.place ∙ p.place }
+
+-- what holds anyway, and what holds where it fails
+on_ok : {T E : Type 0} → (r : Result T E) (P : Type 0) → P → OnOk r P
+on_ok (Ok made) P p = p
+on_ok (Err fault) P p = tt
+
+on_err_behind : {T E : Type 0} → (r : Result T E) (a b c : ℕ) → b ≡ a → OnErr r (b ≤ c) → OnErr r (a ≤ c)
+on_err_behind (Ok made) a b c p q = tt
+on_err_behind (Err fault) a b c p q = behind_quiet a b c p q
 
 pub returns-in_err-copy_of-clause-cause : goal.returns-in_err-copy_of-clause-cause
 returns-in_err-copy_of-clause-cause g t c =
@@ -250,3 +267,188 @@ returns-clause-cause g t c =
     c.args.self.now.options c.args.path.now c.args.self.now.summary c.loop-item.self.options c.loop-item.self.writer c.loop-item.self.summary c.in_ok-items.items c.loop-item.entries c.args.levels fault so_far
     c.if-levels-eq0.false c.in_ok-items.ensures.items c.in_ok-items.ensures.names
     (subst (λ (l : List NewEntry). IsEntriesCause c.loop-item.self.options.shard c.args.path.now c.loop-item.self.summary l fault (kept_in g.K.Keep.keeper c.loop-item.keep c.directory.new.keep)) c.as_slice-2.ensures h)) c.directory.ensures.cause
+
+pub returns-in_err-copy_of-clause-writer : goal.returns-in_err-copy_of-clause-writer
+returns-in_err-copy_of-clause-writer g t c = rw ((err_from_is_err_and c.from_residual.result c.from_residual.ensures.1).1) tt
+
+pub returns-in_err-copy_of-clause-imported : goal.returns-in_err-copy_of-clause-imported
+returns-in_err-copy_of-clause-imported g t c = rw ((err_from_is_err_and c.from_residual.result c.from_residual.ensures.1).1) tt
+
+pub returns-in_err-copy_of-clause-directory : goal.returns-in_err-copy_of-clause-directory
+returns-in_err-copy_of-clause-directory g t c = rw ((err_from_is_err_and c.from_residual.result c.from_residual.ensures.1).1) tt
+
+pub returns-in_err-copy_of-clause-small : goal.returns-in_err-copy_of-clause-small
+returns-in_err-copy_of-clause-small g t c = rw ((err_from_is_err_and c.from_residual.result c.from_residual.ensures.1).1) tt
+
+pub returns-in_err-copy_of-clause-quiet : goal.returns-in_err-copy_of-clause-quiet
+returns-in_err-copy_of-clause-quiet g t c = rw ((err_from_is_err_and c.from_residual.result c.from_residual.ensures.1).1) tt
+
+pub returns-in_err-items-clause-writer : goal.returns-in_err-items-clause-writer
+returns-in_err-items-clause-writer g t c = rw ((err_from_is_err_and c.from_residual-in_err-items.result c.from_residual-in_err-items.ensures.1).1) tt
+
+pub returns-in_err-items-clause-imported : goal.returns-in_err-items-clause-imported
+returns-in_err-items-clause-imported g t c = rw ((err_from_is_err_and c.from_residual-in_err-items.result c.from_residual-in_err-items.ensures.1).1) tt
+
+pub returns-in_err-items-clause-directory : goal.returns-in_err-items-clause-directory
+returns-in_err-items-clause-directory g t c = rw ((err_from_is_err_and c.from_residual-in_err-items.result c.from_residual-in_err-items.ensures.1).1) tt
+
+pub returns-in_err-items-clause-small : goal.returns-in_err-items-clause-small
+returns-in_err-items-clause-small g t c = rw ((err_from_is_err_and c.from_residual-in_err-items.result c.from_residual-in_err-items.ensures.1).1) tt
+
+pub returns-in_err-items-clause-quiet : goal.returns-in_err-items-clause-quiet
+returns-in_err-items-clause-quiet g t c = rw ((err_from_is_err_and c.from_residual-in_err-items.result c.from_residual-in_err-items.ensures.1).1) tt
+
+pub returns-in_err-items-clause-untouched : goal.returns-in_err-items-clause-untouched
+returns-in_err-items-clause-untouched g t c = λ e. absurd (c.if-levels-eq0.false e)
+
+pub returns-in_err-at-clause-writer : goal.returns-in_err-at-clause-writer
+returns-in_err-at-clause-writer g t c = rw ((err_from_is_err_and c.from_residual-in_err-at.result c.from_residual-in_err-at.ensures.1).1) tt
+
+pub returns-in_err-at-clause-imported : goal.returns-in_err-at-clause-imported
+returns-in_err-at-clause-imported g t c = rw ((err_from_is_err_and c.from_residual-in_err-at.result c.from_residual-in_err-at.ensures.1).1) tt
+
+pub returns-in_err-at-clause-directory : goal.returns-in_err-at-clause-directory
+returns-in_err-at-clause-directory g t c = rw ((err_from_is_err_and c.from_residual-in_err-at.result c.from_residual-in_err-at.ensures.1).1) tt
+
+pub returns-in_err-at-clause-small : goal.returns-in_err-at-clause-small
+returns-in_err-at-clause-small g t c = rw ((err_from_is_err_and c.from_residual-in_err-at.result c.from_residual-in_err-at.ensures.1).1) tt
+
+pub returns-in_err-at-clause-quiet : goal.returns-in_err-at-clause-quiet
+returns-in_err-at-clause-quiet g t c = rw ((err_from_is_err_and c.from_residual-in_err-at.result c.from_residual-in_err-at.ensures.1).1) tt
+
+pub returns-in_err-at-clause-options : goal.returns-in_err-at-clause-options
+returns-in_err-at-clause-options g t c = c.loop-item.invariant.2.options_are
+
+pub returns-in_err-at-clause-same : goal.returns-in_err-at-clause-same
+returns-in_err-at-clause-same g t c = c.loop-item.invariant.2.same
+
+pub returns-in_err-at-clause-untouched : goal.returns-in_err-at-clause-untouched
+returns-in_err-at-clause-untouched g t c = λ e. absurd (c.if-levels-eq0.false e)
+
+pub returns-in_err-at-clause-err_counted : goal.returns-in_err-at-clause-err_counted
+returns-in_err-at-clause-err_counted g t c =
+    rw ((err_from_is_err_and c.from_residual-in_err-at.result c.from_residual-in_err-at.ensures.1).1) (quiet_twice (g.K.Keep.keeper.faults c.args.keep.now) (g.K.Keep.keeper.faults c.loop-item.keep) (g.K.Keep.keeper.faults c.loop-item.keep) c.loop-item.invariant.2.keeps.quiet refl)
+
+pub returns-in_err-made-in-File-clause-writer : goal.returns-in_err-made-in-File-clause-writer
+returns-in_err-made-in-File-clause-writer g t c = rw ((err_from_is_err_and c.from_residual-in_err-made-in-File.result c.from_residual-in_err-made-in-File.ensures.1).1) tt
+
+pub returns-in_err-made-in-File-clause-imported : goal.returns-in_err-made-in-File-clause-imported
+returns-in_err-made-in-File-clause-imported g t c = rw ((err_from_is_err_and c.from_residual-in_err-made-in-File.result c.from_residual-in_err-made-in-File.ensures.1).1) tt
+
+pub returns-in_err-made-in-File-clause-directory : goal.returns-in_err-made-in-File-clause-directory
+returns-in_err-made-in-File-clause-directory g t c = rw ((err_from_is_err_and c.from_residual-in_err-made-in-File.result c.from_residual-in_err-made-in-File.ensures.1).1) tt
+
+pub returns-in_err-made-in-File-clause-small : goal.returns-in_err-made-in-File-clause-small
+returns-in_err-made-in-File-clause-small g t c = rw ((err_from_is_err_and c.from_residual-in_err-made-in-File.result c.from_residual-in_err-made-in-File.ensures.1).1) tt
+
+pub returns-in_err-made-in-File-clause-quiet : goal.returns-in_err-made-in-File-clause-quiet
+returns-in_err-made-in-File-clause-quiet g t c = rw ((err_from_is_err_and c.from_residual-in_err-made-in-File.result c.from_residual-in_err-made-in-File.ensures.1).1) tt
+
+pub returns-in_err-made-in-File-clause-options : goal.returns-in_err-made-in-File-clause-options
+returns-in_err-made-in-File-clause-options g t c = c.in_err-made-in-File.ensures.options ∙ c.loop-item.invariant.2.options_are
+
+pub returns-in_err-made-in-File-clause-same : goal.returns-in_err-made-in-File-clause-same
+returns-in_err-made-in-File-clause-same g t c = same_twice g.F.Folder.folder c.args.folder.now c.loop-item.folder c.file.new.folder c.loop-item.invariant.2.same c.in_err-made-in-File.ensures.same
+
+pub returns-in_err-made-in-File-clause-untouched : goal.returns-in_err-made-in-File-clause-untouched
+returns-in_err-made-in-File-clause-untouched g t c = λ e. absurd (c.if-levels-eq0.false e)
+
+pub returns-in_err-made-in-File-clause-err_counted : goal.returns-in_err-made-in-File-clause-err_counted
+returns-in_err-made-in-File-clause-err_counted g t c =
+    rw ((err_from_is_err_and c.from_residual-in_err-made-in-File.result c.from_residual-in_err-made-in-File.ensures.1).1) (behind_quiet (g.K.Keep.keeper.faults c.args.keep.now) (g.K.Keep.keeper.faults c.loop-item.keep) (g.K.Keep.keeper.faults c.file.new.keep) c.loop-item.invariant.2.keeps.quiet c.in_err-made-in-File.ensures.err_counted)
+
+pub returns-in_err-made-in-Folder-clause-writer : goal.returns-in_err-made-in-Folder-clause-writer
+returns-in_err-made-in-Folder-clause-writer g t c = rw ((err_from_is_err_and c.from_residual-in_err-made-in-Folder.result c.from_residual-in_err-made-in-Folder.ensures.1).1) tt
+
+pub returns-in_err-made-in-Folder-clause-imported : goal.returns-in_err-made-in-Folder-clause-imported
+returns-in_err-made-in-Folder-clause-imported g t c = rw ((err_from_is_err_and c.from_residual-in_err-made-in-Folder.result c.from_residual-in_err-made-in-Folder.ensures.1).1) tt
+
+pub returns-in_err-made-in-Folder-clause-directory : goal.returns-in_err-made-in-Folder-clause-directory
+returns-in_err-made-in-Folder-clause-directory g t c = rw ((err_from_is_err_and c.from_residual-in_err-made-in-Folder.result c.from_residual-in_err-made-in-Folder.ensures.1).1) tt
+
+pub returns-in_err-made-in-Folder-clause-small : goal.returns-in_err-made-in-Folder-clause-small
+returns-in_err-made-in-Folder-clause-small g t c = rw ((err_from_is_err_and c.from_residual-in_err-made-in-Folder.result c.from_residual-in_err-made-in-Folder.ensures.1).1) tt
+
+pub returns-in_err-made-in-Folder-clause-quiet : goal.returns-in_err-made-in-Folder-clause-quiet
+returns-in_err-made-in-Folder-clause-quiet g t c = rw ((err_from_is_err_and c.from_residual-in_err-made-in-Folder.result c.from_residual-in_err-made-in-Folder.ensures.1).1) tt
+
+pub returns-in_err-made-in-Folder-clause-options : goal.returns-in_err-made-in-Folder-clause-options
+returns-in_err-made-in-Folder-clause-options g t c = c.in_err-made-in-Folder.ensures.options ∙ c.loop-item.invariant.2.options_are
+
+pub returns-in_err-made-in-Folder-clause-same : goal.returns-in_err-made-in-Folder-clause-same
+returns-in_err-made-in-Folder-clause-same g t c = same_twice g.F.Folder.folder c.args.folder.now c.loop-item.folder c.folder.new.folder c.loop-item.invariant.2.same c.in_err-made-in-Folder.ensures.same
+
+pub returns-in_err-made-in-Folder-clause-untouched : goal.returns-in_err-made-in-Folder-clause-untouched
+returns-in_err-made-in-Folder-clause-untouched g t c = λ e. absurd (c.if-levels-eq0.false e)
+
+pub returns-in_err-made-in-Folder-clause-err_counted : goal.returns-in_err-made-in-Folder-clause-err_counted
+returns-in_err-made-in-Folder-clause-err_counted g t c =
+    rw ((err_from_is_err_and c.from_residual-in_err-made-in-Folder.result c.from_residual-in_err-made-in-Folder.ensures.1).1) (behind_quiet (g.K.Keep.keeper.faults c.args.keep.now) (g.K.Keep.keeper.faults c.loop-item.keep) (g.K.Keep.keeper.faults c.folder.new.keep) c.loop-item.invariant.2.keeps.quiet c.in_err-made-in-Folder.ensures.err_counted)
+
+pub returns-in-Symlink-clause-writer : goal.returns-in-Symlink-clause-writer
+returns-in-Symlink-clause-writer g t c = tt
+
+pub returns-in-Symlink-clause-imported : goal.returns-in-Symlink-clause-imported
+returns-in-Symlink-clause-imported g t c = tt
+
+pub returns-in-Symlink-clause-directory : goal.returns-in-Symlink-clause-directory
+returns-in-Symlink-clause-directory g t c = tt
+
+pub returns-in-Symlink-clause-small : goal.returns-in-Symlink-clause-small
+returns-in-Symlink-clause-small g t c = tt
+
+pub returns-in-Symlink-clause-quiet : goal.returns-in-Symlink-clause-quiet
+returns-in-Symlink-clause-quiet g t c = tt
+
+pub returns-in-Symlink-clause-options : goal.returns-in-Symlink-clause-options
+returns-in-Symlink-clause-options g t c = c.loop-item.invariant.2.options_are
+
+pub returns-in-Symlink-clause-same : goal.returns-in-Symlink-clause-same
+returns-in-Symlink-clause-same g t c = c.loop-item.invariant.2.same
+
+pub returns-in-Symlink-clause-untouched : goal.returns-in-Symlink-clause-untouched
+returns-in-Symlink-clause-untouched g t c = λ e. absurd (c.if-levels-eq0.false e)
+
+pub returns-in-Symlink-clause-err_counted : goal.returns-in-Symlink-clause-err_counted
+returns-in-Symlink-clause-err_counted g t c = quiet_twice (g.K.Keep.keeper.faults c.args.keep.now) (g.K.Keep.keeper.faults c.loop-item.keep) (g.K.Keep.keeper.faults c.loop-item.keep) c.loop-item.invariant.2.keeps.quiet refl
+
+pub returns-in_err-push-clause-writer : goal.returns-in_err-push-clause-writer
+returns-in_err-push-clause-writer g t c = rw ((err_from_is_err_and c.from_residual-in_err-push.result c.from_residual-in_err-push.ensures.1).1) tt
+
+pub returns-in_err-push-clause-imported : goal.returns-in_err-push-clause-imported
+returns-in_err-push-clause-imported g t c = rw ((err_from_is_err_and c.from_residual-in_err-push.result c.from_residual-in_err-push.ensures.1).1) tt
+
+pub returns-in_err-push-clause-directory : goal.returns-in_err-push-clause-directory
+returns-in_err-push-clause-directory g t c = rw ((err_from_is_err_and c.from_residual-in_err-push.result c.from_residual-in_err-push.ensures.1).1) tt
+
+pub returns-in_err-push-clause-small : goal.returns-in_err-push-clause-small
+returns-in_err-push-clause-small g t c = rw ((err_from_is_err_and c.from_residual-in_err-push.result c.from_residual-in_err-push.ensures.1).1) tt
+
+pub returns-in_err-push-clause-quiet : goal.returns-in_err-push-clause-quiet
+returns-in_err-push-clause-quiet g t c = rw ((err_from_is_err_and c.from_residual-in_err-push.result c.from_residual-in_err-push.ensures.1).1) tt
+
+pub returns-in_err-push-clause-untouched : goal.returns-in_err-push-clause-untouched
+returns-in_err-push-clause-untouched g t c = λ e. absurd (c.if-levels-eq0.false e)
+
+pub returns-clause-options : goal.returns-clause-options
+returns-clause-options g t c = c.directory.ensures.options ∙ c.loop-item.invariant.2.options_are
+
+pub returns-clause-small : goal.returns-clause-small
+returns-clause-small g t c = c.directory.ensures.small
+
+pub returns-clause-quiet : goal.returns-clause-quiet
+returns-clause-quiet g t c = on_ok c.directory.result _ c.loop-item.invariant.2.quiet
+
+pub returns-clause-same : goal.returns-clause-same
+returns-clause-same g t c = c.loop-item.invariant.2.same
+
+pub returns-clause-untouched : goal.returns-clause-untouched
+returns-clause-untouched g t c = λ e. absurd (c.if-levels-eq0.false e)
+
+pub returns-clause-err_counted : goal.returns-clause-err_counted
+returns-clause-err_counted g t c = on_err_behind c.directory.result (g.K.Keep.keeper.faults c.args.keep.now) (g.K.Keep.keeper.faults c.loop-item.keep) (g.K.Keep.keeper.faults c.directory.new.keep) c.loop-item.invariant.2.keeps.quiet c.directory.ensures.err_counted
+
+pub file-requires-clause-writer : goal.file-requires-clause-writer
+file-requires-clause-writer g t c =
+    writer_now g.K.Keep.keeper g.F.Folder.folder c.args.keep.now c.loop-item.keep c.args.folder.now c.loop-item.folder c.args.self.now.options c.args.path.now c.args.self.now.summary
+    c.loop-item.self.options c.loop-item.self.writer c.loop-item.self.summary c.loop-item.yielded c.loop-item.entries c.loop-item.invariant.2

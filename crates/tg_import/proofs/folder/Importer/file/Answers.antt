@@ -28,3 +28,15 @@ returns-in_default-clause-cause g c =
         ),
       ),
     )
+
+pub returns-in_default-clause-writer : goal.returns-in_default-clause-writer
+returns-in_default-clause-writer g c = tt
+
+pub returns-in_default-clause-imported : goal.returns-in_default-clause-imported
+returns-in_default-clause-imported g c = tt
+
+pub returns-in_default-clause-quiet : goal.returns-in_default-clause-quiet
+returns-in_default-clause-quiet g c = tt
+
+pub returns-clause-quiet : goal.returns-clause-quiet
+returns-clause-quiet g c = c.in-Ok.ensures.quiet
