@@ -1,5 +1,5 @@
 -- The answers to the lines of `import`.
-use Rattle.std.proofs.Common.{◌≡◌, ℕ, List, [], ◌∷◌, codes, Option, refl, sym, ap, ◌∙◌, subst}
+use Rattle.std.proofs.Common.{◌≡◌, ◌≢◌, ℕ, List, [], ◌∷◌, codes, Ok, Option, refl, sym, ap, ◌∙◌, subst}
 use Rattle.std.specs.Prelude.{Result}
 use Rattle.std.specs.Option.{unwrap_or}
 use Rattle.tg_cid.specs.Limits.{max_block_len}
@@ -24,6 +24,24 @@ pub number_at : (value other : Option (List ℕ)) (low high default : ℕ) (answ
     → Exact (NumberGiven value low high default) answer → Exact (NumberGiven other low high default) answer
 number_at value other low high default answer is exact = subst (λ v. Exact (NumberGiven v low high default) answer) is exact
 
+-- the numbers of the layout that options give
+abbrev pub NumbersGiven : List Given → ℕ × ℕ × ℕ → Type 0
+NumbersGiven options numbers =
+    NumberGiven (value_at options (codes "chunk")) 1 max_block_len 1048576 numbers.0
+    × NumberGiven (value_at options (codes "width")) 2 4096 1024 numbers.1
+    × NumberGiven (value_at options (codes "shard")) 0 1048576 262144 numbers.2
+
+same_numbers : (a b c : ℕ) (others : ℕ × ℕ × ℕ) → a ≡ others.0 → b ≡ others.1 → c ≡ others.2 → (a, b, c) ≡ others
+same_numbers a b c (x, y, z) is also last = cc
+
+pub three_numbers : (options : List Given) (chunk width shard : ℕ) → Exact (NumberGiven (value_at options (codes "chunk")) 1 max_block_len 1048576) (Ok chunk)
+    → Exact (NumberGiven (value_at options (codes "width")) 2 4096 1024) (Ok width) → Exact (NumberGiven (value_at options (codes "shard")) 0 1048576 262144) (Ok shard)
+    → Exact (NumbersGiven options) (Ok (chunk, width, shard))
+three_numbers options chunk width shard first second third = record {
+  found = (first.found, second.found, third.found);
+  only = λ numbers is. same_numbers chunk width shard numbers (first.only numbers.0 is.0) (second.only numbers.1 is.1) (third.only numbers.2 is.2);
+}
+
 same_import : (a b : ImportParts) → a.folder ≡ b.folder → a.pack ≡ b.pack → a.chunk ≡ b.chunk → a.width ≡ b.width → a.shard ≡ b.shard → a ≡ b
 same_import a b folder pack chunk width shard =
     let s = subst (λ f. a ≡ record a { folder = f }) folder refl in
@@ -31,6 +49,25 @@ same_import a b folder pack chunk width shard =
     let u = subst (λ c. a ≡ record a { folder = b.folder; pack = b.pack; chunk = c }) chunk t in
     let v = subst (λ w. a ≡ record a { folder = b.folder; pack = b.pack; chunk = b.chunk; width = w }) width u in
     subst (λ n. a ≡ record { folder = b.folder; pack = b.pack; chunk = b.chunk; width = b.width; shard = n }) shard v
+
+-- the import of the named folder into the named pack with the numbers given
+pub import_found : (folder pack : List ℕ) (options : List Given) (parts : ImportParts) (shard : ℕ) → parts.folder ≡ folder → folder ≢ [] → parts.pack ≡ pack → pack ≢ []
+    → parts.shard ≡ shard → Exact (NumbersGiven options) (Ok (parts.chunk, parts.width, shard)) → Exact (ImportGiven folder pack options) (Ok parts)
+import_found folder pack options parts shard folder_is folder_named pack_is pack_named shard_is exact = record {
+  found = record {
+    folder_is = folder_is;
+    folder_named = folder_named;
+    pack_is = pack_is;
+    pack_named = pack_named;
+    chunk = exact.found.0;
+    width = exact.found.1;
+    shard = subst (λ number. NumberGiven (value_at options (codes "shard")) 0 1048576 262144 number) (sym shard_is) exact.found.2;
+  };
+  only = λ others is.
+      let same = exact.only (others.chunk, others.width, others.shard) (is.chunk, is.width, is.shard) in
+      same_import parts others (folder_is ∙ sym is.folder_is) (pack_is ∙ sym is.pack_is) (ap (λ numbers. numbers.0) same) (ap (λ numbers. numbers.1) same)
+      (shard_is ∙ ap (λ numbers. numbers.2) same);
+}
 
 -- what words and options ask is one import
 pub one_import : (pair : List ℕ × List ℕ) (options : List Given) (a b : ImportParts) → ImportGiven pair.0 pair.1 options a → ImportGiven pair.0 pair.1 options b → a ≡ b

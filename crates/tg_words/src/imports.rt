@@ -1,8 +1,9 @@
 //! The command `import`.
 
 ghost use Rattle.std.specs.Prelude.{◌≡◌, ℕ, ◌^◌, ◌≤◌, ◌∷◌, map, string_bytes, codes, option_map, IfOk, IfSome, IfNone};
+ghost use Rattle.tg_cid.specs.Limits.{max_block_len};
 ghost use Rattle.tg_words.specs.ImportLines.{ImportParts, NumberText};
-ghost use Rattle.tg_words.specs.Operands.{Answers, Exact, ImportGiven, NumberGiven, givens};
+ghost use Rattle.tg_words.specs.Operands.{Answers, Exact, ImportGiven, NumberGiven, givens, value_at};
 
 use crate::operands::{GivenOption, OptionNames, named, two_operands, value_of};
 use crate::{Command, WordsFault};
@@ -88,13 +89,29 @@ fn import_with(
 ) -> Result<Import, WordsFault>
     ensures { Exact (ImportGiven folder.now pack.now (givens options.now)) result }
 {
+    let folder = named(alloc, folder)?;
+    let pack = named(alloc, pack)?;
+    let (chunk, width, shard) = numbers_given(options)?;
     Ok(Import {
-        folder: named(alloc, folder)?,
-        pack: named(alloc, pack)?,
-        chunk: number_given(value_of(options, "chunk"), CHUNK)?,
-        width: number_given(value_of(options, "width"), WIDTH)?,
-        shard: u64::from(number_given(value_of(options, "shard"), SHARD)?),
+        folder,
+        pack,
+        chunk,
+        width,
+        shard: u64::from(shard),
     })
+}
+
+/// The numbers of the layout that these options give: chunk, width and shard.
+fn numbers_given(options: &[GivenOption]) -> Result<(u32, u32, u32), WordsFault>
+    ensures { Exact (λ numbers.
+        NumberGiven (value_at (givens options.now) (codes "chunk")) 1 max_block_len 1048576 numbers.0
+        × NumberGiven (value_at (givens options.now) (codes "width")) 2 4096 1024 numbers.1
+        × NumberGiven (value_at (givens options.now) (codes "shard")) 0 1048576 262144 numbers.2) result }
+{
+    let chunk = number_given(value_of(options, "chunk"), CHUNK)?;
+    let width = number_given(value_of(options, "width"), WIDTH)?;
+    let shard = number_given(value_of(options, "shard"), SHARD)?;
+    Ok((chunk, width, shard))
 }
 
 /// The number that an option's value writes, or the default where there is none.

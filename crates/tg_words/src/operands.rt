@@ -4,6 +4,7 @@ ghost use Rattle.std.specs.Prelude.{◌≡◌, ◌≢◌, ℕ, List, [], ◌∷�
 ghost use Rattle.std.specs.Prelude.{IfNone, IsTrue, MatchResult, find};
 ghost use Rattle.std.specs.Str.{bytes_eq};
 ghost use Rattle.clap.specs.Words.{app_of, found_of, rows_of};
+ghost use Rattle.tg_words.specs.CommandLine.{no_names};
 ghost use Rattle.tg_words.specs.Operands.{given, givens, names_of, texts_of, value_at};
 ghost use Rattle.tg_words.specs.Parsing.{app_for, option_at, option_rule, options_in, positional_in, with_rules};
 ghost use Rattle.tg_words.specs.Words.{Given, WordsSpelling, are_names};
@@ -109,14 +110,21 @@ pub fn two_operands<'a>(
 fn command_of<'a>(alloc: Global, names: OptionNames<'a>) -> Result<Command<'a>, AllocError>
     ensures { IfOk result (λ command. app_of command ≡ app_for (names_of names.entry)) }
 {
+    let command = without_options(alloc)?;
+    let command = with_options(alloc, command, names.valued, ArgAction::Set)?;
+    with_options(alloc, command, names.flags, ArgAction::SetTrue)
+}
+
+/// The command whose arguments are positional words of any number.
+fn without_options<'a>(alloc: Global) -> Result<Command<'a>, AllocError>
+    ensures { IfOk result (λ command. app_of command ≡ app_for no_names) }
+{
     let positional = Arg::new(alloc, POSITIONAL).action(ArgAction::Append);
-    let command = Command::new(alloc, POSITIONAL)
+    Command::new(alloc, POSITIONAL)
         .no_binary_name(true)
         .disable_help_flag(true)
         .disable_version_flag(true)
-        .arg(positional)?;
-    let command = with_options(alloc, command, names.valued, ArgAction::Set)?;
-    with_options(alloc, command, names.flags, ArgAction::SetTrue)
+        .arg(positional)
 }
 
 /// The command with an option of each of these names, of which a use does this.
@@ -130,10 +138,21 @@ fn with_options<'a>(
         (map (option_rule action) (texts_of names.now))) }
 {
     for name in names {
-        let option = Arg::new(alloc, name).long(name).action(action);
-        command = command.arg(option)?;
+        command = with_option(alloc, command, name, action)?;
     }
     Ok(command)
+}
+
+/// The command with an option of this name, of which a use does this.
+fn with_option<'a>(
+    alloc: Global,
+    command: Command<'a>,
+    name: &'a str,
+    action: ArgAction,
+) -> Result<Command<'a>, AllocError>
+    ensures { IfOk result (λ more. app_of more ≡ with_rules (app_of command.entry) (option_rule action name.now ∷ [])) }
+{
+    command.arg(Arg::new(alloc, name).long(name).action(action))
 }
 
 /// The operands that a parse found.

@@ -1,8 +1,7 @@
-use Rattle.std.proofs.Common.{rules}
-use Rattle.clap.specs.Walk.{rule_of}
+use Rattle.std.proofs.Common.{refl}
 use Rattle.tg_words.proofs.Rules.{one_rule_more}
 use Rattle.tg_words.proofs.operands.with_options.Goals as goal
 
 pub loop-name-preserved : goal.loop-name-preserved
 loop-name-preserved c =
-    one_rule_more _ _ _ c.args.action c.args.names.now c.loop-name.name-index c.new.result.id (rule_of c.action-option.result) c.loop-name-test.true c.loop-name.invariant (search rules) (c.in_ok-command.ensures.shape (search rules))
+    one_rule_more _ _ _ c.args.action c.args.names.now c.loop-name.name-index _ _ c.loop-name-test.true c.loop-name.invariant refl c.in_ok-command.ensures
