@@ -6,7 +6,7 @@ use crate::texts::{escaped, joined};
 use std::alloc::{AllocError, Global};
 use tg_bytes::{Bytes, List};
 use tg_cid::Cid;
-use tg_model::{BlockFault, Kind, Query, Scope, Span, check_shard, reads};
+use tg_model::{BlockFault, Kind, Query, Scope, Slot, Span, check_shard, reads};
 use tg_murmur::hash64;
 use thiserror::Error;
 
@@ -212,10 +212,15 @@ impl<'a> Run<'a> {
     /// The content of a terminal that is a file, the target of a symbolic link, or the bundle of a directory.
     fn all(&mut self, depth: u32, cid: Cid) -> Result<(), Stop> {
         let opened = self.open(depth, cid, Position::Top)?;
+        self.all_of(depth, &opened)
+    }
+
+    /// The same of a terminal that was opened.
+    fn all_of(&mut self, depth: u32, opened: &Opened<'a>) -> Result<(), Stop> {
         match &opened.kind {
-            Kind::Raw | Kind::File { .. } => self.content(depth, &opened, 0, None),
+            Kind::Raw | Kind::File { .. } => self.content(depth, opened, 0, None),
             Kind::Symlink { target } => Ok(self.say(target.as_slice())?),
-            Kind::Basic { .. } | Kind::Shard { .. } => self.bundle(depth, &opened, &[], "/"),
+            Kind::Basic { .. } | Kind::Shard { .. } => self.bundle(depth, opened, &[], "/"),
         }
     }
 
@@ -270,9 +275,7 @@ impl<'a> Run<'a> {
                             put_sorted(self.alloc, entries, name.as_slice(), slot.cid)?
                         }
                         None => {
-                            let passed = with_slot(self.alloc, above, slot.slot)?;
-                            let position = Position::Child(passed.as_slice());
-                            let below = self.open(left, slot.cid, position)?;
+                            let (passed, below) = self.open_child(left, slot, above)?;
                             self.list(left, &below, passed.as_slice(), entries)?;
                         }
                     }
@@ -304,9 +307,12 @@ impl<'a> Run<'a> {
             Kind::Basic { entries } => {
                 self.say_directory(path)?;
                 for entry in entries.as_slice() {
-                    let name = joined(self.alloc, path, entry.name.as_slice())?;
-                    let below = self.open(left, entry.cid, Position::Top)?;
-                    self.bundle(left, &below, &[], name.as_str())?;
+                    let ended = {
+                        let name = entry.name.as_slice();
+                        let (name, below) = self.open_entry(left, entry.cid, name, path)?;
+                        self.bundle(left, &below, &[], name.as_str())
+                    };
+                    ended?;
                 }
                 Ok(())
             }
@@ -315,19 +321,18 @@ impl<'a> Run<'a> {
                     self.say_directory(path)?;
                 }
                 for slot in slots.as_slice() {
-                    match &slot.name {
+                    let ended = match &slot.name {
                         Some(name) => {
-                            let name = joined(self.alloc, path, name.as_slice())?;
-                            let below = self.open(left, slot.cid, Position::Top)?;
-                            self.bundle(left, &below, &[], name.as_str())?;
+                            let name = name.as_slice();
+                            let (name, below) = self.open_entry(left, slot.cid, name, path)?;
+                            self.bundle(left, &below, &[], name.as_str())
                         }
                         None => {
-                            let passed = with_slot(self.alloc, above, slot.slot)?;
-                            let position = Position::Child(passed.as_slice());
-                            let below = self.open(left, slot.cid, position)?;
-                            self.bundle(left, &below, passed.as_slice(), path)?;
+                            let (passed, below) = self.open_child(left, slot, above)?;
+                            self.bundle(left, &below, passed.as_slice(), path)
                         }
-                    }
+                    };
+                    ended?;
                 }
                 Ok(())
             }
@@ -363,6 +368,31 @@ impl<'a> Run<'a> {
         }
         self.send(cid, index, block)?;
         Ok(Opened { kind, block })
+    }
+
+    /// Opens an entry of the directory at a path of a bundle; with it, the path of the entry.
+    fn open_entry(
+        &mut self,
+        depth: u32,
+        cid: Cid,
+        name: &[u8],
+        path: &str,
+    ) -> Result<(String, Opened<'a>), Stop> {
+        let name = joined(self.alloc, path, name)?;
+        let opened = self.open(depth, cid, Position::Top)?;
+        Ok((name, opened))
+    }
+
+    /// Opens the child shard in a slot; with it, the slots that were passed before it, and this one.
+    fn open_child(
+        &mut self,
+        depth: u32,
+        slot: &Slot,
+        above: &[u8],
+    ) -> Result<(Vec<u8>, Opened<'a>), Stop> {
+        let passed = with_slot(self.alloc, above, slot.slot)?;
+        let opened = self.open(depth, slot.cid, Position::Child(passed.as_slice()))?;
+        Ok((passed, opened))
     }
 
     /// Sends a block.
