@@ -461,18 +461,34 @@ const ROUGH: &[Rough] = &[
 ];
 
 /// Whether the folder of a plan lists its names.
-fn lists_all(alloc: Global, folder: &mut HostFolder<RoughFiles>, last: &str) -> bool {
+fn lists_all<R: Files + AllocGlobal + Clone + Drop>(
+    alloc: Global,
+    folder: &mut HostFolder<R>,
+    last: &str,
+) -> bool {
     let names = [("f", Sort::File), ("g", Sort::File), (last, Sort::File)];
     let count = if last.is_empty() { 2 } else { 3 };
     attaches(alloc, folder, "", "anywhere") && lists(alloc, folder, &[], &names[..count])
 }
 
+/// Whether one read of a file gives this, or is the only fault.
+fn gives<R: Files + AllocGlobal + Clone + Drop>(
+    alloc: Global,
+    folder: &mut HostFolder<R>,
+    name: &str,
+    offset: u64,
+    wanted: Option<&str>,
+) -> bool {
+    match wanted {
+        Some(bytes) => reads(alloc, folder, &[name], offset, bytes) && folder.count() == 0,
+        None => !reads(alloc, folder, &[name], offset, "") && folder.count() == 1,
+    }
+}
+
 /// Whether the folder of a plan lists its names, and one read of a file gives this, or is the only fault.
 fn goes_on(alloc: Global, plan: Plan, name: &str, offset: u64, wanted: Option<&str>) -> bool {
     let mut folder = HostFolder::new(RoughFiles { alloc, plan });
-    lists_all(alloc, &mut folder, plan.last)
-        && reads(alloc, &mut folder, &[name], offset, wanted.unwrap_or("")) == wanted.is_some()
-        && folder.count() == if wanted.is_some() { 0 } else { 1 }
+    lists_all(alloc, &mut folder, plan.last) && gives(alloc, &mut folder, name, offset, wanted)
 }
 
 #[test]
@@ -482,6 +498,16 @@ fn reads_of_a_folder_that_go_wrong(rt: HostRuntime) {
     }
 }
 
+/// Whether the folder can't be listed, which is the only fault.
+fn is_not_listed<R: Files + AllocGlobal + Clone + Drop>(
+    alloc: Global,
+    folder: &mut HostFolder<R>,
+) -> bool {
+    attaches(alloc, folder, "", "anywhere")
+        && items_at(alloc, folder, &[]).is_none()
+        && folder.count() == 1
+}
+
 /// Whether a listing that breaks off is the only fault.
 fn breaks_off(alloc: Global) -> bool {
     let plan = Plan {
@@ -489,9 +515,7 @@ fn breaks_off(alloc: Global) -> bool {
         ..PLAIN
     };
     let mut folder = HostFolder::new(RoughFiles { alloc, plan });
-    attaches(alloc, &mut folder, "", "anywhere")
-        && items_at(alloc, &mut folder, &[]).is_none()
-        && folder.count() == 1
+    is_not_listed(alloc, &mut folder)
 }
 
 #[test]
@@ -511,14 +535,25 @@ pub fn path_in(alloc: Global, top: &str, path: &str) -> Option<String> {
 
 /// An empty folder of the test's own.
 pub fn fresh_folder(rt: &HostRuntime, test: &str) -> Result<String, Fail> {
+    let path = temp_path(rt, test)?;
+    make_empty(rt, path.as_str())?;
+    Ok(path)
+}
+
+/// The path of the system of a folder of the test's own.
+fn temp_path(rt: &HostRuntime, test: &str) -> Result<String, Fail> {
     let id = process::id(rt.process());
     let temp = env::temp_dir(rt)?;
-    let path = format!(in rt.alloc(); "{}/tg_files_{test}_{id}", temp.as_str())?;
-    if fs::exists(rt, path.as_str())? {
-        fs::remove_dir_all(rt, path.as_str())?;
+    Ok(format!(in rt.alloc(); "{}/tg_files_{test}_{id}", temp.as_str())?)
+}
+
+/// Makes an empty folder at a path, also where there is one.
+fn make_empty(rt: &HostRuntime, path: &str) -> Result<(), Fail> {
+    if fs::exists(rt, path)? {
+        fs::remove_dir_all(rt, path)?;
     }
-    fs::create_dir(rt, path.as_str())?;
-    Ok(path)
+    fs::create_dir(rt, path)?;
+    Ok(())
 }
 
 /// The path of the system of a name in the folder at `top`.
@@ -561,23 +596,26 @@ const NAMES: &[(&str, Sort)] = &[
 /// What stands under one of the names: `sparse` is larger than 4 GiB, each folder holds one file, and each other file
 /// but `none` has the bytes `bytes`.
 fn make(rt: &HostRuntime, top: &str, name: &str, sort: Sort) -> Result<(), Fail> {
-    let path = inner(rt, top, name)?;
     match (sort, name) {
-        (Sort::Folder, _) => {
-            fs::create_dir(rt, path.as_str())?;
-            write(rt, path.as_str(), "file", b"within")
-        }
+        (Sort::Folder, _) => make_folder(rt, top, name),
         (Sort::File, "sparse") => write_sparse(rt, top, name),
         (Sort::File, "none") => write(rt, top, name, b""),
         (Sort::File, _) => write(rt, top, name, b"bytes"),
-        (_, "link") => link(rt, "other", path.as_str()),
-        _ => link(rt, top, path.as_str()),
+        (_, "link") => link(rt, "other", top, name),
+        _ => link(rt, top, top, name),
     }
 }
 
-/// A symbolic link at a path.
-fn link(rt: &HostRuntime, target: &str, path: &str) -> Result<(), Fail> {
-    symlink(rt, target, path)?;
+/// A folder of one file in the folder at `top`.
+fn make_folder(rt: &HostRuntime, top: &str, name: &str) -> Result<(), Fail> {
+    let path = inner(rt, top, name)?;
+    fs::create_dir(rt, path.as_str())?;
+    write(rt, path.as_str(), "file", b"within")
+}
+
+/// A symbolic link in the folder at `top`.
+fn link(rt: &HostRuntime, target: &str, top: &str, name: &str) -> Result<(), Fail> {
+    symlink(rt, target, inner(rt, top, name)?.as_str())?;
     Ok(())
 }
 
@@ -597,7 +635,7 @@ fn change(rt: &HostRuntime, top: &str) -> Result<(), Fail> {
     write(rt, top, "new", b"bytes")?;
     rename(rt, top, "new", "changes")?;
     rename(rt, top, "docs", "moved")?;
-    link(rt, "moved", inner(rt, top, "docs")?.as_str())
+    link(rt, "moved", top, "docs")
 }
 
 /// Gives what has one name in the folder at `top` another.
@@ -792,17 +830,52 @@ fn first_wrong(
     None
 }
 
+/// What was done to the folder at `top` before some of the rows.
+#[derive(Clone, Copy)]
+enum Stage {
+    Filled,
+    Changed,
+    LedOut,
+}
+
+const STAGES: &[Stage] = &[Stage::Filled, Stage::Changed, Stage::LedOut];
+
+/// The rows of a stage.
+fn rows_of(stage: Stage) -> &'static [Row] {
+    match stage {
+        Stage::Filled => LISTED,
+        Stage::Changed => CHANGED,
+        Stage::LedOut => LED_OUT,
+    }
+}
+
+/// Brings the folder at `top` to the next stage.
+fn bring_to(rt: &HostRuntime, top: &str, stage: Stage) -> Result<(), Fail> {
+    match stage {
+        Stage::Filled => fill(rt, top),
+        Stage::Changed => change(rt, top),
+        Stage::LedOut => rename(rt, top, "link", "docs"),
+    }
+}
+
+/// The first row of all stages that doesn't come to what it is to come to.
+fn first_wrong_of_all(rt: HostRuntime, top: &str) -> Result<Option<&'static str>, Fail> {
+    let mut folder = HostFolder::new(rt);
+    for stage in STAGES {
+        bring_to(&rt, top, *stage)?;
+        let wrong = first_wrong(rt.alloc(), &mut folder, top, rows_of(*stage));
+        if wrong.is_some() {
+            return Ok(wrong);
+        }
+    }
+    Ok(None)
+}
+
 #[test]
 fn a_folder_of_the_system_is_read_as_it_was_listed(rt: HostRuntime) -> Result<(), Fail> {
     let top = fresh_folder(&rt, "listed")?;
-    let top = top.as_str();
-    fill(&rt, top)?;
-    let mut folder = HostFolder::new(rt);
-    assert_eq!(rt; first_wrong(rt.alloc(), &mut folder, top, LISTED), None);
-    change(&rt, top)?;
-    assert_eq!(rt; first_wrong(rt.alloc(), &mut folder, top, CHANGED), None);
-    rename(&rt, top, "link", "docs")?;
-    assert_eq!(rt; first_wrong(rt.alloc(), &mut folder, top, LED_OUT), None);
-    fs::remove_dir_all(&rt, top)?;
+    let wrong = first_wrong_of_all(rt, top.as_str())?;
+    assert_eq!(rt; wrong, None);
+    fs::remove_dir_all(&rt, top.as_str())?;
     Ok(())
 }

@@ -147,13 +147,7 @@ enum Call<'a> {
 }
 
 /// Whether the pack at the path is taken.
-fn attaches<R: Files + Drop>(
-    alloc: Global,
-    pack: &mut HostPack<R>,
-    top: &str,
-    path: &str,
-    fresh: bool,
-) -> bool {
+fn attaches<P: Pack>(alloc: Global, pack: &mut P, top: &str, path: &str, fresh: bool) -> bool {
     match path_in(alloc, top, path) {
         Some(path) => pack.attach(path.as_str(), fresh).is_ok(),
         None => false,
@@ -161,9 +155,9 @@ fn attaches<R: Files + Drop>(
 }
 
 /// Whether the pack at the path is begun.
-fn begins<R: Files + Drop>(
+fn begins<P: Pack>(
     alloc: Global,
-    pack: &mut HostPack<R>,
+    pack: &mut P,
     top: &str,
     path: &str,
     head: &[u8],
@@ -183,13 +177,21 @@ fn writes<R: Files + Drop>(pack: &mut HostPack<R>, offset: u64, bytes: &[u8]) ->
 /// Whether the call is no fault, and gives what it is to give. The folder of the test is at `top`.
 fn works<R: Files + Drop>(alloc: Global, pack: &mut HostPack<R>, top: &str, call: Call) -> bool {
     match call {
+        Call::Write(offset, bytes) => writes(pack, offset, bytes),
+        Call::Count(count) => pack.count() == count,
+        _ => works_with_any(alloc, pack, top, call),
+    }
+}
+
+/// The same of a call that any pack takes, whether it tells its bytes or not.
+fn works_with_any<P: Pack>(alloc: Global, pack: &mut P, top: &str, call: Call) -> bool {
+    match call {
         Call::Attach(path, fresh) => attaches(alloc, pack, top, path, fresh),
         Call::Begin(path, head, body) => begins(alloc, pack, top, path, head, body),
         Call::Append(bytes) => adds(pack, bytes),
-        Call::Write(offset, bytes) => writes(pack, offset, bytes),
         Call::Size(size) => has_size(pack, size),
         Call::Read(offset, bytes) => reads(pack, offset, bytes),
-        Call::Count(count) => pack.count() == count,
+        Call::Write(..) | Call::Count(_) => false,
     }
 }
 
@@ -338,16 +340,21 @@ const ROWS: &[Row] = &[
     ("two more faults", Call::Count(10), true),
 ];
 
+/// The first row that doesn't come to what it is to come to.
+fn first_wrong(rt: HostRuntime, top: &str) -> Option<&'static str> {
+    let mut pack = HostPack::new(rt);
+    for (name, call, wanted) in ROWS {
+        if works(rt.alloc(), &mut pack, top, *call) != *wanted {
+            return Some(*name);
+        }
+    }
+    None
+}
+
 #[test]
 fn a_pack_of_the_system_is_kept(rt: HostRuntime) -> Result<(), Fail> {
     let top = fresh_folder(&rt, "pack")?;
-    let mut pack = HostPack::new(rt);
-    for (name, call, wanted) in ROWS {
-        assert!(rt;
-            works(rt.alloc(), &mut pack, top.as_str(), *call) == *wanted,
-            "{name}"
-        );
-    }
+    assert_eq!(rt; first_wrong(rt, top.as_str()), None);
     fs::remove_dir_all(&rt, top.as_str())?;
     Ok(())
 }

@@ -134,10 +134,18 @@ fn tells(head: &ReplyHead, told: &Told) -> bool {
         && is_value(&head.coding, coding)
 }
 
+/// Whether the head says what is wanted.
+fn is_wanted(head: &ReplyHead, wanted: &Wanted) -> bool {
+    match wanted {
+        Ok(Some(told)) => tells(head, told),
+        _ => false,
+    }
+}
+
 /// Whether this is read of the bytes.
 fn is_read(alloc: Global, bytes: &[u8], wanted: &Wanted) -> bool {
     match read_reply(alloc, bytes) {
-        Ok(Some(head)) => matches!(wanted, Ok(Some(told)) if tells(&head, told)),
+        Ok(Some(head)) => is_wanted(&head, wanted),
         Ok(None) => matches!(wanted, Ok(None)),
         Err(fault) => matches!(wanted, Err(want) if fault == *want),
     }

@@ -131,7 +131,10 @@ const REQUESTS: &[(&[u8], Wanted)] = &[
 
 /// Whether these are the values.
 fn are_values(values: &[Bytes], wanted: &[&[u8]]) -> bool {
-    for (value, want) in values.iter().zip(wanted) {
+    for (i, value) in values.iter().enumerate() {
+        let Some(want) = wanted.get(i) else {
+            return false;
+        };
         if value.as_slice() != *want {
             return false;
         }
@@ -151,10 +154,18 @@ fn tells(head: &RequestHead, told: &Told) -> bool {
         && are_values(head.accept.as_slice(), accept)
 }
 
+/// Whether the head says what is wanted.
+fn is_wanted(head: &RequestHead, wanted: &Wanted) -> bool {
+    match wanted {
+        Ok(Some(told)) => tells(head, told),
+        _ => false,
+    }
+}
+
 /// Whether this is read of the bytes.
 fn is_read(alloc: Global, bytes: &[u8], wanted: &Wanted) -> bool {
     match read_request(alloc, bytes) {
-        Ok(Some(head)) => matches!(wanted, Ok(Some(told)) if tells(&head, told)),
+        Ok(Some(head)) => is_wanted(&head, wanted),
         Ok(None) => matches!(wanted, Ok(None)),
         Err(fault) => matches!(wanted, Err(want) if fault == *want),
     }

@@ -100,10 +100,20 @@ fn two_files(alloc: Global, first: &[u8], second: &[u8]) -> Result<Tree, AllocEr
 type Found = Result<Made, FileFault>;
 
 /// What came of an import, and what is left.
-#[derive(Drop)]
+#[derive(Clone, Copy)]
 struct Imported {
     made: Found,
     left: Left,
+}
+
+/// How a file is imported: its chunk size and width, the calls that fail, and how many bytes the blocks have that are
+/// to be kept.
+#[derive(Clone, Copy)]
+struct How<'a> {
+    chunk: u32,
+    width: u32,
+    fails: Fails,
+    kept: &'a [u64],
 }
 
 /// Imports the file at a path with this writer.
@@ -119,51 +129,29 @@ fn made(
     writer.import(folder, path, log)
 }
 
-/// Imports the file at a path with this writer, and tells what is left.
-fn import_at(
-    mut writer: FileWriter,
-    mut folder: MemFolder,
-    mut log: NumberedLog,
-    path: &[Bytes],
-) -> Option<Imported>
-    requires ready { IsReady writer }
-    requires file { HasFileAt (Some folder.tree) path.now }
-{
-    let made = made(&mut writer, &mut folder, &mut log, path);
-    match Left::of(&folder, &log) {
-        Ok(left) => Some(Imported { made, left }),
-        Err(_) => None,
-    }
-}
-
-/// How a file is imported: its chunk size and width, and the calls that fail.
-#[derive(Clone, Copy)]
-struct How {
-    chunk: u32,
-    width: u32,
-    fails: Fails,
-}
-
 /// Imports the file at a path of a folder in chunks of this size, where these calls fail.
-fn import_with(alloc: Global, folder: MemFolder, path: &[Bytes], how: How) -> Option<Imported>
-    requires file { HasFileAt (Some folder.tree) path.now }
+fn import_with(
+    alloc: Global,
+    folder: &mut MemFolder,
+    path: &[Bytes],
+    how: How<'_>,
+) -> Option<Imported>
+    requires file { HasFileAt (Some folder.old.tree) path.now }
     requires chunk_low { 1 ≤ how.chunk }
     requires chunk_high { how.chunk ≤ 2097152 }
     requires width_low { 2 ≤ how.width }
     requires width_high { how.width ≤ 4096 }
 {
-    match (
-        log_of(alloc, how.fails.store),
-        FileWriter::new(alloc, how.chunk, how.width),
-    ) {
-        (Ok(log), Ok(writer)) => import_at(writer, folder, log, path),
-        _ => None,
-    }
+    let mut log = log_of(alloc, how.fails.store).ok()?;
+    let mut writer = FileWriter::new(alloc, how.chunk, how.width).ok()?;
+    let made = made(&mut writer, folder, &mut log, path);
+    let left = Left::of(folder, &log, how.kept);
+    Some(Imported { made, left })
 }
 
 /// Imports the file at a path of a tree. There is nothing where there is none, or the numbers are none of a layout,
 /// or for want of memory.
-fn import_from(alloc: Global, tree: Tree, path: &[Bytes], how: How) -> Option<Imported> {
+fn import_from(alloc: Global, tree: Tree, path: &[Bytes], how: How<'_>) -> Option<Imported> {
     if how.chunk < 1 || how.chunk > 2_097_152 || how.width < 2 || how.width > 4096 {
         return None;
     }
@@ -171,24 +159,23 @@ fn import_from(alloc: Global, tree: Tree, path: &[Bytes], how: How) -> Option<Im
         return None;
     }
     match folder_of(alloc, tree, how.fails.folder) {
-        Ok(folder) => import_with(alloc, folder, path, how),
+        Ok(mut folder) => import_with(alloc, &mut folder, path, how),
         Err(_) => None,
     }
 }
 
-/// Imports the file of a row, where these calls fail.
-fn import(alloc: Global, row: &Row<'_>, fails: Fails) -> Option<Imported> {
+/// Imports the file of a row, where these calls fail, and so many bytes are wanted of each block.
+fn import(alloc: Global, row: &Row<'_>, fails: Fails, kept: &[u64]) -> Option<Imported> {
     let how = How {
         chunk: row.chunk,
         width: row.width,
         fails,
+        kept,
     };
-    match (
-        path_of_entry(alloc, &[], b"first"),
-        two_files(alloc, row.bytes, b"other"),
-    ) {
-        (Ok(path), Ok(tree)) => import_from(alloc, tree, path.as_slice(), how),
-        _ => None,
+    let path = path_of_entry(alloc, &[], b"first").ok()?;
+    match two_files(alloc, row.bytes, b"other") {
+        Ok(tree) => import_from(alloc, tree, path.as_slice(), how),
+        Err(_) => None,
     }
 }
 
@@ -206,7 +193,7 @@ fn is_made(alloc: Global, made: &Found, root: &[u8], content: u64, tsize: u64) -
 
 /// Whether the file of a row is imported as it says.
 fn is_imported(alloc: Global, row: &Row<'_>) -> bool {
-    match import(alloc, row, NONE) {
+    match import(alloc, row, NONE, row.kept) {
         Some(done) => {
             is_made(
                 alloc,
@@ -215,7 +202,7 @@ fn is_imported(alloc: Global, row: &Row<'_>) -> bool {
                 row.bytes.len() as u64,
                 row.tsize,
             ) && done.left.failed(0, 0)
-                && done.left.kept(row.kept)
+                && done.left.kept
         }
         None => false,
     }
@@ -223,7 +210,7 @@ fn is_imported(alloc: Global, row: &Row<'_>) -> bool {
 
 /// Whether the read with this number stops the import where it fails.
 fn stops_at_read(alloc: Global, row: &Row<'_>, number: u64) -> bool {
-    match import(alloc, row, in_folder(number)) {
+    match import(alloc, row, in_folder(number), &[]) {
         Some(done) => done.made == Err(FileFault::Folder) && done.left.failed(1, 0),
         None => false,
     }
@@ -241,11 +228,10 @@ fn stops_at_reads(alloc: Global, row: &Row<'_>) -> bool {
 
 /// Whether the block with this number stops the import where it isn't kept, behind those before it.
 fn stops_at_block(alloc: Global, row: &Row<'_>, number: usize) -> bool {
-    match import(alloc, row, in_store(number as u64)) {
+    let kept = row.kept.get(..number).unwrap_or(&[]);
+    match import(alloc, row, in_store(number as u64), kept) {
         Some(done) => {
-            done.made == Err(FileFault::Keep)
-                && done.left.failed(0, 1)
-                && done.left.kept(row.kept.get(..number).unwrap_or(&[]))
+            done.made == Err(FileFault::Keep) && done.left.failed(0, 1) && done.left.kept
         }
         None => false,
     }
@@ -331,27 +317,19 @@ fn are_made(alloc: Global, both: &Result<(Made, Made), FileFault>) -> bool {
 /// Whether one writer imports two files of a folder, one after another, in chunks of 60,000 bytes.
 fn imports_both(
     alloc: Global,
-    mut folder: MemFolder,
-    mut log: NumberedLog,
+    folder: &mut MemFolder,
+    log: &mut NumberedLog,
     first: &[Bytes],
     second: &[Bytes],
 ) -> bool
-    requires first { HasFileAt (Some folder.tree) first.now }
-    requires second { HasFileAt (Some folder.tree) second.now }
+    requires first { HasFileAt (Some folder.old.tree) first.now }
+    requires second { HasFileAt (Some folder.old.tree) second.now }
 {
     match FileWriter::new(alloc, 60_000, 2) {
         Ok(mut writer) => {
-            let both = made_both(&mut writer, &mut folder, first, second, &mut log);
-            are_made(alloc, &both) && is_left(&folder, &log)
+            let both = made_both(&mut writer, folder, first, second, log);
+            are_made(alloc, &both) && Left::of(folder, log, &[60_000, 10_000, 106, 5]).kept
         }
-        Err(_) => false,
-    }
-}
-
-/// Whether the blocks of both were kept.
-fn is_left(folder: &MemFolder, log: &NumberedLog) -> bool {
-    match Left::of(folder, log) {
-        Ok(left) => left.kept(&[60_000, 10_000, 106, 5]),
         Err(_) => false,
     }
 }
@@ -362,7 +340,9 @@ fn imports_two(alloc: Global, tree: Tree, first: &[Bytes], second: &[Bytes]) -> 
         return false;
     }
     match (folder_of(alloc, tree, None), log_of(alloc, None)) {
-        (Ok(folder), Ok(log)) => imports_both(alloc, folder, log, first, second),
+        (Ok(mut folder), Ok(mut log)) => {
+            imports_both(alloc, &mut folder, &mut log, first, second)
+        }
         _ => false,
     }
 }

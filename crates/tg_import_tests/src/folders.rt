@@ -54,49 +54,60 @@ fn found(alloc: Global, folder: &mut MemFolder, log: &mut NumberedLog, shard: u6
     import(alloc, folder, log, options)
 }
 
-/// Imports the folder with this threshold, and tells what is left.
+/// Imports the folder with this threshold, and tells what is left, where so many bytes are wanted of each block.
 fn import_into(
     alloc: Global,
-    mut folder: MemFolder,
-    mut log: NumberedLog,
+    folder: &mut MemFolder,
+    log: &mut NumberedLog,
     shard: u64,
-) -> Option<Imported>
+    kept: &[u64],
+) -> Imported
     requires { shard ≤ 1048576 }
 {
-    let found = found(alloc, &mut folder, &mut log, shard);
-    match Left::of(&folder, &log) {
-        Ok(left) => Some(Imported { found, left }),
-        Err(_) => None,
+    let found = found(alloc, folder, log, shard);
+    Imported {
+        found,
+        left: Left::of(folder, log, kept),
     }
 }
 
 /// Imports the folder of a tree with this threshold, where these calls fail.
-fn import_from(alloc: Global, tree: Tree, shard: u64, fails: Fails) -> Option<Imported>
+fn import_from(
+    alloc: Global,
+    tree: Tree,
+    shard: u64,
+    fails: Fails,
+    kept: &[u64],
+) -> Option<Imported>
     requires names { IsFolderOfFiles tree }
     requires shard { shard ≤ 1048576 }
 {
-    match (
-        folder_of(alloc, tree, fails.folder),
-        log_of(alloc, fails.store),
-    ) {
-        (Ok(folder), Ok(log)) => import_into(alloc, folder, log, shard),
-        _ => None,
+    let mut folder = folder_of(alloc, tree, fails.folder).ok()?;
+    match log_of(alloc, fails.store) {
+        Ok(mut log) => Some(import_into(alloc, &mut folder, &mut log, shard, kept)),
+        Err(_) => None,
     }
 }
 
 /// Imports a tree with this threshold, where these calls fail. There is nothing where the tree is no folder whose
 /// names differ, or the threshold is too great, or for want of memory.
-fn import_tree(alloc: Global, tree: Tree, shard: u64, fails: Fails) -> Option<Imported> {
+fn import_tree(
+    alloc: Global,
+    tree: Tree,
+    shard: u64,
+    fails: Fails,
+    kept: &[u64],
+) -> Option<Imported> {
     if shard > 1_048_576 || !has_names(&tree) {
         return None;
     }
-    import_from(alloc, tree, shard, fails)
+    import_from(alloc, tree, shard, fails, kept)
 }
 
 /// Imports the worked folder with this threshold, where these calls fail.
-fn import_worked(alloc: Global, shard: u64, fails: Fails) -> Option<Imported> {
+fn import_worked(alloc: Global, shard: u64, fails: Fails, kept: &[u64]) -> Option<Imported> {
     match worked(alloc) {
-        Ok(tree) => import_tree(alloc, tree, shard, fails),
+        Ok(tree) => import_tree(alloc, tree, shard, fails, kept),
         Err(_) => None,
     }
 }
@@ -135,9 +146,9 @@ const ROWS: &[Row<'static>] = &[
 
 /// Whether the worked folder is imported as a row says.
 fn is_imported(alloc: Global, row: &Row<'_>) -> bool {
-    match import_worked(alloc, row.shard, NONE) {
+    match import_worked(alloc, row.shard, NONE, row.kept) {
         Some(done) => {
-            is_made(alloc, &done.found, row) && done.left.failed(0, 0) && done.left.kept(row.kept)
+            is_made(alloc, &done.found, row) && done.left.failed(0, 0) && done.left.kept
         }
         None => false,
     }
@@ -161,11 +172,12 @@ fn has_counts(summary: &Summary, row: &Row<'_>) -> bool {
 
 /// Whether the block with this number stops the import where it isn't kept, behind those before it.
 fn stops_at_block(alloc: Global, row: &Row<'_>, number: usize) -> bool {
-    match import_worked(alloc, row.shard, in_store(number as u64)) {
+    let kept = row.kept.get(..number).unwrap_or(&[]);
+    match import_worked(alloc, row.shard, in_store(number as u64), kept) {
         Some(done) => {
             is_so(alloc, &done.found, Want::Fault(b"KeepFault"))
                 && done.left.failed(0, 1)
-                && done.left.kept(row.kept.get(..number).unwrap_or(&[]))
+                && done.left.kept
         }
         None => false,
     }
@@ -183,7 +195,7 @@ fn stops_at_blocks(alloc: Global, row: &Row<'_>) -> bool {
 
 /// Whether the call of the folder with this number stops the import where it fails.
 fn stops_at_call(alloc: Global, row: &Row<'_>, number: u64) -> bool {
-    match import_worked(alloc, row.shard, in_folder(number)) {
+    match import_worked(alloc, row.shard, in_folder(number), &[]) {
         Some(done) => {
             is_so(alloc, &done.found, Want::Fault(b"FolderFault")) && done.left.failed(1, 0)
         }
@@ -366,10 +378,8 @@ fn ends_so(alloc: Global, odd: Odd, shard: u64, want: Want) -> bool {
 }
 
 fn tree_ends_so(alloc: Global, tree: Tree, shard: u64, want: Want) -> bool {
-    match import_tree(alloc, tree, shard, NONE) {
-        Some(done) => {
-            is_so(alloc, &done.found, want) && (done.found.is_ok() || done.left.kept(&[]))
-        }
+    match import_tree(alloc, tree, shard, NONE, &[]) {
+        Some(done) => { is_so(alloc, &done.found, want) && (done.found.is_ok() || done.left.kept) }
         None => false,
     }
 }

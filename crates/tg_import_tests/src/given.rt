@@ -90,33 +90,31 @@ fn numbers(alloc: Global, call: Option<u64>) -> Result<List<u64>, AllocError> {
     Ok(numbers)
 }
 
-/// What is left of an import: how often the folder failed and the store, and how many bytes the blocks have that were
-/// kept.
-#[derive(Drop)]
+/// What is left of an import: how often the folder failed and the store, and whether the blocks that were kept have
+/// the wanted numbers of bytes.
+#[derive(Clone, Copy)]
 pub struct Left {
     folder_faults: u64,
     store_faults: u64,
-    lengths: List<u64>,
+    pub kept: bool,
 }
 
 impl Left {
-    /// What the folder and the log tell.
-    pub fn of(folder: &MemFolder, log: &NumberedLog) -> Result<Left, AllocError> {
-        let lengths = log.lengths()?;
-        Ok(Left {
+    /// What the folder and the log tell, where blocks with so many bytes each are wanted.
+    pub fn of(folder: &MemFolder, log: &NumberedLog, wanted: &[u64]) -> Left {
+        let kept = match log.lengths() {
+            Ok(lengths) => lengths.as_slice() == wanted,
+            Err(_) => false,
+        };
+        Left {
             folder_faults: folder.count(),
             store_faults: log.faults(),
-            lengths,
-        })
+            kept,
+        }
     }
 
     /// Whether the folder failed so often, and the store so often.
     pub fn failed(&self, folder: u64, store: u64) -> bool {
         self.folder_faults == folder && self.store_faults == store
-    }
-
-    /// Whether blocks with so many bytes each were kept.
-    pub fn kept(&self, lengths: &[u64]) -> bool {
-        self.lengths.as_slice() == lengths
     }
 }
