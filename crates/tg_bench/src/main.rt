@@ -1,15 +1,12 @@
 //! Speeds of parts that no command shows on their own: `tg_bench name-hash`, `tg_bench table`, `tg_bench node`,
-//! `tg_bench dagpb`, `tg_bench unixfs`, `tg_bench body`, `tg_bench car` and `tg_bench pack FILE`. Without a word it
-//! does nothing, as `rt ci` runs it.
+//! `tg_bench dagpb`, `tg_bench unixfs` and `tg_bench body`. Without a word it does nothing, as `rt ci` runs it.
 #![tactic(auto)]
 
 mod body;
-mod car;
 mod codec;
 mod held;
 mod name_hash;
 mod node;
-mod pack;
 mod table;
 
 use std::{env, io};
@@ -27,11 +24,6 @@ fn main(rt: HostRuntime) -> io::Result<()> {
         "dagpb" => codec::run_nodes(&rt),
         "unixfs" => codec::run_unix(&rt),
         "body" => body::run(&rt),
-        "car" => car::run(&rt),
-        "pack" => match words.next() {
-            Some(path) => pack::run(&rt, path.as_str()),
-            None => Ok(()),
-        },
         _ => Ok(()),
     }
 }
