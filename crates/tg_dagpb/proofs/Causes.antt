@@ -1,13 +1,12 @@
 -- A text that is a node's has no cause of a fault, and a text has one.
-use Rattle.std.proofs.Common.{◌≡◌, ℕ, ◌≤◌, List, [], ◌∷◌, ◌++◌, length, sym, ap, ap₂, ◌∙◌, subst, inl, inr, arith, length-append}
+use Rattle.std.proofs.Common.{◌≡◌, ℕ, List, [], ◌∷◌, ◌++◌, sym, ap, ap₂, ◌∙◌, subst, inl, inr}
 use Rattle.std.specs.Prelude.{All, slice_range}
 use Rattle.std.proofs.lemmas.List.Elements.{All-nil, All-cons, All-head}
 use Rattle.tg_pbtable.specs.declared.table.Field.{Field}
 use Rattle.tg_pbtable.specs.declared.table.Value.TheVariants.{Place}
 use Rattle.tg_pbtable.specs.declared.table.Order.TheVariants.{Ascending, Runs}
 use Rattle.tg_pbtable.specs.declared.fault.PbFault.{PbFault}
-use Rattle.tg_pbtable.specs.declared.fault.PbFault.TheVariants as faults
-use Rattle.tg_pbtable.specs.Faults.{HasCause}
+use Rattle.tg_pbtable.specs.Faults.{HasCause, moved_by}
 use Rattle.tg_pbtable.specs.Values.{bytes_at}
 use Rattle.tg_pbtable.specs.Laws.{TableLaws}
 use Rattle.tg_bytes.specs.Lists.{All-split}
@@ -15,8 +14,8 @@ use Rattle.tg_dagpb.specs.declared.TheConstants.{NODE, LINK}
 use Rattle.tg_dagpb.specs.declared.Link.{Link}
 use Rattle.tg_dagpb.specs.declared.Node.{Node}
 use Rattle.tg_dagpb.specs.Node.{LinkText, LinkTexts, NodeText}
-use Rattle.tg_dagpb.specs.Faults.{IsLinkText, HasBadLink, HasNodeCause, moved_by}
-use Rattle.tg_dagpb.specs.Reading.{place_of, placed}
+use Rattle.tg_dagpb.specs.Faults.{IsLinkText, HasBadLink, HasNodeCause}
+use Rattle.tg_dagpb.specs.Reading.{placed}
 use Rattle.tg_dagpb.proofs.Parts.{node_table, link_table}
 
 -- ---- links
@@ -106,18 +105,3 @@ one_node_cause laws text a b p q = elim p [
     | inr other ↦ one_bad laws text a b bad other
   ]
 ]
-
--- ---- the place of a fault lies in its text
-
-first_inside : (rest : List ℕ) (text front : List ℕ) (at : ℕ) → text ≡ front ++ rest → at ≡ length front → at ≤ length text
-first_inside rest text front at w e = omega (arith, ap length w, length-append front rest)
-
-pub place_inside : (text : List ℕ) (fault : PbFault) → HasCause LINK.now Ascending text fault → place_of fault ≤ length text
-place_inside text (faults.Short at) h = first_inside h.rest text h.begins.front at h.begins.whole h.begins.at_is
-place_inside text (faults.BadVarint at) h = first_inside h.rest text h.begins.front at h.begins.whole h.begins.at_is
-place_inside text (faults.Unknown at number) h = first_inside h.rest text h.begins.front at h.begins.whole h.begins.at_is
-place_inside text (faults.WrongWire at) h = first_inside h.rest text h.begins.front at h.begins.whole h.begins.at_is
-place_inside text (faults.OutOfOrder at) h = first_inside h.rest text h.begins.front at h.begins.whole h.begins.at_is
-place_inside text (faults.Doubled at) h = first_inside h.rest text h.begins.front at h.begins.whole h.begins.at_is
-place_inside text (faults.Missing number) h = omega arith
-place_inside text faults.OutOfMemory h = omega arith

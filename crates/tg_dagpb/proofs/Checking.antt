@@ -1,17 +1,22 @@
 -- What is known of a block as its fields are read one after another.
-use Rattle.std.proofs.Common.{◌≡◌, ℕ, ◌≤◌, true, false, Option, Some, None, Result, Ok, Err, List, [], ◌∷◌, ◌++◌, refl, sym, ap, ◌∙◌, append_assoc, subst, arith}
+use Rattle.std.proofs.Common.{◌≡◌, ℕ, ◌≤◌, true, false, Option, Some, None, Result, Ok, Err, List, [], ◌∷◌, ◌++◌, refl, sym, ap, ap₂, ◌∙◌, append_assoc, subst, arith}
 use Rattle.std.specs.Prelude.{All, slice_range, MatchOption, MatchResult, is_some}
 use Rattle.std.specs.Result.{result_ok, result_err}
-use Rattle.std.proofs.lemmas.List.Elements.{All-nil, All-cons, All-head, All-tail, All-append}
+use Rattle.std.proofs.lemmas.List.Elements.{All-nil, All-cons, All-head, All-tail, All-append, All-contains, Contains-append_right}
 use Rattle.tg_pbtable.specs.declared.table.Field.{Field}
 use Rattle.tg_pbtable.specs.declared.table.Order.TheVariants.{Runs}
 use Rattle.tg_pbtable.specs.declared.fault.PbFault.{PbFault}
-use Rattle.tg_pbtable.specs.Message.{Message, count_of}
+use Rattle.tg_pbtable.specs.declared.table.Rule.{Rule}
+use Rattle.tg_pbtable.specs.declared.table.Wire.{Wire}
+use Rattle.tg_pbtable.specs.declared.table.Wire.TheVariants.{Bytes}
+use Rattle.tg_pbtable.specs.declared.table.Value.{Value}
+use Rattle.tg_pbtable.specs.declared.table.Value.TheVariants.{Place}
+use Rattle.tg_pbtable.specs.Message.{Message, IsOfWire, IsRuledField, AreRuled, count_of}
 use Rattle.tg_pbtable.specs.Values.{bytes_at, later}
 use Rattle.tg_pbtable.specs.Place.{placed_bytes}
-use Rattle.tg_pbtable.specs.declared.table.Place.{Place}
+use Rattle.tg_pbtable.specs.declared.table.Place as places
 use Rattle.tg_pbtable.specs.Laws.{TableLaws}
-use Rattle.tg_pbtable.specs.TableRules.{any_rule}
+use Rattle.tg_pbtable.specs.TableRules.{any_rule, place_wire}
 use Rattle.tg_dagpb.specs.declared.TheConstants.{NODE}
 use Rattle.tg_dagpb.specs.declared.Link.{Link}
 use Rattle.tg_dagpb.specs.declared.LinkPlaces.{LinkPlaces}
@@ -22,6 +27,19 @@ use Rattle.tg_dagpb.specs.Faults.{IsLinkText, HasBadLink}
 use Rattle.tg_dagpb.specs.Reading.{placed, IsLinkBetween, IsBadPlace, IsBadField, HasFirstBad, IsVerdict}
 use Rattle.tg_dagpb.proofs.Causes.{link_has_none}
 use Rattle.tg_dagpb.proofs.Same.{one_node}
+
+-- ---- one field
+
+-- bytes of number 2 are a link's
+pub placed_is : (f : Field) (start end : ℕ) → IsOfWire f.wire f.value → f.number ≡ 2 → f.value ≡ Place start end → f ≡ placed start end
+placed_is f start end wire is e =
+    let bytes : f.wire ≡ Bytes = place_wire f.wire start end (subst (λ (v : Value). IsOfWire f.wire v) e wire) in
+    ap₂ (λ (n : ℕ) (v : Value). let x : Field = record { number = n; wire = f.wire; value = v } in x) is e
+    ∙ ap (λ (w : Wire). let x : Field = record { number = 2; wire = w; value = Place start end } in x) bytes
+
+-- the last of fields under rules has a value of its wire type
+pub last_wire : (rules : List Rule) (fs : List Field) (f : Field) → AreRuled rules (fs ++ f ∷ []) → IsOfWire f.wire f.value
+last_wire rules fs f h = (All-contains (IsRuledField rules) (fs ++ f ∷ []) f h (Contains-append_right fs (f ∷ []) f (0, omega arith, refl))).of_wire
 
 -- ---- the verdict on one field more
 
@@ -74,7 +92,7 @@ pub payload_more : (laws : TableLaws) → (text : List ℕ) (fs : List Field) (f
 payload_more laws text fs f old new p q =
     laws.last_bytes.later_more None old new (bytes_at text 1 fs) (bytes_at text 1 (f ∷ [])) (bytes_at text 1 (fs ++ f ∷ [])) (laws.values.bytes_append text 1 fs (f ∷ [])) p q
 
-pub payload_there : (laws : TableLaws) → (text : List ℕ) (fs : List Field) (place : Option Place) → Message NODE.now Runs text fs → All IsLinkText (bytes_at text 2 fs) → placed_bytes text place ≡ later None (bytes_at text 1 fs)
+pub payload_there : (laws : TableLaws) → (text : List ℕ) (fs : List Field) (place : Option places.Place) → Message NODE.now Runs text fs → All IsLinkText (bytes_at text 2 fs) → placed_bytes text place ≡ later None (bytes_at text 1 fs)
     → HasPayloadAt text place
 payload_there laws text fs place m all e =
     let one : count_of fs 1 ≤ 1 = m.counts 0 any_rule (omega arith) in
@@ -89,7 +107,7 @@ payload_there laws text fs place m all e =
       payload_is = refl;
     }
 
-pub payload_only : (laws : TableLaws) → (text : List ℕ) (place : Option Place) (h : HasPayloadAt text place) (node : Node) → NodeText node text → placed_bytes text place ≡ node.payload
+pub payload_only : (laws : TableLaws) → (text : List ℕ) (place : Option places.Place) (h : HasPayloadAt text place) (node : Node) → NodeText node text → placed_bytes text place ≡ node.payload
 payload_only laws text place h node p = h.payload_is ∙ ap (λ (n : Node). n.payload) (one_node laws text h.node node h.is_text p)
 
 pub bad_link_there : (text : List ℕ) (fs : List Field) (fault : PbFault) → Message NODE.now Runs text fs → HasFirstBad text fs fault → HasBadLink text fault

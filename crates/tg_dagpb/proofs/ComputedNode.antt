@@ -9,8 +9,8 @@ use Rattle.tg_pbtable.specs.declared.table.Order.TheVariants.{Ascending, Runs}
 use Rattle.tg_pbtable.specs.declared.table.Value.{Value}
 use Rattle.tg_pbtable.specs.declared.table.Value.TheVariants.{Number, Place}
 use Rattle.tg_pbtable.specs.declared.fault.PbFault.{PbFault}
-use Rattle.tg_pbtable.specs.Message.{Message, count_of}
-use Rattle.tg_pbtable.specs.Faults.{HasCause}
+use Rattle.tg_pbtable.specs.Message.{Message, IsOfWire, IsRuledField, AreRuled, count_of}
+use Rattle.tg_pbtable.specs.Faults.{HasCause, moved_by}
 use Rattle.tg_pbtable.specs.Values.{numbers_at, bytes_at, bytes_in, listed}
 use Rattle.tg_pbtable.specs.Computed.{fields_of, and_then, first_of}
 use Rattle.tg_pbtable.specs.Laws.{TableLaws}
@@ -19,10 +19,10 @@ use Rattle.tg_dagpb.specs.declared.TheConstants.{NODE, LINK}
 use Rattle.tg_dagpb.specs.declared.Link.{Link}
 use Rattle.tg_dagpb.specs.declared.Node.{Node}
 use Rattle.tg_dagpb.specs.Node.{LinkText, HasLinkParts, LinkTexts, NodeText}
-use Rattle.tg_dagpb.specs.Faults.{moved_by, IsLinkText, HasNodeCause}
+use Rattle.tg_dagpb.specs.Faults.{IsLinkText, HasNodeCause}
 use Rattle.tg_dagpb.specs.Reading.{placed, HasFirstBad}
 use Rattle.tg_dagpb.specs.Computed.{link_parts, link_in, moved_to, with_link, links_in, with_links, with_fields, node_of}
-use Rattle.tg_dagpb.proofs.Checking.{bad_link_there}
+use Rattle.tg_dagpb.proofs.Checking.{placed_is, bad_link_there}
 use Rattle.tg_dagpb.proofs.Parts.{node_table, link_table}
 
 -- ---- a link
@@ -118,9 +118,6 @@ number_bytes laws text f n is e = laws.values.bytes_here text 2 f [] is ∙ ap (
 place_bytes : (laws : TableLaws) → (text : List ℕ) (f : Field) (start end : ℕ) → f.number ≡ 2 → f.value ≡ Place start end → bytes_at text 2 (f ∷ []) ≡ slice_range text start end ∷ []
 place_bytes laws text f start end is e = laws.values.bytes_here text 2 f [] is ∙ ap (λ (v : Value). bytes_in text v ++ []) e
 
-placed_is : (f : Field) (start end : ℕ) → f.number ≡ 2 → f.value ≡ Place start end → f ≡ placed start end
-placed_is f start end is e = ap₂ (λ (n : ℕ) (v : Value). let x : Field = record { number = n; value = v } in x) is e
-
 link_step : (laws : TableLaws) → (text : List ℕ) (f : Field) (fs : List Field) (start end : ℕ) (q : Result Link PbFault) (r : Result (List Link) PbFault) → f ≡ placed start end → bytes_at text 2 (f ∷ []) ≡ slice_range text start end ∷ []
     → LinkTold (slice_range text start end) q → LinksTold text fs r → LinksTold text (f ∷ fs) (and_then (moved_to start q) (λ link. and_then r (λ links. Ok (link ∷ links))))
 link_step laws text f fs start end (Ok link) (Ok links) is one h k = subst (λ (ts : List (List ℕ)). LinkTexts (link ∷ links) ts) (sym (taken laws text f fs (slice_range text start end) one)) (h, k)
@@ -136,17 +133,17 @@ link_step laws text f fs start end (Err e) r is one h k = record {
   bad = record { cause = e; cause_is = h; fault_is = refl };
 }
 
-here_told : (laws : TableLaws) → (text : List ℕ) (f : Field) (fs : List Field) (v : Value) (r : Result (List Link) PbFault) → AreBytes text → f.number ≡ 2 → f.value ≡ v → LinksTold text fs r → LinksTold text (f ∷ fs) (with_link text v r)
-here_told laws text f fs (Number n) r are is e h = skip_told laws text f fs r (number_bytes laws text f n is e) h
-here_told laws text f fs (Place start end) r are is e h =
-    link_step laws text f fs start end (link_in (slice_range text start end)) r (placed_is f start end is e) (place_bytes laws text f start end is e)
+here_told : (laws : TableLaws) → (text : List ℕ) (f : Field) (fs : List Field) (v : Value) (r : Result (List Link) PbFault) → AreBytes text → IsOfWire f.wire f.value → f.number ≡ 2 → f.value ≡ v → LinksTold text fs r → LinksTold text (f ∷ fs) (with_link text v r)
+here_told laws text f fs (Number n) r are wire is e h = skip_told laws text f fs r (number_bytes laws text f n is e) h
+here_told laws text f fs (Place start end) r are wire is e h =
+    link_step laws text f fs start end (link_in (slice_range text start end)) r (placed_is f start end wire is e) (place_bytes laws text f start end is e)
     (link_told laws (slice_range text start end) (range_bytes text start end are)) h
 
-links_told : (laws : TableLaws) → (text : List ℕ) (fields : List Field) → AreBytes text → LinksTold text fields (links_in text fields)
-links_told laws text [] are = tt
-links_told laws text (f ∷ fs) are = elim (cases_eq f.number 2) [
-  | inl is ↦ subst (λ (r : Result (List Link) PbFault). LinksTold text (f ∷ fs) r) (sym (links_here text f fs is)) (here_told laws text f fs f.value (links_in text fs) are is refl (links_told laws text fs are))
-  | inr other ↦ subst (λ (r : Result (List Link) PbFault). LinksTold text (f ∷ fs) r) (sym (links_other text f fs other)) (skip_told laws text f fs (links_in text fs) (laws.values.bytes_other text 2 f [] other) (links_told laws text fs are))
+links_told : (laws : TableLaws) → (text : List ℕ) (fields : List Field) → AreBytes text → AreRuled NODE.now fields → LinksTold text fields (links_in text fields)
+links_told laws text [] are ruled = tt
+links_told laws text (f ∷ fs) are ruled = elim (cases_eq f.number 2) [
+  | inl is ↦ subst (λ (r : Result (List Link) PbFault). LinksTold text (f ∷ fs) r) (sym (links_here text f fs is)) (here_told laws text f fs f.value (links_in text fs) are (All-head (IsRuledField NODE.now) f fs ruled).of_wire is refl (links_told laws text fs are (All-tail (IsRuledField NODE.now) f fs ruled)))
+  | inr other ↦ subst (λ (r : Result (List Link) PbFault). LinksTold text (f ∷ fs) r) (sym (links_other text f fs other)) (skip_told laws text f fs (links_in text fs) (laws.values.bytes_other text 2 f [] other) (links_told laws text fs are (All-tail (IsRuledField NODE.now) f fs ruled)))
 ]
 
 -- ---- what the links of fields compute to
@@ -214,7 +211,8 @@ with_links_told laws text fields (Err e) m h = inr (bad_link_there text fields e
 
 with_fields_told : (laws : TableLaws) → (text : List ℕ) (r : Result (List Field) PbFault) → AreBytes text → fields_of NODE.now Runs text ≡ r → NodeTold text (with_fields text r)
 with_fields_told laws text (Ok fields) are e =
-    with_links_told laws text fields (links_in text fields) ((laws.messages.computed NODE.now Runs text fields (node_table laws) are).0 e) (links_told laws text fields are)
+    let m = (laws.messages.computed NODE.now Runs text fields (node_table laws) are).0 e in
+    with_links_told laws text fields (links_in text fields) m (links_told laws text fields are m.ruled)
 with_fields_told laws text (Err fault) are e = inl ((laws.messages.computed_fault NODE.now Runs text fault (node_table laws) are).0 e)
 
 node_told : (laws : TableLaws) → (text : List ℕ) → AreBytes text → NodeTold text (node_of text)

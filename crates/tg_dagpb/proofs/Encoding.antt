@@ -10,7 +10,7 @@ use Rattle.tg_pbtable.specs.declared.table.Wire.TheVariants.{Varint, Bytes}
 use Rattle.tg_pbtable.specs.declared.table.Field.{Field}
 use Rattle.tg_pbtable.specs.declared.table.Value.TheVariants.{Number, Place}
 use Rattle.tg_pbtable.specs.declared.table.Order.TheVariants.{Ascending, Runs}
-use Rattle.tg_pbtable.specs.Message.{HasRule, AreRuled, IsCount, count_of, numbers_of, wire_of}
+use Rattle.tg_pbtable.specs.Message.{HasRule, IsRuledField, AreRuled, IsCount, count_of, numbers_of}
 use Rattle.tg_pbtable.specs.Emitted.{AreSameFields, HeadSpelling, BytesSpelling, FieldTexts, Puts, IsSizeOf}
 use Rattle.tg_pbtable.specs.Values.{number_in, bytes_in, numbers_at, bytes_at, listed}
 use Rattle.tg_pbtable.specs.Laws.{TableLaws}
@@ -30,19 +30,19 @@ use Rattle.tg_dagpb.proofs.Gathering.{texts_append}
 -- the fields of one number whose bytes lie one behind another from `at` on
 abbrev spans : ℕ → ℕ → List (List ℕ) → List Field
 spans number at [] = []
-spans number at (text ∷ texts) = record { number = number; value = Place at (at + length text) } ∷ spans number (at + length text) texts
+spans number at (text ∷ texts) = record { number = number; wire = Bytes; value = Place at (at + length text) } ∷ spans number (at + length text) texts
 
 spans_number : (n at : ℕ) (texts : List (List ℕ)) → All (λ (f : Field). f.number ≡ n) (spans n at texts)
 spans_number n at [] = All-nil (λ (f : Field). f.number ≡ n)
-spans_number n at (t ∷ ts) = All-cons (λ (f : Field). f.number ≡ n) (record { number = n; value = Place at (at + length t) }) (spans n (at + length t) ts) refl (spans_number n (at + length t) ts)
+spans_number n at (t ∷ ts) = All-cons (λ (f : Field). f.number ≡ n) (record { number = n; wire = Bytes; value = Place at (at + length t) }) (spans n (at + length t) ts) refl (spans_number n (at + length t) ts)
 
 spans_places : (n at : ℕ) (texts : List (List ℕ)) → All (λ (f : Field). number_in f.value ≡ []) (spans n at texts)
 spans_places n at [] = All-nil (λ (f : Field). number_in f.value ≡ [])
-spans_places n at (t ∷ ts) = All-cons (λ (f : Field). number_in f.value ≡ []) (record { number = n; value = Place at (at + length t) }) (spans n (at + length t) ts) refl (spans_places n (at + length t) ts)
+spans_places n at (t ∷ ts) = All-cons (λ (f : Field). number_in f.value ≡ []) (record { number = n; wire = Bytes; value = Place at (at + length t) }) (spans n (at + length t) ts) refl (spans_places n (at + length t) ts)
 
 spans_ruled : (rules : List Rule) (n at : ℕ) (texts : List (List ℕ)) → HasRule rules n Bytes → AreRuled rules (spans n at texts)
-spans_ruled rules n at [] h = All-nil (λ (f : Field). HasRule rules f.number (wire_of f.value))
-spans_ruled rules n at (t ∷ ts) h = All-cons (λ (f : Field). HasRule rules f.number (wire_of f.value)) (record { number = n; value = Place at (at + length t) }) (spans n (at + length t) ts) h (spans_ruled rules n (at + length t) ts h)
+spans_ruled rules n at [] h = All-nil (IsRuledField rules)
+spans_ruled rules n at (t ∷ ts) h = All-cons (IsRuledField rules) (record { number = n; wire = Bytes; value = Place at (at + length t) }) (spans n (at + length t) ts) (record { has_rule = h; of_wire = tt }) (spans_ruled rules n (at + length t) ts h)
 
 spans_none : (laws : TableLaws) → (k n at : ℕ) (texts : List (List ℕ)) → numbers_at k (spans n at texts) ≡ []
 spans_none laws k n at texts = laws.values.no_numbers k (spans n at texts) (λ i d l e. spans_places n at texts i d l)
@@ -56,7 +56,7 @@ spans_bytes laws source front n at (t ∷ ts) back w e =
     let whole : source ≡ front ++ (t ++ (joined ts ++ back)) = w ∙ ap (λ (x : List ℕ). front ++ x) (append_assoc t (joined ts) back) in
     let here : slice_range source at (at + length t) ≡ t = ap (λ (x : List ℕ). slice_range x at (at + length t)) whole ∙ between front t (joined ts ++ back) at (at + length t) e refl in
     let rest = spans_bytes laws source (front ++ t) n (at + length t) ts back (whole ∙ sym (append_assoc front t (joined ts ++ back))) (omega (arith, length-append front t)) in
-    laws.values.bytes_here source n (record { number = n; value = Place at (at + length t) }) (spans n (at + length t) ts) refl
+    laws.values.bytes_here source n (record { number = n; wire = Bytes; value = Place at (at + length t) }) (spans n (at + length t) ts) refl
     ∙ ap₂ (λ (x : List ℕ) (xs : List (List ℕ)). x ∷ xs) here rest
 
 spans_texts : (source front : List ℕ) (n at : ℕ) (texts : List (List ℕ)) (back bytes : List ℕ) → source ≡ front ++ (joined texts ++ back) → at ≡ length front → BytesTexts n texts bytes → FieldTexts source (spans n at texts) bytes
@@ -72,26 +72,26 @@ spans_texts source front n at (t ∷ ts) back bytes w e h =
 -- the fields of one number with these numbers
 abbrev sizes : ℕ → List ℕ → List Field
 sizes number [] = []
-sizes number (value ∷ values) = record { number = number; value = Number value } ∷ sizes number values
+sizes number (value ∷ values) = record { number = number; wire = Varint; value = Number value } ∷ sizes number values
 
 sizes_texts : (source : List ℕ) (n : ℕ) (values bytes : List ℕ) → NumberTexts n values bytes → FieldTexts source (sizes n values) bytes
 sizes_texts source n [] bytes h = h
 sizes_texts source n (v ∷ vs) bytes h = (h.0, h.1, h.2, h.3, sizes_texts source n vs h.1 h.4)
 
 sizes_ruled : (rules : List Rule) (n : ℕ) (values : List ℕ) → HasRule rules n Varint → AreRuled rules (sizes n values)
-sizes_ruled rules n [] h = All-nil (λ (f : Field). HasRule rules f.number (wire_of f.value))
-sizes_ruled rules n (v ∷ vs) h = All-cons (λ (f : Field). HasRule rules f.number (wire_of f.value)) (record { number = n; value = Number v }) (sizes n vs) h (sizes_ruled rules n vs h)
+sizes_ruled rules n [] h = All-nil (IsRuledField rules)
+sizes_ruled rules n (v ∷ vs) h = All-cons (IsRuledField rules) (record { number = n; wire = Varint; value = Number v }) (sizes n vs) (record { has_rule = h; of_wire = tt }) (sizes_ruled rules n vs h)
 
 sizes_empty : (source : List ℕ) (n : ℕ) (values : List ℕ) → All (λ (f : Field). bytes_in source f.value ≡ []) (sizes n values)
 sizes_empty source n [] = All-nil (λ (f : Field). bytes_in source f.value ≡ [])
-sizes_empty source n (v ∷ vs) = All-cons (λ (f : Field). bytes_in source f.value ≡ []) (record { number = n; value = Number v }) (sizes n vs) refl (sizes_empty source n vs)
+sizes_empty source n (v ∷ vs) = All-cons (λ (f : Field). bytes_in source f.value ≡ []) (record { number = n; wire = Varint; value = Number v }) (sizes n vs) refl (sizes_empty source n vs)
 
 sizes_none : (laws : TableLaws) → (source : List ℕ) (k n : ℕ) (values : List ℕ) → bytes_at source k (sizes n values) ≡ []
 sizes_none laws source k n values = laws.values.no_bytes source k (sizes n values) (λ i d l e. sizes_empty source n values i d l)
 
 sizes_values : (laws : TableLaws) → (n : ℕ) (values : List ℕ) → numbers_at n (sizes n values) ≡ values
 sizes_values laws n [] = refl
-sizes_values laws n (v ∷ vs) = laws.values.numbers_here n (record { number = n; value = Number v }) (sizes n vs) refl ∙ ap (λ (xs : List ℕ). v ∷ xs) (sizes_values laws n vs)
+sizes_values laws n (v ∷ vs) = laws.values.numbers_here n (record { number = n; wire = Varint; value = Number v }) (sizes n vs) refl ∙ ap (λ (xs : List ℕ). v ∷ xs) (sizes_values laws n vs)
 
 -- ---- the fields of a link
 
@@ -134,7 +134,7 @@ link_parts laws link =
 
 link_ruled : (link : Link) → AreRuled LINK.now (link_fields link)
 link_ruled link =
-    let P = λ (f : Field). HasRule LINK.now f.number (wire_of f.value) in
+    let P = IsRuledField LINK.now in
     let hash = joined (link.hash ∷ []) in
     let xs = spans 1 0 (link.hash ∷ []) in
     let ys = spans 2 (length hash) (listed link.name) in
@@ -219,7 +219,7 @@ node_parts laws node texts h =
 
 node_ruled : (texts : List (List ℕ)) (payload : Option (List ℕ)) → AreRuled NODE.now (node_fields texts payload)
 node_ruled texts payload =
-    All-append (λ (f : Field). HasRule NODE.now f.number (wire_of f.value)) (spans 2 0 texts) (spans 1 (length (joined texts)) (listed payload))
+    All-append (IsRuledField NODE.now) (spans 2 0 texts) (spans 1 (length (joined texts)) (listed payload))
     (spans_ruled NODE.now 2 0 texts (rule_at NODE.now 1 (omega arith))) (spans_ruled NODE.now 1 (length (joined texts)) (listed payload) (rule_at NODE.now 0 (omega arith)))
 
 node_counts : (laws : TableLaws) → (node : Node) (texts : List (List ℕ)) → LinkTexts node.links texts → (k : ℕ) (d : Rule) → k < 2 → IsCount (get_or NODE.now k d).times (count_of (node_fields texts node.payload) (get_or NODE.now k d).number)
@@ -245,14 +245,14 @@ same_number n s t [] (g ∷ gs) same h = absurd same
 same_number n s t (f ∷ fs) [] same h = absurd same
 same_number n s t (f ∷ fs) (g ∷ gs) same h =
     let P = λ (x : Field). x.number ≡ n in
-    All-cons P g gs (sym same.0 ∙ All-head P f fs h) (same_number n s t fs gs same.2 (All-tail P f fs h))
+    All-cons P g gs (sym same.0 ∙ All-head P f fs h) (same_number n s t fs gs same.3 (All-tail P f fs h))
 
 same_halves : (m n : ℕ) (s t : List ℕ) (front rest gs : List Field) → AreSameFields s (front ++ rest) t gs → All (λ (f : Field). f.number ≡ m) front → All (λ (f : Field). f.number ≡ n) rest → Halves m n gs
 same_halves m n s t [] rest gs same a b = record { front = []; rest = gs; whole = refl; are_first = a; are_last = same_number n s t rest gs same b }
 same_halves m n s t (f ∷ front) rest [] same a b = absurd same
 same_halves m n s t (f ∷ front) rest (g ∷ gs) same a b =
     let P = λ (x : Field). x.number ≡ m in
-    longer m n g gs (sym same.0 ∙ All-head P f front a) (same_halves m n s t front rest gs same.2 (All-tail P f front a) b)
+    longer m n g gs (sym same.0 ∙ All-head P f front a) (same_halves m n s t front rest gs same.3 (All-tail P f front a) b)
 
 -- the text of links is put
 pub record HasLinks (links : List Link) (text : List ℕ) : Type 0 where

@@ -54,13 +54,13 @@ texts_append (a ∷ ls) ms (x ∷ xs) ys p q = (p.0, texts_append ls ms xs ys p.
 pub hash_put : (text : List ℕ) (f : Field) (from to : ℕ) (old : Link) (hash : List ℕ) → f.number ≡ 1 → f.value ≡ Place from to → hash ≡ slice_range text from to
     → GathersLink text (f ∷ []) old (record { hash = hash; name = old.name; tsize = old.tsize })
 hash_put text f from to old hash is place e =
-    let field : f ≡ record { number = 1; value = Place from to } = ap₂ (λ (n : ℕ) (v : Value). let x : Field = record { number = n; value = v } in x) is place in
+    let field : f ≡ record { number = 1; wire = f.wire; value = Place from to } = ap₂ (λ (n : ℕ) (v : Value). let x : Field = record { number = n; wire = f.wire; value = v } in x) is place in
     subst (λ (g : Field). GathersLink text (g ∷ []) old (record { hash = hash; name = old.name; tsize = old.tsize })) (sym field)
     (record { hash = ap (λ (t : List ℕ). Some t) e; name = refl; tsize = refl })
 
 pub name_put : (text : List ℕ) (f : Field) (from to : ℕ) (old : Link) (name : List ℕ) → f.number ≡ 2 → f.value ≡ Place from to → name ≡ slice_range text from to
     → GathersLink text (f ∷ []) old (record { hash = old.hash; name = Some name; tsize = old.tsize })
 name_put text f from to old name is place e =
-    let field : f ≡ record { number = 2; value = Place from to } = ap₂ (λ (n : ℕ) (v : Value). let x : Field = record { number = n; value = v } in x) is place in
+    let field : f ≡ record { number = 2; wire = f.wire; value = Place from to } = ap₂ (λ (n : ℕ) (v : Value). let x : Field = record { number = n; wire = f.wire; value = v } in x) is place in
     subst (λ (g : Field). GathersLink text (g ∷ []) old (record { hash = old.hash; name = Some name; tsize = old.tsize })) (sym field)
     (record { hash = refl; name = ap (λ (t : List ℕ). Some t) e; tsize = refl })

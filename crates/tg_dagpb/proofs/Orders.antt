@@ -9,7 +9,7 @@ use Rattle.tg_pbtable.specs.declared.table.Field.{Field}
 use Rattle.tg_pbtable.specs.declared.table.Wire.TheVariants.{Bytes}
 use Rattle.tg_pbtable.specs.declared.table.Order.TheVariants.{Runs}
 use Rattle.tg_pbtable.specs.declared.table.Rule.{Rule}
-use Rattle.tg_pbtable.specs.Message.{HasRule, AreRuled, StandTogether, count_of, numbers_of, wire_of}
+use Rattle.tg_pbtable.specs.Message.{HasRule, IsRuledField, AreRuled, StandTogether, count_of, numbers_of}
 use Rattle.tg_pbtable.specs.Values.{bytes_at}
 use Rattle.tg_pbtable.specs.Laws.{TableLaws}
 use Rattle.tg_pbtable.specs.TableRules.{rule_at}
@@ -142,7 +142,7 @@ halves_bytes laws text m n fs h ne = (
 pub halves_values : (laws : TableLaws) → (text : List ℕ) (m n : ℕ) (fs : List Field) (h : Halves m n fs) → m ≢ n → HasRule NODE.now m Bytes → HasRule NODE.now n Bytes → AreRuled NODE.now fs
     → numbers_of fs ≡ replicate (length (bytes_at text m fs)) m ++ replicate (length (bytes_at text n fs)) n
 halves_values laws text m n fs h ne rm rn ruled =
-    let P = λ (x : Field). HasRule NODE.now x.number (wire_of x.value) in
+    let P = IsRuledField NODE.now in
     let both = All-split P h.front h.rest (subst (λ (x : List Field). All P x) h.whole ruled) in
     let bytes = halves_bytes laws text m n fs h ne in
     let first : length (bytes_at text m fs) ≡ length h.front = ap length bytes.0 ∙ laws.values.all_bytes NODE.now text m h.front (node_table laws) rm both.0 ∙ all_counted m h.front h.are_first in
@@ -156,7 +156,7 @@ known_number zero rule l e = inr (sym (ap (λ (r : Rule). r.number) e))
 known_number (suc zero) rule l e = inl (sym (ap (λ (r : Rule). r.number) e))
 known_number (suc (suc k)) rule l e = absurd (omega arith)
 
-known : (f : Field) → HasRule NODE.now f.number (wire_of f.value) → (f.number ≡ 2) ⊎ (f.number ≡ 1)
+known : (f : Field) → HasRule NODE.now f.number f.wire → (f.number ≡ 2) ⊎ (f.number ≡ 1)
 known f h = elim (known_number h.among.0 h.rule h.among.1 h.among.2) [ inl e ↦ inl (sym h.number_is ∙ e) | inr e ↦ inr (sym h.number_is ∙ e) ]
 
 pub links_first : (fs : List Field) → HasLinksFirst fs → Halves 2 1 fs
@@ -173,7 +173,7 @@ first_data fs h = record { first = h.front; links = h.rest; whole = h.whole; are
 
 pub node_orders : (node : Node) (text : List ℕ) → NodeText node text → CanonicalText node text ⊎ DataFirstText node text
 node_orders node text p =
-    let h = two_orders 2 1 p.fields (omega arith) (λ k d l. known (get_or p.fields k d) (p.message.ruled k d l)) p.message.ordered in
+    let h = two_orders 2 1 p.fields (omega arith) (λ k d l. known (get_or p.fields k d) (p.message.ruled k d l).has_rule) p.message.ordered in
     elim h [ inl a ↦ inl (record { is_text = p; order = first_links p.fields a }) | inr b ↦ inr (record { is_text = p; order = first_data p.fields b }) ]
 
 -- ---- a node has one text in each order

@@ -10,7 +10,7 @@ use Rattle.tg_pbtable.specs.Computed.{fields_of, and_then, first_of}
 use Rattle.tg_dagpb.specs.declared.TheConstants.{NODE, LINK}
 use Rattle.tg_dagpb.specs.declared.Link.{Link}
 use Rattle.tg_dagpb.specs.declared.Node.{Node}
-use Rattle.tg_dagpb.specs.Faults.{moved_by}
+use Rattle.tg_pbtable.specs.Faults.{moved_by}
 
 -- the link that the fields of a message are
 abbrev pub link_parts : List ℕ → List Field → Link

@@ -1,27 +1,16 @@
 -- Why a text is no DAG-PB node: the node's own fields first, and then the first link that is none.
-use Rattle.std.specs.Prelude.{◌≡◌, ℕ, ◌+◌, ◌⊎◌, List, ◌∷◌, ◌++◌, slice_range, All}
+use Rattle.std.specs.Prelude.{◌≡◌, ℕ, ◌⊎◌, List, ◌∷◌, ◌++◌, slice_range, All}
 use Rattle.tg_pbtable.specs.declared.table.Field.{Field}
 use Rattle.tg_pbtable.specs.declared.table.Order.TheVariants.{Ascending, Runs}
 use Rattle.tg_pbtable.specs.declared.table.Value.TheVariants.{Place}
+use Rattle.tg_pbtable.specs.declared.table.Wire.TheVariants.{Bytes}
 use Rattle.tg_pbtable.specs.declared.fault.PbFault.{PbFault}
-use Rattle.tg_pbtable.specs.declared.fault.PbFault.TheVariants as faults
 use Rattle.tg_pbtable.specs.Message.{Message}
 use Rattle.tg_pbtable.specs.Values.{bytes_at}
-use Rattle.tg_pbtable.specs.Faults.{HasCause}
+use Rattle.tg_pbtable.specs.Faults.{HasCause, moved_by}
 use Rattle.tg_dagpb.specs.declared.TheConstants.{NODE, LINK}
 use Rattle.tg_dagpb.specs.declared.Link.{Link}
 use Rattle.tg_dagpb.specs.Node.{LinkText}
-
--- a fault of a text that begins at `start` of another, with its place in that other one
-abbrev pub moved_by : ℕ → PbFault → PbFault
-moved_by start (faults.Short at) = faults.Short (start + at)
-moved_by start (faults.BadVarint at) = faults.BadVarint (start + at)
-moved_by start (faults.Unknown at number) = faults.Unknown (start + at) number
-moved_by start (faults.WrongWire at) = faults.WrongWire (start + at)
-moved_by start (faults.OutOfOrder at) = faults.OutOfOrder (start + at)
-moved_by start (faults.Doubled at) = faults.Doubled (start + at)
-moved_by start (faults.Missing number) = faults.Missing number
-moved_by start faults.OutOfMemory = faults.OutOfMemory
 
 -- the text is some link's
 abbrev pub IsLinkText : List ℕ → Type 0
@@ -33,7 +22,8 @@ pub record HasBadLink (text : List ℕ) (fault : PbFault) : Type 0 where
   pub start : ℕ
   pub end : ℕ
   pub after : List Field
-  pub message : Message NODE.now Runs text (before ++ record { number = 2; value = Place start end } ∷ after)
+  pub message : Message NODE.now Runs text
+      (before ++ record { number = 2; wire = Bytes; value = Place start end } ∷ after)
   pub earlier : All IsLinkText (bytes_at text 2 before)
   pub cause : PbFault
   pub cause_is : HasCause LINK.now Ascending (slice_range text start end) cause

@@ -3,17 +3,17 @@ use Rattle.std.specs.Prelude.{◌≡◌, ℕ, List, [], ◌∷◌, ◌++◌, Opt
 use Rattle.tg_pbtable.specs.declared.table.Field.{Field}
 use Rattle.tg_pbtable.specs.declared.table.Order.TheVariants.{Ascending, Runs}
 use Rattle.tg_pbtable.specs.declared.table.Value.TheVariants as values
+use Rattle.tg_pbtable.specs.declared.table.Wire.TheVariants.{Bytes}
 use Rattle.tg_pbtable.specs.declared.table.Place.{Place}
 use Rattle.tg_pbtable.specs.declared.fault.PbFault.{PbFault}
-use Rattle.tg_pbtable.specs.declared.fault.PbFault.TheVariants as faults
 use Rattle.tg_pbtable.specs.Values.{numbers_at, bytes_at, later}
-use Rattle.tg_pbtable.specs.Faults.{HasCause}
+use Rattle.tg_pbtable.specs.Faults.{HasCause, moved_by}
 use Rattle.tg_pbtable.specs.declared.cursor.FieldCursor.{FieldCursor}
 use Rattle.tg_pbtable.specs.Cursor.{HasRead}
 use Rattle.tg_dagpb.specs.declared.TheConstants.{NODE, LINK}
 use Rattle.tg_dagpb.specs.declared.Link.{Link}
 use Rattle.tg_dagpb.specs.Node.{LinkText}
-use Rattle.tg_dagpb.specs.Faults.{moved_by, IsLinkText}
+use Rattle.tg_dagpb.specs.Faults.{IsLinkText}
 use Rattle.tg_pbtable.specs.Place.{AreInside, placed_bytes}
 use Rattle.tg_dagpb.specs.declared.LinkPlaces.{LinkPlaces}
 use Rattle.tg_dagpb.specs.Cursor.{placed_link, LieInside}
@@ -26,7 +26,7 @@ pub record GathersLink (text : List ℕ) (fields : List Field) (old new : Link) 
 
 -- a field that is a link at a place
 abbrev pub placed : ℕ → ℕ → Field
-placed start end = record { number = 2; value = values.Place start end }
+placed start end = record { number = 2; wire = Bytes; value = values.Place start end }
 
 -- the link before any field
 abbrev pub no_link : Link
@@ -49,17 +49,6 @@ pub record IsBadField (text : List ℕ) (field : Field) (fault : PbFault) : Type
   pub end : ℕ
   pub field_is : field ≡ placed start end
   pub bad : IsBadPlace text start end fault
-
--- the place of a fault, 0 where it has none
-abbrev pub place_of : PbFault → ℕ
-place_of (faults.Short at) = at
-place_of (faults.BadVarint at) = at
-place_of (faults.Unknown at number) = at
-place_of (faults.WrongWire at) = at
-place_of (faults.OutOfOrder at) = at
-place_of (faults.Doubled at) = at
-place_of (faults.Missing number) = 0
-place_of faults.OutOfMemory = 0
 
 -- the link after the fields that a cursor over these bytes has read, of which the parts lie at the places
 pub record LinkSoFar (text : List ℕ) (start end : ℕ) (cursor : FieldCursor 3) (places : LinkPlaces) : Type 0 where

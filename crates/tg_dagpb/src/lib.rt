@@ -56,7 +56,7 @@ pub const LINK: &[Rule; 3] = &[
 /// A link: the bytes of the CID that it names, its name, and the size that it tells of all below it.
 ///
 /// IPLD specification, DAG-PB, Logical Format: PBLink.
-#[derive(Debug, Drop)]
+#[derive(Drop)]
 pub struct Link {
     pub hash: Bytes,
     pub name: Option<Bytes>,
@@ -66,14 +66,14 @@ pub struct Link {
 /// A node: its links in order, and its data. Absent data differs from empty data.
 ///
 /// IPLD specification, DAG-PB, Logical Format: PBNode.
-#[derive(Debug, Drop)]
+#[derive(Drop)]
 pub struct Node {
     pub links: List<Link>,
     pub payload: Option<Bytes>,
 }
 
 /// A link where it stands in its block.
-#[derive(Clone, Copy, Debug, PartialEq, Eq)]
+#[derive(Clone, Copy, PartialEq, Eq)]
 pub struct LinkSpan<'a> {
     pub hash: &'a [u8],
     pub name: Option<&'a [u8]>,
@@ -81,7 +81,7 @@ pub struct LinkSpan<'a> {
 }
 
 /// The places of a link's parts in its block, and the size that it tells.
-#[derive(Clone, Copy, Debug, PartialEq, Eq)]
+#[derive(Clone, Copy)]
 pub struct LinkPlaces {
     pub hash: Place,
     pub name: Option<Place>,

@@ -3,14 +3,15 @@ ghost use Rattle.std.specs.Prelude.{◌≡◌, ℕ, ◌+◌, ◌<◌, ◌^◌, �
 ghost use Rattle.std.specs.Prelude.{List as Items, IfOk, IfErr, IfSome, IsErrOf, OnOk, OnErr, MatchOption, MatchResult};
 ghost use Rattle.tg_pbtable.specs.Emitted.{LiesIn};
 ghost use Rattle.tg_pbtable.specs.Faults.{HasCause};
+ghost use Rattle.tg_pbtable.specs.Message.{IsOfWire};
 ghost use Rattle.tg_pbtable.specs.Values.{bytes_at, later};
 ghost use Rattle.tg_pbtable.specs.declared.table.Order.TheVariants.{Ascending};
 ghost use Rattle.tg_pbtable.specs.declared.fault.PbFault.{PbFault};
 ghost use Rattle.tg_pbtable.specs.Place.{AreInside, placed_bytes};
 ghost use Rattle.tg_dagpb.specs.Node.{HasContent, NodeText};
-ghost use Rattle.tg_dagpb.specs.Faults.{IsLinkText, HasNodeCause, moved_by};
+ghost use Rattle.tg_dagpb.specs.Faults.{IsLinkText, HasNodeCause};
 ghost use Rattle.tg_dagpb.specs.Cursor.{IsBetween, IsCursor, HasPayloadAt, LieInside, link_of, placed_link};
-ghost use Rattle.tg_dagpb.specs.Reading.{GathersLink, IsBadField, IsBadPlace, IsLinkBetween, place_of, placed};
+ghost use Rattle.tg_dagpb.specs.Reading.{GathersLink, IsBadField, IsBadPlace, IsLinkBetween, placed};
 ghost use Rattle.tg_dagpb.specs.declared.TheConstants.{LINK};
 ghost use Rattle.tg_dagpb.specs.declared.Node.{Node};
 ghost use Rattle.tg_dagpb.specs.declared.Link.{Link};
@@ -145,7 +146,8 @@ fn with_payload(payload: Option<Place>, field: &Field) -> Option<Place>
 
 /// Why a field that has to be a link is none.
 fn link_fault(bytes: &[u8], field: &Field) -> Option<PbFault>
-    requires { LiesIn bytes.now field.now.value }
+    requires lies { LiesIn bytes.now field.now.value }
+    requires wire { IsOfWire field.now.wire field.now.value }
     ensures { MatchOption result (All IsLinkText (bytes_at bytes.now 2 (field.now ∷ [])))
         (λ e. IsBadField bytes.now field.now e) }
 {
@@ -210,6 +212,7 @@ fn span_of(bytes: &[u8], places: LinkPlaces) -> LinkSpan<'_>
 
 /// The place of the link that a field of a node is, where it is one.
 fn link_place(field: &Field) -> Option<(usize, usize)>
+    requires { IsOfWire field.now.wire field.now.value }
     ensures { MatchOption result ((text : Items ℕ) → bytes_at text 2 (field.now ∷ []) ≡ [])
         (λ place. field.now ≡ placed place.0 place.1) }
 {
@@ -226,9 +229,10 @@ fn link_between(bytes: &[u8], start: usize, end: usize) -> Result<LinkPlaces, Pb
     ensures { MatchResult result (λ places. IsLinkBetween bytes.now start end places)
         (λ e. IsBadPlace bytes.now start end e) }
 {
+    tg_pbtable::laws::table_laws();
     match link_in(bytes, start, end) {
         Ok(places) => Ok(places),
-        Err(fault) => Err(moved_by(start, fault)),
+        Err(fault) => Err(fault.moved_by(start)),
     }
 }
 
@@ -291,25 +295,4 @@ fn with_part(
         }
     }
     new
-}
-
-/// A fault of a text that begins at `start` of another, with its place in that other one.
-fn moved_by(start: usize, fault: PbFault) -> PbFault
-    requires { start + place_of fault < 2 ^ 64 }
-    ensures { result ≡ moved_by start fault }
-{
-    let start = start as u64;
-    match fault {
-        PbFault::Short { at } => PbFault::Short { at: start + at },
-        PbFault::BadVarint { at } => PbFault::BadVarint { at: start + at },
-        PbFault::Unknown { at, number } => PbFault::Unknown {
-            at: start + at,
-            number,
-        },
-        PbFault::WrongWire { at } => PbFault::WrongWire { at: start + at },
-        PbFault::OutOfOrder { at } => PbFault::OutOfOrder { at: start + at },
-        PbFault::Doubled { at } => PbFault::Doubled { at: start + at },
-        PbFault::Missing { number } => PbFault::Missing { number },
-        PbFault::OutOfMemory => PbFault::OutOfMemory,
-    }
 }

@@ -5,7 +5,7 @@ use Rattle.std.proofs.lemmas.List.Elements.{All-drop, All-head}
 use Rattle.tg_pbtable.specs.declared.table.Rule.{Rule}
 use Rattle.tg_pbtable.specs.declared.table.Order.{Order}
 use Rattle.tg_pbtable.specs.declared.table.Field.{Field}
-use Rattle.tg_pbtable.specs.Message.{Message, HasRule, AreRuled, Spelled, FieldSpelling, wire_of}
+use Rattle.tg_pbtable.specs.Message.{Message, IsRuledField, AreRuled, Spelled, FieldSpelling}
 use Rattle.tg_pbtable.specs.Cursor.{StandsAt, StandsBetween, IsNextField}
 use Rattle.tg_pbtable.proofs.Spellings.{one_field, spelled_push, value_more}
 use Rattle.tg_pbtable.proofs.Places.{one_at}
@@ -31,7 +31,7 @@ between_rest rules order text at behind ahead b =
 
 rest_ruled : (rules : List Rule) (fs gs : List Field) → AreRuled rules (fs ++ gs) → AreRuled rules gs
 rest_ruled rules fs gs h =
-    subst (λ (t : List Field). AreRuled rules t) (drop_at fs gs (length fs) refl) (All-drop (λ (x : Field). HasRule rules x.number (wire_of x.value)) (length fs) (fs ++ gs) h)
+    subst (λ (t : List Field). AreRuled rules t) (drop_at fs gs (length fs) refl) (All-drop (IsRuledField rules) (length fs) (fs ++ gs) h)
 
 -- ---- the first of them
 
@@ -41,7 +41,7 @@ first_stands rules text at f fs s r = record {
   rest = s.1;
   whole = s.2;
   spelled = s.3;
-  ruled = All-head (λ (x : Field). HasRule rules x.number (wire_of x.value)) f fs r;
+  ruled = All-head (IsRuledField rules) f fs r;
   next_is = refl;
 }
 
@@ -54,7 +54,7 @@ none_ahead rules order text at behind (f ∷ fs) b none =
     absurd (none f (at + length s.0) (first_stands rules text at f fs s (rest_ruled rules behind (f ∷ fs) b.message.ruled)))
 
 nothing_there : (at : ℕ) (f : Field) (a b : List ℕ) → FieldSpelling at f a → [] ≡ a ++ b → ⊥
-nothing_there at f a b s e = omega (arith, value_more at f.number f.value a s, ap length e, length-append a b)
+nothing_there at f a b s e = omega (arith, value_more at f.number f.wire f.value a s, ap length e, length-append a b)
 
 pub next_field : (rules : List Rule) (order : Order) (text : List ℕ) (at : ℕ) (behind ahead : List Field) (f : Field) (next : ℕ) → StandsAt rules text at f next → StandsBetween rules order text at behind ahead
     → IsNextField rules order text behind ahead f next

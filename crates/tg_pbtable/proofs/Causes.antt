@@ -2,7 +2,7 @@
 use Rattle.std.proofs.Common.{◌≡◌, ℕ, ◌<◌, ◌≤◌, ◌≢◌, ◌⊎◌, List, [], ◌∷◌, ◌++◌, length, get_or, map, refl, sym, ap, ap₂, ◌∙◌, subst, inl, inr, arith}
 use Rattle.std.specs.Prelude.{Contains}
 use Rattle.std.proofs.lemmas.Bool.{cases_order}
-use Rattle.std.proofs.lemmas.List.{append-nil, get_or-map, get_or_default}
+use Rattle.std.proofs.lemmas.List.{append-nil, length-append, get_or-map, get_or_default}
 use Rattle.std.proofs.lemmas.List.Elements.{All-contains, Contains-append_right}
 use Rattle.tg_pbtable.specs.declared.table.Rule.{Rule}
 use Rattle.tg_pbtable.specs.declared.table.Times.{Times}
@@ -11,9 +11,9 @@ use Rattle.tg_pbtable.specs.declared.table.Order.{Order}
 use Rattle.tg_pbtable.specs.declared.table.Field.{Field}
 use Rattle.tg_pbtable.specs.declared.fault.PbFault.{PbFault}
 use Rattle.tg_pbtable.specs.declared.fault.PbFault.TheVariants as faults
-use Rattle.tg_pbtable.specs.Message.{Message, IsTable, Spelled, AreRuled, HasRule, count_of, numbers_of, IsInOrder, IsAtMost, IsCount, wire_of}
+use Rattle.tg_pbtable.specs.Message.{Message, IsTable, Spelled, AreRuled, IsRuledField, HasRule, count_of, numbers_of, IsInOrder, IsAtMost, IsCount}
 use Rattle.tg_pbtable.specs.Wires.{wire_code}
-use Rattle.tg_pbtable.specs.Faults.{Begins, FirstAt, IsShort, HasBadVarint, IsUnknown, HasWrongWire, IsOutOfOrder, IsDoubled, IsMissing, HasField, BreaksOrder, HasCause}
+use Rattle.tg_pbtable.specs.Faults.{Begins, FirstAt, IsShort, HasBadVarint, IsUnknown, HasWrongWire, IsOutOfOrder, IsDoubled, IsMissing, HasField, BreaksOrder, HasCause, place_of}
 use Rattle.tg_pbtable.specs.Cursor.{EndsIn}
 use Rattle.tg_pbtable.proofs.Whole.{read_short_bad, read_short_field, read_bad_field, read_one_field, spelled_has}
 use Rattle.tg_pbtable.proofs.Spellings.{Further, compare, further_more, one_reading}
@@ -153,11 +153,11 @@ too_many Many n once two most = once refl
 further_goes : (rules : List Rule) (way : Order) (text : List ℕ) (all : List Field) (at at' : ℕ) (rest rest' : List ℕ) (fields : List Field) → Begins rules way text all at' rest' → Further fields at rest all → GoesOn rules way fields rest
 further_goes rules way text all at at' rest rest' fields b f =
     let here : Contains (fields ++ f.field ∷ f.others) f.field = Contains-append_right fields (f.field ∷ f.others) f.field (0, omega arith, refl) in
-    let has : HasRule rules f.field.number (wire_of f.field.value) =
-    All-contains (λ (x : Field). HasRule rules x.number (wire_of x.value)) (fields ++ f.field ∷ f.others) f.field (subst (λ (fs : List Field). AreRuled rules fs) f.whole b.ruled) here in
+    let has : HasRule rules f.field.number f.field.wire =
+    (All-contains (IsRuledField rules) (fields ++ f.field ∷ f.others) f.field (subst (λ (fs : List Field). AreRuled rules fs) f.whole b.ruled) here).has_rule in
     let numbers : numbers_of all ≡ numbers_of fields ++ f.field.number ∷ numbers_of f.others = ap numbers_of f.whole ∙ numbers_push fields f.field f.others in
     let inorder : IsInOrder way (numbers_of fields ++ f.field.number ∷ numbers_of f.others) = subst (λ (ns : List ℕ). IsInOrder way ns) numbers b.ordered in
-    let spelled : HasField f.field.number (wire_code (wire_of f.field.value)) rest = spelled_has at f.field.number f.field.value f.front f.behind rest f.spelled f.stands in
+    let spelled : HasField f.field.number (wire_code f.field.wire) rest = spelled_has at f.field.number f.field.wire f.field.value f.front f.behind rest f.spelled f.stands in
     record {
       rule = has.rule;
       among = has.among;
@@ -243,6 +243,20 @@ where_it_holds rules way text (faults.OutOfOrder at) h = inl (record { at = at; 
 where_it_holds rules way text (faults.Doubled at) h = inl (record { at = at; verdict = doubled; stops = λ e. cc; judged = h; is = refl })
 where_it_holds rules way text (faults.Missing number) h = inr (record { number = number; missing = h; is = refl })
 where_it_holds rules way text faults.OutOfMemory h = absurd h
+
+first_inside : (rules : List Rule) (way : Order) (text : List ℕ) (at : ℕ) (Cause : List Field → List ℕ → Type 0) → FirstAt rules way text at Cause → at ≤ length text
+first_inside rules way text at Cause f = omega (arith, f.begins.at_is, ap length f.begins.whole, length-append f.begins.front f.rest)
+
+-- a fault lies in the text
+pub fault_place : (rules : List Rule) (way : Order) (text : List ℕ) (fault : PbFault) → HasCause rules way text fault → place_of fault ≤ length text
+fault_place rules way text (faults.Short at) h = first_inside rules way text at (λ _ rest. IsShort rest) h
+fault_place rules way text (faults.BadVarint at) h = first_inside rules way text at (λ _ rest. HasBadVarint rest) h
+fault_place rules way text (faults.Unknown at number) h = first_inside rules way text at (λ _ rest. IsUnknown rules number rest) h
+fault_place rules way text (faults.WrongWire at) h = first_inside rules way text at (λ _ rest. HasWrongWire rules rest) h
+fault_place rules way text (faults.OutOfOrder at) h = first_inside rules way text at (λ fields rest. IsOutOfOrder rules way fields rest) h
+fault_place rules way text (faults.Doubled at) h = first_inside rules way text at (λ fields rest. IsDoubled rules fields rest) h
+fault_place rules way text (faults.Missing number) h = omega arith
+fault_place rules way text faults.OutOfMemory h = absurd h
 
 -- a text has the cause of one fault at most
 pub one_cause : (rules : List Rule) (way : Order) (text : List ℕ) (a b : PbFault) → IsTable rules → HasCause rules way text a → HasCause rules way text b → a ≡ b

@@ -11,21 +11,22 @@ use Rattle.tg_pbtable.specs.declared.table.Times.TheVariants.{One, Optional, Man
 use Rattle.tg_pbtable.specs.declared.table.Order.{Order}
 use Rattle.tg_pbtable.specs.declared.table.Order.TheVariants.{Ascending, Runs}
 use Rattle.tg_pbtable.specs.declared.table.Field.{Field}
-use Rattle.tg_pbtable.specs.declared.table.Value.{Value}
+use Rattle.tg_pbtable.specs.declared.table.Wire.{Wire}
 use Rattle.tg_pbtable.specs.declared.raw.RawField.{RawField}
+use Rattle.tg_pbtable.specs.declared.raw.RawValue.{RawValue}
 use Rattle.tg_pbtable.specs.declared.raw.ReadFault.{ReadFault}
 use Rattle.tg_pbtable.specs.declared.raw.ReadFault.TheVariants.{Short, Bad}
 use Rattle.tg_pbtable.specs.declared.fault.PbFault.{PbFault}
 use Rattle.tg_pbtable.specs.declared.fault.PbFault.TheVariants as faults
 use Rattle.tg_pbtable.specs.Wires.{wire_code}
-use Rattle.tg_pbtable.specs.Message.{wire_of, count_of, numbers_of, IsInOrder}
+use Rattle.tg_pbtable.specs.Message.{count_of, numbers_of, IsInOrder}
 use Rattle.tg_pbtable.specs.Faults.{HasField, BreaksOrder}
 use Rattle.tg_pbtable.specs.Cursor.{IsRefused, EndsIn, has_number}
 use Rattle.tg_pbtable.specs.Reading.{IsValueOf, IsSpelledAt, IsRuleAt, IsRuled}
 use Rattle.tg_pbtable.specs.Computed.{rule_of, Ruled, with_value, with_rule, ruled, ends_in, breaks_order, is_many, asks, lower, lowest_missing}
 use Rattle.tg_bytes.specs.Lists.{rises}
 use Rattle.tg_pbtable.proofs.Numbers.{count_contains, contains_count, last_of, none_counted, new_run, same_run}
-use Rattle.tg_pbtable.proofs.Whole.{same_code}
+use Rattle.tg_pbtable.proofs.Spellings.{same_code}
 use Rattle.tg_pbtable.proofs.ComputedVarints.{FieldTold}
 
 -- ---- the rule of a number
@@ -65,14 +66,14 @@ RuledTold rules at rest r = MatchResult r (λ x. IsRuledAs rules at rest x) (λ 
 found_among : (rules : List Rule) (number : ℕ) (rule : Rule) (f : RuleFound rules number rule) → Contains rules rule
 found_among rules number rule f = (f.index, f.rule_at.inside, get_or_from_slice_get rules f.index rule rule f.rule_at.here)
 
-with_value_told : (rules : List Rule) (at : ℕ) (rest : List ℕ) (number wire : ℕ) (o : Option (Value × ℕ)) (rule : Rule) → HasField number wire rest → IsValueOf at rest number wire o → RuleFound rules number rule
+with_value_told : (rules : List Rule) (at : ℕ) (rest : List ℕ) (number wire : ℕ) (o : Option RawValue) (rule : Rule) → HasField number wire rest → IsValueOf at rest number wire o → RuleFound rules number rule
     → RuledTold rules at rest (with_value at rule o)
 with_value_told rules at rest number wire None rule field v found =
     (refl, record { number = number; wire = wire; field = field; rule = rule; among = found_among rules number rule found; number_is = found.number_is; other = λ e. v rule.wire (sym e) })
 with_value_told rules at rest number wire (Some v) rule field has found =
-    cond_both (wire_code rule.wire == wire_code (wire_of v.0)) (Ok (record { rule = rule; field = record { number = rule.number; value = v.0 }; next = v.1 })) (Err (faults.WrongWire at)) (RuledTold rules at rest)
+    cond_both (wire_code rule.wire == wire_code v.wire) (Ok (record { rule = rule; field = record { number = rule.number; wire = rule.wire; value = v.value }; next = v.next })) (Err (faults.WrongWire at)) (RuledTold rules at rest)
     (λ t.
-    let codes : wire_code rule.wire ≡ wire_code (wire_of v.0) = eqb-true (wire_code rule.wire) (wire_code (wire_of v.0)) t in
+    let codes : wire_code rule.wire ≡ wire_code v.wire = eqb-true (wire_code rule.wire) (wire_code v.wire) t in
     let wire_is : wire ≡ wire_code rule.wire = has.0 ∙ sym codes in
     record {
       index = found.index;
@@ -80,9 +81,9 @@ with_value_told rules at rest number wire (Some v) rule field has found =
         rule = rule;
         rule_at = found.rule_at;
         number_is = refl;
-        wire_is = same_code rule.wire (wire_of v.0) codes;
+        wire_is = refl;
         has_field = subst (λ (n : ℕ). HasField n (wire_code rule.wire) rest) (sym found.number_is) (subst (λ (w : ℕ). HasField number w rest) wire_is field);
-        spelled = subst (λ (n : ℕ). IsSpelledAt at rest n v.0 v.1) (sym found.number_is) has.1;
+        spelled = subst (λ (n : ℕ). IsSpelledAt at rest n rule.wire v.value v.next) (sym found.number_is) (subst (λ (w : Wire). IsSpelledAt at rest number w v.value v.next) (sym (same_code rule.wire v.wire codes)) has.1);
       };
       rule_is = refl;
     })
@@ -95,7 +96,7 @@ with_value_told rules at rest number wire (Some v) rule field has found =
         rule = rule;
         among = found_among rules number rule found;
         number_is = found.number_is;
-        other = λ e. eqb-false (wire_code rule.wire) (wire_code (wire_of v.0)) f (e ∙ has.0);
+        other = λ e. eqb-false (wire_code rule.wire) (wire_code v.wire) f (e ∙ has.0);
       },
     ))
 

@@ -1,23 +1,24 @@
 -- What is computed at the front of bytes is what stands there: varints, values and fields.
 use Rattle.std.proofs.Common.{◌≡◌, ◌≢◌, ℕ, zero, suc, ◌+◌, ◌-◌, ◌/◌, ◌%◌, ◌^◌, ◌<◌, ◌≤◌, Option, Some, None, Result, Ok, Err, List, [], ◌∷◌, length, take, drop, get_or, refl, sym, ◌∙◌, subst, inl, inr, arith}
+use Rattle.std.specs.Int.{from_le_bytes, w32}
 use Rattle.std.specs.Prelude.{All, MatchResult, nat_lt, ◌==◌, ◌&&◌, slice_get, if◌then◌else◌}
 use Rattle.std.proofs.lemmas.Bool.{cases_lt, cond_both, ltb-true, ltb-false, eqb-true, eqb-false, and_parts, and_cases}
 use Rattle.std.proofs.lemmas.List.{length-drop, take-append-drop, drop-drop}
 use Rattle.std.proofs.lemmas.List.Elements.{All-nil, All-cons, All-drop}
 use Rattle.std.proofs.lemmas.Option.{slice_get_within, slice_get-get_or, get_or_from_slice_get}
 use Rattle.tg_pbtable.specs.declared.table.Wire.{Wire}
-use Rattle.tg_pbtable.specs.declared.table.Wire.TheVariants.{Varint, Bytes}
-use Rattle.tg_pbtable.specs.declared.table.Value.{Value}
+use Rattle.tg_pbtable.specs.declared.table.Wire.TheVariants.{Varint, Bytes, Fixed32}
 use Rattle.tg_pbtable.specs.declared.table.Value.TheVariants.{Number, Place}
 use Rattle.tg_pbtable.specs.declared.raw.RawField.{RawField}
+use Rattle.tg_pbtable.specs.declared.raw.RawValue.{RawValue}
 use Rattle.tg_pbtable.specs.declared.raw.ReadFault.{ReadFault}
 use Rattle.tg_pbtable.specs.declared.raw.ReadFault.TheVariants.{Short, Bad}
 use Rattle.tg_varint.specs.Varint.{number_of, AllGoOn}
 use Rattle.tg_pbtable.specs.Wires.{wire_code, IsNoWire}
 use Rattle.tg_pbtable.specs.Reading.{IsVarintAt, IsVarintFault, IsValueAt, IsValueFault, IsWireOf, IsFieldAt, IsFieldFault}
-use Rattle.tg_pbtable.specs.Computed.{and_then, going_on, below_range, ended, varint_in, place_in, wire_with, value_with, value_in, field_in}
+use Rattle.tg_pbtable.specs.Computed.{and_then, going_on, below_range, ended, varint_in, some_value, place_in, fixed_in, wire_with, value_with, value_in, field_in}
 use Rattle.tg_varint.specs.GroupLaws.{group_at, inside_at, zero_at}
-use Rattle.tg_pbtable.proofs.Whole.{number_there, place_there, short_place, field_there, fault_there}
+use Rattle.tg_pbtable.proofs.Whole.{number_there, place_there, short_place, fixed_there, field_there, fault_there}
 
 -- what goes on with something that was read says what it says of each reading, and of each fault
 pub gone_on : {A B E : Type 0} (P : Result B E → Type 0) (Q : A → Type 0) (R : E → Type 0) (r : Result A E) (next : A → Result B E)
@@ -103,7 +104,7 @@ varint_told bytes are =
 
 -- ---- a value and a field
 
-abbrev ValueTold : ℕ → List ℕ → ℕ → Result (Option (Value × ℕ)) ReadFault → Type 0
+abbrev ValueTold : ℕ → List ℕ → ℕ → Result (Option RawValue) ReadFault → Type 0
 ValueTold at after wire r = MatchResult r (λ v. IsValueAt at after wire v) (λ e. IsValueFault e wire after)
 
 number_fault : (wire : ℕ) (after : List ℕ) (e : ReadFault) → wire ≡ wire_code Varint → IsVarintFault e after → IsValueFault e wire after
@@ -118,33 +119,44 @@ place_told : (at : ℕ) (text : List ℕ) (wire amount size : ℕ) → at ≤ le
     → ValueTold at (drop at text) wire (place_in at (drop at text) amount size)
 place_told at text wire amount size l is are v =
     let left : length (drop at text) ≡ length text - at = length-drop at text in
-    cond_both (nat_lt (length (drop at text) - size) amount) (Err Short) (Ok (Some (Place (at + size) (at + size + amount), at + size + amount))) (ValueTold at (drop at text) wire)
-    (λ t. let fewer : length (drop at text) - size < amount = ltb-true (length (drop at text) - size) amount t in short_place at text wire amount size l is v (omega arith))
-    (λ f. let enough : amount ≤ length (drop at text) - size = ltb-false (length (drop at text) - size) amount f in place_there at text wire amount size l is v (omega arith) are)
+    cond_both (nat_lt (length (drop at text) - size) amount) (Err Short) (Ok (some_value Bytes (Place (at + size) (at + size + amount)) (at + size + amount))) (ValueTold at (drop at text) wire)
+    (λ t. let fewer : length (drop at text) - size < amount = ltb-true (length (drop at text) - size) amount t in (Bytes, is, short_place at text amount size l v (omega arith)))
+    (λ f. let enough : amount ≤ length (drop at text) - size = ltb-false (length (drop at text) - size) amount f in (is, (place_there at text amount size l v (omega arith) are, refl)))
 
-none_of_both : (code : ℕ) → code ≢ wire_code Varint → code ≢ wire_code Bytes → IsNoWire code
-none_of_both code a b Varint e = a e
-none_of_both code a b Bytes e = b e
+fixed_told : (at : ℕ) (after : List ℕ) (code : ℕ) → code ≡ wire_code Fixed32 → All (λ (b : ℕ). b < 256) after → ValueTold at after code (fixed_in at after)
+fixed_told at after code is are =
+    let number = from_le_bytes w32 (take 4 after) in
+    cond_both (nat_lt (length after) 4) (Err Short) (Ok (some_value Fixed32 (Number number) (at + 4))) (ValueTold at after code)
+    (λ t. (Fixed32, is, ltb-true (length after) 4 t))
+    (λ f. let enough : 4 ≤ length after = ltb-false (length after) 4 f in (is, (fixed_there after number enough are refl, refl)))
+
+none_of_all : (code : ℕ) → code ≢ wire_code Varint → code ≢ wire_code Bytes → code ≢ wire_code Fixed32 → IsNoWire code
+none_of_all code a b c Varint e = a e
+none_of_all code a b c Bytes e = b e
+none_of_all code a b c Fixed32 e = c e
 
 wire_told : (code : ℕ) → IsWireOf code (wire_with code)
 wire_told code =
-    cond_both (code == wire_code Varint) (Some Varint) (if code == wire_code Bytes then Some Bytes else None) (IsWireOf code)
+    cond_both (code == wire_code Varint) (Some Varint) (if code == wire_code Bytes then Some Bytes else (if code == wire_code Fixed32 then Some Fixed32 else None)) (IsWireOf code)
     (λ t. eqb-true code (wire_code Varint) t)
-    (λ f. cond_both (code == wire_code Bytes) (Some Bytes) None (IsWireOf code)
+    (λ f. cond_both (code == wire_code Bytes) (Some Bytes) (if code == wire_code Fixed32 then Some Fixed32 else None) (IsWireOf code)
     (λ t. eqb-true code (wire_code Bytes) t)
-    (λ g. none_of_both code (eqb-false code (wire_code Varint) f) (eqb-false code (wire_code Bytes) g)))
+    (λ g. cond_both (code == wire_code Fixed32) (Some Fixed32) None (IsWireOf code)
+    (λ t. eqb-true code (wire_code Fixed32) t)
+    (λ h. none_of_all code (eqb-false code (wire_code Varint) f) (eqb-false code (wire_code Bytes) g) (eqb-false code (wire_code Fixed32) h))))
 
 told_with : (at : ℕ) (text : List ℕ) (code : ℕ) (wire : Option Wire) → at ≤ length text → All (λ (b : ℕ). b < 256) text → IsWireOf code wire → ValueTold at (drop at text) code (value_with at (drop at text) wire)
 told_with at text code None l are is = is
 told_with at text code (Some Varint) l are is =
     let after = drop at text in
-    let number : ℕ × ℕ → Result (Option (Value × ℕ)) ReadFault = λ v. Ok (Some (Number v.0, at + v.1)) in
+    let number : ℕ × ℕ → Result (Option RawValue) ReadFault = λ v. Ok (some_value Varint (Number v.0) (at + v.1)) in
     gone_on (ValueTold at after code) (λ (v : ℕ × ℕ). IsVarintAt after v.0 v.1) (λ (e : ReadFault). IsVarintFault e after) (varint_in after) number
     (varint_told after (All-drop (λ (b : ℕ). b < 256) at text are))
-    (λ v h. number_there at after code v.0 v.1 is h) (λ e h. number_fault code after e is h)
+    (λ v h. (is, number_there at after v.0 v.1 h)) (λ e h. number_fault code after e is h)
+told_with at text code (Some Fixed32) l are is = fixed_told at (drop at text) code is (All-drop (λ (b : ℕ). b < 256) at text are)
 told_with at text code (Some Bytes) l are is =
     let after = drop at text in
-    let place : ℕ × ℕ → Result (Option (Value × ℕ)) ReadFault = λ v. place_in at after v.0 v.1 in
+    let place : ℕ × ℕ → Result (Option RawValue) ReadFault = λ v. place_in at after v.0 v.1 in
     gone_on (ValueTold at after code) (λ (v : ℕ × ℕ). IsVarintAt after v.0 v.1) (λ (e : ReadFault). IsVarintFault e after) (varint_in after) place
     (varint_told after (All-drop (λ (b : ℕ). b < 256) at text are))
     (λ v h. place_told at text code v.0 v.1 l is are h) (λ e h. size_fault code after e is h)
@@ -169,10 +181,10 @@ field_told at text l are =
     let size : key.1 ≤ length rest = h.inside in
     let past : at + key.1 ≤ length text = omega (arith, length-drop at text) in
     let after : drop (at + key.1) text ≡ drop key.1 rest = sym (drop-drop key.1 at text) in
-    let value_next : Option (Value × ℕ) → Result RawField ReadFault = λ value. Ok (record { number = key.0 / 8; value = value }) in
+    let value_next : Option RawValue → Result RawField ReadFault = λ value. Ok (record { number = key.0 / 8; value = value }) in
     let told : ValueTold (at + key.1) (drop (at + key.1) text) (key.0 % 8) (value_in (at + key.1) (drop key.1 rest) (key.0 % 8)) =
     subst (λ (t : List ℕ). ValueTold (at + key.1) (drop (at + key.1) text) (key.0 % 8) (value_in (at + key.1) t (key.0 % 8))) after (value_told (at + key.1) text (key.0 % 8) past are) in
-    gone_on (FieldTold at rest) (λ (v : Option (Value × ℕ)). IsValueAt (at + key.1) (drop (at + key.1) text) (key.0 % 8) v) (λ (e : ReadFault). IsValueFault e (key.0 % 8) (drop (at + key.1) text))
+    gone_on (FieldTold at rest) (λ (v : Option RawValue). IsValueAt (at + key.1) (drop (at + key.1) text) (key.0 % 8) v) (λ (e : ReadFault). IsValueFault e (key.0 % 8) (drop (at + key.1) text))
     (value_in (at + key.1) (drop key.1 rest) (key.0 % 8)) value_next told
     (λ v w. field_there at text key.0 key.1 v h w)
     (λ e w. fault_there at text key.0 key.1 e h w))

@@ -1,6 +1,7 @@
 -- The text of fields, one field after another.
-use Rattle.std.proofs.Common.{◌≡◌, ℕ, ◌+◌, ◌<◌, cond, List, [], ◌∷◌, ◌++◌, length, get_or, refl, sym, ap, ap₂, ◌∙◌, append_assoc, subst}
-use Rattle.std.specs.Prelude.{All, slice_range, ◌==◌, Result, Ok, Err, OnOk}
+use Rattle.std.proofs.Common.{◌≡◌, ℕ, ◌+◌, ◌/◌, ◌%◌, ◌<◌, cond, List, [], ◌∷◌, ◌++◌, length, get_or, refl, sym, ap, ap₂, ◌∙◌, append_assoc, subst, arith}
+use Rattle.std.specs.Prelude.{◌^◌, All, slice_range, ◌==◌, Result, Ok, Err, OnOk}
+use Rattle.std.specs.Int.{to_le_bytes, w32}
 use Rattle.std.specs.Result.{is_ok}
 use Rattle.std.proofs.lemmas.List.{length-append, append-nil}
 use Rattle.std.proofs.lemmas.List.Elements.{All-nil, All-cons, All-head, All-tail, All-append}
@@ -10,10 +11,11 @@ use Rattle.tg_pbtable.specs.declared.table.Order.{Order}
 use Rattle.tg_pbtable.specs.declared.table.Field.{Field}
 use Rattle.tg_pbtable.specs.declared.table.Value.{Value}
 use Rattle.tg_pbtable.specs.declared.table.Value.TheVariants.{Number, Place}
-use Rattle.tg_pbtable.specs.declared.table.Wire.TheVariants.{Varint, Bytes}
+use Rattle.tg_pbtable.specs.declared.table.Wire.{Wire}
+use Rattle.tg_pbtable.specs.declared.table.Wire.TheVariants.{Varint, Bytes, Fixed32}
 use Rattle.tg_pbtable.specs.Varint.{VarintSpelling}
 use Rattle.tg_pbtable.specs.Wires.{wire_code}
-use Rattle.tg_pbtable.specs.Message.{Message, KeySpelling, NumberSpelling, PlaceSpelling, ValueSpelling, Spelled, HasRule, AreRuled, IsCount, IsInOrder, count_of, numbers_of, wire_of}
+use Rattle.tg_pbtable.specs.Message.{Message, KeySpelling, NumberSpelling, PlaceSpelling, ValueSpelling, Spelled, IsRuledField, AreRuled, IsOfWire, IsCount, IsInOrder, count_of, numbers_of}
 use Rattle.tg_pbtable.specs.Emitted.{IsSameValue, AreSameFields, HeadSpelling, BytesSpelling, ValueText, FieldTexts, Puts}
 use Rattle.tg_pbtable.proofs.Numbers.{count_cons}
 use Rattle.tg_pbtable.proofs.Spellings.{place_range}
@@ -41,33 +43,55 @@ texts_append source [] gs a b p q = subst (λ (t : List ℕ). FieldTexts source 
 texts_append source (f ∷ fs) gs a b p q =
     (p.0, p.1 ++ b, ap (λ (t : List ℕ). t ++ b) p.2 ∙ append_assoc p.0 p.1 b, p.3, texts_append source fs gs p.1 b p.4 q)
 
-pub text_more : (source : List ℕ) (fs : List Field) (f : Field) (old new : List ℕ) → FieldTexts source fs old → Puts (λ bytes. ValueText source f.number f.value bytes) old new → FieldTexts source (fs ++ f ∷ []) new
+pub text_more : (source : List ℕ) (fs : List Field) (f : Field) (old new : List ℕ) → FieldTexts source fs old → Puts (λ bytes. ValueText source f.number f.wire f.value bytes) old new → FieldTexts source (fs ++ f ∷ []) new
 text_more source fs f old new h p =
     subst (λ (t : List ℕ). FieldTexts source (fs ++ f ∷ []) t) (sym p.whole)
     (texts_append source fs (f ∷ []) old p.bytes h (p.bytes, [], sym (append-nil p.bytes), p.spells, refl))
 
-value_bytes : (source : List ℕ) (number : ℕ) (value : Value) (text : List ℕ) → ValueText source number value text → AreBytes text
-value_bytes source number (Number n) text p =
+low_byte : (x : ℕ) → x % 256 < 256
+low_byte x = omega arith
+
+four_bytes : (n : ℕ) → AreBytes (to_le_bytes w32 n)
+four_bytes n =
+    let P = λ (b : ℕ). b < 256 in
+    let b0 = n % 256 in
+    let b1 = n / 256 % 256 in
+    let b2 = n / 65536 % 256 in
+    let b3 = n / 16777216 % 256 in
+    All-cons P b0 (b1 ∷ b2 ∷ b3 ∷ []) (low_byte n) (All-cons P b1 (b2 ∷ b3 ∷ []) (low_byte (n / 256))
+    (All-cons P b2 (b3 ∷ []) (low_byte (n / 65536)) (All-cons P b3 [] (low_byte (n / 16777216)) (All-nil P))))
+
+value_bytes : (source : List ℕ) (number : ℕ) (wire : Wire) (value : Value) (text : List ℕ) → ValueText source number wire value text → AreBytes text
+value_bytes source number Varint (Place start end) text p = absurd p
+value_bytes source number Bytes (Number n) text p = absurd p
+value_bytes source number Fixed32 (Place start end) text p = absurd p
+value_bytes source number Fixed32 (Number n) text p =
+    subst AreBytes (sym p.whole) (All-append (λ (b : ℕ). b < 256) p.key (to_le_bytes w32 n) p.key_is.groups.are_bytes (four_bytes n))
+value_bytes source number Varint (Number n) text p =
     subst AreBytes (sym p.whole) (All-append (λ (b : ℕ). b < 256) p.key p.amount p.key_is.groups.are_bytes p.amount_is.groups.are_bytes)
-value_bytes source number (Place start end) text p =
+value_bytes source number Bytes (Place start end) text p =
     let head : AreBytes p.head = subst AreBytes (sym p.head_is.whole) (All-append (λ (b : ℕ). b < 256) p.head_is.key p.head_is.amount p.head_is.key_is.groups.are_bytes p.head_is.amount_is.groups.are_bytes) in
     subst AreBytes (sym p.whole) (All-append (λ (b : ℕ). b < 256) p.head (slice_range source start end) head p.are_bytes)
 
 pub texts_bytes : (source : List ℕ) (fs : List Field) (text : List ℕ) → FieldTexts source fs text → AreBytes text
 texts_bytes source [] text p = subst AreBytes (sym p) (All-nil (λ (b : ℕ). b < 256))
 texts_bytes source (f ∷ fs) text p =
-    subst AreBytes (sym p.2) (All-append (λ (b : ℕ). b < 256) p.0 p.1 (value_bytes source f.number f.value p.0 p.3) (texts_bytes source fs p.1 p.4))
+    subst AreBytes (sym p.2) (All-append (λ (b : ℕ). b < 256) p.0 p.1 (value_bytes source f.number f.wire f.value p.0 p.3) (texts_bytes source fs p.1 p.4))
 
 -- ---- their places in a text
 
-record PlacedValue (source : List ℕ) (number : ℕ) (value : Value) (before front rest : List ℕ) : Type 0 where
+record PlacedValue (source : List ℕ) (number : ℕ) (wire : Wire) (value : Value) (before front rest : List ℕ) : Type 0 where
   placed : Value
-  spelled : ValueSpelling (length before) number placed front
+  spelled : ValueSpelling (length before) number wire placed front
   same : IsSameValue source value (before ++ (front ++ rest)) placed
 
-placed_value : (source : List ℕ) (number : ℕ) (value : Value) (before front rest : List ℕ) → ValueText source number value front → PlacedValue source number value before front rest
-placed_value source number (Number n) before front rest p = record { placed = Number n; spelled = p; same = refl }
-placed_value source number (Place start end) before front rest p =
+placed_value : (source : List ℕ) (number : ℕ) (wire : Wire) (value : Value) (before front rest : List ℕ) → ValueText source number wire value front → PlacedValue source number wire value before front rest
+placed_value source number Varint (Place start end) before front rest p = absurd p
+placed_value source number Bytes (Number n) before front rest p = absurd p
+placed_value source number Fixed32 (Place start end) before front rest p = absurd p
+placed_value source number Fixed32 (Number n) before front rest p = record { placed = Number n; spelled = p; same = refl }
+placed_value source number Varint (Number n) before front rest p = record { placed = Number n; spelled = p; same = refl }
+placed_value source number Bytes (Place start end) before front rest p =
     let content = slice_range source start end in
     let from = length before + length p.head_is.key + length p.head_is.amount in
     let here : PlaceSpelling (length before) number from (from + length content) front = record {
@@ -92,13 +116,14 @@ pub record Placed (source : List ℕ) (fields : List Field) (before text : List 
 pub placed_fields : (source : List ℕ) (fs : List Field) (before text : List ℕ) → FieldTexts source fs text → Placed source fs before text
 placed_fields source [] before text p = record { placed = []; spelled = p; same = tt }
 placed_fields source (f ∷ fs) before text p =
-    let v = placed_value source f.number f.value before p.0 p.1 p.3 in
+    let v = placed_value source f.number f.wire f.value before p.0 p.1 p.3 in
     let rest = placed_fields source fs (before ++ p.0) p.1 p.4 in
     let whole : before ++ text ≡ before ++ (p.0 ++ p.1) = ap (λ (t : List ℕ). before ++ t) p.2 in
     record {
-      placed = record { number = f.number; value = v.placed } ∷ rest.placed;
+      placed = record { number = f.number; wire = f.wire; value = v.placed } ∷ rest.placed;
       spelled = (p.0, p.1, p.2, v.spelled, subst (λ (n : ℕ). Spelled n rest.placed p.1) (length-append before p.0) rest.spelled);
       same = (
+        refl,
         refl,
         subst (λ (t : List ℕ). IsSameValue source f.value t v.placed) (sym whole) v.same,
         subst (λ (t : List ℕ). AreSameFields source fs t rest.placed) (append_assoc before p.0 p.1 ∙ sym whole) rest.same,
@@ -111,7 +136,7 @@ same_numbers : (source text : List ℕ) (fs gs : List Field) → AreSameFields s
 same_numbers source text [] [] same = refl
 same_numbers source text [] (g ∷ gs) same = absurd same
 same_numbers source text (f ∷ fs) [] same = absurd same
-same_numbers source text (f ∷ fs) (g ∷ gs) same = ap₂ (λ (n : ℕ) (ns : List ℕ). n ∷ ns) same.0 (same_numbers source text fs gs same.2)
+same_numbers source text (f ∷ fs) (g ∷ gs) same = ap₂ (λ (n : ℕ) (ns : List ℕ). n ∷ ns) same.0 (same_numbers source text fs gs same.3)
 
 same_counts : (source text : List ℕ) (fs gs : List Field) (n : ℕ) → AreSameFields source fs text gs → count_of fs n ≡ count_of gs n
 same_counts source text [] [] n same = refl
@@ -119,23 +144,31 @@ same_counts source text [] (g ∷ gs) n same = absurd same
 same_counts source text (f ∷ fs) [] n same = absurd same
 same_counts source text (f ∷ fs) (g ∷ gs) n same =
     let heads : f.number ≡ g.number = same.0 in
-    count_cons f fs n ∙ ap₂ (λ (a b : ℕ). cond (a == n) 1 0 + b) heads (same_counts source text fs gs n same.2) ∙ sym (count_cons g gs n)
+    count_cons f fs n ∙ ap₂ (λ (a b : ℕ). cond (a == n) 1 0 + b) heads (same_counts source text fs gs n same.3) ∙ sym (count_cons g gs n)
 
-same_wire : (source text : List ℕ) (v w : Value) → IsSameValue source v text w → wire_of v ≡ wire_of w
-same_wire source text (Number m) (Number n) same = refl
-same_wire source text (Number m) (Place start end) same = absurd same
-same_wire source text (Place from to) (Number n) same = absurd same
-same_wire source text (Place from to) (Place start end) same = refl
+same_of_wire : (source text : List ℕ) (x : Wire) (v w : Value) → IsSameValue source v text w → IsOfWire x v → IsOfWire x w
+same_of_wire source text Varint (Number m) (Number n) same h = tt
+same_of_wire source text Bytes (Number m) (Number n) same h = absurd h
+same_of_wire source text Fixed32 (Number m) (Number n) same h = subst (λ (k : ℕ). k < 2 ^ 32) same h
+same_of_wire source text x (Number m) (Place start end) same h = absurd same
+same_of_wire source text x (Place from to) (Number n) same h = absurd same
+same_of_wire source text Varint (Place from to) (Place start end) same h = absurd h
+same_of_wire source text Bytes (Place from to) (Place start end) same h = tt
+same_of_wire source text Fixed32 (Place from to) (Place start end) same h = absurd h
 
 same_ruled : (source text : List ℕ) (rules : List Rule) (fs gs : List Field) → AreSameFields source fs text gs → AreRuled rules fs → AreRuled rules gs
 same_ruled source text rules [] [] same r = r
 same_ruled source text rules [] (g ∷ gs) same r = absurd same
 same_ruled source text rules (f ∷ fs) [] same r = absurd same
 same_ruled source text rules (f ∷ fs) (g ∷ gs) same r =
-    let has = All-head (λ (x : Field). HasRule rules x.number (wire_of x.value)) f fs r in
-    All-cons (λ (x : Field). HasRule rules x.number (wire_of x.value)) g gs
-    (record { rule = has.rule; among = has.among; number_is = has.number_is ∙ same.0; wire_is = has.wire_is ∙ same_wire source text f.value g.value same.1 })
-    (same_ruled source text rules fs gs same.2 (All-tail (λ (x : Field). HasRule rules x.number (wire_of x.value)) f fs r))
+    let is_ruled : IsRuledField rules f = All-head (IsRuledField rules) f fs r in
+    let has = is_ruled.has_rule in
+    All-cons (IsRuledField rules) g gs
+    (record {
+      has_rule = record { rule = has.rule; among = has.among; number_is = has.number_is ∙ same.0; wire_is = has.wire_is ∙ same.1 };
+      of_wire = subst (λ (x : Wire). IsOfWire x g.value) same.1 (same_of_wire source text f.wire f.value g.value same.2 is_ruled.of_wire);
+    })
+    (same_ruled source text rules fs gs same.3 (All-tail (IsRuledField rules) f fs r))
 
 pub message_again : (source text : List ℕ) (rules : List Rule) (order : Order) (fields : List Field) → AreRuled rules fields → All (λ (rule : Rule). IsCount rule.times (count_of fields rule.number)) rules → IsInOrder order (numbers_of fields) → (w : Placed source fields [] text)
     → Message rules order text w.placed

@@ -9,13 +9,13 @@ use Rattle.tg_pbtable.specs.declared.table.Field.{Field}
 use Rattle.tg_pbtable.specs.declared.cursor.FieldCursor.{FieldCursor}
 use Rattle.tg_pbtable.specs.declared.fault.PbFault.{PbFault}
 use Rattle.tg_pbtable.specs.declared.fault.PbFault.TheVariants as faults
-use Rattle.tg_pbtable.specs.Message.{IsTable, Spelled, FieldSpelling, wire_of}
+use Rattle.tg_pbtable.specs.Message.{IsTable, Spelled, FieldSpelling}
 use Rattle.tg_pbtable.specs.Wires.{wire_code}
 use Rattle.tg_pbtable.specs.Faults.{HasField}
 use Rattle.tg_pbtable.specs.Emitted.{LiesIn}
 use Rattle.tg_pbtable.specs.Cursor.{HasRead, StandsAt, IsRefused}
 use Rattle.tg_pbtable.specs.Reading.{IsRuled}
-use Rattle.tg_pbtable.proofs.Spellings.{one_field}
+use Rattle.tg_pbtable.proofs.Spellings.{one_field, value_of_wire}
 use Rattle.tg_pbtable.proofs.Tables.{value_inside}
 use Rattle.tg_pbtable.proofs.Whole.{spelled_has, read_short_field, read_bad_field}
 use Rattle.tg_pbtable.proofs.Causes.{Verdict, short, bad, unknown, wrong, Judged, fault_of, one_verdict, unknown_known, wrong_right}
@@ -42,7 +42,7 @@ stands_at rules text at i f next r = record {
   rest = r.spelled.behind;
   whole = r.spelled.whole;
   spelled = r.spelled.spelled;
-  ruled = record { rule = r.rule; among = among rules i r.rule r.rule_at; number_is = r.number_is; wire_is = r.wire_is };
+  ruled = record { has_rule = record { rule = r.rule; among = among rules i r.rule r.rule_at; number_is = r.number_is; wire_is = r.wire_is }; of_wire = value_of_wire at f.number f.wire f.value r.spelled.front r.spelled.spelled };
   next_is = r.spelled.next_is;
 }
 
@@ -50,7 +50,7 @@ pub lies_in : (rules : List Rule) (text : List ℕ) (at : ℕ) (f : Field) (next
 lies_in rules text at f next l s =
     let before : at ≡ length (take at text) = sym (length-take-le at text l) in
     subst (λ (t : List ℕ). LiesIn t f.value) (ap (λ (t : List ℕ). take at text ++ t) (sym s.whole) ∙ take-append-drop at text)
-    (value_inside (take at text) s.front s.rest f.number f.value (subst (λ (n : ℕ). FieldSpelling n f s.front) before s.spelled))
+    (value_inside (take at text) s.front s.rest f.number f.wire f.value (subst (λ (n : ℕ). FieldSpelling n f s.front) before s.spelled))
 
 -- one field stands at a place
 pub one_at : (rules : List Rule) (text : List ℕ) (at : ℕ) (f g : Field) (m n : ℕ) → StandsAt rules text at f m → StandsAt rules text at g n → (f ≡ g) × (m ≡ n)
@@ -61,20 +61,20 @@ one_at rules text at f g m n a b =
 
 -- ---- where a field under a rule stands nothing is refused
 
-stands_field : (rules : List Rule) (text : List ℕ) (at : ℕ) (f : Field) (next : ℕ) → StandsAt rules text at f next → HasField f.number (wire_code (wire_of f.value)) (drop at text)
-stands_field rules text at f next s = spelled_has at f.number f.value s.front s.rest (drop at text) s.spelled s.whole
+stands_field : (rules : List Rule) (text : List ℕ) (at : ℕ) (f : Field) (next : ℕ) → StandsAt rules text at f next → HasField f.number (wire_code f.wire) (drop at text)
+stands_field rules text at f next s = spelled_has at f.number f.wire f.value s.front s.rest (drop at text) s.spelled s.whole
 
-ruled_field : (rules : List Rule) (text : List ℕ) (at : ℕ) (f : Field) (next : ℕ) (s : StandsAt rules text at f next) → HasField s.ruled.rule.number (wire_code s.ruled.rule.wire) (drop at text)
+ruled_field : (rules : List Rule) (text : List ℕ) (at : ℕ) (f : Field) (next : ℕ) (s : StandsAt rules text at f next) → HasField s.ruled.has_rule.rule.number (wire_code s.ruled.has_rule.rule.wire) (drop at text)
 ruled_field rules text at f next s =
-    subst (λ (n : ℕ). HasField n (wire_code s.ruled.rule.wire) (drop at text)) (sym s.ruled.number_is)
-    (subst (λ (w : Wire). HasField f.number (wire_code w) (drop at text)) (sym s.ruled.wire_is) (stands_field rules text at f next s))
+    subst (λ (n : ℕ). HasField n (wire_code s.ruled.has_rule.rule.wire) (drop at text)) (sym s.ruled.has_rule.number_is)
+    (subst (λ (w : Wire). HasField f.number (wire_code w) (drop at text)) (sym s.ruled.has_rule.wire_is) (stands_field rules text at f next s))
 
 pub not_refused : (rules : List Rule) (text : List ℕ) (at : ℕ) (f : Field) (next : ℕ) (e : PbFault) → IsTable rules → StandsAt rules text at f next → IsRefused rules at (drop at text) e → ⊥
-not_refused rules text at f next (faults.Short place) t s h = read_short_field (drop at text) f.number (wire_code (wire_of f.value)) h.1 (stands_field rules text at f next s)
-not_refused rules text at f next (faults.BadVarint place) t s h = read_bad_field (drop at text) f.number (wire_code (wire_of f.value)) h.1 (stands_field rules text at f next s)
+not_refused rules text at f next (faults.Short place) t s h = read_short_field (drop at text) f.number (wire_code f.wire) h.1 (stands_field rules text at f next s)
+not_refused rules text at f next (faults.BadVarint place) t s h = read_bad_field (drop at text) f.number (wire_code f.wire) h.1 (stands_field rules text at f next s)
 not_refused rules text at f next (faults.Unknown place number) t s h =
-    unknown_known rules (drop at text) number s.ruled.rule f.number (wire_code (wire_of f.value)) h.1 s.ruled.among s.ruled.number_is (stands_field rules text at f next s)
-not_refused rules text at f next (faults.WrongWire place) t s h = wrong_right rules (drop at text) s.ruled.rule t h.1 s.ruled.among (ruled_field rules text at f next s)
+    unknown_known rules (drop at text) number s.ruled.has_rule.rule f.number (wire_code f.wire) h.1 s.ruled.has_rule.among s.ruled.has_rule.number_is (stands_field rules text at f next s)
+not_refused rules text at f next (faults.WrongWire place) t s h = wrong_right rules (drop at text) s.ruled.has_rule.rule t h.1 s.ruled.has_rule.among (ruled_field rules text at f next s)
 not_refused rules text at f next (faults.OutOfOrder place) t s h = absurd h
 not_refused rules text at f next (faults.Doubled place) t s h = absurd h
 not_refused rules text at f next (faults.Missing number) t s h = absurd h

@@ -15,14 +15,14 @@ use Rattle.tg_pbtable.specs.declared.table.Field.{Field}
 use Rattle.tg_pbtable.specs.declared.cursor.FieldCursor.{FieldCursor}
 use Rattle.tg_pbtable.specs.declared.fault.PbFault.{PbFault}
 use Rattle.tg_pbtable.specs.declared.fault.PbFault.TheVariants as faults
-use Rattle.tg_pbtable.specs.Message.{Message, IsTable, Spelled, FieldSpelling, HasRule, count_of, numbers_of, IsInOrder, IsAtMost, IsCount, wire_of}
+use Rattle.tg_pbtable.specs.Message.{Message, IsTable, Spelled, FieldSpelling, IsRuledField, count_of, numbers_of, IsInOrder, IsAtMost, IsCount}
 use Rattle.tg_pbtable.specs.Faults.{Begins, HasCause, HasRuled, BreaksOrder}
 use Rattle.tg_pbtable.specs.Emitted.{LiesIn}
 use Rattle.tg_pbtable.specs.Cursor.{HasRead, EndsIn, has_number}
 use Rattle.tg_pbtable.specs.Reading.{IsRuled, IsRuleAt, AreMet, IsLowest, IsLowestUnmet}
 use Rattle.tg_pbtable.proofs.Causes.{one_rule, one_cause, no_cause}
 use Rattle.tg_pbtable.proofs.Numbers.{count_push_same, count_push_other, contains_count, count_contains, none_before, none_counted, numbers_push}
-use Rattle.tg_pbtable.proofs.Spellings.{spelled_push}
+use Rattle.tg_pbtable.proofs.Spellings.{spelled_push, value_of_wire}
 use Rattle.tg_pbtable.proofs.Tables.{value_inside}
 
 -- ---- which rules have a field
@@ -133,14 +133,14 @@ read_more rules way text fields c i f next t s r inorder once =
           whole = whole ∙ ap (λ (x : List ℕ). front ++ x) (sym rest);
           at_is = end;
           spelled = spelled_push fields f 0 b.front p.front b.spelled (subst (λ (n : ℕ). FieldSpelling n f p.front) (let e : length b.front ≡ 0 + length b.front = omega arith in e) place);
-          ruled = All-push (λ (x : Field). HasRule rules x.number (wire_of x.value)) fields f b.ruled (record { rule = r.rule; among = here; number_is = r.number_is; wire_is = r.wire_is });
+          ruled = All-push (IsRuledField rules) fields f b.ruled (record { has_rule = record { rule = r.rule; among = here; number_is = r.number_is; wire_is = r.wire_is }; of_wire = value_of_wire c.at f.number f.wire f.value p.front p.spelled });
           counts = λ k d l. count_more rules way fields f r.rule (get_or rules k d) t here r.number_is inorder once (Contains-get_or rules k d l) (b.counts k d l);
           ordered = subst (λ (ns : List ℕ). IsInOrder way ns) (sym numbers) inorder;
         };
         seen_is = seen_more rules fields c.seen i r.rule f t s.seen_is r.rule_at r.number_is;
         last_is = (numbers_of fields, numbers);
       },
-      subst (λ (x : List ℕ). LiesIn x f.value) (sym (b.whole ∙ ap (λ (x : List ℕ). b.front ++ x) p.whole)) (value_inside b.front p.front p.behind f.number f.value place),
+      subst (λ (x : List ℕ). LiesIn x f.value) (sym (b.whole ∙ ap (λ (x : List ℕ). b.front ++ x) p.whole)) (value_inside b.front p.front p.behind f.number f.wire f.value place),
       omega (arith, p.more),
     )
 

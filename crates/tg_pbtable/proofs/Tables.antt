@@ -7,6 +7,8 @@ use Rattle.std.proofs.lemmas.List.{length-append}
 use Rattle.std.proofs.lemmas.List.Elements.{All-nil, All-cons}
 use Rattle.tg_pbtable.specs.declared.table.Rule.{Rule}
 use Rattle.tg_pbtable.specs.declared.table.Field.{Field}
+use Rattle.tg_pbtable.specs.declared.table.Wire.{Wire}
+use Rattle.tg_pbtable.specs.declared.table.Wire.TheVariants.{Varint, Bytes, Fixed32}
 use Rattle.tg_pbtable.specs.declared.table.Value.{Value}
 use Rattle.tg_pbtable.specs.declared.table.Value.TheVariants.{Number, Place}
 use Rattle.tg_pbtable.specs.Message.{IsTable, Spelled, ValueSpelling}
@@ -16,9 +18,11 @@ use Rattle.tg_pbtable.proofs.Spellings.{moved}
 
 -- ---- places
 
-pub value_inside : (before front rest : List ℕ) (number : ℕ) (v : Value) → ValueSpelling (length before) number v front → LiesIn (before ++ (front ++ rest)) v
-value_inside before front rest number (Number n) p = tt
-value_inside before front rest number (Place start end) p = (
+pub value_inside : (before front rest : List ℕ) (number : ℕ) (w : Wire) (v : Value) → ValueSpelling (length before) number w v front → LiesIn (before ++ (front ++ rest)) v
+value_inside before front rest number w (Number n) p = tt
+value_inside before front rest number Varint (Place start end) p = absurd p
+value_inside before front rest number Fixed32 (Place start end) p = absurd p
+value_inside before front rest number Bytes (Place start end) p = (
   omega (arith, p.end_is),
   omega (arith, p.start_is, p.end_is, ap length p.whole, length-append before (front ++ rest), length-append front rest, length-append p.key (p.size ++ p.content), length-append p.size p.content),
 )
@@ -28,7 +32,7 @@ inside [] before mid p = All-nil (λ (f : Field). LiesIn (before ++ mid) f.value
 inside (f ∷ fs) before mid p =
     let whole : before ++ mid ≡ before ++ (p.0 ++ p.1) = ap (λ (t : List ℕ). before ++ t) p.2 in
     All-cons (λ (x : Field). LiesIn (before ++ mid) x.value) f fs
-    (subst (λ (t : List ℕ). LiesIn t f.value) (sym whole) (value_inside before p.0 p.1 f.number f.value p.3))
+    (subst (λ (t : List ℕ). LiesIn t f.value) (sym whole) (value_inside before p.0 p.1 f.number f.wire f.value p.3))
     (subst (λ (t : List ℕ). All (λ (x : Field). LiesIn t x.value) fs) (append_assoc before p.0 p.1 ∙ sym whole) (inside fs (before ++ p.0) p.1 (moved (length before) before p.0 p.1 fs refl p.4)))
 
 pub places_inside : (text : List ℕ) (fs : List Field) → Spelled 0 fs text → All (λ (f : Field). LiesIn text f.value) fs

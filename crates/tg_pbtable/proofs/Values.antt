@@ -6,13 +6,13 @@ use Rattle.std.proofs.lemmas.Bool.{cond-true, cond-false, eq-eqb, ne_eqb, cases_
 use Rattle.std.proofs.lemmas.List.Elements.{All-nil, All-cons, All-head, All-tail, All-contains, Contains-append_right}
 use Rattle.tg_pbtable.specs.declared.table.Rule.{Rule}
 use Rattle.tg_pbtable.specs.declared.table.Wire.{Wire}
-use Rattle.tg_pbtable.specs.declared.table.Wire.TheVariants.{Varint, Bytes}
+use Rattle.tg_pbtable.specs.declared.table.Wire.TheVariants.{Varint, Bytes, Fixed32}
 use Rattle.tg_pbtable.specs.declared.table.Order.{Order}
 use Rattle.tg_pbtable.specs.declared.table.Order.TheVariants.{Ascending}
 use Rattle.tg_pbtable.specs.declared.table.Field.{Field}
 use Rattle.tg_pbtable.specs.declared.table.Value.{Value}
 use Rattle.tg_pbtable.specs.declared.table.Value.TheVariants.{Number, Place}
-use Rattle.tg_pbtable.specs.Message.{Message, IsTable, HasRule, AreRuled, count_of, numbers_of, wire_of}
+use Rattle.tg_pbtable.specs.Message.{Message, IsTable, IsOfWire, HasRule, IsRuledField, AreRuled, count_of, numbers_of}
 use Rattle.tg_pbtable.specs.Emitted.{IsSameValue, AreSameFields}
 use Rattle.tg_pbtable.specs.Values.{number_in, bytes_in, numbers_at, bytes_at, HasSameValues, IsSameFor}
 use Rattle.tg_pbtable.proofs.Spellings.{one_text}
@@ -97,30 +97,42 @@ values_count text n (f ∷ fs) = count_step text (f.number == n) f.value (number
 
 -- ---- under a table
 
-number_has_none : (text : List ℕ) (v : Value) → wire_of v ≡ Varint → bytes_in text v ≡ []
-number_has_none text (Number n) e = refl
-number_has_none text (Place start end) e = absurd (cc)
+-- values of a wire type are numbers
+abbrev pub AreNumbers : Wire → Type 0
+AreNumbers w = (text : List ℕ) (v : Value) → IsOfWire w v → bytes_in text v ≡ []
 
-place_has_none : (v : Value) → wire_of v ≡ Bytes → number_in v ≡ []
-place_has_none (Number n) e = absurd (cc)
-place_has_none (Place start end) e = refl
+varint_numbers : AreNumbers Varint
+varint_numbers text (Number n) h = refl
+varint_numbers text (Place start end) h = absurd h
+
+fixed_numbers : AreNumbers Fixed32
+fixed_numbers text (Number n) h = refl
+fixed_numbers text (Place start end) h = absurd h
+
+place_has_none : (v : Value) → IsOfWire Bytes v → number_in v ≡ []
+place_has_none (Number n) h = absurd h
+place_has_none (Place start end) h = refl
 
 -- a number has one wire type
 pub one_wire : (rules : List Rule) (n : ℕ) (v w : Wire) → IsTable rules → HasRule rules n v → HasRule rules n w → v ≡ w
 one_wire rules n v w t a b = sym a.wire_is ∙ ap (λ (r : Rule). r.wire) (one_rule rules a.rule b.rule t a.among b.among (a.number_is ∙ sym b.number_is)) ∙ b.wire_is
 
-field_wire : (rules : List Rule) (n : ℕ) (w : Wire) (f : Field) → IsTable rules → HasRule rules n w → HasRule rules f.number (wire_of f.value) → f.number ≡ n → wire_of f.value ≡ w
-field_wire rules n w f t a b e = one_wire rules n (wire_of f.value) w t (subst (λ (m : ℕ). HasRule rules m (wire_of f.value)) e b) a
+field_wire : (rules : List Rule) (n : ℕ) (w : Wire) (f : Field) → IsTable rules → HasRule rules n w → HasRule rules f.number f.wire → f.number ≡ n → f.wire ≡ w
+field_wire rules n w f t a b e = one_wire rules n f.wire w t (subst (λ (m : ℕ). HasRule rules m f.wire) e b) a
 
-pub no_bytes : (rules : List Rule) (text : List ℕ) (n : ℕ) (fs : List Field) → IsTable rules → HasRule rules n Varint → AreRuled rules fs → bytes_at text n fs ≡ []
-no_bytes rules text n fs t r h = no_bytes_in text n fs (λ k d l e. number_has_none text (get_or fs k d).value (field_wire rules n Varint (get_or fs k d) t r (h k d l) e))
+-- a field under a rule has a value of the rule's wire type
+field_of_wire : (rules : List Rule) (n : ℕ) (w : Wire) (f : Field) → IsTable rules → HasRule rules n w → IsRuledField rules f → f.number ≡ n → IsOfWire w f.value
+field_of_wire rules n w f t a b e = subst (λ (x : Wire). IsOfWire x f.value) (field_wire rules n w f t a b.has_rule e) b.of_wire
+
+pub no_bytes : (rules : List Rule) (text : List ℕ) (n : ℕ) (w : Wire) (fs : List Field) → AreNumbers w → IsTable rules → HasRule rules n w → AreRuled rules fs → bytes_at text n fs ≡ []
+no_bytes rules text n w fs are t r h = no_bytes_in text n fs (λ k d l e. are text (get_or fs k d).value (field_of_wire rules n w (get_or fs k d) t r (h k d l) e))
 
 pub no_numbers : (rules : List Rule) (n : ℕ) (fs : List Field) → IsTable rules → HasRule rules n Bytes → AreRuled rules fs → numbers_at n fs ≡ []
-no_numbers rules n fs t r h = no_numbers_in n fs (λ k d l e. place_has_none (get_or fs k d).value (field_wire rules n Bytes (get_or fs k d) t r (h k d l) e))
+no_numbers rules n fs t r h = no_numbers_in n fs (λ k d l e. place_has_none (get_or fs k d).value (field_of_wire rules n Bytes (get_or fs k d) t r (h k d l) e))
 
 pub all_numbers : (rules : List Rule) (n : ℕ) (fs : List Field) → IsTable rules → HasRule rules n Varint → AreRuled rules fs → length (numbers_at n fs) ≡ count_of fs n
 all_numbers rules n fs t r h =
-    let none : length (bytes_at [] n fs) ≡ 0 = ap length (no_bytes rules [] n fs t r h) in
+    let none : length (bytes_at [] n fs) ≡ 0 = ap length (no_bytes rules [] n Varint fs varint_numbers t r h) in
     omega (arith, values_count [] n fs)
 
 pub all_bytes : (rules : List Rule) (text : List ℕ) (n : ℕ) (fs : List Field) → IsTable rules → HasRule rules n Bytes → AreRuled rules fs → length (bytes_at text n fs) ≡ count_of fs n
@@ -132,7 +144,7 @@ all_bytes rules text n fs t r h =
 pub no_values : (rules : List Rule) (text : List ℕ) (n : ℕ) (fs : List Field) → All (λ (r : Rule). r.number ≢ n) rules → AreRuled rules fs → (numbers_at n fs ≡ []) × (bytes_at text n fs ≡ [])
 no_values rules text n fs none h =
     let unruled : (k : ℕ) (d : Field) → k < length fs → (get_or fs k d).number ≡ n → ⊥ =
-    λ k d l e. let has = h k d l in All-contains (λ (r : Rule). r.number ≢ n) rules has.rule none has.among (has.number_is ∙ e) in (
+    λ k d l e. let has = (h k d l).has_rule in All-contains (λ (r : Rule). r.number ≢ n) rules has.rule none has.among (has.number_is ∙ e) in (
       no_numbers_in n fs (λ k d l e. absurd (unruled k d l e)),
       no_bytes_in text n fs (λ k d l e. absurd (unruled k d l e)),
     )
@@ -153,8 +165,8 @@ values_of_same s t [] [] h = record { numbers = λ n. refl; bytes = λ n. refl }
 values_of_same s t [] (g ∷ gs) h = absurd h
 values_of_same s t (f ∷ fs) [] h = absurd h
 values_of_same s t (f ∷ fs) (g ∷ gs) h =
-    let rest = values_of_same s t fs gs h.2 in
-    let here = same_parts s t f.value g.value h.1 in
+    let rest = values_of_same s t fs gs h.3 in
+    let here = same_parts s t f.value g.value h.2 in
     record {
       numbers = λ n. same_step f.number g.number n (number_in f.value) (number_in g.value) (numbers_at n fs) (numbers_at n gs) h.0 here.0 (rest.numbers n);
       bytes = λ n. same_step f.number g.number n (bytes_in s f.value) (bytes_in t g.value) (bytes_at s n fs) (bytes_at t n gs) h.0 here.1 (rest.bytes n);
@@ -162,24 +174,28 @@ values_of_same s t (f ∷ fs) (g ∷ gs) h =
 
 -- ---- the same values and the same numbers make the same fields
 
-value_step : (s t : List ℕ) (v w : Value) (p q : List ℕ) (P Q : List (List ℕ)) → wire_of v ≡ wire_of w → number_in v ++ p ≡ number_in w ++ q → bytes_in s v ++ P ≡ bytes_in t w ++ Q
+value_step : (s t : List ℕ) (x : Wire) (v w : Value) (p q : List ℕ) (P Q : List (List ℕ)) → IsOfWire x v → IsOfWire x w → number_in v ++ p ≡ number_in w ++ q → bytes_in s v ++ P ≡ bytes_in t w ++ Q
     → IsSameValue s v t w × (p ≡ q) × (P ≡ Q)
-value_step s t (Number m) (Number n) p q P Q e a b = let h : m ∷ p ≡ n ∷ q = a in (cc, cc, b)
-value_step s t (Place i j) (Place k l) p q P Q e a b = let h : slice_range s i j ∷ P ≡ slice_range t k l ∷ Q = b in (cc, a, cc)
-value_step s t (Number m) (Place k l) p q P Q e a b = absurd (cc)
-value_step s t (Place i j) (Number n) p q P Q e a b = absurd (cc)
+value_step s t x (Number m) (Number n) p q P Q f g a b = let h : m ∷ p ≡ n ∷ q = a in (cc, cc, b)
+value_step s t x (Place i j) (Place k l) p q P Q f g a b = let h : slice_range s i j ∷ P ≡ slice_range t k l ∷ Q = b in (cc, a, cc)
+value_step s t Varint (Number m) (Place k l) p q P Q f g a b = absurd g
+value_step s t Bytes (Number m) (Place k l) p q P Q f g a b = absurd f
+value_step s t Fixed32 (Number m) (Place k l) p q P Q f g a b = absurd g
+value_step s t Varint (Place i j) (Number n) p q P Q f g a b = absurd f
+value_step s t Bytes (Place i j) (Number n) p q P Q f g a b = absurd g
+value_step s t Fixed32 (Place i j) (Number n) p q P Q f g a b = absurd f
 
 record SameStep (s : List ℕ) (f : Field) (fs : List Field) (t : List ℕ) (g : Field) (gs : List Field) : Type 0 where
   value : IsSameValue s f.value t g.value
   rest : HasSameValues s fs t gs
 
-first_same : (s t : List ℕ) (f g : Field) (fs gs : List Field) → wire_of f.value ≡ wire_of g.value → f.number ≡ g.number → HasSameValues s (f ∷ fs) t (g ∷ gs) → SameStep s f fs t g gs
-first_same s t f g fs gs wire e same =
+first_same : (s t : List ℕ) (x : Wire) (f g : Field) (fs gs : List Field) → IsOfWire x f.value → IsOfWire x g.value → f.number ≡ g.number → HasSameValues s (f ∷ fs) t (g ∷ gs) → SameStep s f fs t g gs
+first_same s t x f g fs gs left right e same =
     let numbers : number_in f.value ++ numbers_at f.number fs ≡ number_in g.value ++ numbers_at f.number gs =
     sym (numbers_here f.number f fs refl) ∙ same.numbers f.number ∙ numbers_here f.number g gs (sym e) in
     let bytes : bytes_in s f.value ++ bytes_at s f.number fs ≡ bytes_in t g.value ++ bytes_at t f.number gs =
     sym (bytes_here s f.number f fs refl) ∙ same.bytes f.number ∙ bytes_here t f.number g gs (sym e) in
-    let step = value_step s t f.value g.value (numbers_at f.number fs) (numbers_at f.number gs) (bytes_at s f.number fs) (bytes_at t f.number gs) wire numbers bytes in
+    let step = value_step s t x f.value g.value (numbers_at f.number fs) (numbers_at f.number gs) (bytes_at s f.number fs) (bytes_at t f.number gs) left right numbers bytes in
     record {
       value = step.0;
       rest = record {
@@ -199,12 +215,14 @@ same_fields rules s t [] [] table rf rg e same = tt
 same_fields rules s t [] (g ∷ gs) table rf rg e same = absurd (cc)
 same_fields rules s t (f ∷ fs) [] table rf rg e same = absurd (cc)
 same_fields rules s t (f ∷ fs) (g ∷ gs) table rf rg e same =
-    let P = λ (x : Field). HasRule rules x.number (wire_of x.value) in
+    let P = IsRuledField rules in
+    let left : IsRuledField rules f = All-head P f fs rf in
+    let right : IsRuledField rules g = All-head P g gs rg in
     let heads : f.number ∷ numbers_of fs ≡ g.number ∷ numbers_of gs = e in
     let number : f.number ≡ g.number = cc in
-    let wire : wire_of f.value ≡ wire_of g.value = field_wire rules g.number (wire_of g.value) f table (All-head P g gs rg) (All-head P f fs rf) number in
-    let step = first_same s t f g fs gs wire number same in
-    (number, step.value, same_fields rules s t fs gs table (All-tail P f fs rf) (All-tail P g gs rg) (cc) step.rest)
+    let wire : f.wire ≡ g.wire = field_wire rules g.number g.wire f table right.has_rule left.has_rule number in
+    let step = first_same s t g.wire f g fs gs (subst (λ (x : Wire). IsOfWire x f.value) wire left.of_wire) right.of_wire number same in
+    (number, wire, step.value, same_fields rules s t fs gs table (All-tail P f fs rf) (All-tail P g gs rg) (cc) step.rest)
 
 -- ---- in ascending order the same values have the same numbers
 
@@ -255,7 +273,8 @@ abbrev IsSameAt : List ℕ → List Field → List ℕ → List Field → ℕ �
 IsSameAt s fs t gs n = (numbers_at n fs ≡ numbers_at n gs) × (bytes_at s n fs ≡ bytes_at t n gs)
 
 by_wire : (rules : List Rule) (s t : List ℕ) (fs gs : List Field) (n : ℕ) (w : Wire) → IsTable rules → AreRuled rules fs → AreRuled rules gs → HasRule rules n w → IsSameFor s fs t gs n w → IsSameAt s fs t gs n
-by_wire rules s t fs gs n Varint table rf rg r h = (h, no_bytes rules s n fs table r rf ∙ sym (no_bytes rules t n gs table r rg))
+by_wire rules s t fs gs n Varint table rf rg r h = (h, no_bytes rules s n Varint fs varint_numbers table r rf ∙ sym (no_bytes rules t n Varint gs varint_numbers table r rg))
+by_wire rules s t fs gs n Fixed32 table rf rg r h = (h, no_bytes rules s n Fixed32 fs fixed_numbers table r rf ∙ sym (no_bytes rules t n Fixed32 gs fixed_numbers table r rg))
 by_wire rules s t fs gs n Bytes table rf rg r h = (no_numbers rules n fs table r rf ∙ sym (no_numbers rules n gs table r rg), h)
 
 rule_or_none : (rules : List Rule) (n : ℕ) → ((w : Wire) × HasRule rules n w) ⊎ All (λ (r : Rule). r.number ≢ n) rules

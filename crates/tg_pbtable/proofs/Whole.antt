@@ -1,28 +1,31 @@
 -- Fields read from bytes, and why none is read: of these one holds at a place.
-use Rattle.std.proofs.Common.{◌≡◌, ℕ, ◌+◌, ◌-◌, ◌*◌, ◌/◌, ◌%◌, ◌<◌, ◌≤◌, Option, Some, None, List, ◌++◌, length, take, drop, refl, sym, ap, ◌∙◌, append_assoc, subst, inl, inr, arith}
+use Rattle.std.proofs.Common.{◌≡◌, ℕ, ◌+◌, ◌-◌, ◌*◌, ◌/◌, ◌%◌, ◌<◌, ◌≤◌, Option, Some, None, List, ◌++◌, length, take, drop, get_or, refl, sym, ap, ◌∙◌, append_assoc, subst, inl, inr, arith}
 use Rattle.std.specs.Prelude.{All}
-use Rattle.std.proofs.lemmas.List.{length-append, length-drop, length-take-le, take-append-drop, drop-drop, take_rest}
+use Rattle.std.specs.Int.{to_le_bytes, from_le_bytes, w32}
+use Rattle.std.proofs.lemmas.Nat.{le_bytes_4}
+use Rattle.std.proofs.lemmas.Bool.{cases_lt}
+use Rattle.std.proofs.lemmas.List.{length-append, length-drop, length-take-le, take-append-drop, drop-drop, take_rest, get_or_past}
 use Rattle.std.proofs.lemmas.List.Elements.{All-take, All-drop}
 use Rattle.tg_pbtable.specs.declared.table.Wire.{Wire}
-use Rattle.tg_pbtable.specs.declared.table.Wire.TheVariants.{Varint, Bytes}
+use Rattle.tg_pbtable.specs.declared.table.Wire.TheVariants.{Varint, Bytes, Fixed32}
 use Rattle.tg_pbtable.specs.declared.table.Value.{Value}
 use Rattle.tg_pbtable.specs.declared.table.Value.TheVariants.{Number, Place}
+use Rattle.tg_pbtable.specs.declared.raw.RawValue.{RawValue}
 use Rattle.tg_pbtable.specs.declared.raw.ReadFault.{ReadFault}
 use Rattle.tg_pbtable.specs.declared.raw.ReadFault.TheVariants.{Short, Bad}
 use Rattle.tg_pbtable.specs.Varint.{VarintSpelling, EndsInside, IsBadVarint}
 use Rattle.tg_varint.specs.GroupLaws.{not_empty}
 use Rattle.tg_pbtable.specs.Wires.{wire_type, wire_code, EndsInValue, HasBadValue, HasValue}
-use Rattle.tg_pbtable.specs.Message.{KeySpelling, ValueSpelling, wire_of}
+use Rattle.tg_pbtable.specs.Message.{KeySpelling, ValueSpelling}
 use Rattle.tg_pbtable.specs.Faults.{HasKey, IsShort, HasBadVarint, HasField}
-use Rattle.tg_pbtable.specs.Reading.{IsVarintAt, IsNumberAt, IsPlaceAt, IsSomeValueAt, IsValueAt, IsValueFault, IsSpelledAt, IsValueOf, IsFieldAt, IsFieldFault}
+use Rattle.tg_pbtable.specs.Reading.{IsVarintAt, IsNumberAt, IsFixedAt, IsPlaceAt, IsPlaceFault, IsSomeValueAt, IsValueAt, IsValueFault, IsSpelledAt, IsValueOf, IsFieldAt, IsFieldFault}
 use Rattle.tg_pbtable.proofs.Varints.{short_number, short_bad, bad_number, one_number}
-use Rattle.tg_pbtable.proofs.Spellings.{one_key}
+use Rattle.tg_pbtable.proofs.Spellings.{one_key, same_code, code_low}
 
 -- ---- what is read
 
-pub number_there : (at : ℕ) (after : List ℕ) (wire value size : ℕ) → wire ≡ wire_code Varint → IsVarintAt after value size → IsNumberAt at after wire value (at + size)
-number_there at after wire value size w v = record {
-  wire_is = w;
+pub number_there : (at : ℕ) (after : List ℕ) (value size : ℕ) → IsVarintAt after value size → IsNumberAt at after value (at + size)
+number_there at after value size v = record {
   amount = take size after;
   rest = drop size after;
   whole = sym (take-append-drop size after);
@@ -30,16 +33,15 @@ number_there at after wire value size w v = record {
   next_is = ap (λ (n : ℕ). at + n) (sym (length-take-le size after v.inside));
 }
 
-pub place_there : (at : ℕ) (bytes : List ℕ) (wire amount size : ℕ) → at ≤ length bytes → wire ≡ wire_code Bytes → IsVarintAt (drop at bytes) amount size → amount ≤ length bytes - (at + size) → All (λ (b : ℕ). b < 256) bytes
-    → IsPlaceAt at (drop at bytes) wire (at + size) (at + size + amount) (at + size + amount)
-place_there at bytes wire amount size l w v enough are =
+pub place_there : (at : ℕ) (bytes : List ℕ) (amount size : ℕ) → at ≤ length bytes → IsVarintAt (drop at bytes) amount size → amount ≤ length bytes - (at + size) → All (λ (b : ℕ). b < 256) bytes
+    → IsPlaceAt at (drop at bytes) (at + size) (at + size + amount)
+place_there at bytes amount size l v enough are =
     let after = drop at bytes in
     let left : length after ≡ length bytes - at = length-drop at bytes in
     let behind : length (drop size after) ≡ length after - size = length-drop size after in
     let content : length (take amount (drop size after)) ≡ amount = length-take-le amount (drop size after) (omega arith) in
     let size_is : length (take size after) ≡ size = length-take-le size after v.inside in
     record {
-      wire_is = w;
       size = take size after;
       content = take amount (drop size after);
       rest = drop amount (drop size after);
@@ -48,15 +50,25 @@ place_there at bytes wire amount size l w v enough are =
       are_bytes = All-take (λ (b : ℕ). b < 256) amount (drop size after) (All-drop (λ (b : ℕ). b < 256) size after (All-drop (λ (b : ℕ). b < 256) at bytes are));
       start_is = ap (λ (n : ℕ). at + n) (sym size_is);
       end_is = ap (λ (n : ℕ). at + size + n) (sym content);
-      next_is = refl;
     }
 
-pub short_place : (at : ℕ) (bytes : List ℕ) (wire amount size : ℕ) → at ≤ length bytes → wire ≡ wire_code Bytes → IsVarintAt (drop at bytes) amount size → length bytes - (at + size) < amount → EndsInValue wire (drop at bytes)
-short_place at bytes wire amount size l w v fewer =
+pub short_place : (at : ℕ) (bytes : List ℕ) (amount size : ℕ) → at ≤ length bytes → IsVarintAt (drop at bytes) amount size → length bytes - (at + size) < amount → IsPlaceFault Short (drop at bytes)
+short_place at bytes amount size l v fewer =
     let after = drop at bytes in
     let left : length after ≡ length bytes - at = length-drop at bytes in
     let behind : length (drop size after) ≡ length after - size = length-drop size after in
-    (Bytes, w, inr (record { amount = amount; size = take size after; content = drop size after; whole = sym (take-append-drop size after); size_is = v.spells; fewer = omega arith }))
+    inr (record { amount = amount; size = take size after; content = drop size after; whole = sym (take-append-drop size after); size_is = v.spells; fewer = omega arith })
+
+-- the first four of bytes are those of the number that they are
+pub fixed_there : (after : List ℕ) (value : ℕ) → 4 ≤ length after → All (λ (b : ℕ). b < 256) after → value ≡ from_le_bytes w32 (take 4 after) → IsFixedAt after value
+fixed_there after value enough are e =
+    let size : length (take 4 after) ≡ 4 = length-take-le 4 after enough in
+    let low = All-take (λ (b : ℕ). b < 256) 4 after are in
+    let each : (i : ℕ) → get_or (take 4 after) i 0 < 256 = λ i. elim (cases_lt i (length (take 4 after))) [
+      | inl lt ↦ low i 0 lt
+      | inr ge ↦ subst (λ (b : ℕ). b < 256) (sym (get_or_past (take 4 after) i 0 ge)) (omega arith)
+    ] in
+    record { enough = enough; four = sym (le_bytes_4 (take 4 after) value size each e); fits = omega (arith, e, each 0, each 1, each 2, each 3) }
 
 -- what the slice from `at` on says
 pub unsliced : (at : ℕ) (bytes : List ℕ) (number size : ℕ) → IsVarintAt (take (length bytes - at) (drop at bytes)) number size → IsVarintAt (drop at bytes) number size
@@ -67,60 +79,82 @@ key_there rest key size v =
     let parts : key ≡ key / 8 * 8 + key % 8 = omega arith in
     record { key = take size rest; whole = sym (take-append-drop size rest); wire_is = omega arith; key_is = subst (λ (n : ℕ). VarintSpelling n (take size rest)) parts v.spells }
 
-some_has : (at : ℕ) (after : List ℕ) (wire : ℕ) (v : Value) (next : ℕ) → IsSomeValueAt at after wire v next → HasValue wire after
-some_has at after wire (Number n) next h = inl (Varint, h.wire_is, record { amount = n; front = h.amount; rest = h.rest; whole = h.whole; amount_is = h.amount_is })
-some_has at after wire (Place start end) next h =
-    inl (Bytes, h.wire_is, record { amount = length h.content; size = h.size; content = h.content ++ h.rest; whole = h.whole; size_is = h.size_is; enough = omega (arith, length-append h.content h.rest) })
+some_has : (at : ℕ) (after : List ℕ) (w : Wire) (v : Value) (next : ℕ) → IsSomeValueAt at after w v next → (wire_type w).whole after
+some_has at after Varint (Number n) next h = record { amount = n; front = h.amount; rest = h.rest; whole = h.whole; amount_is = h.amount_is }
+some_has at after Varint (Place start end) next h = absurd h
+some_has at after Bytes (Number n) next h = absurd h
+some_has at after Bytes (Place start end) next h =
+    record { amount = length h.0.content; size = h.0.size; content = h.0.content ++ h.0.rest; whole = h.0.whole; size_is = h.0.size_is; enough = omega (arith, length-append h.0.content h.0.rest) }
+some_has at after Fixed32 (Number n) next h = h.0.enough
+some_has at after Fixed32 (Place start end) next h = absurd h
 
-value_has : (at : ℕ) (after : List ℕ) (wire : ℕ) (v : Option (Value × ℕ)) → IsValueAt at after wire v → HasValue wire after
-value_has at after wire None h = inr h
-value_has at after wire (Some v) h = some_has at after wire v.0 v.1 h
+value_has : (at : ℕ) (after : List ℕ) (code : ℕ) (v : Option RawValue) → IsValueAt at after code v → HasValue code after
+value_has at after code None h = inr h
+value_has at after code (Some v) h = inl (v.wire, h.0, some_has at after v.wire v.value v.next h.1)
 
-spelled_there : (at number : ℕ) (rest : List ℕ) (size wire : ℕ) (v : Value) (next : ℕ) (k : HasKey number wire rest (drop size rest)) → length k.key ≡ size → IsSomeValueAt (at + size) (drop size rest) wire v next
-    → (wire ≡ wire_code (wire_of v)) × IsSpelledAt at rest number v next
-spelled_there at number rest size wire (Number n) next k l h =
+-- a value behind the key of its wire type is a spelling with it
+spelled_there : (at number : ℕ) (rest : List ℕ) (size : ℕ) (w : Wire) (v : Value) (next : ℕ) (k : HasKey number (wire_code w) rest (drop size rest)) → length k.key ≡ size → IsSomeValueAt (at + size) (drop size rest) w v next
+    → IsSpelledAt at rest number w v next
+spelled_there at number rest size Varint (Number n) next k l h =
     let whole : rest ≡ (k.key ++ h.amount) ++ h.rest = k.whole ∙ ap (λ (t : List ℕ). k.key ++ t) h.whole ∙ sym (append_assoc k.key h.amount h.rest) in
-    let key_is : KeySpelling number 0 k.key = subst (λ (w : ℕ). KeySpelling number w k.key) h.wire_is k.key_is in (
-      h.wire_is,
-      record {
-        front = k.key ++ h.amount;
-        behind = h.rest;
-        whole = whole;
-        spelled = record { key = k.key; amount = h.amount; whole = refl; key_is = key_is; amount_is = h.amount_is };
-        next_is = omega (arith, h.next_is, length-append k.key h.amount);
-        more = omega (arith, length-append k.key h.amount, not_empty (number * 8 + 0) k.key key_is.groups);
-      },
-    )
-spelled_there at number rest size wire (Place start end) next k l h =
-    let whole : rest ≡ (k.key ++ (h.size ++ h.content)) ++ h.rest =
-    k.whole ∙ ap (λ (t : List ℕ). k.key ++ t) (h.whole ∙ sym (append_assoc h.size h.content h.rest)) ∙ sym (append_assoc k.key (h.size ++ h.content) h.rest) in
-    let key_is : KeySpelling number 2 k.key = subst (λ (w : ℕ). KeySpelling number w k.key) h.wire_is k.key_is in (
-      h.wire_is,
-      record {
-        front = k.key ++ (h.size ++ h.content);
-        behind = h.rest;
-        whole = whole;
-        spelled = record {
-          key = k.key;
-          size = h.size;
-          content = h.content;
-          whole = refl;
-          key_is = key_is;
-          size_is = h.size_is;
-          are_bytes = h.are_bytes;
-          start_is = omega (arith, h.start_is);
-          end_is = h.end_is;
-        };
-        next_is = omega (arith, h.next_is, h.end_is, h.start_is, length-append k.key (h.size ++ h.content), length-append h.size h.content);
-        more = omega (arith, length-append k.key (h.size ++ h.content), not_empty (number * 8 + 2) k.key key_is.groups);
-      },
-    )
+    record {
+      front = k.key ++ h.amount;
+      behind = h.rest;
+      whole = whole;
+      spelled = record { key = k.key; amount = h.amount; whole = refl; key_is = k.key_is; amount_is = h.amount_is };
+      next_is = omega (arith, h.next_is, length-append k.key h.amount);
+      more = omega (arith, length-append k.key h.amount, not_empty (number * 8 + 0) k.key k.key_is.groups);
+    }
+spelled_there at number rest size Varint (Place start end) next k l h = absurd h
+spelled_there at number rest size Bytes (Number n) next k l h = absurd h
+spelled_there at number rest size Bytes (Place start end) next k l h =
+    let p = h.0 in
+    let whole : rest ≡ (k.key ++ (p.size ++ p.content)) ++ p.rest =
+    k.whole ∙ ap (λ (t : List ℕ). k.key ++ t) (p.whole ∙ sym (append_assoc p.size p.content p.rest)) ∙ sym (append_assoc k.key (p.size ++ p.content) p.rest) in
+    record {
+      front = k.key ++ (p.size ++ p.content);
+      behind = p.rest;
+      whole = whole;
+      spelled = record {
+        key = k.key;
+        size = p.size;
+        content = p.content;
+        whole = refl;
+        key_is = k.key_is;
+        size_is = p.size_is;
+        are_bytes = p.are_bytes;
+        start_is = omega (arith, p.start_is);
+        end_is = p.end_is;
+      };
+      next_is = omega (arith, h.1, p.end_is, p.start_is, length-append k.key (p.size ++ p.content), length-append p.size p.content);
+      more = omega (arith, length-append k.key (p.size ++ p.content), not_empty (number * 8 + 2) k.key k.key_is.groups);
+    }
+spelled_there at number rest size Fixed32 (Number n) next k l h =
+    let four = to_le_bytes w32 n in
+    let behind = drop 4 (drop size rest) in
+    let after : drop size rest ≡ four ++ behind = sym (take-append-drop 4 (drop size rest)) ∙ ap (λ (t : List ℕ). t ++ behind) h.0.four in
+    record {
+      front = k.key ++ four;
+      behind = behind;
+      whole = k.whole ∙ ap (λ (t : List ℕ). k.key ++ t) after ∙ sym (append_assoc k.key four behind);
+      spelled = record { key = k.key; whole = refl; key_is = k.key_is; fits = h.0.fits };
+      next_is = omega (arith, h.1, length-append k.key four);
+      more = omega (arith, length-append k.key four);
+    }
+spelled_there at number rest size Fixed32 (Place start end) next k l h = absurd h
 
-value_of : (at number : ℕ) (rest : List ℕ) (size wire : ℕ) (v : Option (Value × ℕ)) (k : HasKey number wire rest (drop size rest)) → length k.key ≡ size → IsValueAt (at + size) (drop size rest) wire v → IsValueOf at rest number wire v
-value_of at number rest size wire None k l h = h
-value_of at number rest size wire (Some v) k l h = spelled_there at number rest size wire v.0 v.1 k l h
+value_of : (at number : ℕ) (rest : List ℕ) (size code : ℕ) (v : Option RawValue) (k : HasKey number code rest (drop size rest)) → length k.key ≡ size → IsValueAt (at + size) (drop size rest) code v → IsValueOf at rest number code v
+value_of at number rest size code None k l h = h
+value_of at number rest size code (Some v) k l h =
+    let there : HasKey number (wire_code v.wire) rest (drop size rest) = record {
+      key = k.key;
+      whole = k.whole;
+      wire_is = code_low v.wire;
+      key_is = subst (λ (c : ℕ). KeySpelling number c k.key) h.0 k.key_is;
+    } in
+    (h.0, spelled_there at number rest size v.wire v.value v.next there l h.1)
 
-pub field_there : (at : ℕ) (bytes : List ℕ) (key size : ℕ) (v : Option (Value × ℕ)) → IsVarintAt (drop at bytes) key size → IsValueAt (at + size) (drop (at + size) bytes) (key % 8) v → IsFieldAt at (drop at bytes) (record { number = key / 8; value = v })
+pub field_there : (at : ℕ) (bytes : List ℕ) (key size : ℕ) (v : Option RawValue) → IsVarintAt (drop at bytes) key size → IsValueAt (at + size) (drop (at + size) bytes) (key % 8) v → IsFieldAt at (drop at bytes) (record { number = key / 8; value = v })
 unfolding key_there
 field_there at bytes key size v k h =
     let rest = drop at bytes in
@@ -141,20 +175,15 @@ fault_there at bytes key size e k h = fault_in (drop at bytes) key size e k (sub
 
 -- ---- one of the three holds of a value
 
--- a number is of one wire type
-pub same_code : (v w : Wire) → wire_code v ≡ wire_code w → v ≡ w
-same_code Varint Varint e = refl
-same_code Varint Bytes e = let clash : ◌≡◌ {A = ℕ} 0 2 = e in absurd (omega arith)
-same_code Bytes Varint e = let clash : ◌≡◌ {A = ℕ} 2 0 = e in absurd (omega arith)
-same_code Bytes Bytes e = refl
-
 cut_bad : (w : Wire) (after : List ℕ) → (wire_type w).cut after → (wire_type w).bad after → ⊥
 cut_bad Varint after s b = short_bad after s b
+cut_bad Fixed32 after s b = absurd b
 cut_bad Bytes after (inl h) b = short_bad after h b
 cut_bad Bytes after (inr h) b = bad_number h.amount h.size h.content after b h.size_is h.whole
 
 cut_whole : (w : Wire) (after : List ℕ) → (wire_type w).cut after → (wire_type w).whole after → ⊥
 cut_whole Varint after s h = short_number h.amount h.front h.rest after s h.amount_is h.whole
+cut_whole Fixed32 after s h = omega arith
 cut_whole Bytes after (inl e) h = short_number h.amount h.size h.content after e h.size_is h.whole
 cut_whole Bytes after (inr e) h =
     let same = one_number e.amount h.amount e.size h.size e.content h.content e.size_is h.size_is (sym e.whole ∙ h.whole) in
@@ -164,6 +193,7 @@ cut_whole Bytes after (inr e) h =
 
 bad_whole : (w : Wire) (after : List ℕ) → (wire_type w).bad after → (wire_type w).whole after → ⊥
 bad_whole Varint after b h = bad_number h.amount h.front h.rest after b h.amount_is h.whole
+bad_whole Fixed32 after b h = absurd b
 bad_whole Bytes after b h = bad_number h.amount h.size h.content after b h.size_is h.whole
 
 value_short_bad : (code : ℕ) (after : List ℕ) → EndsInValue code after → HasBadValue code after → ⊥
@@ -214,13 +244,15 @@ pub read_one_field : (rest : List ℕ) (m n v w : ℕ) → HasField m v rest →
 read_one_field rest m n v w f g = let same = keys m n v w rest f.after g.after f.has_key g.has_key in (same.0, same.1)
 
 -- a spelled field is a whole one
-pub spelled_has : (at number : ℕ) (v : Value) (front behind rest : List ℕ) → ValueSpelling at number v front → rest ≡ front ++ behind → HasField number (wire_code (wire_of v)) rest
-spelled_has at number (Number n) front behind rest p e = record {
+pub spelled_has : (at number : ℕ) (w : Wire) (v : Value) (front behind rest : List ℕ) → ValueSpelling at number w v front → rest ≡ front ++ behind → HasField number (wire_code w) rest
+spelled_has at number Varint (Number n) front behind rest p e = record {
   after = p.amount ++ behind;
   has_key = record { key = p.key; whole = e ∙ ap (λ (t : List ℕ). t ++ behind) p.whole ∙ append_assoc p.key p.amount behind; wire_is = omega arith; key_is = p.key_is };
   has_value = inl (Varint, refl, record { amount = n; front = p.amount; rest = behind; whole = refl; amount_is = p.amount_is });
 }
-spelled_has at number (Place start end) front behind rest p e = record {
+spelled_has at number Varint (Place start end) front behind rest p e = absurd p
+spelled_has at number Bytes (Number n) front behind rest p e = absurd p
+spelled_has at number Bytes (Place start end) front behind rest p e = record {
   after = p.size ++ (p.content ++ behind);
   has_key = record {
     key = p.key;
@@ -230,3 +262,9 @@ spelled_has at number (Place start end) front behind rest p e = record {
   };
   has_value = inl (Bytes, refl, record { amount = length p.content; size = p.size; content = p.content ++ behind; whole = refl; size_is = p.size_is; enough = omega (arith, length-append p.content behind) });
 }
+spelled_has at number Fixed32 (Number n) front behind rest p e = record {
+  after = to_le_bytes w32 n ++ behind;
+  has_key = record { key = p.key; whole = e ∙ ap (λ (t : List ℕ). t ++ behind) p.whole ∙ append_assoc p.key (to_le_bytes w32 n) behind; wire_is = omega arith; key_is = p.key_is };
+  has_value = inl (Fixed32, refl, omega (arith, length-append (to_le_bytes w32 n) behind));
+}
+spelled_has at number Fixed32 (Place start end) front behind rest p e = absurd p

@@ -6,7 +6,7 @@ use Rattle.std.specs.List.{list_any}
 use Rattle.tg_pbtable.specs.declared.table.Rule.{Rule}
 use Rattle.tg_pbtable.specs.declared.table.Times.{Times}
 use Rattle.tg_pbtable.specs.declared.table.Wire.{Wire}
-use Rattle.tg_pbtable.specs.declared.table.Wire.TheVariants.{Varint, Bytes}
+use Rattle.tg_pbtable.specs.declared.table.Wire.TheVariants.{Varint, Bytes, Fixed32}
 use Rattle.tg_pbtable.specs.declared.table.Times.TheVariants.{One, Optional, Many}
 use Rattle.tg_pbtable.specs.declared.table.Order.{Order}
 use Rattle.tg_pbtable.specs.declared.table.Order.TheVariants.{Ascending, Runs}
@@ -14,13 +14,15 @@ use Rattle.tg_pbtable.specs.declared.table.Field.{Field}
 use Rattle.tg_pbtable.specs.declared.table.Value.{Value}
 use Rattle.tg_pbtable.specs.declared.table.Value.TheVariants.{Number, Place}
 use Rattle.tg_pbtable.specs.declared.raw.RawField.{RawField}
+use Rattle.tg_pbtable.specs.declared.raw.RawValue.{RawValue}
 use Rattle.tg_pbtable.specs.declared.raw.ReadFault.{ReadFault}
 use Rattle.tg_pbtable.specs.declared.raw.ReadFault.TheVariants.{Short, Bad}
 use Rattle.tg_pbtable.specs.declared.fault.PbFault.{PbFault}
 use Rattle.tg_pbtable.specs.declared.fault.PbFault.TheVariants as faults
 use Rattle.tg_varint.specs.Varint.{number_of}
 use Rattle.tg_pbtable.specs.Wires.{wire_code}
-use Rattle.tg_pbtable.specs.Message.{wire_of, numbers_of}
+use Rattle.std.specs.Int.{from_le_bytes, w32}
+use Rattle.tg_pbtable.specs.Message.{numbers_of}
 use Rattle.tg_pbtable.specs.Cursor.{has_number}
 
 -- goes on with what was read, and keeps a fault
@@ -54,26 +56,37 @@ varint_in bytes = varint_of bytes (going_on 10 bytes)
 
 -- ---- one field
 
-abbrev pub place_in : ℕ → List ℕ → ℕ → ℕ → Result (Option (Value × ℕ)) ReadFault
+abbrev pub some_value : Wire → Value → ℕ → Option RawValue
+some_value wire value next = Some (record { wire = wire; value = value; next = next })
+
+abbrev pub place_in : ℕ → List ℕ → ℕ → ℕ → Result (Option RawValue) ReadFault
 place_in at after amount size =
     if nat_lt (length after - size) amount then Err Short else
-    Ok (Some (Place (at + size) (at + size + amount), at + size + amount))
+    Ok (some_value Bytes (Place (at + size) (at + size + amount)) (at + size + amount))
+
+abbrev pub fixed_in : ℕ → List ℕ → Result (Option RawValue) ReadFault
+fixed_in at after =
+    if nat_lt (length after) 4 then Err Short else
+    Ok (some_value Fixed32 (Number (from_le_bytes w32 (take 4 after))) (at + 4))
 
 -- the wire type of a number, if it is one that a table may use
 abbrev pub wire_with : ℕ → Option Wire
 wire_with code =
     if code == wire_code Varint then Some Varint else
     if code == wire_code Bytes then Some Bytes else
+    if code == wire_code Fixed32 then Some Fixed32 else
     None
 
 -- the value of a wire type at the front of the bytes from `at` on, and where the next key stands; no value of a wire
 -- type that is no table's
-abbrev pub value_with : ℕ → List ℕ → Option Wire → Result (Option (Value × ℕ)) ReadFault
+abbrev pub value_with : ℕ → List ℕ → Option Wire → Result (Option RawValue) ReadFault
 value_with at after None = Ok None
-value_with at after (Some Varint) = and_then (varint_in after) (λ v. Ok (Some (Number v.0, at + v.1)))
+value_with at after (Some Varint) =
+    and_then (varint_in after) (λ v. Ok (some_value Varint (Number v.0) (at + v.1)))
 value_with at after (Some Bytes) = and_then (varint_in after) (λ v. place_in at after v.0 v.1)
+value_with at after (Some Fixed32) = fixed_in at after
 
-abbrev pub value_in : ℕ → List ℕ → ℕ → Result (Option (Value × ℕ)) ReadFault
+abbrev pub value_in : ℕ → List ℕ → ℕ → Result (Option RawValue) ReadFault
 value_in at after code = value_with at after (wire_with code)
 
 -- the key and the value at the front of the bytes from `at` on
@@ -95,11 +108,15 @@ pub record Ruled : Type 0 where
   pub field : Field
   pub next : ℕ
 
-abbrev pub with_value : ℕ → Rule → Option (Value × ℕ) → Result Ruled PbFault
+abbrev pub with_value : ℕ → Rule → Option RawValue → Result Ruled PbFault
 with_value at rule None = Err (faults.WrongWire at)
 with_value at rule (Some v) =
-    if wire_code rule.wire == wire_code (wire_of v.0)
-    then Ok (record { rule = rule; field = record { number = rule.number; value = v.0 }; next = v.1 })
+    if wire_code rule.wire == wire_code v.wire
+    then Ok (record {
+      rule = rule;
+      field = record { number = rule.number; wire = rule.wire; value = v.value };
+      next = v.next;
+    })
     else Err (faults.WrongWire at)
 
 abbrev pub with_rule : ℕ → RawField → Option Rule → Result Ruled PbFault

@@ -7,7 +7,7 @@ use Rattle.tg_pbtable.specs.declared.table.Field.{Field}
 use Rattle.tg_pbtable.specs.declared.cursor.FieldCursor.{FieldCursor}
 use Rattle.tg_pbtable.specs.declared.fault.PbFault.{PbFault}
 use Rattle.tg_pbtable.specs.declared.fault.PbFault.TheVariants as faults
-use Rattle.tg_pbtable.specs.Message.{Message, Spelled, FieldSpelling, HasRule, wire_of, count_of, numbers_of}
+use Rattle.tg_pbtable.specs.Message.{Message, Spelled, FieldSpelling, IsRuledField, count_of, numbers_of}
 use Rattle.tg_pbtable.specs.Faults.{Begins, IsShort, HasBadVarint, IsUnknown, HasWrongWire}
 
 -- the last of the numbers
@@ -48,7 +48,7 @@ pub record StandsAt (rules : List Rule) (text : List ℕ) (at : ℕ) (field : Fi
   pub rest : List ℕ
   pub whole : drop at text ≡ front ++ rest
   pub spelled : FieldSpelling at field front
-  pub ruled : HasRule rules field.number (wire_of field.value)
+  pub ruled : IsRuledField rules field
   pub next_is : next ≡ at + length front
 
 -- why no field under a rule stands at a place

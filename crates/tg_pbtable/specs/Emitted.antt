@@ -4,10 +4,11 @@ use Rattle.std.specs.Prelude.{◌≡◌, ℕ, ◌-◌, ◌^◌, ◌<◌, ◌≤�
 use Rattle.tg_pbtable.specs.declared.table.Field.{Field}
 use Rattle.tg_pbtable.specs.declared.table.Value.{Value}
 use Rattle.tg_pbtable.specs.declared.table.Value.TheVariants.{Number, Place}
-use Rattle.tg_pbtable.specs.declared.table.Wire.TheVariants.{Bytes}
+use Rattle.tg_pbtable.specs.declared.table.Wire.{Wire}
+use Rattle.tg_pbtable.specs.declared.table.Wire.TheVariants.{Varint, Bytes, Fixed32}
 use Rattle.tg_pbtable.specs.Varint.{VarintSpelling}
 use Rattle.tg_pbtable.specs.Wires.{wire_code}
-use Rattle.tg_pbtable.specs.Message.{KeySpelling, NumberSpelling}
+use Rattle.tg_pbtable.specs.Message.{KeySpelling, NumberSpelling, FixedSpelling}
 
 -- a place lies inside the source
 abbrev pub LiesIn : List ℕ → Value → Type 0
@@ -25,7 +26,8 @@ IsSameValue source (Place start end) text (Number n) = ⊥
 abbrev pub AreSameFields : List ℕ → List Field → List ℕ → List Field → Type 0
 AreSameFields source [] text [] = ⊤
 AreSameFields source (f ∷ fs) text (g ∷ gs) =
-    (f.number ≡ g.number) × IsSameValue source f.value text g.value × AreSameFields source fs text gs
+    (f.number ≡ g.number) × (f.wire ≡ g.wire) × IsSameValue source f.value text g.value
+    × AreSameFields source fs text gs
 AreSameFields source [] text (g ∷ gs) = ⊥
 AreSameFields source (f ∷ fs) text [] = ⊥
 
@@ -48,16 +50,20 @@ pub record BytesSpelling (number : ℕ) (content bytes : List ℕ) : Type 0 wher
 abbrev pub SizedSpelling : ℕ → ℕ → List ℕ → Type 0
 SizedSpelling number size bytes = (content : List ℕ) × (length content ≡ size) × BytesSpelling number content bytes
 
--- a field of a value, whose place lies in the source, wherever it stands
-abbrev pub ValueText : List ℕ → ℕ → Value → List ℕ → Type 0
-ValueText source number (Number n) bytes = NumberSpelling number n bytes
-ValueText source number (Place start end) bytes = BytesSpelling number (slice_range source start end) bytes
+-- a field of a value by its wire type, whose place lies in the source, wherever it stands
+abbrev pub ValueText : List ℕ → ℕ → Wire → Value → List ℕ → Type 0
+ValueText source number Varint (Number n) bytes = NumberSpelling number n bytes
+ValueText source number Varint (Place start end) bytes = ⊥
+ValueText source number Bytes (Number n) bytes = ⊥
+ValueText source number Bytes (Place start end) bytes = BytesSpelling number (slice_range source start end) bytes
+ValueText source number Fixed32 (Number n) bytes = FixedSpelling number n bytes
+ValueText source number Fixed32 (Place start end) bytes = ⊥
 
 -- the fields of the source one behind another, wherever they stand
 abbrev pub FieldTexts : List ℕ → List Field → List ℕ → Type 0
 FieldTexts source [] bytes = bytes ≡ []
 FieldTexts source (field ∷ fields) bytes =
-    (front : List ℕ) × (rest : List ℕ) × (bytes ≡ front ++ rest) × ValueText source field.number field.value front × FieldTexts source fields rest
+    (front : List ℕ) × (rest : List ℕ) × (bytes ≡ front ++ rest) × ValueText source field.number field.wire field.value front × FieldTexts source fields rest
 
 -- bytes of which the relation speaks are put behind a text
 pub record Puts (Spells : List ℕ → Type 0) (old new : List ℕ) : Type 0 where

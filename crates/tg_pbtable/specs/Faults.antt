@@ -1,6 +1,6 @@
 -- Why a text is no message under a table: the first field, from the left, at which a cause holds, and of several causes
 -- the first in the order of this file.
-use Rattle.std.specs.Prelude.{◌≡◌, ◌≢◌, ℕ, ◌<◌, ◌≤◌, ◌⊎◌, List, [], ◌∷◌, ◌++◌, length, All, Any, Contains}
+use Rattle.std.specs.Prelude.{◌≡◌, ◌≢◌, ℕ, ◌+◌, ◌<◌, ◌≤◌, ◌⊎◌, List, [], ◌∷◌, ◌++◌, length, All, Any, Contains}
 use Rattle.tg_pbtable.specs.declared.table.Rule.{Rule}
 use Rattle.tg_pbtable.specs.declared.table.Times.TheVariants.{One, Many}
 use Rattle.tg_pbtable.specs.declared.table.Order.{Order}
@@ -121,3 +121,25 @@ HasCause rules order text (faults.OutOfOrder at) =
 HasCause rules order text (faults.Doubled at) = FirstAt rules order text at (λ fields rest. IsDoubled rules fields rest)
 HasCause rules order text (faults.Missing number) = IsMissing rules order text number
 HasCause rules order text faults.OutOfMemory = ⊥
+
+-- a fault of a text that begins at `start` of another, with its place in that other one
+abbrev pub moved_by : ℕ → PbFault → PbFault
+moved_by start (faults.Short at) = faults.Short (start + at)
+moved_by start (faults.BadVarint at) = faults.BadVarint (start + at)
+moved_by start (faults.Unknown at number) = faults.Unknown (start + at) number
+moved_by start (faults.WrongWire at) = faults.WrongWire (start + at)
+moved_by start (faults.OutOfOrder at) = faults.OutOfOrder (start + at)
+moved_by start (faults.Doubled at) = faults.Doubled (start + at)
+moved_by start (faults.Missing number) = faults.Missing number
+moved_by start faults.OutOfMemory = faults.OutOfMemory
+
+-- the place of a fault, 0 where it has none
+abbrev pub place_of : PbFault → ℕ
+place_of (faults.Short at) = at
+place_of (faults.BadVarint at) = at
+place_of (faults.Unknown at number) = at
+place_of (faults.WrongWire at) = at
+place_of (faults.OutOfOrder at) = at
+place_of (faults.Doubled at) = at
+place_of (faults.Missing number) = 0
+place_of faults.OutOfMemory = 0

@@ -9,7 +9,7 @@ use Rattle.tg_pbtable.specs.declared.table.Field.{Field}
 use Rattle.tg_pbtable.specs.declared.fault.PbFault.{PbFault}
 use Rattle.tg_pbtable.specs.Message.{Message, IsTable, Spelled, HasRule, AreRuled, IsCount, IsInOrder, count_of}
 use Rattle.tg_pbtable.specs.Message.{numbers_of}
-use Rattle.tg_pbtable.specs.Faults.{HasCause}
+use Rattle.tg_pbtable.specs.Faults.{HasCause, place_of}
 use Rattle.tg_pbtable.specs.Emitted.{AreSameFields, FieldTexts}
 use Rattle.tg_pbtable.specs.Values.{number_in, bytes_in, numbers_at, bytes_at, listed, later, HasSameValues, IsSameFor}
 use Rattle.tg_pbtable.specs.Computed.{fields_of, first_of}
@@ -29,6 +29,9 @@ pub record MessageLaws : Type 0 where
   pub no_cause : (rules : List Rule) (order : Order) (text : List ℕ) (fields : List Field) (fault : PbFault)
       → IsTable rules
       → Message rules order text fields → HasCause rules order text fault → ⊥
+  -- a fault lies in the text
+  pub place : (rules : List Rule) (order : Order) (text : List ℕ) (fault : PbFault) → HasCause rules order text fault
+      → place_of fault ≤ length text
   -- what is computed of a text of bytes
   pub computed : (rules : List Rule) (order : Order) (text : List ℕ) (fields : List Field) → IsTable rules
       → All (λ b. b < 256) text → (fields_of rules order text ≡ Ok fields) ↔ Message rules order text fields

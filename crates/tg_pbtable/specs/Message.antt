@@ -1,12 +1,13 @@
 -- A message under a table of fields, as a relation between the whole text and its fields (protobuf encoding guide,
 -- Message Structure and Length-Delimited Records; the order and the rule on doubled fields are this project's own).
 use Rattle.std.specs.Prelude.{◌≡◌, ℕ, ◌+◌, ◌*◌, ◌<◌, ◌≤◌, List, [], ◌∷◌, ◌++◌, length, map, All, Contains, slice_index}
-use Rattle.std.specs.Prelude.{◌==◌, ⊤}
+use Rattle.std.specs.Prelude.{◌==◌, ◌^◌, ⊤}
+use Rattle.std.specs.Int.{to_le_bytes, w32}
 use Rattle.std.specs.List.{count_by}
 use Rattle.std.specs.List.Sorted.{IsNonDecreasing}
 use Rattle.tg_pbtable.specs.declared.table.Rule.{Rule}
 use Rattle.tg_pbtable.specs.declared.table.Wire.{Wire}
-use Rattle.tg_pbtable.specs.declared.table.Wire.TheVariants.{Varint, Bytes}
+use Rattle.tg_pbtable.specs.declared.table.Wire.TheVariants.{Varint, Bytes, Fixed32}
 use Rattle.tg_pbtable.specs.declared.table.Times.{Times}
 use Rattle.tg_pbtable.specs.declared.table.Times.TheVariants.{One, Optional, Many}
 use Rattle.tg_pbtable.specs.declared.table.Order.{Order}
@@ -17,10 +18,14 @@ use Rattle.tg_pbtable.specs.declared.table.Value.TheVariants.{Number, Place}
 use Rattle.tg_pbtable.specs.Varint.{VarintSpelling}
 use Rattle.tg_pbtable.specs.Wires.{wire_code}
 
--- the wire type of a value
-abbrev pub wire_of : Value → Wire
-wire_of (Number n) = Varint
-wire_of (Place start end) = Bytes
+-- the value is one that a wire type has: any number, bytes, or a number below 2 ^ 32
+abbrev pub IsOfWire : Wire → Value → Type 0
+IsOfWire Varint (Number n) = ⊤
+IsOfWire Varint (Place start end) = ⊥
+IsOfWire Bytes (Number n) = ⊥
+IsOfWire Bytes (Place start end) = ⊤
+IsOfWire Fixed32 (Number n) = n < 2 ^ 32
+IsOfWire Fixed32 (Place start end) = ⊥
 
 -- the bytes are the spelling of a key: the field's number times eight plus the wire type
 abbrev pub KeySpelling : ℕ → ℕ → List ℕ → Type 0
@@ -47,13 +52,24 @@ pub record PlaceSpelling (at number start end : ℕ) (bytes : List ℕ) : Type 0
   pub start_is : start ≡ at + length key + length size
   pub end_is : end ≡ start + length content
 
--- the bytes spell a value of a field, of which the key stands at `at`
-abbrev pub ValueSpelling : ℕ → ℕ → Value → List ℕ → Type 0
-ValueSpelling at number (Number value) bytes = NumberSpelling number value bytes
-ValueSpelling at number (Place start end) bytes = PlaceSpelling at number start end bytes
+-- a key and a number below 2 ^ 32 in four bytes, the least significant one first
+pub record FixedSpelling (number value : ℕ) (bytes : List ℕ) : Type 0 where
+  pub key : List ℕ
+  pub whole : bytes ≡ key ++ to_le_bytes w32 value
+  pub key_is : KeySpelling number (wire_code Fixed32) key
+  pub fits : value < 2 ^ 32
+
+-- the bytes spell a value of a field by its wire type, where the key stands at `at`
+abbrev pub ValueSpelling : ℕ → ℕ → Wire → Value → List ℕ → Type 0
+ValueSpelling at number Varint (Number value) bytes = NumberSpelling number value bytes
+ValueSpelling at number Varint (Place start end) bytes = ⊥
+ValueSpelling at number Bytes (Number value) bytes = ⊥
+ValueSpelling at number Bytes (Place start end) bytes = PlaceSpelling at number start end bytes
+ValueSpelling at number Fixed32 (Number value) bytes = FixedSpelling number value bytes
+ValueSpelling at number Fixed32 (Place start end) bytes = ⊥
 
 abbrev pub FieldSpelling : ℕ → Field → List ℕ → Type 0
-FieldSpelling at field bytes = ValueSpelling at field.number field.value bytes
+FieldSpelling at field bytes = ValueSpelling at field.number field.wire field.value bytes
 
 -- the bytes from `at` on are the spellings of the fields, one after another
 abbrev pub Spelled : ℕ → List Field → List ℕ → Type 0
@@ -68,9 +84,13 @@ pub record HasRule (rules : List Rule) (number : ℕ) (wire : Wire) : Type 0 whe
   pub number_is : rule.number ≡ number
   pub wire_is : rule.wire ≡ wire
 
--- each field's number has a rule with the field's wire type
+-- the field's number has a rule with its wire type, which has such values
+pub record IsRuledField (rules : List Rule) (field : Field) : Type 0 where
+  pub has_rule : HasRule rules field.number field.wire
+  pub of_wire : IsOfWire field.wire field.value
+
 abbrev pub AreRuled : List Rule → List Field → Type 0
-AreRuled rules fields = All (λ field. HasRule rules field.number (wire_of field.value)) fields
+AreRuled rules fields = All (IsRuledField rules) fields
 
 -- how many fields of a number there are
 abbrev pub count_of : List Field → ℕ → ℕ

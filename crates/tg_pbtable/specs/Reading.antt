@@ -1,19 +1,21 @@
 -- What the scanner's private functions say.
 use Rattle.std.specs.Prelude.{◌≡◌, ℕ, ◌+◌, ◌<◌, ◌≤◌, Option, Some, None, Bool, true, false, List, ◌++◌, length, take}
-use Rattle.std.specs.Prelude.{All, slice_get, slice_index_or}
+use Rattle.std.specs.Prelude.{◌^◌, All, slice_get, slice_index_or}
+use Rattle.std.specs.Int.{to_le_bytes, w32}
 use Rattle.tg_pbtable.specs.declared.table.Rule.{Rule}
 use Rattle.tg_pbtable.specs.declared.table.Times.TheVariants.{One}
 use Rattle.tg_pbtable.specs.declared.table.Wire.{Wire}
-use Rattle.tg_pbtable.specs.declared.table.Wire.TheVariants.{Varint, Bytes}
+use Rattle.tg_pbtable.specs.declared.table.Wire.TheVariants.{Varint, Bytes, Fixed32}
 use Rattle.tg_pbtable.specs.declared.table.Field.{Field}
 use Rattle.tg_pbtable.specs.declared.table.Value.{Value}
 use Rattle.tg_pbtable.specs.declared.table.Value.TheVariants.{Number, Place}
 use Rattle.tg_pbtable.specs.declared.raw.RawField.{RawField}
+use Rattle.tg_pbtable.specs.declared.raw.RawValue.{RawValue}
 use Rattle.tg_pbtable.specs.declared.raw.ReadFault.{ReadFault}
 use Rattle.tg_pbtable.specs.declared.raw.ReadFault.TheVariants.{Short, Bad}
 use Rattle.tg_pbtable.specs.Varint.{VarintSpelling, EndsInside, IsBadVarint}
-use Rattle.tg_pbtable.specs.Wires.{wire_code, IsNoWire, EndsInValue, HasBadValue}
-use Rattle.tg_pbtable.specs.Message.{ValueSpelling, wire_of}
+use Rattle.tg_pbtable.specs.Wires.{wire_code, wire_type, IsNoWire, EndsInValue, HasBadValue}
+use Rattle.tg_pbtable.specs.Message.{ValueSpelling}
 use Rattle.tg_pbtable.specs.Faults.{HasField, IsShort, HasBadVarint}
 
 -- the first bytes, as many as `size`, spell the number
@@ -26,17 +28,26 @@ IsVarintFault Short bytes = EndsInside bytes
 IsVarintFault Bad bytes = IsBadVarint bytes
 
 -- a number, which stands at the front of the bytes from `at` on
-pub record IsNumberAt (at : ℕ) (after : List ℕ) (wire value next : ℕ) : Type 0 where
-  pub wire_is : wire ≡ wire_code Varint
+pub record IsNumberAt (at : ℕ) (after : List ℕ) (value next : ℕ) : Type 0 where
   pub amount : List ℕ
   pub rest : List ℕ
   pub whole : after ≡ amount ++ rest
   pub amount_is : VarintSpelling value amount
   pub next_is : next ≡ at + length amount
 
+-- the number that the first four bytes are, the least significant one first
+pub record IsFixedAt (after : List ℕ) (value : ℕ) : Type 0 where
+  pub enough : 4 ≤ length after
+  pub four : take 4 after ≡ to_le_bytes w32 value
+  pub fits : value < 2 ^ 32
+
+-- it ends before four bytes
+abbrev pub IsFixedFault : ReadFault → List ℕ → Type 0
+IsFixedFault Short after = length after < 4
+IsFixedFault Bad after = ⊥
+
 -- a length and that many bytes
-pub record IsPlaceAt (at : ℕ) (after : List ℕ) (wire start end next : ℕ) : Type 0 where
-  pub wire_is : wire ≡ wire_code Bytes
+pub record IsPlaceAt (at : ℕ) (after : List ℕ) (start end : ℕ) : Type 0 where
   pub size : List ℕ
   pub content : List ℕ
   pub rest : List ℕ
@@ -45,32 +56,41 @@ pub record IsPlaceAt (at : ℕ) (after : List ℕ) (wire start end next : ℕ) :
   pub are_bytes : All (λ b. b < 256) content
   pub start_is : start ≡ at + length size
   pub end_is : end ≡ start + length content
-  pub next_is : next ≡ end
 
-abbrev pub IsSomeValueAt : ℕ → List ℕ → ℕ → Value → ℕ → Type 0
-IsSomeValueAt at after wire (Number n) next = IsNumberAt at after wire n next
-IsSomeValueAt at after wire (Place start end) next = IsPlaceAt at after wire start end next
+-- no length and so many bytes are there
+abbrev pub IsPlaceFault : ReadFault → List ℕ → Type 0
+IsPlaceFault Short after = (wire_type Bytes).cut after
+IsPlaceFault Bad after = (wire_type Bytes).bad after
 
-abbrev pub IsValueAt : ℕ → List ℕ → ℕ → Option (Value × ℕ) → Type 0
-IsValueAt at after wire None = IsNoWire wire
-IsValueAt at after wire (Some v) = IsSomeValueAt at after wire v.0 v.1
+abbrev pub IsSomeValueAt : ℕ → List ℕ → Wire → Value → ℕ → Type 0
+IsSomeValueAt at after Varint (Number n) next = IsNumberAt at after n next
+IsSomeValueAt at after Varint (Place start end) next = ⊥
+IsSomeValueAt at after Bytes (Number n) next = ⊥
+IsSomeValueAt at after Bytes (Place start end) next = IsPlaceAt at after start end × (next ≡ end)
+IsSomeValueAt at after Fixed32 (Number n) next = IsFixedAt after n × (next ≡ at + 4)
+IsSomeValueAt at after Fixed32 (Place start end) next = ⊥
+
+abbrev pub IsValueAt : ℕ → List ℕ → ℕ → Option RawValue → Type 0
+IsValueAt at after code None = IsNoWire code
+IsValueAt at after code (Some v) = (code ≡ wire_code v.wire) × IsSomeValueAt at after v.wire v.value v.next
 
 abbrev pub IsValueFault : ReadFault → ℕ → List ℕ → Type 0
 IsValueFault Short wire after = EndsInValue wire after
 IsValueFault Bad wire after = HasBadValue wire after
 
--- a field of this number and value stands at the front of the bytes from `at` on
-pub record IsSpelledAt (at : ℕ) (rest : List ℕ) (number : ℕ) (value : Value) (next : ℕ) : Type 0 where
+-- a field of this number, wire type and value stands at the front of the bytes from `at` on
+pub record IsSpelledAt (at : ℕ) (rest : List ℕ) (number : ℕ) (wire : Wire) (value : Value) (next : ℕ) : Type 0 where
   pub front : List ℕ
   pub behind : List ℕ
   pub whole : rest ≡ front ++ behind
-  pub spelled : ValueSpelling at number value front
+  pub spelled : ValueSpelling at number wire value front
   pub next_is : next ≡ at + length front
   pub more : 0 < length front
 
-abbrev pub IsValueOf : ℕ → List ℕ → ℕ → ℕ → Option (Value × ℕ) → Type 0
-IsValueOf at rest number wire None = IsNoWire wire
-IsValueOf at rest number wire (Some v) = (wire ≡ wire_code (wire_of v.0)) × IsSpelledAt at rest number v.0 v.1
+abbrev pub IsValueOf : ℕ → List ℕ → ℕ → ℕ → Option RawValue → Type 0
+IsValueOf at rest number code None = IsNoWire code
+IsValueOf at rest number code (Some v) =
+    (code ≡ wire_code v.wire) × IsSpelledAt at rest number v.wire v.value v.next
 
 pub record IsFieldAt (at : ℕ) (rest : List ℕ) (raw : RawField) : Type 0 where
   pub wire : ℕ
@@ -101,9 +121,9 @@ pub record IsRuled (rules : List Rule) (at : ℕ) (rest : List ℕ) (i : ℕ) (f
   pub rule : Rule
   pub rule_at : IsRuleAt rules i rule
   pub number_is : rule.number ≡ field.number
-  pub wire_is : rule.wire ≡ wire_of field.value
+  pub wire_is : rule.wire ≡ field.wire
   pub has_field : HasField rule.number (wire_code rule.wire) rest
-  pub spelled : IsSpelledAt at rest field.number field.value next
+  pub spelled : IsSpelledAt at rest field.number field.wire field.value next
 
 -- the first n rules that ask for a field have one
 abbrev pub AreMet : List Rule → List Bool → ℕ → Type 0

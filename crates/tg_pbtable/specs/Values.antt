@@ -2,7 +2,7 @@
 use Rattle.std.specs.Prelude.{◌≡◌, ℕ, List, [], ◌∷◌, ◌++◌, ◌==◌, slice_range, Option, Some, None, if◌then◌else◌}
 use Rattle.tg_pbtable.specs.declared.table.Field.{Field}
 use Rattle.tg_pbtable.specs.declared.table.Wire.{Wire}
-use Rattle.tg_pbtable.specs.declared.table.Wire.TheVariants.{Varint, Bytes}
+use Rattle.tg_pbtable.specs.declared.table.Wire.TheVariants.{Varint, Bytes, Fixed32}
 use Rattle.tg_pbtable.specs.declared.table.Value.{Value}
 use Rattle.tg_pbtable.specs.declared.table.Value.TheVariants.{Number, Place}
 
@@ -42,4 +42,5 @@ pub record HasSameValues (source : List ℕ) (fields : List Field) (text : List 
 -- two texts have the same values of a number, numbers or bytes as its wire type says
 abbrev pub IsSameFor : List ℕ → List Field → List ℕ → List Field → ℕ → Wire → Type 0
 IsSameFor source fields text others number Varint = numbers_at number fields ≡ numbers_at number others
+IsSameFor source fields text others number Fixed32 = numbers_at number fields ≡ numbers_at number others
 IsSameFor source fields text others number Bytes = bytes_at source number fields ≡ bytes_at text number others

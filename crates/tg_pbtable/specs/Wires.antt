@@ -3,7 +3,7 @@
 -- a varint of it is none. A further wire type is one line of `wire_type` here and one of `ValueSpelling`.
 use Rattle.std.specs.Prelude.{◌≡◌, ◌≢◌, ℕ, ◌<◌, ◌≤◌, ◌⊎◌, List, ◌++◌, length}
 use Rattle.tg_pbtable.specs.declared.table.Wire.{Wire}
-use Rattle.tg_pbtable.specs.declared.table.Wire.TheVariants.{Varint, Bytes}
+use Rattle.tg_pbtable.specs.declared.table.Wire.TheVariants.{Varint, Bytes, Fixed32}
 use Rattle.tg_pbtable.specs.Varint.{VarintSpelling, EndsInside, IsBadVarint}
 
 -- a number stands at the front
@@ -42,6 +42,8 @@ abbrev pub wire_type : Wire → WireType
 wire_type Varint = record { code = 0; whole = HasNumber; cut = EndsInside; bad = IsBadVarint }
 wire_type Bytes =
     record { code = 2; whole = HasBytes; cut = λ after. EndsInside after ⊎ EndsInBytes after; bad = IsBadVarint }
+wire_type Fixed32 =
+    record { code = 5; whole = λ after. 4 ≤ length after; cut = λ after. length after < 4; bad = λ _. ⊥ }
 
 -- the wire types' numbers
 abbrev pub wire_code : Wire → ℕ

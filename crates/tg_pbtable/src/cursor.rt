@@ -15,7 +15,7 @@ use crate::ruled::ruled_field;
 use crate::table::{Field, Order, Rule, Times};
 
 /// A place between two fields of a text, with what has to be known of the fields before it. It takes no memory.
-#[derive(Clone, Copy, Debug)]
+#[derive(Clone, Copy)]
 pub struct FieldCursor<const N: usize> {
     at: usize,
     seen: [bool; N],

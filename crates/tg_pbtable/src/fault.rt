@@ -1,5 +1,6 @@
 //! Why a text is no message under a table.
-ghost use Rattle.std.specs.Prelude.{◌≡◌};
+ghost use Rattle.std.specs.Prelude.{◌≡◌, ◌+◌, ◌<◌, ◌^◌};
+ghost use Rattle.tg_pbtable.specs.Faults.{moved_by, place_of};
 ghost use Rattle.tg_pbtable.specs.declared.fault.PbFault.TheVariants.{OutOfMemory};
 
 use std::alloc::{AllocError, AllocFailed};
@@ -33,6 +34,29 @@ pub enum PbFault {
     /// No memory was found for the fields.
     #[error("OutOfMemory")]
     OutOfMemory,
+}
+
+impl PbFault {
+    /// The fault of a text that begins at `start` of another one, with its place in that other one. It takes no memory.
+    pub fn moved_by(self, start: usize) -> PbFault
+        requires { start + place_of self < 2 ^ 64 }
+        ensures { result ≡ moved_by start self }
+    {
+        let start = start as u64;
+        match self {
+            PbFault::Short { at } => PbFault::Short { at: start + at },
+            PbFault::BadVarint { at } => PbFault::BadVarint { at: start + at },
+            PbFault::Unknown { at, number } => PbFault::Unknown {
+                at: start + at,
+                number,
+            },
+            PbFault::WrongWire { at } => PbFault::WrongWire { at: start + at },
+            PbFault::OutOfOrder { at } => PbFault::OutOfOrder { at: start + at },
+            PbFault::Doubled { at } => PbFault::Doubled { at: start + at },
+            PbFault::Missing { number } => PbFault::Missing { number },
+            PbFault::OutOfMemory => PbFault::OutOfMemory,
+        }
+    }
 }
 
 impl<T: Drop> From<AllocFailed<T>> for PbFault {

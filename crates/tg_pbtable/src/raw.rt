@@ -1,6 +1,7 @@
 //! Varints and fields where they stand, before any table is asked.
 ghost use Rattle.std.specs.Prelude.{◌≡◌, ◌<◌, ◌≤◌, length, drop, MatchResult};
 ghost use Rattle.tg_pbtable.specs.Reading.{IsVarintAt, IsVarintFault, IsValueAt, IsValueFault, IsFieldAt, IsFieldFault};
+ghost use Rattle.tg_pbtable.specs.Reading.{IsFixedAt, IsFixedFault, IsPlaceAt, IsPlaceFault};
 
 use crate::table::{Value, Wire};
 
@@ -11,12 +12,19 @@ pub(crate) enum ReadFault {
     Bad,
 }
 
-/// A field as it stands: its number, and its value with the offset behind it. One of a wire type that no table has
-/// isn't read.
+/// A field as it stands: its number and its value. One of a wire type that no table has isn't read.
 #[derive(Clone, Copy)]
 pub(crate) struct RawField {
     pub(crate) number: u64,
-    pub(crate) value: Option<(Value, usize)>,
+    pub(crate) value: Option<RawValue>,
+}
+
+/// A value as it stands, with its wire type and the offset behind it.
+#[derive(Clone, Copy)]
+pub(crate) struct RawValue {
+    pub(crate) wire: Wire,
+    pub(crate) value: Value,
+    pub(crate) next: usize,
 }
 
 /// The field of which the key stands at `at`.
@@ -34,9 +42,9 @@ pub(crate) fn raw_field_at(bytes: &[u8], at: usize) -> Result<RawField, ReadFaul
     })
 }
 
-/// The value of a wire type at `at`, with the offset behind it.
+/// The value of a wire type at `at`.
 #[inline(always)]
-fn value_at(bytes: &[u8], at: usize, code: u64) -> Result<Option<(Value, usize)>, ReadFault>
+fn value_at(bytes: &[u8], at: usize, code: u64) -> Result<Option<RawValue>, ReadFault>
     requires { at ≤ length bytes.now }
     ensures { MatchResult result (λ value. IsValueAt at (drop at bytes.now) code value)
         (λ e. IsValueFault e code (drop at bytes.now)) }
@@ -44,18 +52,45 @@ fn value_at(bytes: &[u8], at: usize, code: u64) -> Result<Option<(Value, usize)>
     let Some(wire) = Wire::with_code(code) else {
         return Ok(None);
     };
-    let (number, size) = varint_at(&bytes[at..])?;
-    match wire {
-        Wire::Varint => Ok(Some((Value::Number(number), at + size))),
-        Wire::Bytes => {
-            let start = at + size;
-            if number > (bytes.len() - start) as u64 {
-                return Err(ReadFault::Short);
-            }
-            let end = start + number as usize;
-            Ok(Some((Value::Place { start, end }, end)))
+    let (value, next) = match wire {
+        Wire::Varint => {
+            let (number, size) = varint_at(&bytes[at..])?;
+            (Value::Number(number), at + size)
         }
+        Wire::Bytes => {
+            let (start, end) = place_at(bytes, at)?;
+            (Value::Place { start, end }, end)
+        }
+        Wire::Fixed32 => (Value::Number(fixed_at(&bytes[at..])?), at + 4),
+    };
+    Ok(Some(RawValue { wire, value, next }))
+}
+
+/// Where the bytes lie of which the length stands at `at`.
+#[inline(always)]
+fn place_at(bytes: &[u8], at: usize) -> Result<(usize, usize), ReadFault>
+    requires { at ≤ length bytes.now }
+    ensures { MatchResult result (λ place. IsPlaceAt at (drop at bytes.now) place.0 place.1)
+        (λ e. IsPlaceFault e (drop at bytes.now)) }
+{
+    let (number, size) = varint_at(&bytes[at..])?;
+    let start = at + size;
+    if number > (bytes.len() - start) as u64 {
+        return Err(ReadFault::Short);
     }
+    Ok((start, start + number as usize))
+}
+
+/// The number that the first four bytes are, the least significant one first.
+#[inline(always)]
+fn fixed_at(bytes: &[u8]) -> Result<u64, ReadFault>
+    ensures { MatchResult result (λ number. IsFixedAt bytes.now number)
+        (λ e. IsFixedFault e bytes.now) }
+{
+    let Some(four) = bytes.first_chunk::<4>() else {
+        return Err(ReadFault::Short);
+    };
+    Ok(u64::from(u32::from_le_bytes(*four)))
 }
 
 /// The number that a varint at the front spells, and how many bytes it takes.

@@ -1,7 +1,7 @@
 //! One field of a text, with the table's rule for it.
 ghost use Rattle.std.specs.Prelude.{◌≡◌, ◌≢◌, ◌≤◌, ℕ, List, [], length, drop, All, IfOk, IfErr, MatchOption};
 ghost use Rattle.std.specs.Prelude.{MatchResult};
-ghost use Rattle.tg_pbtable.specs.Message.{IsTable, wire_of};
+ghost use Rattle.tg_pbtable.specs.Message.{IsTable};
 ghost use Rattle.tg_pbtable.specs.Emitted.{LiesIn};
 ghost use Rattle.tg_pbtable.specs.Cursor.{StandsAt, StandsBetween, IsNextField, IsRefused};
 ghost use Rattle.tg_pbtable.specs.Reading.{IsRuled, HasNumberAt};
@@ -11,7 +11,7 @@ ghost use Rattle.tg_pbtable.specs.declared.fault.PbFault.{PbFault};
 
 use crate::fault::PbFault;
 use crate::raw::{ReadFault, raw_field_at};
-use crate::table::{Field, Rule, Value, Wire};
+use crate::table::{Field, Rule};
 
 /// The field of which the key stands at `at`, and the offset of the first byte behind it.
 ///
@@ -65,15 +65,18 @@ pub(crate) fn ruled_field<const N: usize>(
         });
     };
     let rule = rules[index];
-    match raw.value {
-        Some((value, next)) if wire_of(value) == rule.wire => {
-            let field = Field {
-                number: rule.number,
-                value,
-            };
-            Ok((index, field, next))
-        }
-        _ => Err(PbFault::WrongWire { at: at as u64 }),
+    let Some(found) = raw.value else {
+        return Err(PbFault::WrongWire { at: at as u64 });
+    };
+    if found.wire == rule.wire {
+        let field = Field {
+            number: rule.number,
+            wire: rule.wire,
+            value: found.value,
+        };
+        Ok((index, field, found.next))
+    } else {
+        Err(PbFault::WrongWire { at: at as u64 })
     }
 }
 
@@ -85,14 +88,4 @@ fn rule_of<const N: usize>(rules: &[Rule; N], number: u64) -> Option<usize>
     rules
         .iter()
         .position(|rule| u64::from(rule.number) == number)
-}
-
-/// How a value is spelled.
-fn wire_of(value: Value) -> Wire
-    ensures { result ≡ wire_of value }
-{
-    match value {
-        Value::Number(_) => Wire::Varint,
-        Value::Place { .. } => Wire::Bytes,
-    }
 }

@@ -7,12 +7,14 @@ ghost use Rattle.tg_pbtable.specs.Place.{IsInside, bytes_of};
 use std::marker::Model;
 
 /// How a value is spelled (protobuf encoding guide, wire types).
-#[derive(Clone, Copy, Debug, PartialEq, Eq)]
+#[derive(Clone, Copy, PartialEq, Eq)]
 pub enum Wire {
     /// Wire type 0: a varint below 2 ^ 64.
     Varint,
     /// Wire type 2: a length and that many bytes.
     Bytes,
+    /// Wire type 5: a number below 2 ^ 32 in four bytes, the least significant one first.
+    Fixed32,
 }
 
 impl Wire {
@@ -23,6 +25,7 @@ impl Wire {
         match self {
             Wire::Varint => 0,
             Wire::Bytes => 2,
+            Wire::Fixed32 => 5,
         }
     }
 
@@ -34,6 +37,8 @@ impl Wire {
             Some(Wire::Varint)
         } else if code == Wire::Bytes.code() {
             Some(Wire::Bytes)
+        } else if code == Wire::Fixed32.code() {
+            Some(Wire::Fixed32)
         } else {
             None
         }
@@ -41,7 +46,7 @@ impl Wire {
 }
 
 /// How often a number may stand.
-#[derive(Clone, Copy, Debug, PartialEq, Eq)]
+#[derive(Clone, Copy, PartialEq, Eq)]
 pub enum Times {
     /// Once.
     One,
@@ -52,7 +57,7 @@ pub enum Times {
 }
 
 /// A row of a table: the number of a field, from 1 to 2 ^ 29 - 1, its wire type and how often it may stand.
-#[derive(Clone, Copy, Debug, PartialEq, Eq)]
+#[derive(Clone, Copy, PartialEq, Eq)]
 pub struct Rule {
     pub number: u32,
     pub wire: Wire,
@@ -60,7 +65,7 @@ pub struct Rule {
 }
 
 /// In which order the fields of a message stand.
-#[derive(Clone, Copy, Debug, PartialEq, Eq)]
+#[derive(Clone, Copy, PartialEq, Eq)]
 pub enum Order {
     /// The numbers never fall.
     Ascending,
@@ -69,14 +74,14 @@ pub enum Order {
 }
 
 /// The value of a field: a number, or the place of its bytes in the text, from `start` up to and without `end`.
-#[derive(Clone, Copy, Debug, PartialEq, Eq)]
+#[derive(Clone, Copy, PartialEq, Eq)]
 pub enum Value {
     Number(u64),
     Place { start: usize, end: usize },
 }
 
 /// Where bytes lie in a text: from `start` up to and without `end`.
-#[derive(Clone, Copy, Debug, PartialEq, Eq)]
+#[derive(Clone, Copy, PartialEq, Eq)]
 pub struct Place {
     pub start: usize,
     pub end: usize,
@@ -92,15 +97,16 @@ impl Place {
     }
 }
 
-/// One field of a text.
-#[derive(Clone, Copy, Debug, PartialEq, Eq)]
+/// One field of a text: its number, how its value is spelled, and the value.
+#[derive(Clone, Copy, PartialEq, Eq)]
 pub struct Field {
     pub number: u32,
+    pub wire: Wire,
     pub value: Value,
 }
 
 /// The fields of a text in order, which contracts see as a list.
-#[derive(Debug, Drop)]
+#[derive(Drop)]
 pub struct Fields {
     fields: Vec<Field>,
 }

@@ -3,6 +3,7 @@ ghost use Rattle.std.specs.Prelude.{◌≡◌, ◌+◌, ◌*◌, ◌<◌, ◌≤
 ghost use Rattle.tg_pbtable.specs.Wires.{wire_code};
 ghost use Rattle.tg_pbtable.specs.Varint.{VarintSpelling};
 ghost use Rattle.tg_pbtable.specs.Message.{Message, IsTable, KeySpelling, NumberSpelling, Spelled, AreRuled, IsCount};
+ghost use Rattle.tg_pbtable.specs.Message.{FixedSpelling, IsOfWire};
 ghost use Rattle.tg_pbtable.specs.Message.{count_of, IsInOrder, numbers_of};
 ghost use Rattle.tg_pbtable.specs.Emitted.{LiesIn, AreSameFields, HeadSpelling, BytesSpelling, SizedSpelling};
 ghost use Rattle.tg_pbtable.specs.Emitted.{ValueText, Puts, IsSizeOf};
@@ -55,22 +56,39 @@ fn size_of_fields(fields: &[Field]) -> usize
 
 /// How many bytes the spelling of a field takes.
 fn size_of_field(field: &Field) -> usize {
-    match field.value {
-        Value::Number(value) => size_of_number(field.number, value),
-        Value::Place { start, end } => size_of_bytes(field.number, end.saturating_sub(start)),
+    match (field.wire, field.value) {
+        (Wire::Fixed32, _) => size_of_varint(key(field.number, Wire::Fixed32)) + 4,
+        (_, Value::Number(value)) => size_of_number(field.number, value),
+        (_, Value::Place { start, end }) => {
+            size_of_bytes(field.number, end.saturating_sub(start))
+        }
     }
 }
 
 /// Puts the spelling of a field behind the text.
 fn put_field(text: &mut Vec<u8>, field: &Field, source: &[u8]) -> Result<(), AllocError>
-    requires { LiesIn source.now field.now.value }
-    ensures { OnOk result (Puts (λ bytes. ValueText source.now field.now.number field.now.value bytes)
+    requires wire { IsOfWire field.now.wire field.now.value }
+    requires inside { LiesIn source.now field.now.value }
+    ensures { OnOk result (Puts (λ bytes. ValueText source.now field.now.number field.now.wire field.now.value bytes)
         text.old.items text.new.items) }
 {
     match field.value {
+        Value::Number(value) if field.wire == Wire::Fixed32 => {
+            put_fixed(text, field.number, value as u32)
+        }
         Value::Number(value) => put_number(text, field.number, value),
         Value::Place { start, end } => put_bytes(text, field.number, &source[start..end]),
     }
+}
+
+/// Puts a field of a number in four bytes behind the text. The error is want of memory.
+///
+/// Protobuf encoding guide, Non-varint Numbers.
+fn put_fixed(text: &mut Vec<u8>, number: u32, value: u32) -> Result<(), AllocError>
+    ensures { OnOk result (Puts (λ bytes. FixedSpelling number value bytes) text.old.items text.new.items) }
+{
+    put_key(text, number, Wire::Fixed32)?;
+    text.extend_from_slice(&value.to_le_bytes())
 }
 
 /// Puts a field of a number behind the text. The error is want of memory.

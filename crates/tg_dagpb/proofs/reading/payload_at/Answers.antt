@@ -11,7 +11,7 @@ use Rattle.tg_dagpb.specs.declared.TheConstants.{NODE}
 use Rattle.tg_dagpb.specs.Reading.{HasFirstBad}
 use Rattle.tg_dagpb.specs.Faults.{IsLinkText}
 use Rattle.tg_dagpb.proofs.Causes.{node_has_none, one_node_cause}
-use Rattle.tg_dagpb.proofs.Checking.{verdict_more, verdict_kept, payload_more, payload_there, payload_only, bad_link_there}
+use Rattle.tg_dagpb.proofs.Checking.{last_wire, verdict_more, verdict_kept, payload_more, payload_there, payload_only, bad_link_there}
 use Rattle.tg_dagpb.proofs.Cursors.{start_between}
 use Rattle.tg_dagpb.proofs.reading.payload_at.Goals as goal
 
@@ -40,10 +40,15 @@ returns-in_err-field-clause-given c = λ fault cause.
     let h = c.in_err-field.ensures.next c.loop-field.invariant.fields c.loop-field.invariant.read in
     rw (p.1, p.2) (ap (λ (x : PbFault). Err x) (one_node_cause c.table_laws.ensures c.args.bytes.now c.in_err-field.field-0.0 fault (inl h) cause))
 
-pub link_fault-bad-requires : goal.link_fault-bad-requires
-link_fault-bad-requires c =
+pub link_fault-bad-requires-clause-lies : goal.link_fault-bad-requires-clause-lies
+link_fault-bad-requires-clause-lies c =
     let h = rw c.in-Some.is at (c.in_ok-field.ensures.next c.loop-field.invariant.fields c.loop-field.invariant.read) in
     h.1
+
+pub link_fault-bad-requires-clause-wire : goal.link_fault-bad-requires-clause-wire
+link_fault-bad-requires-clause-wire c =
+    let h = rw c.in-Some.is at (c.in_ok-field.ensures.next c.loop-field.invariant.fields c.loop-field.invariant.read) in
+    last_wire NODE.now c.loop-field.invariant.fields c.in-Some.field h.0.begins.ruled
 
 pub loop-field-smaller-then-is_none : goal.loop-field-smaller-then-is_none
 loop-field-smaller-then-is_none c =

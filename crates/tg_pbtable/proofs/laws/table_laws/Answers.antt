@@ -1,7 +1,7 @@
 use Rattle.std.proofs.Common.{ℕ, List}
 use Rattle.tg_pbtable.specs.Laws.{MessageLaws, ValueLaws, LastLaws, WritingLaws}
 use Rattle.tg_pbtable.proofs.Spellings.{one_reading, one_text}
-use Rattle.tg_pbtable.proofs.Causes.{one_cause, no_cause}
+use Rattle.tg_pbtable.proofs.Causes.{one_cause, no_cause, fault_place}
 use Rattle.tg_pbtable.proofs.Tables.{table_of}
 use Rattle.tg_pbtable.proofs.Emitting.{texts_append, texts_bytes, emitted}
 use Rattle.tg_pbtable.proofs.Lasts.{later_more, at_most_one, exactly_one, first_listed, first_alone, listed_same}
@@ -15,6 +15,7 @@ message_laws = record {
   one_reading = one_reading;
   one_cause = one_cause;
   no_cause = no_cause;
+  place = fault_place;
   computed = fields_law;
   computed_fault = fault_law;
   one_text = one_text;
