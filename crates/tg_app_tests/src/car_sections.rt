@@ -94,6 +94,17 @@ const ANSWERS: &[Row] = &[
         "",
     ),
     (Shape::OneEntry, &[1, 0], ("/hello", &[]), 0, HELLO, ""),
+    // Modes and modification times are passed over.
+    (Shape::WithMode, &[0], ("", &[]), 0, b"", ""),
+    (
+        Shape::Dated,
+        &[3, 2, 1, 0],
+        ("", &["--scope", "all"]),
+        0,
+        b"dir /\ndir /d\nfile 11 /d/hello\nhello world\n",
+        "",
+    ),
+    (Shape::Dated, &[3, 2, 1, 0], ("/d/hello", &[]), 0, HELLO, ""),
     (
         Shape::OneEntry,
         &[1],

@@ -66,7 +66,7 @@ read_unix laws block kind names children unix r w =
     (record { links = w.links; payload = Some w.payload }) block r.node.node w.text.is_text in
     let both : Some r.node.payload ≡ Some w.payload = ap (λ (n : Node). n.payload) nodes in
     let payload : r.node.payload ≡ w.payload = cc in
-    laws.one_unix r.unix unix w.payload (subst (λ (p : List ℕ). UnixText r.unix p) payload r.node.unix_is) w.unix_is
+    laws.one_unix r.unix unix w.payload (subst (λ (p : List ℕ). UnixText r.unix p) payload r.node.unix_is) w.unix_is.is_text
 
 -- ---- sections
 

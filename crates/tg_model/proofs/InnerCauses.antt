@@ -5,7 +5,7 @@ use Rattle.tg_cid.specs.Cid.{CidParts}
 use Rattle.tg_cid.specs.declared.cid.Codec.{Codec}
 use Rattle.tg_cid.specs.declared.cid.Codec.TheVariants as codecs
 use Rattle.tg_dagpb.specs.Computed.{node_of}
-use Rattle.tg_dagpb.specs.Faults.{HasNodeCause, moved_by}
+use Rattle.tg_dagpb.specs.Faults.{HasNodeCause}
 use Rattle.tg_dagpb.specs.Node.{NodeText}
 use Rattle.tg_dagpb.specs.declared.TheConstants.{LINK}
 use Rattle.tg_dagpb.specs.declared.Link.{Link}
@@ -16,12 +16,14 @@ use Rattle.tg_model.specs.Computed.{cid_or_fault, cids_from, kind_by, node_or_fa
 use Rattle.tg_model.specs.InnerFaults.{IsNoWantOfMemory}
 use Rattle.tg_model.specs.declared.fault.BlockFault.{BlockFault}
 use Rattle.tg_model.specs.declared.kinds.Kind.{Kind}
-use Rattle.tg_pbtable.specs.Faults.{HasCause}
+use Rattle.tg_pbtable.specs.Faults.{HasCause, moved_by}
+use Rattle.tg_pbtable.specs.declared.table.Rule.{Rule}
 use Rattle.tg_pbtable.specs.declared.fault.PbFault.{PbFault}
 use Rattle.tg_pbtable.specs.declared.fault.PbFault.TheVariants as pb
 use Rattle.tg_pbtable.specs.declared.table.Order.TheVariants.{Ascending}
 use Rattle.tg_unixfs.specs.Computed.{unix_of}
 use Rattle.tg_unixfs.specs.Faults.{HasUnixCause}
+use Rattle.tg_unixfs.specs.declared.TheConstants.{TIME}
 use Rattle.tg_unixfs.specs.declared.Unix.{Unix}
 use Rattle.tg_unixfs.specs.declared.UnixFault.{UnixFault}
 use Rattle.tg_unixfs.specs.declared.UnixFault.TheVariants as unixfs
@@ -50,15 +52,15 @@ no_want_either false a b h g = g
 
 -- ---- the crates below
 
--- no cause of a link's text, wherever it stands, is want of memory
-moved_cause : (text : List ℕ) (start : ℕ) (cause : PbFault) → HasCause LINK.now Ascending text cause → pb.OutOfMemory ≡ moved_by start cause → ⊥
-moved_cause text start pb.OutOfMemory h e = h
-moved_cause text start _ h e = cc
+-- no cause of a text inside another one, wherever it stands, is want of memory
+moved_cause : (rules : List Rule) (text : List ℕ) (start : ℕ) (cause : PbFault) → HasCause rules Ascending text cause → pb.OutOfMemory ≡ moved_by start cause → ⊥
+moved_cause rules text start pb.OutOfMemory h e = h
+moved_cause rules text start _ h e = cc
 
 -- nor is one of a node's text
 node_cause : (text : List ℕ) → HasNodeCause text pb.OutOfMemory → ⊥
 node_cause text (inl h) = h
-node_cause text (inr h) = moved_cause (slice_range text h.start h.end) h.start h.cause h.cause_is h.fault_is
+node_cause text (inr h) = moved_cause LINK.now (slice_range text h.start h.end) h.start h.cause h.cause_is h.fault_is
 
 -- the first faults of nodes and of UnixFS data have their causes
 pub record CausedFaults : Type 0 where
@@ -77,11 +79,16 @@ inner_no_want : (text : List ℕ) (fault : PbFault) → HasUnixCause text (unixf
 inner_no_want text pb.OutOfMemory h e = h
 inner_no_want text _ h e = cc
 
+time_no_want : (text : List ℕ) (fault : PbFault) → HasUnixCause text (unixfs.BadTime fault) → unixfs.BadTime fault ≢ unixfs.BadTime pb.OutOfMemory
+time_no_want text pb.OutOfMemory h e = moved_cause TIME.now (slice_range text h.start h.end) h.start h.cause h.cause_is h.fault_is
+time_no_want text _ h e = cc
+
 unix_no_want : (text : List ℕ) (result : Result Unix UnixFault) → ((fault : UnixFault) → result ≡ Err fault → HasUnixCause text fault) → NoWant (unix_with_fault result)
 unix_no_want text (Ok unix) caused = tt
-unix_no_want text (Err (unixfs.Pb fault)) caused = ((λ e. cc), inner_no_want text fault (caused (unixfs.Pb fault) refl))
+unix_no_want text (Err (unixfs.Pb fault)) caused = ((λ e. cc), inner_no_want text fault (caused (unixfs.Pb fault) refl), λ e. cc)
+unix_no_want text (Err (unixfs.BadTime fault)) caused = ((λ e. cc), (λ e. cc), time_no_want text fault (caused (unixfs.BadTime fault) refl))
 unix_no_want text (Err unixfs.OutOfMemory) caused = caused unixfs.OutOfMemory refl
-unix_no_want text (Err _) caused = ((λ e. cc), λ e. cc)
+unix_no_want text (Err _) caused = ((λ e. cc), (λ e. cc), λ e. cc)
 
 -- the data of a node's payload
 payload_no_want : CausedFaults → (links : List Link) (payload : Option (List ℕ)) (block : List ℕ) → AreBytes block → NodeText (record { links = links; payload = payload }) block

@@ -19,6 +19,7 @@ block_fault_of_pb pb.OutOfMemory = faults.OutOfMemory
 
 abbrev pub block_fault_of_unix : UnixFault → BlockFault
 block_fault_of_unix (unixfs.Pb fault) = faults.BadUnix (unixfs.Pb fault)
+block_fault_of_unix (unixfs.BadTime fault) = faults.BadUnix (unixfs.BadTime fault)
 block_fault_of_unix (unixfs.BadKind number) = faults.BadUnix (unixfs.BadKind number)
 block_fault_of_unix (unixfs.BadHash number) = faults.BadUnix (unixfs.BadHash number)
 block_fault_of_unix (unixfs.BadFanout number) = faults.BadUnix (unixfs.BadFanout number)
@@ -27,6 +28,7 @@ block_fault_of_unix unixfs.OutOfMemory = faults.OutOfMemory
 -- no fault of a crate below that a fault of a block carries is want of memory
 abbrev pub IsNoWantOfMemory : BlockFault → Type 0
 IsNoWantOfMemory (faults.BadNode fault) = fault ≢ pb.OutOfMemory
-IsNoWantOfMemory (faults.BadUnix fault) = (fault ≢ unixfs.OutOfMemory) × (fault ≢ unixfs.Pb pb.OutOfMemory)
+IsNoWantOfMemory (faults.BadUnix fault) =
+    (fault ≢ unixfs.OutOfMemory) × (fault ≢ unixfs.Pb pb.OutOfMemory) × (fault ≢ unixfs.BadTime pb.OutOfMemory)
 IsNoWantOfMemory faults.OutOfMemory = ⊥
 IsNoWantOfMemory _ = ⊤

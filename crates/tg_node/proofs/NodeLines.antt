@@ -75,6 +75,7 @@ caused bytes e other cause = elim cause [ inl f ↦ absurd (other f) | inr h ↦
 unix_err : (bytes : List ℕ) (e : UnixFault) → ((unix : Unix) → UnixText unix bytes → e ≡ unixfs.OutOfMemory)
     → ((e ≡ unixfs.OutOfMemory) ⊎ HasUnixCause bytes e) → IsCaused (HasPayloadCause (Some bytes)) (fault_of_unix e)
 unix_err bytes (unixfs.Pb fault) only cause = bad_unix bytes (unixfs.Pb fault) (λ unix text. let e = only unix text in absurd (cc)) (caused bytes (unixfs.Pb fault) (λ e. absurd (cc)) cause)
+unix_err bytes (unixfs.BadTime fault) only cause = bad_unix bytes (unixfs.BadTime fault) (λ unix text. let e = only unix text in absurd (cc)) (caused bytes (unixfs.BadTime fault) (λ e. absurd (cc)) cause)
 unix_err bytes (unixfs.BadKind number) only cause = bad_unix bytes (unixfs.BadKind number) (λ unix text. let e = only unix text in absurd (cc)) (caused bytes (unixfs.BadKind number) (λ e. absurd (cc)) cause)
 unix_err bytes (unixfs.BadHash number) only cause = bad_unix bytes (unixfs.BadHash number) (λ unix text. let e = only unix text in absurd (cc)) (caused bytes (unixfs.BadHash number) (λ e. absurd (cc)) cause)
 unix_err bytes (unixfs.BadFanout number) only cause = bad_unix bytes (unixfs.BadFanout number) (λ unix text. let e = only unix text in absurd (cc)) (caused bytes (unixfs.BadFanout number) (λ e. absurd (cc)) cause)

@@ -186,6 +186,7 @@ fault_of_pb pb.OutOfMemory = OutOfMemory
 
 abbrev pub fault_of_unix : UnixFault → TextFault
 fault_of_unix (unixfs.Pb fault) = Block BadUnix
+fault_of_unix (unixfs.BadTime fault) = Block BadUnix
 fault_of_unix (unixfs.BadKind number) = Block BadUnix
 fault_of_unix (unixfs.BadHash number) = Block BadUnix
 fault_of_unix (unixfs.BadFanout number) = Block BadUnix

@@ -70,6 +70,7 @@ impl From<UnixFault> for TextFault {
         match fault {
             UnixFault::OutOfMemory => TextFault::OutOfMemory,
             UnixFault::Pb(_)
+            | UnixFault::BadTime(_)
             | UnixFault::BadKind { .. }
             | UnixFault::BadHash { .. }
             | UnixFault::BadFanout { .. } => TextFault::Block(NodeFault::BadUnix),

@@ -1,5 +1,5 @@
 -- How many bytes a link, a node and UnixFS data take at most.
-use Rattle.std.proofs.Common.{◌≡◌, ◌*◌, ◌+◌, ◌<◌, ◌≤◌, ℕ, Option, None, Some, List, [], ◌∷◌, length, refl, ap, ◌∙◌, subst, inl, inr, arith, length-append}
+use Rattle.std.proofs.Common.{◌≡◌, ◌*◌, ◌+◌, ◌<◌, ◌≤◌, ℕ, Option, None, Some, List, [], ◌∷◌, length, get_or, refl, ap, ◌∙◌, subst, inl, inr, arith, length-append}
 use Rattle.std.specs.Prelude.{All, unwrap_or, ⊤}
 use Rattle.std.proofs.lemmas.List.{nil_from_length}
 use Rattle.std.proofs.lemmas.List.Sums.{sum_by-cons}
@@ -20,7 +20,7 @@ use Rattle.tg_pbtable.specs.declared.table.Field.{Field}
 use Rattle.tg_pbtable.specs.declared.table.Order.{Order}
 use Rattle.tg_pbtable.specs.declared.table.Rule.{Rule}
 use Rattle.tg_pbtable.specs.declared.table.Wire.TheVariants.{Bytes, Varint}
-use Rattle.tg_unixfs.specs.Unix.{UnixText}
+use Rattle.tg_unixfs.specs.Unix.{CanonicalText as CanonicalData}
 use Rattle.tg_unixfs.specs.declared.TheConstants.{DATA}
 use Rattle.tg_unixfs.specs.declared.Unix.{Unix}
 use Rattle.tg_varint.specs.Laws.{SpellingLaws}
@@ -35,7 +35,7 @@ use Rattle.tg_node_writing.specs.Nodes.{AreLinksFor, IsLinkFor, IsNodeOf, IsOfSh
 ruled_all : (rules : List Rule) (P : ℕ → Type 0) (fields : List Field) → AreRuled rules fields → All (λ (r : Rule). P r.number) rules
     → All (λ (f : Field). P f.number) fields
 ruled_all rules P fields ruled all i f at =
-    let h = ruled i f at in
+    let h = (ruled i f at).has_rule in
     subst P h.number_is (All-contains (λ (r : Rule). P r.number) rules h.rule all h.among)
 
 -- a message takes what its fields take, number by number
@@ -140,8 +140,8 @@ links_fit laws spellings (e ∷ entries) (l ∷ links) (t ∷ texts) are ts sha 
 node_rules : (P : ℕ → Type 0) → P 1 → P 2 → All (λ (r : Rule). P r.number) NODE.now
 node_rules P a b = rules_all P NODE.now (a, (b, tt))
 
-data_rules : (P : ℕ → Type 0) → P 1 → P 2 → P 3 → P 4 → P 5 → P 6 → All (λ (r : Rule). P r.number) DATA.now
-data_rules P a b c d e f = rules_all P DATA.now (a, (b, (c, (d, (e, (f, tt))))))
+data_rules : (P : ℕ → Type 0) → P 1 → P 2 → P 3 → P 4 → P 5 → P 6 → P 7 → P 8 → All (λ (r : Rule). P r.number) DATA.now
+data_rules P a b c d e f g h = rules_all P DATA.now (a, (b, (c, (d, (e, (f, (g, (h, tt))))))))
 
 inline_fits : (inline : Option (List ℕ)) → rooms (listed inline) ≤ 11 + length (unwrap_or inline [])
 inline_fits None = omega arith
@@ -151,22 +151,33 @@ at_most_one : (value : Option ℕ) → length (listed value) ≤ 1
 at_most_one None = omega arith
 at_most_one (Some n) = omega arith
 
-abbrev six : List ℕ
-six = 1 ∷ 2 ∷ 3 ∷ 4 ∷ 5 ∷ 6 ∷ []
+abbrev eight : List ℕ
+eight = 1 ∷ 2 ∷ 3 ∷ 4 ∷ 5 ∷ 6 ∷ 7 ∷ 8 ∷ []
 
-data_fits : (laws : TableLaws) → (unix : Unix) (text : List ℕ) → UnixText unix text → length text ≤ 11 * length unix.sizes + length (inline_of unix) + 55
-data_fits laws unix text h =
+-- fields of low numbers alone have no bytes of a high one, and no numbers
+no_bytes : (laws : TableLaws) → (text : List ℕ) (fields : List Field) (n : ℕ) → All (λ (f : Field). f.number < 7) fields → 7 ≤ n → bytes_at text n fields ≡ []
+no_bytes laws text fields n low high = laws.values.no_bytes text n fields (λ k d l e. let less : (get_or fields k d).number < 7 = low k d l in absurd (omega arith))
+
+no_numbers : (laws : TableLaws) → (fields : List Field) (n : ℕ) → All (λ (f : Field). f.number < 7) fields → 7 ≤ n → numbers_at n fields ≡ []
+no_numbers laws fields n low high = laws.values.no_numbers n fields (λ k d l e. let less : (get_or fields k d).number < 7 = low k d l in absurd (omega arith))
+
+data_fits : (laws : TableLaws) → (unix : Unix) (text : List ℕ) → CanonicalData unix text → length text ≤ 11 * length unix.sizes + length (inline_of unix) + 55
+data_fits laws unix text canonical =
+    let h = canonical.is_text in
     let t : IsTable DATA.now = laws.messages.table DATA.now refl in
     let m = h.message in
-    let all = message_fits DATA.now _ text h.fields six m
-    (data_rules (λ n. n < 15) (omega arith) (omega arith) (omega arith) (omega arith) (omega arith) (omega arith))
-    (data_rules (λ n. IsAmong n six) (inl refl) (inr (inl refl)) (inr (inr (inl refl))) (inr (inr (inr (inl refl)))) (inr (inr (inr (inr (inl refl))))) (inr (inr (inr (inr (inr (inl refl))))))) in
+    let all = message_fits DATA.now _ text h.fields eight m
+    (data_rules (λ n. n < 15) (omega arith) (omega arith) (omega arith) (omega arith) (omega arith) (omega arith) (omega arith) (omega arith))
+    (data_rules (λ n. IsAmong n eight) (inl refl) (inr (inl refl)) (inr (inr (inl refl))) (inr (inr (inr (inl refl)))) (inr (inr (inr (inr (inl refl))))) (inr (inr (inr (inr (inr (inl refl))))))
+    (inr (inr (inr (inr (inr (inr (inl refl))))))) (inr (inr (inr (inr (inr (inr (inr (inl refl))))))))) in
     let one = numbers_take laws DATA.now 1 text h.fields (unix.kind ∷ []) t m.ruled (rule_at DATA.now 0 (omega arith)) h.parts.kind in
     let two = bytes_take laws DATA.now 2 text h.fields (listed unix.inline) t m.ruled (rule_at DATA.now 1 (omega arith)) h.parts.inline in
     let three = numbers_take laws DATA.now 3 text h.fields (listed unix.filesize) t m.ruled (rule_at DATA.now 2 (omega arith)) h.parts.filesize in
     let four = numbers_take laws DATA.now 4 text h.fields unix.sizes t m.ruled (rule_at DATA.now 3 (omega arith)) h.parts.sizes in
     let five = numbers_take laws DATA.now 5 text h.fields (listed unix.hash) t m.ruled (rule_at DATA.now 4 (omega arith)) h.parts.hash in
     let sixth = numbers_take laws DATA.now 6 text h.fields (listed unix.fanout) t m.ruled (rule_at DATA.now 5 (omega arith)) h.parts.fanout in
+    let seventh = numbers_take laws DATA.now 7 text h.fields [] t m.ruled (rule_at DATA.now 6 (omega arith)) (no_numbers laws h.fields 7 canonical.bare (omega arith)) in
+    let eighth = bytes_take laws DATA.now 8 text h.fields [] t m.ruled (rule_at DATA.now 7 (omega arith)) (no_bytes laws text h.fields 8 canonical.bare (omega arith)) in
     let inline = inline_fits unix.inline in
     let filesize = at_most_one unix.filesize in
     let hash = at_most_one unix.hash in

@@ -64,7 +64,7 @@ node_written entries unix block children h lead = record {
 pub node_is : (entries : List NewEntry) (unix : Unix) (block : List ℕ) → (h : IsNodeOf entries unix block)
     → IsUnixNode block h.links (map (λ e. e.cid) entries) unix × (map name_of h.links ≡ map (λ e. e.name) entries)
 node_is entries unix block h =
-    (record { payload = h.payload; node = h.text.is_text; cids_are = are_cids entries h.links h.links_are; unix_is = h.unix_is }, same_names entries h.links h.links_are)
+    (record { payload = h.payload; node = h.text.is_text; cids_are = are_cids entries h.links h.links_are; unix_is = h.unix_is.is_text }, same_names entries h.links h.links_are)
 
 pub file_reads : (entries : List NewEntry) (total : ℕ) (sizes : List ℕ) (block : List ℕ) (cid : CidParts) → IsNodeOf entries (file_unix total sizes) block
     → length sizes ≡ length entries → sum sizes < 2 ^ 63 → cid.codec ≡ DagPb

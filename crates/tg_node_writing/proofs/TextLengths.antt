@@ -1,5 +1,6 @@
 -- How many bytes the spellings of fields take, number by number.
 use Rattle.std.proofs.Common.{◌≡◌, ◌⊎◌, ◌*◌, ◌+◌, ◌<◌, ◌≤◌, ℕ, Bool, true, false, cond, List, [], ◌∷◌, ◌++◌, length, sym, ap, ◌∙◌, subst, inl, inr, arith, append_assoc, length-append}
+use Rattle.std.specs.Int.{to_le_bytes, w32}
 use Rattle.std.specs.Prelude.{All, nat_lt, slice_range, ◌==◌, if◌then◌else◌}
 use Rattle.std.proofs.lemmas.Bool.{eq-eqb, le-ltb, lt-ltb, cases_lt}
 use Rattle.std.proofs.lemmas.List.Elements.{All-head, All-tail}
@@ -9,6 +10,8 @@ use Rattle.tg_pbtable.specs.Values.{bytes_at, bytes_in, number_in, numbers_at}
 use Rattle.tg_pbtable.specs.Varint.{VarintSpelling}
 use Rattle.tg_varint.specs.GroupLaws.{most_bytes, one_long}
 use Rattle.tg_pbtable.specs.declared.table.Field.{Field}
+use Rattle.tg_pbtable.specs.declared.table.Wire.{Wire}
+use Rattle.tg_pbtable.specs.declared.table.Wire.TheVariants.{Varint, Bytes, Fixed32}
 use Rattle.tg_pbtable.specs.declared.table.Value.{Value}
 use Rattle.tg_pbtable.specs.declared.table.Value.TheVariants.{Number, Place}
 
@@ -54,14 +57,21 @@ abbrev pub fields_room : List ℕ → List Field → ℕ
 fields_room text [] = 0
 fields_room text (field ∷ fields) = value_room text field.value + fields_room text fields
 
-value_fits : (text before front rest : List ℕ) (number : ℕ) (value : Value) → text ≡ before ++ (front ++ rest) → number < 15
-    → ValueSpelling (length before) number value front → length front ≤ value_room text value
-value_fits text before front rest number (Number n) w l h =
+value_fits : (text before front rest : List ℕ) (number : ℕ) (wire : Wire) (value : Value) → text ≡ before ++ (front ++ rest) → number < 15
+    → ValueSpelling (length before) number wire value front → length front ≤ value_room text value
+value_fits text before front rest number Varint (Place start end) w l h = absurd h
+value_fits text before front rest number Bytes (Number n) w l h = absurd h
+value_fits text before front rest number Fixed32 (Place start end) w l h = absurd h
+value_fits text before front rest number Fixed32 (Number n) w l h =
+    let key = one_long _ h.key (omega arith) h.key_is.groups in
+    let size : length front ≡ length h.key + 4 = ap length h.whole ∙ length-append h.key (to_le_bytes w32 n) in
+    omega arith
+value_fits text before front rest number Varint (Number n) w l h =
     let key = one_long _ h.key (omega arith) h.key_is.groups in
     let amount = most_bytes _ h.amount h.amount_is.groups in
     let size : length front ≡ length h.key + length h.amount = ap length h.whole ∙ length-append h.key h.amount in
     omega arith
-value_fits text before front rest number (Place start end) w l h =
+value_fits text before front rest number Bytes (Place start end) w l h =
     let key = one_long _ h.key (omega arith) h.key_is.groups in
     let amount = size_fits _ h.size h.size_is in
     let head = before ++ (h.key ++ h.size) in
@@ -83,7 +93,7 @@ text_fits text before rest (f ∷ fs) w h few =
     let front = h.0 in
     let behind = h.1 in
     let whole : rest ≡ front ++ behind = h.2 in
-    let here = value_fits text before front behind f.number f.value (w ∙ ap (λ (t : List ℕ). before ++ t) whole) (All-head P f fs few) h.3 in
+    let here = value_fits text before front behind f.number f.wire f.value (w ∙ ap (λ (t : List ℕ). before ++ t) whole) (All-head P f fs few) h.3 in
     let there = text_fits text (before ++ front) behind fs (w ∙ ap (λ (t : List ℕ). before ++ t) whole ∙ sym (append_assoc before front behind))
     (subst (λ (n : ℕ). Spelled n fs behind) (sym (length-append before front)) h.4) (All-tail P f fs few) in
     let size : length rest ≡ length front + length behind = ap length whole ∙ length-append front behind in

@@ -1,9 +1,9 @@
 -- The worked example's blocks are the canonical texts of their nodes, as a layout has them written.
-use Rattle.std.proofs.Common.{◌≡◌, ◌<◌, ◌≤◌, ◌↔◌, ℕ, zero, suc, true, List, [], ◌∷◌, ◌++◌, Some, Ok, refl, arith}
-use Rattle.std.proofs.lemmas.Bool.{and_parts, eqb-true}
+use Rattle.std.proofs.Common.{◌≡◌, ◌<◌, ◌≤◌, ◌↔◌, ℕ, zero, suc, true, List, [], ◌∷◌, ◌++◌, Some, Ok, refl, sym, subst, arith}
+use Rattle.std.proofs.lemmas.Bool.{and_parts, eqb-true, ltb-true}
 use Rattle.std.proofs.lemmas.List.Elements.{All-cons, All-from_recursion, All-nil}
 use Rattle.std.specs.List.{list_all}
-use Rattle.std.specs.Prelude.{All, codes, slice_index, ◌==◌}
+use Rattle.std.specs.Prelude.{All, codes, nat_lt, slice_index, ◌==◌}
 use Rattle.tg_cid.specs.Cid.{CidParts}
 use Rattle.tg_cid.specs.Computed.{cid_of, v1_bytes}
 use Rattle.tg_cid.specs.Spelling.{CidBytes}
@@ -20,17 +20,21 @@ use Rattle.tg_pbtable.specs.Computed.{fields_of}
 use Rattle.tg_pbtable.specs.Message.{IsTable, Message}
 use Rattle.tg_pbtable.specs.declared.table.Field.{Field}
 use Rattle.tg_pbtable.specs.declared.table.Order.{Order}
-use Rattle.tg_pbtable.specs.declared.table.Order.TheVariants.{Runs}
+use Rattle.tg_pbtable.specs.declared.table.Order.TheVariants.{Ascending, Runs}
 use Rattle.tg_pbtable.specs.declared.table.Rule.{Rule}
-use Rattle.tg_pbtable.specs.declared.table.Value.TheVariants.{Place}
+use Rattle.tg_pbtable.specs.declared.table.Value.TheVariants.{Number, Place}
+use Rattle.tg_pbtable.specs.declared.table.Wire.TheVariants.{Varint, Bytes}
+use Rattle.tg_pbtable.specs.Laws.{rises_from}
 use Rattle.tg_unixfs.specs.Computed.{unix_of}
-use Rattle.tg_unixfs.specs.Unix.{UnixText}
+use Rattle.tg_unixfs.specs.Unix.{CanonicalText as CanonicalData, UnixText}
+use Rattle.tg_unixfs.specs.declared.TheConstants.{DATA}
 use Rattle.tg_unixfs.specs.declared.Unix.{Unix}
 
 -- what is computed of a text of bytes is what the relations say of it
 pub record Laws : Type 0 where
   pub fields : (rules : List Rule) (order : Order) (text : List ℕ) (fields : List Field) → IsTable rules
       → All (λ b. b < 256) text → (fields_of rules order text ≡ Ok fields) ↔ Message rules order text fields
+  pub table : (rules : List Rule) → rises_from 0 rules ≡ true → IsTable rules
   pub node : (text : List ℕ) (node : Node) → All (λ b. b < 256) text → (node_of text ≡ Ok node) ↔ NodeText node text
   pub data_is : (text : List ℕ) (unix : Unix) → All (λ b. b < 256) text → (unix_of text ≡ Ok unix) ↔ UnixText unix text
   pub cid : (cid : CidParts) (bytes : List ℕ) → All (λ b. b < 256) bytes → CidBytes cid bytes ↔ (cid_of bytes ≡ Some cid)
@@ -43,9 +47,21 @@ numbered number (field ∷ fields) e =
     let parts = and_parts (field.number == number) (list_all (λ f. f.number == number) fields) e in
     All-cons (λ (f : Field). f.number ≡ number) field fields (eqb-true field.number number parts.0) (numbered number fields parts.1)
 
+-- so do fields that pass the test of a low number
+low_numbers : (fields : List Field) → list_all (λ field. nat_lt field.number 7) fields ≡ true
+    → All (λ (field : Field). field.number < 7) fields
+low_numbers [] e = All-nil (λ (field : Field). field.number < 7)
+low_numbers (field ∷ fields) e =
+    let parts = and_parts (nat_lt field.number 7) (list_all (λ f. nat_lt f.number 7) fields) e in
+    All-cons (λ (f : Field). f.number < 7) field fields (ltb-true field.number 7 parts.0) (low_numbers fields parts.1)
+
 -- a field of bytes at a place
 abbrev at_place : ℕ → ℕ → ℕ → Field
-at_place number start end = record { number = number; value = Place start end }
+at_place number start end = record { number = number; wire = Bytes; value = Place start end }
+
+-- a field of a number
+abbrev of_number : ℕ → ℕ → Field
+of_number number value = record { number = number; wire = Varint; value = Number value }
 
 -- the numbers of the two rules of a node differ
 numbers_differ : (i j : ℕ) → i < j → j < 2 → slice_index (1 ∷ 2 ∷ []) i ≡ slice_index (1 ∷ 2 ∷ []) j → ⊥
@@ -72,6 +88,15 @@ module _ (laws : Laws) where
       (laws.fields NODE.now Runs text is_text.fields node_table bytes).1 is_text.message in
       let same : is_text.fields ≡ links ++ rest = cc in
       record { is_text = is_text; order = record { links = links; rest = rest; whole = same; are_links = are_links; are_data = are_data } }
+
+  -- the text of data is its canonical one where its fields are computed and have low numbers
+  canonical_data : (unix : Unix) (text : List ℕ) (fields : List Field) → All (λ b. b < 256) text → UnixText unix text
+      → fields_of DATA.now Ascending text ≡ Ok fields → All (λ (field : Field). field.number < 7) fields → CanonicalData unix text
+  canonical_data unix text fields bytes is_text computed low =
+      let found : fields_of DATA.now Ascending text ≡ Ok is_text.fields =
+      (laws.fields DATA.now Ascending text is_text.fields (laws.table DATA.now refl) bytes).1 is_text.message in
+      let same : is_text.fields ≡ fields = cc in
+      record { is_text = is_text; bare = subst (λ (fs : List Field). All (λ (field : Field). field.number < 7) fs) (sym same) low }
 
   -- a CID is spelled by its bytes as a CIDv1
   spelled : (cid : CidParts) → All (λ b. b < 256) (v1_bytes cid) → cid_of (v1_bytes cid) ≡ Some cid → CidBytes cid (v1_bytes cid)
@@ -112,9 +137,13 @@ module _ (laws : Laws) where
       canonical (record { links = d_links; payload = Some d_payload }) d_block (at_place 2 2 46 ∷ []) (at_place 1 48 50 ∷ [])
       (bytes_tested d_block refl) d_text refl (numbered 2 (at_place 2 2 46 ∷ []) refl) (numbered 1 (at_place 1 48 50 ∷ []) refl)
 
-  d_unix : UnixText basic_unix d_payload
+  d_data : UnixText basic_unix d_payload
   unfolding fields_of unix_of
-  d_unix = (laws.data_is d_payload basic_unix (bytes_tested d_payload refl)).0 refl
+  d_data = (laws.data_is d_payload basic_unix (bytes_tested d_payload refl)).0 refl
+
+  d_unix : CanonicalData basic_unix d_payload
+  unfolding fields_of
+  d_unix = canonical_data basic_unix d_payload (of_number 1 1 ∷ []) (bytes_tested d_payload refl) d_data refl (low_numbers (of_number 1 1 ∷ []) refl)
 
   -- the directory's block is written for its entry
   pub d_written : IsWritten d_block (codes "h" ∷ []) (with_child (file_of (leaf l1) (leaf l2) (leaf l3)) no_child) basic_unix
@@ -143,9 +172,16 @@ module _ (laws : Laws) where
       (bytes_tested f_block refl) f_text refl
       (numbered 2 (at_place 2 2 44 ∷ at_place 2 46 88 ∷ at_place 2 90 132 ∷ []) refl) (numbered 1 (at_place 1 134 144 ∷ []) refl)
 
-  f_unix : UnixText (file_unix 11 (4 ∷ 4 ∷ 3 ∷ [])) f_payload
+  f_data : UnixText (file_unix 11 (4 ∷ 4 ∷ 3 ∷ [])) f_payload
   unfolding fields_of unix_of
-  f_unix = (laws.data_is f_payload (file_unix 11 (4 ∷ 4 ∷ 3 ∷ [])) (bytes_tested f_payload refl)).0 refl
+  f_data = (laws.data_is f_payload (file_unix 11 (4 ∷ 4 ∷ 3 ∷ [])) (bytes_tested f_payload refl)).0 refl
+
+  abbrev f_fields : List Field
+  f_fields = of_number 1 2 ∷ of_number 3 11 ∷ of_number 4 4 ∷ of_number 4 4 ∷ of_number 4 3 ∷ []
+
+  f_unix : CanonicalData (file_unix 11 (4 ∷ 4 ∷ 3 ∷ [])) f_payload
+  unfolding fields_of
+  f_unix = canonical_data (file_unix 11 (4 ∷ 4 ∷ 3 ∷ [])) f_payload f_fields (bytes_tested f_payload refl) f_data refl (low_numbers f_fields refl)
 
   -- the file's block is written for its leaves
   pub f_written : IsWritten f_block ([] ∷ [] ∷ [] ∷ []) (with_child (leaf l1) (with_child (leaf l2) (with_child (leaf l3) no_child))) (file_unix 11 (4 ∷ 4 ∷ 3 ∷ []))

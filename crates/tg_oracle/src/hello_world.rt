@@ -106,6 +106,7 @@ pub fn example_import()
 {
     example_whole();
     tg_layout_laws::one_root();
+    tg_pbtable::laws::table_laws();
     tg_pbtable::laws::computes();
     tg_dagpb::laws::computes();
     tg_unixfs::laws::computes();

@@ -1,6 +1,7 @@
 -- Worked values, so that a wrong definition does not check.
 use Rattle.std.proofs.Common.{◌≡◌, [], ◌∷◌, Some, None, Ok, Err, refl}
 use Rattle.tg_pbtable.specs.declared.table.Order.TheVariants.{Ascending}
+use Rattle.tg_pbtable.specs.declared.table.Wire.TheVariants.{Varint}
 use Rattle.tg_pbtable.specs.declared.table.Value.TheVariants.{Number}
 use Rattle.tg_pbtable.specs.declared.fault.PbFault.TheVariants as pb
 use Rattle.tg_pbtable.specs.Computed.{fields_of}
@@ -9,7 +10,7 @@ use Rattle.tg_unixfs.specs.declared.UnixFault.TheVariants as faults
 use Rattle.tg_unixfs.specs.Computed.{unix_of}
 
 -- the fields and the data of the empty directory
-pub directory_fields : fields_of DATA.now Ascending (0x08 ∷ 0x01 ∷ []) ≡ Ok (record { number = 1; value = Number 1 } ∷ [])
+pub directory_fields : fields_of DATA.now Ascending (0x08 ∷ 0x01 ∷ []) ≡ Ok (record { number = 1; wire = Varint; value = Number 1 } ∷ [])
 unfolding fields_of
 directory_fields = refl
 
@@ -49,3 +50,26 @@ half_fanout = refl
 pub nothing : unix_of [] ≡ Err (faults.Pb (pb.Missing 1))
 unfolding fields_of unix_of
 nothing = refl
+
+-- a directory with a mode, and with a modification time of seconds alone and one with nanoseconds
+pub with_mode : unix_of (0x08 ∷ 0x01 ∷ 0x38 ∷ 0xed ∷ 0x03 ∷ []) ≡ unix_of (0x08 ∷ 0x01 ∷ [])
+unfolding fields_of unix_of
+with_mode = refl
+
+pub with_seconds : unix_of (0x08 ∷ 0x01 ∷ 0x42 ∷ 0x06 ∷ 0x08 ∷ 0x80 ∷ 0xe2 ∷ 0xcf ∷ 0xaa ∷ 0x06 ∷ []) ≡ unix_of (0x08 ∷ 0x01 ∷ [])
+unfolding fields_of unix_of
+with_seconds = refl
+
+pub with_nanoseconds : unix_of (0x08 ∷ 0x01 ∷ 0x42 ∷ 0x0b ∷ 0x08 ∷ 0x80 ∷ 0xe2 ∷ 0xcf ∷ 0xaa ∷ 0x06 ∷ 0x15 ∷ 0x00 ∷ 0x65 ∷ 0xcd ∷ 0x1d ∷ [])
+    ≡ unix_of (0x08 ∷ 0x01 ∷ [])
+unfolding fields_of unix_of
+with_nanoseconds = refl
+
+pub no_seconds : unix_of (0x08 ∷ 0x01 ∷ 0x42 ∷ 0x00 ∷ []) ≡ Err (faults.BadTime (pb.Missing 1))
+unfolding fields_of unix_of
+no_seconds = refl
+
+-- the time is cut short, which is told before the unknown type, and its place is counted in the data's text
+pub time_short : unix_of (0x08 ∷ 0x03 ∷ 0x42 ∷ 0x04 ∷ 0x08 ∷ 0x01 ∷ 0x15 ∷ 0x00 ∷ []) ≡ Err (faults.BadTime (pb.Short 6))
+unfolding fields_of unix_of
+time_short = refl

@@ -1,6 +1,7 @@
 mod Parts
 mod Gathering
 mod Same
+mod Timing
 mod Placing
 mod Listing
 mod Encoding

@@ -3,20 +3,21 @@ use Rattle.std.proofs.Common.{◌≡◌, ℕ, zero, suc, ◌+◌, ◌-◌, ◌<�
 use Rattle.std.specs.Prelude.{All, slice_range, ◌==◌, if◌then◌else◌}
 use Rattle.std.specs.List.Sorted.{IsNonDecreasing}
 use Rattle.std.proofs.lemmas.List.{append-nil, take_more, take_all}
-use Rattle.std.proofs.lemmas.List.Elements.{All-nil, All-cons, All-append}
+use Rattle.std.proofs.lemmas.List.Elements.{All-nil, All-cons, All-head, All-tail, All-append}
 use Rattle.std.proofs.lemmas.List.Sums.{sum_by-cons}
 use Rattle.tg_pbtable.specs.declared.table.Rule.{Rule}
 use Rattle.tg_pbtable.specs.declared.table.Wire.TheVariants.{Varint, Bytes}
 use Rattle.tg_pbtable.specs.declared.table.Field.{Field}
 use Rattle.tg_pbtable.specs.declared.table.Value.{Value}
 use Rattle.tg_pbtable.specs.declared.table.Value.TheVariants.{Number, Place}
-use Rattle.tg_pbtable.specs.Message.{HasRule, AreRuled, IsCount, count_of, numbers_of, wire_of}
+use Rattle.tg_pbtable.specs.Message.{HasRule, IsRuledField, AreRuled, IsCount, count_of, numbers_of}
+use Rattle.tg_pbtable.specs.Emitted.{AreSameFields}
 use Rattle.tg_unixfs.specs.declared.TheConstants.{DATA}
 use Rattle.tg_unixfs.specs.declared.Unix.{Unix}
 use Rattle.tg_pbtable.specs.Values.{number_in, bytes_in, numbers_at, bytes_at, listed}
 use Rattle.tg_pbtable.specs.TableRules.{rule_at}
 use Rattle.tg_unixfs.specs.Unix.{HasParts}
-use Rattle.tg_unixfs.specs.Writing.{numbered, as_numbers, as_places, source_of, optional, placed, all_fields}
+use Rattle.tg_unixfs.specs.Writing.{wire_for, numbered, as_numbers, as_places, source_of, optional, placed, all_fields}
 
 -- ---- the sizes, one after another
 
@@ -26,7 +27,7 @@ as_numbers_append (x ∷ xs) ys = ap (λ (t : List Value). Number x ∷ t) (as_n
 
 numbered_append : (k : ℕ) (xs ys : List Value) → numbered k (xs ++ ys) ≡ numbered k xs ++ numbered k ys
 numbered_append k [] ys = refl
-numbered_append k (x ∷ xs) ys = ap (λ (t : List Field). (record { number = k; value = x }) ∷ t) (numbered_append k xs ys)
+numbered_append k (x ∷ xs) ys = ap (λ (t : List Field). (record { number = k; wire = wire_for x; value = x }) ∷ t) (numbered_append k xs ys)
 
 pub sizes_more : (xs : List ℕ) (i d : ℕ) → i < length xs → numbered 4 (as_numbers (take (i + 1) xs)) ≡ numbered 4 (as_numbers (take i xs)) ++ optional 4 (Some (get_or xs i d))
 sizes_more xs i d l =
@@ -58,7 +59,7 @@ Step part at = (n : ℕ) (f : Field) (fs : List Field) → at n (f ∷ fs) ≡ (
 piece_at : {A : Type 0} (part : Value → List A) (at : ℕ → List Field → List A) → Step part at → (k : ℕ) (vs : List Value) (rest : List Field) (n : ℕ) → at n (numbered k vs ++ rest) ≡ piece part k vs n ++ at n rest
 piece_at part at step k [] rest n = piece_none (k == n) (at n rest)
 piece_at part at step k (v ∷ vs) rest n =
-    step n (record { number = k; value = v }) (numbered k vs ++ rest)
+    step n (record { number = k; wire = wire_for v; value = v }) (numbered k vs ++ rest)
     ∙ piece_step (k == n) (part v) (all_of part vs) (at n rest) (at n (numbered k vs ++ rest)) (piece_at part at step k vs rest n)
 
 last_piece : {A : Type 0} (part : Value → List A) (at : ℕ → List Field → List A) → Step part at → ((n : ℕ) → at n [] ≡ []) → (k : ℕ) (vs : List Value) (n : ℕ) → at n (numbered k vs) ≡ piece part k vs n ++ []
@@ -123,7 +124,7 @@ count_step false l c r e = let h : r ≡ 0 + c = e in omega arith
 count_at : (k : ℕ) (vs : List Value) (rest : List Field) (n : ℕ) → count_of (numbered k vs ++ rest) n ≡ some_of k vs n + count_of rest n
 count_at k [] rest n = count_none (k == n) (count_of rest n)
 count_at k (v ∷ vs) rest n =
-    sum_by-cons (λ (x : Field). cond (x.number == n) 1 0) (record { number = k; value = v }) (numbered k vs ++ rest)
+    sum_by-cons (λ (x : Field). cond (x.number == n) 1 0) (record { number = k; wire = wire_for v; value = v }) (numbered k vs ++ rest)
     ∙ count_step (k == n) (length vs) (count_of rest n) (count_of (numbered k vs ++ rest) n) (count_at k vs rest n)
 
 count_last : (k : ℕ) (vs : List Value) (n : ℕ) → count_of (numbered k vs) n ≡ some_of k vs n + 0
@@ -169,14 +170,19 @@ five_counted u = let h : count_of (all_fields u) 5 ≡ 0 + (0 + (0 + (0 + (lengt
 six_counted : (u : Unix) → count_of (all_fields u) 6 ≤ 1
 six_counted u = let h : count_of (all_fields u) 6 ≡ 0 + (0 + (0 + (0 + (0 + (length (as_numbers (listed u.fanout)) + 0))))) = counted u 6 in omega (arith, one_or_none u.fanout)
 
-pub listed_counts : (u : Unix) → (k : ℕ) (d : Rule) → k < 6 → IsCount (get_or DATA.now k d).times (count_of (all_fields u) (get_or DATA.now k d).number)
+none_counted : (u : Unix) (n : ℕ) → count_of (all_fields u) n ≡ 0 → count_of (all_fields u) n ≤ 1
+none_counted u n h = omega arith
+
+pub listed_counts : (u : Unix) → (k : ℕ) (d : Rule) → k < 8 → IsCount (get_or DATA.now k d).times (count_of (all_fields u) (get_or DATA.now k d).number)
 listed_counts u zero d l = counted u 1
 listed_counts u (suc zero) d l = two_counted u
 listed_counts u (suc (suc zero)) d l = three_counted u
 listed_counts u (suc (suc (suc zero))) d l = tt
 listed_counts u (suc (suc (suc (suc zero)))) d l = five_counted u
 listed_counts u (suc (suc (suc (suc (suc zero))))) d l = six_counted u
-listed_counts u (suc (suc (suc (suc (suc (suc k)))))) d l = absurd (omega arith)
+listed_counts u (suc (suc (suc (suc (suc (suc zero)))))) d l = none_counted u 7 (counted u 7)
+listed_counts u (suc (suc (suc (suc (suc (suc (suc zero))))))) d l = none_counted u 8 (counted u 8)
+listed_counts u (suc (suc (suc (suc (suc (suc (suc (suc k)))))))) d l = absurd (omega arith)
 
 -- ---- order
 
@@ -229,15 +235,15 @@ listed_rise u = six_rise (Number u.kind ∷ []) (as_places u.inline) (as_numbers
 -- ---- rules
 
 abbrev IsRuled : Field → Type 0
-IsRuled f = HasRule DATA.now f.number (wire_of f.value)
+IsRuled f = IsRuledField DATA.now f
 
 ruled_numbers : (k : ℕ) → HasRule DATA.now k Varint → (ns : List ℕ) → All IsRuled (numbered k (as_numbers ns))
 ruled_numbers k h [] = All-nil IsRuled
-ruled_numbers k h (n ∷ ns) = All-cons IsRuled (record { number = k; value = Number n }) (numbered k (as_numbers ns)) h (ruled_numbers k h ns)
+ruled_numbers k h (n ∷ ns) = All-cons IsRuled (record { number = k; wire = Varint; value = Number n }) (numbered k (as_numbers ns)) (record { has_rule = h; of_wire = tt }) (ruled_numbers k h ns)
 
 ruled_inline : (inline : Option (List ℕ)) → HasRule DATA.now 2 Bytes → All IsRuled (placed inline)
 ruled_inline None h = All-nil IsRuled
-ruled_inline (Some bytes) h = All-cons IsRuled (record { number = 2; value = Place 0 (length bytes) }) [] h (All-nil IsRuled)
+ruled_inline (Some bytes) h = All-cons IsRuled (record { number = 2; wire = Bytes; value = Place 0 (length bytes) }) [] (record { has_rule = h; of_wire = tt }) (All-nil IsRuled)
 
 pub listed_ruled : (u : Unix) → AreRuled DATA.now (all_fields u)
 listed_ruled u =
@@ -253,3 +259,33 @@ listed_ruled u =
     (All-append IsRuled p4 (p5 ++ p6) (ruled_numbers 4 (rule_at DATA.now 3 (omega arith)) u.sizes)
     (All-append IsRuled p5 p6 (ruled_numbers 5 (rule_at DATA.now 4 (omega arith)) (listed u.hash))
     (ruled_numbers 6 (rule_at DATA.now 5 (omega arith)) (listed u.fanout))))))
+
+-- ---- none of a high number
+
+abbrev pub IsLow : Field → Type 0
+IsLow f = f.number < 7
+
+low_numbered : (k : ℕ) (vs : List Value) → k < 7 → All IsLow (numbered k vs)
+low_numbered k [] l = All-nil IsLow
+low_numbered k (v ∷ vs) l = All-cons IsLow (record { number = k; wire = wire_for v; value = v }) (numbered k vs) l (low_numbered k vs l)
+
+pub listed_low : (u : Unix) → All IsLow (all_fields u)
+listed_low u =
+    let p1 = numbered 1 (Number u.kind ∷ []) in
+    let p2 = placed u.inline in
+    let p3 = optional 3 u.filesize in
+    let p4 = numbered 4 (as_numbers u.sizes) in
+    let p5 = optional 5 u.hash in
+    let p6 = optional 6 u.fanout in
+    All-append IsLow p1 (p2 ++ (p3 ++ (p4 ++ (p5 ++ p6)))) (low_numbered 1 (Number u.kind ∷ []) (omega arith))
+    (All-append IsLow p2 (p3 ++ (p4 ++ (p5 ++ p6))) (low_numbered 2 (as_places u.inline) (omega arith))
+    (All-append IsLow p3 (p4 ++ (p5 ++ p6)) (low_numbered 3 (as_numbers (listed u.filesize)) (omega arith))
+    (All-append IsLow p4 (p5 ++ p6) (low_numbered 4 (as_numbers u.sizes) (omega arith))
+    (All-append IsLow p5 p6 (low_numbered 5 (as_numbers (listed u.hash)) (omega arith))
+    (low_numbered 6 (as_numbers (listed u.fanout)) (omega arith))))))
+
+pub same_low : (s t : List ℕ) (fs gs : List Field) → AreSameFields s fs t gs → All IsLow fs → All IsLow gs
+same_low s t [] [] same h = h
+same_low s t [] (g ∷ gs) same h = absurd same
+same_low s t (f ∷ fs) [] same h = absurd same
+same_low s t (f ∷ fs) (g ∷ gs) same h = All-cons IsLow g gs (subst (λ (n : ℕ). n < 7) same.0 (All-head IsLow f fs h)) (same_low s t fs gs same.3 (All-tail IsLow f fs h))

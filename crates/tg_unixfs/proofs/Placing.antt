@@ -16,18 +16,19 @@ use Rattle.tg_unixfs.specs.declared.Unix.{Unix}
 use Rattle.tg_unixfs.specs.declared.UnixFault.{UnixFault}
 use Rattle.tg_unixfs.specs.declared.UnixFault.TheVariants as faults
 use Rattle.tg_unixfs.specs.declared.places.UnixPlaces.{UnixPlaces}
-use Rattle.tg_unixfs.specs.Unix.{UnixText, IsUnix, IsKind}
+use Rattle.tg_unixfs.specs.Unix.{UnixText, HasTime, IsUnix, IsKind}
 use Rattle.tg_unixfs.specs.Faults.{HasData, HasUnixCause}
 use Rattle.tg_unixfs.specs.Reading.{Gathers, IsUnfit, carried, nothing}
 use Rattle.tg_unixfs.specs.Places.{IsBetween, MayNotStand, placed_unix}
 use Rattle.tg_unixfs.proofs.Gathering.{gathered_parts}
 use Rattle.tg_unixfs.proofs.Parts.{data_table}
 use Rattle.tg_unixfs.proofs.Same.{one_data}
+use Rattle.tg_unixfs.proofs.Timing.{bad_time_data}
 
 -- ---- the causes
 
 pub data_of : (text : List ℕ) (unix : Unix) → UnixText unix text → HasData text unix
-data_of text unix h = record { fields = h.fields; message = h.message; parts = h.parts }
+data_of text unix h = record { fields = h.fields; message = h.message; parts = h.parts; time = h.time }
 
 -- a text of data that isn't fit
 pub record HasUnfit (text : List ℕ) (fault : UnixFault) : Type 0 where
@@ -36,14 +37,15 @@ pub record HasUnfit (text : List ℕ) (fault : UnixFault) : Type 0 where
   pub unfit : IsUnfit unix fault
 
 -- the data that the fields of a message gave, where it may not stand
-pub unfit_there : (laws : TableLaws) (text : List ℕ) (fs : List Field) (places : UnixPlaces) (fault : UnixFault) → Message DATA.now Ascending text fs
+pub unfit_there : (laws : TableLaws) (text : List ℕ) (fs : List Field) (places : UnixPlaces) (fault : UnixFault) → Message DATA.now Ascending text fs → HasTime text fs
     → Gathers text fs nothing (placed_unix text places (numbers_at 4 fs)) → MayNotStand places fault → HasUnfit text fault
-unfit_there laws text fs places fault m g none =
+unfit_there laws text fs places fault m time g none =
     let unix = placed_unix text places (numbers_at 4 fs) in
-    record { unix = unix; has = record { fields = fs; message = m; parts = gathered_parts laws text fs unix m g }; unfit = none text (numbers_at 4 fs) }
+    record { unix = unix; has = record { fields = fs; message = m; parts = gathered_parts laws text fs unix m g; time = time }; unfit = none text (numbers_at 4 fs) }
 
 unfit_data : (text : List ℕ) (unix : Unix) (fault : UnixFault) → HasData text unix → IsUnfit unix fault → HasUnixCause text fault
 unfit_data text unix (faults.Pb fault) d h = absurd h
+unfit_data text unix (faults.BadTime fault) d h = absurd h
 unfit_data text unix (faults.BadKind number) d h = record { unix = unix; has = d; kind = h.kind; unknown = h.unknown }
 unfit_data text unix (faults.BadHash number) d h = record { unix = unix; has = d; kind = h.kind; number_is = h.number_is; other = h.other }
 unfit_data text unix (faults.BadFanout number) d h = record { unix = unix; has = d; kind = h.kind; hash = h.hash; number_is = h.number_is; other = h.other }
@@ -58,6 +60,7 @@ same_data laws text a b p q = one_data laws text p.fields q.fields a b p.message
 -- the message has a fault, or the data isn't fit
 cause_unfit : (laws : TableLaws) (text : List ℕ) (unix : Unix) (fault : UnixFault) → HasData text unix → HasUnixCause text fault → IsUnfit unix fault
 cause_unfit laws text unix (faults.Pb fault) d h = absurd (laws.messages.no_cause DATA.now Ascending text d.fields fault (data_table laws) d.message h)
+cause_unfit laws text unix (faults.BadTime fault) d h = absurd (bad_time_data laws text unix fault d h)
 cause_unfit laws text unix (faults.BadKind number) d h =
     subst (λ (u : Unix). IsUnfit u (faults.BadKind number)) (same_data laws text h.unix unix h.has d) (record { kind = h.kind; unknown = h.unknown })
 cause_unfit laws text unix (faults.BadHash number) d h =
@@ -68,6 +71,7 @@ cause_unfit laws text unix faults.OutOfMemory d h = absurd h
 
 fit_or_unfit : (unix : Unix) (fault : UnixFault) → IsUnix unix → IsUnfit unix fault → ⊥
 fit_or_unfit unix (faults.Pb fault) is h = h
+fit_or_unfit unix (faults.BadTime fault) is h = h
 fit_or_unfit unix (faults.BadKind number) is h = h.unknown (subst (λ (n : ℕ). IsKind n) h.kind is.known)
 fit_or_unfit unix (faults.BadHash number) is h = h.other (h.number_is ∙ ap (λ (o : Option ℕ). unwrap_or o 0) (is.shard h.kind).hash)
 fit_or_unfit unix (faults.BadFanout number) is h = h.other (h.number_is ∙ ap (λ (o : Option ℕ). unwrap_or o 0) (is.shard h.kind).fanout)
@@ -78,18 +82,22 @@ five_known unix number e five = inr (inr (inr (inr (sym e ∙ five))))
 
 one_unfit : (unix : Unix) (a b : UnixFault) → IsUnfit unix a → IsUnfit unix b → a ≡ b
 one_unfit unix (faults.Pb fault) b h k = absurd h
+one_unfit unix (faults.BadTime fault) b h k = absurd h
 one_unfit unix faults.OutOfMemory b h k = absurd h
 one_unfit unix (faults.BadKind m) (faults.Pb fault) h k = absurd k
+one_unfit unix (faults.BadKind m) (faults.BadTime fault) h k = absurd k
 one_unfit unix (faults.BadKind m) faults.OutOfMemory h k = absurd k
 one_unfit unix (faults.BadKind m) (faults.BadKind n) h k = ap (λ (i : ℕ). faults.BadKind i) (sym h.kind ∙ k.kind)
 one_unfit unix (faults.BadKind m) (faults.BadHash n) h k = absurd (h.unknown (five_known unix m h.kind k.kind))
 one_unfit unix (faults.BadKind m) (faults.BadFanout n) h k = absurd (h.unknown (five_known unix m h.kind k.kind))
 one_unfit unix (faults.BadHash m) (faults.Pb fault) h k = absurd k
+one_unfit unix (faults.BadHash m) (faults.BadTime fault) h k = absurd k
 one_unfit unix (faults.BadHash m) faults.OutOfMemory h k = absurd k
 one_unfit unix (faults.BadHash m) (faults.BadKind n) h k = absurd (k.unknown (five_known unix n k.kind h.kind))
 one_unfit unix (faults.BadHash m) (faults.BadHash n) h k = ap (λ (i : ℕ). faults.BadHash i) (h.number_is ∙ sym k.number_is)
 one_unfit unix (faults.BadHash m) (faults.BadFanout n) h k = absurd (h.other (h.number_is ∙ k.hash))
 one_unfit unix (faults.BadFanout m) (faults.Pb fault) h k = absurd k
+one_unfit unix (faults.BadFanout m) (faults.BadTime fault) h k = absurd k
 one_unfit unix (faults.BadFanout m) faults.OutOfMemory h k = absurd k
 one_unfit unix (faults.BadFanout m) (faults.BadKind n) h k = absurd (k.unknown (five_known unix n k.kind h.kind))
 one_unfit unix (faults.BadFanout m) (faults.BadHash n) h k = absurd (k.other (k.number_is ∙ h.hash))
@@ -125,6 +133,7 @@ carried_is text pb.OutOfMemory h = absurd h
 
 pub carried_given : (laws : TableLaws) (text : List ℕ) (fault : PbFault) (other : UnixFault) → HasCause DATA.now Ascending text fault → HasUnixCause text other → carried fault ≡ other
 carried_given laws text fault (faults.Pb p) h k = carried_is text fault h ∙ ap (λ (x : PbFault). faults.Pb x) (laws.messages.one_cause DATA.now Ascending text fault p (data_table laws) h k)
+carried_given laws text fault (faults.BadTime time) h k = absurd (laws.messages.no_cause DATA.now Ascending text k.fields fault (data_table laws) k.message h)
 carried_given laws text fault (faults.BadKind number) h k = absurd (laws.messages.no_cause DATA.now Ascending text k.has.fields fault (data_table laws) k.has.message h)
 carried_given laws text fault (faults.BadHash number) h k = absurd (laws.messages.no_cause DATA.now Ascending text k.has.fields fault (data_table laws) k.has.message h)
 carried_given laws text fault (faults.BadFanout number) h k = absurd (laws.messages.no_cause DATA.now Ascending text k.has.fields fault (data_table laws) k.has.message h)

@@ -1,15 +1,17 @@
 -- Two texts of the same data have the same values, and a text has one data.
 use Rattle.std.proofs.Common.{◌≡◌, ℕ, zero, suc, ◌<◌, Option, List, [], ◌∷◌, get_or, refl, sym, ◌∙◌, subst, arith}
+use Rattle.std.specs.Prelude.{All}
 use Rattle.tg_pbtable.specs.declared.table.Rule.{Rule}
+use Rattle.tg_pbtable.specs.declared.table.Wire.TheVariants.{Varint, Bytes}
 use Rattle.tg_pbtable.specs.declared.table.Field.{Field}
 use Rattle.tg_pbtable.specs.declared.table.Order.TheVariants.{Ascending}
 use Rattle.tg_pbtable.specs.Message.{Message}
 use Rattle.tg_pbtable.specs.Emitted.{AreSameFields}
-use Rattle.tg_pbtable.specs.Values.{HasSameValues, IsSameFor}
+use Rattle.tg_pbtable.specs.Values.{numbers_at, bytes_at, HasSameValues, IsSameFor}
 use Rattle.tg_pbtable.specs.Laws.{TableLaws}
 use Rattle.tg_unixfs.specs.declared.TheConstants.{DATA}
 use Rattle.tg_unixfs.specs.declared.Unix.{Unix}
-use Rattle.tg_unixfs.specs.Unix.{HasParts, UnixText}
+use Rattle.tg_unixfs.specs.Unix.{HasParts, CanonicalText}
 use Rattle.tg_unixfs.proofs.Parts.{data_table}
 
 -- ---- the same fields have the same parts
@@ -28,17 +30,30 @@ parts_again laws s t fs gs u same p =
 
 -- ---- two texts of the same data
 
-each_same : (s t : List ℕ) (fs gs : List Field) (u : Unix) → HasParts s fs u → HasParts t gs u → (k : ℕ) (d : Rule) → k < 6 → IsSameFor s fs t gs (get_or DATA.now k d).number (get_or DATA.now k d).wire
-each_same s t fs gs u p q zero d l = p.kind ∙ sym q.kind
-each_same s t fs gs u p q (suc zero) d l = p.inline ∙ sym q.inline
-each_same s t fs gs u p q (suc (suc zero)) d l = p.filesize ∙ sym q.filesize
-each_same s t fs gs u p q (suc (suc (suc zero))) d l = p.sizes ∙ sym q.sizes
-each_same s t fs gs u p q (suc (suc (suc (suc zero)))) d l = p.hash ∙ sym q.hash
-each_same s t fs gs u p q (suc (suc (suc (suc (suc zero))))) d l = p.fanout ∙ sym q.fanout
-each_same s t fs gs u p q (suc (suc (suc (suc (suc (suc k)))))) d l = absurd (omega arith)
+each_same : (s t : List ℕ) (fs gs : List Field) (u : Unix) → HasParts s fs u → HasParts t gs u → IsSameFor s fs t gs 7 Varint → IsSameFor s fs t gs 8 Bytes → (k : ℕ) (d : Rule) → k < 8 → IsSameFor s fs t gs (get_or DATA.now k d).number (get_or DATA.now k d).wire
+each_same s t fs gs u p q mode time zero d l = p.kind ∙ sym q.kind
+each_same s t fs gs u p q mode time (suc zero) d l = p.inline ∙ sym q.inline
+each_same s t fs gs u p q mode time (suc (suc zero)) d l = p.filesize ∙ sym q.filesize
+each_same s t fs gs u p q mode time (suc (suc (suc zero))) d l = p.sizes ∙ sym q.sizes
+each_same s t fs gs u p q mode time (suc (suc (suc (suc zero)))) d l = p.hash ∙ sym q.hash
+each_same s t fs gs u p q mode time (suc (suc (suc (suc (suc zero))))) d l = p.fanout ∙ sym q.fanout
+each_same s t fs gs u p q mode time (suc (suc (suc (suc (suc (suc zero)))))) d l = mode
+each_same s t fs gs u p q mode time (suc (suc (suc (suc (suc (suc (suc zero))))))) d l = time
+each_same s t fs gs u p q mode time (suc (suc (suc (suc (suc (suc (suc (suc k)))))))) d l = absurd (omega arith)
 
-pub texts_alike : (laws : TableLaws) → (s t : List ℕ) (u : Unix) (a : UnixText u s) (b : UnixText u t) → HasSameValues s a.fields t b.fields
-texts_alike laws s t u a b = laws.values.by_rules DATA.now s t a.fields b.fields (data_table laws) a.message.ruled b.message.ruled (each_same s t a.fields b.fields u a.parts b.parts)
+-- fields of low numbers alone have no mode and no modification time
+bare_numbers : (laws : TableLaws) → (fs : List Field) → All (λ (f : Field). f.number < 7) fs → numbers_at 7 fs ≡ []
+bare_numbers laws fs bare = laws.values.no_numbers 7 fs (λ k d l e. let low : (get_or fs k d).number < 7 = bare k d l in absurd (omega arith))
+
+pub bare_bytes : (laws : TableLaws) → (text : List ℕ) (fs : List Field) → All (λ (f : Field). f.number < 7) fs → bytes_at text 8 fs ≡ []
+bare_bytes laws text fs bare = laws.values.no_bytes text 8 fs (λ k d l e. let low : (get_or fs k d).number < 7 = bare k d l in absurd (omega arith))
+
+pub texts_alike : (laws : TableLaws) → (s t : List ℕ) (u : Unix) (a : CanonicalText u s) (b : CanonicalText u t) → HasSameValues s a.is_text.fields t b.is_text.fields
+texts_alike laws s t u a b =
+    let p = a.is_text in
+    let q = b.is_text in
+    laws.values.by_rules DATA.now s t p.fields q.fields (data_table laws) p.message.ruled q.message.ruled
+    (each_same s t p.fields q.fields u p.parts q.parts (bare_numbers laws p.fields a.bare ∙ sym (bare_numbers laws q.fields b.bare)) (bare_bytes laws s p.fields a.bare ∙ sym (bare_bytes laws t q.fields b.bare)))
 
 -- ---- one text has one data
 

@@ -1,11 +1,15 @@
 -- The UnixFS data of a text, or why there is none, as a function: what `UnixText` and `HasUnixCause` say as relations.
-use Rattle.std.specs.Prelude.{ℕ, List, unwrap_or, Result, Ok, Err, Bool, ◌||◌, ◌==◌, if◌then◌else◌}
+use Rattle.std.specs.Prelude.{ℕ, List, [], ◌∷◌, Option, Some, None, slice_range, unwrap_or, Result, Ok, Err}
+use Rattle.std.specs.Prelude.{Bool, ◌||◌, ◌==◌, if◌then◌else◌}
 use Rattle.tg_pbtable.specs.declared.table.Field.{Field}
+use Rattle.tg_pbtable.specs.declared.table.Value.{Value}
+use Rattle.tg_pbtable.specs.declared.table.Value.TheVariants.{Number, Place}
 use Rattle.tg_pbtable.specs.declared.table.Order.TheVariants.{Ascending}
 use Rattle.tg_pbtable.specs.declared.fault.PbFault.{PbFault}
 use Rattle.tg_pbtable.specs.Values.{numbers_at, bytes_at}
 use Rattle.tg_pbtable.specs.Computed.{fields_of, first_of}
-use Rattle.tg_unixfs.specs.declared.TheConstants.{DATA}
+use Rattle.tg_pbtable.specs.Faults.{moved_by}
+use Rattle.tg_unixfs.specs.declared.TheConstants.{DATA, TIME}
 use Rattle.tg_unixfs.specs.declared.Unix.{Unix}
 use Rattle.tg_unixfs.specs.declared.UnixFault.{UnixFault}
 use Rattle.tg_unixfs.specs.declared.UnixFault.TheVariants as faults
@@ -36,8 +40,26 @@ abbrev pub checked : Unix → Result Unix UnixFault
 checked unix =
     if is_kind unix.kind then (if unix.kind == 5 then checked_shard unix else Ok unix) else Err (faults.BadKind unix.kind)
 
+-- the fault of a text that begins at `start` of another one, with its place in that other one, where it has a fault
+abbrev pub moved_fault : ℕ → Result (List Field) PbFault → Option PbFault
+moved_fault start (Ok fields) = None
+moved_fault start (Err fault) = Some (moved_by start fault)
+
+abbrev pub bad_time_at : List ℕ → Value → Option PbFault
+bad_time_at text (Number n) = None
+bad_time_at text (Place start end) = moved_fault start (fields_of TIME.now Ascending (slice_range text start end))
+
+-- the fault of the modification time, where it stands and has one
+abbrev pub bad_time : List ℕ → List Field → Option PbFault
+bad_time text [] = None
+bad_time text (field ∷ fields) = if field.number == 8 then bad_time_at text field.value else bad_time text fields
+
+abbrev pub behind_time : Option PbFault → Result Unix UnixFault → Result Unix UnixFault
+behind_time None rest = rest
+behind_time (Some fault) rest = Err (faults.BadTime fault)
+
 abbrev pub with_fields : List ℕ → Result (List Field) PbFault → Result Unix UnixFault
-with_fields text (Ok fields) = checked (parts_of text fields)
+with_fields text (Ok fields) = behind_time (bad_time text fields) (checked (parts_of text fields))
 with_fields text (Err fault) = Err (faults.Pb fault)
 
 -- the data of a text, or its first fault

@@ -41,6 +41,7 @@ pub record IsOtherKind (unix : Unix) (number : ℕ) : Type 0 where
 -- why the data may not stand
 abbrev pub IsUnfit : Unix → UnixFault → Type 0
 IsUnfit unix (faults.Pb fault) = ⊥
+IsUnfit unix (faults.BadTime fault) = ⊥
 IsUnfit unix (faults.BadKind number) = IsOtherKind unix number
 IsUnfit unix (faults.BadHash number) = IsOtherHash unix number
 IsUnfit unix (faults.BadFanout number) = IsOtherFanout unix number

@@ -1,11 +1,11 @@
 -- UnixFS data as a message under its table (UnixFS specification, Data Format: message Data; the ascending order and
 -- the unpacked blocksizes are this project's own profile).
-use Rattle.std.specs.Prelude.{◌≡◌, ℕ, ◌<◌, ◌⊎◌, List, [], ◌∷◌, length, Some, IsSome}
+use Rattle.std.specs.Prelude.{◌≡◌, ℕ, ◌<◌, ◌⊎◌, List, [], ◌∷◌, length, All, Some, IsSome}
 use Rattle.tg_pbtable.specs.declared.table.Field.{Field}
 use Rattle.tg_pbtable.specs.declared.table.Order.TheVariants.{Ascending}
 use Rattle.tg_pbtable.specs.Message.{Message}
 use Rattle.tg_pbtable.specs.Values.{numbers_at, bytes_at, listed}
-use Rattle.tg_unixfs.specs.declared.TheConstants.{DATA}
+use Rattle.tg_unixfs.specs.declared.TheConstants.{DATA, TIME}
 use Rattle.tg_unixfs.specs.declared.Unix.{Unix}
 
 -- the types of a node: 0 Raw, 1 Directory, 2 File, 4 Symlink, 5 HAMTShard
@@ -35,13 +35,23 @@ pub record IsUnix (unix : Unix) : Type 0 where
 abbrev pub HasContent : Unix → Type 0
 HasContent unix = IsSome unix.inline ⊎ (0 < length unix.sizes)
 
--- the text is the data's
+-- the bytes are a message of a time, whatever its numbers (UnixFS specification, Metadata: message UnixTime)
+abbrev pub IsTime : List ℕ → Type 0
+IsTime bytes = (fields : List Field) × Message TIME.now Ascending bytes fields
+
+-- where a modification time stands, it is one
+abbrev pub HasTime : List ℕ → List Field → Type 0
+HasTime text fields = All IsTime (bytes_at text 8 fields)
+
+-- the text is the data's; its mode and its modification time are no part of the data
 pub record UnixText (unix : Unix) (text : List ℕ) : Type 0 where
   pub fields : List Field
   pub message : Message DATA.now Ascending text fields
   pub parts : HasParts text fields unix
+  pub time : HasTime text fields
   pub is_unix : IsUnix unix
 
--- the canonical text of data, the one that a writer writes: today the only one
-abbrev pub CanonicalText : Unix → List ℕ → Type 0
-CanonicalText unix text = UnixText unix text
+-- the canonical text of data, the one that a writer writes: it has neither mode nor modification time
+pub record CanonicalText (unix : Unix) (text : List ℕ) : Type 0 where
+  pub is_text : UnixText unix text
+  pub bare : All (λ field. field.number < 7) is_text.fields

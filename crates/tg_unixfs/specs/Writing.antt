@@ -1,15 +1,23 @@
 -- The fields of UnixFS data in ascending order.
 use Rattle.std.specs.Prelude.{ℕ, List, [], ◌∷◌, ◌++◌, length, Option, Some, None}
 use Rattle.tg_pbtable.specs.declared.table.Field.{Field}
+use Rattle.tg_pbtable.specs.declared.table.Wire.{Wire}
+use Rattle.tg_pbtable.specs.declared.table.Wire.TheVariants.{Varint, Bytes}
 use Rattle.tg_pbtable.specs.declared.table.Value.{Value}
 use Rattle.tg_pbtable.specs.declared.table.Value.TheVariants.{Number, Place}
 use Rattle.tg_unixfs.specs.declared.Unix.{Unix}
 use Rattle.tg_pbtable.specs.Values.{listed}
 
+-- the wire type of a value that a writer writes
+abbrev pub wire_for : Value → Wire
+wire_for (Number n) = Varint
+wire_for (Place start end) = Bytes
+
 -- the fields of one number with these values
 abbrev pub numbered : ℕ → List Value → List Field
 numbered number [] = []
-numbered number (value ∷ values) = record { number = number; value = value } ∷ numbered number values
+numbered number (value ∷ values) =
+    record { number = number; wire = wire_for value; value = value } ∷ numbered number values
 
 abbrev pub as_numbers : List ℕ → List Value
 as_numbers [] = []

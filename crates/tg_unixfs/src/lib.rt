@@ -28,10 +28,10 @@ use tg_pbtable::{
 use thiserror::Error;
 
 /// The table of UnixFS data, whose fields stand in ascending order: 1 Type, 2 Data, 3 filesize, 4 blocksizes, 5
-/// hashType, 6 fanout.
+/// hashType, 6 fanout, 7 mode, 8 mtime. The last two are read and passed over.
 ///
-/// UnixFS specification, Data Format.
-pub const DATA: &[Rule; 6] = &[
+/// UnixFS specification, Data Format and Metadata.
+pub const DATA: &[Rule; 8] = &[
     Rule {
         number: 1,
         wire: Wire::Varint,
@@ -62,6 +62,33 @@ pub const DATA: &[Rule; 6] = &[
         wire: Wire::Varint,
         times: Times::Optional,
     },
+    Rule {
+        number: 7,
+        wire: Wire::Varint,
+        times: Times::Optional,
+    },
+    Rule {
+        number: 8,
+        wire: Wire::Bytes,
+        times: Times::Optional,
+    },
+];
+
+/// The table of a modification time, whose fields stand in ascending order: 1 Seconds, 2 FractionalNanoseconds. Any
+/// numbers are taken.
+///
+/// UnixFS specification, Metadata: message UnixTime.
+pub const TIME: &[Rule; 2] = &[
+    Rule {
+        number: 1,
+        wire: Wire::Varint,
+        times: Times::One,
+    },
+    Rule {
+        number: 2,
+        wire: Wire::Fixed32,
+        times: Times::Optional,
+    },
 ];
 
 /// The code of murmur3-x64-64, the hash of a shard.
@@ -71,10 +98,10 @@ const MURMUR: u64 = 0x22;
 const FANOUT: u64 = 256;
 
 /// UnixFS data: the type (0 Raw, 1 Directory, 2 File, 4 Symlink, 5 HAMTShard) and the other fields, absent ones being
-/// none.
+/// none. Mode and modification time aren't kept.
 ///
 /// UnixFS specification, Data Format.
-#[derive(Debug, Drop)]
+#[derive(Drop)]
 pub struct Unix {
     pub kind: u64,
     pub inline: Option<Bytes>,
@@ -90,6 +117,10 @@ pub enum UnixFault {
     /// The text is no message under the table; the fault is never want of memory.
     #[error("Pb {0}")]
     Pb(PbFault),
+    /// The modification time is no message under its table; the fault is never want of memory, and its place is one of
+    /// the text.
+    #[error("BadTime {0}")]
+    BadTime(PbFault),
     /// The type is 3, Metadata, or none that is known.
     #[error("BadKind {number}")]
     BadKind { number: u64 },
@@ -126,8 +157,9 @@ impl From<AllocError> for UnixFault {
 /// The data that a payload spells.
 ///
 /// UnixFS specification, Data Format; fields out of ascending order and packed blocksizes are refused (this project's
-/// own profile). Errors, in this order: `Pb` with the first fault of the message, `BadKind`, `BadHash`, `BadFanout`,
-/// and `OutOfMemory` for want of memory alone.
+/// own profile). Mode and modification time are read and passed over. Errors, in this order: `Pb` with the first fault
+/// of the message, `BadTime` with the first one of the modification time, `BadKind`, `BadHash`, `BadFanout`, and
+/// `OutOfMemory` for want of memory alone.
 pub fn decode(alloc: Global, bytes: &[u8]) -> Result<Unix, UnixFault>
     ensures found { IfOk result (λ unix. UnixText unix bytes.now) }
     ensures only { (unix : Unix) → UnixText unix bytes.now
@@ -177,7 +209,7 @@ fn sizes_of(alloc: Global, bytes: &[u8]) -> Result<List<u64>, AllocError>
     Ok(sizes)
 }
 
-/// The canonical text of data that `decode` can give. The error is want of memory.
+/// The canonical text of data that `decode` can give, without mode and modification time. The error is want of memory.
 ///
 /// UnixFS specification, Data Format.
 pub fn encode(alloc: Global, unix: &Unix) -> Result<Bytes, AllocError>

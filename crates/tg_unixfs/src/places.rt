@@ -1,23 +1,28 @@
 //! UnixFS data where it stands in its payload, read without memory.
 ghost use Rattle.std.specs.Prelude.{◌≡◌, ℕ, ◌<◌, ◌≤◌, ◌∷◌, ◌++◌, [], length, List as Items, IfOk, IfErr, IfSome, OnOk};
-ghost use Rattle.std.specs.Prelude.{MatchOption, MatchResult};
+ghost use Rattle.std.specs.Prelude.{All, MatchOption, MatchResult, slice_range};
 ghost use Rattle.tg_pbtable.specs.Emitted.{LiesIn};
-ghost use Rattle.tg_pbtable.specs.Place.{AreInside};
-ghost use Rattle.tg_pbtable.specs.Values.{numbers_at};
-ghost use Rattle.tg_unixfs.specs.Unix.{UnixText};
+ghost use Rattle.tg_pbtable.specs.Message.{IsOfWire};
+ghost use Rattle.tg_pbtable.specs.Faults.{HasCause};
+ghost use Rattle.tg_pbtable.specs.Place.{AreInside, placed_bytes};
+ghost use Rattle.tg_pbtable.specs.Values.{numbers_at, bytes_at, later, listed};
+ghost use Rattle.tg_pbtable.specs.declared.table.Order.TheVariants.{Ascending};
+ghost use Rattle.tg_unixfs.specs.Unix.{IsTime, UnixText};
 ghost use Rattle.tg_unixfs.specs.Faults.{HasUnixCause};
 ghost use Rattle.tg_unixfs.specs.Reading.{Gathers};
-ghost use Rattle.tg_unixfs.specs.Places.{HasDataAt, IsBetween, IsCursor, MayStand, MayNotStand, placed_unix};
+ghost use Rattle.tg_unixfs.specs.Places.{HasDataAt, IsAmong, IsBadTimeAt, IsBadTimeFrom, IsBetween, IsCursor};
+ghost use Rattle.tg_unixfs.specs.Places.{MayStand, MayNotStand, placed_unix};
+ghost use Rattle.tg_unixfs.specs.declared.TheConstants.{TIME};
 ghost use Rattle.tg_unixfs.specs.declared.Unix.{Unix};
 ghost use Rattle.tg_unixfs.specs.declared.UnixFault.{UnixFault};
 
-use crate::{DATA, FANOUT, MURMUR, UnixFault};
-use tg_pbtable::{Field, FieldCursor, Order, Place, Value, field_at};
+use crate::{DATA, FANOUT, MURMUR, TIME, UnixFault};
+use tg_pbtable::{Field, FieldCursor, Order, PbFault, Place, Value, field_at};
 
 /// UnixFS data without its blocksizes, of which the inline bytes lie at a place of the payload.
 ///
 /// UnixFS specification, Data Format.
-#[derive(Clone, Copy, Debug, PartialEq, Eq)]
+#[derive(Clone, Copy)]
 pub struct UnixPlaces {
     pub kind: u64,
     pub inline: Option<Place>,
@@ -49,12 +54,69 @@ pub fn places_of(bytes: &[u8]) -> Result<UnixPlaces, UnixFault>
         hash: None,
         fanout: None,
     };
+    let mut time = None;
     let mut cursor = FieldCursor::new();
     while let Some(field) = cursor.next(DATA, Order::Ascending, bytes)? {
         places = with_part(places, &field);
+        time = with_time(time, &field);
     }
+    check_time(bytes, time)?;
     check(places)?;
     Ok(places)
+}
+
+/// The place of the modification time after one field more.
+fn with_time(time: Option<Place>, field: &Field) -> Option<Place>
+    requires { IsOfWire field.now.wire field.now.value }
+    ensures bytes { (text : Items ℕ) → placed_bytes text result
+        ≡ later (placed_bytes text time) (bytes_at text 8 (field.now ∷ [])) }
+    ensures inside { (text : Items ℕ) → LiesIn text field.now.value → AreInside text time → AreInside text result }
+    ensures among { (before : Items Field) → IsAmong before time → IsAmong (before ++ field.now ∷ []) result }
+{
+    match field.value {
+        Value::Place { start, end } if field.number == 8 => Some(Place { start, end }),
+        _ => time,
+    }
+}
+
+/// Whether the bytes at the place of a modification time are one, where there is such a place.
+fn check_time(bytes: &[u8], time: Option<Place>) -> Result<(), UnixFault>
+    requires { AreInside bytes.now time }
+    ensures { MatchResult result (λ _. All IsTime (listed (placed_bytes bytes.now time)))
+        (λ e. IsBadTimeAt bytes.now time e) }
+{
+    let Some(time) = time else {
+        return Ok(());
+    };
+    match time_between(bytes, time.start, time.end) {
+        Ok(()) => Ok(()),
+        Err(fault) => Err(UnixFault::BadTime(fault)),
+    }
+}
+
+/// Whether the bytes from `start` up to and without `end` are a modification time; the place of a fault is one of the
+/// text.
+fn time_between(bytes: &[u8], start: usize, end: usize) -> Result<(), PbFault>
+    requires rises { start ≤ end }
+    requires inside { end ≤ length bytes.now }
+    ensures { MatchResult result (λ _. IsTime (slice_range bytes.now start end))
+        (λ e. IsBadTimeFrom bytes.now start end e) }
+{
+    tg_pbtable::laws::table_laws();
+    match time_in(&bytes[start..end]) {
+        Ok(()) => Ok(()),
+        Err(fault) => Err(fault.moved_by(start)),
+    }
+}
+
+/// Whether the bytes are a modification time; the place of a fault is one of these bytes.
+fn time_in(bytes: &[u8]) -> Result<(), PbFault>
+    ensures { MatchResult result (λ _. IsTime bytes.now) (λ e. HasCause TIME.now Ascending bytes.now e) }
+{
+    tg_pbtable::laws::table_laws();
+    let mut cursor = FieldCursor::new();
+    while let Some(_) = cursor.next(TIME, Order::Ascending, bytes)? {}
+    Ok(())
 }
 
 /// The data with the value of a field.
@@ -111,7 +173,7 @@ fn check_shard(places: UnixPlaces) -> Result<(), UnixFault>
 
 /// The first blocksize at a cursor or behind it, and the cursor behind it; none where no blocksize is left.
 ///
-/// A cursor is 0 or what an earlier call gave. It takes no memory, and reads at most five fields besides.
+/// A cursor is 0 or what an earlier call gave. It takes no memory, and reads at most seven fields besides.
 pub fn size_at(bytes: &[u8], at: usize) -> Option<(u64, usize)>
     requires { IsCursor bytes.now at }
     ensures next { (behind ahead : Items ℕ) → IsBetween bytes.now at behind ahead

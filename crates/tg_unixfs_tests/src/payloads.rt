@@ -115,8 +115,43 @@ const PAYLOADS: &[Row] = &[
         Err(UnixFault::Pb(PbFault::Missing { number: 1 })),
     ),
     (
-        b"\x08\x02\x38\x01",
-        Err(UnixFault::Pb(PbFault::Unknown { at: 2, number: 7 })),
+        b"\x08\x02\x48\x01",
+        Err(UnixFault::Pb(PbFault::Unknown { at: 2, number: 9 })),
+    ),
+    // The mode stands twice, the second time at 4: two bytes of the type, and two of the first mode.
+    (
+        b"\x08\x01\x38\x01\x38\x01",
+        Err(UnixFault::Pb(PbFault::Doubled { at: 4 })),
+    ),
+    (
+        b"\x08\x01\x42\x00\x38\x01",
+        Err(UnixFault::Pb(PbFault::OutOfOrder { at: 4 })),
+    ),
+    (
+        b"\x08\x01\x40\x01",
+        Err(UnixFault::Pb(PbFault::WrongWire { at: 2 })),
+    ),
+    // A modification time has seconds, and its places are counted in the payload.
+    (
+        b"\x08\x01\x42\x00",
+        Err(UnixFault::BadTime(PbFault::Missing { number: 1 })),
+    ),
+    (
+        b"\x08\x01\x42\x04\x08\x01\x15\x00",
+        Err(UnixFault::BadTime(PbFault::Short { at: 6 })),
+    ),
+    (
+        b"\x08\x01\x38\x01\x42\x02\x18\x01",
+        Err(UnixFault::BadTime(PbFault::Unknown { at: 6, number: 3 })),
+    ),
+    // The time's fault comes before the type's, and the message's before both.
+    (
+        b"\x08\x03\x42\x00",
+        Err(UnixFault::BadTime(PbFault::Missing { number: 1 })),
+    ),
+    (
+        b"\x08\x03\x42\x00\x48\x01",
+        Err(UnixFault::Pb(PbFault::Unknown { at: 4, number: 9 })),
     ),
     (
         b"\x08\x02\x12\x05\x61",
@@ -150,5 +185,40 @@ fn is_found(alloc: Global, row: &Row) -> bool {
 fn payloads(rt: HostRuntime) {
     for row in PAYLOADS {
         assert!(rt; is_found(rt.alloc(), row), "{row:?}");
+    }
+}
+
+/// A payload with a mode or a modification time, and the canonical one of the same data.
+type PassedRow = (&'static [u8], &'static [u8]);
+
+const PASSED: &[PassedRow] = &[
+    (b"\x08\x01\x38\xed\x03", b"\x08\x01"),
+    (
+        b"\x08\x01\x42\x0b\x08\x80\xe2\xcf\xaa\x06\x15\x00\x65\xcd\x1d",
+        b"\x08\x01",
+    ),
+    (b"\x08\x01\x42\x06\x08\x80\xe2\xcf\xaa\x06", b"\x08\x01"),
+    (
+        b"\x08\x02\x12\x02hi\x18\x02\x38\xa4\x03\x42\x02\x08\x00",
+        b"\x08\x02\x12\x02hi\x18\x02",
+    ),
+];
+
+/// Whether the data of the payload is that of the canonical one, which is written for it.
+fn is_passed(alloc: Global, row: &PassedRow) -> bool {
+    let (payload, canonical) = row;
+    match (decode(alloc, payload), decode(alloc, canonical)) {
+        (Ok(unix), Ok(same)) => match encode(alloc, &unix) {
+            Ok(text) => parts_of(&unix) == parts_of(&same) && text.as_slice() == *canonical,
+            Err(_) => false,
+        },
+        _ => false,
+    }
+}
+
+#[test]
+fn modes_and_times_are_passed_over(rt: HostRuntime) {
+    for row in PASSED {
+        assert!(rt; is_passed(rt.alloc(), row), "{row:?}");
     }
 }

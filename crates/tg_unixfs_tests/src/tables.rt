@@ -1,11 +1,11 @@
-//! Texts under the tables of UnixFS data and of a node, with their fields or faults, and what is written for fields:
-//! what `tg_pbtable` answers.
+//! Texts under the tables of UnixFS data, of a modification time and of a node, with their fields or faults, and what
+//! is written for fields: what `tg_pbtable` answers.
 ghost use Rattle.tg_pbtable.specs.Message.{IsTable};
 
 use std::alloc::Global;
 use tg_dagpb::NODE;
-use tg_pbtable::{Field, FieldCursor, Order, PbFault, Rule, Value, emit, field_at, scan};
-use tg_unixfs::DATA;
+use tg_pbtable::{Field, FieldCursor, Order, PbFault, Rule, Value, Wire, emit, field_at, scan};
+use tg_unixfs::{DATA, TIME};
 
 /// What is found in a text.
 type Found = Result<&'static [Field], PbFault>;
@@ -150,22 +150,27 @@ const DATA_FIELDS: &[FieldsRow] = &[
         &[
             Field {
                 number: 1,
+                wire: Wire::Varint,
                 value: Value::Number(5),
             },
             Field {
                 number: 2,
+                wire: Wire::Bytes,
                 value: Value::Place { start: 4, end: 6 },
             },
             Field {
                 number: 3,
+                wire: Wire::Varint,
                 value: Value::Number(300),
             },
             Field {
                 number: 4,
+                wire: Wire::Varint,
                 value: Value::Number(0),
             },
             Field {
                 number: 4,
+                wire: Wire::Varint,
                 value: Value::Number(7),
             },
         ],
@@ -174,6 +179,7 @@ const DATA_FIELDS: &[FieldsRow] = &[
         b"\x08\xff\xff\xff\xff\xff\xff\xff\xff\xff\x01",
         &[Field {
             number: 1,
+            wire: Wire::Varint,
             value: Value::Number(u64::MAX),
         }],
     ),
@@ -195,14 +201,17 @@ const NODE_FIELDS: &[FieldsRow] = &[
         &[
             Field {
                 number: 2,
+                wire: Wire::Bytes,
                 value: Value::Place { start: 2, end: 3 },
             },
             Field {
                 number: 2,
+                wire: Wire::Bytes,
                 value: Value::Place { start: 5, end: 5 },
             },
             Field {
                 number: 1,
+                wire: Wire::Bytes,
                 value: Value::Place { start: 7, end: 9 },
             },
         ],
@@ -215,6 +224,75 @@ fn fields_of_nodes(rt: HostRuntime) {
     for (text, fields) in NODE_FIELDS {
         assert!(rt;
             is_found(rt.alloc(), NODE, Order::Runs, text, Ok(fields)),
+            "{text:?}"
+        );
+    }
+}
+
+// A modification time: seconds, and nanoseconds in four bytes of which the least significant one is the first.
+const TIME_FIELDS: &[FieldsRow] = &[
+    (
+        b"\x08\x80\xe2\xcf\xaa\x06\x15\x00\x65\xcd\x1d",
+        &[
+            Field {
+                number: 1,
+                wire: Wire::Varint,
+                value: Value::Number(1_700_000_000),
+            },
+            Field {
+                number: 2,
+                wire: Wire::Fixed32,
+                value: Value::Number(500_000_000),
+            },
+        ],
+    ),
+    (
+        b"\x08\x00\x15\xff\xff\xff\xff",
+        &[
+            Field {
+                number: 1,
+                wire: Wire::Varint,
+                value: Value::Number(0),
+            },
+            Field {
+                number: 2,
+                wire: Wire::Fixed32,
+                value: Value::Number(4_294_967_295),
+            },
+        ],
+    ),
+];
+
+#[test]
+fn fields_of_times(rt: HostRuntime) {
+    for (text, fields) in TIME_FIELDS {
+        assert!(rt;
+            is_found(rt.alloc(), TIME, Order::Ascending, text, Ok(fields)),
+            "{text:?}"
+        );
+    }
+}
+
+const TIME_FAULTS: &[FaultRow] = &[
+    // Three bytes of four are left, and none.
+    (b"\x08\x01\x15\x00\x65\xcd", PbFault::Short { at: 2 }),
+    (b"\x08\x01\x15", PbFault::Short { at: 2 }),
+    // A fifth byte is a key again, here of number 0.
+    (
+        b"\x08\x01\x15\x00\x65\xcd\x1d\x00\x05",
+        PbFault::Unknown { at: 7, number: 0 },
+    ),
+    // Wire type 5 where a number of wire type 0 is asked for, and the other way round.
+    (b"\x0d\x00\x65\xcd\x1d", PbFault::WrongWire { at: 0 }),
+    (b"\x08\x01\x10\x01", PbFault::WrongWire { at: 2 }),
+    (b"\x15\x00\x65\xcd\x1d", PbFault::Missing { number: 1 }),
+];
+
+#[test]
+fn faults_of_times(rt: HostRuntime) {
+    for (text, fault) in TIME_FAULTS {
+        assert!(rt;
+            is_found(rt.alloc(), TIME, Order::Ascending, text, Err(*fault)),
             "{text:?}"
         );
     }
@@ -233,6 +311,7 @@ const PLACES: &[PlaceRow] = &[
         Ok((
             Field {
                 number: 1,
+                wire: Wire::Varint,
                 value: Value::Number(5),
             },
             2,
@@ -244,6 +323,7 @@ const PLACES: &[PlaceRow] = &[
         Ok((
             Field {
                 number: 2,
+                wire: Wire::Bytes,
                 value: Value::Place { start: 4, end: 6 },
             },
             6,
@@ -257,6 +337,7 @@ const PLACES: &[PlaceRow] = &[
         Ok((
             Field {
                 number: 3,
+                wire: Wire::Varint,
                 value: Value::Number(300),
             },
             9,
@@ -269,6 +350,7 @@ const PLACES: &[PlaceRow] = &[
         Ok((
             Field {
                 number: 4,
+                wire: Wire::Varint,
                 value: Value::Number(0),
             },
             11,
@@ -280,6 +362,7 @@ const PLACES: &[PlaceRow] = &[
         Ok((
             Field {
                 number: 1,
+                wire: Wire::Varint,
                 value: Value::Number(7),
             },
             13,
@@ -313,6 +396,7 @@ fn goes_on() -> bool {
     first
         == Ok(Some(Field {
             number: 1,
+            wire: Wire::Varint,
             value: Value::Number(5),
         }))
         && at == 2

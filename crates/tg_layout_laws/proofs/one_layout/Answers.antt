@@ -23,8 +23,8 @@ returns-clause-one c = λ options tree d e sound other laid laid_other.
           same_bits
           (record { first = c.big_endians.ensures.first; most = c.big_endians.ensures.below })
           h.bits k.bits
-          (bits_bytes h.bits h.written.payload h.written.unix_is)
-          (bits_bytes k.bits k.written.payload k.written.unix_is)
+          (bits_bytes h.bits h.written.payload h.written.unix_is.is_text)
+          (bits_bytes k.bits k.written.payload k.written.unix_is.is_text)
           h.bits_are.shortest k.bits_are.shortest
           (h.bits_are.used ∙ numbers ∙ sym k.bits_are.used);
     })

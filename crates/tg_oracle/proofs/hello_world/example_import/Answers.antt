@@ -7,7 +7,7 @@ returns-clause-shows c = shows_folder
 
 pub returns-clause-layout : goal.returns-clause-layout
 returns-clause-layout c =
-    import_layout (record { fields = c.computes.ensures.fields; node = c.computes-2.ensures.node; data_is = c.computes-3.ensures.data; cid = c.computes-4.ensures.cid })
+    import_layout (record { fields = c.computes.ensures.fields; table = c.table_laws.ensures.messages.table; node = c.computes-2.ensures.node; data_is = c.computes-3.ensures.data; cid = c.computes-4.ensures.cid })
 
 pub returns-clause-only : goal.returns-clause-only
 returns-clause-only c = λ named tree file e is sound laid.
@@ -15,6 +15,7 @@ returns-clause-only c = λ named tree file e is sound laid.
     import_layout
     (record {
       fields = c.computes.ensures.fields;
+      table = c.table_laws.ensures.messages.table;
       node = c.computes-2.ensures.node;
       data_is = c.computes-3.ensures.data;
       cid = c.computes-4.ensures.cid;

@@ -6,4 +6,4 @@ use Rattle.tg_unixfs.proofs.laws.one_text.Goals as goal
 pub returns : goal.returns
 returns c = λ unix s t a b.
     let laws = c.table_laws.ensures in
-    laws.messages.ascending DATA.now s t a.fields b.fields (data_table laws) a.message b.message (texts_alike laws s t unix a b)
+    laws.messages.ascending DATA.now s t a.is_text.fields b.is_text.fields (data_table laws) a.is_text.message b.is_text.message (texts_alike laws s t unix a b)

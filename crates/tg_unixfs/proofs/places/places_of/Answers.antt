@@ -1,8 +1,9 @@
-use Rattle.std.proofs.Common.{◌≡◌, ◌<◌, ℕ, List, [], ◌∷◌, ◌++◌, Err, refl, sym, ap, ◌∙◌, subst, arith}
+use Rattle.std.proofs.Common.{◌≡◌, ◌<◌, ℕ, None, List, [], ◌∷◌, ◌++◌, Err, refl, sym, ap, ◌∙◌, subst, arith}
 use Rattle.std.proofs.lemmas.Result.{err_from_is_err_and}
 use Rattle.tg_pbtable.specs.declared.table.Order.TheVariants.{Ascending}
 use Rattle.tg_pbtable.specs.Message.{Message}
-use Rattle.tg_pbtable.specs.Values.{numbers_at}
+use Rattle.tg_pbtable.specs.Values.{numbers_at, bytes_at}
+use Rattle.tg_pbtable.specs.Place.{placed_bytes}
 use Rattle.tg_unixfs.specs.declared.TheConstants.{DATA}
 use Rattle.tg_unixfs.specs.declared.Unix.{Unix}
 use Rattle.tg_unixfs.specs.declared.UnixFault.{UnixFault}
@@ -13,6 +14,7 @@ use Rattle.tg_unixfs.proofs.Gathering.{gathers_more, gathered_parts}
 use Rattle.tg_unixfs.proofs.Parts.{data_table}
 use Rattle.tg_unixfs.proofs.Same.{one_data}
 use Rattle.tg_unixfs.proofs.Placing.{unfit_there, unfit_cause, unfit_given, unix_has_none, carried_cause, carried_given}
+use Rattle.tg_unixfs.proofs.Timing.{last_wire, times_there, bad_time_in, bad_time_cause, bad_time_given}
 use Rattle.tg_unixfs.proofs.places.places_of.Goals as goal
 
 pub loop-field-init : goal.loop-field-init
@@ -21,7 +23,15 @@ loop-field-init c = record {
   read = c.new-cursor.ensures.read DATA.now Ascending c.args.bytes.now refl;
   gathers = record { kind = refl; inline = refl; filesize = refl; sizes = refl; hash = refl; fanout = refl };
   inside = tt;
+  time_is = refl;
+  time_inside = tt;
+  time_among = tt;
 }
+
+pub with_time-time-requires : goal.with_time-time-requires
+with_time-time-requires c =
+    let h = rw c.in-Some.is at (c.in_ok-field.ensures.next c.loop-field.invariant.fields c.loop-field.invariant.read) in
+    last_wire DATA.now c.loop-field.invariant.fields c.in-Some.field h.0.begins.ruled
 
 pub loop-field-smaller : goal.loop-field-smaller
 loop-field-smaller c =
@@ -46,6 +56,10 @@ loop-field-preserved c =
       read = h.0;
       gathers = subst (λ (sizes : List ℕ). Gathers text (fs ++ f ∷ []) nothing (placed_unix text new sizes)) (sym (laws.values.numbers_append 4 fs (f ∷ []))) gathers;
       inside = c.with_part-places.ensures.inside text h.1 c.loop-field.invariant.inside;
+      time_is = laws.last_bytes.later_more None (placed_bytes text c.loop-field.time) (placed_bytes text c.with_time-time.result) (bytes_at text 8 fs) (bytes_at text 8 (f ∷ [])) (bytes_at text 8 (fs ++ f ∷ []))
+          (laws.values.bytes_append text 8 fs (f ∷ [])) c.loop-field.invariant.time_is (c.with_time-time.ensures.bytes text);
+      time_inside = c.with_time-time.ensures.inside text h.1 c.loop-field.invariant.time_inside;
+      time_among = c.with_time-time.ensures.among fs c.loop-field.invariant.time_among;
     }
 
 pub returns-in_err-field-clause-only : goal.returns-in_err-field-clause-only
@@ -65,13 +79,40 @@ returns-in_err-field-clause-given c = λ fault cause.
     let h = c.in_err-field.ensures.next c.loop-field.invariant.fields c.loop-field.invariant.read in
     rw (p.1, p.2) (ap (λ (x : UnixFault). Err x) (carried_given c.table_laws.ensures c.args.bytes.now c.in_err-field.field-0.0 fault h cause))
 
+pub returns-in_err-check_time-clause-only : goal.returns-in_err-check_time-clause-only
+returns-in_err-check_time-clause-only c = λ unix text.
+    let fs = c.loop-field.invariant.fields in
+    let fault = c.in_err-check_time.field-0.0 in
+    let message : Message DATA.now Ascending c.args.bytes.now fs = rw c.in_default.is at (c.in_ok-field.ensures.next fs c.loop-field.invariant.read) in
+    let bad = bad_time_in c.args.bytes.now fs c.loop-field.time fault message c.loop-field.invariant.time_among c.in_err-check_time.ensures in
+    absurd (unix_has_none c.table_laws.ensures c.args.bytes.now unix fault text (bad_time_cause c.args.bytes.now fault bad))
+
+pub returns-in_err-check_time-clause-cause : goal.returns-in_err-check_time-clause-cause
+returns-in_err-check_time-clause-cause c =
+    let p = err_from_is_err_and c.from_residual-in_err-check_time.result c.from_residual-in_err-check_time.ensures.1 in
+    let fs = c.loop-field.invariant.fields in
+    let fault = c.in_err-check_time.field-0.0 in
+    let message : Message DATA.now Ascending c.args.bytes.now fs = rw c.in_default.is at (c.in_ok-field.ensures.next fs c.loop-field.invariant.read) in
+    let bad = bad_time_in c.args.bytes.now fs c.loop-field.time fault message c.loop-field.invariant.time_among c.in_err-check_time.ensures in
+    rw (p.1, p.2) (bad_time_cause c.args.bytes.now fault bad)
+
+pub returns-in_err-check_time-clause-given : goal.returns-in_err-check_time-clause-given
+returns-in_err-check_time-clause-given c = λ other cause.
+    let p = err_from_is_err_and c.from_residual-in_err-check_time.result c.from_residual-in_err-check_time.ensures.1 in
+    let fs = c.loop-field.invariant.fields in
+    let fault = c.in_err-check_time.field-0.0 in
+    let message : Message DATA.now Ascending c.args.bytes.now fs = rw c.in_default.is at (c.in_ok-field.ensures.next fs c.loop-field.invariant.read) in
+    let bad = bad_time_in c.args.bytes.now fs c.loop-field.time fault message c.loop-field.invariant.time_among c.in_err-check_time.ensures in
+    rw (p.1, p.2) (ap (λ (x : UnixFault). Err x) (bad.is ∙ bad_time_given c.table_laws.ensures c.args.bytes.now bad.moved other bad.has cause))
+
 pub returns-in_err-check-clause-only : goal.returns-in_err-check-clause-only
 returns-in_err-check-clause-only c = λ unix text.
     let laws = c.table_laws.ensures in
     let fs = c.loop-field.invariant.fields in
     let fault = c.in_err-check.field-0.0 in
     let message : Message DATA.now Ascending c.args.bytes.now fs = rw c.in_default.is at (c.in_ok-field.ensures.next fs c.loop-field.invariant.read) in
-    let unfit = unfit_there laws c.args.bytes.now fs c.loop-field.places fault message c.loop-field.invariant.gathers c.in_err-check.ensures in
+    let time = times_there laws c.args.bytes.now fs c.loop-field.time message c.loop-field.invariant.time_is c.in_ok-check_time.ensures in
+    let unfit = unfit_there laws c.args.bytes.now fs c.loop-field.places fault message time c.loop-field.invariant.gathers c.in_err-check.ensures in
     absurd (unix_has_none laws c.args.bytes.now unix fault text (unfit_cause c.args.bytes.now fault unfit))
 
 pub returns-in_err-check-clause-cause : goal.returns-in_err-check-clause-cause
@@ -80,7 +121,8 @@ returns-in_err-check-clause-cause c =
     let fs = c.loop-field.invariant.fields in
     let fault = c.in_err-check.field-0.0 in
     let message : Message DATA.now Ascending c.args.bytes.now fs = rw c.in_default.is at (c.in_ok-field.ensures.next fs c.loop-field.invariant.read) in
-    let unfit = unfit_there c.table_laws.ensures c.args.bytes.now fs c.loop-field.places fault message c.loop-field.invariant.gathers c.in_err-check.ensures in
+    let time = times_there c.table_laws.ensures c.args.bytes.now fs c.loop-field.time message c.loop-field.invariant.time_is c.in_ok-check_time.ensures in
+    let unfit = unfit_there c.table_laws.ensures c.args.bytes.now fs c.loop-field.places fault message time c.loop-field.invariant.gathers c.in_err-check.ensures in
     rw (p.1, p.2) (unfit_cause c.args.bytes.now fault unfit)
 
 pub returns-in_err-check-clause-given : goal.returns-in_err-check-clause-given
@@ -90,7 +132,8 @@ returns-in_err-check-clause-given c = λ other cause.
     let fs = c.loop-field.invariant.fields in
     let fault = c.in_err-check.field-0.0 in
     let message : Message DATA.now Ascending c.args.bytes.now fs = rw c.in_default.is at (c.in_ok-field.ensures.next fs c.loop-field.invariant.read) in
-    let unfit = unfit_there laws c.args.bytes.now fs c.loop-field.places fault message c.loop-field.invariant.gathers c.in_err-check.ensures in
+    let time = times_there laws c.args.bytes.now fs c.loop-field.time message c.loop-field.invariant.time_is c.in_ok-check_time.ensures in
+    let unfit = unfit_there laws c.args.bytes.now fs c.loop-field.places fault message time c.loop-field.invariant.gathers c.in_err-check.ensures in
     rw (p.1, p.2) (ap (λ (x : UnixFault). Err x) (unfit_given laws c.args.bytes.now fault other unfit cause))
 
 pub returns-clause-found : goal.returns-clause-found
@@ -98,10 +141,11 @@ returns-clause-found c =
     let fs = c.loop-field.invariant.fields in
     let sizes = numbers_at 4 fs in
     let message : Message DATA.now Ascending c.args.bytes.now fs = rw c.in_default.is at (c.in_ok-field.ensures.next fs c.loop-field.invariant.read) in
+    let time = times_there c.table_laws.ensures c.args.bytes.now fs c.loop-field.time message c.loop-field.invariant.time_is c.in_ok-check_time.ensures in
     let parts = gathered_parts c.table_laws.ensures c.args.bytes.now fs (placed_unix c.args.bytes.now c.loop-field.places sizes) message c.loop-field.invariant.gathers in
     record {
       sizes = sizes;
-      is_text = record { fields = fs; message = message; parts = parts; is_unix = c.in_ok-check.ensures c.args.bytes.now sizes };
+      is_text = record { fields = fs; message = message; parts = parts; time = time; is_unix = c.in_ok-check.ensures c.args.bytes.now sizes };
     }
 
 pub returns-clause-cursor : goal.returns-clause-cursor
