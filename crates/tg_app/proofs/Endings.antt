@@ -1,5 +1,6 @@
 -- What each exit status says, from how the words end.
-use Rattle.std.proofs.Common.{◌+◌, ◌≡◌, ◌≢◌, ℕ, ◌<◌, ◌≤◌, ◌⊎◌, inl, inr, List, [], ◌∷◌, ◌++◌, length, Option, Some, None, Err, refl, sym, ap, ◌∙◌, subst, arith, append-nil, length-append}
+use Rattle.std.proofs.Common.{◌+◌, ◌≡◌, ◌≢◌, ℕ, ◌<◌, ◌≤◌, ◌⊎◌, inl, inr, List, [], ◌∷◌, ◌++◌, length, Option, Some, None, Err, refl, sym, ap, ◌∙◌, subst, arith, append-nil, length-append, nat_eq, true, false}
+use Rattle.std.proofs.lemmas.Bool.{eq-eqb}
 use Rattle.std.proofs.lemmas.Bool.Decides.{eqb_tells}
 use Rattle.tg_bytes.specs.Told.{after_front, IsNothing}
 use Rattle.tg_cid.specs.Cid.{CidParts}
@@ -70,6 +71,17 @@ ends_of starts words command objects end line (inr (inl memory)) =
     subst (CommandEnds command objects) (sym memory.end_is) (memory_ends words command objects starts line memory.untouched)
 ends_of starts words command objects end line (inr (inr did)) = subst (λ (k : Command). CommandEnds k objects end) (did.the.only command line) did.ends
 
+-- ---- statuses that differ
+
+differs : (m n : ℕ) → nat_eq m n ≡ false → m ≡ n → ⊥
+differs m n apart e = let same : nat_eq m n ≡ true = eq-eqb m n e in cc
+
+usage_differs : (refusal : CommandFault) → nat_eq 2 (status_of refusal) ≡ false → Usage ≡ refusal → ⊥
+usage_differs refusal apart e = differs 2 (status_of refusal) apart (ap status_of e)
+
+nine_differs : (refusal given : CommandFault) → nat_eq (status_of given) 9 ≡ false → refusal ≡ given → status_of refusal ≡ 9 → ⊥
+nine_differs refusal given apart is e = differs (status_of given) 9 apart (sym (ap status_of is) ∙ e)
+
 -- ---- ends by their status
 
 eight_is : (end : Option CommandFault) → exit_status end ≡ 8 → end ≡ Some OutOfMemory
@@ -90,33 +102,33 @@ memory_of words objects end e (inr (inr did)) = inr (did.command, did.the, subst
 
 -- no command ends as one that is none
 no_export_tells : (fault : ExportFault) → TellsExport fault Usage → ⊥
-no_export_tells (exports.Pack (packs.NotCar at)) h = cc
-no_export_tells (exports.Pack (packs.BadDigest at)) h = cc
-no_export_tells (exports.Pack packs.Unfinished) h = cc
-no_export_tells (exports.Pack (packs.Truncated at)) h = cc
-no_export_tells (exports.Pack packs.Failed) h = cc
-no_export_tells (exports.Pack (packs.BlockLimit at)) h = cc
-no_export_tells (exports.Pack packs.OutOfMemory) h = cc
-no_export_tells (exports.Resolve paths.NoRoot) h = cc
-no_export_tells (exports.Resolve (paths.NotThere segment)) h = cc
-no_export_tells (exports.Resolve (paths.NotFolder segment)) h = cc
-no_export_tells (exports.Resolve (paths.BadBlock cid fault)) (text, is_text, h) = cc
-no_export_tells (exports.Resolve (paths.Gone cid)) (text, is_text, h) = cc
-no_export_tells (exports.Resolve (paths.Store (stores.Changed want got))) h = cc
-no_export_tells (exports.Resolve (paths.Store stores.Failed)) h = cc
-no_export_tells (exports.Resolve (paths.Store stores.OutOfMemory)) h = cc
-no_export_tells (exports.Resolve paths.OutOfMemory) h = cc
-no_export_tells (exports.Walk (walks.NotThere segment)) h = cc
-no_export_tells (exports.Walk (walks.NotFolder segment)) h = cc
-no_export_tells (exports.Walk (walks.BadBlock cid fault)) (text, is_text, h) = cc
-no_export_tells (exports.Walk (walks.Gone cid)) (text, is_text, h) = cc
-no_export_tells (exports.Walk walks.TooDeep) h = cc
-no_export_tells (exports.Walk (walks.Store (stores.Changed want got))) h = cc
-no_export_tells (exports.Walk (walks.Store stores.Failed)) h = cc
-no_export_tells (exports.Walk (walks.Store stores.OutOfMemory)) h = cc
-no_export_tells (exports.Walk walks.OutOfMemory) h = cc
-no_export_tells exports.SinkFault h = cc
-no_export_tells exports.OutOfMemory h = cc
+no_export_tells (exports.Pack (packs.NotCar at)) h = usage_differs _ refl h
+no_export_tells (exports.Pack (packs.BadDigest at)) h = usage_differs _ refl h
+no_export_tells (exports.Pack packs.Unfinished) h = usage_differs _ refl h
+no_export_tells (exports.Pack (packs.Truncated at)) h = usage_differs _ refl h
+no_export_tells (exports.Pack packs.Failed) h = usage_differs _ refl h
+no_export_tells (exports.Pack (packs.BlockLimit at)) h = usage_differs _ refl h
+no_export_tells (exports.Pack packs.OutOfMemory) h = usage_differs _ refl h
+no_export_tells (exports.Resolve paths.NoRoot) h = usage_differs _ refl h
+no_export_tells (exports.Resolve (paths.NotThere segment)) h = usage_differs _ refl h
+no_export_tells (exports.Resolve (paths.NotFolder segment)) h = usage_differs _ refl h
+no_export_tells (exports.Resolve (paths.BadBlock cid fault)) (text, is_text, h) = usage_differs _ refl h
+no_export_tells (exports.Resolve (paths.Gone cid)) (text, is_text, h) = usage_differs _ refl h
+no_export_tells (exports.Resolve (paths.Store (stores.Changed want got))) h = usage_differs _ refl h
+no_export_tells (exports.Resolve (paths.Store stores.Failed)) h = usage_differs _ refl h
+no_export_tells (exports.Resolve (paths.Store stores.OutOfMemory)) h = usage_differs _ refl h
+no_export_tells (exports.Resolve paths.OutOfMemory) h = usage_differs _ refl h
+no_export_tells (exports.Walk (walks.NotThere segment)) h = usage_differs _ refl h
+no_export_tells (exports.Walk (walks.NotFolder segment)) h = usage_differs _ refl h
+no_export_tells (exports.Walk (walks.BadBlock cid fault)) (text, is_text, h) = usage_differs _ refl h
+no_export_tells (exports.Walk (walks.Gone cid)) (text, is_text, h) = usage_differs _ refl h
+no_export_tells (exports.Walk walks.TooDeep) h = usage_differs _ refl h
+no_export_tells (exports.Walk (walks.Store (stores.Changed want got))) h = usage_differs _ refl h
+no_export_tells (exports.Walk (walks.Store stores.Failed)) h = usage_differs _ refl h
+no_export_tells (exports.Walk (walks.Store stores.OutOfMemory)) h = usage_differs _ refl h
+no_export_tells (exports.Walk walks.OutOfMemory) h = usage_differs _ refl h
+no_export_tells exports.SinkFault h = usage_differs _ refl h
+no_export_tells exports.OutOfMemory h = usage_differs _ refl h
 
 no_export_usage : (path : List ℕ) (q : QueryParts) (step : PackStep) (same : Type 0) (out : Output) → ExportAnswers path q step same out (Some Usage) → ⊥
 no_export_usage path q step same out (inl refused) = elim refused.tells [ inl tells ↦ no_export_tells refused.fault tells | inr memory ↦ wrong memory.1 ]
@@ -127,15 +139,15 @@ no_export_usage path q step same out (inr (inl none)) = let e = none.is in cc
 no_export_usage path q step same out (inr (inr unbegun)) = let e = unbegun.is in cc
 
 no_import_tells : (fault : ImportFault) → Usage ≡ refusal_of_import fault → ⊥
-no_import_tells imports.Folder h = cc
-no_import_tells imports.Keep h = cc
-no_import_tells (imports.TooDeep path) h = cc
-no_import_tells (imports.BadName path) h = cc
-no_import_tells (imports.LongName path) h = cc
-no_import_tells (imports.SameHash first second) h = cc
-no_import_tells (imports.NotPlain path) h = cc
-no_import_tells (imports.TooBig path) h = cc
-no_import_tells imports.OutOfMemory h = cc
+no_import_tells imports.Folder h = usage_differs _ refl h
+no_import_tells imports.Keep h = usage_differs _ refl h
+no_import_tells (imports.TooDeep path) h = usage_differs _ refl h
+no_import_tells (imports.BadName path) h = usage_differs _ refl h
+no_import_tells (imports.LongName path) h = usage_differs _ refl h
+no_import_tells (imports.SameHash first second) h = usage_differs _ refl h
+no_import_tells (imports.NotPlain path) h = usage_differs _ refl h
+no_import_tells (imports.TooBig path) h = usage_differs _ refl h
+no_import_tells imports.OutOfMemory h = usage_differs _ refl h
 
 no_import_usage : (parts : ImportParts) (files : Files) (out : Output) → ImportAnswers parts files out (Some Usage) → ⊥
 no_import_usage parts files out (inl (inl refused)) = elim refused.is [ inl tells ↦ no_import_tells refused.fault tells | inr memory ↦ wrong memory.1 ]
@@ -190,26 +202,26 @@ kept_of (Import parts) objects end uses ends = absurd uses
 check_fault : (cid : CidParts) (input : Input) (out : Output) (end : Option CommandFault) → exit_status end ≡ 6 → CheckEnds cid input out end → InputRose input ⊎ OutputRose out
 check_fault cid input out (Some InputFault) e ends = inl ends.0.rose
 check_fault cid input out (Some SinkFault) e ends = inr ends.front.rose
-check_fault cid input out (Some OutOfMemory) e ends = cc
-check_fault cid input out (Some BlockLimit) e ends = cc
-check_fault cid input out (Some (BadDigest text)) e ends = cc
-check_fault cid input out None e ends = cc
+check_fault cid input out (Some OutOfMemory) e ends = absurd (differs _ _ refl e)
+check_fault cid input out (Some BlockLimit) e ends = absurd (differs _ _ refl e)
+check_fault cid input out (Some (BadDigest text)) e ends = absurd (differs _ _ refl e)
+check_fault cid input out None e ends = absurd (differs _ _ refl e)
 check_fault cid input out (Some refusal) e ends = absurd ends.0
 
 node_fault : (cid : CidParts) (input : Input) (out : Output) (end : Option CommandFault) → exit_status end ≡ 6 → NodeEnds cid input out end → InputRose input ⊎ OutputRose out
 node_fault cid input out (Some InputFault) e ends = inl ends.0.rose
 node_fault cid input out (Some SinkFault) e ends = inr ends.front.rose
-node_fault cid input out (Some OutOfMemory) e ends = cc
-node_fault cid input out (Some BlockLimit) e ends = cc
-node_fault cid input out (Some (BadDigest text)) e ends = cc
-node_fault cid input out (Some (BadBlock text fault)) e ends = cc
-node_fault cid input out None e ends = cc
+node_fault cid input out (Some OutOfMemory) e ends = absurd (differs _ _ refl e)
+node_fault cid input out (Some BlockLimit) e ends = absurd (differs _ _ refl e)
+node_fault cid input out (Some (BadDigest text)) e ends = absurd (differs _ _ refl e)
+node_fault cid input out (Some (BadBlock text fault)) e ends = absurd (differs _ _ refl e)
+node_fault cid input out None e ends = absurd (differs _ _ refl e)
 node_fault cid input out (Some refusal) e ends = absurd ends.0
 
 print_fault : (IsLine : List ℕ → Type 0) (out : Output) (end : Option CommandFault) → exit_status end ≡ 6 → PrintEnds IsLine out end → OutputRose out
 print_fault IsLine out (Some SinkFault) e ends = ends.front.rose
-print_fault IsLine out (Some OutOfMemory) e ends = cc
-print_fault IsLine out None e ends = cc
+print_fault IsLine out (Some OutOfMemory) e ends = absurd (differs _ _ refl e)
+print_fault IsLine out None e ends = absurd (differs _ _ refl e)
 print_fault IsLine out (Some refusal) e ends = absurd ends
 
 pub fault_of : (command : Command) (objects : Objects) (end : Option CommandFault) → UsesNoFiles command → exit_status end ≡ 6 → CommandEnds command objects end
@@ -223,22 +235,22 @@ fault_of (Export parts) objects end uses e ends = absurd uses
 fault_of (Import parts) objects end uses e ends = absurd uses
 
 check_passed : (cid : CidParts) (input : Input) (out : Output) (end : Option CommandFault) → exit_status end ≡ 7 → CheckEnds cid input out end → PassedLimit input × OutputUntouched out
-check_passed cid input out (Some InputFault) e ends = cc
-check_passed cid input out (Some SinkFault) e ends = cc
-check_passed cid input out (Some OutOfMemory) e ends = cc
+check_passed cid input out (Some InputFault) e ends = absurd (differs _ _ refl e)
+check_passed cid input out (Some SinkFault) e ends = absurd (differs _ _ refl e)
+check_passed cid input out (Some OutOfMemory) e ends = absurd (differs _ _ refl e)
 check_passed cid input out (Some BlockLimit) e ends = (ends.0, ends.1)
-check_passed cid input out (Some (BadDigest text)) e ends = cc
-check_passed cid input out None e ends = cc
+check_passed cid input out (Some (BadDigest text)) e ends = absurd (differs _ _ refl e)
+check_passed cid input out None e ends = absurd (differs _ _ refl e)
 check_passed cid input out (Some refusal) e ends = absurd ends.0
 
 node_passed : (cid : CidParts) (input : Input) (out : Output) (end : Option CommandFault) → exit_status end ≡ 7 → NodeEnds cid input out end → PassedLimit input × OutputUntouched out
-node_passed cid input out (Some InputFault) e ends = cc
-node_passed cid input out (Some SinkFault) e ends = cc
-node_passed cid input out (Some OutOfMemory) e ends = cc
+node_passed cid input out (Some InputFault) e ends = absurd (differs _ _ refl e)
+node_passed cid input out (Some SinkFault) e ends = absurd (differs _ _ refl e)
+node_passed cid input out (Some OutOfMemory) e ends = absurd (differs _ _ refl e)
 node_passed cid input out (Some BlockLimit) e ends = (ends.0, ends.1)
-node_passed cid input out (Some (BadDigest text)) e ends = cc
-node_passed cid input out (Some (BadBlock text fault)) e ends = cc
-node_passed cid input out None e ends = cc
+node_passed cid input out (Some (BadDigest text)) e ends = absurd (differs _ _ refl e)
+node_passed cid input out (Some (BadBlock text fault)) e ends = absurd (differs _ _ refl e)
+node_passed cid input out None e ends = absurd (differs _ _ refl e)
 node_passed cid input out (Some refusal) e ends = absurd ends.0
 
 pub passed_of : (command : Command) (objects : Objects) (end : Option CommandFault) → ReadsBlock command → exit_status end ≡ 7 → CommandEnds command objects end
@@ -346,28 +358,28 @@ exported_of path q step same out None e ends = ends
 exported_of path q step same out (Some refusal) e ends = absurd (not_zero refusal e)
 
 tells_9 : (fault : ExportFault) (refusal : CommandFault) → status_of refusal ≡ 9 → TellsExport fault refusal → LeadsNowhere fault
-tells_9 (exports.Pack (packs.NotCar at)) refusal e h = let k = sym (ap status_of h) ∙ e in cc
-tells_9 (exports.Pack (packs.BadDigest at)) refusal e h = let k = sym (ap status_of h) ∙ e in cc
-tells_9 (exports.Pack packs.Unfinished) refusal e h = let k = sym (ap status_of h) ∙ e in cc
-tells_9 (exports.Pack (packs.Truncated at)) refusal e h = let k = sym (ap status_of h) ∙ e in cc
-tells_9 (exports.Pack packs.Failed) refusal e h = let k = sym (ap status_of h) ∙ e in cc
-tells_9 (exports.Pack (packs.BlockLimit at)) refusal e h = let k = sym (ap status_of h) ∙ e in cc
-tells_9 (exports.Pack packs.OutOfMemory) refusal e h = let k = sym (ap status_of h) ∙ e in cc
-tells_9 (exports.Resolve (paths.Store (stores.Changed want got))) refusal e h = let k = sym (ap status_of h) ∙ e in cc
-tells_9 (exports.Resolve (paths.Store stores.Failed)) refusal e h = let k = sym (ap status_of h) ∙ e in cc
-tells_9 (exports.Resolve (paths.Store stores.OutOfMemory)) refusal e h = let k = sym (ap status_of h) ∙ e in cc
-tells_9 (exports.Resolve paths.OutOfMemory) refusal e h = let k = sym (ap status_of h) ∙ e in cc
-tells_9 (exports.Walk walks.TooDeep) refusal e h = let k = sym (ap status_of h) ∙ e in cc
-tells_9 (exports.Walk (walks.Store (stores.Changed want got))) refusal e h = let k = sym (ap status_of h) ∙ e in cc
-tells_9 (exports.Walk (walks.Store stores.Failed)) refusal e h = let k = sym (ap status_of h) ∙ e in cc
-tells_9 (exports.Walk (walks.Store stores.OutOfMemory)) refusal e h = let k = sym (ap status_of h) ∙ e in cc
-tells_9 (exports.Walk walks.OutOfMemory) refusal e h = let k = sym (ap status_of h) ∙ e in cc
-tells_9 exports.SinkFault refusal e h = let k = sym (ap status_of h) ∙ e in cc
-tells_9 exports.OutOfMemory refusal e h = let k = sym (ap status_of h) ∙ e in cc
-tells_9 (exports.Resolve (paths.BadBlock cid fault)) refusal e (text, is_text, h) = let k = sym (ap status_of h) ∙ e in cc
-tells_9 (exports.Resolve (paths.Gone cid)) refusal e (text, is_text, h) = let k = sym (ap status_of h) ∙ e in cc
-tells_9 (exports.Walk (walks.BadBlock cid fault)) refusal e (text, is_text, h) = let k = sym (ap status_of h) ∙ e in cc
-tells_9 (exports.Walk (walks.Gone cid)) refusal e (text, is_text, h) = let k = sym (ap status_of h) ∙ e in cc
+tells_9 (exports.Pack (packs.NotCar at)) refusal e h = absurd (nine_differs _ _ refl h e)
+tells_9 (exports.Pack (packs.BadDigest at)) refusal e h = absurd (nine_differs _ _ refl h e)
+tells_9 (exports.Pack packs.Unfinished) refusal e h = absurd (nine_differs _ _ refl h e)
+tells_9 (exports.Pack (packs.Truncated at)) refusal e h = absurd (nine_differs _ _ refl h e)
+tells_9 (exports.Pack packs.Failed) refusal e h = absurd (nine_differs _ _ refl h e)
+tells_9 (exports.Pack (packs.BlockLimit at)) refusal e h = absurd (nine_differs _ _ refl h e)
+tells_9 (exports.Pack packs.OutOfMemory) refusal e h = absurd (nine_differs _ _ refl h e)
+tells_9 (exports.Resolve (paths.Store (stores.Changed want got))) refusal e h = absurd (nine_differs _ _ refl h e)
+tells_9 (exports.Resolve (paths.Store stores.Failed)) refusal e h = absurd (nine_differs _ _ refl h e)
+tells_9 (exports.Resolve (paths.Store stores.OutOfMemory)) refusal e h = absurd (nine_differs _ _ refl h e)
+tells_9 (exports.Resolve paths.OutOfMemory) refusal e h = absurd (nine_differs _ _ refl h e)
+tells_9 (exports.Walk walks.TooDeep) refusal e h = absurd (nine_differs _ _ refl h e)
+tells_9 (exports.Walk (walks.Store (stores.Changed want got))) refusal e h = absurd (nine_differs _ _ refl h e)
+tells_9 (exports.Walk (walks.Store stores.Failed)) refusal e h = absurd (nine_differs _ _ refl h e)
+tells_9 (exports.Walk (walks.Store stores.OutOfMemory)) refusal e h = absurd (nine_differs _ _ refl h e)
+tells_9 (exports.Walk walks.OutOfMemory) refusal e h = absurd (nine_differs _ _ refl h e)
+tells_9 exports.SinkFault refusal e h = absurd (nine_differs _ _ refl h e)
+tells_9 exports.OutOfMemory refusal e h = absurd (nine_differs _ _ refl h e)
+tells_9 (exports.Resolve (paths.BadBlock cid fault)) refusal e (text, is_text, h) = absurd (nine_differs _ _ refl h e)
+tells_9 (exports.Resolve (paths.Gone cid)) refusal e (text, is_text, h) = absurd (nine_differs _ _ refl h e)
+tells_9 (exports.Walk (walks.BadBlock cid fault)) refusal e (text, is_text, h) = absurd (nine_differs _ _ refl h e)
+tells_9 (exports.Walk (walks.Gone cid)) refusal e (text, is_text, h) = absurd (nine_differs _ _ refl h e)
 tells_9 (exports.Resolve paths.NoRoot) refusal e h = tt
 tells_9 (exports.Resolve (paths.NotThere segment)) refusal e h = tt
 tells_9 (exports.Resolve (paths.NotFolder segment)) refusal e h = tt
@@ -463,11 +475,11 @@ checked_of cid input out (Some refusal) e ends = absurd (not_zero refusal e)
 
 pub other_of : (cid : CidParts) (input : Input) (out : Output) (end : Option CommandFault) → exit_status end ≡ 3 → CheckEnds cid input out end → CheckedOther cid input out
 other_of cid input out (Some (BadDigest text)) e ends = record { read = ends.0.1; unput = ends.1 }
-other_of cid input out (Some InputFault) e ends = cc
-other_of cid input out (Some SinkFault) e ends = cc
-other_of cid input out (Some OutOfMemory) e ends = cc
-other_of cid input out (Some BlockLimit) e ends = cc
-other_of cid input out None e ends = cc
+other_of cid input out (Some InputFault) e ends = absurd (differs _ _ refl e)
+other_of cid input out (Some SinkFault) e ends = absurd (differs _ _ refl e)
+other_of cid input out (Some OutOfMemory) e ends = absurd (differs _ _ refl e)
+other_of cid input out (Some BlockLimit) e ends = absurd (differs _ _ refl e)
+other_of cid input out None e ends = absurd (differs _ _ refl e)
 other_of cid input out (Some refusal) e ends = absurd ends.0
 
 -- lists of numbers are equal or not
@@ -524,11 +536,11 @@ noded_of cid input out (Some refusal) e ends = absurd (not_zero refusal e)
 pub node_other_of : (cid : CidParts) (input : Input) (out : Output) (end : Option CommandFault) → exit_status end ≡ 3 → NodeEnds cid input out end → NodedOther cid input out
 node_other_of cid input out (Some (BadDigest text)) e ends = inl (record { read = ends.0.1; unput = ends.1 })
 node_other_of cid input out (Some (BadBlock text fault)) e ends = inr (fault, ends.1)
-node_other_of cid input out (Some InputFault) e ends = cc
-node_other_of cid input out (Some SinkFault) e ends = cc
-node_other_of cid input out (Some OutOfMemory) e ends = cc
-node_other_of cid input out (Some BlockLimit) e ends = cc
-node_other_of cid input out None e ends = cc
+node_other_of cid input out (Some InputFault) e ends = absurd (differs _ _ refl e)
+node_other_of cid input out (Some SinkFault) e ends = absurd (differs _ _ refl e)
+node_other_of cid input out (Some OutOfMemory) e ends = absurd (differs _ _ refl e)
+node_other_of cid input out (Some BlockLimit) e ends = absurd (differs _ _ refl e)
+node_other_of cid input out None e ends = absurd (differs _ _ refl e)
 node_other_of cid input out (Some refusal) e ends = absurd ends.0
 
 no_text : (cid : CidParts) (bytes block : List ℕ) → block ≡ bytes → length block ≤ max_block_len → HasNoText cid block → NodeStatus cid bytes 3

@@ -1,9 +1,10 @@
 //! The reader of bodies over 256 MB in pieces of 65,536 bytes, of stated length and in chunks, beside a copy of the
 //! same memory.
+use crate::speeds::{filled, print_copy, speed};
 use std::alloc::{AllocError, Global};
 use std::io;
 use std::rt::Clock;
-use std::time::{Duration, Instant};
+use std::time::Instant;
 use tg_body::{Body, BodyReader};
 use tg_http::{Framing, chunk_head};
 
@@ -12,36 +13,41 @@ const CHUNK: usize = 262_144;
 
 const CHUNKS: usize = 1024;
 
+const ALL: usize = CHUNK * CHUNKS;
+
 const PIECE: usize = 65_536;
 
 /// Prints the speeds in MB/s. The bytes of one chunk, 256 KiB, are fed and copied again and again.
 pub fn run(rt: &(impl Clock + Print + AllocGlobal)) -> io::Result<()> {
     let data = vec![in rt.alloc(); 7u8; CHUNK]?;
     let chunk = chunk_of(rt.alloc(), data.as_slice())?;
+    report(rt, data.as_slice(), chunk.as_slice())
+}
 
+/// The same of these bytes and the chunk that has them.
+fn report(rt: &(impl Clock + Print + AllocGlobal), data: &[u8], chunk: &[u8]) -> io::Result<()> {
+    print_body(rt, "of a length", Framing::Length(ALL as u64), data)?;
+    print_body(rt, "in chunks", Framing::Chunked, chunk)?;
+    print_copy(rt, data, CHUNKS)
+}
+
+/// Prints how fast a body is read.
+fn print_body(
+    rt: &(impl Clock + Print + AllocGlobal),
+    name: &str,
+    framing: Framing,
+    bytes: &[u8],
+) -> io::Result<()> {
     let begin = Instant::now(rt)?;
-    let length = Framing::Length((CHUNK * CHUNKS) as u64);
-    let given = read(rt.alloc(), length, data.as_slice());
-    let stated = begin.elapsed(rt)?;
-
-    let begin = Instant::now(rt)?;
-    let parts = read(rt.alloc(), Framing::Chunked, chunk.as_slice());
-    let chunked = begin.elapsed(rt)?;
-
-    let begin = Instant::now(rt)?;
-    let last = copy(rt.alloc(), data.as_slice())?;
-    let copying = begin.elapsed(rt)?;
-
-    println!(rt; "body of a length {} MB/s ({given} bytes)", speed(stated))?;
-    println!(rt; "body in chunks {} MB/s ({parts} bytes)", speed(chunked))?;
-    println!(rt; "copy {} MB/s ({last})", speed(copying))
+    let given = read(rt.alloc(), framing, bytes);
+    let speed = speed(ALL, begin.elapsed(rt)?);
+    println!(rt; "body {name} {speed} MB/s ({given} bytes)")
 }
 
 /// The bytes as a chunk: its line, the bytes, CR LF.
 fn chunk_of(alloc: Global, data: &[u8]) -> Result<Vec<u8>, AllocError> {
     let (head, size) = chunk_head(data.len() as u64);
-    let mut chunk = Vec::from_slice(alloc, &head[..size])?;
-    chunk.extend_from_slice(data)?;
+    let mut chunk = filled(alloc, &head[..size], 1, data)?;
     chunk.extend_from_slice(b"\r\n")?;
     Ok(chunk)
 }
@@ -75,22 +81,4 @@ fn feed_all(reader: &mut BodyReader, bytes: &[u8]) -> usize {
         }
     }
     given
-}
-
-/// Copies the bytes as often, each time into fresh memory.
-fn copy(alloc: Global, data: &[u8]) -> Result<u8, AllocError> {
-    let mut last = 0;
-    for round in 0..CHUNKS {
-        let copied = Vec::from_slice(alloc, data)?;
-        if let Some(byte) = copied.as_slice().get(round) {
-            last ^= *byte;
-        }
-    }
-    Ok(last)
-}
-
-fn speed(time: Duration) -> u128 {
-    let bytes = (CHUNK as u128) * (CHUNKS as u128);
-    let nanos = time.as_nanos().max(1);
-    bytes * 1000 / nanos
 }

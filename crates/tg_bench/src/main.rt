@@ -7,6 +7,7 @@ mod codec;
 mod held;
 mod name_hash;
 mod node;
+mod speeds;
 mod table;
 
 use std::{env, io};
@@ -14,16 +15,21 @@ use std::{env, io};
 fn main(rt: HostRuntime) -> io::Result<()> {
     let mut words = env::args(&rt)?;
     let _program = words.next();
-    let Some(word) = words.next() else {
-        return Ok(());
-    };
-    match word.as_str() {
-        "name-hash" => name_hash::run(&rt),
-        "table" => table::run(&rt),
-        "node" => node::run(&rt),
-        "dagpb" => codec::run_nodes(&rt),
-        "unixfs" => codec::run_unix(&rt),
-        "body" => body::run(&rt),
+    match words.next() {
+        Some(word) => run(&rt, word.as_str()),
+        None => Ok(()),
+    }
+}
+
+/// Runs the bench of this word.
+fn run(rt: &HostRuntime, word: &str) -> io::Result<()> {
+    match word {
+        "name-hash" => name_hash::run(rt),
+        "table" => table::run(rt),
+        "node" => node::run(rt),
+        "dagpb" => codec::run_nodes(rt),
+        "unixfs" => codec::run_unix(rt),
+        "body" => body::run(rt),
         _ => Ok(()),
     }
 }

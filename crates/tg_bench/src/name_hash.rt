@@ -1,7 +1,8 @@
 //! The name hash over 1 MB, 200 times, beside a copy of the same memory.
+use crate::speeds::speed;
 use std::io;
 use std::rt::Clock;
-use std::time::{Duration, Instant};
+use std::time::Instant;
 
 const SIZE: usize = 1_000_000;
 
@@ -12,17 +13,22 @@ pub fn run(rt: &(impl Clock + Print + AllocGlobal)) -> io::Result<()> {
     let mut bytes = vec![in rt.alloc(); 0u8; SIZE]?;
     let mut copy = vec![in rt.alloc(); 0u8; SIZE]?;
     fill(bytes.as_mut_slice());
+    report(rt, bytes.as_mut_slice(), copy.as_mut_slice())
+}
 
+/// The same of these bytes and the memory to which they are copied.
+fn report(rt: &(impl Clock + Print), bytes: &mut [u8], copy: &mut [u8]) -> io::Result<()> {
     let begin = Instant::now(rt)?;
-    let folded = hash_rounds(bytes.as_mut_slice());
+    let folded = hash_rounds(bytes);
     let hashing = begin.elapsed(rt)?;
 
     let begin = Instant::now(rt)?;
-    let last = copy_rounds(bytes.as_mut_slice(), copy.as_mut_slice());
+    let last = copy_rounds(bytes, copy);
     let copying = begin.elapsed(rt)?;
 
-    println!(rt; "name hash {} MB/s ({folded:016x})", speed(hashing))?;
-    println!(rt; "copy {} MB/s ({last})", speed(copying))
+    let size = SIZE * ROUNDS;
+    println!(rt; "name hash {} MB/s ({folded:016x})", speed(size, hashing))?;
+    println!(rt; "copy {} MB/s ({last})", speed(size, copying))
 }
 
 /// Bytes that no compiler foresees.
@@ -58,10 +64,4 @@ fn copy_rounds(bytes: &mut [u8], copy: &mut [u8]) -> u8 {
         }
     }
     last
-}
-
-fn speed(time: Duration) -> u128 {
-    let bytes = (SIZE as u128) * (ROUNDS as u128);
-    let nanos = time.as_nanos().max(1);
-    bytes * 1000 / nanos
 }

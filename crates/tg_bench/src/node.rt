@@ -1,5 +1,5 @@
 //! A DAG-PB node of 1,024 links checked and read without memory, link by link.
-use std::alloc::{AllocError, Global};
+use crate::speeds::{LINK, filled};
 use std::io;
 use std::rt::Clock;
 use std::time::{Duration, Instant};
@@ -11,12 +11,14 @@ const ROUNDS: usize = 1000;
 
 /// Prints how many nodes a second are checked and read.
 pub fn run(rt: &(impl Clock + Print + AllocGlobal)) -> io::Result<()> {
-    let block = block(rt.alloc())?;
+    let block = filled(rt.alloc(), b"", LINKS, &LINK)?;
+    report(rt, block.as_slice())
+}
+
+/// The same of this node.
+fn report(rt: &(impl Clock + Print), block: &[u8]) -> io::Result<()> {
     let begin = Instant::now(rt)?;
-    let mut found = 0usize;
-    for _ in 0..ROUNDS {
-        found = found.saturating_add(walked(block.as_slice()));
-    }
+    let found = walks(block);
     let reading = begin.elapsed(rt)?;
     println!(rt;
         "node of {LINKS} links {} a second ({found} links)",
@@ -24,15 +26,13 @@ pub fn run(rt: &(impl Clock + Print + AllocGlobal)) -> io::Result<()> {
     )
 }
 
-/// A node of links that are CIDs of version 1 with sha2-256 and have an empty name and a size.
-fn block(alloc: Global) -> Result<Vec<u8>, AllocError> {
-    let mut block = Vec::with_capacity(alloc, LINKS * 44)?;
-    for _ in 0..LINKS {
-        block.extend_from_slice(b"\x12\x2a\x0a\x24\x01\x55\x12\x20")?;
-        block.extend_from_slice(&[7u8; 32])?;
-        block.extend_from_slice(b"\x12\x00\x18\x04")?;
+/// How many links the block has in all rounds.
+fn walks(block: &[u8]) -> usize {
+    let mut found = 0usize;
+    for _ in 0..ROUNDS {
+        found = found.saturating_add(walked(block));
     }
-    Ok(block)
+    found
 }
 
 /// How many links the block has; none where it is no node.

@@ -1,6 +1,6 @@
 //! A CAR on an input, verified.
-ghost use Rattle.std.specs.Prelude.{◌≡◌, ◌++◌, ◌<◌, ◌≤◌, ℕ, List as Items, Some, length, true};
-ghost use Rattle.tg_client.specs.Body.{IsVerified};
+ghost use Rattle.std.specs.Prelude.{◌≡◌, ◌++◌, ◌<◌, ◌≤◌, [], ℕ, List as Items, None, Some, length, true};
+ghost use Rattle.tg_client.specs.Body.{IsBody, IsVerified};
 ghost use Rattle.tg_client.specs.Ends.{HasStreamCause, IsAcceptedElse, IsRefusedElse, Verifies};
 ghost use Rattle.tg_client.specs.Received.{HasReceived, IsCarOf};
 ghost use Rattle.tg_model.specs.Answer.{answer};
@@ -97,15 +97,34 @@ fn hear<I: Source, S: Sink>(
     tg_traversal_laws::verified_sections();
     tg_verify::laws::verified_answers();
     let mut room = zeros(alloc, PIECE_LEN)?;
-    let buffer = room.as_mut_slice();
     let mut body = Body::new(alloc, query, limits)?;
+    hear_pieces(&mut body, room.as_mut_slice(), input, out)
+}
+
+/// Hands the pieces of the input to a body of which nothing came, through this room.
+fn hear_pieces<I: Source, S: Sink>(
+    body: &mut Body,
+    room: &mut [u8],
+    input: &mut I,
+    out: &mut S,
+) -> Result<(), ClientFault>
+    requires room { 0 < length room.old }
+    requires fresh { body.old.verifier.refused ≡ None }
+    requires within { body.old.heard ≤ body.old.most }
+    requires stands { body.old.verifier.left.query.dups ≡ true → IsBody body.old [] [] [] }
+    ensures verifies { body.old.verifier.left.query.dups ≡ true
+        → IsVerified body.old.verifier.left.query body.old.verifier.limits
+        (through I.source input.old input.new) (into S.sink out.old out.new) result }
+    ensures cause { HasStreamCause (through I.source input.old input.new) (into S.sink out.old out.new) result }
+{
+    tg_verify::laws::verified_answers();
     loop {
-        let Ok(filled) = take_piece(input, buffer) else {
+        let Ok(filled) = take_piece(input, room) else {
             return Err(ClientFault::InputFault);
         };
         if filled == 0 {
             return body.end();
         }
-        body.feed(&buffer[..filled], out)?;
+        body.feed(&room[..filled], out)?;
     }
 }

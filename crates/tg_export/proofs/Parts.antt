@@ -10,7 +10,7 @@ use Rattle.tg_cid.specs.Cid.{CidParts}
 use Rattle.tg_cid.specs.Limits.{max_block_len}
 use Rattle.tg_cid.specs.Names.{Names}
 use Rattle.tg_export.proofs.Moves.{puts_both, puts_front}
-use Rattle.tg_export.specs.Cars.{BytesEnd, CarEnds, HasCar, HasResolved, HasText, HasTexts, IsGoodSection, PutNothing, PutWhole, SectionEnds, SectionsEnd, fault_of_path, fault_of_walk}
+use Rattle.tg_export.specs.Cars.{BytesEnd, CarEnds, HasCar, HasOwnMemory, HasResolved, HasText, HasTexts, IsGoodSection, PutNothing, PutWhole, SectionEnds, SectionsEnd, fault_of_path, fault_of_walk}
 use Rattle.tg_export.specs.declared.fault.ExportFault.{ExportFault}
 use Rattle.tg_export.specs.declared.fault.ExportFault.TheVariants as faults
 use Rattle.tg_model.specs.Dag.{Section}
@@ -246,3 +246,19 @@ path_ends out q told (refusals.Store (store_faults.Changed want got)) nothing h 
 path_ends out q told (refusals.Store store_faults.Failed) nothing h = (nothing, told_each told (λ store. IsResolvedTo store q.root q.path (Err (refusals.Store store_faults.Failed))) h)
 path_ends out q told (refusals.Store store_faults.OutOfMemory) nothing h = inl nothing
 path_ends out q told refusals.OutOfMemory nothing h = inl nothing
+
+pub path_memory : (fault : ResolveFault) → HasOwnMemory (Err (fault_of_path fault))
+path_memory refusals.NoRoot = tt
+path_memory (refusals.NotThere i) = tt
+path_memory (refusals.NotFolder i) = tt
+path_memory (refusals.BadBlock cid fault) = tt
+path_memory (refusals.Gone cid) = tt
+path_memory (refusals.Store (store_faults.Changed want got)) = tt
+path_memory (refusals.Store store_faults.Failed) = tt
+path_memory (refusals.Store store_faults.OutOfMemory) = tt
+path_memory refusals.OutOfMemory = tt
+
+pub path_leads : (q : QueryParts) (told : Option Store) (root : CidParts) (path : List (List ℕ)) (fault : ResolveFault) → root ≡ q.root → path ≡ q.path
+    → ((store : Store) → told ≡ Some store → IsResolvedTo store root path (Err fault)) → (store : Store) → told ≡ Some store → IsResolvedTo store q.root q.path (Err fault)
+path_leads q told root path fault e f leads store is =
+    subst (λ (r : CidParts). IsResolvedTo store r q.path (Err fault)) e (subst (λ (p : List (List ℕ)). IsResolvedTo store root p (Err fault)) f (leads store is))

@@ -2,8 +2,9 @@
 ghost use Rattle.std.specs.Prelude.{◌≡◌, ◌≤◌, [], List, None, Some, length};
 ghost use Rattle.tg_cid.specs.Cid.{CidParts};
 ghost use Rattle.tg_cid.specs.Limits.{max_block_len};
-ghost use Rattle.tg_export.specs.Cars.{BytesEnd, CarEnds, HasCarCause, HasOwnMemory, IsOtherwiseWhole, SectionEnds};
-ghost use Rattle.tg_export.specs.Cars.{SectionsEnd};
+ghost use Rattle.tg_car.specs.Writing.{HeaderOf};
+ghost use Rattle.tg_export.specs.Cars.{BytesEnd, CarEnds, HasCarCause, HasOwnMemory, HasResolved, IsOtherwiseWhole};
+ghost use Rattle.tg_export.specs.Cars.{SectionEnds, SectionsEnd};
 ghost use Rattle.tg_model.specs.Dag.{Section};
 ghost use Rattle.tg_model.specs.PathWalk.{TraversalEnd, whole};
 ghost use Rattle.tg_model.specs.Stores.{LookedUp, Store, looked_in};
@@ -42,12 +43,35 @@ pub fn write_car<B: Blocks, S: Sink>(
     ensures answered { (store : Store) (sections : List Section) → B.blocks.stored blocks.old ≡ Some store
         → HasEnded query.now store max_depth sections whole → IsOtherwiseWhole result }
 {
-    tg_traversal_laws::store_walks();
     resolve(alloc, blocks, &query.root(), query.path())?;
     let header = header(alloc, &query.root())?;
     let mut walk = Walk::new(alloc, query)?;
-    put(out, header.as_slice())?;
-    write_sections(&mut walk, blocks, out)
+    write_all(header.as_slice(), &mut walk, blocks, out)
+}
+
+/// Writes the header, and the section of each block that a walk gives, from its first one on, where the walk's path
+/// leads to a stored block.
+///
+/// CARv1 specification. Errors: those of `write_sections`.
+fn write_all<B: Blocks, S: Sink>(
+    header: &[u8],
+    walk: &mut Walk,
+    blocks: &mut B,
+    out: &mut S,
+) -> Result<(), ExportFault>
+    requires header { HeaderOf walk.old.left.query.root header.now }
+    requires resolved { (store : Store) → B.blocks.stored blocks.old ≡ Some store
+        → HasResolved store walk.old.left.query }
+    requires fresh { walk.old.refused ≡ None }
+    requires stands { (store : Store) → StandsFor walk.old store [] }
+    ensures ends { CarEnds walk.old.left.query (B.blocks.stored blocks.old) (into S.sink out.old out.new) result }
+    ensures looked { (cids : List CidParts) × LookedUp cids (looked_in B.blocks blocks.old blocks.new) }
+    ensures cause { HasCarCause (B.blocks.stored blocks.old) (looked_in B.blocks blocks.old blocks.new) result }
+    ensures memory { HasOwnMemory result }
+{
+    tg_traversal_laws::store_walks();
+    put(out, header)?;
+    write_sections(walk, blocks, out)
 }
 
 /// Writes the section of each block that a walk gives, from its first one on.

@@ -6,7 +6,7 @@ use crate::texts::{escaped, joined};
 use std::alloc::{AllocError, Global};
 use tg_bytes::{Bytes, List};
 use tg_cid::Cid;
-use tg_model::{BlockFault, Kind, Query, Scope, Slot, Span, check_shard, reads};
+use tg_model::{BlockFault, Entry, Kind, Part, Query, Scope, Slot, Span, check_shard, reads};
 use tg_murmur::hash64;
 use thiserror::Error;
 
@@ -14,14 +14,14 @@ use thiserror::Error;
 const DEPTH: u32 = 1_100;
 
 /// A block that is stored, and the CID that names it.
-#[derive(Debug, Drop)]
+#[derive(Drop)]
 pub struct StoredBlock {
     pub cid: Cid,
     pub block: Bytes,
 }
 
 /// A block that is sent: the CID that leads to it, its index among the stored blocks, and how many bytes it has.
-#[derive(Clone, Copy, Debug, PartialEq, Eq)]
+#[derive(Clone, Copy, Debug)]
 pub struct Sent {
     pub cid: Cid,
     pub index: usize,
@@ -56,7 +56,7 @@ pub enum End {
 }
 
 /// What is sent for a query, how that ends, and the text of the answer up to there.
-#[derive(Debug, Drop)]
+#[derive(Drop)]
 pub struct Evaluation {
     pub sent: List<Sent>,
     pub end: End,
@@ -64,7 +64,7 @@ pub struct Evaluation {
 }
 
 /// Why a query isn't evaluated.
-#[derive(Clone, Copy, Debug, PartialEq, Eq, Error)]
+#[derive(Clone, Copy, Debug, Error)]
 pub enum EvaluationFault {
     /// The evaluation would go more than 1,100 blocks deep.
     #[error("the blocks are too deep")]
@@ -135,6 +135,15 @@ struct Opened<'a> {
     block: &'a [u8],
 }
 
+/// What stands at a path of a bundle: the block that was opened, the slots that were passed since its entry, and the
+/// path.
+#[derive(Drop)]
+struct Below<'a> {
+    opened: Opened<'a>,
+    above: Vec<u8>,
+    path: String,
+}
+
 /// An entry of a listed directory.
 #[derive(Drop)]
 struct Named {
@@ -162,8 +171,7 @@ impl<'a> Run<'a> {
                 self.send(cid, index, block)?;
                 Ok(self.say(block)?)
             }
-            Scope::Entity => self.entity(depth, cid, query.span()),
-            Scope::All => self.all(depth, cid),
+            _ => self.below_terminal(depth, cid, query),
         }
     }
 
@@ -181,8 +189,11 @@ impl<'a> Run<'a> {
         let [name, rest @ ..] = path else {
             return Ok((cid, depth));
         };
-        let opened = self.open(depth, cid, position_behind(above))?;
-        match link_for(&opened.kind, above.len(), name.as_slice(), at)? {
+        let way = {
+            let opened = self.open(depth, cid, position_behind(above))?;
+            link_for(&opened.kind, above.len(), name.as_slice(), at)
+        };
+        match way? {
             Way::Entry(entry) => self.terminal(left, entry, &[], at.saturating_add(1), rest),
             Way::Child(child, slot) => {
                 let passed = with_slot(self.alloc, above, slot)?;
@@ -191,32 +202,39 @@ impl<'a> Run<'a> {
         }
     }
 
+    /// What is asked for of a terminal, where that is more than its block.
+    fn below_terminal(&mut self, depth: u32, cid: Cid, query: &Query) -> Result<(), Stop> {
+        let opened = self.open(depth, cid, Position::Top)?;
+        match query.scope() {
+            Scope::All => self.all(depth, &opened),
+            _ => self.entity(depth, &opened, query.span()),
+        }
+    }
+
     /// The content of a terminal that is a file, or the range of it; the target of a symbolic link; or the listing of a
     /// directory.
-    fn entity(&mut self, depth: u32, cid: Cid, span: Option<Span>) -> Result<(), Stop> {
-        let opened = self.open(depth, cid, Position::Top)?;
+    fn entity(&mut self, depth: u32, opened: &Opened<'a>, span: Option<Span>) -> Result<(), Stop> {
         match &opened.kind {
             Kind::Raw | Kind::File { .. } => {
-                let range = span.map(|span| bounds(&span, total(&opened)));
-                self.content(depth, &opened, 0, range)
+                let range = span.map(|span| bounds(&span, total(opened)));
+                self.content(depth, opened, 0, range)
             }
             Kind::Symlink { target } => Ok(self.say(target.as_slice())?),
-            Kind::Basic { .. } | Kind::Shard { .. } => {
-                let mut entries = Vec::new(self.alloc);
-                self.list(depth, &opened, &[], &mut entries)?;
-                Ok(self.say_listing(entries.as_slice())?)
-            }
+            Kind::Basic { .. } | Kind::Shard { .. } => self.listing(depth, opened),
+        }
+    }
+
+    /// The listing of a directory.
+    fn listing(&mut self, depth: u32, opened: &Opened<'a>) -> Result<(), Stop> {
+        let mut entries = Vec::new(self.alloc);
+        match self.list(depth, opened, &[], &mut entries) {
+            Ok(()) => Ok(self.say_listing(entries.as_slice())?),
+            stopped => stopped,
         }
     }
 
     /// The content of a terminal that is a file, the target of a symbolic link, or the bundle of a directory.
-    fn all(&mut self, depth: u32, cid: Cid) -> Result<(), Stop> {
-        let opened = self.open(depth, cid, Position::Top)?;
-        self.all_of(depth, &opened)
-    }
-
-    /// The same of a terminal that was opened.
-    fn all_of(&mut self, depth: u32, opened: &Opened<'a>) -> Result<(), Stop> {
+    fn all(&mut self, depth: u32, opened: &Opened<'a>) -> Result<(), Stop> {
         match &opened.kind {
             Kind::Raw | Kind::File { .. } => self.content(depth, opened, 0, None),
             Kind::Symlink { target } => Ok(self.say(target.as_slice())?),
@@ -234,17 +252,11 @@ impl<'a> Run<'a> {
         range: Option<(u64, u64)>,
     ) -> Result<(), Stop> {
         let left = deeper(depth)?;
-        let Kind::File { inline, parts, .. } = &opened.kind else {
-            return Ok(self.say_range(opened.block, from, range)?);
-        };
-        self.say_range(inline.as_slice(), from, range)?;
-        let mut from = from.saturating_add(inline.as_slice().len() as u64);
-        for part in parts.as_slice() {
-            let is_asked = match range {
-                Some((low, high)) => is_met(from, part.size, low, high),
-                None => true,
-            };
-            if is_asked {
+        let own = own_bytes(opened);
+        self.say_range(own, from, range)?;
+        let mut from = from.saturating_add(own.len() as u64);
+        for part in parts_of(&opened.kind) {
+            if is_asked(from, part.size, range) {
                 let below = self.open(left, part.cid, Position::Part)?;
                 self.content(left, &below, from, range)?;
             }
@@ -262,26 +274,12 @@ impl<'a> Run<'a> {
         entries: &mut Vec<Named>,
     ) -> Result<(), Stop> {
         let left = deeper(depth)?;
-        match &opened.kind {
-            Kind::Basic { entries: held } => {
-                for entry in held.as_slice() {
-                    put_sorted(self.alloc, entries, entry.name.as_slice(), entry.cid)?;
-                }
+        put_named(self.alloc, &opened.kind, entries)?;
+        for slot in slots_of(&opened.kind) {
+            if slot.name.is_none() {
+                let (passed, below) = self.open_child(left, slot, above)?;
+                self.list(left, &below, passed.as_slice(), entries)?;
             }
-            Kind::Shard { slots } => {
-                for slot in slots.as_slice() {
-                    match &slot.name {
-                        Some(name) => {
-                            put_sorted(self.alloc, entries, name.as_slice(), slot.cid)?
-                        }
-                        None => {
-                            let (passed, below) = self.open_child(left, slot, above)?;
-                            self.list(left, &below, passed.as_slice(), entries)?;
-                        }
-                    }
-                }
-            }
-            Kind::Raw | Kind::File { .. } | Kind::Symlink { .. } => {}
         }
         Ok(())
     }
@@ -296,46 +294,45 @@ impl<'a> Run<'a> {
         path: &str,
     ) -> Result<(), Stop> {
         let left = deeper(depth)?;
-        let size = total(opened);
+        self.say_record(depth, opened, above, path)?;
+        for number in 0..width(&opened.kind) {
+            if let Some(link) = link_at(&opened.kind, number) {
+                let below = self.open_link(left, link, above, path)?;
+                self.bundle(
+                    left,
+                    &below.opened,
+                    below.above.as_slice(),
+                    below.path.as_str(),
+                )?;
+            }
+        }
+        Ok(())
+    }
+
+    /// The record of one block in a bundle.
+    fn say_record(
+        &mut self,
+        depth: u32,
+        opened: &Opened<'a>,
+        above: &[u8],
+        path: &str,
+    ) -> Result<(), Stop> {
         match &opened.kind {
-            Kind::Raw | Kind::File { .. } => {
-                self.say_sized("file", size, path)?;
-                self.content(depth, opened, 0, None)?;
-                Ok(self.say_line("")?)
+            Kind::Raw | Kind::File { .. } => self.say_file(depth, opened, path),
+            Kind::Symlink { target } => Ok(self.say_link(target.as_slice(), path)?),
+            Kind::Basic { .. } | Kind::Shard { .. } if above.is_empty() => {
+                Ok(self.say_directory(path)?)
             }
-            Kind::Symlink { target } => Ok(self.say_link(target.as_slice(), size, path)?),
-            Kind::Basic { entries } => {
-                self.say_directory(path)?;
-                for entry in entries.as_slice() {
-                    let ended = {
-                        let name = entry.name.as_slice();
-                        let (name, below) = self.open_entry(left, entry.cid, name, path)?;
-                        self.bundle(left, &below, &[], name.as_str())
-                    };
-                    ended?;
-                }
-                Ok(())
-            }
-            Kind::Shard { slots } => {
-                if above.is_empty() {
-                    self.say_directory(path)?;
-                }
-                for slot in slots.as_slice() {
-                    let ended = match &slot.name {
-                        Some(name) => {
-                            let name = name.as_slice();
-                            let (name, below) = self.open_entry(left, slot.cid, name, path)?;
-                            self.bundle(left, &below, &[], name.as_str())
-                        }
-                        None => {
-                            let (passed, below) = self.open_child(left, slot, above)?;
-                            self.bundle(left, &below, passed.as_slice(), path)
-                        }
-                    };
-                    ended?;
-                }
-                Ok(())
-            }
+            Kind::Basic { .. } | Kind::Shard { .. } => Ok(()),
+        }
+    }
+
+    /// Adds the record of a file in a bundle.
+    fn say_file(&mut self, depth: u32, opened: &Opened<'a>, path: &str) -> Result<(), Stop> {
+        self.say_sized("file", total(opened), path)?;
+        match self.content(depth, opened, 0, None) {
+            Ok(()) => Ok(self.say_line("")?),
+            stopped => stopped,
         }
     }
 
@@ -356,31 +353,44 @@ impl<'a> Run<'a> {
     /// Reads the block that the CID leads to and sends it, if it may stand there.
     fn open(&mut self, depth: u32, cid: Cid, position: Position<'_>) -> Result<Opened<'a>, Stop> {
         let (index, block) = self.found(cid, depth)?;
-        let kind = match reads(self.alloc, &cid, block) {
-            Ok(kind) => kind,
-            Err(BlockFault::OutOfMemory) => {
-                return Err(Stop::Fault(EvaluationFault::OutOfMemory));
+        match read_at(self.alloc, &cid, block, position) {
+            Ok(kind) => {
+                self.send(cid, index, block)?;
+                Ok(Opened { kind, block })
             }
-            Err(fault) => return Err(bad_block(cid, depth, fault)),
-        };
-        if let Err(fault) = stands(&kind, position) {
-            return Err(bad_block(cid, depth, fault));
+            Err(fault) => Err(unread(cid, depth, fault)),
         }
-        self.send(cid, index, block)?;
-        Ok(Opened { kind, block })
     }
 
-    /// Opens an entry of the directory at a path of a bundle; with it, the path of the entry.
-    fn open_entry(
+    /// Opens what a link of the directory at a path of a bundle leads to.
+    fn open_link(
         &mut self,
         depth: u32,
-        cid: Cid,
-        name: &[u8],
+        link: Link<'_>,
+        above: &[u8],
         path: &str,
-    ) -> Result<(String, Opened<'a>), Stop> {
-        let name = joined(self.alloc, path, name)?;
-        let opened = self.open(depth, cid, Position::Top)?;
-        Ok((name, opened))
+    ) -> Result<Below<'a>, Stop> {
+        match link {
+            Link::Entry(name, cid) => {
+                let path = joined(self.alloc, path, name)?;
+                let opened = self.open(depth, cid, Position::Top)?;
+                let above = Vec::new(self.alloc);
+                Ok(Below {
+                    opened,
+                    above,
+                    path,
+                })
+            }
+            Link::Child(slot) => {
+                let path = String::from_str(self.alloc, path)?;
+                let (above, opened) = self.open_child(depth, slot, above)?;
+                Ok(Below {
+                    opened,
+                    above,
+                    path,
+                })
+            }
+        }
     }
 
     /// Opens the child shard in a slot; with it, the slots that were passed before it, and this one.
@@ -423,8 +433,8 @@ impl<'a> Run<'a> {
     }
 
     /// Adds the record of a symbolic link in a bundle.
-    fn say_link(&mut self, target: &[u8], size: u64, path: &str) -> Result<(), AllocError> {
-        self.say_sized("link", size, path)?;
+    fn say_link(&mut self, target: &[u8], path: &str) -> Result<(), AllocError> {
+        self.say_sized("link", target.len() as u64, path)?;
         self.say(target)?;
         self.say_line("")
     }
@@ -451,11 +461,41 @@ impl<'a> Run<'a> {
     /// Adds the listing of sorted entries to the text.
     fn say_listing(&mut self, entries: &[Named]) -> Result<(), AllocError> {
         for entry in entries {
-            self.say(entry.cid.to_text(self.alloc)?.as_slice())?;
+            self.say_cid(entry.cid)?;
             self.say(b" ")?;
-            self.say_line(escaped(self.alloc, entry.name.as_slice())?.as_str())?;
+            self.say_name(entry.name.as_slice())?;
         }
         Ok(())
+    }
+
+    /// Adds the text of a CID to the text.
+    fn say_cid(&mut self, cid: Cid) -> Result<(), AllocError> {
+        self.say(cid.to_text(self.alloc)?.as_slice())
+    }
+
+    /// Adds the name of an entry, as a line, to the text.
+    fn say_name(&mut self, name: &[u8]) -> Result<(), AllocError> {
+        self.say_line(escaped(self.alloc, name)?.as_str())
+    }
+}
+
+/// The kind of a block that may stand at the position.
+fn read_at(
+    alloc: Global,
+    cid: &Cid,
+    block: &[u8],
+    position: Position<'_>,
+) -> Result<Kind, BlockFault> {
+    let kind = reads(alloc, cid, block)?;
+    stands(&kind, position)?;
+    Ok(kind)
+}
+
+/// Why an evaluation stops at a block that isn't read, from which on so many blocks might be opened.
+fn unread(cid: Cid, depth: u32, fault: BlockFault) -> Stop {
+    match fault {
+        BlockFault::OutOfMemory => Stop::Fault(EvaluationFault::OutOfMemory),
+        _ => bad_block(cid, depth, fault),
     }
 }
 
@@ -492,32 +532,42 @@ enum Way {
 
 /// Where the segment `at` of a path leads from a block that is `level` shards below an entry.
 fn link_for(kind: &Kind, level: usize, name: &[u8], at: u64) -> Result<Way, Stop> {
-    match kind {
-        Kind::Basic { entries } => {
-            for entry in entries.as_slice() {
-                if entry.name.as_slice() == name {
-                    return Ok(Way::Entry(entry.cid));
-                }
-            }
-            Err(Stop::End(End::NotThere { at }))
+    let way = match kind {
+        Kind::Basic { entries } => entry_named(entries.as_slice(), name),
+        Kind::Shard { slots } => slot_for(slots.as_slice(), level, name),
+        Kind::Raw | Kind::File { .. } | Kind::Symlink { .. } => {
+            return Err(Stop::End(End::NotFolder { at }));
         }
-        Kind::Shard { slots } => {
-            for slot in slots.as_slice() {
-                if hash64(name).to_be_bytes().get(level) == Some(&slot.slot) {
-                    match &slot.name {
-                        Some(other) if other.as_slice() == name => {
-                            return Ok(Way::Entry(slot.cid));
-                        }
-                        Some(_) => return Err(Stop::End(End::NotThere { at })),
-                        None => return Ok(Way::Child(slot.cid, slot.slot)),
-                    }
-                }
-            }
-            Err(Stop::End(End::NotThere { at }))
+    };
+    way.ok_or(Stop::End(End::NotThere { at }))
+}
+
+/// The way to the first entry with this name.
+fn entry_named(entries: &[Entry], name: &[u8]) -> Option<Way> {
+    for entry in entries {
+        if entry.name.as_slice() == name {
+            return Some(Way::Entry(entry.cid));
         }
-        Kind::Raw | Kind::File { .. } | Kind::Symlink { .. } => Err(Stop::End(End::NotFolder {
-            at,
-        })),
+    }
+    None
+}
+
+/// The way through the first slot that is the name's at this level.
+fn slot_for(slots: &[Slot], level: usize, name: &[u8]) -> Option<Way> {
+    for slot in slots {
+        if hash64(name).to_be_bytes().get(level) == Some(&slot.slot) {
+            return way_through(slot, name);
+        }
+    }
+    None
+}
+
+/// The way to a child shard, or to an entry with this name.
+fn way_through(slot: &Slot, name: &[u8]) -> Option<Way> {
+    match &slot.name {
+        Some(other) if other.as_slice() == name => Some(Way::Entry(slot.cid)),
+        Some(_) => None,
+        None => Some(Way::Child(slot.cid, slot.slot)),
     }
 }
 
@@ -565,11 +615,95 @@ fn total(opened: &Opened<'_>) -> u64 {
     }
 }
 
+/// The bytes of a file's content that a block has itself.
+fn own_bytes<'o>(opened: &'o Opened<'_>) -> &'o [u8] {
+    match &opened.kind {
+        Kind::File { inline, .. } => inline.as_slice(),
+        _ => opened.block,
+    }
+}
+
+/// The parts of a file.
+fn parts_of(kind: &Kind) -> &[Part] {
+    match kind {
+        Kind::File { parts, .. } => parts.as_slice(),
+        _ => &[],
+    }
+}
+
+/// The entries of a directory that is no shard.
+fn entries_of(kind: &Kind) -> &[Entry] {
+    match kind {
+        Kind::Basic { entries } => entries.as_slice(),
+        _ => &[],
+    }
+}
+
+/// The slots of a shard.
+fn slots_of(kind: &Kind) -> &[Slot] {
+    match kind {
+        Kind::Shard { slots } => slots.as_slice(),
+        _ => &[],
+    }
+}
+
+/// Whether a part of `size` bytes that begins at `from` is asked for.
+fn is_asked(from: u64, size: u64, range: Option<(u64, u64)>) -> bool {
+    match range {
+        Some((low, high)) => is_met(from, size, low, high),
+        None => true,
+    }
+}
+
 /// The slots that were passed, and this one.
 fn with_slot(alloc: Global, above: &[u8], slot: u8) -> Result<Vec<u8>, AllocError> {
     let mut passed = Vec::from_slice(alloc, above)?;
     passed.push(slot)?;
     Ok(passed)
+}
+
+/// A link of a directory: the name and the CID of an entry, or the slot of a child shard.
+#[derive(Clone, Copy)]
+enum Link<'k> {
+    Entry(&'k [u8], Cid),
+    Child(&'k Slot),
+}
+
+/// How many links a directory's block has.
+fn width(kind: &Kind) -> usize {
+    entries_of(kind).len().max(slots_of(kind).len())
+}
+
+/// The link of a directory's block with this number.
+fn link_at(kind: &Kind, number: usize) -> Option<Link<'_>> {
+    match slots_of(kind).get(number) {
+        Some(slot) => Some(link_in(slot)),
+        None => match entries_of(kind).get(number) {
+            Some(entry) => Some(Link::Entry(entry.name.as_slice(), entry.cid)),
+            None => None,
+        },
+    }
+}
+
+/// The link in a slot.
+fn link_in(slot: &Slot) -> Link<'_> {
+    match &slot.name {
+        Some(name) => Link::Entry(name.as_slice(), slot.cid),
+        None => Link::Child(slot),
+    }
+}
+
+/// Puts the entries that a directory's block has itself among sorted ones.
+fn put_named(alloc: Global, kind: &Kind, entries: &mut Vec<Named>) -> Result<(), AllocError> {
+    for entry in entries_of(kind) {
+        put_sorted(alloc, entries, entry.name.as_slice(), entry.cid)?;
+    }
+    for slot in slots_of(kind) {
+        if let Some(name) = &slot.name {
+            put_sorted(alloc, entries, name.as_slice(), slot.cid)?;
+        }
+    }
+    Ok(())
 }
 
 /// Puts an entry before the first one with a greater name.

@@ -199,35 +199,46 @@ fn outcome_of(
 fn run_in(
     alloc: Global,
     words: &[String],
-    mut folder: MemFolder,
-    pack: MemPack,
-    mut streams: Streams,
-) -> Result<Outcome, AllocError> {
-    let mut pack = Some(pack);
+    folder: &mut MemFolder,
+    pack: &mut Option<MemPack>,
+    streams: &mut Streams,
+) -> Result<Outcome, AllocError>
+    requires { IsSome pack.old }
+{
     let status = status_of(
         alloc,
         words,
-        &mut folder,
-        &mut pack,
+        folder,
+        pack,
         &mut streams.input,
         &mut streams.out,
         &mut streams.err,
     );
-    outcome_of(alloc, status, &pack, &streams)
+    outcome_of(alloc, status, pack, streams)
 }
 
 /// Runs the words over a folder and what else is given.
-fn run_given(
+fn run_words(
     alloc: Global,
-    words: &[&str],
-    folder: MemFolder,
+    words: &[String],
+    folder: &mut MemFolder,
     given: &Given<'_, '_>,
 ) -> Result<Outcome, AllocError> {
     let [_, pack_fails, _, _, _] = given.fails;
+    let mut streams = streams_of(alloc, given)?;
+    let mut pack = Some(pack_of(alloc, given.content, pack_fails)?);
+    run_in(alloc, words, folder, &mut pack, &mut streams)
+}
+
+/// The same with words that aren't owned.
+fn run_given(
+    alloc: Global,
+    words: &[&str],
+    folder: &mut MemFolder,
+    given: &Given<'_, '_>,
+) -> Result<Outcome, AllocError> {
     let words = owned_words(alloc, words)?;
-    let streams = streams_of(alloc, given)?;
-    let pack = pack_of(alloc, given.content, pack_fails)?;
-    run_in(alloc, words.as_slice(), folder, pack, streams)
+    run_words(alloc, words.as_slice(), folder, given)
 }
 
 /// Runs the words over the folder of a tree and what else is given.
@@ -239,7 +250,7 @@ fn run_over(
 ) -> Result<Outcome, AllocError> {
     let [folder_fails, _, _, _, _] = given.fails;
     match folder_of(alloc, tree, folder_fails)? {
-        Some(folder) => run_given(alloc, words, folder, given),
+        Some(mut folder) => run_given(alloc, words, &mut folder, given),
         None => Ok(Outcome::of_no_folder(alloc)),
     }
 }

@@ -87,24 +87,14 @@ fn behind_codec(cid: Cid, bytes: &[u8]) -> Cid {
     }
 }
 
-/// A node with this data.
-fn node(
+/// A node with these links and this data.
+pub fn node(
     alloc: Global,
     before: &[StoredBlock],
     edges: &[Edge],
     payload: &[u8],
 ) -> Result<StoredBlock, AllocError> {
-    node_of(alloc, links_of(alloc, before, edges)?, payload)
-}
-
-/// A node with one link, that leads to this block.
-pub fn above(alloc: Global, below: Cid, payload: &[u8]) -> Result<StoredBlock, AllocError> {
-    let mut links = List::new(alloc);
-    links.push(link_of(alloc, "", below, 1)?)?;
-    node_of(alloc, links, payload)
-}
-
-fn node_of(alloc: Global, links: List<Link>, payload: &[u8]) -> Result<StoredBlock, AllocError> {
+    let links = links_of(alloc, before, edges)?;
     let block = encoded(alloc, links, payload)?;
     let cid = Cid::of_block(Codec::DagPb, block.as_slice());
     Ok(StoredBlock { cid, block })

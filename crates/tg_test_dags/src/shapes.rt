@@ -46,6 +46,11 @@ pub enum Shape {
     SmallFolder,
     /// That raw block, and the shard that has it as `hello`.
     OneEntry,
+    /// That raw block, the file of it, the shard that has the file as `hello`, and the directory that has the shard as
+    /// `d`: the last three with the mode 493 and a modification time.
+    Dated,
+    /// The empty directory with the mode 493, in a block that another program writes.
+    WithMode,
     /// That raw block, and a shard that has it as `hellp` in the slot of `hello`.
     Misplaced,
     /// A child, the files of a shard, and the shard: in its slot 91 is the entry `m`, and in its slot BC the child
@@ -103,44 +108,59 @@ impl Shape {
         store(alloc, &self.dag())
     }
 
-    /// Its blocks.
+    /// Its blocks. The root is the last one, but of two shapes the one before it.
     fn dag(self) -> Dag {
+        let (blocks, stored) = self.blocks();
+        let last = blocks.len().saturating_sub(1);
+        let root = match self {
+            Shape::Part(_) | Shape::EightLevels => last.saturating_sub(1),
+            _ => last,
+        };
+        Dag {
+            blocks,
+            stored,
+            root,
+        }
+    }
+
+    /// Its blocks, and the numbers of those that are stored.
+    fn blocks(self) -> (&'static [Block], &'static [usize]) {
         match self {
-            Shape::Empty => whole(EMPTY, &[0]),
-            Shape::NoBytes => whole(NO_BYTES, &[0]),
-            Shape::OneBlock => whole(ONE_BLOCK, &[0]),
-            Shape::Hello => whole(HELLO, &[3, 0, 1, 2]),
-            Shape::OwnSize => whole(OWN_SIZE, &[3, 0, 1, 2]),
-            Shape::PartSize => whole(PART_SIZE, &[3, 0, 1, 2]),
-            Shape::ChangedLeaf => whole(CHANGED_LEAF, &[3, 0, 1, 2]),
-            Shape::NoLeaves => whole(HELLO, &[2, 3]),
-            Shape::OneLeaf => whole(HELLO, &[1, 3]),
-            Shape::NoMiddle => whole(HELLO, &[3, 2, 0]),
-            Shape::NoRoot => whole(HELLO, &[]),
-            Shape::Twins => whole(TWINS, &[0, 1]),
-            Shape::PartedTwins => whole(PARTED_TWINS, &[0, 1, 2]),
-            Shape::FileInFile => whole(FILE_IN_FILE, &[0, 1, 2, 3, 4]),
-            Shape::FolderAsPart => whole(FOLDER_AS_PART, &[0, 1]),
-            Shape::Folder => whole(FOLDER, &[3, 0, 1, 2, 4]),
-            Shape::FolderOneLeaf => whole(FOLDER, &[3, 4, 0]),
-            Shape::SmallFolder => whole(SMALL_FOLDER, &[0, 1]),
-            Shape::OneEntry => whole(ONE_ENTRY, &[0, 1]),
-            Shape::Misplaced => whole(MISPLACED, &[0, 1]),
-            Shape::TwoLevels => whole(TWO_LEVELS, &[3, 0, 1, 2, 4]),
-            Shape::NoChild => whole(TWO_LEVELS, &[0, 1, 2, 4]),
-            Shape::NoShard => whole(NO_SHARD, &[3, 0, 1, 2, 4]),
-            Shape::LinkAsChild => whole(LINK_AS_CHILD, &[3, 0, 1, 2, 4]),
-            Shape::FileAsChild => whole(FILE_AS_CHILD, &[3, 0, 1, 2, 4]),
-            Shape::Link => whole(LINK, &[0]),
-            Shape::Links => whole(LINKS, &[0, 1, 2, 3]),
-            Shape::Escaped => whole(ESCAPED, &[0, 1, 2]),
-            Shape::OldEntry => whole(OLD_ENTRY, &[0, 2]),
-            Shape::Part(part) => rooted(part.blocks(), &[0, 1, 2, 3], 2),
-            Shape::PartBelow(part) => rooted(part.blocks(), &[0, 1, 2, 3], 3),
-            Shape::NoKind => whole(NO_KIND, &[0, 1]),
-            Shape::MisplacedBelow => whole(MISPLACED_BELOW, &[0, 1, 2]),
-            Shape::EightLevels => rooted(LEVELS, &[0, 1, 2, 3, 4, 5, 6, 7, 8], 7),
-            Shape::NineLevels => rooted(LEVELS, &[0, 1, 2, 3, 4, 5, 6, 7, 8], 8),
+            Shape::Empty => (EMPTY, &[0]),
+            Shape::NoBytes => (NO_BYTES, &[0]),
+            Shape::OneBlock => (ONE_BLOCK, &[0]),
+            Shape::Hello => (HELLO, &[3, 0, 1, 2]),
+            Shape::OwnSize => (OWN_SIZE, &[3, 0, 1, 2]),
+            Shape::PartSize => (PART_SIZE, &[3, 0, 1, 2]),
+            Shape::ChangedLeaf => (CHANGED_LEAF, &[3, 0, 1, 2]),
+            Shape::NoLeaves => (HELLO, &[2, 3]),
+            Shape::OneLeaf => (HELLO, &[1, 3]),
+            Shape::NoMiddle => (HELLO, &[3, 2, 0]),
+            Shape::NoRoot => (HELLO, &[]),
+            Shape::Twins => (TWINS, &[0, 1]),
+            Shape::PartedTwins => (PARTED_TWINS, &[0, 1, 2]),
+            Shape::FileInFile => (FILE_IN_FILE, &[0, 1, 2, 3, 4]),
+            Shape::FolderAsPart => (FOLDER_AS_PART, &[0, 1]),
+            Shape::Folder => (FOLDER, &[3, 0, 1, 2, 4]),
+            Shape::FolderOneLeaf => (FOLDER, &[3, 4, 0]),
+            Shape::SmallFolder => (SMALL_FOLDER, &[0, 1]),
+            Shape::OneEntry => (ONE_ENTRY, &[0, 1]),
+            Shape::Dated => (DATED, &[0, 1, 2, 3]),
+            Shape::WithMode => (WITH_MODE, &[0]),
+            Shape::Misplaced => (MISPLACED, &[0, 1]),
+            Shape::TwoLevels => (TWO_LEVELS, &[3, 0, 1, 2, 4]),
+            Shape::NoChild => (TWO_LEVELS, &[0, 1, 2, 4]),
+            Shape::NoShard => (NO_SHARD, &[3, 0, 1, 2, 4]),
+            Shape::LinkAsChild => (LINK_AS_CHILD, &[3, 0, 1, 2, 4]),
+            Shape::FileAsChild => (FILE_AS_CHILD, &[3, 0, 1, 2, 4]),
+            Shape::Link => (LINK, &[0]),
+            Shape::Links => (LINKS, &[0, 1, 2, 3]),
+            Shape::Escaped => (ESCAPED, &[0, 1, 2]),
+            Shape::OldEntry => (OLD_ENTRY, &[0, 2]),
+            Shape::Part(part) | Shape::PartBelow(part) => (part.blocks(), &[0, 1, 2, 3]),
+            Shape::NoKind => (NO_KIND, &[0, 1]),
+            Shape::MisplacedBelow => (MISPLACED_BELOW, &[0, 1, 2]),
+            Shape::EightLevels | Shape::NineLevels => (LEVELS, &[0, 1, 2, 3, 4, 5, 6, 7, 8]),
         }
     }
 }
@@ -154,19 +174,6 @@ impl OddPart {
             OddPart::Shard => SHARD_PART,
             OddPart::Misplaced => MISPLACED_PART,
         }
-    }
-}
-
-/// The blocks whose last one is the root.
-fn whole(blocks: &'static [Block], stored: &'static [usize]) -> Dag {
-    rooted(blocks, stored, blocks.len().saturating_sub(1))
-}
-
-fn rooted(blocks: &'static [Block], stored: &'static [usize], root: usize) -> Dag {
-    Dag {
-        blocks,
-        stored,
-        root,
     }
 }
 
@@ -264,6 +271,26 @@ const FOLDER: &[Block] = &[
 const SMALL_FOLDER: &[Block] = &[WORLD, Block::Node(&[("h", 0, 11)], b"\x08\x01")];
 
 const ONE_ENTRY: &[Block] = &[WORLD, Block::Node(&[("CBhello", 0, 11)], HELLO_SHARD)];
+
+/// Behind the data of each node stand the mode 493, and 1,700,000,000 seconds with 500,000,000 nanoseconds.
+const DATED: &[Block] = &[
+    WORLD,
+    Block::Node(
+        &[("", 0, 11)],
+        b"\x08\x02\x18\x0b\x20\x0b\x38\xed\x03\x42\x0b\x08\x80\xe2\xcf\xaa\x06\x15\0\x65\xcd\x1d",
+    ),
+    Block::Node(
+        &[("CBhello", 1, 83)],
+        b"\x08\x05\x12\x1a\x08\0\0\0\0\0\0\0\0\0\0\0\0\0\0\0\0\0\0\0\0\0\0\0\0\0\x28\x22\x30\x80\x02\
+            \x38\xed\x03\x42\x0b\x08\x80\xe2\xcf\xaa\x06\x15\0\x65\xcd\x1d",
+    ),
+    Block::Node(
+        &[("d", 2, 200)],
+        b"\x08\x01\x38\xed\x03\x42\x0b\x08\x80\xe2\xcf\xaa\x06\x15\0\x65\xcd\x1d",
+    ),
+];
+
+const WITH_MODE: &[Block] = &[Block::DagPb(b"\x0a\x05\x08\x01\x38\xed\x03")];
 
 const MISPLACED: &[Block] = &[WORLD, Block::Node(&[("CBhellp", 0, 11)], HELLO_SHARD)];
 

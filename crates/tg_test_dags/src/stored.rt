@@ -1,5 +1,5 @@
 //! Blocks of DAGs that are stored.
-use crate::blocks::{Block, Dag, above, cid_at, made, stored_under};
+use crate::blocks::{Block, Dag, cid_at, made, node, stored_under};
 use crate::raw_cid;
 use std::alloc::{AllocError, Global};
 use tg_bytes::List;
@@ -50,11 +50,11 @@ fn chosen(
 /// the leaf is a node with this data. The leaf is the first, and the root the last.
 pub fn chain(alloc: Global, nodes: u32, payload: &[u8]) -> Result<Stored, AllocError> {
     let mut blocks = made(alloc, &[Block::Raw(b"x")])?;
-    for _ in 0..nodes {
-        let below = last_cid(blocks.as_slice());
-        blocks.push(above(alloc, below, payload)?)?;
+    for below in 0..nodes as usize {
+        let next = node(alloc, blocks.as_slice(), &[("", below, 1)], payload)?;
+        blocks.push(next)?;
     }
-    let root = last_cid(blocks.as_slice());
+    let root = cid_at(blocks.as_slice(), nodes as usize);
     let all = List::new(alloc);
     Ok(Stored { blocks, root, all })
 }
@@ -66,11 +66,6 @@ pub fn raw_stored(alloc: Global, block: &[u8]) -> Result<Stored, AllocError> {
     blocks.push(stored_under(alloc, root, block)?)?;
     let all = List::new(alloc);
     Ok(Stored { blocks, root, all })
-}
-
-/// The CID of the last block.
-fn last_cid(blocks: &[StoredBlock]) -> Cid {
-    cid_at(blocks, blocks.len().saturating_sub(1))
 }
 
 /// The numbers of the blocks of such a chain, from the root down.

@@ -1,53 +1,122 @@
-use Rattle.std.proofs.Common.{List, Option, subst, ℕ}
+use Rattle.std.proofs.Common.{List, Option, inl, subst, sym, ℕ, ◌∙◌}
 use Rattle.std.proofs.lemmas.Result.{err_from_is_err_and}
 use Rattle.tg_car.specs.Writing.{HeaderOf}
 use Rattle.tg_cid.specs.Cid.{CidParts}
 use Rattle.tg_export.proofs.Answering.{answers}
-use Rattle.tg_export.proofs.Moves.{car_cause, looks_both}
-use Rattle.tg_export.proofs.Parts.{car_ends, header_ends, resolved}
-use Rattle.tg_export.specs.Cars.{PutWhole, SectionsEnd}
+use Rattle.tg_export.proofs.Moves.{car_cause, looks_both, path_cause, puts_nothing}
+use Rattle.tg_export.proofs.Parts.{path_ends, path_leads, path_memory, resolved}
+use Rattle.tg_export.specs.Cars.{CarEnds, HasResolved}
 use Rattle.tg_model.specs.Queries.{QueryParts}
 use Rattle.tg_model.specs.Stores.{Store, looked_in}
-use Rattle.tg_streams.specs.Streams.{PutFront, into}
+use Rattle.tg_streams.specs.Streams.{into}
 use Rattle.tg_export.proofs.car.write_car.Goals as goal
 
-pub returns-in_err-put-clause-ends : goal.returns-in_err-put-clause-ends
-returns-in_err-put-clause-ends g c =
-    let is = subst (λ (root : CidParts). HeaderOf root c.in_ok-header.header) c.root-2.ensures c.in_ok-header.ensures in
+pub returns-in_err-resolve-clause-ends : goal.returns-in_err-resolve-clause-ends
+returns-in_err-resolve-clause-ends g c =
+    let told = g.B.Blocks.blocks.stored c.args.blocks.now in
+    let fault = c.in_err-resolve.field-0.0 in
+    let p = err_from_is_err_and c.from_residual.result c.from_residual.ensures.1 in
+    rw (p.1, p.2) (path_ends (into g.S.Sink.sink c.args.out.now c.args.out.now) c.args.query.now told fault (puts_nothing g.S.Sink.sink c.args.out.now (g.met.S.Sink.rests _))
+    (path_leads c.args.query.now told c.root.result c.path.result.now fault c.root.ensures c.path.ensures.path c.in_err-resolve.ensures.end))
+
+pub returns-in_err-resolve-clause-looked : goal.returns-in_err-resolve-clause-looked
+returns-in_err-resolve-clause-looked g c = c.in_err-resolve.ensures.looked
+
+pub returns-in_err-resolve-clause-cause : goal.returns-in_err-resolve-clause-cause
+returns-in_err-resolve-clause-cause g c =
+    let p = err_from_is_err_and c.from_residual.result c.from_residual.ensures.1 in
+    rw (p.1, p.2) (path_cause (g.B.Blocks.blocks.stored c.args.blocks.now) (looked_in g.B.Blocks.blocks c.args.blocks.now c.resolve.new.blocks) c.in_err-resolve.field-0.0 c.in_err-resolve.ensures.cause)
+
+pub returns-in_err-resolve-clause-memory : goal.returns-in_err-resolve-clause-memory
+returns-in_err-resolve-clause-memory g c =
+    let p = err_from_is_err_and c.from_residual.result c.from_residual.ensures.1 in
+    rw (p.1, p.2) (path_memory c.in_err-resolve.field-0.0)
+
+pub returns-in_err-resolve-clause-answered : goal.returns-in_err-resolve-clause-answered
+returns-in_err-resolve-clause-answered g c store sections told all =
+    answers c.args.query.now (g.B.Blocks.blocks.stored c.args.blocks.now) (into g.S.Sink.sink c.args.out.now c.args.out.now) (looked_in g.B.Blocks.blocks c.args.blocks.now c.resolve.new.blocks)
+    store sections c.from_residual.result (returns-in_err-resolve-clause-ends g c) (returns-in_err-resolve-clause-cause g c) (returns-in_err-resolve-clause-memory g c) told all
+
+pub returns-in_err-header-clause-ends : goal.returns-in_err-header-clause-ends
+returns-in_err-header-clause-ends g c =
+    let p = err_from_is_err_and c.from_residual-in_err-header.result c.from_residual-in_err-header.ensures.1 in
+    rw (p.1, p.2) (inl (puts_nothing g.S.Sink.sink c.args.out.now (g.met.S.Sink.rests _)))
+
+pub returns-in_err-header-clause-looked : goal.returns-in_err-header-clause-looked
+returns-in_err-header-clause-looked g c = c.in_ok-resolve.ensures.looked
+
+pub returns-in_err-header-clause-cause : goal.returns-in_err-header-clause-cause
+returns-in_err-header-clause-cause g c =
+    let p = err_from_is_err_and c.from_residual-in_err-header.result c.from_residual-in_err-header.ensures.1 in
+    rw (p.1, p.2) c.in_ok-resolve.ensures.cause
+
+pub returns-in_err-header-clause-memory : goal.returns-in_err-header-clause-memory
+returns-in_err-header-clause-memory g c =
+    let p = err_from_is_err_and c.from_residual-in_err-header.result c.from_residual-in_err-header.ensures.1 in
+    rw (p.1, p.2) tt
+
+pub returns-in_err-header-clause-answered : goal.returns-in_err-header-clause-answered
+returns-in_err-header-clause-answered g c store sections told all =
+    let p = err_from_is_err_and c.from_residual-in_err-header.result c.from_residual-in_err-header.ensures.1 in
+    rw (p.1, p.2) tt
+
+pub returns-in_err-walk-clause-ends : goal.returns-in_err-walk-clause-ends
+returns-in_err-walk-clause-ends g c =
+    let p = err_from_is_err_and c.from_residual-in_err-walk.result c.from_residual-in_err-walk.ensures.1 in
+    rw (p.1, p.2) (inl (puts_nothing g.S.Sink.sink c.args.out.now (g.met.S.Sink.rests _)))
+
+pub returns-in_err-walk-clause-looked : goal.returns-in_err-walk-clause-looked
+returns-in_err-walk-clause-looked g c = c.in_ok-resolve.ensures.looked
+
+pub returns-in_err-walk-clause-cause : goal.returns-in_err-walk-clause-cause
+returns-in_err-walk-clause-cause g c =
+    let p = err_from_is_err_and c.from_residual-in_err-walk.result c.from_residual-in_err-walk.ensures.1 in
+    rw (p.1, p.2) c.in_ok-resolve.ensures.cause
+
+pub returns-in_err-walk-clause-memory : goal.returns-in_err-walk-clause-memory
+returns-in_err-walk-clause-memory g c =
+    let p = err_from_is_err_and c.from_residual-in_err-walk.result c.from_residual-in_err-walk.ensures.1 in
+    rw (p.1, p.2) tt
+
+pub returns-in_err-walk-clause-answered : goal.returns-in_err-walk-clause-answered
+returns-in_err-walk-clause-answered g c store sections told all =
+    let p = err_from_is_err_and c.from_residual-in_err-walk.result c.from_residual-in_err-walk.ensures.1 in
+    rw (p.1, p.2) tt
+
+pub write_all-requires : goal.write_all-requires
+write_all-requires g c =
+    let q = c.in_ok-walk.ensures.query in
     let way = resolved c.args.query.now (g.B.Blocks.blocks.stored c.args.blocks.now) c.root.result c.path.result.now c.in_ok-resolve.field-0 c.root.ensures c.path.ensures.path c.in_ok-resolve.ensures.end in
-    let put = subst (λ (bytes : List ℕ). PutFront bytes (into g.S.Sink.sink c.args.out.now c.put.new.out)) c.as_slice.ensures c.in_err-put.ensures.1 in
-    let p = err_from_is_err_and c.from_residual-in_err-put.result c.from_residual-in_err-put.ensures.1 in
-    rw (p.1, p.2, c.in_err-put.ensures.0) (header_ends g.S.Sink.sink c.args.out.now c.put.new.out c.args.query.now (g.B.Blocks.blocks.stored c.args.blocks.now) c.store_walks.ensures c.in_ok-walk.walk c.in_ok-header.header is way
-    c.in_ok-walk.ensures.query c.in_ok-walk.ensures.fresh c.in_ok-walk.ensures.stands put)
+    let is = subst (λ (root : CidParts). HeaderOf root c.in_ok-header.header) c.root-2.ensures c.in_ok-header.ensures in
+    record {
+      header = subst (λ (bytes : List ℕ). HeaderOf c.in_ok-walk.walk.left.query.root bytes) (sym c.as_slice.ensures) (subst (λ (p : QueryParts). HeaderOf p.root c.in_ok-header.header) (sym q) is);
+      resolved = λ store e. subst (λ (p : QueryParts). HasResolved store p) (sym q) (way store (sym c.in_ok-resolve.ensures.looked.1.stored ∙ e));
+      fresh = c.in_ok-walk.ensures.fresh;
+      stands = c.in_ok-walk.ensures.stands;
+    }
 
 pub returns-clause-ends : goal.returns-clause-ends
 returns-clause-ends g c =
-    let is = subst (λ (root : CidParts). HeaderOf root c.in_ok-header.header) c.root-2.ensures c.in_ok-header.ensures in
-    let way = resolved c.args.query.now (g.B.Blocks.blocks.stored c.args.blocks.now) c.root.result c.path.result.now c.in_ok-resolve.field-0 c.root.ensures c.path.ensures.path c.in_ok-resolve.ensures.end in
-    let put = subst (λ (bytes : List ℕ). PutWhole (into g.S.Sink.sink c.args.out.now c.put.new.out) bytes) c.as_slice.ensures c.in_ok-put.ensures in
-    let sections = subst (λ (told : Option Store). SectionsEnd c.args.query.now told (into g.S.Sink.sink c.put.new.out c.write_sections.new.out) c.write_sections.result) c.in_ok-resolve.ensures.looked.1.stored
-    (subst (λ (q : QueryParts). SectionsEnd q (g.B.Blocks.blocks.stored c.resolve.new.blocks) (into g.S.Sink.sink c.put.new.out c.write_sections.new.out) c.write_sections.result) c.in_ok-walk.ensures.query c.write_sections.ensures.ends) in
-    car_ends g.S.Sink.sink c.args.out.now c.put.new.out c.write_sections.new.out c.args.query.now (g.B.Blocks.blocks.stored c.args.blocks.now) c.in_ok-header.header c.write_sections.result g.met.S.Sink.joins is way put sections
+    let out = into g.S.Sink.sink c.args.out.now c.write_all.new.out in
+    subst (λ (told : Option Store). CarEnds c.args.query.now told out c.write_all.result) c.in_ok-resolve.ensures.looked.1.stored
+    (subst (λ (q : QueryParts). CarEnds q (g.B.Blocks.blocks.stored c.resolve.new.blocks) out c.write_all.result) c.in_ok-walk.ensures.query c.write_all.ensures.ends)
 
 pub returns-clause-looked : goal.returns-clause-looked
 returns-clause-looked g c =
     let first = c.in_ok-resolve.ensures.looked in
-    let next = c.write_sections.ensures.looked in
-    (_, looks_both g.B.Blocks.blocks c.args.blocks.now c.resolve.new.blocks c.write_sections.new.blocks first.0 next.0 g.met.B.Blocks.joins first.1 next.1)
-
-pub returns-clause-answered : goal.returns-clause-answered
-returns-clause-answered g c store sections told all =
-    let first = c.in_ok-resolve.ensures.looked in
-    answers c.args.query.now (g.B.Blocks.blocks.stored c.args.blocks.now) (into g.S.Sink.sink c.args.out.now c.write_sections.new.out) (looked_in g.B.Blocks.blocks c.args.blocks.now c.write_sections.new.blocks)
-    store sections c.write_sections.result (returns-clause-ends g c)
-    (car_cause g.B.Blocks.blocks c.args.blocks.now c.resolve.new.blocks c.write_sections.new.blocks c.write_sections.result
-    (record { cids = first.0; looked = first.1; quiet = c.in_ok-resolve.ensures.cause }) c.write_sections.ensures.cause) c.write_sections.ensures.memory told all
+    let next = c.write_all.ensures.looked in
+    (_, looks_both g.B.Blocks.blocks c.args.blocks.now c.resolve.new.blocks c.write_all.new.blocks first.0 next.0 g.met.B.Blocks.joins first.1 next.1)
 
 pub returns-clause-cause : goal.returns-clause-cause
 returns-clause-cause g c =
     let first = c.in_ok-resolve.ensures.looked in
-    car_cause g.B.Blocks.blocks c.args.blocks.now c.resolve.new.blocks c.write_sections.new.blocks c.write_sections.result
-    (record { cids = first.0; looked = first.1; quiet = c.in_ok-resolve.ensures.cause }) c.write_sections.ensures.cause
+    car_cause g.B.Blocks.blocks c.args.blocks.now c.resolve.new.blocks c.write_all.new.blocks c.write_all.result
+    (record { cids = first.0; looked = first.1; quiet = c.in_ok-resolve.ensures.cause }) c.write_all.ensures.cause
 
 pub returns-clause-memory : goal.returns-clause-memory
-returns-clause-memory g c = c.write_sections.ensures.memory
+returns-clause-memory g c = c.write_all.ensures.memory
+
+pub returns-clause-answered : goal.returns-clause-answered
+returns-clause-answered g c store sections told all =
+    answers c.args.query.now (g.B.Blocks.blocks.stored c.args.blocks.now) (into g.S.Sink.sink c.args.out.now c.write_all.new.out) (looked_in g.B.Blocks.blocks c.args.blocks.now c.write_all.new.blocks)
+    store sections c.write_all.result (returns-clause-ends g c) (returns-clause-cause g c) (returns-clause-memory g c) told all

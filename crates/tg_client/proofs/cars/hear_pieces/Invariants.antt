@@ -2,18 +2,18 @@
 use Rattle.std.proofs.Common.{◌≡◌, ◌≤◌, ◌<◌, ◌-◌, None, length, true}
 use Rattle.tg_client.proofs.Coming.{HasCome}
 use Rattle.tg_streams.specs.Streams.{InputQuiet, OutputQuiet, into, through}
-use Rattle.tg_client.proofs.cars.hear.Given as goal
+use Rattle.tg_client.proofs.cars.hear_pieces.Given as goal
 
 abbrev pub invariant-loop-filled : goal.invariant-loop-filled
 invariant-loop-filled g l = record {
-  room : 0 < length l.buffer;
-  query : l.body.verifier.left.query ≡ l.fn.query;
-  limits : l.body.verifier.limits ≡ l.fn.limits;
+  room : 0 < length l.room;
+  query : l.body.verifier.left.query ≡ l.fn.body.verifier.left.query;
+  limits : l.body.verifier.limits ≡ l.fn.body.verifier.limits;
   fresh : l.body.verifier.refused ≡ None;
   within : l.body.heard ≤ l.body.most;
   heard_quiet : InputQuiet (through g.I.Source.source l.fn.input l.input);
   put_quiet : OutputQuiet (into g.S.Sink.sink l.fn.out l.out);
-  come : l.fn.query.dups ≡ true → HasCome l.body (through g.I.Source.source l.fn.input l.input) (into g.S.Sink.sink l.fn.out l.out);
+  come : l.fn.body.verifier.left.query.dups ≡ true → HasCome l.body (through g.I.Source.source l.fn.input l.input) (into g.S.Sink.sink l.fn.out l.out);
 }
 
 abbrev pub decreases-loop-filled : goal.decreases-loop-filled
