@@ -372,17 +372,7 @@ fn entry_of<R: Files>(
     let listed = Listed::of(&entry.metadata()?);
     let mut path = String::from_str(alloc, folder)?;
     push_name(&mut path, name)?;
-    Ok((item_of(alloc, name, listed.sort)?, path, listed))
-}
-
-/// The item of a name, which is kept whole.
-fn item_of(alloc: Global, name: &str, sort: Sort) -> Result<Item, AllocError>
-    ensures { IfOk result (λ item. item ≡ record { name = name.now; sort = sort }) }
-{
-    Ok(Item {
-        name: Bytes::of(alloc, name.as_bytes())?,
-        sort,
-    })
+    Ok((Item::of(alloc, name.as_bytes(), listed.sort)?, path, listed))
 }
 
 impl From<io::Error> for FolderFault {

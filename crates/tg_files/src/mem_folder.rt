@@ -17,7 +17,7 @@ use tg_faults::{Calls, Failed};
 use tg_tree::{Item, Tree, list_items};
 
 /// A tree of files in memory that is read. The calls are numbered from 0, and those whose numbers it was given fail.
-#[derive(Debug, Drop)]
+#[derive(Drop)]
 pub struct MemFolder {
     alloc: Global,
     tree: Tree,

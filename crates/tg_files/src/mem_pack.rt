@@ -15,7 +15,7 @@ use tg_faults::{Calls, Failed};
 
 /// A pack in memory. The calls are numbered from 0, and those whose numbers it was given fail. Its bytes are dropped
 /// where a write fails: it tells nothing from then on, holds nothing and takes what is written without keeping it.
-#[derive(Debug, Drop)]
+#[derive(Drop)]
 pub struct MemPack {
     content: Option<Bytes>,
     place: Place,

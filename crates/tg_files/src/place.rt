@@ -7,7 +7,7 @@ use std::marker::Model;
 
 /// Where a pack or a folder is attached, or that it is attached nowhere. It takes no memory, and its functions do
 /// nothing when they run.
-#[derive(Debug, Drop)]
+#[derive(Drop)]
 pub struct Place {
     pub ghost at: { Option PackPlace },
 }

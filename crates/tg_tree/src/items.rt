@@ -21,12 +21,24 @@ pub enum Sort {
 }
 
 /// A name in a folder.
-#[derive(Debug, Drop)]
+#[derive(Drop)]
 pub struct Item {
     /// The name's bytes.
     pub name: Bytes,
     /// What has the name.
     pub sort: Sort,
+}
+
+impl Item {
+    /// The item of a name, which is kept whole. The error is want of memory.
+    pub fn of(alloc: Global, name: &[u8], sort: Sort) -> Result<Item, AllocError>
+        ensures { IfOk result (λ item. item ≡ record { name = name.now; sort = sort }) }
+    {
+        Ok(Item {
+            name: Bytes::of(alloc, name)?,
+            sort,
+        })
+    }
 }
 
 /// The path of a folder with one more name, which leads to the entry of that name. The error is want of memory.

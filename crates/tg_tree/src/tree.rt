@@ -10,7 +10,7 @@ use std::alloc::{AllocError, Global};
 use tg_bytes::{Bytes, List};
 
 /// A tree of files in memory.
-#[derive(Debug, Drop)]
+#[derive(Drop)]
 pub enum Tree {
     /// The bytes of a file.
     File(Bytes),
@@ -98,11 +98,7 @@ pub fn list_items(alloc: Global, entries: &[(Bytes, Tree)]) -> Result<List<Item>
 {
     let mut items = List::new(alloc);
     for (name, tree) in entries {
-        let name = Bytes::of(alloc, name.as_slice())?;
-        items.push(Item {
-            name,
-            sort: tree.sort(),
-        })?;
+        items.push(Item::of(alloc, name.as_slice(), tree.sort())?)?;
     }
     Ok(items)
 }
