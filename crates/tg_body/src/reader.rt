@@ -22,7 +22,7 @@ use tg_http::{Framing, HttpFault, MAX_TEXT, is_empty_line};
 /// refusal, and after the end each feed gives the end.
 ///
 /// RFC 9112, sections 6.3 and 7.1.
-#[derive(Debug, Drop)]
+#[derive(Drop)]
 pub struct BodyReader {
     framing: Framing,
     refused: Option<HttpFault>,

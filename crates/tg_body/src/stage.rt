@@ -4,7 +4,7 @@ ghost use Rattle.tg_body.specs.declared.stage.Stage.TheVariants as stages;
 ghost use Rattle.tg_body.specs.declared.stage.Step.{Step};
 
 /// Where a reader is.
-#[derive(Clone, Copy, Debug)]
+#[derive(Clone, Copy)]
 pub(crate) enum Stage {
     /// So many bytes of a stated length are to come.
     Length { left: u64 },

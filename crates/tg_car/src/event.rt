@@ -3,7 +3,7 @@ use crate::section::Section;
 use tg_bytes::Bytes;
 
 /// What a reader answers to a piece. Each header and section comes once, in the call that brings its last byte.
-#[derive(Debug, Drop)]
+#[derive(Drop)]
 pub enum Event {
     /// The whole piece was taken, and neither the header nor a section was completed by it.
     Need,

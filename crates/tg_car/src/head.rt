@@ -10,14 +10,14 @@ use tg_cid::Cid;
 use tg_varint::VarintFault;
 
 /// What a section's length and CID say: its CID and how many bytes its block has.
-#[derive(Clone, Copy, Debug)]
+#[derive(Clone, Copy)]
 pub(crate) struct Declared {
     pub(crate) cid: Cid,
     pub(crate) number: u64,
 }
 
 /// What bytes at the front of a section are.
-#[derive(Clone, Copy, Debug)]
+#[derive(Clone, Copy)]
 pub(crate) enum Front {
     /// A length and a CID go on behind them.
     Open,

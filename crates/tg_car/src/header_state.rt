@@ -12,14 +12,14 @@ const FRONT: [u8; 7] = [0xa2, 0x65, b'r', b'o', b'o', b't', b's'];
 const BACK: [u8; 9] = [0x67, b'v', b'e', b'r', b's', b'i', b'o', b'n', 1];
 
 /// Roots that are still to come: how many, and how many bytes their texts have together.
-#[derive(Clone, Copy, Debug)]
+#[derive(Clone, Copy)]
 pub(crate) struct Roots {
     count: u8,
     bytes: u16,
 }
 
 /// What of a header is to come. It is a few numbers, whatever the header's length.
-#[derive(Clone, Copy, Debug)]
+#[derive(Clone, Copy)]
 pub(crate) enum HeaderState {
     /// The whole header.
     Length,

@@ -14,7 +14,7 @@ use std::mem::replace;
 use tg_bytes::Bytes;
 
 /// Why a section doesn't go on.
-#[derive(Clone, Copy, Debug)]
+#[derive(Clone, Copy)]
 pub(crate) enum PartFault {
     /// No section goes on so.
     Bad,
@@ -25,7 +25,7 @@ pub(crate) enum PartFault {
 }
 
 /// What came of a section: its length and CID, what they declare once they are whole, and its block.
-#[derive(Debug, Drop)]
+#[derive(Drop)]
 pub(crate) struct Part {
     head: Room,
     declared: Option<Declared>,

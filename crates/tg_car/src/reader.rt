@@ -23,7 +23,7 @@ use tg_bytes::Bytes;
 ///
 /// CARv1 specification. It holds the bytes of the header or of one section at most, and a block in the room that its
 /// length asks for, which is taken once its length and CID are whole and moved out with the section.
-#[derive(Debug, Drop)]
+#[derive(Drop)]
 pub struct CarReader {
     alloc: Global,
     limit: u64,

@@ -6,7 +6,7 @@ use arrayvec::ArrayVec;
 use std::marker::Model;
 
 /// At most 142 bytes, which contracts see as their list.
-#[derive(Debug, Drop)]
+#[derive(Drop)]
 pub(crate) struct Room {
     bytes: ArrayVec<u8, MAX_HEAD_LEN>,
 }

@@ -8,7 +8,7 @@ pub(crate) const MAX_HEAD_LEN: usize = 142;
 /// A section of a CAR: a CID and the block that is said to be its.
 ///
 /// CARv1 specification, Data. Whether the CID names the block isn't looked at.
-#[derive(Debug, Drop)]
+#[derive(Drop)]
 pub struct Section {
     pub cid: Cid,
     pub block: Bytes,

@@ -11,7 +11,7 @@ use thiserror::Error;
 pub struct Failed;
 
 /// The calls of one object, which are numbered from 0.
-#[derive(Debug, Drop)]
+#[derive(Drop)]
 pub struct Calls {
     /// The numbers of the calls that fail.
     pub fails: List<u64>,

@@ -21,7 +21,7 @@ use tg_model::{Keep, KeepFault, Made};
 ///
 /// UnixFS specification, File. Each chunk is kept as a raw leaf when it comes, and each node as soon as it has `width`
 /// links.
-#[derive(Debug, Drop)]
+#[derive(Drop)]
 pub struct Balanced {
     alloc: Global,
     width: usize,

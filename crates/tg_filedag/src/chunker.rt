@@ -7,7 +7,7 @@ use std::alloc::{AllocError, Global};
 use std::marker::Model;
 
 /// A chunk of a file that fills with the bytes that are fed. It holds one buffer, which is taken when it is made.
-#[derive(Debug, Drop)]
+#[derive(Drop)]
 pub struct Chunker {
     size: usize,
     bytes: Vec<u8>,

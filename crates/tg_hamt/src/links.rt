@@ -29,7 +29,7 @@ const MURMUR3: u64 = 0x22;
 const FANOUT: u64 = 256;
 
 /// A shard whose links come in ascending order of their slots: the links that came, and the bits of their slots.
-#[derive(Debug, Drop)]
+#[derive(Drop)]
 pub(crate) struct NewShard {
     pub links: Vec<NewEntry>,
     pub bits: [u8; 32],

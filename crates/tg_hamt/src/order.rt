@@ -8,7 +8,7 @@ use tg_model::NewEntry;
 use tg_murmur::{hash64, slot};
 
 /// An entry by its index, with the hash of its name.
-#[derive(Clone, Copy, Debug, PartialEq, Eq)]
+#[derive(Clone, Copy)]
 pub(crate) struct Hashed {
     pub hash: u64,
     pub index: usize,

@@ -18,7 +18,7 @@ use std::alloc::{AllocError, Global};
 use tg_bytes::Bytes;
 
 /// What the head of a reply says.
-#[derive(Debug, Drop)]
+#[derive(Drop)]
 pub struct ReplyHead {
     /// How many bytes the head has.
     pub used: usize,

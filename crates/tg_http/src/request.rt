@@ -18,7 +18,7 @@ use std::alloc::{AllocError, Global};
 use tg_bytes::{Bytes, List};
 
 /// What the head of a request says.
-#[derive(Debug, Drop)]
+#[derive(Drop)]
 pub struct RequestHead {
     /// How many bytes the head has.
     pub used: usize,

@@ -14,7 +14,7 @@ pub struct Part {
 /// An entry of a directory that is one block.
 ///
 /// UnixFS specification, Directory.
-#[derive(Debug, Drop)]
+#[derive(Drop)]
 pub struct Entry {
     pub name: Bytes,
     pub cid: Cid,
@@ -23,7 +23,7 @@ pub struct Entry {
 /// A used slot of a shard: an entry with its name, or, without a name, a child shard.
 ///
 /// UnixFS specification, HAMTDirectory.
-#[derive(Debug, Drop)]
+#[derive(Drop)]
 pub struct Slot {
     pub slot: u8,
     pub name: Option<Bytes>,
@@ -33,7 +33,7 @@ pub struct Slot {
 /// What a block is read as under its CID.
 ///
 /// UnixFS specification, Data Format and node types.
-#[derive(Debug, Drop)]
+#[derive(Drop)]
 pub enum Kind {
     /// Plain bytes: the block itself is the content.
     Raw,
@@ -81,7 +81,7 @@ pub struct Made {
 }
 
 /// An entry of a directory that is to be made.
-#[derive(Debug, Drop)]
+#[derive(Drop)]
 pub struct NewEntry {
     pub name: Bytes,
     pub cid: Cid,

@@ -30,7 +30,7 @@ pub enum LimitKind {
 
 /// A number for each kind of limit, at most the standard one. A limit is passed where the next step would make what is
 /// counted greater than the number.
-#[derive(Clone, Copy, Debug, PartialEq, Eq)]
+#[derive(Clone, Copy, PartialEq, Eq)]
 pub struct Limits {
     block: u64,
     depth: u64,

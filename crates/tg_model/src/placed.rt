@@ -28,7 +28,7 @@ use tg_pbtable::Place;
 use tg_unixfs::{UnixPlaces, places_of, size_at};
 
 /// A place between two parts of a file, in the node of its block. It takes no memory.
-#[derive(Clone, Copy, Debug, PartialEq, Eq)]
+#[derive(Clone, Copy)]
 pub struct PartCursor {
     /// The cursor over the links of the block.
     pub(crate) link: usize,
@@ -42,7 +42,7 @@ pub struct PartCursor {
 /// how many bytes of content it declares, and its parts.
 ///
 /// UnixFS specification, File.
-#[derive(Clone, Copy, Debug, PartialEq, Eq)]
+#[derive(Clone, Copy)]
 pub struct FilePlaces {
     /// Where the inline bytes lie in the block.
     pub inline: Place,
@@ -60,7 +60,7 @@ pub struct FilePlaces {
 /// the block.
 ///
 /// UnixFS specification, Data Format and node types.
-#[derive(Debug, Drop)]
+#[derive(Drop)]
 pub enum PlacedKind {
     /// Plain bytes: the block itself is the content.
     Raw,

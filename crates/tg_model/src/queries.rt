@@ -117,7 +117,7 @@ impl Span {
 /// path, scope block, no range, and repeats.
 ///
 /// Trustless Gateway specification.
-#[derive(Debug, Drop)]
+#[derive(Drop)]
 pub struct Query {
     root: Cid,
     path: Path,

@@ -10,7 +10,7 @@ use tg_faults::Calls;
 use tg_model::{Keep, KeepFault};
 
 /// What was kept in one call: the CID and the block.
-#[derive(Debug, Drop)]
+#[derive(Drop)]
 pub struct LoggedKeep {
     pub cid: Cid,
     pub block: Bytes,
@@ -18,7 +18,7 @@ pub struct LoggedKeep {
 
 /// A keeper that logs what is kept in it, call by call, and doesn't tell what it holds. Its calls fail by their
 /// numbers.
-#[derive(Debug, Drop)]
+#[derive(Drop)]
 pub struct NumberedLog {
     alloc: Global,
     calls: Calls,

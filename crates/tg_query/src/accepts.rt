@@ -14,7 +14,7 @@ use tg_path::{QueryFault, cut_first};
 /// What the `Accept` fields of a request accept.
 ///
 /// RFC 9110, section 12.5.1; Trustless Gateway specification, response types.
-#[derive(Debug, Drop)]
+#[derive(Drop)]
 pub struct Accepted {
     /// The format of the first known type.
     pub first: Option<Form>,
@@ -25,7 +25,7 @@ pub struct Accepted {
 /// The parameters of a CAR type, the defaults filled in: version `1`, order `dfs` and dups `y`.
 ///
 /// Trustless Gateway specification, CAR parameters.
-#[derive(Debug, Drop)]
+#[derive(Drop)]
 pub struct CarChoice {
     /// The CAR's version.
     pub version: Bytes,

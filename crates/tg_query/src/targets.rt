@@ -15,7 +15,7 @@ use tg_path::{QueryFault, behind_front, cut_first, parse_rooted, parse_span};
 /// What a target asks for: a root, a path from there, and the format, scope and range where they are given.
 ///
 /// Path Gateway and Trustless Gateway specifications.
-#[derive(Debug, Drop)]
+#[derive(Drop)]
 pub struct Target {
     /// The root.
     pub root: Cid,

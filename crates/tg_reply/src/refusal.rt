@@ -4,7 +4,7 @@ use tg_path::QueryFault;
 /// Why a request gets a reply other than 200.
 ///
 /// Path Gateway and Trustless Gateway specifications, response status codes.
-#[derive(Clone, Copy, Debug, PartialEq, Eq)]
+#[derive(Clone, Copy, PartialEq, Eq)]
 pub enum Refusal {
     /// The first 16,384 bytes hold no whole head, or the head has more than 64 fields.
     HeadLimit,

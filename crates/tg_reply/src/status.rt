@@ -3,7 +3,7 @@
 /// The status of a reply.
 ///
 /// RFC 9110, section 15; RFC 6585, section 5.
-#[derive(Clone, Copy, Debug, PartialEq, Eq)]
+#[derive(Clone, Copy, PartialEq, Eq)]
 pub enum Status {
     /// 200: the path of the query leads to a block.
     Ok,

@@ -30,7 +30,7 @@ pub enum PackFault {
 }
 
 /// A pack that can't be made a store, and why.
-#[derive(Debug, Drop)]
+#[derive(Drop)]
 pub struct PackRefused<P> {
     pub fault: PackFault,
     pub pack: P,

@@ -11,7 +11,7 @@ use std::hash::{Hash, Hasher};
 use tg_cid::{Cid, Codec, HashKind};
 
 /// What a CIDv1 with sha2-256 is known by: its codec and its digest.
-#[derive(Clone, Copy, Debug)]
+#[derive(Clone, Copy)]
 pub struct Key {
     codec: Codec,
     digest: [u8; 32],

@@ -14,7 +14,7 @@ use tg_bytes::{Bytes, List};
 use tg_faults::{Calls, Failed};
 
 /// A source over bytes in memory. It fails at the calls whose numbers it was given.
-#[derive(Debug, Drop)]
+#[derive(Drop)]
 pub struct MemSource {
     bytes: Bytes,
     at: usize,
@@ -113,7 +113,7 @@ impl Source for MemSource {
 }
 
 /// A sink that holds in memory what is put into it. It fails at the calls whose numbers it was given.
-#[derive(Debug, Drop)]
+#[derive(Drop)]
 pub struct MemSink {
     content: Bytes,
     piece: usize,

@@ -13,7 +13,7 @@ use std::marker::Model;
 use tg_faults::Failed;
 
 /// A source over a reader. Its bytes aren't told; what the reader itself knows of them is in `took` and `at_end`.
-#[derive(Debug, Drop)]
+#[derive(Drop)]
 pub struct StdSource<R> {
     reader: R,
     faults: u64,
@@ -70,7 +70,7 @@ impl<R: Read> Source for StdSource<R> {
 }
 
 /// A sink over a writer. Its bytes aren't told; what the writer itself knows of them is in `wrote`.
-#[derive(Debug, Drop)]
+#[derive(Drop)]
 pub struct StdSink<W> {
     writer: W,
     faults: u64,

@@ -31,7 +31,7 @@ impl Holds for Vec<u8> {
 }
 
 /// A source over a reader that tells its bytes: what is left is what the reader tells.
-#[derive(Debug, Drop)]
+#[derive(Drop)]
 pub struct ToldSource<R> {
     /// The source over the reader.
     pub source: StdSource<R>,
@@ -60,7 +60,7 @@ impl<R: Tells> Source for ToldSource<R> {
 }
 
 /// A sink over a writer that tells its bytes: what is held is what the writer tells.
-#[derive(Debug, Drop)]
+#[derive(Drop)]
 pub struct ToldSink<W> {
     /// The sink over the writer.
     pub sink: StdSink<W>,

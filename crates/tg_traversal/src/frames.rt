@@ -12,7 +12,7 @@ use tg_bytes::{Bytes, List};
 use tg_model::{Entry, Form, Path, Query, well_formed};
 
 /// What comes next of a traversal.
-#[derive(Debug, Drop)]
+#[derive(Drop)]
 pub enum Next {
     /// Nothing is left.
     Nothing,

@@ -97,7 +97,7 @@ pub(crate) struct Place {
 }
 
 /// A block that is wanted: its CID, and how many blocks there are from the root to it, both counted.
-#[derive(Clone, Copy, Debug, PartialEq, Eq)]
+#[derive(Clone, Copy)]
 pub struct Wanted {
     pub cid: Cid,
     pub depth: u64,
@@ -106,7 +106,7 @@ pub struct Wanted {
 /// A segment of the path, told by its index, that leads nowhere.
 ///
 /// Path Gateway specification, Path Resolution.
-#[derive(Clone, Copy, Debug, PartialEq, Eq)]
+#[derive(Clone, Copy)]
 pub enum Miss {
     /// The directory has no such entry.
     NoEntry(u32),

@@ -22,7 +22,7 @@ use tg_model::{PlacedKind, Query, Scope, Span, resolve_span};
 
 /// The text that a block adds where it stands: the line before a record of a bundle, which is empty elsewhere, and
 /// behind it bytes of the block.
-#[derive(Debug, Drop)]
+#[derive(Drop)]
 pub struct PlaceText<'a> {
     /// The first line of the block's record in a bundle.
     pub line: Bytes,
@@ -33,7 +33,7 @@ pub struct PlaceText<'a> {
 /// Two sizes of a file that disagree: the one that is declared, and the one that it has.
 ///
 /// UnixFS specification, File.
-#[derive(Clone, Copy, Debug, PartialEq, Eq)]
+#[derive(Clone, Copy)]
 pub struct SizeFault {
     /// The size that the parent declares, or the filesize.
     pub declared: u64,

@@ -11,7 +11,7 @@ use std::marker::Model;
 use tg_model::Query;
 
 /// What is asked of an export: the path of the pack, and the query.
-#[derive(Debug, Drop)]
+#[derive(Drop)]
 pub struct Export {
     /// The path of the pack, which isn't empty.
     pub pack: String,

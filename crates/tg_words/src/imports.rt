@@ -12,7 +12,7 @@ use std::marker::Model;
 use tg_cid::MAX_BLOCK_LEN;
 
 /// What is asked of an import: the paths of the folder and of the pack, and the numbers of the layout.
-#[derive(Debug, Drop)]
+#[derive(Drop)]
 pub struct Import {
     /// The path of the folder, which isn't empty.
     pub folder: String,

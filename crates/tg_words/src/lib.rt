@@ -36,7 +36,7 @@ use thiserror::Error;
 use verifies::verify_of;
 
 /// What the words ask for.
-#[derive(Debug, Drop)]
+#[derive(Drop)]
 pub enum Command {
     /// `check CID`: a block on input is written to out if the CID names it.
     Check(Cid),
