@@ -196,9 +196,9 @@ fn header_texts(rt: HostRuntime) {
 type SectionRow = ([&'static [u8]; 3], u64, usize, Result<(), CarFault>);
 
 const SECTION_TEXTS: &[SectionRow] = &[
-    // Lengths below 34, not shortest and of ten bytes.
+    // Lengths below 4, not shortest and of ten bytes.
     ([b"\x00", b"", b""], 1000, 0, BAD_SECTION),
-    ([b"\x21", b"", b""], 1000, 0, BAD_SECTION),
+    ([b"\x03", b"", b""], 1000, 0, BAD_SECTION),
     ([b"\xa8\x00", b"", b""], 1000, 0, BAD_SECTION),
     (
         [b"\x80\x80\x80\x80\x80\x80\x80\x80\x80", b"", b""],
@@ -206,16 +206,34 @@ const SECTION_TEXTS: &[SectionRow] = &[
         0,
         BAD_SECTION,
     ),
-    // CIDs refused at each of their first bytes; a CIDv1 has 36 bytes.
+    // CIDs refused at each of their first bytes; a CIDv1 with sha2-256 has 36 bytes.
     ([b"\x28\x00", b"", b""], 1000, 0, BAD_SECTION),
     ([b"\x28\x02", b"", b""], 1000, 0, BAD_SECTION),
-    ([b"\x22\x01", b"", b""], 1000, 0, BAD_SECTION),
-    ([b"\x23\x01", b"", b""], 1000, 0, BAD_SECTION),
+    ([b"\x21\x12", b"", b""], 1000, 0, BAD_SECTION),
+    ([b"\x22\x01\x55\x12", b"", b""], 1000, 0, BAD_SECTION),
+    ([b"\x23\x01\x55\x12", b"", b""], 1000, 0, BAD_SECTION),
     ([b"\x28\x01\x71", b"", b""], 1000, 0, BAD_SECTION),
     ([b"\x28\x01\xd5", b"", b""], 1000, 0, BAD_SECTION),
     ([b"\x28\x01\x70\x13", b"", b""], 1000, 0, BAD_SECTION),
     ([b"\x28\x01\x55\x12\x21", b"", b""], 1000, 0, BAD_SECTION),
     ([b"\x28\x12\x21", b"", b""], 1000, 0, BAD_SECTION),
+    // Identity CIDs have 4 to 133 bytes.
+    ([b"\x07\x01\x55\x00\x04", b"", b""], 1000, 0, BAD_SECTION),
+    (
+        [b"\x84\x01\x01\x55\x00\x80", b"", b""],
+        1000,
+        0,
+        BAD_SECTION,
+    ),
+    (
+        [b"\x90\x01\x01\x55\x00\x81", b"", b""],
+        1000,
+        0,
+        BAD_SECTION,
+    ),
+    ([b"\x04\x01\x55\x00\x00", b"", b""], 0, 1, Ok(())),
+    ([b"\x08\x01\x55\x00\x04o wo", b"", b""], 0, 1, Ok(())),
+    ([b"\x0c\x01\x55\x00\x04o wo", b"o wo", b""], 4, 1, Ok(())),
     // A CID is looked at before the limit, which the last byte of the CID passes.
     ([HUGE, b"\x01\x55\x13", b""], 1000, 0, BAD_SECTION),
     (
@@ -246,7 +264,7 @@ const SECTION_TEXTS: &[SectionRow] = &[
     ([b"\x24", DIRECTORY_CID, b""], 0, 1, Ok(())),
     // The second section.
     (
-        [DIRECTORY_SECTION_HEAD, DIRECTORY, b"\x21"],
+        [DIRECTORY_SECTION_HEAD, DIRECTORY, b"\x03"],
         1000,
         1,
         Err(CarFault::BadSection { at: 100 }),

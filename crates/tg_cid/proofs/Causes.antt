@@ -4,14 +4,13 @@ use Rattle.std.proofs.lemmas.List.{append_assoc, length-append, take_at}
 use Rattle.tg_cid.specs.Cid.{CidParts}
 use Rattle.tg_cid.specs.Faults.{IsCodec, IsHash, MayBegin, Follows, EndsInDigest}
 use Rattle.tg_cid.specs.Reading.{Answer, NoNumberAt, DigestThen, ReadsAsOne}
-use Rattle.tg_cid.specs.Spelling.{CidV1Bytes, IsDigestSize, IsTaken, codec_code, hash_code}
+use Rattle.tg_cid.specs.Spelling.{CidV1Bytes, IsDigestSize, codec_code, hash_code}
 use Rattle.tg_cid.specs.declared.cid.Codec.{Codec}
 use Rattle.tg_cid.specs.declared.cid.Codec.TheVariants.{Raw, DagPb}
 use Rattle.tg_cid.specs.declared.cid.HashKind.{HashKind}
 use Rattle.tg_cid.specs.declared.fault.CidFault.{CidFault}
 use Rattle.tg_cid.specs.declared.fault.CidFault.TheVariants as faults
 use Rattle.tg_cid.proofs.Places.{Stand, stand, first, none_stand, rest_is}
-use Rattle.tg_cid.specs.CodeLaws.{size_taken}
 
 pub codec_with : (number : ℕ) → IsCodec number → (codec : Codec) × (number ≡ codec_code codec)
 codec_with number (inl e) = (Raw, e)
@@ -39,17 +38,17 @@ bad_hash bytes codec number at rest is f wrong =
     let k = codec_with codec is in
     inr (1, a.next, a.here, inr (refl, inr (codec, b.next, b.here, inr (k.0, k.1, inr (number, d.next, d.here, inl (wrong, refl))))))
 
-pub bad_size : (bytes : List ℕ) (codec : ℕ) (hash : HashKind) (number at : ℕ) (rest : List ℕ) → IsCodec codec → IsTaken hash
+pub bad_size : (bytes : List ℕ) (codec : ℕ) (hash : HashKind) (number at : ℕ) (rest : List ℕ) → IsCodec codec
     → Follows (1 ∷ codec ∷ hash_code hash ∷ number ∷ []) bytes at rest → (IsDigestSize hash number → ⊥)
     → ReadsAsOne bytes (Err (faults.BadLength number))
-bad_size bytes codec hash number at rest is taken f wrong =
+bad_size bytes codec hash number at rest is f wrong =
     let a = first (stand f) in
     let b = first a.others in
     let d = first b.others in
     let e = first d.others in
     let k = codec_with codec is in
     let sized = inr (number, e.next, e.here, inl (wrong, refl)) in
-    let hashed = inr (hash_code hash, d.next, d.here, inr (hash, taken, refl, sized)) in
+    let hashed = inr (hash_code hash, d.next, d.here, inr (hash, refl, sized)) in
     inr (1, a.next, a.here, inr (refl, inr (codec, b.next, b.here, inr (k.0, k.1, hashed))))
 
 -- all four numbers are good, so the digest tells
@@ -64,7 +63,7 @@ at_digest bytes codec hash size at rest r is s h =
     let here : DigestThen 1 codec hash size bytes e.next r =
     subst (λ (n : ℕ). DigestThen 1 codec hash size bytes n r) (none_stand e.others) h in
     let sized = inr (size, e.next, e.here, inr (is, here)) in
-    let hashed = inr (hash_code hash, d.next, d.here, inr (hash, size_taken hash size is, refl, sized)) in
+    let hashed = inr (hash_code hash, d.next, d.here, inr (hash, refl, sized)) in
     inr (1, a.next, a.here, inr (refl, inr (codec_code codec, b.next, b.here, inr (codec, refl, hashed))))
 
 pub short_digest : (bytes : List ℕ) → EndsInDigest bytes → ReadsAsOne bytes (Err (faults.Short (length bytes)))
@@ -132,7 +131,6 @@ no_number bytes (v ∷ c ∷ h ∷ []) at rest fault begins s wrong =
               inr (
                 begins.2.0,
                 begins.2.1,
-                begins.2.2,
                 inl (fault, refl, subst (λ (n : ℕ). NoNumberAt bytes n fault) (none_stand d.others) wrong),
               ),
             ),
@@ -143,8 +141,8 @@ no_number bytes (v ∷ c ∷ h ∷ []) at rest fault begins s wrong =
 no_number bytes (v ∷ c ∷ h ∷ n ∷ more) at rest fault begins s wrong = absurd begins
 
 -- two CIDs with the same parts
-pub same_cid : (a b : CidParts) → a.version ≡ b.version → a.codec ≡ b.codec → a.hash ≡ b.hash → a.digest ≡ b.digest → a ≡ b
-same_cid a b v c h d =
+pub equal_parts : (a b : CidParts) → a.version ≡ b.version → a.codec ≡ b.codec → a.hash ≡ b.hash → a.digest ≡ b.digest → a ≡ b
+equal_parts a b v c h d =
     ap (λ (x : ℕ). record { version = x; codec = a.codec; hash = a.hash; digest = a.digest }) v
     ∙ (ap (λ (x : Codec). record { version = b.version; codec = x; hash = a.hash; digest = a.digest }) c
     ∙ (ap (λ (x : HashKind). record { version = b.version; codec = b.codec; hash = x; digest = a.digest }) h
@@ -160,7 +158,7 @@ found_one cid bytes front rest h e =
     let here : drop (length h.head) bytes ≡ cid.digest ++ rest = sym (rest_is f) in
     let digest : cid.digest ≡ take size (drop (length h.head) bytes) = sym (ap (λ l. take size l) here ∙ take_at cid.digest rest size refl) in
     let cids : cid ≡ record { version = 1; codec = cid.codec; hash = cid.hash; digest = take size (drop (length h.head) bytes) } =
-    same_cid cid _ h.version refl refl digest in
+    equal_parts cid _ h.version refl refl digest in
     let end : length front ≡ length h.head + size = ap length h.whole ∙ length-append h.head cid.digest in
     let long : length bytes ≡ length front + length rest = ap length e ∙ length-append front rest in
     at_digest bytes cid.codec cid.hash size (length h.head) (cid.digest ++ rest) _ h.size (stand f)

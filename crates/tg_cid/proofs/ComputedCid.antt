@@ -15,7 +15,7 @@ use Rattle.tg_cid.specs.declared.cid.Codec.{Codec}
 use Rattle.tg_cid.specs.declared.cid.Codec.TheVariants.{Raw, DagPb}
 use Rattle.tg_cid.specs.declared.cid.HashKind.{HashKind}
 use Rattle.tg_cid.specs.declared.cid.HashKind.TheVariants.{Sha256, Identity}
-use Rattle.tg_cid.proofs.Causes.{same_cid}
+use Rattle.tg_cid.proofs.Causes.{equal_parts}
 use Rattle.tg_cid.proofs.Lengths.{name_bytes}
 use Rattle.tg_cid.proofs.Prefix.{one_is}
 use Rattle.tg_cid.proofs.Written.{size_most, one_written}
@@ -95,10 +95,13 @@ hashes cid = hash_code cid.hash ∷ sizes cid
 
 with_hash_told : (code : ℕ) (make : HashKind → Option CidParts) (cid : CidParts) → with_hash code make ≡ Some cid
     → (hash : HashKind) × (code ≡ hash_code hash) × (make hash ≡ Some cid)
-with_hash_told code make cid = cond_both (code == 0x12) (make Sha256) None
+with_hash_told code make cid = cond_both (code == 0x12) (make Sha256) (if code == 0x00 then make Identity else None)
     (λ (o : Option CidParts). o ≡ Some cid → (hash : HashKind) × (code ≡ hash_code hash) × (make hash ≡ Some cid))
     (λ t e. (Sha256, eqb-true code 0x12 t, e))
-    (λ f e. absurd cc)
+    (λ f. cond_both (code == 0x00) (make Identity) None
+    (λ (o : Option CidParts). o ≡ Some cid → (hash : HashKind) × (code ≡ hash_code hash) × (make hash ≡ Some cid))
+    (λ t e. (Identity, eqb-true code 0x00 t, e))
+    (λ g e. absurd cc))
 
 hash_told : SpellingLaws → (codec : Codec) (bytes : List ℕ) → AreBytes bytes → (cid : CidParts)
     → hash_then codec bytes ≡ Some cid → (cid.codec ≡ codec) × ToldRest hashes bytes cid
@@ -187,9 +190,9 @@ codec_computes : (codec : Codec) (make : Codec → Option CidParts) → with_cod
 codec_computes Raw make = refl
 codec_computes DagPb make = refl
 
-hash_computes : (hash : HashKind) (size : ℕ) → IsDigestSize hash size → (make : HashKind → Option CidParts) → with_hash (hash_code hash) make ≡ make hash
-hash_computes Sha256 size h make = refl
-hash_computes Identity size h make = absurd h
+hash_computes : (hash : HashKind) (make : HashKind → Option CidParts) → with_hash (hash_code hash) make ≡ make hash
+hash_computes Sha256 make = refl
+hash_computes Identity make = refl
 
 version_computes : SpellingLaws → (cid : CidParts) (bytes : List ℕ) → AreBytes bytes → CidV1Bytes cid bytes → version_one bytes ≡ Some cid
 version_computes laws cid bytes are h =
@@ -210,10 +213,10 @@ version_computes laws cid bytes are h =
     ∙ number_computes laws (λ code rest. with_codec code (λ codec. hash_then codec rest)) (codec_code cid.codec) w.0 (w.1 ++ cid.digest) (v.1 ++ cid.digest) first_are second w.3
     ∙ codec_computes cid.codec (λ codec. hash_then codec (w.1 ++ cid.digest))
     ∙ number_computes laws (λ code rest. with_hash code (λ hash. size_then cid.codec hash rest)) (hash_code cid.hash) x.0 (x.1 ++ cid.digest) (w.1 ++ cid.digest) second_are third x.3
-    ∙ hash_computes cid.hash (length cid.digest) h.size (λ hash. size_then cid.codec hash (x.1 ++ cid.digest))
+    ∙ hash_computes cid.hash (λ hash. size_then cid.codec hash (x.1 ++ cid.digest))
     ∙ number_computes laws (λ size digest. with_digest 1 cid.codec cid.hash size digest) (length cid.digest) y.0 cid.digest (x.1 ++ cid.digest) third_are fourth y.3
     ∙ digest_computes one (length cid.digest) h.size refl
-    ∙ ap (λ (c : CidParts). Some c) (sym (same_cid cid one h.version refl refl refl))
+    ∙ ap (λ (c : CidParts). Some c) (sym (equal_parts cid one h.version refl refl refl))
 
 zero_computes : (digest : List ℕ) → cid_of (0x12 ∷ 0x20 ∷ digest) ≡ with_digest 0 DagPb Sha256 32 digest
 unfolding cid_of
@@ -234,7 +237,7 @@ cid_computes : SpellingLaws → (cid : CidParts) (bytes : List ℕ) → AreBytes
 cid_computes laws cid bytes are (inl h) =
     let zero : CidParts = record { version = 0; codec = DagPb; hash = Sha256; digest = cid.digest } in
     ap cid_of h.whole ∙ zero_computes cid.digest ∙ digest_computes zero 32 refl h.size
-    ∙ ap (λ (c : CidParts). Some c) (sym (same_cid cid zero h.version h.codec h.hash refl))
+    ∙ ap (λ (c : CidParts). Some c) (sym (equal_parts cid zero h.version h.codec h.hash refl))
 cid_computes laws cid bytes are (inr h) =
     let v = h.numbers in
     let w = v.4 in

@@ -58,13 +58,13 @@ one_hash : SpellingLaws → (codec : Codec) (bytes : List ℕ) (at : ℕ) (r s :
 one_hash laws codec bytes at r s = one_then laws bytes at _ _ r s (λ number next a b. elim a [
   | inl p ↦ elim b [
     | inl q ↦ p.1 ∙ sym q.1
-    | inr q ↦ absurd (p.0 (q.0, q.1, q.2))
+    | inr q ↦ absurd (p.0 (q.0, q.1))
   ]
   | inr p ↦ elim b [
-    | inl q ↦ absurd (q.0 (p.0, p.1, p.2))
+    | inl q ↦ absurd (q.0 (p.0, p.1))
     | inr q ↦
-        let same : p.0 ≡ q.0 = one_kind p.0 q.0 (sym p.2 ∙ q.2) in
-        one_size laws codec q.0 bytes next r s (subst (λ (hash : HashKind). SizeThen codec hash bytes next r) same p.3) q.3
+        let same : p.0 ≡ q.0 = one_kind p.0 q.0 (sym p.1 ∙ q.1) in
+        one_size laws codec q.0 bytes next r s (subst (λ (hash : HashKind). SizeThen codec hash bytes next r) same p.2) q.2
   ]
 ])
 

@@ -17,7 +17,7 @@ use Rattle.tg_cid.specs.declared.fault.CidFault.TheVariants as faults
 use Rattle.tg_cid.proofs.Places.{stand, rest_is}
 use Rattle.tg_cid.proofs.Once.{one_digest, one_answer}
 use Rattle.tg_cid.proofs.Told.{Told, told_one}
-use Rattle.tg_cid.proofs.Causes.{bad_version, bad_codec, bad_hash, bad_size, short_digest, no_number, same_cid, found_one}
+use Rattle.tg_cid.proofs.Causes.{bad_version, bad_codec, bad_hash, bad_size, short_digest, no_number, equal_parts, found_one}
 
 -- the answer that bytes tell
 pub data Reads (bytes : List ℕ) (r : Answer) : Type 0 where
@@ -121,7 +121,7 @@ caused laws bytes faults.BadText h = absurd h
 caused laws bytes (faults.BadVersion n) h = one h.0.other (bad_version bytes n h.0.at h.0.rest h.0.follows h.1)
 caused laws bytes (faults.BadCodec n) h = one h.0.other (bad_codec bytes n h.0.at h.0.rest h.0.follows h.1)
 caused laws bytes (faults.BadHash n) h = one h.2.other (bad_hash bytes h.0 n h.2.at h.2.rest h.1 h.2.follows h.3)
-caused laws bytes (faults.BadLength n) h = one h.4.other (bad_size bytes h.0 h.1 n h.4.at h.4.rest h.2 h.3 h.4.follows h.5)
+caused laws bytes (faults.BadLength n) h = one h.3.other (bad_size bytes h.0 h.1 n h.3.at h.3.rest h.2 h.3.follows h.4)
 caused laws bytes (faults.Trailing n) h = absurd h
 caused laws bytes (faults.Short n) h = subst (λ (k : ℕ). Reads bytes (Err (faults.Short k))) (sym h.0) (elim h.1 [
   | inl z ↦ elim z.begins [
@@ -150,7 +150,7 @@ found laws bytes cid front rest (inl h) e =
     let long : length bytes ≡ length front + length rest = ap length e ∙ length-append front rest in
     let digest : cid.digest ≡ take 32 (drop 2 bytes) = sym (ap (λ l. take 32 (drop 2 l)) whole ∙ take_at cid.digest rest 32 size) in
     let cids : cid ≡ record { version = 0; codec = DagPb; hash = Sha256; digest = take 32 (drop 2 bytes) } =
-    same_cid cid _ h.version h.codec h.hash digest in
+    equal_parts cid _ h.version h.codec h.hash digest in
     zero_version (cid.digest ++ rest) whole (inr (omega arith, ap₂ (λ (x : CidParts) (n : ℕ). Ok (x, n)) cids end))
 found laws bytes cid front rest (inr h) e =
     let whole : bytes ≡ h.head ++ (cid.digest ++ rest) = e ∙ (ap (λ l. l ++ rest) h.whole ∙ append_assoc h.head cid.digest rest) in

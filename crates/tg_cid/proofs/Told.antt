@@ -6,7 +6,7 @@ use Rattle.std.proofs.lemmas.List.{length-append, length-drop, length-take-le, t
 use Rattle.std.proofs.lemmas.List.Elements.{All-take, All-drop}
 use Rattle.tg_cid.specs.Faults.{MayBegin, Follows, IsVersionZero, HasPrefixCause}
 use Rattle.tg_cid.specs.Reading.{Answer, NoNumberAt, DigestThen, SizeThen, HashThen, CodecThen, ReadsAsOne}
-use Rattle.tg_cid.specs.Spelling.{CidBytes, IsDigestSize, IsTaken, Varints, codec_code, hash_code}
+use Rattle.tg_cid.specs.Spelling.{CidBytes, IsDigestSize, Varints, codec_code, hash_code}
 use Rattle.tg_cid.specs.declared.cid.HashKind.{HashKind}
 use Rattle.tg_cid.specs.declared.cid.Codec.{Codec}
 use Rattle.tg_cid.specs.declared.fault.CidFault.{CidFault}
@@ -73,15 +73,15 @@ told_digest codec hash size bytes at r is are_bytes f (inr a) =
       }),
     )
 
-told_size : (codec : Codec) (hash : HashKind) (bytes : List ℕ) (at : ℕ) (r : Answer) → (IsVersionZero bytes → ⊥) → IsTaken hash
+told_size : (codec : Codec) (hash : HashKind) (bytes : List ℕ) (at : ℕ) (r : Answer) → (IsVersionZero bytes → ⊥)
     → All (λ b. b < 256) bytes → Follows (1 ∷ codec_code codec ∷ hash_code hash ∷ []) bytes at (drop at bytes)
     → SizeThen codec hash bytes at r → Told bytes r
-told_size codec hash bytes at r other taken are_bytes f (inl a) =
-    subst (Told bytes) (sym a.1) (told_fault bytes _ at a.0 other (refl, code_is codec, (hash, taken, refl)) f a.2)
-told_size codec hash bytes at r other taken are_bytes f (inr a) =
+told_size codec hash bytes at r other are_bytes f (inl a) =
+    subst (Told bytes) (sym a.1) (told_fault bytes _ at a.0 other (refl, code_is codec, (hash, refl)) f a.2)
+told_size codec hash bytes at r other are_bytes f (inr a) =
     let more : Follows (1 ∷ codec_code codec ∷ hash_code hash ∷ a.0 ∷ []) bytes a.1 (drop a.1 bytes) = follows_more f a.2 in
     elim a.3 [
-      | inl p ↦ subst (Told bytes) (sym p.1) (codec_code codec, hash, code_is codec, taken, record { at = a.1; rest = drop a.1 bytes; other = other; follows = more }, p.0)
+      | inl p ↦ subst (Told bytes) (sym p.1) (codec_code codec, hash, code_is codec, record { at = a.1; rest = drop a.1 bytes; other = other; follows = more }, p.0)
       | inr p ↦ told_digest codec hash a.0 bytes a.1 r p.0 are_bytes more p.1
     ]
 
@@ -94,8 +94,8 @@ told_hash codec bytes at r other are_bytes f (inr a) =
     elim a.3 [
       | inl p ↦ subst (Told bytes) (sym p.1) (codec_code codec, code_is codec, record { at = a.1; rest = drop a.1 bytes; other = other; follows = more }, p.0)
       | inr p ↦
-          told_size codec p.0 bytes a.1 r other p.1 are_bytes
-          (subst (λ (n : ℕ). Follows (1 ∷ codec_code codec ∷ n ∷ []) bytes a.1 (drop a.1 bytes)) p.2 more) p.3
+          told_size codec p.0 bytes a.1 r other are_bytes
+          (subst (λ (n : ℕ). Follows (1 ∷ codec_code codec ∷ n ∷ []) bytes a.1 (drop a.1 bytes)) p.1 more) p.2
     ]
 
 told_codec : (bytes : List ℕ) (at : ℕ) (r : Answer) → (IsVersionZero bytes → ⊥) → All (λ b. b < 256) bytes

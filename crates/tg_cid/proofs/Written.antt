@@ -11,7 +11,7 @@ use Rattle.tg_cid.specs.CodeLaws.{codec_below, hash_below}
 
 pub size_most : (hash : HashKind) (size : ℕ) → IsDigestSize hash size → size ≤ 128
 size_most Sha256 size h = omega arith
-size_most Identity size h = absurd h
+size_most Identity size h = h
 
 four_numbers : SpellingLaws → (cid : CidParts) (spelling : List ℕ) → VarintSpelling (length cid.digest) spelling
     → Varints (1 ∷ codec_code cid.codec ∷ hash_code cid.hash ∷ length cid.digest ∷ [])

@@ -1,9 +1,10 @@
 -- The CID of bytes, and the bytes and the text of a CID, as functions (CID specification; multihash; multibase `b`).
-use Rattle.std.specs.Prelude.{ℕ, List, [], ◌∷◌, ◌++◌, length, Option, Some, None, Bool, false, if◌then◌else◌, ◌==◌}
-use Rattle.std.specs.Prelude.{◌&&◌}
+use Rattle.std.specs.Prelude.{ℕ, List, [], ◌∷◌, ◌++◌, length, Option, Some, None, Bool, if◌then◌else◌, ◌==◌, ◌&&◌}
+use Rattle.std.specs.Prelude.{nat_le}
 use Rattle.tg_base32.specs.Computed.{base32}
 use Rattle.tg_varint.specs.Computed.{varint, front_number}
 use Rattle.tg_cid.specs.Cid.{CidParts}
+use Rattle.tg_cid.specs.Limits.{max_digest_len}
 use Rattle.tg_cid.specs.Spelling.{codec_code, hash_code}
 use Rattle.tg_cid.specs.declared.cid.Codec.{Codec}
 use Rattle.tg_cid.specs.declared.cid.Codec.TheVariants.{Raw, DagPb}
@@ -20,12 +21,12 @@ abbrev pub with_codec : ℕ → (Codec → Option CidParts) → Option CidParts
 with_codec code make = if code == 0x55 then make Raw else if code == 0x70 then make DagPb else None
 
 abbrev pub with_hash : ℕ → (HashKind → Option CidParts) → Option CidParts
-with_hash code make = if code == 0x12 then make Sha256 else None
+with_hash code make = if code == 0x12 then make Sha256 else if code == 0x00 then make Identity else None
 
 -- a CID with a digest of the size that its hash gives
 abbrev pub is_digest_size : HashKind → ℕ → Bool
 is_digest_size Sha256 size = size == 32
-is_digest_size Identity size = false
+is_digest_size Identity size = nat_le size max_digest_len
 
 abbrev pub with_digest : ℕ → Codec → HashKind → ℕ → List ℕ → Option CidParts
 with_digest version codec hash size digest =

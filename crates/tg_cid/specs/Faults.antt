@@ -4,17 +4,17 @@ use Rattle.tg_base32.specs.declared.Base32Fault.{Base32Fault}
 use Rattle.tg_base32.specs.declared.Base32Fault.TheVariants as base32
 use Rattle.tg_varint.specs.Varint.{EndsInside, PassesNine, EndsInZero}
 use Rattle.tg_cid.specs.Cid.{CidParts}
-use Rattle.tg_cid.specs.Spelling.{CidBytes, IsDigestSize, IsTaken, MultibaseText, Varints, hash_code}
+use Rattle.tg_cid.specs.Spelling.{CidBytes, IsDigestSize, MultibaseText, Varints, hash_code}
 use Rattle.tg_cid.specs.declared.cid.HashKind.{HashKind}
 use Rattle.tg_cid.specs.declared.fault.CidFault.{CidFault}
 use Rattle.tg_cid.specs.declared.fault.CidFault.TheVariants as faults
 
--- a codec's number; the number of a hash that is taken
+-- a codec's number; a hash's number
 abbrev pub IsCodec : ℕ → Type 0
 IsCodec number = (number ≡ 0x55) ⊎ (number ≡ 0x70)
 
 abbrev pub IsHash : ℕ → Type 0
-IsHash number = (hash : HashKind) × IsTaken hash × (number ≡ hash_code hash)
+IsHash number = (hash : HashKind) × (number ≡ hash_code hash)
 
 -- numbers with which a CIDv1 may begin, so far as they go
 abbrev pub MayBegin : List ℕ → Type 0
@@ -83,7 +83,7 @@ HasPrefixCause bytes (faults.BadVersion number) = NextNumber [] bytes number × 
 HasPrefixCause bytes (faults.BadCodec number) = NextNumber (1 ∷ []) bytes number × (IsCodec number → ⊥)
 HasPrefixCause bytes (faults.BadHash number) =
     (codec : ℕ) × IsCodec codec × NextNumber (1 ∷ codec ∷ []) bytes number × (IsHash number → ⊥)
-HasPrefixCause bytes (faults.BadLength number) = (codec : ℕ) × (hash : HashKind) × IsCodec codec × IsTaken hash
+HasPrefixCause bytes (faults.BadLength number) = (codec : ℕ) × (hash : HashKind) × IsCodec codec
     × NextNumber (1 ∷ codec ∷ hash_code hash ∷ []) bytes number × (IsDigestSize hash number → ⊥)
 HasPrefixCause bytes (faults.Trailing at) = ⊥
 HasPrefixCause bytes (faults.Short at) =

@@ -5,10 +5,10 @@ use Rattle.tg_cid.specs.Cid.{CidParts}
 use Rattle.tg_cid.specs.declared.cid.HashKind.{HashKind}
 use Rattle.tg_cid.specs.declared.cid.HashKind.TheVariants.{Sha256, Identity}
 
--- the digest is the one that the hash gives for the block; no CID of kind identity is made or read
+-- the digest is the one that the hash gives for the block, which for identity is the block itself
 abbrev pub IsDigestOf : HashKind → List ℕ → List ℕ → Type 0
 IsDigestOf Sha256 digest block = digest ≡ sha256 block
-IsDigestOf Identity digest block = ⊥
+IsDigestOf Identity digest block = digest ≡ block
 
 -- the CID names the block
 abbrev pub Names : CidParts → List ℕ → Type 0

@@ -3,7 +3,7 @@ use Rattle.std.specs.Prelude.{◌≡◌, ◌≢◌, ℕ, ◌+◌, ◌<◌, ◌�
 use Rattle.tg_varint.specs.Varint.{VarintSpelling, EndsInside, PassesNine, EndsInZero}
 use Rattle.tg_cid.specs.Cid.{CidParts}
 use Rattle.tg_cid.specs.Faults.{IsCodec, IsHash}
-use Rattle.tg_cid.specs.Spelling.{IsDigestSize, IsTaken, codec_code, hash_code}
+use Rattle.tg_cid.specs.Spelling.{IsDigestSize, codec_code, hash_code}
 use Rattle.tg_cid.specs.declared.cid.Codec.{Codec}
 use Rattle.tg_cid.specs.declared.cid.HashKind.{HashKind}
 use Rattle.tg_cid.specs.declared.fault.CidFault.{CidFault}
@@ -48,7 +48,7 @@ SizeThen codec hash bytes at answer = NumberThen bytes at (λ number next.
 abbrev pub HashThen : Codec → List ℕ → ℕ → Answer → Type 0
 HashThen codec bytes at answer = NumberThen bytes at (λ number next.
     ((IsHash number → ⊥) × (answer ≡ Err (faults.BadHash number)))
-    ⊎ ((hash : HashKind) × IsTaken hash × (number ≡ hash_code hash) × SizeThen codec hash bytes next answer)) answer
+    ⊎ ((hash : HashKind) × (number ≡ hash_code hash) × SizeThen codec hash bytes next answer)) answer
 
 abbrev pub CodecThen : List ℕ → ℕ → Answer → Type 0
 CodecThen bytes at answer = NumberThen bytes at (λ number next.

@@ -1,8 +1,9 @@
 -- How CIDs are spelled in bytes and in text (CID specification; multihash; multicodec; multibase; RFC 4648 section 6).
-use Rattle.std.specs.Prelude.{◌≡◌, ℕ, ◌<◌, ◌⊎◌, List, [], ◌∷◌, ◌++◌, length, All, ⊤}
+use Rattle.std.specs.Prelude.{◌≡◌, ℕ, ◌<◌, ◌≤◌, ◌⊎◌, List, [], ◌∷◌, ◌++◌, length, All}
 use Rattle.tg_varint.specs.Varint.{VarintSpelling}
 use Rattle.tg_base32.specs.Base32.{Base32Text}
 use Rattle.tg_cid.specs.Cid.{CidParts}
+use Rattle.tg_cid.specs.Limits.{max_digest_len}
 use Rattle.tg_cid.specs.declared.cid.Codec.{Codec}
 use Rattle.tg_cid.specs.declared.cid.Codec.TheVariants.{Raw, DagPb}
 use Rattle.tg_cid.specs.declared.cid.HashKind.{HashKind}
@@ -17,15 +18,10 @@ abbrev pub hash_code : HashKind → ℕ
 hash_code Sha256 = 0x12
 hash_code Identity = 0x00
 
--- the hashes whose CIDs are read and made; those of kind identity are neither
-abbrev pub IsTaken : HashKind → Type 0
-IsTaken Sha256 = ⊤
-IsTaken Identity = ⊥
-
 -- how many bytes a digest of such a hash has
 abbrev pub IsDigestSize : HashKind → ℕ → Type 0
 IsDigestSize Sha256 size = size ≡ 32
-IsDigestSize Identity size = ⊥
+IsDigestSize Identity size = size ≤ max_digest_len
 
 -- the bytes are the spellings of the numbers as varints, one after another
 abbrev pub Varints : List ℕ → List ℕ → Type 0

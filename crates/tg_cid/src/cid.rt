@@ -11,7 +11,7 @@ ghost use Rattle.tg_cid.specs.Faults.{HasPrefixCause, HasBytesCause, HasTextCaus
 ghost use Rattle.tg_cid.specs.Limits.{max_cid_len, max_digest_len};
 ghost use Rattle.tg_cid.specs.Names.{Names};
 ghost use Rattle.tg_cid.specs.Reading.{DigestThen, ReadsAsOne};
-ghost use Rattle.tg_cid.specs.Spelling.{CidBytes, CidV1Bytes, CidText, IsDigestSize, IsTaken, MultibaseText};
+ghost use Rattle.tg_cid.specs.Spelling.{CidBytes, CidV1Bytes, CidText, IsDigestSize, MultibaseText};
 ghost use Rattle.tg_cid.specs.Spelling.{codec_code, hash_code};
 ghost use Rattle.tg_cid.specs.declared.fault.CidFault.{CidFault};
 
@@ -46,8 +46,8 @@ pub enum HashKind {
     Identity,
 }
 
-/// A CID: a version (0 or 1), a codec, a kind of hash and a digest of at most 128 bytes. Two are equal where these four
-/// are. A CIDv0 is a dag-pb one. Until CIDs of kind identity are read, each has kind sha2-256 and 32 digest bytes.
+/// A CID: a version (0 or 1), a codec, a kind of hash and a digest. Two are equal where these four are. A CIDv0 is a
+/// dag-pb one with sha2-256. A digest of sha2-256 has 32 bytes, and an identity digest at most 128.
 ///
 /// CID specification; multihash.
 #[derive(Clone, Copy, Debug)]
@@ -249,7 +249,8 @@ impl Cid {
         cid_with(1, codec, HashKind::Sha256, digest.as_slice())
     }
 
-    /// Whether the CID names the block: its digest is the one that its hash gives for the block. It takes no memory.
+    /// Whether the CID names the block: its digest is the block's SHA-256, or the block itself where the hash is
+    /// identity. It takes no memory.
     ///
     /// CID specification; multihash; FIPS 180-4.
     pub fn holds(&self, block: &[u8]) -> bool
@@ -257,7 +258,7 @@ impl Cid {
     {
         match self.hash {
             HashKind::Sha256 => Sha256::digest(block).as_slice() == self.digest(),
-            HashKind::Identity => false,
+            HashKind::Identity => self.digest() == block,
         }
     }
 
@@ -407,13 +408,14 @@ fn codec_of(number: u64) -> Result<Codec, CidFault>
     }
 }
 
-/// The hash with this number, of those that are taken.
+/// The hash with this number.
 fn hash_of(number: u64) -> Result<HashKind, CidFault>
-    ensures { MatchResult result (λ hash. IsTaken hash × (number ≡ hash_code hash))
+    ensures { MatchResult result (λ hash. number ≡ hash_code hash)
         (λ fault. (fault ≡ CidFault.BadHash number) × ¬ IsHash number) }
 {
     match number {
         0x12 => Ok(HashKind::Sha256),
+        0x00 => Ok(HashKind::Identity),
         _ => Err(CidFault::BadHash { number }),
     }
 }
@@ -425,6 +427,7 @@ fn size_of(hash: HashKind, number: u64) -> Result<usize, CidFault>
 {
     match hash {
         HashKind::Sha256 if number == SHA256_LEN as u64 => Ok(SHA256_LEN),
+        HashKind::Identity if number <= MAX_DIGEST_LEN as u64 => Ok(number as usize),
         HashKind::Sha256 | HashKind::Identity => Err(CidFault::BadLength { number }),
     }
 }

@@ -14,10 +14,10 @@ pub enum CidFault {
     /// A codec other than raw and dag-pb.
     #[error("BadCodec {number}")]
     BadCodec { number: u64 },
-    /// A hash other than sha2-256.
+    /// A hash other than sha2-256 and identity.
     #[error("BadHash {number}")]
     BadHash { number: u64 },
-    /// A length other than 32 of a sha2-256 digest.
+    /// A length other than 32 of a sha2-256 digest, or above 128 of an identity digest.
     #[error("BadLength {number}")]
     BadLength { number: u64 },
     /// More bytes stand behind the CID, from `at` on.

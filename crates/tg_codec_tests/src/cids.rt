@@ -57,16 +57,72 @@ fn spellings(rt: HostRuntime) {
     }
 }
 
-// A CIDv0 has 34 bytes, and a CIDv1 36.
+/// Bytes and text of an identity CID, and its digest, which is its block.
+type Itself = (&'static [u8], &'static str, &'static [u8]);
+
+const LONGEST: &[u8] =
+    b"\x01\x55\x00\x80\x01aaaaaaaaaaaaaaaaaaaaaaaaaaaaaaaaaaaaaaaaaaaaaaaaaaaaaaaaaaaaaaaa\
+        aaaaaaaaaaaaaaaaaaaaaaaaaaaaaaaaaaaaaaaaaaaaaaaaaaaaaaaaaaaaaaaa";
+
+const LONGEST_TEXT: &str =
+    "bafkqbaabmfqwcylbmfqwcylbmfqwcylbmfqwcylbmfqwcylbmfqwcylbmfqwcylbmfqwcylbmfqwcylbmfqwcylbmfqwcylbmfqwcylbmfqwcylbmfqwcylbmfqwcylbmfqwcylbmfqwcylbmfqwcylbmfqwcylbmfqwcylbmfqwcylbmfqwcylbmfqwcylbmfqwcylbmfqwcylbmfqwc";
+
+const ITSELF: &[Itself] = &[
+    (b"\x01\x55\x00\x00", "bafkqaaa", b""),
+    (b"\x01\x55\x00\x04o wo", "bafkqabdpeb3w6", b"o wo"),
+    (
+        b"\x01\x70\x00\x04\x0a\x02\x08\x01",
+        "bafyaabakaieac",
+        DIRECTORY,
+    ),
+    (LONGEST, LONGEST_TEXT, A128),
+];
+
+const A128: &[u8] = b"aaaaaaaaaaaaaaaaaaaaaaaaaaaaaaaaaaaaaaaaaaaaaaaaaaaaaaaaaaaaaaaa\
+        aaaaaaaaaaaaaaaaaaaaaaaaaaaaaaaaaaaaaaaaaaaaaaaaaaaaaaaaaaaaaaaa";
+
+/// Whether the identity CID of these bytes has these bytes, this text and this block alone.
+fn is_itself(alloc: Global, row: &Itself) -> bool {
+    let (bytes, text, block) = *row;
+    match Cid::from_bytes(bytes) {
+        Ok(cid) => {
+            has_bytes(alloc, cid, bytes)
+                && has_text(alloc, cid, text)
+                && cid.hash_kind() == HashKind::Identity
+                && cid.digest() == block
+                && cid.holds(block)
+                && !cid.holds(b"another")
+                && cid == cid.to_v1()
+        }
+        Err(_) => false,
+    }
+}
+
+#[test]
+fn identity_spellings(rt: HostRuntime) {
+    for row in ITSELF {
+        assert!(rt; is_itself(rt.alloc(), row), "{:?}", row.0);
+    }
+}
+
+// A CIDv0 has 34 bytes, a CIDv1 with sha2-256 36, and one with an identity hash 4 to 133.
 const FEWEST: &[(&[u8], Option<usize>)] = &[
-    (b"", Some(34)),
+    (b"", Some(4)),
     (b"\x12", Some(34)),
     (b"\x12\x21", None),
     (DIRECTORY_V0, Some(34)),
-    (b"\x01", Some(36)),
+    (b"\x01", Some(4)),
     (b"\x01\x70\x12", Some(36)),
     (HELLO_CID, Some(36)),
-    (b"\x01\x55\x00", None),
+    (b"\x01\x55\x00", Some(4)),
+    (b"\x01\x70\x00\x00", Some(4)),
+    (b"\x01\x70\x00\x00a", None),
+    (b"\x01\x55\x00\x04o", Some(8)),
+    (b"\x01\x55\x00\x7f", Some(131)),
+    (b"\x01\x55\x00\x80", Some(133)),
+    (b"\x01\x55\x00\x80\x01", Some(133)),
+    (b"\x01\x55\x00\x80\x02", None),
+    (b"\x01\x55\x00\x81", None),
     (b"\x02", None),
 ];
 
@@ -95,9 +151,21 @@ const REFUSED_BYTES: &[Refused] = &[
         "BadCodec 113",
     ),
     (
-        b"\x01\x55\x00",
-        CidFault::BadHash { number: 0 },
-        "BadHash 0",
+        b"\x01\x55\x13\x40",
+        CidFault::BadHash { number: 19 },
+        "BadHash 19",
+    ),
+    (b"\x01\x55\x00", CidFault::Short { at: 3 }, "Short 3"),
+    (b"\x01\x55\x00\x04o w", CidFault::Short { at: 7 }, "Short 7"),
+    (
+        b"\x01\x55\x00\x04o wo!",
+        CidFault::Trailing { at: 8 },
+        "Trailing 8",
+    ),
+    (
+        b"\x01\x55\x00\x81\x01",
+        CidFault::BadLength { number: 129 },
+        "BadLength 129",
     ),
     (
         b"\x01\x55\x12\x21",
@@ -126,7 +194,13 @@ const REFUSED_TEXTS: &[RefusedText] = &[
         CidFault::BadText,
         "BadText",
     ),
-    ("bafkqaaa", CidFault::BadHash { number: 0 }, "BadHash 0"),
+    // A CIDv1 with a hash of code 19, and an identity CID of 129 bytes, whose digest isn't looked at.
+    ("bafkrg", CidFault::BadHash { number: 19 }, "BadHash 19"),
+    (
+        "bafkqbaib",
+        CidFault::BadLength { number: 129 },
+        "BadLength 129",
+    ),
     // The CIDv0 above in base 32.
     (
         "bciqftfeehedf6klbt32bfaglxezl4uwfnwm4lftlmxqbcerz6cmlx3y",

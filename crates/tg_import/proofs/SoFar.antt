@@ -145,7 +145,7 @@ so_far_next m f joins stores keep0 keep1 keep2 before now later options path at 
       lead = subst (λ (l : List NewEntry). LeadTo l (with_last so_far.children new.d)) (sym pushed) (lead_more entries so_far.children entry new.d so_far.lead new.cid new.tsize);
       names = ap (λ (l : List NewEntry). map (λ (e : NewEntry). e.name) l) pushed ∙ map-append (λ (e : NewEntry). e.name) entries (entry ∷ [])
           ∙ ap (λ (l : List (List ℕ)). l ++ item.name ∷ []) so_far.names ∙ sym (map-append (λ (x : Item). x.name) taken (item ∷ []));
-      sized = subst (All HasPlainLength) (sym pushed) (All-push HasPlainLength entries entry so_far.sized (record { length_is = v1_length made.cid (digest_is made.cid.hash (length made.cid.digest) size) }));
+      sized = subst (All HasPlainLength) (sym pushed) (All-push HasPlainLength entries entry so_far.sized (record { length_is = v1_length made.cid (digest_is made.cid.hash (length made.cid.digest) (ap (λ (c : CidParts). c.hash) new.cid ∙ (root_plain new.d new.kept.imported.sound.whole new.kept.imported.plain).1) size) }));
       all = λ s. (
         λ has. ⊎_elim
             (λ (h : Contains (blocks_of_children so_far.children) s). Contains-append_left so_far.sections new.kept.sections s ((so_far.all s).0 h))

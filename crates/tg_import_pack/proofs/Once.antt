@@ -12,7 +12,8 @@ use Rattle.tg_model.specs.Dag.{Dag, Section, blocks}
 use Rattle.tg_model.specs.ImportLayout.{HasPlainCid}
 use Rattle.tg_node_writing.specs.BlockOrder.{AreBehindLinks}
 use Rattle.tg_node_writing.specs.BlockOrderLaws.{among_joined, behind_both, behind_first, behind_nothing, behind_rest, behind_wider}
-use Rattle.tg_store.specs.Entries.{first_of_each, new_beside}
+use Rattle.tg_cid.specs.declared.cid.HashKind.{HashKind}
+use Rattle.tg_store.specs.Entries.{first_of_each, held_if, is_held, new_beside}
 use Rattle.tg_store.specs.KeyLaws.{same_key_is}
 use Rattle.tg_store.specs.Keys.{key_of, same_key}
 use Rattle.tg_store.specs.declared.key.Key.{Key}
@@ -55,18 +56,19 @@ new_order (section ∷ sections) keys known met plain h =
     let here = All-head HasPlainCid section sections plain in
     let others = All-tail HasPlainCid section sections plain in
     let test = list_any (same_key (key_of section.cid)) keys in
+    let held : is_held keys section.cid ≡ test = ap (λ (hash : HashKind). held_if hash test) here.1 in
     let rest = behind_rest known section sections h in
     let left = new_beside keys sections in
     let right = section ∷ new_beside (keys ++ key_of section.cid ∷ []) sections in
     ⊎_elim
     (λ (e : test ≡ true).
     let in_known = met section here e in
-    subst (AreBehindLinks known) (sym (cond-true test left right e))
+    subst (AreBehindLinks known) (sym (cond-true (is_held keys section.cid) left right (held ∙ e)))
     (new_order sections keys known met others
     (behind_wider (known ++ section.cid ∷ []) known sections
     (among_joined known (section.cid ∷ []) known (λ cid has. has) (λ cid has. subst (Contains known) (only_one section.cid cid has) in_known)) rest)))
     (λ (e : test ≡ false).
-    subst (AreBehindLinks known) (sym (cond-false test left right e))
+    subst (AreBehindLinks known) (sym (cond-false (is_held keys section.cid) left right (held ∙ e)))
     (behind_both known section (new_beside (keys ++ key_of section.cid ∷ []) sections) (behind_first known section sections h)
     (new_order sections (keys ++ key_of section.cid ∷ []) (known ++ section.cid ∷ []) (met_more keys known section here met) others rest)))
     (cases_Bool test)

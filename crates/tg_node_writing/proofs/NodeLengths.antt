@@ -8,6 +8,7 @@ use Rattle.std.proofs.lemmas.List.Elements.{All-cons, All-contains, All-head, Al
 use Rattle.tg_cid.specs.Cid.{CidParts}
 use Rattle.tg_cid.specs.CodeLaws.{codec_below, hash_below}
 use Rattle.tg_cid.specs.Spelling.{CidBytes, Varints, codec_code, hash_code}
+use Rattle.tg_cid.specs.declared.cid.HashKind.TheVariants.{Sha256}
 use Rattle.tg_dagpb.specs.declared.Link.{Link}
 use Rattle.tg_dagpb.specs.declared.TheConstants.{LINK, NODE}
 use Rattle.tg_dagpb.specs.Node.{LinkText, LinkTexts}
@@ -93,10 +94,10 @@ varints_fit spellings (n ∷ ns) bytes small h =
     let size : length bytes ≡ length h.0 + length h.1 = ap length h.2 ∙ length-append h.0 h.1 in
     omega arith
 
-cid_fits : (spellings : SpellingLaws) → (cid : CidParts) (bytes : List ℕ) → CidBytes cid bytes → length bytes ≤ length cid.digest + 4
-cid_fits spellings cid bytes (inl zero) = let size : length bytes ≡ 2 + length cid.digest = ap length zero.whole ∙ omega arith in omega arith
-cid_fits spellings cid bytes (inr one) =
-    let digest = digest_is cid.hash (length cid.digest) one.size in
+cid_fits : (spellings : SpellingLaws) → (cid : CidParts) (bytes : List ℕ) → cid.hash ≡ Sha256 → CidBytes cid bytes → length bytes ≤ length cid.digest + 4
+cid_fits spellings cid bytes sha (inl zero) = let size : length bytes ≡ 2 + length cid.digest = ap length zero.whole ∙ omega arith in omega arith
+cid_fits spellings cid bytes sha (inr one) =
+    let digest = digest_is cid.hash (length cid.digest) sha one.size in
     let codec = codec_below cid.codec in
     let hash = hash_below cid.hash in
     let head = varints_fit spellings (1 ∷ codec_code cid.codec ∷ hash_code cid.hash ∷ length cid.digest ∷ []) one.head
@@ -115,8 +116,8 @@ link_fits laws spellings entry link text is h sha =
     let one = bytes_take laws LINK.now 1 text h.fields (link.hash ∷ []) t m.ruled (rule_at LINK.now 0 (omega arith)) h.parts.hash in
     let two = bytes_take laws LINK.now 2 text h.fields (entry.name ∷ []) t m.ruled (rule_at LINK.now 1 (omega arith)) (h.parts.name ∙ ap listed is.1) in
     let three = numbers_take laws LINK.now 3 text h.fields (entry.tsize ∷ []) t m.ruled (rule_at LINK.now 2 (omega arith)) (h.parts.tsize ∙ ap listed is.2) in
-    let digest = digest_is entry.cid.hash (length entry.cid.digest) (cid_size entry.cid link.hash is.0) in
-    let cid = cid_fits spellings entry.cid link.hash is.0 in
+    let digest = digest_is entry.cid.hash (length entry.cid.digest) sha (cid_size entry.cid link.hash is.0) in
+    let cid = cid_fits spellings entry.cid link.hash sha is.0 in
     let hash_size = small_size (length link.hash) (omega arith) in
     let name_size = size_most (length entry.name) in
     let text_size = size_most (length text) in

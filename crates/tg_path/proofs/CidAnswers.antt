@@ -3,7 +3,7 @@ use Rattle.std.proofs.Common.{Err, List, None, Ok, Option, Some, [], ap, arith, 
 use Rattle.std.specs.List.{list_all}
 use Rattle.std.specs.Bool.{Decides}
 use Rattle.std.specs.Prelude.{MatchResult, if◌then◌else◌, nat_le, nat_lt, ◌↔◌, ◌==◌}
-use Rattle.std.proofs.lemmas.Bool.{cond-false, cond-true, cond_both, eq-eqb, eqb-false, eqb-true, le-leb, le-ltb, leb-true, ltb-false, ltb-true}
+use Rattle.std.proofs.lemmas.Bool.{cond-false, cond-true, cond_both, eqb-false, eqb-true, le-leb, le-ltb, leb-true, ltb-false, ltb-true}
 use Rattle.std.proofs.lemmas.Bool.Decides.{Decides-and, Decides-by_and, Decides-ltb}
 use Rattle.std.proofs.lemmas.List.{append_assoc, length-append, length-take-le, take-append-drop}
 use Rattle.std.proofs.lemmas.List.Elements.{All-take}
@@ -14,7 +14,7 @@ use Rattle.tg_cid.specs.Cid.{CidParts}
 use Rattle.tg_cid.specs.CodeLaws.{code_is, size_decides, varints_push}
 use Rattle.tg_cid.specs.Computed.{is_digest_size}
 use Rattle.tg_cid.specs.Faults.{Follows, HasBytesCause, HasTextCause, IsCodec, IsHash, IsVersionZero, MayBegin}
-use Rattle.tg_cid.specs.Spelling.{CidText, CidV1Bytes, IsDigestSize, IsTaken, MultibaseText, Varints, codec_code, hash_code}
+use Rattle.tg_cid.specs.Spelling.{CidText, CidV1Bytes, IsDigestSize, MultibaseText, Varints, codec_code, hash_code}
 use Rattle.tg_cid.specs.declared.cid.Codec.{Codec}
 use Rattle.tg_cid.specs.declared.cid.Codec.TheVariants.{DagPb, Raw}
 use Rattle.tg_cid.specs.declared.cid.HashKind.{HashKind}
@@ -169,16 +169,15 @@ digest_told all codec hash size digest r is =
           more = omega (arith, ap length parts, length-append own rest, long, more);
         }
 
-size_told : (all : List ℕ) (codec : Codec) (hash : HashKind) (n : ℕ) (after : List ℕ) → IsTaken hash → Reached (numbers_of codec hash n) all after
+size_told : (all : List ℕ) (codec : Codec) (hash : HashKind) (n : ℕ) (after : List ℕ) → Reached (numbers_of codec hash n) all after
     → Is all (by_size (length all) codec hash n after)
-size_told all codec hash n after taken r =
+size_told all codec hash n after r =
     cond_both (is_digest_size hash n) (digest_then (length all) codec hash n after) (Err (faults.BadLength n)) (Is all)
     (λ t. digest_told all codec hash n after r ((size_decides hash n).0 t))
     (λ f. (
       codec_code codec,
       hash,
       code_is codec,
-      taken,
       record { at = r.at; rest = after; other = r.other; follows = r.follows },
       λ h. let holds = (size_decides hash n).1 h in absurd cc,
     ))
@@ -186,17 +185,22 @@ size_told all codec hash n after taken r =
 hash_told : SpellingLaws → (all : List ℕ) (codec : Codec) (n : ℕ) (after : List ℕ) → Reached (1 ∷ codec_code codec ∷ n ∷ []) all after
     → Is all (by_hash (length all) codec n after)
 hash_told laws all codec n after r =
-    cond_both (n == 0x12) (size_then (length all) codec Sha256 after) (Err (faults.BadHash n)) (Is all)
-    (λ t.
-    let here : Reached (1 ∷ codec_code codec ∷ 0x12 ∷ []) all after =
-    subst (λ (k : ℕ). Reached (1 ∷ codec_code codec ∷ k ∷ []) all after) (eqb-true n 0x12 t) r in
-    then_told laws (1 ∷ codec_code codec ∷ 0x12 ∷ []) all after here (refl, code_is codec, (Sha256, tt, refl)) (by_size (length all) codec Sha256)
-    (λ size digest q. size_told all codec Sha256 size digest tt q) (front_number after) refl)
-    (λ f. (codec_code codec, code_is codec, record { at = r.at; rest = after; other = r.other; follows = r.follows }, other n f))
+    cond_both (n == 0x12) (size_then (length all) codec Sha256 after) (if n == 0x00 then size_then (length all) codec Identity after else Err (faults.BadHash n)) (Is all)
+    (λ t. under Sha256 (eqb-true n 0x12 t))
+    (λ f. cond_both (n == 0x00) (size_then (length all) codec Identity after) (Err (faults.BadHash n)) (Is all)
+    (λ t. under Identity (eqb-true n 0x00 t))
+    (λ g. (codec_code codec, code_is codec, record { at = r.at; rest = after; other = r.other; follows = r.follows }, none f g)))
   where
-    other : (n : ℕ) → (n == 0x12) ≡ false → IsHash n → ⊥
-    other n f (Sha256, taken, e) = let holds = eq-eqb n 0x12 e in absurd cc
-    other n f (Identity, taken, e) = taken
+    under : (hash : HashKind) → n ≡ hash_code hash → Is all (size_then (length all) codec hash after)
+    under hash e =
+        let here : Reached (1 ∷ codec_code codec ∷ hash_code hash ∷ []) all after =
+        subst (λ (k : ℕ). Reached (1 ∷ codec_code codec ∷ k ∷ []) all after) e r in
+        then_told laws (1 ∷ codec_code codec ∷ hash_code hash ∷ []) all after here (refl, code_is codec, (hash, refl)) (by_size (length all) codec hash)
+        (λ size digest q. size_told all codec hash size digest q) (front_number after) refl
+
+    none : (n == 0x12) ≡ false → (n == 0x00) ≡ false → IsHash n → ⊥
+    none f g (Sha256, e) = eqb-false n 0x12 f e
+    none f g (Identity, e) = eqb-false n 0x00 g e
 
 codec_told : SpellingLaws → (all : List ℕ) (n : ℕ) (after : List ℕ) → Reached (1 ∷ n ∷ []) all after → Is all (by_codec (length all) n after)
 codec_told laws all n after r =
@@ -298,10 +302,9 @@ codec_answer : (total : ℕ) (codec : Codec) (rest : List ℕ) → by_codec tota
 codec_answer total Raw rest = refl
 codec_answer total DagPb rest = refl
 
-hash_answer : (total : ℕ) (codec : Codec) (hash : HashKind) (size : ℕ) (rest : List ℕ) → IsDigestSize hash size
-    → by_hash total codec (hash_code hash) rest ≡ size_then total codec hash rest
-hash_answer total codec Sha256 size rest is = refl
-hash_answer total codec Identity size rest is = absurd is
+hash_answer : (total : ℕ) (codec : Codec) (hash : HashKind) (rest : List ℕ) → by_hash total codec (hash_code hash) rest ≡ size_then total codec hash rest
+hash_answer total codec Sha256 rest = refl
+hash_answer total codec Identity rest = refl
 
 digest_answer : (total : ℕ) (codec : Codec) (hash : HashKind) (digest : List ℕ) → IsDigestSize hash (length digest)
     → by_size total codec hash (length digest) digest ≡ Ok (record { version = 1; codec = codec; hash = hash; digest = digest })
@@ -334,7 +337,7 @@ version_answer laws cid total bytes are h =
     ∙ number_answer laws total (by_codec total) (codec_code cid.codec) w.0 (w.1 ++ cid.digest) (v.1 ++ cid.digest) first_are second w.3
     ∙ codec_answer total cid.codec (w.1 ++ cid.digest)
     ∙ number_answer laws total (by_hash total cid.codec) (hash_code cid.hash) x.0 (x.1 ++ cid.digest) (w.1 ++ cid.digest) second_are third x.3
-    ∙ hash_answer total cid.codec cid.hash (length cid.digest) (x.1 ++ cid.digest) h.size
+    ∙ hash_answer total cid.codec cid.hash (x.1 ++ cid.digest)
     ∙ number_answer laws total (by_size total cid.codec cid.hash) (length cid.digest) y.0 cid.digest (x.1 ++ cid.digest) third_are fourth y.3
     ∙ digest_answer total cid.codec cid.hash cid.digest h.size
     ∙ parts_again cid h.version

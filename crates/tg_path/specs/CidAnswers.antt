@@ -10,7 +10,7 @@ use Rattle.tg_cid.specs.Computed.{is_digest_size}
 use Rattle.tg_cid.specs.declared.cid.Codec.{Codec}
 use Rattle.tg_cid.specs.declared.cid.Codec.TheVariants.{DagPb, Raw}
 use Rattle.tg_cid.specs.declared.cid.HashKind.{HashKind}
-use Rattle.tg_cid.specs.declared.cid.HashKind.TheVariants.{Sha256}
+use Rattle.tg_cid.specs.declared.cid.HashKind.TheVariants.{Identity, Sha256}
 use Rattle.tg_cid.specs.declared.fault.CidFault.{CidFault}
 use Rattle.tg_cid.specs.declared.fault.CidFault.TheVariants as faults
 use Rattle.tg_path.specs.Faults.{query_fault_of}
@@ -64,7 +64,8 @@ abbrev pub size_then : ℕ → Codec → HashKind → List ℕ → CidAnswer
 size_then total codec hash bytes = number_then total bytes (front_number bytes) (by_size total codec hash)
 
 abbrev pub by_hash : ℕ → Codec → ℕ → List ℕ → CidAnswer
-by_hash total codec code rest = if code == 0x12 then size_then total codec Sha256 rest else Err (faults.BadHash code)
+by_hash total codec code rest =
+    if code == 0x12 then size_then total codec Sha256 rest else (if code == 0x00 then size_then total codec Identity rest else Err (faults.BadHash code))
 
 abbrev pub hash_then : ℕ → Codec → List ℕ → CidAnswer
 hash_then total codec bytes = number_then total bytes (front_number bytes) (by_hash total codec)

@@ -10,13 +10,14 @@ use Rattle.tg_car.specs.declared.event.Event.{Event}
 use Rattle.tg_car.specs.declared.event.Event.TheVariants as events
 use Rattle.tg_car.specs.declared.section.Section.{Section}
 use Rattle.tg_cid.specs.Limits.{max_block_len}
+use Rattle.tg_cid.specs.declared.cid.HashKind.TheVariants.{Sha256}
 use Rattle.tg_store.specs.declared.key.Key.{Key}
 use Rattle.tg_store.specs.declared.place.Place.{Place}
 use Rattle.tg_store.specs.Attaching.{IsGoodEvent, IsNamed, IsSmall, Noted, first_place, first_under, or_else, place_of}
 use Rattle.tg_store.specs.Entries.{IsGood, checked}
 use Rattle.tg_store.specs.EntryLaws.{good_checked, named_good}
-use Rattle.tg_store.specs.KeyLaws.{same_key_is}
-use Rattle.tg_store.specs.Keys.{key_of, same_key}
+use Rattle.tg_store.specs.KeyLaws.{under_is}
+use Rattle.tg_store.specs.Keys.{is_under, key_of, same_key}
 use Rattle.tg_store.specs.Packs.{block_at}
 
 -- ---- places that are noted
@@ -26,8 +27,8 @@ first_place-append key [] more = refl
 first_place-append key (events.Need ∷ given) more = first_place-append key given more
 first_place-append key (events.Header header ∷ given) more = first_place-append key given more
 first_place-append key (events.Section at size section ∷ given) more =
-    ap (λ (o : Option Place). cond (same_key key (key_of section.cid)) (Some (place_of at size section)) o) (first_place-append key given more)
-    ∙ by (same_key key (key_of section.cid)) (place_of at size section) (first_place key given) (first_place key more)
+    ap (λ (o : Option Place). cond (is_under key section.cid) (Some (place_of at size section)) o) (first_place-append key given more)
+    ∙ by (is_under key section.cid) (place_of at size section) (first_place key given) (first_place key more)
   where
     by : (b : Bool) (p : Place) (o r : Option Place) → cond b (Some p) (or_else o r) ≡ or_else (cond b (Some p) o) r
     by true p o r = refl
@@ -82,7 +83,7 @@ placed_small at [] bytes given h small key place found =
     let nothing : first_place key given ≡ None = ap (first_place key) h.1 in
     cc (found, nothing)
 placed_small at (s ∷ sections) bytes given h small key place found =
-    by (same_key key (key_of s.cid)) (ap (first_place key) (sym h.5) ∙ found) (placed_small (at + length h.0) sections h.1 h.2 h.6 (All-tail IsSmall s sections small) key place)
+    by (is_under key s.cid) (ap (first_place key) (sym h.5) ∙ found) (placed_small (at + length h.0) sections h.1 h.2 h.6 (All-tail IsSmall s sections small) key place)
   where
     fits : (p : Place) → p ≡ place_of (shown at) (length h.0) s → (p.offset + p.size < 2 ^ 64) × (p.size ≤ max_block_len)
     fits p e =
@@ -124,7 +125,7 @@ placed_good content pre [] bytes given whole fits h small named key place found 
 placed_good content pre (s ∷ sections) bytes given whole fits h small named key place found =
     let again : content ≡ (pre ++ h.0) ++ h.1 = whole ∙ (ap (λ (l : List ℕ). pre ++ l) h.3 ∙ sym (append_assoc pre h.0 h.1)) in
     let at : length (pre ++ h.0) ≡ length pre + length h.0 = length-append pre h.0 in
-    by (same_key key (key_of s.cid)) refl (ap (first_place key) (sym h.5) ∙ found)
+    by (is_under key s.cid) refl (ap (first_place key) (sym h.5) ∙ found)
     (placed_good content (pre ++ h.0) sections h.1 h.2 again fits (subst (λ (n : ℕ). ArePlaced n sections h.1 h.2) (sym at) h.6) (All-tail IsSmall s sections small) (All-tail IsNamed s sections named) key place)
   where
     divided : content ≡ pre ++ (h.0 ++ h.1)
@@ -142,16 +143,16 @@ placed_good content pre (s ∷ sections) bytes given whole fits h small named ke
         let size : p.size ≡ length s.block = ap (λ (q : Place). q.size) e in
         omega arith
 
-    good : (p : Place) → p ≡ place_of (shown (length pre)) (length h.0) s → key ≡ key_of s.cid → IsGood key (block_at content p)
-    good p e same =
+    good : (p : Place) → p ≡ place_of (shown (length pre)) (length h.0) s → (s.cid.hash ≡ Sha256) × (key ≡ key_of s.cid) → IsGood key (block_at content p)
+    good p e has =
         let there : s.block ≡ block_at content p = sym (block_there content pre h.0 h.1 s divided h.4 fits) ∙ ap (block_at content) (sym e) in
         subst (IsGood key) there
-        (subst (λ (k : Key). IsGood k s.block) (sym same) (named_good s.cid s.block (All-head IsNamed s sections named) (All-head IsSmall s sections small)))
+        (subst (λ (k : Key). IsGood k s.block) (sym has.1) (named_good s.cid s.block has.0 (All-head IsNamed s sections named) (All-head IsSmall s sections small)))
 
-    by : (b : Bool) → same_key key (key_of s.cid) ≡ b → cond b (Some (place_of (shown (length pre)) (length h.0) s)) (first_place key h.2) ≡ Some place
+    by : (b : Bool) → is_under key s.cid ≡ b → cond b (Some (place_of (shown (length pre)) (length h.0) s)) (first_place key h.2) ≡ Some place
         → (first_place key h.2 ≡ Some place → (place.offset + place.size ≤ length content) × IsGood key (block_at content place))
         → (place.offset + place.size ≤ length content) × IsGood key (block_at content place)
-    by true test e rest = let same : place ≡ place_of (shown (length pre)) (length h.0) s = cc in (ends place same, good place same (same_key_is key (key_of s.cid) test))
+    by true test e rest = let same : place ≡ place_of (shown (length pre)) (length h.0) s = cc in (ends place same, good place same (under_is key s.cid test))
     by false test e rest = rest e
 
 -- the blocks at the places are those of the first sections
@@ -163,18 +164,18 @@ placed_first content pre (s ∷ sections) bytes given whole fits h small named k
     let again : content ≡ (pre ++ h.0) ++ h.1 = whole ∙ (ap (λ (l : List ℕ). pre ++ l) h.3 ∙ sym (append_assoc pre h.0 h.1)) in
     let at : length (pre ++ h.0) ≡ length pre + length h.0 = length-append pre h.0 in
     ap (λ (l : List Event). option_and_then (λ (p : Place). checked key (block_at content p)) (first_place key l)) h.5
-    ∙ by (same_key key (key_of s.cid)) refl
+    ∙ by (is_under key s.cid) refl
     (placed_first content (pre ++ h.0) sections h.1 h.2 again fits (subst (λ (n : ℕ). ArePlaced n sections h.1 h.2) (sym at) h.6) (All-tail IsSmall s sections small) (All-tail IsNamed s sections named) key)
   where
     block : checked key (block_at content (place_of (shown (length pre)) (length h.0) s)) ≡ checked key s.block
     block = ap (checked key) (block_there content pre h.0 h.1 s (whole ∙ ap (λ (l : List ℕ). pre ++ l) h.3) h.4 fits)
 
-    good : key ≡ key_of s.cid → checked key s.block ≡ Some s.block
-    good same = good_checked key s.block
-        (subst (λ (k : Key). IsGood k s.block) (sym same) (named_good s.cid s.block (All-head IsNamed s sections named) (All-head IsSmall s sections small)))
+    good : (s.cid.hash ≡ Sha256) × (key ≡ key_of s.cid) → checked key s.block ≡ Some s.block
+    good has = good_checked key s.block
+        (subst (λ (k : Key). IsGood k s.block) (sym has.1) (named_good s.cid s.block has.0 (All-head IsNamed s sections named) (All-head IsSmall s sections small)))
 
-    by : (b : Bool) → same_key key (key_of s.cid) ≡ b → option_and_then (λ (p : Place). checked key (block_at content p)) (first_place key h.2) ≡ first_under key sections
+    by : (b : Bool) → is_under key s.cid ≡ b → option_and_then (λ (p : Place). checked key (block_at content p)) (first_place key h.2) ≡ first_under key sections
         → option_and_then (λ (p : Place). checked key (block_at content p)) (cond b (Some (place_of (shown (length pre)) (length h.0) s)) (first_place key h.2))
         ≡ cond b (Some s.block) (first_under key sections)
-    by true test rest = block ∙ good (same_key_is key (key_of s.cid) test)
+    by true test rest = block ∙ good (under_is key s.cid test)
     by false test rest = rest

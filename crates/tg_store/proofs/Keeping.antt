@@ -1,13 +1,14 @@
 -- A section kept in a pack.
 use Rattle.std.proofs.Common.{◌≡◌, ◌≤◌, ◌<◌, ◌+◌, ◌-◌, ◌^◌, ◌⊎◌, ℕ, Bool, true, List, [], ◌∷◌, ◌++◌, length, take, drop, Option, Some, None, option_and_then, Result, Ok, Err, MatchResult, refl, ap, ap₂, sym, subst, ◌∙◌, inl, inr, arith}
-use Rattle.std.specs.Map.{lookup}
+use Rattle.std.specs.Map.{keys_of, lookup}
 use Rattle.std.proofs.lemmas.List.{append-nil, append_assoc, length-append, length-drop, take_all, drop_at, take-append-le, drop-append-le}
 use Rattle.std.proofs.lemmas.List.Elements.{All-nil}
 use Rattle.tg_bytes.specs.Told.{grown}
 use Rattle.tg_car.specs.CarText.{SectionText}
 use Rattle.tg_cid.specs.Cid.{CidParts}
-use Rattle.tg_cid.specs.Limits.{max_block_len}
+use Rattle.tg_cid.specs.Limits.{max_block_len, max_digest_len}
 use Rattle.tg_cid.specs.Names.{Names}
+use Rattle.tg_cid.specs.declared.cid.HashKind.TheVariants.{Sha256, Identity}
 use Rattle.tg_files.specs.Packs.{PackMeaning, PackWrite, pack_step}
 use Rattle.tg_model.specs.Dag.{Section}
 use Rattle.tg_model.specs.Stores.{Adds, AreKeptAs, IsLeftAs, Store}
@@ -15,10 +16,10 @@ use Rattle.tg_model.specs.declared.stores.KeepFault.{KeepFault}
 use Rattle.tg_model.specs.declared.stores.KeepFault.TheVariants as faults
 use Rattle.tg_store.specs.declared.key.Key.{Key}
 use Rattle.tg_store.specs.declared.place.Place.{Place}
-use Rattle.tg_store.specs.Entries.{IsGood, checked, store_of}
-use Rattle.tg_store.specs.EntryLaws.{adds_entry, adds_nothing, lookup_pushed, named_good, names_sha256, none_new, one_new}
+use Rattle.tg_store.specs.Entries.{IsGood, checked, new_beside, store_of}
+use Rattle.tg_store.specs.EntryLaws.{adds_entry, adds_nothing, adds_own, lookup_pushed, named_good, one_new}
 use Rattle.tg_store.specs.KeyLaws.{same_key_is}
-use Rattle.tg_store.specs.Keys.{key_of, of_hash, same_key}
+use Rattle.tg_store.specs.Keys.{found_by, key_of, same_key}
 use Rattle.tg_store.specs.Packs.{PackStoreState, AreSmall, ArePlacedAt, GrewBy, HasGrown, HasKept, IsGrowth, IsIndexed, IsIndexedIn, block_at, entry_before, in_car, stored_in}
 use Rattle.tg_store.specs.PackLaws.{did_nothing, grew_nothing}
 use Rattle.tg_store.specs.PackWrites.{AddsSection, IsLeftOut, LeavesOut}
@@ -122,7 +123,7 @@ small_more before after key place e fits few small = λ k p found.
 -- what is stored in longer bytes under the places that were there
 same_store : (content more : List ℕ) (places : List (Key × Place)) → ((key : Key) (place : Place) → lookup (same_key key) places ≡ Some place → place.offset + place.size ≤ length content)
     → (cid : CidParts) → store_of (block_at (content ++ more)) places cid ≡ store_of (block_at content) places cid
-same_store content more places within cid = ap (of_hash cid.hash) (by (lookup (same_key (key_of cid)) places) (within (key_of cid)))
+same_store content more places within cid = ap (found_by cid.hash cid.digest) (by (lookup (same_key (key_of cid)) places) (within (key_of cid)))
   where
     by : (o : Option Place) → ((place : Place) → o ≡ Some place → place.offset + place.size ≤ length content)
         → option_and_then (λ (p : Place). checked (key_of cid) (block_at (content ++ more) p)) o
@@ -130,47 +131,47 @@ same_store content more places within cid = ap (of_hash cid.hash) (by (lookup (s
     by None h = refl
     by (Some p) h = ap (checked (key_of cid)) (block_before content more p (h p refl))
 
-adds_told : (content head block : List ℕ) (fresh : Bool) (places : List (Key × Place)) (end : ℕ) (cid : CidParts) → Names cid block → length block ≤ max_block_len
+adds_told : (content head block : List ℕ) (fresh : Bool) (places : List (Key × Place)) (end : ℕ) (cid : CidParts) → cid.hash ≡ Sha256 → Names cid block → length block ≤ max_block_len
     → lookup (same_key (key_of cid)) places ≡ None → IsIndexed content fresh places end
     → Adds (store_of (block_at content) places)
     (store_of (block_at (content ++ (head ++ block))) (places ++ (key_of cid, record { offset = end + length head; size = length block }) ∷ [])) cid block
-adds_told content head block fresh places end cid names few none indexed =
+adds_told content head block fresh places end cid sha names few none indexed =
     let place : Place = record { offset = end + length head; size = length block } in
     let now : List ℕ = content ++ (head ++ block) in
     let after : List (Key × Place) = places ++ (key_of cid, place) ∷ [] in
     let same : block_at now place ≡ block = block_behind content head block (end + length head) (ap (λ n. n + length head) indexed.end_is) in
-    let good : IsGood (key_of cid) (block_at now place) = good_same (key_of cid) block (block_at now place) (sym same) (named_good cid block names few) in
+    let good : IsGood (key_of cid) (block_at now place) = good_same (key_of cid) block (block_at now place) (sym same) (named_good cid block sha names few) in
     let added : Adds (store_of (block_at now) places) (store_of (block_at now) after) cid (block_at now place) =
-    adds_entry (block_at now) places cid place (names_sha256 cid block names) none good in
+    adds_entry (block_at now) places cid place sha none good in
     let stores : store_of (block_at now) places ≡ store_of (block_at content) places = λ i cid. same_store content (head ++ block) places indexed.within cid i in
     subst (λ (s : Store). Adds s (store_of (block_at now) after) cid block) stores
     (subst (λ (l : List ℕ). Adds (store_of (block_at now) places) (store_of (block_at now) after) cid l) same added)
 
 pub adds_stored : (old new : Option (List ℕ)) (head block : List ℕ) (fresh : Bool) (before after : List (Key × Place)) (end : ℕ) (cid : CidParts)
     → new ≡ grown old (head ++ block) → after ≡ before ++ (key_of cid, record { offset = end + length head; size = length block }) ∷ []
-    → Names cid block → length block ≤ max_block_len → lookup (same_key (key_of cid)) before ≡ None → IsIndexedIn old fresh before end
+    → cid.hash ≡ Sha256 → Names cid block → length block ≤ max_block_len → lookup (same_key (key_of cid)) before ≡ None → IsIndexedIn old fresh before end
     → AreKeptAs (stored_in old before) (stored_in new after) (record { cid = cid; block = block } ∷ [])
-adds_stored None None head block fresh before after end cid e f names few none h = refl
-adds_stored None (Some x) head block fresh before after end cid e f names few none h = cc
-adds_stored (Some c) None head block fresh before after end cid e f names few none h = cc
-adds_stored (Some c) (Some x) head block fresh before after end cid e f names few none h =
+adds_stored None None head block fresh before after end cid e f sha names few none h = refl
+adds_stored None (Some x) head block fresh before after end cid e f sha names few none h = cc
+adds_stored (Some c) None head block fresh before after end cid e f sha names few none h = cc
+adds_stored (Some c) (Some x) head block fresh before after end cid e f sha names few none h =
     let content : x ≡ c ++ (head ++ block) = cc in
     let entry : List (Key × Place) = before ++ (key_of cid, record { offset = end + length head; size = length block }) ∷ [] in
     let now : store_of (block_at (c ++ (head ++ block))) entry ≡ store_of (block_at x) after =
     ap₂ (λ (l : List ℕ) (p : List (Key × Place)). store_of (block_at l) p) (sym content) (sym f) in (
       store_of (block_at x) after,
-      subst (λ (s : Store). Adds (store_of (block_at c) before) s cid block) now (adds_told c head block fresh before end cid names few none h),
+      subst (λ (s : Store). Adds (store_of (block_at c) before) s cid block) now (adds_told c head block fresh before end cid sha names few none h),
       refl,
     )
 
 -- the text and the place of a section that was added
 pub adds_grown : (old new : Option (List ℕ)) (head block : List ℕ) (fresh : Bool) (before after : List (Key × Place)) (end : ℕ) (section : Section)
-    → section.block ≡ block → new ≡ grown old (head ++ block) → after ≡ before ++ (key_of section.cid, record { offset = end + length head; size = length block }) ∷ []
+    → section.block ≡ block → section.cid.hash ≡ Sha256 → new ≡ grown old (head ++ block) → after ≡ before ++ (key_of section.cid, record { offset = end + length head; size = length block }) ∷ []
     → SectionText (in_car section) (head ++ block) → lookup (same_key (key_of section.cid)) before ≡ None → IsIndexedIn old fresh before end
     → GrewBy old new before after (section ∷ [])
-adds_grown old None head block fresh before after end section b e f text none h = tt
-adds_grown None (Some x) head block fresh before after end section b e f text none h = cc
-adds_grown (Some c) (Some x) head block fresh before after end section b e f text none h =
+adds_grown old None head block fresh before after end section b sha e f text none h = tt
+adds_grown None (Some x) head block fresh before after end section b sha e f text none h = cc
+adds_grown (Some c) (Some x) head block fresh before after end section b sha e f text none h =
     let content : x ≡ c ++ (head ++ block) = cc in
     let front : List ℕ = head ++ block in
     let here : end ≡ length c = h.end_is in
@@ -184,7 +185,7 @@ adds_grown (Some c) (Some x) head block fresh before after end section b e f tex
       places = entry_before (length c + length front) section ∷ [];
       content = content;
       entries = f ∙ ap (λ (l : List (Key × Place)). before ++ l) entry;
-      placed = subst (λ (s : List Section). ArePlacedAt (length c) s front (entry_before (length c + length front) section ∷ [])) (sym (one_new before section none))
+      placed = subst (λ (s : List Section). ArePlacedAt (length c) s front (entry_before (length c + length front) section ∷ [])) (sym (one_new before section sha none))
           (front, [], [], sym (append-nil front), text, refl, (refl, refl));
     }
 
@@ -192,14 +193,14 @@ adds_grown (Some c) (Some x) head block fresh before after end section b e f tex
 
 module _ {P : Type 0} (m : PackMeaning P) (old new : PackStoreState P) where
   pub kept_one : (section : Section) → AddsSection (pack_step m old.pack new.pack) old.places new.places old.end new.end (key_of section.cid) section
-      → new.fresh ≡ old.fresh → lookup (same_key (key_of section.cid)) old.places ≡ None → IsIndexedIn (m.content old.pack) old.fresh old.places old.end
+      → section.cid.hash ≡ Sha256 → new.fresh ≡ old.fresh → lookup (same_key (key_of section.cid)) old.places ≡ None → IsIndexedIn (m.content old.pack) old.fresh old.places old.end
       → HasKept m old new (section ∷ [])
-  kept_one section a fresh none indexed = record {
+  kept_one section a sha fresh none indexed = record {
     writes = a.appended.writes;
     did = a.appended.did;
     growth = a.appended.growth;
     fresh = fresh;
-    grew = adds_grown (m.content old.pack) (m.content new.pack) a.head section.block old.fresh old.places new.places old.end section refl a.appended.told a.places a.text none indexed;
+    grew = adds_grown (m.content old.pack) (m.content new.pack) a.head section.block old.fresh old.places new.places old.end section refl sha a.appended.told a.places a.text none indexed;
   }
 
   -- a section that wasn't added
@@ -248,22 +249,30 @@ module _ {P : Type 0} (m : PackMeaning P) (old new : PackStoreState P) where
 
 -- ---- a section that is stored
 
-pub kept_again : (told : Option (List ℕ)) (places : List (Key × Place)) (section : Section) (found_at : Place) → lookup (same_key (key_of section.cid)) places ≡ Some found_at
+pub kept_again : (told : Option (List ℕ)) (places : List (Key × Place)) (section : Section) → new_beside (keys_of places) (section ∷ []) ≡ []
     → GrewBy told told places places (section ∷ [])
-kept_again None places section there found = tt
-kept_again (Some content) places section there found =
-    subst (λ (s : List Section). HasGrown content content places places s) (sym (none_new places section there found))
+kept_again None places section none = tt
+kept_again (Some content) places section none =
+    subst (λ (s : List Section). HasGrown content content places places s) (sym none)
     (record { texts = []; places = []; content = sym (append-nil content); entries = sym (append-nil places); placed = (refl, refl) })
 
 pub stored_again : (told : Option (List ℕ)) (fresh : Bool) (places : List (Key × Place)) (end : ℕ) (cid : CidParts) (block : List ℕ) (place : Place)
-    → lookup (same_key (key_of cid)) places ≡ Some place → Names cid block → IsIndexedIn told fresh places end
+    → cid.hash ≡ Sha256 → lookup (same_key (key_of cid)) places ≡ Some place → IsIndexedIn told fresh places end
     → AreKeptAs (stored_in told places) (stored_in told places) (record { cid = cid; block = block } ∷ [])
-stored_again None fresh places end cid block there found names h = refl
-stored_again (Some content) fresh places end cid block there found names h = (
+stored_again None fresh places end cid block there sha found h = refl
+stored_again (Some content) fresh places end cid block there sha found h = (
   store_of (block_at content) places,
-  adds_nothing (block_at content) places cid block there (names_sha256 cid block names) found (h.good (key_of cid) there found),
+  adds_nothing (block_at content) places cid block there sha found (h.good (key_of cid) there found),
   refl,
 )
+
+-- the block of an identity CID is stored too
+pub stored_own_block : (told : Option (List ℕ)) (places : List (Key × Place)) (cid : CidParts) (block : List ℕ)
+    → cid.hash ≡ Identity → Names cid block → length cid.digest ≤ max_digest_len
+    → AreKeptAs (stored_in told places) (stored_in told places) (record { cid = cid; block = block } ∷ [])
+stored_own_block None places cid block own names most = refl
+stored_own_block (Some content) places cid block own names most =
+    (store_of (block_at content) places, adds_own (block_at content) places cid block own names most, refl)
 
 -- no places are small
 pub none_small : (places : List (Key × Place)) → places ≡ [] → AreSmall places
@@ -276,19 +285,19 @@ pub either_way : {T E : Type 0} (r : Result T E) (P : T → Type 0) (Q : E → T
 either_way (Ok x) P Q G h f g = f x h
 either_way (Err e) P Q G h f g = g e h
 
--- a section under a key that has a place is kept already
+-- a section that isn't new is kept already
 pub kept_same : {P : Type 0} (m : PackMeaning P) (rests : (p : P) → m.did p p []) (joins : (a b c : P) (u v : List PackWrite) → m.did a b u → m.did b c v → m.did a c (u ++ v))
-    → (s : PackStoreState P) (section : Section) (there : Place) → lookup (same_key (key_of section.cid)) s.places ≡ Some there → HasKept m s s (section ∷ [])
-kept_same m rests joins s section there found = record {
+    → (s : PackStoreState P) (section : Section) → new_beside (keys_of s.places) (section ∷ []) ≡ [] → HasKept m s s (section ∷ [])
+kept_same m rests joins s section none = record {
   writes = [];
   did = did_nothing m rests joins s.pack;
   growth = All-nil IsGrowth;
   fresh = refl;
-  grew = kept_again (m.content s.pack) s.places section there found;
+  grew = kept_again (m.content s.pack) s.places section none;
 }
 
 -- a whole step of `keep`, by what was done to the pack and the places
-module _ {P : Type 0} (m : PackMeaning P) (old new : PackStoreState P) (cid : CidParts) (block : List ℕ) (names : Names cid block) (few : length block ≤ max_block_len)
+module _ {P : Type 0} (m : PackMeaning P) (old new : PackStoreState P) (cid : CidParts) (block : List ℕ) (sha : cid.hash ≡ Sha256) (names : Names cid block) (few : length block ≤ max_block_len)
     (none : lookup (same_key (key_of cid)) old.places ≡ None) (indexed : IsIndexedIn (m.content old.pack) old.fresh old.places old.end) (small : AreSmall old.places)
     (fresh : new.fresh ≡ old.fresh) where
   pub added_fields : AddsSection (pack_step m old.pack new.pack) old.places new.places old.end new.end (key_of cid) (record { cid = cid; block = block })
@@ -299,15 +308,15 @@ module _ {P : Type 0} (m : PackMeaning P) (old new : PackStoreState P) (cid : Ci
       let fits : new.end < 2 ^ 64 = a.fits in (
         small_more old.places new.places (key_of cid) place a.places (omega arith) few small,
         indexed_in (m.content old.pack) (m.content new.pack) a.head block old.fresh old.places new.places old.end new.end (key_of cid) a.appended.told a.places a.end none
-            (named_good cid block names few) indexed,
+            (named_good cid block sha names few) indexed,
       )
 
   pub added_kept : AddsSection (pack_step m old.pack new.pack) old.places new.places old.end new.end (key_of cid) (record { cid = cid; block = block })
       → HasKept m old new (record { cid = cid; block = block } ∷ [])
       × AreKeptAs (stored_in (m.content old.pack) old.places) (stored_in (m.content new.pack) new.places) (record { cid = cid; block = block } ∷ [])
   added_kept a = (
-    kept_one m old new (record { cid = cid; block = block }) a fresh none indexed,
-    adds_stored (m.content old.pack) (m.content new.pack) a.head block old.fresh old.places new.places old.end cid a.appended.told a.places names few none indexed,
+    kept_one m old new (record { cid = cid; block = block }) a sha fresh none indexed,
+    adds_stored (m.content old.pack) (m.content new.pack) a.head block old.fresh old.places new.places old.end cid a.appended.told a.places sha names few none indexed,
   )
 
   pub left_fields : (fault : KeepFault) → LeavesOut (pack_step m old.pack new.pack) old.places new.places old.end new.end fault

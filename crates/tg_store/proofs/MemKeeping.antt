@@ -5,11 +5,12 @@ use Rattle.std.proofs.lemmas.List.{append-nil}
 use Rattle.tg_cid.specs.Cid.{CidParts}
 use Rattle.tg_cid.specs.Limits.{max_block_len}
 use Rattle.tg_cid.specs.Names.{Names}
+use Rattle.tg_cid.specs.declared.cid.HashKind.TheVariants.{Sha256, Identity}
 use Rattle.tg_model.specs.Dag.{Section}
 use Rattle.tg_model.specs.Stores.{AreKeptAs}
 use Rattle.tg_store.specs.declared.key.Key.{Key}
 use Rattle.tg_store.specs.Entries.{AreGood, HoldsMore, IsGood, entry_of, store_of}
-use Rattle.tg_store.specs.EntryLaws.{adds_entry, adds_nothing, lookup_pushed, named_good, names_sha256, none_new, of_hash_some, one_new}
+use Rattle.tg_store.specs.EntryLaws.{adds_entry, adds_nothing, lookup_pushed, named_good, none_new, of_hash_none, of_hash_some, one_new}
 use Rattle.tg_store.specs.KeyLaws.{same_key_is}
 use Rattle.tg_store.specs.Keys.{key_of, of_hash, same_key}
 
@@ -31,36 +32,43 @@ is_none_found (Some x) e = cc
 pub key_is : (cid : CidParts) (key : Key) → of_hash cid.hash (Some (key_of cid)) ≡ Some key → key_of cid ≡ key
 key_is cid key e = let p = (of_hash_some cid.hash (Some (key_of cid)) key e).1 in cc
 
+pub has_sha256 : (cid : CidParts) (key : Key) → of_hash cid.hash (Some (key_of cid)) ≡ Some key → cid.hash ≡ Sha256
+has_sha256 cid key e = (of_hash_some cid.hash (Some (key_of cid)) key e).0
+
+-- one that has none is an identity CID
+pub has_identity : (cid : CidParts) → of_hash cid.hash (Some (key_of cid)) ≡ None → cid.hash ≡ Identity
+has_identity cid e = of_hash_none cid.hash (key_of cid) e
+
 -- the block was there
-pub again : (held : List (Key × List ℕ)) (cid : CidParts) (block there : List ℕ) → lookup (same_key (key_of cid)) held ≡ Some there → AreGood (λ block. block) held → Names cid block
+pub again : (held : List (Key × List ℕ)) (cid : CidParts) (block there : List ℕ) → cid.hash ≡ Sha256 → lookup (same_key (key_of cid)) held ≡ Some there → AreGood (λ block. block) held
     → HoldsMore held held (record { cid = cid; block = block } ∷ [])
     × AreKeptAs (Some (store_of (λ block. block) held)) (Some (store_of (λ block. block) held)) (record { cid = cid; block = block } ∷ [])
-again held cid block there found good names = (
+again held cid block there sha found good = (
   sym (append-nil held) ∙ ap (λ (s : List Section). held ++ map entry_of s) (sym (none_new held (record { cid = cid; block = block }) there found)),
-  (store_of (λ block. block) held, adds_nothing (λ block. block) held cid block there (names_sha256 cid block names) found (good (key_of cid) there found), refl),
+  (store_of (λ block. block) held, adds_nothing (λ block. block) held cid block there sha found (good (key_of cid) there found), refl),
 )
 
 -- the block is new
-pub added : (held : List (Key × List ℕ)) (cid : CidParts) (block : List ℕ) → lookup (same_key (key_of cid)) held ≡ None → Names cid block → length block ≤ max_block_len
+pub added : (held : List (Key × List ℕ)) (cid : CidParts) (block : List ℕ) → cid.hash ≡ Sha256 → lookup (same_key (key_of cid)) held ≡ None → Names cid block → length block ≤ max_block_len
     → HoldsMore held (held ++ (key_of cid, block) ∷ []) (record { cid = cid; block = block } ∷ [])
     × AreKeptAs (Some (store_of (λ block. block) held)) (Some (store_of (λ block. block) (held ++ (key_of cid, block) ∷ []))) (record { cid = cid; block = block } ∷ [])
-added held cid block none names small = (
-  ap (λ (s : List Section). held ++ map entry_of s) (sym (one_new held (record { cid = cid; block = block }) none)),
+added held cid block sha none names small = (
+  ap (λ (s : List Section). held ++ map entry_of s) (sym (one_new held (record { cid = cid; block = block }) sha none)),
   (
     store_of (λ block. block) (held ++ (key_of cid, block) ∷ []),
-    adds_entry (λ block. block) held cid block (names_sha256 cid block names) none (named_good cid block names small),
+    adds_entry (λ block. block) held cid block sha none (named_good cid block sha names small),
     refl,
   ),
 )
 
-pub good_more : (held : List (Key × List ℕ)) (cid : CidParts) (block : List ℕ) → Names cid block → length block ≤ max_block_len → AreGood (λ block. block) held
+pub good_more : (held : List (Key × List ℕ)) (cid : CidParts) (block : List ℕ) → cid.hash ≡ Sha256 → Names cid block → length block ≤ max_block_len → AreGood (λ block. block) held
     → AreGood (λ block. block) (held ++ (key_of cid, block) ∷ [])
-good_more held cid block names small good = λ key v found. by key v (lookup_pushed (same_key key) held (key_of cid) block v found)
+good_more held cid block sha names small good = λ key v found. by key v (lookup_pushed (same_key key) held (key_of cid) block v found)
   where
     by : (key : Key) (v : List ℕ) → (lookup (same_key key) held ≡ Some v) ⊎ ((lookup (same_key key) held ≡ None) × (same_key key (key_of cid) ≡ true) × (v ≡ block)) → IsGood key v
     by key v (inl found) = good key v found
     by key v (inr new) =
-        subst (IsGood key) (sym new.2) (subst (λ (k : Key). IsGood k block) (sym (same_key_is key (key_of cid) new.1)) (named_good cid block names small))
+        subst (IsGood key) (sym new.2) (subst (λ (k : Key). IsGood k block) (sym (same_key_is key (key_of cid) new.1)) (named_good cid block sha names small))
 
 -- the entries once a block was inserted
 pub inserted : (held before after : List (Key × List ℕ)) (cid : CidParts) (key : Key) (copy block : List ℕ) → before ≡ held → key_of cid ≡ key → copy ≡ block

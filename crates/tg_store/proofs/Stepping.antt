@@ -21,7 +21,7 @@ use Rattle.tg_store.specs.declared.key.Key.{Key}
 use Rattle.tg_store.specs.declared.place.Place.{Place}
 use Rattle.tg_store.specs.Attaching.{HasCauseIn, HasPackCause, HasStopCause, IsAlong, IsFound, IsGoodEvent, IsNamed, IsNotNoted, IsReadTo, IsRefusal, IsSmall, Noted, first_place, pack_fault}
 use Rattle.tg_store.specs.Entries.{checked}
-use Rattle.tg_store.specs.Keys.{key_of, of_hash, same_key}
+use Rattle.tg_store.specs.Keys.{found_by, key_of, same_key}
 use Rattle.tg_store.specs.Packs.{block_at}
 use Rattle.tg_store.proofs.Events.{noted_more, placed_first, placed_good, placed_named, placed_once, placed_small}
 use Rattle.tg_store.proofs.Appending.{rose_after}
@@ -120,7 +120,7 @@ module _ (laws : CarLaws) (unfinished : IsUnfinishedHeader) (reader : ReaderStat
             finished = finished_roots laws unfinished g.roots header g.text.header_is (All-head IsGoodEvent (events.Header header) g.placed all);
             named = named;
             small = small;
-            stored = λ cid. ap (of_hash cid.hash)
+            stored = λ cid. ap (found_by cid.hash cid.digest)
                 (ap (option_and_then (λ (p : Place). checked (key_of cid) (block_at fed p))) (there (key_of cid))
                 ∙ placed_first fed header g.sections g.text.rest g.placed g.text.whole fits g.placed_are small named (key_of cid));
           },

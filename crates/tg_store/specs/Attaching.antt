@@ -22,18 +22,17 @@ use Rattle.tg_store.specs.declared.fault.PackFault.TheVariants as faults
 use Rattle.tg_store.specs.declared.key.Key.{Key}
 use Rattle.tg_store.specs.declared.place.Place.{Place}
 use Rattle.tg_store.specs.Entries.{store_of}
-use Rattle.tg_store.specs.Keys.{key_of, of_hash, same_key}
+use Rattle.tg_store.specs.Keys.{found_by, is_under, key_of, same_key}
 use Rattle.tg_store.specs.Packs.{AreSmall, IsIndexed, block_at, unfinished_root}
 
--- the block of the first section under each CID, by its version 1 form; nothing is under a CID of another hash than
--- sha2-256
+-- the block of the first section under each CID with sha2-256, by its version 1 form; an identity CID's is its digest
 abbrev pub first_under : Key → List CarSection → Option (List ℕ)
 first_under key [] = None
 first_under key (section ∷ sections) =
-    cond (same_key key (key_of section.cid)) (Some section.block) (first_under key sections)
+    cond (is_under key section.cid) (Some section.block) (first_under key sections)
 
 abbrev pub first_block : List CarSection → Store
-first_block sections cid = of_hash cid.hash (first_under (key_of cid) sections)
+first_block sections cid = found_by cid.hash cid.digest (first_under (key_of cid) sections)
 
 -- a section's CID names its block
 abbrev pub IsNamed : CarSection → Type 0
@@ -182,7 +181,7 @@ first_place key [] = None
 first_place key (events.Need ∷ given) = first_place key given
 first_place key (events.Header header ∷ given) = first_place key given
 first_place key (events.Section at size section ∷ given) =
-    cond (same_key key (key_of section.cid)) (Some (place_of at size section)) (first_place key given)
+    cond (is_under key section.cid) (Some (place_of at size section)) (first_place key given)
 
 -- one, or else the other
 abbrev pub or_else : {A : Type 0} → Option A → Option A → Option A

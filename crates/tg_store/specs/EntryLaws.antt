@@ -1,5 +1,5 @@
 -- What is stored by entries is a store, to which an entry under a new key adds its block.
-use Rattle.std.specs.Prelude.{◌≡◌, ◌≢◌, ◌≤◌, ◌+◌, ◌⊎◌, ℕ, Bool, true, false, cond, ◌&&◌, nat_lt, bytes_eq, List, []}
+use Rattle.std.specs.Prelude.{◌≡◌, ◌≢◌, ◌≤◌, ◌+◌, ◌⊎◌, ℕ, Bool, true, false, cond, ◌&&◌, nat_le, nat_lt, bytes_eq, List, []}
 use Rattle.std.specs.Prelude.{◌∷◌, ◌++◌, length, map, Option, Some, None, option_and_then, is_some, unwrap_or, refl}
 use Rattle.std.specs.List.{list_any}
 use Rattle.std.specs.Map.{keys_of, lookup}
@@ -12,16 +12,16 @@ use Rattle.std.proofs.lemmas.Option.{cond_some}
 use Rattle.std.proofs.lemmas.Slice.Eq.{bytes_eq-Decides}
 use Rattle.sha2.specs.Sha256.{sha256}
 use Rattle.tg_cid.specs.Cid.{CidParts}
-use Rattle.tg_cid.specs.Limits.{max_block_len}
+use Rattle.tg_cid.specs.Limits.{max_block_len, max_digest_len}
 use Rattle.tg_cid.specs.Names.{IsDigestOf, Names}
 use Rattle.tg_cid.specs.declared.cid.HashKind.{HashKind}
 use Rattle.tg_cid.specs.declared.cid.HashKind.TheVariants.{Sha256, Identity}
 use Rattle.tg_model.specs.Dag.{Section}
 use Rattle.tg_model.specs.Stores.{Adds, IsStore, as_v1}
 use Rattle.tg_store.specs.declared.key.Key.{Key}
-use Rattle.tg_store.specs.Entries.{HoldsMore, IsGood, checked, entry_of, new_beside, section_keys, store_of}
+use Rattle.tg_store.specs.Entries.{HoldsMore, IsGood, checked, entry_of, held_if, is_held, new_beside, section_keys, store_of}
 use Rattle.tg_store.specs.KeyLaws.{same_key_is, same_key_self}
-use Rattle.tg_store.specs.Keys.{key_of, of_hash, same_key}
+use Rattle.tg_store.specs.Keys.{found_by, key_of, of_hash, own_digest, same_key}
 
 -- ---- parts
 
@@ -31,6 +31,13 @@ below n m h = grind (arith, common_steps)
 
 pub small_test : (n m : ℕ) → n ≤ m → nat_lt n (m + 1) ≡ true
 small_test n m h = grind (arith, common_steps)
+
+-- a number up to a limit
+below_most : (n m : ℕ) → nat_le n m ≡ true → n ≤ m
+below_most n m h = grind (arith, common_steps)
+
+most_test : (n m : ℕ) → n ≤ m → nat_le n m ≡ true
+most_test n m h = grind (arith, common_steps)
 
 -- a checked block
 pub checked_is : (key : Key) (block found : List ℕ) → checked key block ≡ Some found
@@ -53,30 +60,30 @@ pub of_hash_some : {A : Type 0} (hash : HashKind) (o : Option A) (x : A) → of_
 of_hash_some Sha256 o x h = (refl, h)
 of_hash_some Identity o x h = cc
 
-pub of_hash_same : {A : Type 0} (hash : HashKind) (o : Option A) → hash ≡ Sha256 → of_hash hash o ≡ o
-of_hash_same Sha256 o h = refl
-of_hash_same Identity o h = cc
-
 pub of_hash_none : {A : Type 0} (hash : HashKind) (x : A) → of_hash hash (Some x) ≡ None → hash ≡ Identity
 of_hash_none Sha256 x h = cc
 of_hash_none Identity x h = refl
 
--- a CID that names a block has a key
-pub names_sha256 : (cid : CidParts) (block : List ℕ) → Names cid block → cid.hash ≡ Sha256
-names_sha256 cid block n = by cid.hash cid.digest n
-  where
-    by : (hash : HashKind) (digest : List ℕ) → IsDigestOf hash digest block → hash ≡ Sha256
-    by Sha256 digest n = refl
-    by Identity digest n = absurd n
+-- such a CID leads to what is found under its key
+pub found_by_same : (hash : HashKind) (digest : List ℕ) (o : Option (List ℕ)) → hash ≡ Sha256 → found_by hash digest o ≡ o
+found_by_same Sha256 digest o h = refl
+found_by_same Identity digest o h = cc
 
--- and its block the key's digest
-pub named_good : (cid : CidParts) (block : List ℕ) → Names cid block → length block ≤ max_block_len
+-- an identity CID leads to its digest, which isn't long
+pub own_digest_is : (digest block : List ℕ) → own_digest digest ≡ Some block
+    → (digest ≡ block) × (length block ≤ max_digest_len)
+own_digest_is digest block h =
+    let p = cond_some (nat_le (length digest) max_digest_len) digest block h in
+    (p.1, subst (λ (l : List ℕ). length l ≤ max_digest_len) p.1 (below_most (length digest) max_digest_len p.0))
+
+pub own_digest_same : (digest : List ℕ) → length digest ≤ max_digest_len → own_digest digest ≡ Some digest
+own_digest_same digest most =
+    cond-true (nat_le (length digest) max_digest_len) (Some digest) None (most_test (length digest) max_digest_len most)
+
+-- a block that a CID with sha2-256 names has the key's digest
+pub named_good : (cid : CidParts) (block : List ℕ) → cid.hash ≡ Sha256 → Names cid block → length block ≤ max_block_len
     → IsGood (key_of cid) block
-named_good cid block n small = record { named = by cid.hash cid.digest n; small = small }
-  where
-    by : (hash : HashKind) (digest : List ℕ) → IsDigestOf hash digest block → digest ≡ sha256 block
-    by Sha256 digest n = n
-    by Identity digest n = absurd n
+named_good cid block sha n small = record { named = subst (λ (hash : HashKind). IsDigestOf hash cid.digest block) sha n; small = small }
 
 -- and the other way round
 pub good_named : (cid : CidParts) (block : List ℕ) → cid.hash ≡ Sha256 → IsGood (key_of cid) block → Names cid block
@@ -139,19 +146,27 @@ lookup_pushed {V} test entries key v w h = by (lookup test entries) refl
 -- ---- what is stored
 
 module _ {V : Type 0} (block_of : V → List ℕ) where
-  -- a stored block is good
-  pub stored_good : (entries : List (Key × V)) (cid : CidParts) (block : List ℕ)
-      → store_of block_of entries cid ≡ Some block → (cid.hash ≡ Sha256) × IsGood (key_of cid) block
-  stored_good entries cid block h =
-      let p = of_hash_some cid.hash _ block h in
-      let q = and_then_some (λ (v : V). checked (key_of cid) (block_of v)) (lookup (same_key (key_of cid)) entries) block p.1 in
-      (p.0, (checked_is (key_of cid) (block_of q.0) block q.2).1)
+  -- a stored block is named by its CID and no larger than a block may be
+  pub stored_named : (entries : List (Key × V)) (cid : CidParts) (block : List ℕ)
+      → store_of block_of entries cid ≡ Some block → Names cid block × (length block ≤ max_block_len)
+  stored_named entries cid block h = by cid.hash h
+    where
+      found : Option (List ℕ)
+      found = option_and_then (λ (v : V). checked (key_of cid) (block_of v)) (lookup (same_key (key_of cid)) entries)
+
+      by : (hash : HashKind) → found_by hash cid.digest found ≡ Some block
+          → IsDigestOf hash cid.digest block × (length block ≤ max_block_len)
+      by Sha256 h =
+          let q = and_then_some (λ (v : V). checked (key_of cid) (block_of v)) (lookup (same_key (key_of cid)) entries) block h in
+          let good : IsGood (key_of cid) block = (checked_is (key_of cid) (block_of q.0) block q.2).1 in
+          (good.named, good.small)
+      by Identity h = let own = own_digest_is cid.digest block h in (own.0, omega (arith, own.1))
 
   pub is_store : (entries : List (Key × V)) → IsStore (store_of block_of entries)
   is_store entries = record {
     twins = λ cid. refl;
-    named = λ cid block h. let p = stored_good entries cid block h in good_named cid block p.0 p.1;
-    small = λ cid block h. (stored_good entries cid block h).1.small;
+    named = λ cid block h. (stored_named entries cid block h).0;
+    small = λ cid block h. (stored_named entries cid block h).1;
   }
 
   -- under a key with a good block
@@ -159,25 +174,37 @@ module _ {V : Type 0} (block_of : V → List ℕ) where
       → lookup (same_key (key_of cid)) entries ≡ Some v → IsGood (key_of cid) (block_of v)
       → store_of block_of entries cid ≡ Some (block_of v)
   stored_at entries cid v sha found good =
-      of_hash_same cid.hash _ sha ∙ ap (option_and_then (λ (v : V). checked (key_of cid) (block_of v))) found ∙ good_checked (key_of cid) (block_of v) good
+      found_by_same cid.hash cid.digest _ sha ∙ ap (option_and_then (λ (v : V). checked (key_of cid) (block_of v))) found ∙ good_checked (key_of cid) (block_of v) good
 
   -- under a key that has no entry
-  pub stored_none : (entries : List (Key × V)) (cid : CidParts) → lookup (same_key (key_of cid)) entries ≡ None
-      → store_of block_of entries cid ≡ None
-  stored_none entries cid none = by cid.hash
-    where
-      inner : option_and_then (λ (v : V). checked (key_of cid) (block_of v)) (lookup (same_key (key_of cid)) entries) ≡ None
-      inner = ap (option_and_then (λ (v : V). checked (key_of cid) (block_of v))) none
+  pub stored_none : (entries : List (Key × V)) (cid : CidParts) → cid.hash ≡ Sha256
+      → lookup (same_key (key_of cid)) entries ≡ None → store_of block_of entries cid ≡ None
+  stored_none entries cid sha none =
+      found_by_same cid.hash cid.digest _ sha ∙ ap (option_and_then (λ (v : V). checked (key_of cid) (block_of v))) none
 
-      by : (hash : HashKind) → of_hash hash (option_and_then (λ (v : V). checked (key_of cid) (block_of v)) (lookup (same_key (key_of cid)) entries)) ≡ None
-      by Sha256 = inner
-      by Identity = refl
+  -- under an identity CID that names the block
+  pub stored_own : (entries : List (Key × V)) (cid : CidParts) (block : List ℕ) → cid.hash ≡ Identity → Names cid block
+      → length cid.digest ≤ max_digest_len → store_of block_of entries cid ≡ Some block
+  stored_own entries cid block own names most =
+      let same : cid.digest ≡ block = subst (λ (hash : HashKind). IsDigestOf hash cid.digest block) own names in
+      ap (λ (hash : HashKind). found_by hash cid.digest (option_and_then (λ (v : V). checked (key_of cid) (block_of v)) (lookup (same_key (key_of cid)) entries))) own
+      ∙ own_digest_same cid.digest most ∙ ap Some same
 
   -- what is stored already isn't added
   pub adds_nothing : (entries : List (Key × V)) (cid : CidParts) (block : List ℕ) (v : V) → cid.hash ≡ Sha256
       → lookup (same_key (key_of cid)) entries ≡ Some v → IsGood (key_of cid) (block_of v) → Adds (store_of block_of entries) (store_of block_of entries) cid block
   adds_nothing entries cid block v sha found good =
       let here : store_of block_of entries cid ≡ Some (block_of v) = stored_at entries cid v sha found good in
+      record {
+        here = λ other same. ap (λ (c : CidParts). store_of block_of entries c) same ∙ here ∙ sym (ap (λ o. Some (unwrap_or o block)) here);
+        others = λ other apart. refl;
+      }
+
+  -- of an identity CID the block is stored already
+  pub adds_own : (entries : List (Key × V)) (cid : CidParts) (block : List ℕ) → cid.hash ≡ Identity → Names cid block
+      → length cid.digest ≤ max_digest_len → Adds (store_of block_of entries) (store_of block_of entries) cid block
+  adds_own entries cid block own names most =
+      let here : store_of block_of entries cid ≡ Some block = stored_own entries cid block own names most in
       record {
         here = λ other same. ap (λ (c : CidParts). store_of block_of entries c) same ∙ here ∙ sym (ap (λ o. Some (unwrap_or o block)) here);
         others = λ other apart. refl;
@@ -194,7 +221,7 @@ module _ {V : Type 0} (block_of : V → List ℕ) where
       record {
         here = λ other same.
             ap (λ (c : CidParts). store_of block_of all c) same ∙ stored_at all cid v sha found good
-            ∙ sym (ap (λ o. Some (unwrap_or o (block_of v))) (stored_none entries cid none));
+            ∙ sym (ap (λ o. Some (unwrap_or o (block_of v))) (stored_none entries cid sha none));
         others = λ other apart. elsewhere other.hash other refl apart;
       }
     where
@@ -208,11 +235,11 @@ module _ {V : Type 0} (block_of : V → List ℕ) where
       elsewhere : (hash : HashKind) (other : CidParts) → other.hash ≡ hash → as_v1 other ≢ as_v1 cid
           → store_of block_of (entries ++ (key_of cid, v) ∷ []) other ≡ store_of block_of entries other
       elsewhere Sha256 other e apart =
-          ap (λ o. of_hash other.hash (option_and_then (λ (v : V). checked (key_of other) (block_of v)) o))
+          ap (λ o. found_by other.hash other.digest (option_and_then (λ (v : V). checked (key_of other) (block_of v)) o))
           (lookup_other (same_key (key_of other)) entries (key_of cid) v (differ other e apart (same_key (key_of other) (key_of cid)) refl))
       elsewhere Identity other e apart =
-          ap (λ (hash : HashKind). of_hash hash (option_and_then (λ (v : V). checked (key_of other) (block_of v)) (lookup (same_key (key_of other)) (entries ++ (key_of cid, v) ∷ [])))) e
-          ∙ sym (ap (λ (hash : HashKind). of_hash hash (option_and_then (λ (v : V). checked (key_of other) (block_of v)) (lookup (same_key (key_of other)) entries))) e)
+          ap (λ (hash : HashKind). found_by hash other.digest (option_and_then (λ (v : V). checked (key_of other) (block_of v)) (lookup (same_key (key_of other)) (entries ++ (key_of cid, v) ∷ [])))) e
+          ∙ sym (ap (λ (hash : HashKind). found_by hash other.digest (option_and_then (λ (v : V). checked (key_of other) (block_of v)) (lookup (same_key (key_of other)) entries))) e)
 
 -- ---- which sections are kept
 
@@ -225,7 +252,7 @@ pub new_beside-append : (keys : List Key) (u v : List Section)
     → new_beside keys (u ++ v) ≡ new_beside keys u ++ new_beside (keys ++ section_keys (new_beside keys u)) v
 new_beside-append keys [] v = ap (λ (keys : List Key). new_beside keys v) (sym (append-nil keys))
 new_beside-append keys (section ∷ u) v =
-    by (list_any (same_key (key_of section.cid)) keys) (new_beside-append keys u v) (new_beside-append (keys ++ key_of section.cid ∷ []) u v)
+    by (is_held keys section.cid) (new_beside-append keys u v) (new_beside-append (keys ++ key_of section.cid ∷ []) u v)
   where
     again : List Key
     again = keys ++ key_of section.cid ∷ []
@@ -240,16 +267,37 @@ new_beside-append keys (section ∷ u) v =
         ap (λ (s : List Section). section ∷ s) (new
         ∙ ap (λ (ks : List Key). new_beside again u ++ new_beside ks v) (keys_join keys (key_of section.cid) (section_keys (new_beside again u))))
 
+-- what isn't added
+held_true : (hash : HashKind) (test : Bool) → test ≡ true → held_if hash test ≡ true
+held_true Sha256 test e = e
+held_true Identity test e = refl
+
+-- a section that is added has a key, under which nothing stands
+pub not_held : (keys : List Key) (cid : CidParts) → is_held keys cid ≡ false
+    → (cid.hash ≡ Sha256) × (list_any (same_key (key_of cid)) keys ≡ false)
+not_held keys cid h = by cid.hash h
+  where
+    by : (hash : HashKind) → held_if hash (list_any (same_key (key_of cid)) keys) ≡ false
+        → (hash ≡ Sha256) × (list_any (same_key (key_of cid)) keys ≡ false)
+    by Sha256 h = (refl, h)
+    by Identity h = cc
+
 -- of one section
 pub none_new : {V : Type 0} (entries : List (Key × V)) (section : Section) (v : V)
     → lookup (same_key (key_of section.cid)) entries ≡ Some v → new_beside (keys_of entries) (section ∷ []) ≡ []
 none_new entries section v found =
-    ap (λ (b : Bool). cond b [] (section ∷ [])) (sym (is_some-lookup (same_key (key_of section.cid)) entries) ∙ ap is_some found)
+    ap (λ (b : Bool). cond b [] (section ∷ []))
+    (held_true section.cid.hash (list_any (same_key (key_of section.cid)) (keys_of entries)) (sym (is_some-lookup (same_key (key_of section.cid)) entries) ∙ ap is_some found))
 
-pub one_new : {V : Type 0} (entries : List (Key × V)) (section : Section)
+pub none_own : (keys : List Key) (section : Section) → section.cid.hash ≡ Identity → new_beside keys (section ∷ []) ≡ []
+none_own keys section own =
+    ap (λ (hash : HashKind). cond (held_if hash (list_any (same_key (key_of section.cid)) keys)) [] (section ∷ [])) own
+
+pub one_new : {V : Type 0} (entries : List (Key × V)) (section : Section) → section.cid.hash ≡ Sha256
     → lookup (same_key (key_of section.cid)) entries ≡ None → new_beside (keys_of entries) (section ∷ []) ≡ section ∷ []
-one_new entries section none =
-    ap (λ (b : Bool). cond b [] (section ∷ [])) (sym (is_some-lookup (same_key (key_of section.cid)) entries) ∙ ap is_some none)
+one_new entries section sha none =
+    ap (λ (hash : HashKind). cond (held_if hash (list_any (same_key (key_of section.cid)) (keys_of entries))) [] (section ∷ [])) sha
+    ∙ ap (λ (b : Bool). cond b [] (section ∷ [])) (sym (is_some-lookup (same_key (key_of section.cid)) entries) ∙ ap is_some none)
 
 -- ---- blocks in memory
 

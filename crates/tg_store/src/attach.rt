@@ -160,7 +160,7 @@ fn note(places: &mut IndexMap<Key, Place>, event: Event) -> Result<(), PackFault
     }
 }
 
-/// Notes the place of the section's block, where none stands under its CID yet.
+/// Notes the place of the section's block, where none stands under its CID yet; of an identity CID none is noted.
 fn note_section(
     places: &mut IndexMap<Key, Place>,
     at: u64,
@@ -176,7 +176,8 @@ fn note_section(
         return Err(PackFault::BadDigest { at });
     }
     let Some(key) = Key::of(&section.cid) else {
-        return Err(PackFault::BadDigest { at });
+        // The block of an identity CID is its digest.
+        return Ok(());
     };
     if places.contains_key(&key) {
         return Ok(());

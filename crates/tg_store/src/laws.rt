@@ -2,6 +2,7 @@
 ghost use Rattle.std.specs.Prelude.{◌≡◌, ◌≢◌, ◌∷◌, [], ℕ, List, Some, map};
 ghost use Rattle.tg_car.specs.CarText.{CarText};
 ghost use Rattle.tg_cid.specs.Cid.{CidParts};
+ghost use Rattle.tg_cid.specs.declared.cid.HashKind.TheVariants as hashes;
 ghost use Rattle.tg_model.specs.Dag.{Section};
 ghost use Rattle.tg_model.specs.Stores.{Kept, Store, kept_in};
 ghost use Rattle.tg_store.specs.Attaching.{HasPackCause, IsAttached};
@@ -34,6 +35,7 @@ pub fn finished_packs<P: Pack>()
     ensures attached { (a b c : PackStoreState P) (sections : List Section) (root : CidParts) (content : List ℕ)
         → IsNew P.pack a
         → Kept sections (kept_in ⟦<PackStore<P> as Keep>⟧.keeper a b) → IsFinished P.pack b c root → root.version ≡ 1
+        → root.hash ≡ hashes.Sha256
         → root ≢ unfinished_cid
         → P.pack.content c.pack ≡ Some content
         → IsAttached content (store_of (block_at content) c.places)

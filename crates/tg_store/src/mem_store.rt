@@ -5,6 +5,7 @@ ghost use Rattle.tg_store.specs.Entries.{HoldsMore, store_of};
 ghost use Rattle.tg_store.specs.EntryLaws.{holds_joins, holds_rests, is_store};
 
 use crate::key::Key;
+use crate::reading::copy_of;
 use indexmap::IndexMap;
 use std::alloc::Global;
 use std::marker::Model;
@@ -57,18 +58,15 @@ impl Blocks for MemStore {
 
     ghost joins = { λ a b c u v h g. g ∙ h };
 
-    /// A copy of the block. It fails for want of memory alone.
+    /// A copy of the block, which of an identity CID is its digest. It fails for want of memory alone.
     fn get(&mut self, cid: &Cid) -> Result<Option<Bytes>, BlocksFault> {
         let Some(key) = Key::of(cid) else {
-            return Ok(None);
+            return copy_of(self.alloc, cid.digest());
         };
         let Some(block) = self.blocks.get(&key) else {
             return Ok(None);
         };
-        match Bytes::of(self.alloc, block.as_slice()) {
-            Ok(copy) => Ok(Some(copy)),
-            Err(_) => Err(BlocksFault::OutOfMemory),
-        }
+        copy_of(self.alloc, block.as_slice())
     }
 }
 
@@ -85,7 +83,7 @@ impl Keep for MemStore {
 
     ghost joins = { λ a b c u v. holds_joins a b c u v };
 
-    /// It fails for want of memory alone.
+    /// Of an identity CID, whose block is its digest, nothing is kept. It fails for want of memory alone.
     fn keep(&mut self, cid: Cid, block: &[u8]) -> Result<(), KeepFault> {
         let Some(key) = Key::of(&cid) else {
             return Ok(());

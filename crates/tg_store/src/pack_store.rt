@@ -17,7 +17,7 @@ use crate::fault::{PackFault, PackRefused};
 use crate::key::Key;
 use crate::laws;
 use crate::place::Place;
-use crate::reading::read_block;
+use crate::reading::{copy_of, read_block};
 use crate::writing::add_section;
 use indexmap::IndexMap;
 use sha2::{Digest, Sha256};
@@ -162,10 +162,11 @@ impl<P: Pack> Blocks for PackStore<P> {
 
     ghost joins = { λ a b c u v. searched_joins P.pack P.rests P.joins a b c };
 
-    /// The block, read from the pack and hashed anew. `Changed` comes only of a pack that doesn't tell its content.
+    /// The block, read from the pack and hashed anew; of an identity CID its digest. `Changed` comes only of a pack that
+    /// doesn't tell its content.
     fn get(&mut self, cid: &Cid) -> Result<Option<Bytes>, BlocksFault> {
         let Some(key) = Key::of(cid) else {
-            return Ok(None);
+            return copy_of(self.alloc, cid.digest());
         };
         let Some(place) = self.places.get(&key) else {
             return Ok(None);
@@ -195,7 +196,8 @@ impl<P: Pack> Keep for PackStore<P> {
 
     ghost joins = { λ a b c u v. kept_joins P.pack P.rests P.joins a b c u v };
 
-    /// Adds the section at the end of the pack where nothing is stored under the CID.
+    /// Adds the section at the end of the pack where nothing is stored under the CID. Of an identity CID, whose block is
+    /// its digest, nothing is added.
     fn keep(&mut self, cid: Cid, block: &[u8]) -> Result<(), KeepFault> {
         let Some(key) = Key::of(&cid) else {
             return Ok(());

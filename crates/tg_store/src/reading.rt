@@ -1,5 +1,5 @@
 //! Blocks read from a pack.
-ghost use Rattle.std.specs.Prelude.{◌≡◌, ◌+◌, ◌^◌, ◌<◌, length, IfErr, IfOk, OnErr, OnOk};
+ghost use Rattle.std.specs.Prelude.{◌≡◌, ◌+◌, ◌^◌, ◌<◌, length, IfErr, IfOk, MatchResult, OnErr, OnOk, Some};
 ghost use Rattle.tg_files.specs.Packs.{PackQuiet, PackRose, SameContent, pack_step};
 ghost use Rattle.tg_store.specs.PackReads.{HasBlockAt, HasReadCause, ReadsUpTo};
 
@@ -54,5 +54,15 @@ pub(crate) fn read_block<P: Pack>(
             Ok(Bytes::from(block))
         }
         Err(Failed) => Err(BlocksFault::Failed),
+    }
+}
+
+/// A copy of the bytes, as a block that was found. The error is want of memory.
+pub(crate) fn copy_of(alloc: Global, bytes: &[u8]) -> Result<Option<Bytes>, BlocksFault>
+    ensures { MatchResult result (λ found. found ≡ Some bytes.now) (λ fault. fault ≡ BlocksFault.OutOfMemory) }
+{
+    match Bytes::of(alloc, bytes) {
+        Ok(copy) => Ok(Some(copy)),
+        Err(_) => Err(BlocksFault::OutOfMemory),
     }
 }

@@ -2,7 +2,8 @@
 ghost use Rattle.std.specs.Prelude.{◌≡◌, OnOk};
 
 use crate::rows::{
-    DIRECTORY, DIRECTORY_ONE, DIRECTORY_ZERO, HEADER, SECTION, gives, gives_under, joined, lacks,
+    DIRECTORY, DIRECTORY_ONE, DIRECTORY_ZERO, HEADER, ITSELF, SECTION, gives, gives_under, joined,
+    lacks,
 };
 use std::alloc::Global;
 use tg_bytes::{Bytes, List, zeros};
@@ -299,4 +300,37 @@ fn blocks_are_kept_in_memory(rt: HostRuntime) {
     for (name, first, second) in ORDERS {
         assert!(rt; are_kept_by(rt.alloc(), first, second), "{name}");
     }
+}
+
+/// Whether a store in memory and one in a pack keep nothing under an identity CID, and give its digest.
+fn keep_no_identity(alloc: Global) -> bool {
+    match Cid::from_bytes(ITSELF) {
+        Ok(cid) => memory_keeps_none(alloc, cid) && pack_keeps_none(alloc, cid),
+        Err(_) => false,
+    }
+}
+
+fn memory_keeps_none(alloc: Global, cid: Cid) -> bool {
+    let mut store = MemStore::new(alloc);
+    gives_under(&mut store, cid, b"o wo")
+        && cid.holds(b"o wo")
+        && store.keep(cid, b"o wo").is_ok()
+        && gives_under(&mut store, cid, b"o wo")
+}
+
+fn pack_keeps_none(alloc: Global, cid: Cid) -> bool {
+    match PackStore::create(alloc, MemPack::new(Bytes::new(alloc), List::new(alloc))) {
+        Ok(mut store) => {
+            cid.holds(b"o wo")
+                && store.keep(cid, b"o wo").is_ok()
+                && gives_under(&mut store, cid, b"o wo")
+                && store.into_pack().content().map(|bytes| bytes.len()) == Some(59)
+        }
+        Err(_) => false,
+    }
+}
+
+#[test]
+fn no_block_is_kept_under_an_identity_cid(rt: HostRuntime) {
+    assert!(rt; keep_no_identity(rt.alloc()));
 }

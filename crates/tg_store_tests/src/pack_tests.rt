@@ -1,9 +1,9 @@
 //! Packs attached: their blocks, and why they are refused.
 use crate::changing_pack::ChangingPack;
 use crate::rows::{
-    DIGEST, DIRECTORY, DIRECTORY_ONE, HEADER, NO_ROOT, OTHER_ROOT, SECTION, TOO_LARGE,
-    TURNED_DIGEST, TWO_ROOTS, UNFINISHED, ZERO_SECTION, ZEROS, ZEROS_HEAD, attach, gives,
-    gives_directory, joined,
+    DIGEST, DIRECTORY, DIRECTORY_ONE, HEADER, ITSELF, ITSELF_SECTION, NO_ROOT, OTHER_ROOT,
+    OTHER_SECTION, SECTION, TOO_LARGE, TURNED_DIGEST, TWO_ROOTS, UNFINISHED, ZERO_SECTION, ZEROS,
+    ZEROS_HEAD, attach, gives, gives_directory, joined,
 };
 use std::alloc::Global;
 use tg_bytes::{Bytes, List};
@@ -100,6 +100,40 @@ fn comes_to(alloc: Global, parts: &[&[u8]], wanted: Option<PackFault>) -> bool {
 #[test]
 fn a_header_alone_is_attached(rt: HostRuntime) {
     assert!(rt; comes_to(rt.alloc(), &[HEADER], None));
+}
+
+/// Parts of a pack with sections of identity CIDs, and why they are refused, where they are.
+type IdentityRow = (&'static [&'static [u8]], Option<PackFault>);
+
+const IDENTITY: &[IdentityRow] = &[
+    (&[HEADER, ITSELF_SECTION, SECTION], None),
+    (&[HEADER, SECTION, ITSELF_SECTION, ITSELF_SECTION], None),
+    (&[HEADER, SECTION], None),
+    (
+        &[HEADER, OTHER_SECTION],
+        Some(PackFault::BadDigest { at: 59 }),
+    ),
+];
+
+/// Whether the pack is refused so, or gives the directory, and under an identity CID its digest.
+fn gives_digests(alloc: Global, row: &IdentityRow) -> bool {
+    match attach(alloc, row.0) {
+        Some(Ok(mut store)) => {
+            row.1.is_none()
+                && gives_directory(&mut store)
+                && gives(&mut store, ITSELF, b"o wo")
+                && gives(&mut store, b"\x01\x70\x00\x00", b"")
+        }
+        Some(Err(fault)) => row.1 == Some(fault),
+        None => false,
+    }
+}
+
+#[test]
+fn identity_cids_have_their_digests(rt: HostRuntime) {
+    for row in IDENTITY {
+        assert!(rt; gives_digests(rt.alloc(), row), "{row:?}");
+    }
 }
 
 /// Whether headers of which only so many bytes are left are refused.

@@ -39,6 +39,13 @@ pub const ZEROS: &[u8] =
     b"\x01\x55\x12\x20\x7c\xa5\xbd\x87\x9f\x39\x3d\x9d\xd0\x5b\x14\xf3\x8a\xdd\x9c\
         \x0f\xc6\xb6\x79\x28\xf7\xf2\xd2\x61\xb2\xe4\x7a\x32\xee\x82\x19\xe3";
 
+/// An identity CID, its section, and one that it doesn't name.
+pub const ITSELF: &[u8] = b"\x01\x55\x00\x04o wo";
+
+pub const ITSELF_SECTION: &[u8] = b"\x0c\x01\x55\x00\x04o woo wo";
+
+pub const OTHER_SECTION: &[u8] = b"\x0c\x01\x55\x00\x04o woo wO";
+
 /// The bytes, one part behind another, or none where memory is wanted.
 pub fn joined(alloc: Global, parts: &[&[u8]]) -> Option<Bytes> {
     let mut bytes = Bytes::new(alloc);

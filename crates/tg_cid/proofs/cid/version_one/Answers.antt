@@ -2,7 +2,7 @@
 use Rattle.std.proofs.Common.{◌≡◌, ℕ, List, Err, ap, ◌∙◌, subst, inl, inr}
 use Rattle.std.proofs.lemmas.Result.{err_from_is_err_and}
 use Rattle.tg_cid.specs.Reading.{Answer, NumberAt, DigestThen, SizeThen, HashThen, ReadsAsOne}
-use Rattle.tg_cid.specs.Spelling.{IsDigestSize, IsTaken, codec_code, hash_code}
+use Rattle.tg_cid.specs.Spelling.{IsDigestSize, codec_code, hash_code}
 use Rattle.tg_cid.specs.declared.cid.Codec.{Codec}
 use Rattle.tg_cid.specs.declared.cid.HashKind.{HashKind}
 use Rattle.tg_cid.proofs.cid.version_one.Goals as goal
@@ -13,8 +13,8 @@ behind_codec : {bytes : List ℕ} {version at code next : ℕ} {r : Answer} (cod
 behind_codec {bytes} {version} {at} {code} {next} codec v one k is h = inr (version, at, v, inr (one, inr (code, next, k, inr (codec, is, h))))
 
 behind_hash : {bytes : List ℕ} {at code next : ℕ} {r : Answer} (codec : Codec) (hash : HashKind) → NumberAt bytes at code next
-    → IsTaken hash × (code ≡ hash_code hash) → SizeThen codec hash bytes next r → HashThen codec bytes at r
-behind_hash {bytes} {at} {code} {next} codec hash k is h = inr (code, next, k, inr (hash, is.0, is.1, h))
+    → code ≡ hash_code hash → SizeThen codec hash bytes next r → HashThen codec bytes at r
+behind_hash {bytes} {at} {code} {next} codec hash k is h = inr (code, next, k, inr (hash, is, h))
 
 pub returns-in_err-codec : goal.returns-in_err-codec
 returns-in_err-codec c =

@@ -5,7 +5,7 @@ use denote.Enum.Bare.{same_true, true_same}
 use Rattle.tg_cid.specs.Cid.{CidParts}
 use Rattle.tg_cid.specs.contracts.cid.Codec as codecs
 use Rattle.tg_cid.specs.contracts.cid.HashKind as hashes
-use Rattle.tg_cid.proofs.Causes.{same_cid}
+use Rattle.tg_cid.proofs.Causes.{equal_parts}
 use Rattle.tg_cid.proofs.laws.equality.Goals as goal
 
 pub returns : goal.returns
@@ -14,7 +14,7 @@ returns c = λ a b. (
       let versions = and_parts _ _ h in
       let codecs_are = and_parts _ _ versions.1 in
       let hashes_are = and_parts _ _ codecs_are.1 in
-      same_cid a b (eqb-true _ _ versions.0) (same_true codecs.the_type (search rules) _ _ codecs_are.0) (same_true hashes.the_type (search rules) _ _ hashes_are.0)
+      equal_parts a b (eqb-true _ _ versions.0) (same_true codecs.the_type (search rules) _ _ codecs_are.0) (same_true hashes.the_type (search rules) _ _ hashes_are.0)
       ((bytes_eq-Decides _ _).0 hashes_are.1),
   λ e.
       and_from _ _ (eq-eqb _ _ (ap (λ (p : CidParts). p.version) e))
