@@ -6,7 +6,7 @@ use Rattle.tg_model.specs.Dag.{Dag}
 use Rattle.tg_model.specs.LimitNumbers.{LimitNumbers}
 use Rattle.tg_model.specs.Queries.{QueryParts}
 use Rattle.tg_model.specs.Texts.{listing_line}
-use Rattle.tg_model.specs.Traversal.{ListedEntry, Traversal, asked_places, sent_places, traversal}
+use Rattle.tg_model.specs.Traversal.{ListedEntry, Traversal, asked, sections_of, sent, traversal}
 
 -- the greatest number, and 0 of none
 abbrev pub greatest : List ℕ → ℕ
@@ -39,8 +39,9 @@ if_once false n = n
 -- the counts of a traversal; the bytes that were fed are not its
 abbrev pub counts_of : QueryParts → Traversal → LimitNumbers
 counts_of q t =
-    let sent = map (λ p. p.section) (sent_places q t.places) in
-    let sizes = map (λ section. length section.block) sent in
+    let opened = sections_of t.places in
+    let given = sent q opened in
+    let sizes = map (λ section. length section.block) given in
     record {
       block = greatest sizes;
       depth = greatest (map (λ p. p.depth) t.places);
@@ -48,9 +49,9 @@ counts_of q t =
       names = greatest (map (names_of_one t.met) t.met);
       received = 0;
       output = output_count t;
-      seen_blocks = if_once q.dups (length sent);
+      seen_blocks = if_once q.dups (length given);
       seen_bytes = if_once q.dups (sum sizes);
-      reused = if_once q.dups (length (asked_places q t.places) - length sent);
+      reused = if_once q.dups (length (asked q opened) - length given);
     }
 
 -- the counts of a query over a DAG

@@ -2,6 +2,7 @@
 use Rattle.tg_model.specs.declared.queries.Scope.TheVariants as scopes
 use Rattle.std.specs.Prelude.{Option, Some, None, ◌++◌, ◌||◌, Bool, Contains, List, [], false, true, ℕ, ⊤, ◌≡◌, ◌≢◌}
 use Rattle.sha2.specs.Sha256.{sha256}
+use Rattle.tg_cid.specs.declared.cid.HashKind.TheVariants.{Sha256}
 use Rattle.tg_model.specs.Answer.{is_listed, node_text}
 use Rattle.tg_model.specs.Dag.{Dag, Section, bare, blocks, node, root_cid, unopened}
 use Rattle.tg_model.specs.PathWalk.{PathEnd, Spot, TraversalEnd, gone, not_reached, path_walk, stopped, terminal, whole}
@@ -86,13 +87,14 @@ abbrev pub output_so_far : QueryParts → Dag → List ℕ
 output_so_far q d =
     so_far (is_late_terminal q.scope (path_walk q.path d).end) (traversal q d).end (whole_text q d) (traversal q d).text
 
--- a received section and a node of the DAG have one CID and different blocks with one SHA-256
+-- a received section and a node of the DAG have one CID, with sha2-256, and different blocks with one SHA-256
 pub record CollisionPair (sections : List Section) (d : Dag) : Type 0 where
   pub received : Section
   pub held : Section
   pub is_received : Contains sections received
   pub is_held : Contains (blocks d) held
   pub same_cid : received.cid ≡ held.cid
+  pub kind : received.cid.hash ≡ Sha256
   pub differ : received.block ≢ held.block
   pub same_hash : sha256 received.block ≡ sha256 held.block
 

@@ -1,5 +1,5 @@
 -- Short lists of which all but the last are one number.
-use Rattle.std.proofs.Common.{◌≡◌, ◌+◌, ◌≤◌, ℕ, zero, suc, List, Some, [], ◌∷◌, subst, arith}
+use Rattle.std.proofs.Common.{◌≡◌, ◌+◌, ◌≤◌, ℕ, zero, suc, Some, [], ◌∷◌, subst, arith}
 use Rattle.std.specs.Prelude.{slice_get}
 use Rattle.tg_model.specs.ImportLayout.{AreFull}
 

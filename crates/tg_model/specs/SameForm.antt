@@ -7,8 +7,6 @@ use Rattle.std.proofs.lemmas.Slice.Eq.{bytes_eq-Decides}
 use Rattle.tg_cid.specs.Cid.{CidParts}
 use Rattle.tg_cid.specs.CodeLaws.{same_codec, same_codec_is, same_codec_self, same_hash, same_hash_is, same_hash_self}
 use Rattle.tg_cid.specs.Names.{Names}
-use Rattle.tg_cid.specs.declared.cid.Codec.{Codec}
-use Rattle.tg_cid.specs.declared.cid.HashKind.{HashKind}
 use Rattle.tg_model.specs.Stores.{as_v1}
 
 -- the CIDs have one version 1 form

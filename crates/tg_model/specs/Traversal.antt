@@ -3,9 +3,11 @@
 -- dfs).
 use Rattle.tg_model.specs.declared.queries.Scope.TheVariants as scopes
 use Rattle.tg_bytes.specs.Ascii.{line_feed, slash}
-use Rattle.std.specs.Prelude.{Bool, List, None, Option, Some, [], drop, if◌then◌else◌, length, map, nat_lt, take, ℕ}
-use Rattle.std.specs.Prelude.{◌&&◌, ◌++◌, ◌+◌, ◌-◌, ◌∷◌}
+use Rattle.std.specs.List.{list_any}
+use Rattle.std.specs.Prelude.{Bool, List, None, Option, Some, [], drop, false, if◌then◌else◌, length, map, nat_lt}
+use Rattle.std.specs.Prelude.{not, take, true, ℕ, ◌&&◌, ◌++◌, ◌+◌, ◌-◌, ◌||◌, ◌∷◌}
 use Rattle.tg_cid.specs.Cid.{CidParts}
+use Rattle.tg_cid.specs.CodeLaws.{same_cid}
 use Rattle.tg_model.specs.ByteRanges.{high_of, low_of}
 use Rattle.tg_model.specs.Dag.{Dag, Children, Section, bare, with_child, no_child, node, total_of, unopened}
 use Rattle.tg_model.specs.PathWalk.{PathEnd, Spot, Stop, TraversalEnd, bad_block, child_below, gone, not_reached}
@@ -262,22 +264,41 @@ traversal q d =
     let below = from_end walk.end q.scope q.span (length walk.sections + 1) in
     record { places = walk_places 1 walk.sections ++ below.places; text = below.text; met = below.met; end = below.end }
 
--- the places that are asked for: each of them
-abbrev pub asked_places : QueryParts → List Place → List Place
-asked_places q places = places
+-- the sections of places, repeats with them
+abbrev pub sections_of : List Place → List Section
+sections_of places = map (λ p. p.section) places
 
--- and of these the ones that are sent, by whether repeats are: each of them
-abbrev pub unrepeated : Bool → List Place → List Place
-unrepeated dups places = places
+-- one of the sections stands under the CID
+abbrev pub has_cid : CidParts → List Section → Bool
+has_cid cid sections = list_any (λ section. same_cid cid section.cid) sections
 
--- the places of which the sections are sent
-abbrev pub sent_places : QueryParts → List Place → List Place
-sent_places q places = unrepeated q.dups (asked_places q places)
+-- of sections behind others the first under each CID that none of the others has
+abbrev pub first_behind : List Section → List Section → List Section
+first_behind before [] = []
+first_behind before (section ∷ sections) =
+    let behind = first_behind (before ++ section ∷ []) sections in
+    if has_cid section.cid before then behind else section ∷ behind
 
--- the sections that are sent, in order
-abbrev pub block_list : QueryParts → Dag → List Section
-block_list q d = map (λ p. p.section) (sent_places q (traversal q d).places)
+-- the sections that are asked for: each of them
+abbrev pub asked : QueryParts → List Section → List Section
+asked q sections = sections
+
+-- and of these the ones that are sent: each where repeats are, and else the first under each CID
+abbrev pub unrepeated : Bool → List Section → List Section
+unrepeated true sections = sections
+unrepeated false sections = first_behind [] sections
+
+abbrev pub sent : QueryParts → List Section → List Section
+sent q sections = unrepeated q.dups (asked q sections)
+
+-- a section under the CID is sent behind these
+abbrev pub is_sent_behind : QueryParts → List Section → CidParts → Bool
+is_sent_behind q before cid = q.dups || not (has_cid cid before)
 
 -- the opened sections, repeats with them
 abbrev pub opened_list : QueryParts → Dag → List Section
-opened_list q d = map (λ p. p.section) (traversal q d).places
+opened_list q d = sections_of (traversal q d).places
+
+-- the sections that are sent, in order
+abbrev pub block_list : QueryParts → Dag → List Section
+block_list q d = sent q (opened_list q d)

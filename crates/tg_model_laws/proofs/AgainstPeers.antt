@@ -1,7 +1,7 @@
 -- What a sender can make of a query with the root of a sound DAG: its answer and fronts of it, or a collision pair.
-use Rattle.std.proofs.Common.{◌≡◌, ◌≢◌, ◌⊎◌, ℕ, ◌+◌, Bool, true, false, Option, Some, None, List, [], Contains, inl, inr, ⊎_elim, length, ◌++◌, map, refl, sym, ap, ◌∙◌, subst}
+use Rattle.std.proofs.Common.{◌≡◌, ◌≢◌, ◌⊎◌, ℕ, ◌+◌, Bool, true, false, Option, Some, None, List, [], Contains, inl, inr, ⊎_elim, length, ◌++◌, refl, sym, ap, ◌∙◌, subst}
 use Rattle.tg_model_laws.proofs.OwnSections.{own_sections_fit, path_leads}
-use Rattle.tg_model_laws.proofs.SameOpenings.{one_fit}
+use Rattle.tg_model_laws.proofs.SentOpenings.{one_fit}
 use Rattle.tg_model_laws.proofs.CountsWithin.{counts_within}
 use Rattle.tg_model_laws.proofs.Followed.{EndFollows, Follows, at_end, at_node, gives_front, path_follows, traversal_follows}
 use Rattle.tg_model_laws.proofs.Fronts.{FrontOf}
@@ -10,6 +10,7 @@ use Rattle.tg_model_laws.specs.PartialDags.{OpenedFrom, alone, opened, same_bare
 use Rattle.tg_model_laws.proofs.TerminalTexts.{traversal-text}
 use Rattle.tg_model_laws.proofs.Terminals.{traversal_whole}
 use Rattle.tg_model_laws.specs.PathStops.{path_stops}
+use Rattle.tg_model_laws.specs.SentSections.{held_sent}
 use Rattle.tg_model.specs.Answer.{answer, is_listed, node_text}
 use Rattle.tg_model.specs.Counts.{counts}
 use Rattle.tg_model.specs.Dag.{Dag, Section, blocks, node, root_cid}
@@ -20,7 +21,7 @@ use Rattle.tg_model.specs.Lookup.{lookup_path}
 use Rattle.tg_model.specs.PathWalk.{PathEnd, Spot, Stop, TraversalEnd, gone, not_folder, not_there, path_walk, stopped, terminal, whole}
 use Rattle.tg_model.specs.Queries.{QueryParts, SpanParts}
 use Rattle.tg_model.specs.Sound.{IsSound, top}
-use Rattle.tg_model.specs.Traversal.{Place, Traversal, block_list, from_end, opened_list, traversal}
+use Rattle.tg_model.specs.Traversal.{Traversal, block_list, from_end, opened_list, sections_of, sent, traversal}
 use Rattle.tg_model.specs.declared.queries.Scope.{Scope}
 use Rattle.tg_model.specs.declared.queries.Scope.TheVariants as scopes
 
@@ -34,15 +35,31 @@ collision_pair sections s d e (a, b, in_a, in_b, clash) = record {
   is_received = subst (λ (sections : List Section). Contains sections a) e in_a;
   is_held = in_b;
   same_cid = clash.same_cid;
+  kind = clash.kind;
   differ = clash.differ;
   same_hash = clash.same_hash;
 }
 
+-- a pair of what was opened is one of what was sent: each block that was opened was sent
+sent_pair : (q : QueryParts) (d s : Dag) → IsOpenedFor s q → CollisionPair (blocks s) d → CollisionPair (block_list q s) d
+sent_pair q d s right p = record {
+  received = p.received;
+  held = p.held;
+  is_received = held_sent q (opened_list q s) p.received (subst (λ (sections : List Section). IfOnce q.dups (HasOneBlockEach sections)) right.opened right.one_each)
+      (subst (λ (sections : List Section). Contains sections p.received) right.opened p.is_received);
+  is_held = p.is_held;
+  same_cid = p.same_cid;
+  kind = p.kind;
+  differ = p.differ;
+  same_hash = p.same_hash;
+}
+
 -- what follows where the partial DAG is opened from the sound one, or a pair
-pub or_pair : OneKind → (q : QueryParts) (d s : Dag) (sections : List Section) (P : Type 0) → IsSound d → root_cid d ≡ q.root → IsOpenedFor s q → blocks s ≡ sections
-    → (OpenedFrom s d → P) → P ⊎ CollisionPair sections d
-or_pair one_kind q d s sections P sound root right e h =
-    ⊎_elim (λ (from : OpenedFrom s d). inl (h from)) (λ (c : Collision (blocks s) (blocks d)). inr (collision_pair sections s d e c))
+pub or_pair : OneKind → (q : QueryParts) (d s : Dag) (P : Type 0) → IsSound d → root_cid d ≡ q.root → IsOpenedFor s q → (OpenedFrom s d → P)
+    → P ⊎ CollisionPair (block_list q s) d
+or_pair one_kind q d s P sound root right h =
+    ⊎_elim (λ (from : OpenedFrom s d). inl (h from))
+    (λ (c : Collision (blocks s) (blocks d)). inr (sent_pair q d s right (collision_pair (blocks s) s d refl c)))
     (opened_or_collision one_kind top s d sound.whole right.checked sound.checked (right.root ∙ sym root))
 
 -- ---- the end
@@ -74,21 +91,21 @@ not_early t u other (inr h) = absurd (other h.wanted h.end)
 
 -- a stop that isn't at an unopened block is the look-up's, or there is a pair
 lookup_or_pair : OneKind → (q : QueryParts) (d s : Dag) (stop : Stop) → IsSound d → root_cid d ≡ q.root → IsOpenedFor s q → (traversal q s).end ≡ stopped stop
-    → ((spot : Spot) → stop ≢ gone spot) → StopsAlike stop (lookup_path q.path d) ⊎ CollisionPair (blocks s) d
+    → ((spot : Spot) → stop ≢ gone spot) → StopsAlike stop (lookup_path q.path d) ⊎ CollisionPair (block_list q s) d
 lookup_or_pair one_kind q d s stop sound root right e not_gone =
-    or_pair one_kind q d s (blocks s) (StopsAlike stop (lookup_path q.path d)) sound root right refl
+    or_pair one_kind q d s (StopsAlike stop (lookup_path q.path d)) sound root right
     (λ from.
     let same : traversal q s ≡ traversal q d = not_early (traversal q s) (traversal q d) (λ spot f. not_gone spot (cc)) (traversal_follows q s d from) in
     stops_alike q d stop sound (ap (λ (t : Traversal). t.end) (sym same) ∙ e))
 
 -- an absence is one of the sound DAG, or there is a pair
 pub absent_or_pair : OneKind → (q : QueryParts) (d s : Dag) (i : ℕ) → IsSound d → root_cid d ≡ q.root → IsOpenedFor s q → (traversal q s).end ≡ stopped (not_there i)
-    → StopsAlike (not_there i) (lookup_path q.path d) ⊎ CollisionPair (blocks s) d
+    → StopsAlike (not_there i) (lookup_path q.path d) ⊎ CollisionPair (block_list q s) d
 absent_or_pair one_kind q d s i sound root right e = lookup_or_pair one_kind q d s (not_there i) sound root right e (λ spot f. cc)
 
 -- and so is the want of a directory
 pub not_folder_or_pair : OneKind → (q : QueryParts) (d s : Dag) (i : ℕ) → IsSound d → root_cid d ≡ q.root → IsOpenedFor s q → (traversal q s).end ≡ stopped (not_folder i)
-    → StopsAlike (not_folder i) (lookup_path q.path d) ⊎ CollisionPair (blocks s) d
+    → StopsAlike (not_folder i) (lookup_path q.path d) ⊎ CollisionPair (block_list q s) d
 not_folder_or_pair one_kind q d s i sound root right e = lookup_or_pair one_kind q d s (not_folder i) sound root right e (λ spot f. cc)
 
 -- ---- what is written meanwhile
@@ -143,16 +160,17 @@ front_written q d s sound from late =
 pub front_or_pair : OneKind → (q : QueryParts) (d s : Dag) (sections : List Section) (wanted : Spot) → IsSound d → root_cid d ≡ q.root → IsInProgress s q sections wanted
     → IsFrontOfAnswer (output_so_far q s) (answer q d) ⊎ CollisionPair sections d
 front_or_pair one_kind q d s sections wanted sound root h =
-    or_pair one_kind q d s sections (IsFrontOfAnswer (output_so_far q s) (answer q d)) sound root h.right (h.right.opened ∙ h.list)
+    subst (λ (given : List Section). IsFrontOfAnswer (output_so_far q s) (answer q d) ⊎ CollisionPair given d) h.list
+    (or_pair one_kind q d s (IsFrontOfAnswer (output_so_far q s) (answer q d)) sound root h.right
     (λ from. so_far_front (is_late_terminal q.scope (path_walk q.path s).end) (traversal q s).end (whole_text q s) (traversal q s).text wanted (answer q d) h.end
-    (λ late. front_written q d s sound from late))
+    (λ late. front_written q d s sound from late)))
 
 -- ---- what is counted meanwhile
 
 -- what is opened counts no more than the sound DAG does, or there is a pair
-pub counted_or_pair : OneKind → (q : QueryParts) (d s : Dag) → IsSound d → root_cid d ≡ q.root → IsOpenedFor s q → AreWithin (counts q d) (counts q s) ⊎ CollisionPair (blocks s) d
+pub counted_or_pair : OneKind → (q : QueryParts) (d s : Dag) → IsSound d → root_cid d ≡ q.root → IsOpenedFor s q → AreWithin (counts q d) (counts q s) ⊎ CollisionPair (block_list q s) d
 counted_or_pair one_kind q d s sound root right =
-    or_pair one_kind q d s (blocks s) (AreWithin (counts q d) (counts q s)) sound root right refl
+    or_pair one_kind q d s (AreWithin (counts q d) (counts q s)) sound root right
     (λ from. counts_within q (traversal q s) (traversal q d) (gives_front (traversal q s) (traversal q d) (traversal_follows q s d from)))
 
 -- ---- what is accepted
@@ -161,14 +179,15 @@ counted_or_pair one_kind q d s sound root right =
 pub answer_or_pair : OneKind → (q : QueryParts) (d s : Dag) (sections : List Section) (out : List ℕ) → IsSound d → root_cid d ≡ q.root → Fits s q sections out
     → ((sections ≡ block_list q d) × (answer q d ≡ Some out)) ⊎ CollisionPair sections d
 answer_or_pair one_kind q d s sections out sound root h =
-    or_pair one_kind q d s sections ((sections ≡ block_list q d) × (answer q d ≡ Some out)) sound root h.right (h.right.opened ∙ h.list)
+    subst (λ (given : List Section). ((sections ≡ block_list q d) × (answer q d ≡ Some out)) ⊎ CollisionPair given d) h.list
+    (or_pair one_kind q d s ((sections ≡ block_list q d) × (answer q d ≡ Some out)) sound root h.right
     (λ from.
     let same : traversal q s ≡ traversal q d = not_early (traversal q s) (traversal q d) (λ spot f. cc (h.end, f)) (traversal_follows q s d from) in
-    let list : sections ≡ block_list q d = sym h.list ∙ ap (λ (t : Traversal). map (λ (p : Place). p.section) t.places) same in
-    let opened : blocks s ≡ opened_list q d = h.right.opened ∙ ap (λ (t : Traversal). map (λ (p : Place). p.section) t.places) same in
+    let list : sections ≡ block_list q d = sym h.list ∙ ap (λ (t : Traversal). sent q (sections_of t.places)) same in
+    let opened : blocks s ≡ opened_list q d = h.right.opened ∙ ap (λ (t : Traversal). sections_of t.places) same in
     let once = subst (λ (sections : List Section). IfOnce q.dups (HasOneBlockEach sections)) opened h.right.one_each in
     let (at, ends, said) = has_answer q d sound (ap (λ (t : Traversal). t.end) (sym same) ∙ h.end) in
     let text : List ℕ = node_text q.scope q.span at in
     let (own, fits) = own_sections_fit q d text sound root once said in
     let one = one_fit one_kind q sections s own out text h (subst (λ (sections : List Section). Fits own q sections text) (sym list) fits) in
-    (list, said ∙ ap (λ (text : List ℕ). Some text) (sym one.1)))
+    (list, said ∙ ap (λ (text : List ℕ). Some text) (sym one.1))))

@@ -1,15 +1,16 @@
 -- The counts of a traversal that gives a front of what another gives are within the other's.
-use Rattle.std.proofs.Common.{ℕ, ◌+◌, ◌≤◌, Bool, true, false, List, length, arith}
-use Rattle.std.proofs.lemmas.List.{length-map}
+use Rattle.std.proofs.Common.{◌≡◌, ◌∙◌, ◌++◌, ℕ, ◌+◌, ◌≤◌, Bool, true, false, List, ap, length, arith}
+use Rattle.std.proofs.lemmas.List.{length-append}
 use Rattle.std.specs.List.{flat_map}
 use Rattle.std.specs.Prelude.{bytes_eq}
 use Rattle.tg_model_laws.proofs.Followed.{GivesFront}
+use Rattle.tg_model_laws.specs.SentSections.{sent_front}
 use Rattle.tg_model_laws.proofs.Fronts.{FrontOf, front-greatest, front-length, front-sum, front_filtered, front_joined, front_mapped}
 use Rattle.tg_model.specs.Counts.{counts_of, entries_of_one, if_once, met_line, met_of, names_of_one}
 use Rattle.tg_model.specs.Dag.{Section}
 use Rattle.tg_model.specs.LimitNumbers.{AreWithin}
 use Rattle.tg_model.specs.Queries.{QueryParts}
-use Rattle.tg_model.specs.Traversal.{ListedEntry, Place, Traversal, sent_places}
+use Rattle.tg_model.specs.Traversal.{ListedEntry, Place, Traversal, sections_of, sent}
 
 -- ---- what is met of one directory
 
@@ -28,14 +29,19 @@ names_within met all h m =
 
 -- ---- what is sent
 
--- what is sent for a front of places is a front of what is sent, and behind it no more is sent than there are places
-record SentFront (q : QueryParts) (places all : List Place) : Type 0 where
-  front : FrontOf (sent_places q places) (sent_places q all)
-  later : length (sent_places q all) + length places ≤ length (sent_places q places) + length all
+-- what is sent for a front of sections is a front of what is sent, and behind it no more is sent than there are sections
+record SentFront (q : QueryParts) (sections all : List Section) : Type 0 where
+  front : FrontOf (sent q sections) (sent q all)
+  later : length (sent q all) + length sections ≤ length (sent q sections) + length all
 
--- each place is sent
-sent_front : (q : QueryParts) (places all : List Place) → FrontOf places all → SentFront q places all
-sent_front q places all h = record { front = h; later = omega arith }
+front_sent : (q : QueryParts) (sections all : List Section) → FrontOf sections all → SentFront q sections all
+front_sent q sections all h =
+    let more = sent_front q sections h.rest in
+    let whole : sent q all ≡ sent q sections ++ more.0 = ap (sent q) h.is ∙ more.1 in
+    record {
+      front = record { rest = more.0; is = whole };
+      later = omega (arith, ap length whole, length-append (sent q sections) more.0, ap length h.is, length-append sections h.rest, more.2);
+    }
 
 -- what is counted where each block is sent once
 once_within : (dups : Bool) (n most : ℕ) → n ≤ most → if_once dups n ≤ if_once dups most
@@ -47,10 +53,10 @@ once_within false n most h = h
 -- the counts of a traversal that gives a front
 pub counts_within : (q : QueryParts) (t u : Traversal) → GivesFront t u → AreWithin (counts_of q u) (counts_of q t)
 counts_within q t u h =
-    let sent : SentFront q t.places u.places = sent_front q t.places u.places h.places in
-    let section_of : Place → Section = λ p. p.section in
+    let opened : FrontOf (sections_of t.places) (sections_of u.places) = front_mapped (λ (p : Place). p.section) t.places u.places h.places in
+    let given : SentFront q (sections_of t.places) (sections_of u.places) = front_sent q (sections_of t.places) (sections_of u.places) opened in
     let size : Section → ℕ = λ section. length section.block in
-    let sections = front_mapped section_of (sent_places q t.places) (sent_places q u.places) sent.front in
+    let sections = given.front in
     let sizes = front_mapped size _ _ sections in
     let places : length t.places ≤ length u.places = front-length t.places u.places h.places in
     let text : length t.text ≤ length u.text = front-length t.text u.text h.text in
@@ -64,5 +70,5 @@ counts_within q t u h =
       output = omega arith;
       seen_blocks = once_within q.dups _ _ (front-length _ _ sections);
       seen_bytes = once_within q.dups _ _ (front-sum _ _ sizes);
-      reused = once_within q.dups _ _ (omega (arith, length-map (sent_places q t.places) section_of, length-map (sent_places q u.places) section_of));
+      reused = once_within q.dups _ _ (omega (arith, given.later));
     }

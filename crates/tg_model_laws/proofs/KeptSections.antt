@@ -5,8 +5,6 @@ use Rattle.std.proofs.lemmas.List.Elements.{All-cons, All-head, All-nil, All-tai
 use Rattle.std.proofs.lemmas.Slice.Eq.{bytes_eq-Decides}
 use Rattle.tg_cid.specs.Cid.{CidParts}
 use Rattle.tg_cid.specs.Names.{Names}
-use Rattle.tg_cid.specs.declared.cid.Codec.TheVariants as codecs
-use Rattle.tg_cid.specs.declared.cid.HashKind.TheVariants as hashes
 use Rattle.tg_model.specs.SameForm.{named_too, v1_or_not}
 use Rattle.tg_cid.specs.Limits.{max_block_len}
 use Rattle.tg_model_laws.proofs.OpenedDags.{one_hash}
@@ -70,7 +68,8 @@ one_store old new section is may adds = record {
 equal_or_collide : (cid : CidParts) (a b : List ℕ) (test : Bool) → Decides test (a ≡ b) → Names cid a → Names cid b → (a ≡ b) ⊎ BlocksCollide
 equal_or_collide cid a b true decides n m = inl (decides.0 refl)
 equal_or_collide cid a b false decides n m =
-    inr (record { one = a; other = b; differ = λ same. true≢false (sym (decides.1 same)); same_hash = one_hash cid.hash cid.digest a b n m })
+    let differ : a ≢ b = λ same. true≢false (sym (decides.1 same)) in
+    inr (record { one = a; other = b; differ = differ; same_hash = (one_hash cid.hash cid.digest a b n m differ).1 })
 
 -- what stood under the CID, and the section's block
 held_or_collide : (old : Store) (section : Section) (stored : Option (List ℕ)) → IsStore old → MayKeep section → old section.cid ≡ stored

@@ -21,6 +21,8 @@ mod PartialLaws
 mod PathEnds
 mod PlaceLaws
 mod SameOpenings
+mod CutOpenings
+mod SentOpenings
 mod SentBlocks
 mod ShownDags
 mod Slices

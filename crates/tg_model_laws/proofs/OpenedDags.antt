@@ -48,9 +48,10 @@ mutual
 
 -- ---- blocks of one CID
 
--- two sections have one CID and different blocks with one SHA-256
+-- two sections have one CID, with sha2-256, and different blocks with one SHA-256
 pub record Clash (a b : Section) : Type 0 where
   pub same_cid : a.cid ≡ b.cid
+  pub kind : a.cid.hash ≡ hashes.Sha256
   pub differ : a.block ≢ b.block
   pub same_hash : sha256 a.block ≡ sha256 b.block
 
@@ -58,19 +59,18 @@ pub record Clash (a b : Section) : Type 0 where
 abbrev pub Collision : List Section → List Section → Type 0
 Collision received held = (a : Section) × (b : Section) × Contains received a × Contains held b × Clash a b
 
--- blocks that a CID names have one SHA-256
-pub one_hash : (hash : HashKind) (digest a b : List ℕ) → IsDigestOf hash digest a → IsDigestOf hash digest b → sha256 a ≡ sha256 b
-one_hash hashes.Sha256 digest a b p q = sym p ∙ q
-one_hash hashes.Identity digest a b p q = absurd p
+-- different blocks that a CID names have one SHA-256, which its digest is
+pub one_hash : (hash : HashKind) (digest a b : List ℕ) → IsDigestOf hash digest a → IsDigestOf hash digest b → a ≢ b → (hash ≡ hashes.Sha256) × (sha256 a ≡ sha256 b)
+one_hash hashes.Sha256 digest a b p q differ = (refl, sym p ∙ q)
+one_hash hashes.Identity digest a b p q differ = absurd (differ (sym p ∙ q))
 
 -- sections of one CID are equal, or they collide
 pub compared : (a b : Section) (test : Bool) → Decides test (a.block ≡ b.block) → a.cid ≡ b.cid → Names a.cid a.block → Names b.cid b.block → (a ≡ b) ⊎ Clash a b
 compared a b true decides e p q = inl (ap₂ (λ (cid : CidParts) (block : List ℕ). let section : Section = record { cid = cid; block = block } in section) e (decides.0 refl))
-compared a b false decides e p q = inr (record {
-  same_cid = e;
-  differ = λ same. true≢false (sym (decides.1 same));
-  same_hash = one_hash b.cid.hash b.cid.digest a.block b.block (subst (λ (cid : CidParts). Names cid a.block) e p) q;
-})
+compared a b false decides e p q =
+    let differ : a.block ≢ b.block = λ same. true≢false (sym (decides.1 same)) in
+    let one = one_hash b.cid.hash b.cid.digest a.block b.block (subst (λ (cid : CidParts). Names cid a.block) e p) q differ in
+    inr (record { same_cid = e; kind = ap (λ (cid : CidParts). cid.hash) e ∙ one.0; differ = differ; same_hash = one.1 })
 
 -- the first of some sections is one of them
 pub first_one : (a : Section) (sections : List Section) → Contains (a ∷ sections) a

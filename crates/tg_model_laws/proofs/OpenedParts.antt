@@ -1,5 +1,5 @@
 -- The partial DAG that opens just what is asked of a node.
-use Rattle.std.proofs.Common.{◌≡◌, Option, Some, None, List, [], ◌∷◌, ◌++◌, ℕ, ◌+◌, map, refl, sym, ap, ap₂, ◌∙◌}
+use Rattle.std.proofs.Common.{◌≡◌, Option, Some, None, List, [], ◌∷◌, ◌++◌, ℕ, ◌+◌, refl, sym, ap, ap₂, ◌∙◌}
 use Rattle.std.proofs.lemmas.List.{map-append}
 use Rattle.tg_cid.specs.Cid.{CidParts}
 use Rattle.tg_model_laws.proofs.ContentSizes.{AreReadOn, IsReadOn}
@@ -9,7 +9,7 @@ use Rattle.tg_model_laws.proofs.Through.{child-through, node-through}
 use Rattle.tg_model.specs.PathWalk.{spot_at, whole}
 use Rattle.tg_model.specs.Dag.{Dag, Children, Section, bare, blocks, blocks_of_children, with_child, no_child, node, root_cid, unopened}
 use Rattle.tg_model.specs.Sound.{Position, position_fault}
-use Rattle.tg_model.specs.Traversal.{Place, Reach, Traversal, Visit, and_then, giving_entries, giving_place, giving_text, text_before, text_behind, traverse, traverse_children, unless_bad, visited, visits}
+use Rattle.tg_model.specs.Traversal.{Place, Reach, Traversal, Visit, and_then, giving_entries, giving_place, giving_text, sections_of, text_before, text_behind, traverse, traverse_children, unless_bad, visited, visits}
 
 -- a child is opened as far as it is gone into, and otherwise it stays unopened
 abbrev pub opened_at : (Reach → Position → Dag) → CidParts → Option (Reach × Position) → Dag
@@ -29,10 +29,6 @@ abbrev mutual
   opened_children (visit ∷ todo) (with_child d children) = with_child (opened_at (λ reach position. opened reach position d) (root_cid d) visit.into) (opened_children todo children)
 
 -- ---- what it gives
-
--- the sections of places
-abbrev pub sections_of : List Place → List Section
-sections_of places = map (λ p. p.section) places
 
 abbrev pub sections_in : Traversal → List Section
 sections_in t = sections_of t.places

@@ -28,7 +28,7 @@ use Rattle.tg_model.specs.Lookup.{LookupEnd, found, lookup_path}
 use Rattle.tg_model.specs.PathWalk.{PathEnd, PathWalk, Stop, not_reached, path_walk, terminal, whole}
 use Rattle.tg_model.specs.Queries.{QueryParts, SpanParts}
 use Rattle.tg_model.specs.Sound.{IsChecked, IsSound, top}
-use Rattle.tg_model.specs.Traversal.{Place, Traversal, at_terminal, block_list, from_end, named_met, opened_list, sent_places, traversal, walk_places}
+use Rattle.tg_model.specs.Traversal.{Place, Traversal, at_terminal, block_list, from_end, named_met, opened_list, sections_of, sent, traversal, walk_places}
 
 -- the partial DAG that a query's traversal opens
 abbrev own_dag : QueryParts → Dag → Dag
@@ -134,7 +134,7 @@ module _ (q : QueryParts) (d t : Dag) (sound : IsSound d) (e : (path_walk q.path
       let some_checked : IsChecked some = opened_checked top some t some_gives.from at_sound.checked in
       record {
         right = own_right root once;
-        list = ap (λ (given : Traversal). map (λ (p : Place). p.section) (sent_places q given.places)) own_traversal;
+        list = ap (λ (given : Traversal). sent q (sections_of given.places)) own_traversal;
         end = through;
         text = says ∙ sym (own_said (is_listed q.scope t) refl some_checked through) ∙ sym (ap (λ (end : PathEnd). terminal_text q end) own_end);
       }

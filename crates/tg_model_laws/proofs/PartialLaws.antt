@@ -19,7 +19,7 @@ use Rattle.tg_model.specs.PathWalk.{PathEnd, PathWalk, TraversalEnd, not_reached
 use Rattle.tg_model.specs.Queries.{QueryParts}
 use Rattle.tg_model.specs.Sound.{IsChecked, IsSound, top}
 use Rattle.tg_model.specs.Texts.{listing}
-use Rattle.tg_model.specs.Traversal.{Traversal, named_met, traversal}
+use Rattle.tg_model.specs.Traversal.{Traversal, block_list, named_met, sent, traversal}
 use Rattle.tg_model.specs.declared.queries.Scope.{Scope}
 use Rattle.tg_model.specs.declared.queries.Scope.TheVariants as scopes
 
@@ -37,6 +37,7 @@ one_block d received held within e p n =
         is_received = first_one received [];
         is_held = within;
         same_cid = clash.same_cid;
+        kind = clash.kind;
         differ = clash.differ;
         same_hash = clash.same_hash;
       })
@@ -142,9 +143,9 @@ late_front q d s sound right from late w =
       | inr lost ↦ absurd (cc (lost.end, e))
     ]
 
-pub written_or_pair : OneKind → (q : QueryParts) (d s : Dag) → IsSound d → root_cid d ≡ q.root → IsOpenedFor s q → IsFrontOfAnswer (output_so_far q s) (answer q d) ⊎ CollisionPair (blocks s) d
+pub written_or_pair : OneKind → (q : QueryParts) (d s : Dag) → IsSound d → root_cid d ≡ q.root → IsOpenedFor s q → IsFrontOfAnswer (output_so_far q s) (answer q d) ⊎ CollisionPair (block_list q s) d
 written_or_pair one_kind q d s sound root right =
-    or_pair one_kind q d s (blocks s) (IsFrontOfAnswer (output_so_far q s) (answer q d)) sound root right refl
+    or_pair one_kind q d s (IsFrontOfAnswer (output_so_far q s) (answer q d)) sound root right
     (λ from. shown_front (is_late_terminal q.scope (path_walk q.path s).end) (traversal q s).end (whole_text q s) (traversal q s).text (answer q d)
     (λ late. front_written q d s sound from late) (λ late w. late_front q d s sound right from late w))
 
@@ -157,11 +158,11 @@ at_root (bare section fault) sound = absurd sound.whole
 at_root (node section kind children) sound = refl
 
 pub all_or_pair : OneKind → (q : QueryParts) (d s : Dag) (sections : List Section) (out : List ℕ) → IsSound d → root_cid d ≡ q.root → q.scope ≡ scopes.All → q.path ≡ [] → Fits s q sections out
-    → (sections ≡ blocks d) ⊎ CollisionPair sections d
+    → (sections ≡ sent q (blocks d)) ⊎ CollisionPair sections d
 all_or_pair one_kind q d s sections out sound root all none h =
     elim (answer_or_pair one_kind q d s sections out sound root h) [
       | inl told ↦
           let walk : path_walk q.path d ≡ record { sections = []; end = terminal d } = ap (λ (path : List (List ℕ)). path_walk path d) none ∙ at_root d sound in
-          inl (told.0 ∙ all_opened q d d sound (ap (λ (w : PathWalk). w.end) walk) all ∙ ap (λ (before : List Section). before ++ blocks d) (ap (λ (w : PathWalk). w.sections) walk))
+          inl (told.0 ∙ ap (sent q) (all_opened q d d sound (ap (λ (w : PathWalk). w.end) walk) all ∙ ap (λ (before : List Section). before ++ blocks d) (ap (λ (w : PathWalk). w.sections) walk)))
       | inr pair ↦ inr pair
     ]

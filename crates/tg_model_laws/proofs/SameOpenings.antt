@@ -6,12 +6,12 @@ use Rattle.tg_model_laws.proofs.AskedPlaces.{Asked, Behind, ChildOpens, Children
 use Rattle.tg_model_laws.proofs.CountedPlaces.{just_asked}
 use Rattle.tg_model_laws.specs.Openings.{IsAtPlace}
 use Rattle.tg_model.specs.Dag.{Dag, Children, Section, bare, blocks, blocks_of_children, with_child, links_of, no_child, node, root_cid, root_cids, unopened}
-use Rattle.tg_model.specs.Fits.{Fits, IsInProgress, IsOpenedFor, whole_text}
+use Rattle.tg_model.specs.Fits.{IsOpenedFor}
 use Rattle.tg_model.specs.PathWalk.{Spot, TraversalEnd, gone, spot_at, stopped, whole}
 use Rattle.tg_model.specs.Queries.{QueryParts}
 use Rattle.tg_model.specs.Reading.{Reads}
 use Rattle.tg_model.specs.Sound.{AreCheckedAt, IsBareBlock, IsCheckedAt, Position, positions, top}
-use Rattle.tg_model.specs.Traversal.{block_list, opened_list, traversal}
+use Rattle.tg_model.specs.Traversal.{opened_list, traversal}
 use Rattle.tg_model.specs.declared.fault.BlockFault.{BlockFault}
 use Rattle.tg_model.specs.declared.kinds.Kind.{Kind}
 
@@ -153,31 +153,3 @@ one_opened law q a b h g list at at_b =
     let (same, ends, behind) = same_dag law (along q.scope q.span top q.path) 1 top top a b (traversal q a).end (traversal q b).end [] [] (just_asked q a h at)
     (just_asked q b g at_b) h.checked g.checked (h.root ∙ sym g.root) (λ ended. refl) (λ ended. refl) lists in
     (same, ends)
-
--- what is sent determines what is opened
-pub sent_opened : (q : QueryParts) (a b : Dag) → IsOpenedFor a q → IsOpenedFor b q → block_list q a ≡ block_list q b → opened_list q a ≡ opened_list q b
-sent_opened q a b h g e = e
-
--- what the sections of a query have opened is determined
-same_opened : OneKind → (q : QueryParts) (sections : List Section) (a b : Dag) → IsOpenedFor a q → IsOpenedFor b q → block_list q a ≡ sections → block_list q b ≡ sections
-    → IsAtPlace (traversal q a).end → IsAtPlace (traversal q b).end → (a ≡ b) × ((traversal q a).end ≡ (traversal q b).end)
-same_opened law q sections a b h g list list_b at at_b = one_opened law q a b h g (sent_opened q a b h g (list ∙ sym list_b)) at at_b
-
--- sections fit a query in one way at most
-pub one_fit : OneKind → (q : QueryParts) (sections : List Section) (a b : Dag) (x y : List ℕ) → Fits a q sections x → Fits b q sections y → (a ≡ b) × (x ≡ y)
-one_fit law q sections a b x y h g =
-    let (same, ends) = same_opened law q sections a b h.right g.right h.list g.list (subst IsAtPlace (sym h.end) tt) (subst IsAtPlace (sym g.end) tt) in
-    (same, h.text ∙ ap (λ (d : Dag). whole_text q d) same ∙ sym g.text)
-
--- and stay in progress in one way at most
-pub one_in_progress : OneKind → (q : QueryParts) (sections : List Section) (a b : Dag) (v w : Spot) → IsInProgress a q sections v → IsInProgress b q sections w
-    → (a ≡ b) × (v ≡ w)
-one_in_progress law q sections a b v w h g =
-    let (same, ends) = same_opened law q sections a b h.right g.right h.list g.list (subst IsAtPlace (sym h.end) tt) (subst IsAtPlace (sym g.end) tt) in
-    (same, cc (ends, h.end, g.end))
-
--- sections that fit a query don't stay in progress
-pub fit_or_in_progress : OneKind → (q : QueryParts) (sections : List Section) (a b : Dag) (x : List ℕ) (w : Spot) → Fits a q sections x → IsInProgress b q sections w → ⊥
-fit_or_in_progress law q sections a b x w h g =
-    let (same, ends) = same_opened law q sections a b h.right g.right h.list g.list (subst IsAtPlace (sym h.end) tt) (subst IsAtPlace (sym g.end) tt) in
-    cc (ends, h.end, g.end)

@@ -3,7 +3,7 @@ use Rattle.std.proofs.Common.{◌≡◌, Option, Some, None, List, [], ◌∷◌
 use Rattle.std.proofs.lemmas.List.{map-append}
 use Rattle.std.specs.Prelude.{⊤}
 use Rattle.tg_cid.specs.Cid.{CidParts}
-use Rattle.tg_model_laws.proofs.OpenedParts.{opened, opened_at, opened_gives, opened_children, sections_in, sections_of}
+use Rattle.tg_model_laws.proofs.OpenedParts.{opened, opened_at, opened_gives, opened_children, sections_in}
 use Rattle.tg_model_laws.proofs.Terminals.{terminal_sound}
 use Rattle.tg_model_laws.proofs.VisitPlaces.{each_mapped}
 use Rattle.tg_model_laws.proofs.WholeTraversals.{traverse-whole}
@@ -12,7 +12,7 @@ use Rattle.tg_model.specs.Dag.{Dag, Children, Section, bare, blocks, with_child,
 use Rattle.tg_model.specs.PathWalk.{PathEnd, PathWalk, path_walk, terminal}
 use Rattle.tg_model.specs.Queries.{QueryParts, SpanParts}
 use Rattle.tg_model.specs.Sound.{AreCheckedAt, IsCheckedAt, IsSound, Position, part, passed, position_by_name, position_fault, positions, slot_position, top}
-use Rattle.tg_model.specs.Traversal.{Place, Reach, Visit, all_reach, at_terminal, bundled, entire, entry_visit, from_end, opened_list, slot_visit, visit_by_name, visits, walk_places}
+use Rattle.tg_model.specs.Traversal.{Place, Reach, Visit, all_reach, at_terminal, bundled, entire, entry_visit, from_end, opened_list, sections_of, slot_visit, visit_by_name, visits, walk_places}
 use Rattle.tg_model.specs.declared.kinds.Kind.{Kind}
 use Rattle.tg_model.specs.declared.kinds.Kind.TheVariants.{Basic, File, Raw, Shard, Symlink}
 use Rattle.tg_model.specs.declared.queries.Scope.{Scope}

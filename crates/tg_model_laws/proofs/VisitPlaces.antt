@@ -1,6 +1,6 @@
 -- What is done at the links of a node, beside where the children stand.
-use Rattle.std.proofs.Common.{◌≡◌, Bool, true, false, Option, Some, None, List, [], ◌∷◌, ◌++◌, ℕ, ◌+◌, ◌-◌, map, refl, length}
-use Rattle.std.specs.Prelude.{⊤, if◌then◌else◌}
+use Rattle.std.proofs.Common.{Bool, true, false, Option, Some, None, List, [], ◌∷◌, ◌++◌, ℕ, ◌+◌, ◌-◌, map, refl, length}
+use Rattle.std.specs.Prelude.{if◌then◌else◌}
 use Rattle.tg_cid.specs.Cid.{CidParts}
 use Rattle.tg_model_laws.specs.Standing.{Each, Stands}
 use Rattle.tg_model.specs.Sound.{Position, part, passed, position_by_name, positions, slot_position, top}

@@ -5,6 +5,7 @@ pub mod Openings
 pub mod PartialDags
 pub mod PathStops
 pub mod Places
+pub mod SentSections
 pub mod Standing
 pub mod Steps
 pub mod Stores

@@ -9,7 +9,7 @@ use Rattle.tg_model.specs.Fits.{CollisionPair, Fits, IsFrontOfAnswer, IsOpenedFo
 use Rattle.tg_model.specs.PathWalk.{Spot, gone, path_walk, stopped, terminal, whole}
 use Rattle.tg_model.specs.Queries.{QueryParts}
 use Rattle.tg_model.specs.Sound.{IsChecked, IsSound}
-use Rattle.tg_model.specs.Traversal.{ListedEntry, Place, Traversal, named_met, traversal}
+use Rattle.tg_model.specs.Traversal.{ListedEntry, Place, Traversal, block_list, named_met, sent, traversal}
 use Rattle.tg_model.specs.declared.fault.BlockFault.{BlockFault}
 use Rattle.tg_model.specs.declared.kinds.Kind.{Kind}
 use Rattle.tg_model.specs.declared.queries.Scope.TheVariants as scopes
@@ -55,12 +55,13 @@ MeetEntries = (q : QueryParts) (s t : Dag) → IsOpenedFor s q → (path_walk q.
 
 -- whatever was opened for a query, what is written is a front of the sound DAG's answer, or there is a collision pair
 abbrev pub WriteFronts : Type 0
-WriteFronts = (q : QueryParts) (d s : Dag) → IsSound d → root_cid d ≡ q.root → IsOpenedFor s q → IsFrontOfAnswer (output_so_far q s) (answer q d) ⊎ CollisionPair (blocks s) d
+WriteFronts = (q : QueryParts) (d s : Dag) → IsSound d → root_cid d ≡ q.root → IsOpenedFor s q → IsFrontOfAnswer (output_so_far q s) (answer q d) ⊎ CollisionPair (block_list q s) d
 
--- under scope all, without a path, what fits are the sound DAG's blocks, or there is a collision pair
+-- under scope all, without a path, what fits is what is sent of the sound DAG's blocks, all of them where repeats are,
+-- or there is a collision pair
 abbrev pub HoldAll : Type 0
 HoldAll = (q : QueryParts) (d s : Dag) (sections : List Section) (out : List ℕ) → IsSound d → root_cid d ≡ q.root → q.scope ≡ scopes.All → q.path ≡ [] → Fits s q sections out
-    → (sections ≡ blocks d) ⊎ CollisionPair sections d
+    → (sections ≡ sent q (blocks d)) ⊎ CollisionPair sections d
 
 -- a traversal stops at an unopened block, and what it gives are fronts of what the other gives
 pub record StopsBefore (t u : Traversal) : Type 0 where

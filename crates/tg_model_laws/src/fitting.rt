@@ -1,11 +1,11 @@
 //! Laws on sections that fit a query, over the definitions alone.
 ghost use Rattle.std.specs.Prelude.{◌≡◌, ◌⊎◌, ℕ, Some, List};
 ghost use Rattle.tg_model_laws.specs.Fronts.{FitsByFronts, ProgressByFronts};
-ghost use Rattle.tg_model_laws.specs.Openings.{IsAtPlace};
+ghost use Rattle.tg_model_laws.specs.Openings.{IsAtPlace, IsSettled};
 ghost use Rattle.tg_model_laws.specs.PartialDags.{HoldAll, WriteFronts};
 ghost use Rattle.tg_model.specs.Answer.{answer};
 ghost use Rattle.tg_model.specs.Counts.{counts};
-ghost use Rattle.tg_model.specs.Dag.{Dag, Section, blocks, root_cid};
+ghost use Rattle.tg_model.specs.Dag.{Dag, Section, root_cid};
 ghost use Rattle.tg_model.specs.Ends.{StopsAlike};
 ghost use Rattle.tg_model.specs.Fits.{CollisionPair, Fits, HasOneBlockEach, IfOnce, IsFrontOfAnswer, IsInProgress};
 ghost use Rattle.tg_model.specs.Fits.{IsOpenedFor, output_so_far};
@@ -20,13 +20,14 @@ ghost use Rattle.tg_model.specs.Traversal.{block_list, opened_list, traversal};
 /// progress in one way at most: the partial DAG and the spot of the wanted block are determined. And they don't do
 /// both.
 pub fn one_fit()
-    // What is opened is determined by the list of what is opened, and this by what is sent.
+    // What is opened is determined by the list of what is opened, and this by what is sent, where the traversal came
+    // through or stopped at a block that would be sent: a repeat that isn't may be opened or not.
     ensures opened { (q : QueryParts) (a b : Dag) → IsOpenedFor a q → IsOpenedFor b q
         → opened_list q a ≡ opened_list q b
         → IsAtPlace (traversal q a).end → IsAtPlace (traversal q b).end → (a ≡ b)
         × ((traversal q a).end ≡ (traversal q b).end) }
     ensures sent { (q : QueryParts) (a b : Dag) → IsOpenedFor a q → IsOpenedFor b q → block_list q a ≡ block_list q b
-        → opened_list q a ≡ opened_list q b }
+        → IsSettled a q → IsSettled b q → opened_list q a ≡ opened_list q b }
 
     ensures fits { (q : QueryParts) (sections : List Section) (a b : Dag) (x y : List ℕ)
         → Fits a q sections x → Fits b q sections y → (a ≡ b) × (x ≡ y) }
@@ -66,20 +67,20 @@ pub fn against_every_peer()
         → IsSound d → root_cid d ≡ q.root → IsInProgress s q sections wanted
         → IsFrontOfAnswer (output_so_far q s) (answer q d) ⊎ CollisionPair sections d }
 
-    // Under scope all, without a path, what fits are all of the DAG's blocks.
+    // Under scope all, without a path, what fits is what is sent of all of the DAG's blocks.
     ensures everything { HoldAll }
 
     // An absence that the opened blocks show is the DAG's, at the same segment.
     ensures absent { (q : QueryParts) (d s : Dag) (i : ℕ)
         → IsSound d → root_cid d ≡ q.root → IsOpenedFor s q → (traversal q s).end ≡ stopped (not_there i)
-        → StopsAlike (not_there i) (lookup_path q.path d) ⊎ CollisionPair (blocks s) d }
+        → StopsAlike (not_there i) (lookup_path q.path d) ⊎ CollisionPair (block_list q s) d }
     ensures not_folder { (q : QueryParts) (d s : Dag) (i : ℕ)
         → IsSound d → root_cid d ≡ q.root → IsOpenedFor s q → (traversal q s).end ≡ stopped (not_folder i)
-        → StopsAlike (not_folder i) (lookup_path q.path d) ⊎ CollisionPair (blocks s) d }
+        → StopsAlike (not_folder i) (lookup_path q.path d) ⊎ CollisionPair (block_list q s) d }
 
     ensures counted { (q : QueryParts) (d s : Dag)
         → IsSound d → root_cid d ≡ q.root → IsOpenedFor s q
-        → AreWithin (counts q d) (counts q s) ⊎ CollisionPair (blocks s) d }
+        → AreWithin (counts q d) (counts q s) ⊎ CollisionPair (block_list q s) d }
 {
     tg_model::laws::readings();
 }

@@ -1,6 +1,6 @@
 -- Small DAGs: parts of no length and equal ones, a symbolic link, shards. Their definitions look at kinds and children
 -- alone, so the blocks of nodes are left empty, and a CID's digest is one number.
-use Rattle.std.specs.Prelude.{ℕ, List, [], ◌∷◌, Option, Some, None, true, codes}
+use Rattle.std.specs.Prelude.{ℕ, List, [], ◌∷◌, Option, Some, None, false, true, codes}
 use Rattle.tg_cid.specs.declared.cid.Codec.TheVariants as codecs
 use Rattle.tg_model.specs.Dag.{Dag, Section, with_child, no_child, node, unopened}
 use Rattle.tg_oracle.specs.HelloWorld.{cid_with}
@@ -18,6 +18,10 @@ raw_with number block = record { cid = cid_with codecs.Raw (number ∷ []); bloc
 abbrev pub node_with : ℕ → Section
 node_with number = record { cid = cid_with codecs.DagPb (number ∷ []); block = [] }
 
+-- the same block under the CIDv0
+abbrev pub with_version_zero : Section → Section
+with_version_zero section = record { cid = record section.cid { version = 0 }; block = section.block }
+
 abbrev pub raw_leaf : Section → Dag
 raw_leaf section = node section Raw no_child
 
@@ -25,6 +29,10 @@ raw_leaf section = node section Raw no_child
 abbrev pub asking : List (List ℕ) → Scope → Option SpanParts → QueryParts
 asking path scope span =
     record { root = (node_with 0).cid; path = path; form = Car; scope = scope; span = span; dups = true }
+
+-- the same without repeats
+abbrev pub asking_once : Scope → Option SpanParts → QueryParts
+asking_once scope span = record (asking [] scope span) { dups = false }
 
 -- the bytes 2 to 5, and the last no bytes
 abbrev pub two_to_five : SpanParts

@@ -74,7 +74,8 @@ pub enum EvaluationFault {
     OutOfMemory,
 }
 
-/// Evaluates a query over stored blocks. A block that stands at several places is sent at each of them.
+/// Evaluates a query over stored blocks. A block that stands at several places is sent at each of them, or at the first
+/// of them under each CID where the query asks for no repeats.
 ///
 /// Path Gateway specification, Path Resolution; Trustless Gateway specification, dag-scope and entity-bytes; UnixFS
 /// specification. The texts of listings and bundles are this project's own. That the CIDs name the blocks isn't looked
@@ -87,6 +88,7 @@ pub fn evaluate(
     let mut run = Run {
         alloc,
         stored,
+        repeats: query.dups(),
         sent: List::new(alloc),
         text: Bytes::new(alloc),
     };
@@ -98,6 +100,7 @@ pub fn evaluate(
     let Run {
         alloc: _,
         stored: _,
+        repeats: _,
         sent,
         text,
     } = run;
@@ -156,6 +159,7 @@ struct Named {
 struct Run<'a> {
     alloc: Global,
     stored: &'a [StoredBlock],
+    repeats: bool,
     sent: List<Sent>,
     text: Bytes,
 }
@@ -405,10 +409,23 @@ impl<'a> Run<'a> {
         Ok((passed, opened))
     }
 
-    /// Sends a block.
+    /// Sends a block, but not again where each is sent once.
     fn send(&mut self, cid: Cid, index: usize, block: &[u8]) -> Result<(), AllocError> {
+        if !self.repeats && self.is_sent(cid) {
+            return Ok(());
+        }
         let size = block.len() as u64;
         self.sent.push(Sent { cid, index, size })
+    }
+
+    /// Whether a block was sent under the CID.
+    fn is_sent(&self, cid: Cid) -> bool {
+        for sent in self.sent.as_slice() {
+            if sent.cid == cid {
+                return true;
+            }
+        }
+        false
     }
 
     /// Adds bytes to the text.

@@ -5,24 +5,32 @@ ghost use Rattle.tg_model.specs.Content.{content, entries};
 ghost use Rattle.tg_model.specs.Lookup.{found, lookup_path, not_folder, not_there};
 ghost use Rattle.tg_model.specs.PathWalk.{not_reached, path_walk, terminal};
 ghost use Rattle.tg_model.specs.PathWalk as walk;
-ghost use Rattle.tg_oracle.specs.SmallDags.{asking, folder, folder_dag, hell, inner, inner_dag, link, link_dag};
+ghost use Rattle.tg_oracle.specs.SmallDags.{asking, asking_once, with_version_zero};
+ghost use Rattle.tg_oracle.specs.SmallDags.{folder, folder_dag, hell, inner, inner_dag, link, link_dag};
 ghost use Rattle.tg_oracle.specs.SmallDags.{no_bytes, nothing, one_shard, one_shard_dag, one_shard_slots, inner_slots};
 ghost use Rattle.tg_oracle.specs.SmallDags.{over_inner, parent, parent_dag, raw_leaf, twin_file, twins, two_to_five};
 ghost use Rattle.tg_model.specs.Sound.{position_fault, shard_fault, child, part};
 ghost use Rattle.tg_model.specs.Texts.{listing_line, Named};
-ghost use Rattle.tg_model.specs.Traversal.{block_list, traversal};
+ghost use Rattle.tg_model.specs.Traversal.{block_list, sent, traversal};
+ghost use Rattle.tg_model.specs.Counts.{counts};
 ghost use Rattle.tg_model.specs.Dag.{Dag, unopened};
 ghost use Rattle.tg_model.specs.declared.fault.BlockFault.TheVariants as faults;
 ghost use Rattle.tg_model.specs.declared.kinds.Kind.TheVariants.{Shard};
 ghost use Rattle.tg_model.specs.declared.queries.Scope.TheVariants as scopes;
 
-/// A part of no length inside a range isn't opened, and without a range it is; equal parts are sent at each place; an
-/// empty range opens no part.
+/// A part of no length inside a range isn't opened, and without a range it is; equal parts are sent at each place, or
+/// once without repeats; an empty range opens no part.
 pub fn small_files()
     ensures content { content twin_file ≡ codes "hellhell" }
     ensures entity { block_list (asking [] scopes.Entity None) twin_file ≡ twins ∷ hell ∷ nothing ∷ hell ∷ [] }
     ensures inside { block_list (asking [] scopes.Entity (Some two_to_five)) twin_file ≡ twins ∷ hell ∷ hell ∷ [] }
     ensures answer { answer (asking [] scopes.Entity (Some two_to_five)) twin_file ≡ Some (codes "llhe") }
+    // Each block once: the first under each CID; a version or a codec more is another CID.
+    ensures once { block_list (asking_once scopes.Entity None) twin_file ≡ twins ∷ hell ∷ nothing ∷ [] }
+    ensures once_inside { block_list (asking_once scopes.Entity (Some two_to_five)) twin_file ≡ twins ∷ hell ∷ [] }
+    ensures versions { sent (asking_once scopes.Entity None) (twins ∷ with_version_zero twins ∷ twins ∷ [])
+        ≡ twins ∷ with_version_zero twins ∷ [] }
+    ensures counted { (counts (asking_once scopes.Entity None) twin_file).reused ≡ 1 }
     ensures empty { block_list (asking [] scopes.Entity (Some no_bytes)) twin_file ≡ twins ∷ [] }
     ensures no_answer { answer (asking [] scopes.Entity (Some no_bytes)) twin_file ≡ Some [] }
 {}

@@ -7,7 +7,7 @@ use Rattle.tg_model.specs.Answer.{block_of}
 use Rattle.tg_model.specs.Dag.{Dag, Section}
 use Rattle.tg_model.specs.PathWalk.{PathEnd, not_reached, path_walk, terminal}
 use Rattle.tg_model.specs.Queries.{QueryParts}
-use Rattle.tg_model.specs.StoreView.{store_view}
+use Rattle.tg_model.specs.StoreView.{block_at, store_view}
 use Rattle.tg_model.specs.Stores.{Store}
 use Rattle.tg_model.specs.Traversal.{block_list, traversal}
 use Rattle.tg_model.specs.declared.queries.Form.{Form}
@@ -79,7 +79,7 @@ module _ (refusals : RefusalsRead) (raw : RawReads) (cars : CarReads) (sent : Se
 
   end_read : (end : PathEnd) → (path_walk q.path (store_view store q.root)).end ≡ end → reply store head ≡ reply_at store head q end → EndIsRead store head q end
   end_read (terminal d) w e = found_read d q.form (small store q d s spelled w) e
-  end_read (not_reached stop) w e = text_read (path_refusal (store q.root) stop) e
+  end_read (not_reached stop) w e = text_read (path_refusal (block_at store q.root) stop) e
 
   whole_read : EndIsRead store head q (path_walk q.path (store_view store q.root)).end
   whole_read = end_read (path_walk q.path (store_view store q.root)).end refl (ap (reply_to store head) a.asked_is)

@@ -1,15 +1,18 @@
 -- The sections that a store of bytes gives for a query are spelled.
-use Rattle.std.proofs.Common.{◌≡◌, ◌⊎◌, ◌↔◌, ℕ, zero, suc, ◌+◌, ◌<◌, ◌≤◌, All, List, [], ◌∷◌, None, Ok, Err, Option, Result, Some, inl, inr, length, map, refl, sym, subst, arith}
+use Rattle.std.proofs.Common.{◌≡◌, ◌⊎◌, ◌↔◌, ℕ, zero, suc, ◌+◌, ◌<◌, ◌≤◌, All, Contains, List, [], ◌∷◌, None, Ok, Err, Option, Result, Some, inl, inr, ap, length, map, refl, sym, subst, arith}
 use Rattle.std.specs.Prelude.{nat_lt, ⊤}
 use Rattle.std.proofs.lemmas.Bool.{cond_both}
-use Rattle.std.proofs.lemmas.List.Elements.{All-append, All-cons, All-head, All-map, All-nil, All-tail}
+use Rattle.std.proofs.lemmas.List.Elements.{All-append, All-cons, All-contains, All-contains_itself, All-head, All-map, All-nil, All-tail, All-weaker}
 use Rattle.tg_cid.specs.Cid.{CidParts}
 use Rattle.tg_cid.specs.Limits.{max_block_len}
-use Rattle.tg_cid.specs.Spelling.{CidBytes}
+use Rattle.tg_cid.specs.Spelling.{CidBytes, IsDigestSize}
+use Rattle.tg_cid.specs.declared.cid.HashKind.{HashKind}
+use Rattle.tg_cid.specs.declared.cid.HashKind.TheVariants.{Sha256, Identity}
 use Rattle.tg_cid.specs.declared.cid.Codec.{Codec}
 use Rattle.tg_cid.specs.declared.cid.Codec.TheVariants as codecs
 use Rattle.tg_dagpb.specs.declared.Link.{Link}
 use Rattle.tg_model_laws.specs.Depths.{children_down_to, down_to}
+use Rattle.tg_model_laws.specs.SentSections.{sent_held}
 use Rattle.tg_model.specs.Answer.{block_of}
 use Rattle.tg_model.specs.Computed.{read}
 use Rattle.tg_model.specs.Dag.{Children, Dag, Section, bare, links_of, no_child, node, unopened, with_child}
@@ -17,9 +20,9 @@ use Rattle.tg_model.specs.PathWalk.{PathEnd, PathWalk, Spot, StepTo, TraversalEn
 use Rattle.tg_model.specs.Queries.{QueryParts, SpanParts}
 use Rattle.tg_model.specs.Reading.{AreCids, AreSlots, Reads, ReadsBasic, ReadsFile, ReadsNode, ReadsShard, ReadsSymlink, ReadsUnder, entries_of, parts_of}
 use Rattle.tg_model.specs.Sound.{Position, passed, position_fault, top}
-use Rattle.tg_model.specs.StoreView.{children_by, opened_to, read_as, store_view, with_block}
+use Rattle.tg_model.specs.StoreView.{block_at, block_by, children_by, opened_to, read_as, store_view, with_block}
 use Rattle.tg_model.specs.Stores.{Store}
-use Rattle.tg_model.specs.Traversal.{Place, Reach, Traversal, Visit, after_end, and_then, at_terminal, block_alone, block_list, from_end, giving_entries, giving_place, giving_text, text_before, text_behind, traversal, traverse, traverse_children, unless_bad, visited, visits, walk_places}
+use Rattle.tg_model.specs.Traversal.{Place, Reach, Traversal, Visit, after_end, and_then, at_terminal, block_alone, block_list, from_end, giving_entries, giving_place, giving_text, opened_list, text_before, text_behind, traversal, traverse, traverse_children, unless_bad, visited, visits, walk_places}
 use Rattle.tg_model.specs.declared.fault.BlockFault.{BlockFault}
 use Rattle.tg_model.specs.declared.kinds.Kind.{Kind}
 use Rattle.tg_model.specs.declared.kinds.Slot.{Slot}
@@ -216,8 +219,11 @@ module _ (P : Section → Type 0) where
       let walk = path_walk q.path d in
       let w = walk_opened 0 top 1 q.path d o in
       let below = from_end walk.end q.scope q.span (length walk.sections + 1) in
+      let opened : All P (opened_list q d) =
       All-map P (λ (place : Place). place.section) (traversal q d).places
-      (All-append AtPlace (walk_places 1 walk.sections) below.places (walked 1 walk.sections w.0) (end_opened walk.end q.scope q.span (length walk.sections + 1) w.1))
+      (All-append AtPlace (walk_places 1 walk.sections) below.places (walked 1 walk.sections w.0) (end_opened walk.end q.scope q.span (length walk.sections + 1) w.1)) in
+      All-weaker (Contains (block_list q d)) P (λ (x : Section) (h : Contains (block_list q d) x). All-contains P (opened_list q d) x opened (sent_held q (opened_list q d) x h))
+      (block_list q d) (All-contains_itself (block_list q d))
 
 -- ---- what a store shows
 
@@ -226,29 +232,43 @@ module _ (computed : (cid : CidParts) (block : List ℕ) (kind : Kind) → All (
   abbrev Shown : Dag → Type 0
   Shown = Opened IsSpelled
 
-  stored_section : (cid : CidParts) (block : List ℕ) → Spelled cid → store cid ≡ Some block → IsSpelled (record { cid = cid; block = block })
+  -- a stored block is bytes, and no larger than a block may be; the digest of an identity CID, too
+  digest_block : (cid : CidParts) (name block : List ℕ) → cid.hash ≡ Identity → CidBytes cid name → cid.digest ≡ block → All (λ (b : ℕ). b < 256) block × (length block ≤ max_block_len)
+  digest_block cid name block e (inl v0) same = absurd (cc (e, v0.hash))
+  digest_block cid name block e (inr v1) same =
+      let short : length cid.digest ≤ 128 = subst (λ (k : HashKind). IsDigestSize k (length cid.digest)) e v1.size in
+      (subst (λ (l : List ℕ). All (λ (b : ℕ). b < 256) l) same v1.are_bytes, omega (arith, ap length same, short))
+
+  good_block : (cid : CidParts) (block : List ℕ) → Spelled cid → block_at store cid ≡ Some block → All (λ (b : ℕ). b < 256) block × (length block ≤ max_block_len)
+  good_block cid block spelled e = by cid.hash refl e
+    where
+      by : (hash : HashKind) → cid.hash ≡ hash → block_by hash cid.digest (store cid) ≡ Some block → All (λ (b : ℕ). b < 256) block × (length block ≤ max_block_len)
+      by Sha256 h found = (s.bytes cid block found, s.store_is.small cid block found)
+      by Identity h found = digest_block cid spelled.0 block h spelled.1 (cc)
+
+  stored_section : (cid : CidParts) (block : List ℕ) → Spelled cid → block_at store cid ≡ Some block → IsSpelled (record { cid = cid; block = block })
   stored_section cid block spelled e =
-      record { name = spelled.0; name_is = spelled.1; are_bytes = s.bytes cid block e; small = s.store_is.small cid block e }
+      let good = good_block cid block spelled e in record { name = spelled.0; name_is = spelled.1; are_bytes = good.0; small = good.1 }
 
   children_shown : (opened : CidParts → Dag) → ((cid : CidParts) → Spelled cid → Shown (opened cid)) → (cids : List CidParts) → All Spelled cids
       → OpenedChildren IsSpelled (children_by opened cids)
   children_shown opened each [] all = tt
   children_shown opened each (cid ∷ cids) all = (each cid (All-head Spelled cid cids all), children_shown opened each cids (All-tail Spelled cid cids all))
 
-  block_shown : (opened : CidParts → Dag) → ((cid : CidParts) → Spelled cid → Shown (opened cid)) → (cid : CidParts) (found : Option (List ℕ)) → Spelled cid → store cid ≡ found
+  block_shown : (opened : CidParts → Dag) → ((cid : CidParts) → Spelled cid → Shown (opened cid)) → (cid : CidParts) (found : Option (List ℕ)) → Spelled cid → block_at store cid ≡ found
       → Shown (with_block opened cid found)
   block_shown opened each cid None spelled e = tt
   block_shown opened each cid (Some block) spelled e = by_kind (read cid block) refl
     where
       by_kind : (r : Result Kind BlockFault) → read cid block ≡ r → Shown (read_as opened (record { cid = cid; block = block }) r)
       by_kind (Ok kind) r =
-          let links = under_spelled cid.codec block kind ((computed cid block kind (s.bytes cid block e)).0 r) in
+          let links = under_spelled cid.codec block kind ((computed cid block kind (good_block cid block spelled e).0).0 r) in
           (stored_section cid block spelled e, children_shown opened each (links_of kind) links)
       by_kind (Err fault) r = stored_section cid block spelled e
 
   opened_shown : (n : ℕ) (cid : CidParts) → Spelled cid → Shown (opened_to n store cid)
   opened_shown zero cid spelled = tt
-  opened_shown (suc n) cid spelled = block_shown (opened_to n store) (opened_shown n) cid (store cid) spelled refl
+  opened_shown (suc n) cid spelled = block_shown (opened_to n store) (opened_shown n) cid (block_at store cid) spelled refl
 
   pub sent_spelled : (q : QueryParts) (name : List ℕ) → CidBytes q.root name → All IsSpelled (block_list q (sent_dag store q.root))
   sent_spelled q name root = traversal_opened IsSpelled q (sent_dag store q.root) (cut_opened IsSpelled 512 1 (store_view store q.root) (opened_shown 1100 q.root (name, root)))

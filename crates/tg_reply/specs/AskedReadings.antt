@@ -10,7 +10,7 @@ use Rattle.tg_model.specs.Answer.{block_of}
 use Rattle.tg_model.specs.Dag.{Dag, Section}
 use Rattle.tg_model.specs.PathWalk.{PathEnd, not_reached, path_walk, terminal}
 use Rattle.tg_model.specs.Queries.{QueryParts}
-use Rattle.tg_model.specs.StoreView.{store_view}
+use Rattle.tg_model.specs.StoreView.{block_at, store_view}
 use Rattle.tg_model.specs.Stores.{IsStore, Store}
 use Rattle.tg_model.specs.Traversal.{block_list}
 use Rattle.tg_model.specs.declared.queries.Form.{Form}
@@ -78,7 +78,7 @@ FoundIsRead store head q d forms.Car =
 -- by the end of the path
 abbrev pub EndIsRead : Store → RequestHead → QueryParts → PathEnd → Type 0
 EndIsRead store head q (terminal d) = FoundIsRead store head q d q.form
-EndIsRead store head q (not_reached stop) = TextIsRead (reply store head) (path_refusal (store q.root) stop)
+EndIsRead store head q (not_reached stop) = TextIsRead (reply store head) (path_refusal (block_at store q.root) stop)
 
 -- a request at the front of bytes asks for a query by GET, and the head of the reply fits a head
 pub record IsAskedByGet (store : Store) (head : RequestHead) (q : QueryParts) : Type 0 where

@@ -11,7 +11,7 @@ use Rattle.tg_model.specs.Dag.{Dag, Section}
 use Rattle.tg_model.specs.PathWalk.{PathEnd, Stop, TraversalEnd, bad_block, gone, not_folder, not_reached, not_there}
 use Rattle.tg_model.specs.PathWalk.{path_walk, stopped, terminal, whole}
 use Rattle.tg_model.specs.Queries.{QueryParts}
-use Rattle.tg_model.specs.StoreView.{store_view}
+use Rattle.tg_model.specs.StoreView.{block_at, store_view}
 use Rattle.tg_model.specs.Stores.{Store}
 use Rattle.tg_model.specs.Traversal.{block_list, traversal}
 use Rattle.tg_model.specs.declared.queries.Form.{Form}
@@ -113,7 +113,7 @@ found_reply store head q d forms.Car =
 -- to a query, by the end of its path
 abbrev pub reply_at : Store → RequestHead → QueryParts → PathEnd → Reply
 reply_at store head q (terminal d) = found_reply store head q d q.form
-reply_at store head q (not_reached stop) = refused_request head (path_refusal (store q.root) stop)
+reply_at store head q (not_reached stop) = refused_request head (path_refusal (block_at store q.root) stop)
 
 -- to what is asked
 abbrev pub reply_to : Store → RequestHead → Result QueryParts Refusal → Reply

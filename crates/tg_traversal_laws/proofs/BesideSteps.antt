@@ -2,18 +2,18 @@
 use Rattle.std.proofs.Common.{◌≡◌, ◌⊎◌, ℕ, ◌+◌, suc, zero, Bool, true, false, Option, Some, None, List, [], ◌∷◌, ◌++◌, Contains, inl, inr, ⊎_elim, length, map, refl, sym, ap, ap₂, ◌∙◌, append_assoc, append-nil, subst, subst₂, arith}
 use Rattle.std.proofs.lemmas.List.{append_cancel_left, map-append}
 use Rattle.std.proofs.lemmas.List.Elements.{Contains-append_left, Contains-append_right}
-use Rattle.std.specs.Prelude.{⊤, not}
+use Rattle.std.specs.Prelude.{⊤}
 use Rattle.tg_cid.specs.Cid.{CidParts}
 use Rattle.tg_cid.specs.Names.{Names}
 use Rattle.tg_model_laws.specs.PartialDags.{AreOneBlock}
 use Rattle.tg_model_laws.specs.Standing.{Each, IsAt, IsLedTo, Stands, StepsLead, VisitsStand}
 use Rattle.tg_model.specs.Dag.{AreWhole, Children, Dag, IsWhole, Section, bare, blocks, blocks_of_children, links_of, no_child, node, root_cid, root_cids, unopened, with_child}
-use Rattle.tg_model.specs.Fits.{CollisionPair, is_block}
+use Rattle.tg_model.specs.Fits.{CollisionPair}
 use Rattle.tg_model.specs.PathWalk.{StepTo, TraversalEnd, absent, gone, not_folder_here, step_of, stopped, to_child, to_entry, whole}
 use Rattle.tg_model.specs.Queries.{QueryParts, SpanParts}
 use Rattle.tg_model.specs.Reading.{Reads}
 use Rattle.tg_model.specs.Sound.{AreCheckedAt, IsChecked, IsCheckedAt, IsNodeAt, IsSound, Position, passed, positions, top}
-use Rattle.tg_model.specs.Traversal.{ListedEntry, Place, Reach, Traversal, Visit, all_reach, and_then, entity_reach, opened_list, text_behind, traversal, visits}
+use Rattle.tg_model.specs.Traversal.{ListedEntry, Place, Reach, Traversal, Visit, all_reach, entity_reach, opened_list, text_behind, traversal, visits}
 use Rattle.tg_model.specs.declared.kinds.Kind.{Kind}
 use Rattle.tg_model.specs.declared.queries.Scope.{Scope}
 use Rattle.tg_model.specs.declared.queries.Scope.TheVariants as scopes
@@ -24,7 +24,7 @@ use Rattle.tg_traversal_laws.proofs.TaskMaps.{children_roots, map_both, map_entr
 use Rattle.tg_traversal_laws.specs.BesideSound.{IsBeside, IsNext, IsPartAt, Passes, PassesIf}
 use Rattle.tg_traversal_laws.specs.Openings.{EachPlace, IsReadAt, opened_by, root_cids_at}
 use Rattle.tg_traversal_laws.specs.Stages.{Given, IsOpened, IsStage, StageLaws, ending, nothing_given, place_of, tasks_give, up_to_next, with_place}
-use Rattle.tg_traversal_laws.specs.Tasks.{Miss, Task, Want, child_then, children_tasks, dags_of, entries_now, entries_then, give_entries, give_text, is_read_at, link_tasks, node_tasks, node_want, open_block, path_want, position_below, position_of, segment_want, spot_of, start, step_tasks, stop_at, stop_of, tasks_of, tasks_then, terminal_tasks, terminal_want, text_at, text_last, text_now}
+use Rattle.tg_traversal_laws.specs.Tasks.{Miss, Task, Want, child_then, children_tasks, dags_of, entries_now, give_entries, give_text, is_read_at, link_tasks, node_tasks, node_want, open_block, path_want, position_below, position_of, segment_want, spot_of, start, step_tasks, stop_at, stop_of, tasks_of, tasks_then, terminal_tasks, terminal_want, text_at, text_last, text_now}
 
 -- a block has one kind under a CID
 abbrev pub OneKind : Type 0

@@ -1,9 +1,9 @@
 -- The children of a node, of whom those that are asked for are at the places that the node's tasks name, and the others unopened.
-use Rattle.std.proofs.Common.{◌≡◌, ℕ, ◌+◌, suc, zero, true, Option, Some, None, List, [], ◌∷◌, ◌++◌, length, map, refl, sym, ap, ap₂, ◌∙◌, append-nil, subst, arith}
+use Rattle.std.proofs.Common.{◌≡◌, ℕ, ◌+◌, suc, zero, true, Option, Some, None, List, [], ◌∷◌, ◌++◌, length, map, refl, sym, ap, ap₂, ◌∙◌, append-nil, subst}
 use Rattle.std.specs.Prelude.{⊤, not}
 use Rattle.tg_cid.specs.Cid.{CidParts}
 use Rattle.tg_model_laws.specs.Standing.{Each, IsAt, IsLedTo, Stands, StepsLead, VisitsStand}
-use Rattle.tg_model.specs.Dag.{Children, Dag, Section, blocks, blocks_of_children, links_of, no_child, root_cid, root_cids, unopened, with_child}
+use Rattle.tg_model.specs.Dag.{Children, Dag, Section, blocks, blocks_of_children, links_of, no_child, root_cids, unopened, with_child}
 use Rattle.tg_model.specs.Fits.{is_block}
 use Rattle.tg_model.specs.PathWalk.{StepTo, absent, not_folder_here, step_of, to_child, to_entry}
 use Rattle.tg_model.specs.Queries.{QueryParts, SpanParts}

@@ -1,16 +1,16 @@
 -- A block taken at its place: what is opened before and after.
-use Rattle.std.proofs.Common.{◌≡◌, ◌⊎◌, ℕ, ◌+◌, Bool, true, false, Option, Some, None, List, [], ◌∷◌, ◌++◌, inl, inr, length, map, refl, sym, ap, ap₂, ◌∙◌, append_assoc, append-nil, subst}
+use Rattle.std.proofs.Common.{◌≡◌, ℕ, ◌+◌, true, false, Option, Some, None, List, [], ◌∷◌, ◌++◌, inl, inr, map, refl, sym, ap, ap₂, ◌∙◌, append_assoc, append-nil, subst}
 use Rattle.std.proofs.lemmas.List.{map-append}
-use Rattle.std.specs.Prelude.{⊤, not}
+use Rattle.std.specs.Prelude.{not}
 use Rattle.tg_cid.specs.Cid.{CidParts}
 use Rattle.tg_cid.specs.Names.{Names}
 use Rattle.tg_model_laws.specs.Standing.{StepsLead, VisitsStand}
 use Rattle.tg_model.specs.Dag.{Children, Dag, Section, bare, blocks, blocks_of_children, links_of, node, root_cid, unopened}
-use Rattle.tg_model.specs.Fits.{HasOneBlockEach, IfOnce, IsAloneAt, IsOpenedFor, is_block}
-use Rattle.tg_model.specs.PathWalk.{PathEnd, Stop, gone, not_reached, path_walk, spot_at, stopped, terminal, whole}
+use Rattle.tg_model.specs.Fits.{HasOneBlockEach, IfOnce, IsAloneAt, is_block}
+use Rattle.tg_model.specs.PathWalk.{PathEnd, Stop, gone, not_reached, path_walk, spot_at, terminal}
 use Rattle.tg_model.specs.Queries.{QueryParts, SpanParts}
 use Rattle.tg_model.specs.Sound.{IsCheckedAt, Position, position_fault, positions, top}
-use Rattle.tg_model.specs.Traversal.{ListedEntry, Place, Reach, Traversal, Visit, all_reach, entity_reach, opened_list, text_behind, traversal, visits}
+use Rattle.tg_model.specs.Traversal.{ListedEntry, Place, Reach, Traversal, Visit, all_reach, entity_reach, text_behind, traversal, visits}
 use Rattle.tg_model.specs.declared.fault.BlockFault.{BlockFault}
 use Rattle.tg_model.specs.declared.kinds.Kind.{Kind}
 use Rattle.tg_model.specs.declared.queries.Scope.{Scope}
@@ -21,8 +21,8 @@ use Rattle.tg_traversal_laws.proofs.Rooted.{at_block, at_stop, below_both, block
 use Rattle.tg_traversal_laws.proofs.TaskMaps.{map_entries, map_text}
 use Rattle.tg_traversal_laws.specs.Openings.{AreBelow, EachPlace, IsReadAt, IsRightAt, IsWay, Opening, OpensWith, Shows, blocks_at, end_now, opened_by, root_cids_at}
 use Rattle.tg_traversal_laws.specs.PathStages.{IsPathEnd, LeadsToEnd}
-use Rattle.tg_traversal_laws.specs.Stages.{Given, IsOpened, IsStage, StageLaws, ending, nothing_given, place_of, up_to_next, with_place}
-use Rattle.tg_traversal_laws.specs.Tasks.{Miss, Task, Want, child_then, children_tasks, dags_of, entries_now, entries_then, fault_at, give_entries, give_text, is_read_at, node_tasks, node_want, open_block, path_want, position_of, segment_want, start, stop_at, stop_of, tasks_of, tasks_then, terminal_fault, terminal_tasks, terminal_want, text_at, text_last, text_now}
+use Rattle.tg_traversal_laws.specs.Stages.{Given, IsStage, StageLaws, ending, nothing_given, place_of, up_to_next, with_place}
+use Rattle.tg_traversal_laws.specs.Tasks.{Task, Want, child_then, children_tasks, dags_of, entries_now, fault_at, give_entries, give_text, is_read_at, node_tasks, node_want, open_block, path_want, position_of, segment_want, start, stop_at, stop_of, tasks_of, tasks_then, terminal_fault, terminal_tasks, terminal_want, text_at, text_last, text_now}
 
 -- what may stand there has no fault there
 terminal_no_fault : (scope : Scope) (kind : Kind) → position_fault top kind ≡ None → terminal_fault scope kind ≡ None

@@ -1,12 +1,12 @@
 -- What is written of a DAG that was opened for a query, by the text and the entries that its traversal gives.
-use Rattle.std.proofs.Common.{◌≡◌, ℕ, ◌+◌, ◌-◌, Bool, true, false, Option, Some, None, List, [], ◌∷◌, ◌++◌, length, map, refl, sym, ap, ap₂, ◌∙◌, append-nil, subst}
+use Rattle.std.proofs.Common.{◌≡◌, ℕ, ◌+◌, ◌-◌, Bool, true, false, Option, Some, None, List, [], ◌∷◌, ◌++◌, length, map, refl, sym, ap, ap₂, ◌∙◌, append-nil}
 use Rattle.std.specs.Prelude.{⊤, if◌then◌else◌}
 use Rattle.tg_cid.specs.Cid.{CidParts}
 use Rattle.tg_model_laws.specs.PartialDags.{MeetEntries, SayTexts}
 use Rattle.tg_model.specs.Answer.{is_listed, named_of, node_text}
 use Rattle.tg_model.specs.Content.{entries}
 use Rattle.tg_model.specs.Dag.{Children, Dag, Section, bare, no_child, node, unopened, with_child}
-use Rattle.tg_model.specs.Fits.{IsOpenedFor, is_block, is_late_terminal, output_so_far, so_far, terminal_text, whole_text}
+use Rattle.tg_model.specs.Fits.{IsOpenedFor, is_late_terminal, output_so_far, so_far, terminal_text, whole_text}
 use Rattle.tg_model.specs.PathWalk.{PathEnd, Spot, Stop, TraversalEnd, not_reached, path_walk, stopped, terminal, whole}
 use Rattle.tg_model.specs.Queries.{QueryParts, SpanParts}
 use Rattle.tg_model.specs.Sound.{Position, part, position_fault, top}

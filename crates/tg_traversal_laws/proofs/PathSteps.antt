@@ -1,13 +1,13 @@
 -- One step of the walk along a path.
-use Rattle.std.proofs.Common.{◌≡◌, ◌≤◌, ℕ, ◌+◌, ◌*◌, suc, zero, Option, Some, None, List, [], ◌∷◌, ◌++◌, length, refl, sym, ap, ◌∙◌, subst, arith}
+use Rattle.std.proofs.Common.{◌≡◌, ℕ, ◌+◌, suc, zero, Option, Some, None, List, [], ◌∷◌, length, refl, sym, ap, ◌∙◌, subst}
 use Rattle.tg_model.specs.Dag.{Children, Dag, Section, bare, no_child, node, unopened, with_child}
-use Rattle.tg_model.specs.PathWalk.{PathEnd, PathWalk, Spot, StepTo, absent, bad_block, not_folder_here, not_reached, path_walk, spot_at, step_of, to_child, to_entry, unless_misfit, walk_child, walk_from, walk_step}
+use Rattle.tg_model.specs.PathWalk.{PathEnd, PathWalk, StepTo, absent, bad_block, not_folder_here, not_reached, path_walk, spot_at, step_of, to_child, to_entry, unless_misfit, walk_child, walk_from, walk_step}
 use Rattle.tg_model.specs.Queries.{QueryParts}
 use Rattle.tg_model.specs.Sound.{Position, passed, position_fault, top}
 use Rattle.tg_model.specs.declared.fault.BlockFault.{BlockFault}
 use Rattle.tg_model.specs.declared.kinds.Kind.{Kind}
 use Rattle.tg_traversal_laws.specs.PathStages.{IsPathEnd, LeadsToEnd}
-use Rattle.tg_traversal_laws.specs.Tasks.{Task, Want, dags_of, link_tasks, open_block, path_want, position_below, segment_want, start, step_tasks, tasks_of}
+use Rattle.tg_traversal_laws.specs.Tasks.{Want, dags_of, link_tasks, path_want, position_below, segment_want, start, step_tasks, tasks_of}
 
 -- with no segment left, whatever was counted
 no_segment : (i other : ℕ) (depth : ℕ) (d : Dag) → (walk_from i top depth [] d).end ≡ (walk_from other top depth [] d).end

@@ -18,8 +18,8 @@ use Rattle.tg_traversal_laws.proofs.StoreSteps.{full_view}
 use Rattle.tg_traversal_laws.proofs.TaskMaps.{map_tasks, shown_children}
 use Rattle.tg_traversal_laws.specs.PathStages.{AreWithinPath, IsPathEnd, IsResolved, IsWithinPath, LeadsToEnd, store_end}
 use Rattle.tg_traversal_laws.specs.Stages.{IsOpened}
-use Rattle.tg_traversal_laws.specs.StoreWalks.{section_of, shown_tasks, shown_at}
-use Rattle.tg_traversal_laws.specs.Tasks.{Miss, Task, Want, dags_of, depth_of, link_tasks, node_want, open_block, path_want, position_below, segment_want, spot_of, start, step_tasks, stop_at, stop_of, tasks_of, terminal_want, depth_at_top}
+use Rattle.tg_traversal_laws.specs.StoreWalks.{section_of, shown_at}
+use Rattle.tg_traversal_laws.specs.Tasks.{Miss, Task, Want, depth_of, link_tasks, node_want, open_block, path_want, position_below, segment_want, spot_of, start, step_tasks, stop_at, stop_of, tasks_of, terminal_want, depth_at_top}
 
 -- ---- how deep a path goes
 

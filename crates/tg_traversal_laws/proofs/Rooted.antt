@@ -1,11 +1,11 @@
 -- Tasks over nodes, by the tasks over their CIDs.
-use Rattle.std.proofs.Common.{◌≡◌, List, [], ◌∷◌, ◌++◌, refl, ap, ap₂, ◌∙◌, append_assoc, sym, subst}
-use Rattle.std.specs.Prelude.{⊤, ℕ}
+use Rattle.std.proofs.Common.{◌≡◌, List, [], ◌∷◌, ◌++◌, refl, ap, ap₂, ◌∙◌, append_assoc, sym}
+use Rattle.std.specs.Prelude.{ℕ}
 use Rattle.tg_cid.specs.Cid.{CidParts}
 use Rattle.tg_model.specs.Dag.{Dag, Section, blocks, root_cid, unopened}
 use Rattle.tg_model.specs.Traversal.{ListedEntry}
 use Rattle.tg_traversal_laws.specs.Openings.{AreBelow, EachPlace, IsRightAt, blocks_at, root_cids_at}
-use Rattle.tg_traversal_laws.specs.Tasks.{Miss, Task, Want, entries_then, give_entries, give_text, mapped, node_want, open_block, segment_want, stop_at, tasks_then, terminal_want, text_last}
+use Rattle.tg_traversal_laws.specs.Tasks.{Miss, Task, Want, entries_then, give_entries, give_text, mapped, node_want, open_block, segment_want, stop_at, terminal_want, text_last}
 
 -- ---- the first of them
 

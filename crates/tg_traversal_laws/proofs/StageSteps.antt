@@ -1,20 +1,20 @@
 -- One step of a traversal by its tasks.
-use Rattle.std.proofs.Common.{◌≡◌, ℕ, ◌+◌, suc, zero, false, true, Option, Some, None, List, [], ◌∷◌, ◌++◌, length, refl, sym, ap, ap₂, ◌∙◌, append_assoc, append-nil, zero-add}
+use Rattle.std.proofs.Common.{◌≡◌, ℕ, ◌+◌, suc, zero, false, true, Option, Some, None, List, [], ◌∷◌, ◌++◌, length, refl, sym, ap, ap₂, ◌∙◌, append-nil, zero-add}
 use Rattle.std.specs.Prelude.{not}
 use Rattle.tg_cid.specs.Cid.{CidParts}
 use Rattle.tg_model_laws.specs.Steps.{BeginsAtRoot, EndsAtTerminal, GoesBelow, IsAssociative, NothingBehind, StepsOn, StopsBelow, StopsOnPath, after_step, from_child, from_node}
 use Rattle.tg_model.specs.Dag.{Children, Dag, Section, bare, no_child, node, unopened, with_child}
 use Rattle.tg_model.specs.Fits.{is_block}
-use Rattle.tg_model.specs.PathWalk.{StepTo, Stop, TraversalEnd, absent, bad_block, gone, not_folder_here, spot_at, step_of, stopped, to_child, to_entry, whole}
-use Rattle.tg_model.specs.Queries.{QueryParts, SpanParts}
-use Rattle.tg_model.specs.Sound.{Position, passed, position_fault, top}
+use Rattle.tg_model.specs.PathWalk.{StepTo, Stop, absent, bad_block, gone, not_folder_here, spot_at, step_of, stopped, to_child, to_entry, whole}
+use Rattle.tg_model.specs.Queries.{QueryParts}
+use Rattle.tg_model.specs.Sound.{Position, passed, top}
 use Rattle.tg_model.specs.Traversal.{ListedEntry, Place, Reach, Traversal, Visit, all_reach, and_then, at_terminal, ended, entity_reach, giving_entries, giving_place, giving_text, text_behind, traversal, traverse, traverse_children, visited, visits}
 use Rattle.tg_model.specs.declared.fault.BlockFault.{BlockFault}
 use Rattle.tg_model.specs.declared.kinds.Kind.{Kind}
 use Rattle.tg_model.specs.declared.queries.Scope.{Scope}
 use Rattle.tg_model.specs.declared.queries.Scope.TheVariants as scopes
 use Rattle.tg_traversal_laws.specs.Stages.{Given, IsOpened, IsStage, ending, nothing_given, place_of, task_gives, tasks_give, traverse_from, up_to_next, with_place}
-use Rattle.tg_traversal_laws.specs.Tasks.{Miss, Task, Want, child_then, children_tasks, dags_of, depth_of, entries_now, entries_then, fault_at, give_entries, give_text, is_read_at, link_tasks, no_directory, no_entry, node_tasks, node_want, open_block, path_want, position_below, segment_want, spot_of, start, step_tasks, stop_at, stop_of, tasks_of, tasks_then, terminal_fault, terminal_tasks, terminal_text_before, terminal_want, text_at, text_last, text_now}
+use Rattle.tg_traversal_laws.specs.Tasks.{Miss, Task, Want, child_then, children_tasks, dags_of, entries_now, entries_then, fault_at, give_entries, give_text, is_read_at, link_tasks, node_tasks, node_want, open_block, path_want, position_below, segment_want, spot_of, start, step_tasks, stop_at, stop_of, tasks_of, tasks_then, terminal_fault, terminal_tasks, terminal_text_before, terminal_want, text_at, text_last, text_now}
 
 -- ---- along the path
 

@@ -1,5 +1,5 @@
 -- One step of a walk over what a store shows, cut at a depth or not.
-use Rattle.std.proofs.Common.{◌≡◌, ◌≤◌, ◌<◌, ℕ, ◌+◌, ◌-◌, suc, zero, All, Bool, true, false, Option, Some, None, List, [], ◌∷◌, ◌++◌, Ok, Err, Result, map, nat_lt, refl, sym, ap, ap₂, ◌∙◌, subst, arith}
+use Rattle.std.proofs.Common.{◌≡◌, ◌≤◌, ◌<◌, ℕ, ◌+◌, ◌-◌, suc, zero, All, Bool, true, false, Option, Some, None, List, [], ◌∷◌, ◌++◌, Ok, Err, Result, nat_lt, refl, sym, ap, ap₂, ◌∙◌, subst, arith}
 use Rattle.std.proofs.lemmas.Bool.{le-ltb, lt-ltb}
 use Rattle.std.proofs.lemmas.List.Elements.{All-append, All-cons, All-nil}
 use Rattle.std.specs.Prelude.{if◌then◌else◌}
@@ -7,7 +7,7 @@ use Rattle.tg_cid.specs.Cid.{CidParts}
 use Rattle.tg_model_laws.specs.Depths.{children_down_to, down_to}
 use Rattle.tg_model.specs.Computed.{read}
 use Rattle.tg_model.specs.Dag.{Children, Dag, Section, bare, links_of, node, root_cid, unopened, with_child}
-use Rattle.tg_model.specs.PathWalk.{TraversalEnd, bad_block, gone, stopped, whole}
+use Rattle.tg_model.specs.PathWalk.{bad_block, gone, stopped, whole}
 use Rattle.tg_model.specs.Queries.{QueryParts}
 use Rattle.tg_model.specs.StoreView.{block_at, children_by, opened_to, read_as, store_view, with_block}
 use Rattle.tg_model.specs.Stores.{Store}
@@ -17,7 +17,7 @@ use Rattle.tg_model.specs.declared.kinds.Kind.{Kind}
 use Rattle.tg_traversal_laws.proofs.TaskMaps.{map_both, map_entries, map_tasks, map_text, map_then, shown_children}
 use Rattle.tg_traversal_laws.specs.Stages.{Given, IsOpened, IsStage, StageLaws, ending, nothing_given, place_of, tasks_give, up_to_next, with_place}
 use Rattle.tg_traversal_laws.specs.StoreWalks.{IsWalked, WalkEnds, WalkTooDeep, cut_at, cut_view, section_of, shown_tasks, shown_at}
-use Rattle.tg_traversal_laws.specs.Tasks.{Miss, Task, Want, dags_of, depth_of, entries_now, fault_at, is_read_at, open_block, path_want, spot_of, start, stop_at, stop_of, tasks_of, tasks_then, text_at, text_now, depth_at_top}
+use Rattle.tg_traversal_laws.specs.Tasks.{Miss, Task, Want, dags_of, depth_of, fault_at, is_read_at, open_block, path_want, spot_of, start, stop_at, stop_of, tasks_of, tasks_then, text_at, depth_at_top}
 
 -- ---- what is shown of a CID, a block deeper for the links
 

@@ -1,5 +1,5 @@
 -- The tasks that are left, over a DAG's own nodes: beside a sound DAG, and beside one that sections have opened.
-use Rattle.std.specs.Prelude.{Bool, Contains, List, [], false, true, ℕ, ◌++◌, ◌∷◌, ◌≡◌, ◌⊎◌}
+use Rattle.std.specs.Prelude.{Bool, Contains, List, [], false, true, ◌++◌, ◌∷◌, ◌≡◌, ◌⊎◌}
 use Rattle.tg_cid.specs.Cid.{CidParts}
 use Rattle.tg_cid.specs.Names.{Names}
 use Rattle.tg_model.specs.Dag.{Dag, IsWhole, Section, blocks, links_of, root_cid}

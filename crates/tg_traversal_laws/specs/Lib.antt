@@ -1,6 +1,7 @@
 pub mod BesideSound
 pub mod Openings
 pub mod PathStages
+pub mod Repeats
 pub mod Stages
 pub mod StoreWalks
 pub mod Tasks

@@ -1,14 +1,14 @@
 -- Blocks that were taken at their places open a partial DAG, of which other places are to come.
-use Rattle.std.specs.Prelude.{Bool, List, None, [], false, map, true, ⊤, ◌++◌, ◌∷◌, ◌≡◌, ◌⊎◌}
+use Rattle.std.specs.Prelude.{List, None, [], false, map, true, ⊤, ◌++◌, ◌∷◌, ◌≡◌, ◌⊎◌}
 use Rattle.tg_cid.specs.Cid.{CidParts}
 use Rattle.tg_cid.specs.Names.{Names}
-use Rattle.tg_model.specs.Dag.{Dag, Section, blocks, links_of, root_cid, total_of, unopened}
+use Rattle.tg_model.specs.Dag.{Dag, Section, blocks, links_of, root_cid, total_of}
 use Rattle.tg_model.specs.Fits.{HasOneBlockEach, IfOnce, IsAloneAt, IsOpenedFor}
 use Rattle.tg_model.specs.PathWalk.{PathEnd, TraversalEnd, gone, path_walk, stopped, whole}
 use Rattle.tg_model.specs.Queries.{QueryParts}
 use Rattle.tg_model.specs.Reading.{Reads}
 use Rattle.tg_model.specs.Sound.{IsChecked, IsCheckedAt, IsOfSize, Position, TellsSize, position_fault}
-use Rattle.tg_model.specs.Traversal.{Place, traversal}
+use Rattle.tg_model.specs.Traversal.{traversal}
 use Rattle.tg_model.specs.declared.kinds.Kind.{Kind}
 use Rattle.tg_traversal_laws.specs.PathStages.{IsPathEnd}
 use Rattle.tg_traversal_laws.specs.Stages.{Given, IsStage, ending, nothing_given, up_to_next, with_place}

@@ -1,5 +1,4 @@
 -- The traversal of a DAG in stages: what it has given, and what the tasks that are left of it over its nodes give.
-use Rattle.tg_model.specs.declared.queries.Scope.TheVariants as scopes
 use Rattle.std.specs.Prelude.{List, None, Some, [], false, true, ℕ, ◌++◌, ◌∷◌, ◌≡◌}
 use Rattle.tg_cid.specs.Cid.{CidParts}
 use Rattle.tg_model_laws.specs.Steps.{from_node}

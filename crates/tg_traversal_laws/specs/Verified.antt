@@ -1,7 +1,7 @@
 -- What a verifier stands for that has taken these sections: the partial DAG that they open, and what is left beside
 -- each DAG that opens with them.
 use Rattle.tg_model.specs.declared.queries.Scope.TheVariants as scopes
-use Rattle.std.specs.Prelude.{Contains, List, [], map, true, false, ℕ, ◌++◌, ◌∷◌, ◌≡◌, ◌≢◌, ◌⊎◌}
+use Rattle.std.specs.Prelude.{Bool, Contains, List, [], map, true, false, ℕ, ⊤, ◌++◌, ◌∷◌, ◌≡◌, ◌⊎◌}
 use Rattle.tg_cid.specs.Cid.{CidParts}
 use Rattle.tg_cid.specs.Names.{Names}
 use Rattle.tg_model.specs.Dag.{Dag, Section, links_of, root_cid}
@@ -10,7 +10,9 @@ use Rattle.tg_model.specs.PathWalk.{Spot, gone, stopped, whole}
 use Rattle.tg_model.specs.Queries.{QueryParts}
 use Rattle.tg_model.specs.Sound.{IsChecked, IsSound}
 use Rattle.tg_model.specs.Texts.{listing}
-use Rattle.tg_model.specs.Traversal.{ListedEntry, Place, block_list, named_met, opened_list, sent_places, traversal}
+use Rattle.tg_model.specs.Traversal.{ListedEntry, block_list, is_sent_behind, named_met, opened_list, sent, traversal}
+use Rattle.tg_model_laws.specs.Openings.{IsSettledAt}
+use Rattle.tg_model_laws.specs.SentSections.{taken_as}
 use Rattle.tg_model.specs.declared.kinds.Kind.{Kind}
 use Rattle.tg_model.specs.declared.queries.Scope.{Scope}
 use Rattle.tg_traversal_laws.specs.BesideSound.{IsBeside, Passes}
@@ -19,15 +21,38 @@ use Rattle.tg_traversal_laws.specs.Stages.{Given, ending, nothing_given, up_to_n
 use Rattle.tg_traversal_laws.specs.Tasks.{Miss, Task, Want, is_read_at, open_block, position_of, spot_of, start}
 use Rattle.tg_traversal_laws.specs.Tasks.{stop_at, stop_of, tasks_of, tasks_then, text_at}
 
--- the sections were sent, of the places that were opened; each opened block was received; and these tasks are left, of
--- the partial DAG and beside each checked DAG of the query's root that opens with the same blocks
+-- what is known of a block at a place: a section that isn't sent behind these is one of them
+abbrev pub IsKnownIf : Bool → List Section → Section → Type 0
+IsKnownIf true sections section = ⊤
+IsKnownIf false sections section = Contains sections section
+
+abbrev pub IsKnown : QueryParts → List Section → Section → Type 0
+IsKnown q sections section = IsKnownIf (is_sent_behind q sections section.cid) sections section
+
+-- where a block is wanted next, one under its CID is sent behind the sections
+abbrev pub AreSettled : QueryParts → List Section → List (Task CidParts) → Type 0
+AreSettled q sections tasks = (w : Want) (cid : CidParts) (more : List (Task CidParts)) → tasks_then tasks ≡ open_block w cid ∷ more → is_sent_behind q sections cid ≡ true
+
+-- a checked DAG of the query's root, with one block under each CID where each is sent once, whose traversal came through
+-- or stopped where a block is sent
+pub record IsOther (q : QueryParts) (d : Dag) : Type 0 where
+  pub checked : IsChecked d
+  pub root : root_cid d ≡ q.root
+  pub one_each : IfOnce q.dups (HasOneBlockEach (opened_list q d))
+  pub settled : IsSettledAt q (block_list q d) (traversal q d).end
+
+-- the sections were sent, of the places that were opened; each opened block was received; these tasks are left, of the
+-- partial DAG and beside each checked DAG of the query's root that opens with the same blocks; and a DAG whose sections
+-- begin with these opens with these blocks
 pub record Verified (q : QueryParts) (sections : List Section) (given : Given) (tasks : List (Task CidParts)) : Type 0 where
-  pub sent : map (λ p. p.section) (sent_places q given.places) ≡ sections
+  pub sent_are : sent q (opened_by given) ≡ sections
   pub received : (section : Section) → Contains (opened_by given) section → Contains sections section
   pub one_each : IfOnce q.dups (HasOneBlockEach (opened_by given))
   pub opening : Opening q given tasks
   pub beside : (d : Dag) (rest : List Section) → IsChecked d → root_cid d ≡ q.root
       → opened_list q d ≡ opened_by given ++ rest → IsBeside q d given tasks
+  pub opens : (d : Dag) (rest : List Section) → IsOther q d → block_list q d ≡ sections ++ rest
+      → (more : List Section) × (opened_list q d ≡ opened_by given ++ more)
 
 -- what is written at the end behind the text that was given: the listing of the entries that were met, where an entity
 -- is asked for
@@ -94,22 +119,22 @@ abbrev pub VerifiedGives : Type 0
 VerifiedGives = (q : QueryParts) (sections : List Section) (given : Given) (tasks : List (Task CidParts)) → Verified q sections given tasks
     → Verified q sections (up_to_next tasks given) (tasks_then tasks)
 
--- a section that passes is taken
+-- a block that passes is taken: a section that is sent behind the others, or else one of them
 abbrev pub VerifiedTakes : Type 0
-VerifiedTakes = (q : QueryParts) (sections : List Section) (given : Given) (w : Want) (section : Section) (kind : Kind) (tasks : List (Task CidParts)) → q.dups ≡ true
+VerifiedTakes = (q : QueryParts) (sections : List Section) (given : Given) (w : Want) (section : Section) (kind : Kind) (tasks : List (Task CidParts)) → IsKnown q sections section
     → is_read_at q w ≡ true → IsReadAt (position_of w) section kind → Verified q sections given (open_block w section.cid ∷ tasks)
-    → Verified q (sections ++ section ∷ []) (with_place w section (text_at q w section kind) given) (tasks_of q w section kind (links_of kind) ++ tasks)
+    → Verified q (taken_as q sections section) (with_place w section (text_at q w section kind) given) (tasks_of q w section kind (links_of kind) ++ tasks)
 
 abbrev pub VerifiedTakesAlone : Type 0
-VerifiedTakesAlone = (q : QueryParts) (sections : List Section) (given : Given) (w : Want) (section : Section) (tasks : List (Task CidParts)) → q.dups ≡ true
+VerifiedTakesAlone = (q : QueryParts) (sections : List Section) (given : Given) (w : Want) (section : Section) (tasks : List (Task CidParts)) → IsKnown q sections section
     → is_read_at q w ≡ false → Names section.cid section.block → Verified q sections given (open_block w section.cid ∷ tasks)
-    → Verified q (sections ++ section ∷ []) (with_place w section section.block given) tasks
+    → Verified q (taken_as q sections section) (with_place w section section.block given) tasks
 
 -- ---- what the sections are
 
 abbrev pub VerifiedGoesOn : Type 0
 VerifiedGoesOn = (q : QueryParts) (sections : List Section) (given : Given) (w : Want) (cid : CidParts) (tasks : List (Task CidParts))
-    → IfOnce q.dups ((section : Section) → Contains sections section → section.cid ≢ cid) → Verified q sections given (open_block w cid ∷ tasks)
+    → is_sent_behind q sections cid ≡ true → Verified q sections given (open_block w cid ∷ tasks)
     → GoesOn q sections given (spot_of w cid)
 
 abbrev pub VerifiedFits : Type 0
@@ -126,30 +151,42 @@ abbrev pub VerifiedBeside : Type 0
 VerifiedBeside = (q : QueryParts) (d : Dag) (sections : List Section) (given : Given) (tasks : List (Task CidParts)) → IsSound d → root_cid d ≡ q.root
     → Verified q sections given tasks → IsBeside q d given tasks ⊎ CollisionPair sections d
 
--- a received block of the wanted CID that isn't read, can't stand there or has wrong sizes makes one
+-- a block of the wanted CID that isn't read, can't stand there or has wrong sizes makes one, received now or before
 abbrev pub VerifiedRefuses : Type 0
 VerifiedRefuses = (q : QueryParts) (d : Dag) (sections : List Section) (given : Given) (w : Want) (section : Section) (tasks : List (Task CidParts)) → IsSound d → root_cid d ≡ q.root
-    → Names section.cid section.block → ((kind : Kind) → IsReadAt (position_of w) section kind → ⊥) → Verified q sections given (open_block w section.cid ∷ tasks)
-    → CollisionPair (sections ++ section ∷ []) d
+    → IsKnown q sections section → Names section.cid section.block → ((kind : Kind) → IsReadAt (position_of w) section kind → ⊥)
+    → Verified q sections given (open_block w section.cid ∷ tasks) → CollisionPair (taken_as q sections section) d
 
 -- ---- sections that fit, or are in progress, are taken one by one
 
+-- where a block is wanted that is sent, the next section passes
 abbrev pub FittingPasses : Type 0
-FittingPasses = (q : QueryParts) (d : Dag) (front rest : List Section) (next : Section) (out : List ℕ) (given : Given) (tasks : List (Task CidParts)) → q.dups ≡ true
+FittingPasses = (q : QueryParts) (d : Dag) (front rest : List Section) (next : Section) (out : List ℕ) (given : Given) (tasks : List (Task CidParts)) → AreSettled q front tasks
     → Fits d q (front ++ next ∷ rest) out → Verified q front given tasks → WantsNext q tasks next
 
 abbrev pub InProgressPasses : Type 0
-InProgressPasses = (q : QueryParts) (d : Dag) (front rest : List Section) (next : Section) (wanted : Spot) (given : Given) (tasks : List (Task CidParts)) → q.dups ≡ true
+InProgressPasses = (q : QueryParts) (d : Dag) (front rest : List Section) (next : Section) (wanted : Spot) (given : Given) (tasks : List (Task CidParts)) → AreSettled q front tasks
     → IsInProgress d q (front ++ next ∷ rest) wanted → Verified q front given tasks → WantsNext q tasks next
+
+-- and where one is wanted that isn't sent, the block that was received passes again
+abbrev pub FittingPassesAgain : Type 0
+FittingPassesAgain = (q : QueryParts) (d : Dag) (front rest : List Section) (known : Section) (out : List ℕ) (given : Given) (w : Want) (more tasks : List (Task CidParts))
+    → tasks_then tasks ≡ open_block w known.cid ∷ more → is_sent_behind q front known.cid ≡ false → Contains front known
+    → Fits d q (front ++ rest) out → Verified q front given tasks → Passes q w known
+
+abbrev pub InProgressPassesAgain : Type 0
+InProgressPassesAgain = (q : QueryParts) (d : Dag) (front rest : List Section) (known : Section) (wanted : Spot) (given : Given) (w : Want) (more tasks : List (Task CidParts))
+    → tasks_then tasks ≡ open_block w known.cid ∷ more → is_sent_behind q front known.cid ≡ false → Contains front known
+    → IsInProgress d q (front ++ rest) wanted → Verified q front given tasks → Passes q w known
 
 -- once all were taken, what fits is accepted, with its text
 abbrev pub FittingEnds : Type 0
-FittingEnds = (q : QueryParts) (d : Dag) (sections : List Section) (out : List ℕ) (given : Given) (tasks : List (Task CidParts)) → q.dups ≡ true
+FittingEnds = (q : QueryParts) (d : Dag) (sections : List Section) (out : List ℕ) (given : Given) (tasks : List (Task CidParts)) → AreSettled q sections tasks
     → Fits d q sections out → Verified q sections given tasks → (tasks_then tasks ≡ []) × (out ≡ written_whole q (up_to_next tasks given))
 
 -- and for what is in progress the block is wanted
 abbrev pub InProgressEnds : Type 0
-InProgressEnds = (q : QueryParts) (d : Dag) (sections : List Section) (wanted : Spot) (given : Given) (tasks : List (Task CidParts)) → q.dups ≡ true
+InProgressEnds = (q : QueryParts) (d : Dag) (sections : List Section) (wanted : Spot) (given : Given) (tasks : List (Task CidParts)) → AreSettled q sections tasks
     → IsInProgress d q sections wanted → Verified q sections given tasks → WantsAt tasks wanted × (output_so_far q d ≡ (up_to_next tasks given).text)
 
 -- ---- of tasks, and of lists of sections
@@ -157,9 +194,10 @@ InProgressEnds = (q : QueryParts) (d : Dag) (sections : List Section) (wanted : 
 abbrev pub EachGoesOn : Type 0
 EachGoesOn = (tasks : List (Task CidParts)) → Then tasks
 
--- where repeats are sent, the section of each place is
+-- where repeats are sent, each section is, and each is sent behind others
 abbrev pub RepeatsAreSent : Type 0
-RepeatsAreSent = (q : QueryParts) → q.dups ≡ true → (places : List Place) → map (λ (p : Place). p.section) (sent_places q places) ≡ map (λ p. p.section) places
+RepeatsAreSent = (q : QueryParts) → q.dups ≡ true → ((sections : List Section) → sent q sections ≡ sections)
+    × ((sections : List Section) (cid : CidParts) → is_sent_behind q sections cid ≡ true)
 
 -- a collision pair of some sections is one of all that hold them
 abbrev pub PairOfSome : Type 0
@@ -178,6 +216,8 @@ pub record VerifiedLaws : Type 0 where
   pub refused : VerifiedRefuses
   pub fitting : FittingPasses
   pub in_progress : InProgressPasses
+  pub fitting_again : FittingPassesAgain
+  pub in_progress_again : InProgressPassesAgain
   pub fitting_ends : FittingEnds
   pub in_progress_ends : InProgressEnds
   pub how_then : EachGoesOn

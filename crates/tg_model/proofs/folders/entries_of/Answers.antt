@@ -1,4 +1,4 @@
-use Rattle.std.proofs.Common.{◌≡◌, ℕ, List, [], ◌∷◌, ◌++◌, refl, ap, sym, ◌∙◌, append_assoc, append-nil, subst}
+use Rattle.std.proofs.Common.{◌≡◌, ℕ, List, [], ◌∷◌, ◌++◌, ap, sym, ◌∙◌, append_assoc, append-nil, subst}
 use Rattle.tg_cid.specs.Cid.{CidParts}
 use Rattle.tg_dagpb.specs.Cursor.{link_of}
 use Rattle.tg_dagpb.specs.declared.Link.{Link}

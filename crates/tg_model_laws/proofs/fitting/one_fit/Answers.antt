@@ -1,4 +1,5 @@
-use Rattle.tg_model_laws.proofs.SameOpenings.{fit_or_in_progress, one_fit, one_in_progress, one_opened, sent_opened}
+use Rattle.tg_model_laws.proofs.SameOpenings.{one_opened}
+use Rattle.tg_model_laws.proofs.SentOpenings.{fit_or_in_progress, one_fit, one_in_progress, sent_opened}
 use Rattle.tg_model_laws.proofs.fitting.one_fit.Goals as goal
 
 pub returns-clause-fits : goal.returns-clause-fits
@@ -14,4 +15,4 @@ pub returns-clause-opened : goal.returns-clause-opened
 returns-clause-opened c = one_opened c.readings.ensures.one_kind
 
 pub returns-clause-sent : goal.returns-clause-sent
-returns-clause-sent c = sent_opened
+returns-clause-sent c = sent_opened c.readings.ensures.one_kind

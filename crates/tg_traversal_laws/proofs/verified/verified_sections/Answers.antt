@@ -1,4 +1,5 @@
-use Rattle.tg_traversal_laws.proofs.VerifySteps.{ends_whole, how_then, pair_of, sent_all, verified_beside, verified_fits, verified_gives, verified_goes, verified_misses, verified_refuses, verified_starts, verified_takes, verified_takes_alone, waits_at, wants_next}
+use Rattle.std.proofs.Common.{◌∷◌, ◌++◌}
+use Rattle.tg_traversal_laws.proofs.VerifySteps.{ends_whole, fit_other, how_then, pair_of, passes_again, progress_other, repeats_sent, verified_beside, verified_fits, verified_gives, verified_goes, verified_misses, verified_refuses, verified_starts, verified_takes, verified_takes_alone, waits_at, wants_next}
 use Rattle.tg_traversal_laws.proofs.verified.verified_sections.Goals as goal
 
 pub returns : goal.returns
@@ -12,18 +13,20 @@ returns c =
     record {
       start = verified_starts o b;
       up_to_next = verified_gives o b;
-      taken = λ q sections given w section kind tasks dups reads here v. verified_takes o b q dups sections given w section tasks v kind reads here;
-      alone = λ q sections given w section tasks dups unread named v. verified_takes_alone o b q dups sections given w section tasks v unread named;
+      taken = λ q sections given w section kind tasks known reads here v. verified_takes o b q sections given w section tasks known v kind reads here;
+      alone = λ q sections given w section tasks known unread named v. verified_takes_alone o b q sections given w section tasks known v unread named;
       goes = verified_goes o b;
       fits = verified_fits o b say meet;
       misses = verified_misses o b;
       beside = verified_beside o b opened_from followed;
       refused = verified_refuses o b opened_from followed;
-      fitting = λ q d front rest next out given tasks dups h v. wants_next o b q dups d given tasks front rest next v h.right.checked h.right.root h.list;
-      in_progress = λ q d front rest next wanted given tasks dups h v. wants_next o b q dups d given tasks front rest next v h.right.checked h.right.root h.list;
-      fitting_ends = λ q d sections out given tasks dups h v. ends_whole o b q dups d given tasks say meet sections out v h;
-      in_progress_ends = λ q d sections wanted given tasks dups h v. waits_at o b q dups d given tasks sections wanted v h;
+      fitting = λ q d front rest next out given tasks settled h v. wants_next o b q d given tasks front rest next settled v (fit_other o b q d (front ++ next ∷ rest) out h) h.list;
+      in_progress = λ q d front rest next wanted given tasks settled h v. wants_next o b q d given tasks front rest next settled v (progress_other o b q d (front ++ next ∷ rest) wanted h) h.list;
+      fitting_again = λ q d front rest known out given w more tasks e new within h v. passes_again o b q d given tasks front rest known w more e new within v (fit_other o b q d (front ++ rest) out h) h.list;
+      in_progress_again = λ q d front rest known wanted given w more tasks e new within h v. passes_again o b q d given tasks front rest known w more e new within v (progress_other o b q d (front ++ rest) wanted h) h.list;
+      fitting_ends = λ q d sections out given tasks settled h v. ends_whole o b q d given tasks say meet sections out settled v h;
+      in_progress_ends = λ q d sections wanted given tasks settled h v. waits_at o b q d given tasks sections wanted settled v h;
       how_then = how_then;
-      repeats_sent = sent_all;
+      repeats_sent = repeats_sent;
       pair_of_some = pair_of;
     }
