@@ -10,7 +10,7 @@ use Rattle.tg_model.specs.Dag.{Section}
 use Rattle.tg_model.specs.PathWalk.{Stop, TraversalEnd, bad_block, gone, not_folder, not_reached, not_there, path_walk, spot_at, stopped, whole}
 use Rattle.tg_model.specs.Queries.{QueryParts}
 use Rattle.tg_model.specs.Sound.{top}
-use Rattle.tg_model.specs.StoreView.{opened_to, store_view, with_block}
+use Rattle.tg_model.specs.StoreView.{block_at, opened_to, store_view, with_block}
 use Rattle.tg_model.specs.Stores.{Lookups, Store}
 use Rattle.tg_model.specs.Traversal.{Traversal, traversal}
 use Rattle.tg_model.specs.declared.fault.BlockFault.{BlockFault}
@@ -40,7 +40,7 @@ no_path q store sections stop e h =
     not_both (traversal q (store_view store q.root)).end stop (ap (λ (t : Traversal). t.end) h.ends.full) (path_stops q (store_view store q.root) stop e)
 
 -- where the root isn't stored, the path stops at once
-stops_at_root : (path : List (List ℕ)) (store : Store) (root : CidParts) → store root ≡ None → end_over store root path ≡ not_reached (gone (spot_at root 1 top))
+stops_at_root : (path : List (List ℕ)) (store : Store) (root : CidParts) → block_at store root ≡ None → end_over store root path ≡ not_reached (gone (spot_at root 1 top))
 stops_at_root path store root e = ap (λ (found : Option (List ℕ)). (path_walk path (with_block (opened_to 1099 store) root found)).end) e
 
 bad_path : (q : QueryParts) (store : Store) (sections : List Section) (cid : CidParts) (fault : BlockFault) → IsResolvedTo store q.root q.path (Err (refusals.BadBlock cid fault))
@@ -57,10 +57,10 @@ not_stopped q store given sections stop f h =
 
 bad_walk : (q : QueryParts) (store : Store) (given sections : List Section) (cid : CidParts) (fault : BlockFault) → HasWalkCause q store max_depth given (walks.BadBlock cid fault)
     → HasEnded q store max_depth sections whole → ⊥
-bad_walk q store given sections cid fault (spot, e, f) h = not_stopped q store given sections (bad_block spot fault) f h
+bad_walk q store given sections cid fault (spot, e, d, f) h = not_stopped q store given sections (bad_block spot fault) f h
 
 gone_walk : (q : QueryParts) (store : Store) (given sections : List Section) (cid : CidParts) → HasWalkCause q store max_depth given (walks.Gone cid) → HasEnded q store max_depth sections whole → ⊥
-gone_walk q store given sections cid (spot, e, f) h = not_stopped q store given sections (gone spot) f h
+gone_walk q store given sections cid (spot, e, d, f) h = not_stopped q store given sections (gone spot) f h
 
 not_deep : (q : QueryParts) (store : Store) (given sections : List Section) → HasStoppedDeep q store max_depth given → HasEnded q store max_depth sections whole → ⊥
 not_deep q store given sections f h =
@@ -91,7 +91,7 @@ answers q told out lookups store sections (Err (faults.Pack fault)) h cause own 
 answers q told out lookups store sections (Err faults.SinkFault) h cause own e all = tt
 answers q told out lookups store sections (Err faults.OutOfMemory) h cause own e all = tt
 answers q told out lookups store sections (Err (faults.Resolve refusals.NoRoot)) h cause own e all =
-    absurd (no_path q store sections (gone (spot_at q.root 1 top)) (stops_at_root q.path store q.root (told_of told store (λ store. store q.root ≡ None) e h.1)) all)
+    absurd (no_path q store sections (gone (spot_at q.root 1 top)) (stops_at_root q.path store q.root (told_of told store (λ store. block_at store q.root ≡ None) e h.1)) all)
 answers q told out lookups store sections (Err (faults.Resolve (refusals.NotThere i))) h cause own e all =
     absurd (no_path q store sections (not_there i) (told_of told store (λ store. StopsAt store q.root q.path (not_there i)) e h.1).end all)
 answers q told out lookups store sections (Err (faults.Resolve (refusals.NotFolder i))) h cause own e all =

@@ -1,17 +1,20 @@
 -- A store that is looked up in, and a sink that bytes are put into, from one moment to the next.
-use Rattle.std.proofs.Common.{Err, List, Ok, Option, [], refl, subst, ℕ, ◌++◌, ◌∙◌}
+use Rattle.std.proofs.Common.{Err, List, Ok, Option, [], refl, subst, ℕ, ◌++◌, ◌∙◌, ◌≡◌}
+use Rattle.std.proofs.lemmas.List.Elements.{All-append, All-nil}
 use Rattle.std.specs.Prelude.{Result, ⊤}
 use Rattle.tg_cid.specs.Cid.{CidParts}
+use Rattle.tg_cid.specs.declared.cid.HashKind.TheVariants.{Sha256}
 use Rattle.tg_export.specs.Cars.{HasCarCause, PutNothing, PutWhole, fault_of_path, fault_of_walk}
 use Rattle.tg_export.specs.declared.fault.ExportFault.{ExportFault}
 use Rattle.tg_export.specs.declared.fault.ExportFault.TheVariants as faults
-use Rattle.tg_model.specs.Stores.{BlocksMeaning, IsCauseOf, LookedUp, Lookups, LookupsQuiet, Store, looked_in}
+use Rattle.tg_model.specs.Queries.{QueryParts}
+use Rattle.tg_model.specs.Stores.{BlocksMeaning, IsCauseOf, Lookups, LookupsQuiet, Store, looked_in}
 use Rattle.tg_model.specs.declared.stores.BlocksFault.{BlocksFault}
 use Rattle.tg_model.specs.declared.stores.BlocksFault.TheVariants as store_faults
 use Rattle.tg_streams.specs.Joining.{SinkJoins, put_put, put_put_front}
 use Rattle.tg_streams.specs.Streams.{PutFront, SinkMeaning, into}
 use Rattle.tg_walk.specs.Resolving.{HasResolveCause}
-use Rattle.tg_walk.specs.Walks.{HasStoreCause}
+use Rattle.tg_walk.specs.Walks.{HasLookedUp, HasStoreCause, HaveLookedUp}
 use Rattle.tg_walk.specs.declared.fault.ResolveFault.{ResolveFault}
 use Rattle.tg_walk.specs.declared.fault.ResolveFault.TheVariants as refusals
 use Rattle.tg_walk.specs.declared.fault.WalkFault.{WalkFault}
@@ -32,22 +35,28 @@ puts_front m a b c u v joins p q = put_put_front _ m a b c u v joins p.put p.qui
 
 -- CIDs were looked up, and no fault was counted
 pub record HasLooked (lookups : Lookups) : Type 0 where
-  pub cids : List CidParts
-  pub looked : LookedUp cids lookups
+  pub up : HaveLookedUp lookups
   pub quiet : LookupsQuiet lookups
 
 abbrev pub LooksJoin : (S : Type 0) → BlocksMeaning S → Type 0
 LooksJoin S m = (a b c : S) (u v : List CidParts) → m.looked a b u → m.looked b c v → m.looked a c (u ++ v)
 
 pub looks_nothing : {S : Type 0} (m : BlocksMeaning S) (a : S) → m.looked a a [] → HasLooked (looked_in m a a)
-looks_nothing m a rests = record { cids = []; looked = record { moved = rests; stored = refl }; quiet = refl }
+looks_nothing m a rests = record { up = record { cids = []; looked = record { moved = rests; stored = refl }; hashed = All-nil (λ (cid : CidParts). cid.hash ≡ Sha256) }; quiet = refl }
 
-pub looks_both : {S : Type 0} (m : BlocksMeaning S) (a b c : S) (u v : List CidParts) → LooksJoin S m → LookedUp u (looked_in m a b) → LookedUp v (looked_in m b c) → LookedUp (u ++ v) (looked_in m a c)
-looks_both m a b c u v joins p q = record { moved = joins a b c u v p.moved q.moved; stored = q.stored ∙ p.stored }
+pub looks_both : {S : Type 0} (m : BlocksMeaning S) (a b c : S) → LooksJoin S m → HaveLookedUp (looked_in m a b) → HaveLookedUp (looked_in m b c) → HaveLookedUp (looked_in m a c)
+looks_both m a b c joins p q = record {
+  cids = p.cids ++ q.cids;
+  looked = record { moved = joins a b c p.cids q.cids p.looked.moved q.looked.moved; stored = q.looked.stored ∙ p.looked.stored };
+  hashed = All-append (λ (cid : CidParts). cid.hash ≡ Sha256) p.cids q.cids p.hashed q.hashed;
+}
 
-pub looks_on : {S : Type 0} (m : BlocksMeaning S) (a b c : S) (v : List CidParts) → LooksJoin S m → HasLooked (looked_in m a b) → LookedUp v (looked_in m b c) → LookupsQuiet (looked_in m b c)
-    → HasLooked (looked_in m a c)
-looks_on m a b c v joins p q quiet = record { cids = p.cids ++ v; looked = looks_both m a b c p.cids v joins p.looked q; quiet = quiet ∙ p.quiet }
+-- a walk's look-ups, told alone
+pub looked_by : (q : QueryParts) (result : Result (Option (CidParts × List ℕ)) WalkFault) (lookups : Lookups) → HasLookedUp q result lookups → HaveLookedUp lookups
+looked_by q result lookups p = record { cids = p.cids; looked = p.looked; hashed = p.hashed }
+
+pub looks_on : {S : Type 0} (m : BlocksMeaning S) (a b c : S) → LooksJoin S m → HasLooked (looked_in m a b) → HaveLookedUp (looked_in m b c) → LookupsQuiet (looked_in m b c) → HasLooked (looked_in m a c)
+looks_on m a b c joins p q quiet = record { up = looks_both m a b c joins p.up q; quiet = quiet ∙ p.quiet }
 
 -- ---- causes
 
@@ -55,7 +64,7 @@ looks_on m a b c v joins p q quiet = record { cids = p.cids ++ v; looked = looks
 cause_since : {S : Type 0} (m : BlocksMeaning S) (a b c : S) (cid : CidParts) (fault : BlocksFault) → HasLooked (looked_in m a b)
     → IsCauseOf (m.stored b) cid (m.faults b) (m.faults c) fault → IsCauseOf (m.stored a) cid (m.faults a) (m.faults c) fault
 cause_since m a b c cid fault p q =
-    subst (λ (told : Option Store). IsCauseOf told cid (m.faults a) (m.faults c) fault) p.looked.stored
+    subst (λ (told : Option Store). IsCauseOf told cid (m.faults a) (m.faults c) fault) p.up.looked.stored
     (subst (λ (n : ℕ). IsCauseOf (m.stored b) cid n (m.faults c) fault) p.quiet q)
 
 pub path_cause : (told : Option Store) (lookups : Lookups) (fault : ResolveFault) → HasResolveCause (Err fault) told lookups → HasCarCause told lookups (Err (fault_of_path fault))

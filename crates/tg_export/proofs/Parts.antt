@@ -62,13 +62,13 @@ told_each (Some store) holds h = h store refl
 -- what it has given is a front of the traversal
 pub front_of : (laws : WalkLaws) (state : WalkState) (store : Store) (sections : List Section) → state.refused ≡ None → StandsFor state store sections → IsFront state.left.query store sections
 front_of laws state store sections e stands =
-    let on : IsOnWalk max_depth state.left store sections = subst (λ (refused : Option WalkFault). StandsBy refused max_depth state.left store sections) e stands in
+    let on : IsOnWalk max_depth state.left state.known store sections = subst (λ (refused : Option WalkFault). StandsBy refused max_depth state.left state.known store sections) e stands in
     let front = laws.front state.left.query store max_depth on.given _ on.walked in
     record { given = on.given; gave = on.gave; rest = front.0; front = front.1 }
 
 pub cause_of : (state : WalkState) (store : Store) (sections : List Section) (fault : WalkFault) → state.refused ≡ Some fault → StandsFor state store sections
     → HasWalkCause state.left.query store max_depth sections fault
-cause_of state store sections fault e stands = subst (λ (refused : Option WalkFault). StandsBy refused max_depth state.left store sections) e stands
+cause_of state store sections fault e stands = subst (λ (refused : Option WalkFault). StandsBy refused max_depth state.left state.known store sections) e stands
 
 -- ---- what was put behind the header
 

@@ -1,16 +1,15 @@
 //! The answer to a query over a store, written as a CAR.
 ghost use Rattle.std.specs.Prelude.{◌≡◌, ◌≤◌, [], List, None, Some, length};
-ghost use Rattle.tg_cid.specs.Cid.{CidParts};
 ghost use Rattle.tg_cid.specs.Limits.{max_block_len};
 ghost use Rattle.tg_car.specs.Writing.{HeaderOf};
 ghost use Rattle.tg_export.specs.Cars.{BytesEnd, CarEnds, HasCarCause, HasOwnMemory, HasResolved, IsOtherwiseWhole};
 ghost use Rattle.tg_export.specs.Cars.{SectionEnds, SectionsEnd};
 ghost use Rattle.tg_model.specs.Dag.{Section};
 ghost use Rattle.tg_model.specs.PathWalk.{TraversalEnd, whole};
-ghost use Rattle.tg_model.specs.Stores.{LookedUp, Store, looked_in};
+ghost use Rattle.tg_model.specs.Stores.{Store, looked_in};
 ghost use Rattle.tg_streams.specs.Streams.{into};
 ghost use Rattle.tg_traversal_laws.specs.StoreWalks.{section_of};
-ghost use Rattle.tg_walk.specs.Walks.{HasEnded, StandsFor, max_depth};
+ghost use Rattle.tg_walk.specs.Walks.{HasEnded, HaveLookedUp, StandsFor, max_depth};
 
 use crate::fault::ExportFault;
 use std::alloc::Global;
@@ -21,8 +20,8 @@ use tg_streams::{Sink, put_all};
 use tg_walk::{Walk, resolve};
 
 /// Writes the CAR of a query over a store: its header, with the query's root, and then the section of each block that
-/// the query asks for, repeats with them, in order, as the walk gives it. Each block is looked up when it is written,
-/// and none is kept.
+/// the query asks for, in order, as the walk gives it: each of them, or each once, as the query asks. A block is looked
+/// up at each of its places, but for an identity CID's, and none is kept.
 ///
 /// The path is resolved first, which looks up its blocks once more. CARv1 specification; Trustless Gateway
 /// specification, CAR responses. Errors: `Resolve` where the path doesn't lead to a stored block, with which nothing
@@ -35,7 +34,7 @@ pub fn write_car<B: Blocks, S: Sink>(
     out: &mut S,
 ) -> Result<(), ExportFault>
     ensures ends { CarEnds query.now (B.blocks.stored blocks.old) (into S.sink out.old out.new) result }
-    ensures looked { (cids : List CidParts) × LookedUp cids (looked_in B.blocks blocks.old blocks.new) }
+    ensures looked { HaveLookedUp (looked_in B.blocks blocks.old blocks.new) }
     ensures cause { HasCarCause (B.blocks.stored blocks.old) (looked_in B.blocks blocks.old blocks.new) result }
     ensures memory { HasOwnMemory result }
     // Where the store has the whole traversal, none of it too deep, it is written, but for counted faults and want of
@@ -65,7 +64,7 @@ fn write_all<B: Blocks, S: Sink>(
     requires fresh { walk.old.refused ≡ None }
     requires stands { (store : Store) → StandsFor walk.old store [] }
     ensures ends { CarEnds walk.old.left.query (B.blocks.stored blocks.old) (into S.sink out.old out.new) result }
-    ensures looked { (cids : List CidParts) × LookedUp cids (looked_in B.blocks blocks.old blocks.new) }
+    ensures looked { HaveLookedUp (looked_in B.blocks blocks.old blocks.new) }
     ensures cause { HasCarCause (B.blocks.stored blocks.old) (looked_in B.blocks blocks.old blocks.new) result }
     ensures memory { HasOwnMemory result }
 {
@@ -85,7 +84,7 @@ fn write_sections<B: Blocks, S: Sink>(
     requires fresh { walk.old.refused ≡ None }
     requires stands { (store : Store) → StandsFor walk.old store [] }
     ensures ends { SectionsEnd walk.old.left.query (B.blocks.stored blocks.old) (into S.sink out.old out.new) result }
-    ensures looked { (cids : List CidParts) × LookedUp cids (looked_in B.blocks blocks.old blocks.new) }
+    ensures looked { HaveLookedUp (looked_in B.blocks blocks.old blocks.new) }
     ensures cause { HasCarCause (B.blocks.stored blocks.old) (looked_in B.blocks blocks.old blocks.new) result }
     ensures memory { HasOwnMemory result }
 {

@@ -1,7 +1,7 @@
 //! CARs that are written from packs and from a store in memory.
 use crate::cars::{
-    BAD_SECTION, FILE, FILE_HEADER, FOLDER, FOLDER_BLOCK, FOLDER_HEADER, HEADER, HELL, O_WO, Part,
-    RLD, SECTION, UNFINISHED, ZERO_SECTION, joined,
+    BAD_SECTION, FILE, FILE_HEADER, FOLDER, FOLDER_BLOCK, FOLDER_HEADER, HEADER, HELL, O_WO, PAIR,
+    PAIR_BLOCK, PAIR_HEADER, Part, RLD, SECTION, UNFINISHED, ZERO_SECTION, joined,
 };
 use std::alloc::Global;
 use std::rt::HostRuntime;
@@ -288,6 +288,88 @@ fn is_path_row(alloc: Global, row: &PathRow) -> bool {
 fn paths_lead_to_what_is_written(rt: HostRuntime) {
     for row in PATHS {
         assert!(rt; is_path_row(rt.alloc(), row), "{}", row.0);
+    }
+}
+
+/// What is exported, from which pack of the folder that has the file twice, whether with repeats, how that ends, what
+/// is put, and how many bytes that has.
+type RepeatRow = (
+    &'static str,
+    &'static [Part],
+    bool,
+    Ended,
+    &'static [Part],
+    usize,
+);
+
+/// A pack of that folder, and the CAR of it with each block once.
+const PAIR_PACK: &[Part] = &[PAIR_HEADER, RLD, O_WO, FILE, HELL, PAIR];
+
+const PAIR_ONCE: &[Part] = &[PAIR_HEADER, PAIR, FILE, HELL, O_WO, RLD];
+
+const REPEATS: &[RepeatRow] = &[
+    (
+        "each block at each of its places",
+        PAIR_PACK,
+        true,
+        Ended::Whole,
+        &[
+            PAIR_HEADER,
+            PAIR,
+            FILE,
+            HELL,
+            O_WO,
+            RLD,
+            FILE,
+            HELL,
+            O_WO,
+            RLD,
+        ],
+        801,
+    ),
+    (
+        "each block once",
+        PAIR_PACK,
+        false,
+        Ended::Whole,
+        PAIR_ONCE,
+        497,
+    ),
+    (
+        "each block once, of a pack that has two sections of some",
+        &[PAIR_HEADER, HELL, PAIR, FILE, HELL, O_WO, RLD, FILE],
+        false,
+        Ended::Whole,
+        PAIR_ONCE,
+        497,
+    ),
+    (
+        "each block once, up to one that isn't stored",
+        &[PAIR_HEADER, PAIR, FILE, HELL, O_WO],
+        false,
+        Ended::Gone(b"rld"),
+        &[PAIR_HEADER, PAIR, FILE, HELL, O_WO],
+        457,
+    ),
+];
+
+/// Whether the export of all of the folder is as a row says.
+fn is_repeat_row(alloc: Global, row: &RepeatRow) -> bool {
+    let (_, pack, dups, ended, put, size) = *row;
+    let root = Cid::of_block(Codec::DagPb, PAIR_BLOCK);
+    let query = Query::car(root, List::new(alloc), Scope::All, None, dups);
+    match (joined(alloc, pack), joined(alloc, put)) {
+        (Some(pack), Some(put)) => {
+            put.as_slice().len() == size && ends_so(alloc, &query, &pack, ended, put.as_slice())
+        }
+        _ => false,
+    }
+}
+
+#[test]
+fn repeats_are_written_or_left_out(rt: HostRuntime) {
+    for row in REPEATS {
+        assert!(rt; is_repeat_row(rt.alloc(), row), "{}", row.0);
     }
 }
 

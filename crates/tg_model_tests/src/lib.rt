@@ -11,6 +11,8 @@ mod faults;
 #[cfg(test)]
 mod files;
 #[cfg(test)]
+mod repeats;
+#[cfg(test)]
 mod rows;
 #[cfg(test)]
 mod steps;

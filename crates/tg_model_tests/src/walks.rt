@@ -69,6 +69,35 @@ fn is_block(blocks: &[StoredBlock], index: usize, block: &[u8]) -> bool {
     }
 }
 
+/// Whether a walk over the stored blocks gives just the blocks with these numbers, and ends there. It may give blocks
+/// that aren't stored.
+pub fn walks_by(alloc: Global, stored: &Stored, query: &Query, numbers: &[usize]) -> bool {
+    match (
+        store_of(alloc, stored.blocks.as_slice()),
+        Walk::new(alloc, query),
+    ) {
+        (Some(mut store), Ok(mut walk)) => gives_just(&mut walk, &mut store, stored, numbers),
+        _ => false,
+    }
+}
+
+fn gives_just(walk: &mut Walk, store: &mut MemStore, stored: &Stored, numbers: &[usize]) -> bool {
+    for number in numbers {
+        if !gives_named(walk, store, stored.cid(*number)) {
+            return false;
+        }
+    }
+    ends_so(walk, store, &End::Whole)
+}
+
+/// Whether a walk gives the block that this CID names next.
+fn gives_named(walk: &mut Walk, store: &mut MemStore, wanted: Cid) -> bool {
+    match next(walk, store) {
+        Ok(Some((cid, block))) => cid == wanted && cid.holds(block.as_slice()),
+        _ => false,
+    }
+}
+
 /// What a walk gives next.
 fn next(walk: &mut Walk, store: &mut MemStore) -> Result<Option<(Cid, Bytes)>, WalkFault> {
     walk.next(store)

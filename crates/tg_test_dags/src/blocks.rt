@@ -22,6 +22,8 @@ pub enum Block {
     Node(&'static [Edge], &'static [u8]),
     /// The block with this number under its CIDv0.
     Old(usize),
+    /// The block with this number, of less than 128 bytes, under its identity CID.
+    Itself(usize),
 }
 
 /// A DAG: its blocks, each behind those where its links lead, the numbers of those that are stored, in their order,
@@ -55,6 +57,7 @@ fn made_behind(
         Block::DagPb(bytes) => stored_under(alloc, Cid::of_block(Codec::DagPb, bytes), bytes),
         Block::Node(edges, payload) => node(alloc, before, edges, payload),
         Block::Old(number) => stored_under(alloc, old_form(alloc, cid_at(before, number))?, b""),
+        Block::Itself(number) => itself(alloc, before, number),
     }
 }
 
@@ -75,16 +78,35 @@ pub fn cid_at(blocks: &[StoredBlock], number: usize) -> Cid {
 /// The CIDv0 of a DAG-PB block, that is the hash of its CIDv1 alone.
 fn old_form(alloc: Global, cid: Cid) -> Result<Cid, AllocError> {
     let bytes = cid.to_bytes(alloc)?;
-    Ok(behind_codec(cid, bytes.as_slice()))
+    Ok(cid_or(cid, bytes.as_slice().get(2..).unwrap_or(b"")))
 }
 
-/// The CID whose bytes are those of another without its version and codec; that other one, where they are none of a
-/// CID.
-fn behind_codec(cid: Cid, bytes: &[u8]) -> Cid {
-    match Cid::from_bytes(bytes.get(2..).unwrap_or(b"")) {
-        Ok(old) => old,
-        Err(_) => cid,
+/// The CID of these bytes; the other one, where they are none of a CID.
+fn cid_or(other: Cid, bytes: &[u8]) -> Cid {
+    match Cid::from_bytes(bytes) {
+        Ok(cid) => cid,
+        Err(_) => other,
     }
+}
+
+/// The block with this number under its identity CID, or no bytes where there is none.
+fn itself(alloc: Global, before: &[StoredBlock], number: usize) -> Result<StoredBlock, AllocError> {
+    match before.get(number) {
+        Some(stored) => {
+            let cid = identity_form(alloc, stored.cid, stored.block.as_slice())?;
+            stored_under(alloc, cid, stored.block.as_slice())
+        }
+        None => stored_under(alloc, cid_at(before, number), b""),
+    }
+}
+
+/// The identity CID of a block of less than 128 bytes that has this CIDv1; of a longer one this CID.
+fn identity_form(alloc: Global, cid: Cid, block: &[u8]) -> Result<Cid, AllocError> {
+    let named = cid.to_bytes(alloc)?;
+    let mut bytes = Bytes::of(alloc, named.as_slice().get(..2).unwrap_or(b""))?;
+    bytes.push_all(&[0, u8::try_from(block.len()).unwrap_or(u8::MAX)])?;
+    bytes.push_all(block)?;
+    Ok(cid_or(cid, bytes.as_slice()))
 }
 
 /// A node with these links and this data.

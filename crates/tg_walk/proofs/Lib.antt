@@ -1,5 +1,6 @@
 mod Walking
 mod WalkSteps
+mod Giving
 mod OpenedHere
 mod PathPlaces
 mod PathSteps

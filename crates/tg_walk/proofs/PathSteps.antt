@@ -1,12 +1,15 @@
 -- One step along a path over a store.
-use Rattle.std.proofs.Common.{Err, List, None, Ok, Option, Some, [], ap, arith, false, inl, inr, length, refl, subst, suc, sym, true, zero, ℕ, ◌++◌, ◌+◌, ◌∙◌, ◌∷◌, ◌≡◌, ◌≤◌, ◌⊎◌}
+use Rattle.std.proofs.Common.{Err, List, None, Ok, Option, Result, Some, [], ap, arith, false, inl, inr, length, refl, subst, suc, sym, true, zero, ℕ, ◌++◌, ◌+◌, ◌∙◌, ◌∷◌, ◌≡◌, ◌≤◌, ◌⊎◌}
 use Rattle.std.proofs.lemmas.List.{append-nil}
+use Rattle.std.proofs.lemmas.List.Elements.{All-append, All-nil}
 use Rattle.tg_cid.specs.Cid.{CidParts}
+use Rattle.tg_cid.specs.declared.cid.HashKind.TheVariants.{Sha256}
+use Rattle.tg_walk.proofs.Giving.{LooksJoin}
 use Rattle.tg_walk.proofs.PathPlaces.{first_place, next_on_path}
 use Rattle.tg_traversal.specs.Left.{LeftState, WantedAt, tasks_left, wanted_tasks}
 use Rattle.tg_traversal.specs.Places.{missing_of}
 use Rattle.tg_walk.specs.Resolving.{HasResolveCause, IsPathPlace, IsResolvedTo, IsStoredRoot, LeadsTo, path_query, refusal_of_store, refusal_of_walk}
-use Rattle.tg_walk.specs.Walks.{IsNextPlace, IsOpened, IsOpenedThere, IsWantedHere, fault_of_miss}
+use Rattle.tg_walk.specs.Walks.{HasFetched, HaveLookedUp, IsNextPlace, IsOpened, IsOpenedThere, IsWantedHere, fault_of_miss}
 use Rattle.tg_walk.specs.declared.fault.ResolveFault.TheVariants as refusals
 use Rattle.tg_walk.specs.declared.fault.WalkFault.{WalkFault}
 use Rattle.tg_traversal.specs.declared.position.Miss.{Miss}
@@ -16,7 +19,8 @@ use Rattle.tg_model.specs.Computed.{read}
 use Rattle.tg_model.specs.Dag.{Section, links_of}
 use Rattle.tg_model.specs.PathWalk.{spot_at}
 use Rattle.tg_model.specs.Queries.{QueryParts}
-use Rattle.tg_model.specs.Stores.{BlocksMeaning, IsCauseOf, LookedUp, Lookups, LookupsQuiet, Store, looked_in}
+use Rattle.tg_model.specs.StoreView.{block_at}
+use Rattle.tg_model.specs.Stores.{BlocksMeaning, IsCauseOf, Lookups, LookupsQuiet, Store, looked_in}
 use Rattle.tg_model.specs.declared.fault.BlockFault.{BlockFault}
 use Rattle.tg_model.specs.declared.kinds.Kind.{Kind}
 use Rattle.tg_model.specs.declared.stores.BlocksFault.{BlocksFault}
@@ -154,18 +158,18 @@ never_ends root path told passed old mid on (t, n) =
 -- ---- where its block isn't stored
 
 pub no_root : (root : CidParts) (path : List (List ℕ)) (told : Option Store) (store : Store) (passed : ℕ) (mid : LeftState) (wanted : Wanted)
-    → IsPlaceAlong root path told passed mid wanted → passed ≡ 0 → store wanted.cid ≡ None → store root ≡ None
-no_root root path told store passed mid wanted there z s = ap store (sym (there.cid_is ∙ there.first z)) ∙ s
+    → IsPlaceAlong root path told passed mid wanted → passed ≡ 0 → block_at store wanted.cid ≡ None → block_at store root ≡ None
+no_root root path told store passed mid wanted there z s = ap (block_at store) (sym (there.cid_is ∙ there.first z)) ∙ s
 
 pub gone_there : (laws : ResolveLaws) (root : CidParts) (path : List (List ℕ)) (told : Option Store) (store : Store) (passed : ℕ) (mid : LeftState) (wanted : Wanted) → length path ≤ 128
-    → told ≡ Some store → IsPlaceAlong root path told passed mid wanted → (passed ≡ 0 → ⊥) → store wanted.cid ≡ None → IsResolvedTo store root path (Err (refusals.Gone wanted.cid))
+    → told ≡ Some store → IsPlaceAlong root path told passed mid wanted → (passed ≡ 0 → ⊥) → block_at store wanted.cid ≡ None → IsResolvedTo store root path (Err (refusals.Gone wanted.cid))
 gone_there laws root path told store passed mid wanted few e there below s = (
   spot_of there.at.want there.at.cid,
   sym there.cid_is,
   s,
   record {
     root_stored = there.behind store e below;
-    end = laws.not_stored (path_query root path) store there.at.want there.at.cid [] few (ap store (sym there.cid_is) ∙ s) (there.way store e).0;
+    end = laws.not_stored (path_query root path) store there.at.want there.at.cid [] few (ap (block_at store) (sym there.cid_is) ∙ s) (there.way store e).0;
   },
 )
 
@@ -176,13 +180,13 @@ found_stored found block s n = cc
 
 -- then the root is stored too: it is this block's, or it was passed
 root_there : (root : CidParts) (path : List (List ℕ)) (told : Option Store) (store : Store) (passed : ℕ) (mid : LeftState) (wanted : Wanted) (block : List ℕ) → told ≡ Some store
-    → IsPlaceAlong root path told passed mid wanted → store wanted.cid ≡ Some block → IsStoredRoot store root
-root_there root path told store zero mid wanted block e there s = found_stored (store root) block (ap store (sym (there.cid_is ∙ there.first refl)) ∙ s)
+    → IsPlaceAlong root path told passed mid wanted → block_at store wanted.cid ≡ Some block → IsStoredRoot store root
+root_there root path told store zero mid wanted block e there s = found_stored (block_at store root) block (ap (block_at store) (sym (there.cid_is ∙ there.first refl)) ∙ s)
 root_there root path told store (suc passed) mid wanted block e there s = there.behind store e (λ z. omega (arith, z))
 
 -- the terminal
 leads : (laws : ResolveLaws) (root : CidParts) (path : List (List ℕ)) (store : Store) (d : ℕ) (w : Want) (cid : CidParts) (block : List ℕ) → length path ≤ 128
-    → is_read_at (path_query root path) w ≡ false → IsPathPlace d (open_block w cid ∷ []) → store cid ≡ Some block → IsResolved (path_query root path) store (open_block w cid ∷ [])
+    → is_read_at (path_query root path) w ≡ false → IsPathPlace d (open_block w cid ∷ []) → block_at store cid ≡ Some block → IsResolved (path_query root path) store (open_block w cid ∷ [])
     → IsStoredRoot store root → LeadsTo store root path cid
 leads laws root path store d (segment_want i position name names depth) cid block few r p s h b = absurd (cc)
 leads laws root path store d (terminal_want depth) cid block few r p s h b =
@@ -191,12 +195,12 @@ leads laws root path store d (terminal_want depth) cid block few r p s h b =
 leads laws root path store d (node_want reach position depth) cid block few r p s h b = absurd p
 
 pub leads_there : (laws : ResolveLaws) (root : CidParts) (path : List (List ℕ)) (told : Option Store) (store : Store) (passed : ℕ) (mid : LeftState) (wanted : Wanted) (block : List ℕ)
-    → length path ≤ 128 → told ≡ Some store → IsPlaceAlong root path told passed mid wanted → store wanted.cid ≡ Some block
+    → length path ≤ 128 → told ≡ Some store → IsPlaceAlong root path told passed mid wanted → block_at store wanted.cid ≡ Some block
     → ((at : WantedAt) → mid.wanted ≡ Some at → is_read_at mid.query at.want ≡ false) → LeadsTo store root path wanted.cid
 leads_there laws root path told store passed mid wanted block few e there s r =
     subst (LeadsTo store root path) (sym there.cid_is)
     (leads laws root path store (passed + 1) there.at.want there.at.cid block few
-    (subst (λ (q : QueryParts). is_read_at q there.at.want ≡ false) there.query (r there.at there.wanted_is)) there.place (ap store (sym there.cid_is) ∙ s) (there.way store e).0
+    (subst (λ (q : QueryParts). is_read_at q there.at.want ≡ false) there.query (r there.at there.wanted_is)) there.place (ap (block_at store) (sym there.cid_is) ∙ s) (there.way store e).0
     (root_there root path told store passed mid wanted block e there s))
 
 -- the block may be opened there
@@ -214,7 +218,7 @@ abbrev IsBad : QueryParts → Want → CidParts → List ℕ → BlockFault → 
 IsBad q w cid block fault = (is_read_at q w ≡ true) × ((read cid block ≡ Err fault) ⊎ ((kind : Kind) × (read cid block ≡ Ok kind) × (fault_at q w kind ≡ Some fault)))
 
 bad_ends : (laws : ResolveLaws) (root : CidParts) (path : List (List ℕ)) (store : Store) (d : ℕ) (w : Want) (cid : CidParts) (block : List ℕ) (fault : BlockFault) → length path ≤ 128
-    → IsPathPlace d (open_block w cid ∷ []) → store cid ≡ Some block → IsResolved (path_query root path) store (open_block w cid ∷ []) → IsBad (path_query root path) w cid block fault
+    → IsPathPlace d (open_block w cid ∷ []) → block_at store cid ≡ Some block → IsResolved (path_query root path) store (open_block w cid ∷ []) → IsBad (path_query root path) w cid block fault
     → IsStoredRoot store root → IsResolvedTo store root path (Err (refusals.BadBlock cid fault))
 bad_ends laws root path store d (segment_want i position name names depth) cid block fault few p s h (r, inl e) b =
     (spot_at cid depth position, refl, record { root_stored = b; end = laws.unreadable (path_query root path) store i position name names depth cid block fault [] few s e h })
@@ -224,18 +228,18 @@ bad_ends laws root path store d (terminal_want depth) cid block fault few p s h 
 bad_ends laws root path store d (node_want reach position depth) cid block fault few p s h bad b = absurd p
 
 stopped_at : (laws : ResolveLaws) (root : CidParts) (path : List (List ℕ)) (told : Option Store) (store : Store) (passed : ℕ) (mid new : LeftState) (wanted : Wanted) (block : List ℕ) (fault : WalkFault)
-    → length path ≤ 128 → told ≡ Some store → (there : IsPlaceAlong root path told passed mid wanted) → store wanted.cid ≡ Some block → IsOpened mid there.at block (Err fault) new
+    → length path ≤ 128 → told ≡ Some store → (there : IsPlaceAlong root path told passed mid wanted) → block_at store wanted.cid ≡ Some block → IsOpened mid there.at block (Err fault) new
     → IsResolvedTo store root path (Err (refusal_of_walk fault))
 stopped_at laws root path told store passed mid new wanted block fault few e there s (inl g) =
     subst (λ (f : WalkFault). IsResolvedTo store root path (Err (refusal_of_walk f))) (sym g) _
 stopped_at laws root path told store passed mid new wanted block fault few e there s (inr (bad, g, h)) =
     subst (λ (f : WalkFault). IsResolvedTo store root path (Err (refusal_of_walk f))) (sym g)
-    (bad_ends laws root path store (passed + 1) there.at.want there.at.cid block bad few there.place (ap store (sym there.cid_is) ∙ s) (there.way store e).0
+    (bad_ends laws root path store (passed + 1) there.at.want there.at.cid block bad few there.place (ap (block_at store) (sym there.cid_is) ∙ s) (there.way store e).0
     (subst (λ (q : QueryParts). IsBad q there.at.want there.at.cid block bad) there.query (h.is_read, h.cause))
     (root_there root path told store passed mid wanted block e there s))
 
 pub stops_at_block : (laws : ResolveLaws) (root : CidParts) (path : List (List ℕ)) (told : Option Store) (store : Store) (passed : ℕ) (mid new : LeftState) (wanted : Wanted) (block : List ℕ) (fault : WalkFault)
-    → length path ≤ 128 → told ≡ Some store → IsPlaceAlong root path told passed mid wanted → store wanted.cid ≡ Some block
+    → length path ≤ 128 → told ≡ Some store → IsPlaceAlong root path told passed mid wanted → block_at store wanted.cid ≡ Some block
     → ((at : WantedAt) → mid.wanted ≡ Some at → IsOpened mid at block (Err fault) new) → IsResolvedTo store root path (Err (refusal_of_walk fault))
 stops_at_block laws root path told store passed mid new wanted block fault few e there s opened_there =
     stopped_at laws root path told store passed mid new wanted block fault few e there s (opened_there there.at there.wanted_is)
@@ -262,7 +266,7 @@ next_place root path d (terminal_want depth) cid section kind cids p r = absurd 
 next_place root path d (node_want reach position depth) cid section kind cids p r = absurd p
 
 next_way : (laws : ResolveLaws) (root : CidParts) (path : List (List ℕ)) (store : Store) (d : ℕ) (w : Want) (cid : CidParts) (block : List ℕ) (kind : Kind) → length path ≤ 128
-    → IsPathPlace d (open_block w cid ∷ []) → is_read_at (path_query root path) w ≡ true → store cid ≡ Some block → read cid block ≡ Ok kind → fault_at (path_query root path) w kind ≡ None
+    → IsPathPlace d (open_block w cid ∷ []) → is_read_at (path_query root path) w ≡ true → block_at store cid ≡ Some block → read cid block ≡ Ok kind → fault_at (path_query root path) w kind ≡ None
     → IsResolved (path_query root path) store (open_block w cid ∷ []) → IsResolved (path_query root path) store (tasks_of (path_query root path) w (section_of cid block) kind (links_of kind))
 next_way laws root path store d (segment_want i position name names depth) cid block kind few p r s e f h =
     laws.opened (path_query root path) store i position name names depth cid block kind [] few s e f h
@@ -295,7 +299,7 @@ shallow_enough laws root path store passed w cid few p h =
     subst (λ (n : ℕ). n ≤ 1025) (deep (passed + 1) w cid p) (laws.bound (path_query root path) store w cid [] few h)
 
 went_on : (laws : ResolveLaws) (root : CidParts) (path : List (List ℕ)) (told : Option Store) (passed : ℕ) (mid new : LeftState) (wanted : Wanted) (block : List ℕ) → length path ≤ 128
-    → (there : IsPlaceAlong root path told passed mid wanted) → ((store : Store) → told ≡ Some store → store wanted.cid ≡ Some block) → new.query ≡ mid.query
+    → (there : IsPlaceAlong root path told passed mid wanted) → ((store : Store) → told ≡ Some store → block_at store wanted.cid ≡ Some block) → new.query ≡ mid.query
     → IsPassed root path there.at block new → IsAlong root path told (passed + 1) new
 went_on laws root path told passed mid new wanted block few there s q h = record {
   query = q ∙ there.query;
@@ -305,20 +309,20 @@ went_on laws root path told passed mid new wanted block few there s q h = record
   behind = λ store e n. root_there root path told store passed mid wanted block e there (s store e);
   way = λ store e. (
     subst (IsResolved (path_query root path) store) (sym h.tasks)
-        (next_way laws root path store (passed + 1) there.at.want there.at.cid block h.kind few there.place h.is_read (ap store (sym there.cid_is) ∙ s store e) h.reads h.fits (there.way store e).0),
+        (next_way laws root path store (passed + 1) there.at.want there.at.cid block h.kind few there.place h.is_read (ap (block_at store) (sym there.cid_is) ∙ s store e) h.reads h.fits (there.way store e).0),
     shallow_enough laws root path store passed there.at.want there.at.cid few there.place (there.way store e).0,
   );
 }
 
 opened_along : (laws : ResolveLaws) (root : CidParts) (path : List (List ℕ)) (told : Option Store) (passed : ℕ) (mid new : LeftState) (wanted : Wanted) (block : List ℕ) (done : _) → length path ≤ 128
-    → (there : IsPlaceAlong root path told passed mid wanted) → ((store : Store) → told ≡ Some store → store wanted.cid ≡ Some block) → new.query ≡ mid.query
+    → (there : IsPlaceAlong root path told passed mid wanted) → ((store : Store) → told ≡ Some store → block_at store wanted.cid ≡ Some block) → new.query ≡ mid.query
     → is_read_at mid.query there.at.want ≡ true → IsOpened mid there.at block (Ok done) new → IsAlong root path told (passed + 1) new
 opened_along laws root path told passed mid new wanted block done few there s q r (inl (n, t)) = absurd (cc)
 opened_along laws root path told passed mid new wanted block done few there s q r (inr h) =
     went_on laws root path told passed mid new wanted block few there s q (passed_by root path told passed mid new wanted block there h)
 
 pub goes_on : (laws : ResolveLaws) (root : CidParts) (path : List (List ℕ)) (told : Option Store) (passed : ℕ) (mid new : LeftState) (wanted : Wanted) (block : List ℕ) (done : _) → length path ≤ 128
-    → IsPlaceAlong root path told passed mid wanted → ((store : Store) → told ≡ Some store → store wanted.cid ≡ Some block) → new.query ≡ mid.query
+    → IsPlaceAlong root path told passed mid wanted → ((store : Store) → told ≡ Some store → block_at store wanted.cid ≡ Some block) → new.query ≡ mid.query
     → ((at : WantedAt) → mid.wanted ≡ Some at → is_read_at mid.query at.want ≡ true) → ((at : WantedAt) → mid.wanted ≡ Some at → IsOpened mid at block (Ok done) new)
     → IsAlong root path told (passed + 1) new
 goes_on laws root path told passed mid new wanted block done few there s q r opened_there =
@@ -328,8 +332,7 @@ goes_on laws root path told passed mid new wanted block done few there s q r ope
 
 -- what was looked up so far, without a fault
 pub record HasLooked (lookups : Lookups) : Type 0 where
-  pub cids : List CidParts
-  pub looked : LookedUp cids lookups
+  pub up : HaveLookedUp lookups
   pub quiet : LookupsQuiet lookups
 
 pub store_stops : (store : Store) (root : CidParts) (path : List (List ℕ)) (fault : BlocksFault) → IsResolvedTo store root path (Err (refusal_of_store fault))
@@ -343,20 +346,25 @@ store_cause told lookups cid (store_faults.Changed want got) h = (cid, h)
 store_cause told lookups cid store_faults.Failed h = (cid, h)
 store_cause told lookups cid store_faults.OutOfMemory h = h
 
-pub looked_since : {S : Type 0} → (m : BlocksMeaning S) → ((a b c : S) (u v : List CidParts) → m.looked a b u → m.looked b c v → m.looked a c (u ++ v)) → (a b c : S) (cids : List CidParts)
-    → HasLooked (looked_in m a b) → LookedUp cids (looked_in m b c) → (all : List CidParts) × LookedUp all (looked_in m a c)
-looked_since m joins a b c cids so looked =
-    (so.cids ++ cids, record { moved = joins a b c so.cids cids so.looked.moved looked.moved; stored = looked.stored ∙ so.looked.stored })
+pub looks_both : {S : Type 0} → (m : BlocksMeaning S) (a b c : S) → LooksJoin S m → HaveLookedUp (looked_in m a b) → HaveLookedUp (looked_in m b c) → HaveLookedUp (looked_in m a c)
+looks_both m a b c joins p q = record {
+  cids = p.cids ++ q.cids;
+  looked = record { moved = joins a b c p.cids q.cids p.looked.moved q.looked.moved; stored = q.looked.stored ∙ p.looked.stored };
+  hashed = All-append (λ (cid : CidParts). cid.hash ≡ Sha256) p.cids q.cids p.hashed q.hashed;
+}
 
-pub looks_on : {S : Type 0} → (m : BlocksMeaning S) → ((a b c : S) (u v : List CidParts) → m.looked a b u → m.looked b c v → m.looked a c (u ++ v)) → (a b c : S) (cids : List CidParts)
-    → HasLooked (looked_in m a b) → LookedUp cids (looked_in m b c) → LookupsQuiet (looked_in m b c) → HasLooked (looked_in m a c)
-looks_on m joins a b c cids so looked quiet =
-    let all : _ = looked_since m joins a b c cids so looked in
-    record { cids = all.0; looked = all.1; quiet = quiet ∙ so.quiet }
+pub looks_nothing : {S : Type 0} → (m : BlocksMeaning S) (a : S) → m.looked a a [] → HasLooked (looked_in m a a)
+looks_nothing m a rests = record { up = record { cids = []; looked = record { moved = rests; stored = refl }; hashed = All-nil (λ (cid : CidParts). cid.hash ≡ Sha256) }; quiet = refl }
+
+pub looks_on : {S : Type 0} → (m : BlocksMeaning S) (a b c : S) → LooksJoin S m → HasLooked (looked_in m a b) → HaveLookedUp (looked_in m b c) → LookupsQuiet (looked_in m b c) → HasLooked (looked_in m a c)
+looks_on m a b c joins so up quiet = record { up = looks_both m a b c joins so.up up; quiet = quiet ∙ so.quiet }
+
+pub fetched_up : (cid : CidParts) (result : Result (Option (List ℕ)) BlocksFault) (lookups : Lookups) → HasFetched cid result lookups → HaveLookedUp lookups
+fetched_up cid result lookups h = record { cids = h.cids; looked = h.looked; hashed = h.hashed }
 
 pub cause_since : {S : Type 0} → (m : BlocksMeaning S) → (a b c : S) (cid : CidParts) (fault : BlocksFault) → HasLooked (looked_in m a b) → IsCauseOf (m.stored b) cid (m.faults b) (m.faults c) fault
     → HasResolveCause (Err (refusal_of_store fault)) (m.stored a) (looked_in m a c)
 cause_since m a b c cid fault so h =
     store_cause (m.stored a) (looked_in m a c) cid fault
     (subst (λ (n : ℕ). IsCauseOf (m.stored a) cid n (m.faults c) fault) so.quiet
-    (subst (λ (t : Option Store). IsCauseOf t cid (m.faults b) (m.faults c) fault) so.looked.stored h))
+    (subst (λ (t : Option Store). IsCauseOf t cid (m.faults b) (m.faults c) fault) so.up.looked.stored h))

@@ -9,7 +9,7 @@ use Rattle.tg_model.specs.Dag.{Dag}
 use Rattle.tg_model.specs.PathWalk.{PathEnd, Spot, Stop, bad_block, gone, not_folder, not_reached, not_there, path_walk}
 use Rattle.tg_model.specs.PathWalk.{terminal}
 use Rattle.tg_model.specs.Queries.{QueryParts}
-use Rattle.tg_model.specs.StoreView.{store_view}
+use Rattle.tg_model.specs.StoreView.{block_at, store_view}
 use Rattle.tg_model.specs.Stores.{IsCauseOf, Lookups, LookupsQuiet, Store}
 use Rattle.tg_model.specs.declared.queries.Form.TheVariants as forms
 use Rattle.tg_model.specs.declared.queries.Scope.TheVariants as scopes
@@ -42,16 +42,17 @@ path_query root path = record { root = root; path = path; form = forms.Car; scop
 abbrev pub end_over : Store → CidParts → List (List ℕ) → PathEnd
 end_over store root path = (path_walk path (store_view store root)).end
 
+-- the root is stored, or its hash is identity
 abbrev pub IsStoredRoot : Store → CidParts → Type 0
-IsStoredRoot store root = store root ≡ None → ⊥
+IsStoredRoot store root = block_at store root ≡ None → ⊥
 
--- the path leads to this terminal, which is stored, as the root is
+-- the path leads to this terminal, which is stored, as the root is; of an identity CID the block is the digest
 pub record LeadsTo (store : Store) (root : CidParts) (path : List (List ℕ)) (cid : CidParts) : Type 0 where
   pub root_stored : IsStoredRoot store root
   pub d : Dag
   pub end : end_over store root path ≡ terminal d
   pub block : List ℕ
-  pub stored : store cid ≡ Some block
+  pub stored : block_at store cid ≡ Some block
   pub opened : IsOpened d (section_of cid block)
 
 -- the root is stored, and the path walk stops so
@@ -63,13 +64,13 @@ pub record StopsAt (store : Store) (root : CidParts) (path : List (List ℕ)) (s
 -- `OutOfMemory`
 abbrev pub IsResolvedTo : Store → CidParts → List (List ℕ) → Result CidParts ResolveFault → Type 0
 IsResolvedTo store root path (Ok cid) = LeadsTo store root path cid
-IsResolvedTo store root path (Err refusals.NoRoot) = store root ≡ None
+IsResolvedTo store root path (Err refusals.NoRoot) = block_at store root ≡ None
 IsResolvedTo store root path (Err (refusals.NotThere i)) = StopsAt store root path (not_there i)
 IsResolvedTo store root path (Err (refusals.NotFolder i)) = StopsAt store root path (not_folder i)
 IsResolvedTo store root path (Err (refusals.BadBlock cid fault)) =
     (spot : Spot) × (spot.cid ≡ cid) × StopsAt store root path (bad_block spot fault)
 IsResolvedTo store root path (Err (refusals.Gone cid)) =
-    (spot : Spot) × (spot.cid ≡ cid) × (store cid ≡ None) × StopsAt store root path (gone spot)
+    (spot : Spot) × (spot.cid ≡ cid) × (block_at store cid ≡ None) × StopsAt store root path (gone spot)
 IsResolvedTo store root path (Err (refusals.Store fault)) = ⊤
 IsResolvedTo store root path (Err refusals.OutOfMemory) = ⊤
 

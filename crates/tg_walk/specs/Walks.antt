@@ -1,10 +1,13 @@
 -- What a walk over a store has given, and why it gives no more (Trustless Gateway specification: dag-scope,
 -- entity-bytes, order dfs).
-use Rattle.std.specs.Prelude.{Err, List, None, Ok, Option, Result, Some, [], false, length, map, suc, true, zero, ⊤, ℕ}
+use Rattle.std.specs.Prelude.{All, Bool, Err, IfSome, List, None, Ok, OnOk, Option, Result, Some, [], false, length, map, not, suc, true, zero, ⊤, ℕ}
 use Rattle.std.specs.Prelude.{◌*◌, ◌++◌, ◌+◌, ◌-◌, ◌<◌, ◌^◌, ◌∷◌, ◌≡◌, ◌≤◌, ◌⊎◌}
+use Rattle.std.specs.List.{list_any}
 use Rattle.tg_cid.specs.Cid.{CidParts}
+use Rattle.tg_cid.specs.CodeLaws.{same_cid}
 use Rattle.tg_cid.specs.Limits.{max_block_len}
 use Rattle.tg_cid.specs.Names.{Names}
+use Rattle.tg_cid.specs.declared.cid.HashKind.TheVariants.{Sha256}
 use Rattle.tg_traversal.specs.declared.position.Miss.TheVariants as misses
 use Rattle.tg_traversal.specs.Left.{LeftState, WantedAt, tasks_left}
 use Rattle.tg_traversal.specs.Places.{missing_of}
@@ -21,12 +24,14 @@ use Rattle.tg_walk.specs.declared.fault.WalkFault.{WalkFault}
 use Rattle.tg_walk.specs.declared.fault.WalkFault.TheVariants as faults
 use Rattle.tg_model.specs.declared.stores.BlocksFault.TheVariants as store_faults
 use Rattle.tg_model.specs.Dag.{Section}
+use Rattle.tg_model.specs.Fits.{IfOnce}
 use Rattle.tg_model.specs.PathWalk.{Spot, TraversalEnd, bad_block, gone, not_folder, not_there, stopped, whole}
 use Rattle.tg_model.specs.Queries.{QueryParts}
-use Rattle.tg_model.specs.StoreView.{store_view}
-use Rattle.tg_model.specs.Stores.{IsCauseOf, LookedUp, Lookups, LookupsQuiet, Store}
-use Rattle.tg_model.specs.Traversal.{Traversal, and_then, traversal}
+use Rattle.tg_model.specs.StoreView.{block_at, store_view}
+use Rattle.tg_model.specs.Stores.{IsCauseOf, IsNamedBlock, LookedUp, Lookups, LookupsQuiet, Store}
+use Rattle.tg_model.specs.Traversal.{Traversal, and_then, sent, traversal}
 use Rattle.tg_model.specs.declared.stores.BlocksFault.{BlocksFault}
+use Rattle.tg_traversal_laws.specs.Openings.{opened_by}
 use Rattle.tg_traversal_laws.specs.StoreWalks.{IsWalked, WalkEnds, WalkTooDeep, section_of}
 use Rattle.tg_traversal_laws.specs.Stages.{Given, ending}
 use Rattle.tg_traversal_laws.specs.Tasks.{Task, Want, depth_of, fault_at, give_entries, give_text, is_read_at}
@@ -36,38 +41,45 @@ use Rattle.tg_traversal_laws.specs.Tasks.{open_block, stop_at, tasks_of, tasks_t
 abbrev pub max_depth : ℕ
 max_depth = 512
 
--- what contracts see of a walk: what is left, and the refusal after which it gives nothing
+-- what contracts see of a walk: what is left; the CIDs of the blocks that it gave, where each is given once; and the
+-- refusal after which it gives nothing
 pub record WalkState : Type 0 where
   pub left : LeftState
+  pub known : List CidParts
   pub refused : Option WalkFault
 
--- the sections of the places that were opened are these
-abbrev pub HasGiven : Given → List Section → Type 0
-HasGiven given sections = map (λ p. p.section) given.places ≡ sections
+-- of the places that were opened these sections are sent
+abbrev pub HasGiven : QueryParts → Given → List Section → Type 0
+HasGiven q given sections = sent q (opened_by given) ≡ sections
+
+-- a walk that gives each block once knows which it gave
+abbrev pub HasKnown : QueryParts → List CidParts → List Section → Type 0
+HasKnown q known sections = IfOnce q.dups (known ≡ map (λ section. section.cid) sections)
 
 -- what was given is a front of what the traversal of the store's view gives
 pub record IsFront (q : QueryParts) (store : Store) (sections : List Section) : Type 0 where
   pub given : Given
-  pub gave : HasGiven given sections
+  pub gave : HasGiven q given sections
   pub rest : Traversal
   pub front : traversal q (store_view store q.root) ≡ and_then (ending given whole) rest
 
 -- a walk that goes on has given these sections
-pub record IsOnWalk (most : ℕ) (left : LeftState) (store : Store) (sections : List Section) : Type 0 where
+pub record IsOnWalk (most : ℕ) (left : LeftState) (known : List CidParts) (store : Store) (sections : List Section) : Type 0 where
   pub given : Given
-  pub gave : HasGiven given sections
+  pub gave : HasGiven left.query given sections
+  pub knows : HasKnown left.query known sections
   pub walked : IsWalked left.query store most given (tasks_left left)
 
 -- the traversal of the store's view gives just these sections, none of them deeper, and ends so
 pub record HasEnded (q : QueryParts) (store : Store) (most : ℕ) (sections : List Section) (end : TraversalEnd) : Type 0 where
   pub given : Given
-  pub gave : HasGiven given sections
+  pub gave : HasGiven q given sections
   pub ends : WalkEnds q store most given end
 
 -- the next place, stored or not, lies too deep
 pub record HasStoppedDeep (q : QueryParts) (store : Store) (most : ℕ) (sections : List Section) : Type 0 where
   pub given : Given
-  pub gave : HasGiven given sections
+  pub gave : HasGiven q given sections
   pub want : Want
   pub cid : CidParts
   pub deep : WalkTooDeep q store most given want cid
@@ -75,9 +87,9 @@ pub record HasStoppedDeep (q : QueryParts) (store : Store) (most : ℕ) (section
 -- why a walk gives no more, by what it has given
 abbrev pub HasWalkCause : QueryParts → Store → ℕ → List Section → WalkFault → Type 0
 HasWalkCause q store most sections (faults.BadBlock cid fault) =
-    (spot : Spot) × (spot.cid ≡ cid) × HasEnded q store most sections (stopped (bad_block spot fault))
+    (spot : Spot) × (spot.cid ≡ cid) × (spot.depth ≤ most) × HasEnded q store most sections (stopped (bad_block spot fault))
 HasWalkCause q store most sections (faults.Gone cid) =
-    (spot : Spot) × (spot.cid ≡ cid) × HasEnded q store most sections (stopped (gone spot))
+    (spot : Spot) × (spot.cid ≡ cid) × (spot.depth ≤ most) × HasEnded q store most sections (stopped (gone spot))
 HasWalkCause q store most sections faults.TooDeep = HasStoppedDeep q store most sections
 HasWalkCause q store most sections (faults.Store fault) = IsFront q store sections
 HasWalkCause q store most sections (faults.NotThere i) = HasEnded q store most sections (stopped (not_there i))
@@ -85,12 +97,12 @@ HasWalkCause q store most sections (faults.NotFolder i) = HasEnded q store most 
 HasWalkCause q store most sections faults.OutOfMemory = IsFront q store sections
 
 -- the walk over this store has given these sections, and goes on or was refused
-abbrev pub StandsBy : Option WalkFault → ℕ → LeftState → Store → List Section → Type 0
-StandsBy None most left store sections = IsOnWalk most left store sections
-StandsBy (Some fault) most left store sections = HasWalkCause left.query store most sections fault
+abbrev pub StandsBy : Option WalkFault → ℕ → LeftState → List CidParts → Store → List Section → Type 0
+StandsBy None most left known store sections = IsOnWalk most left known store sections
+StandsBy (Some fault) most left known store sections = HasWalkCause left.query store most sections fault
 
 abbrev pub StandsFor : WalkState → Store → List Section → Type 0
-StandsFor state store sections = StandsBy state.refused max_depth state.left store sections
+StandsFor state store sections = StandsBy state.refused max_depth state.left state.known store sections
 
 -- how many blocks a walk gives at most from a place on, with so many levels of blocks below it: a block has less than 2
 -- ^ 64 links
@@ -117,11 +129,33 @@ HasStepped (Ok None) new store sections =
     StandsFor new store sections × HasEnded new.left.query store max_depth sections whole
 HasStepped (Err fault) new store sections = StandsFor new store sections
 
--- a block that is given is named by its CID, and was looked up alone; at the end nothing was
-abbrev pub HasLookedUp : Result (Option (CidParts × List ℕ)) WalkFault → Lookups → Type 0
-HasLookedUp (Ok (Some found)) lookups = LookedUp (found.0 ∷ []) lookups × LookupsQuiet lookups
-HasLookedUp (Ok None) lookups = LookedUp [] lookups × LookupsQuiet lookups
-HasLookedUp (Err fault) lookups = (cids : List CidParts) × LookedUp cids lookups × (length cids ≤ 1)
+-- the block that is given was looked up last, but for an identity CID, which isn't looked up
+abbrev pub IsLastOf : Result (Option (CidParts × List ℕ)) WalkFault → List CidParts → Type 0
+IsLastOf (Ok (Some found)) cids = found.0.hash ≡ Sha256 → (before : List CidParts) × (cids ≡ before ++ found.0 ∷ [])
+IsLastOf (Ok None) cids = ⊤
+IsLastOf (Err fault) cids = ⊤
+
+-- where repeats are given, nothing else was looked up
+abbrev pub IsAloneIn : Result (Option (CidParts × List ℕ)) WalkFault → List CidParts → Type 0
+IsAloneIn (Ok (Some found)) cids = length cids ≤ 1
+IsAloneIn (Ok None) cids = cids ≡ []
+IsAloneIn (Err fault) cids = length cids ≤ 1
+
+-- CIDs were looked up, none of them an identity CID
+pub record HaveLookedUp (lookups : Lookups) : Type 0 where
+  pub cids : List CidParts
+  pub looked : LookedUp cids lookups
+  pub hashed : All (λ cid. cid.hash ≡ Sha256) cids
+
+-- what was looked up, none of it an identity CID; where each block is given once repeats are looked up again, and passed
+-- over
+pub record HasLookedUp (q : QueryParts) (result : Result (Option (CidParts × List ℕ)) WalkFault) (lookups : Lookups) : Type 0 where
+  pub cids : List CidParts
+  pub looked : LookedUp cids lookups
+  pub hashed : All (λ cid. cid.hash ≡ Sha256) cids
+  pub last : IsLastOf result cids
+  pub alone : q.dups ≡ true → IsAloneIn result cids
+  pub quiet : OnOk result (LookupsQuiet lookups)
 
 abbrev pub IsNamedFound : Result (Option (CidParts × List ℕ)) WalkFault → Type 0
 IsNamedFound (Ok (Some found)) = Names found.0 found.1 × (length found.1 ≤ max_block_len)
@@ -198,10 +232,62 @@ IsOpened old at block (Ok done) new =
 IsOpened old at block (Err fault) new =
     (fault ≡ faults.OutOfMemory) ⊎ ((bad : BlockFault) × (fault ≡ faults.BadBlock at.cid bad) × IsBadThere old at block bad)
 
--- what a step gave, and what the walk has given behind it
+-- the places that were opened have these sections, each of them
+pub record HasOpened (most : ℕ) (left : LeftState) (store : Store) (opened : List Section) : Type 0 where
+  pub given : Given
+  pub gave : opened_by given ≡ opened
+  pub walked : IsWalked left.query store most given (tasks_left left)
+
+-- what a step opened, and what is opened behind it
 abbrev pub HasGone : Result (Option (CidParts × List ℕ)) WalkFault → ℕ → LeftState → Store → List Section → Type 0
-HasGone (Ok (Some found)) most new store sections =
-    IsOnWalk most new store (sections ++ section_of found.0 found.1 ∷ [])
-HasGone (Ok None) most new store sections =
-    IsOnWalk most new store sections × HasEnded new.query store most sections whole
-HasGone (Err fault) most new store sections = HasWalkCause new.query store most sections fault
+HasGone (Ok (Some found)) most new store opened = HasOpened most new store (opened ++ section_of found.0 found.1 ∷ [])
+HasGone (Ok None) most new store opened =
+    HasOpened most new store opened × HasEnded new.query store most (sent new.query opened) whole
+HasGone (Err fault) most new store opened = HasWalkCause new.query store most (sent new.query opened) fault
+
+-- what was given, and what the walk has given behind it
+abbrev pub HasGoneOn : Result (Option (CidParts × List ℕ)) WalkFault → LeftState → List CidParts → Store → List Section → Type 0
+HasGoneOn (Ok (Some found)) new known store sections =
+    IsOnWalk max_depth new known store (sections ++ section_of found.0 found.1 ∷ [])
+HasGoneOn (Ok None) new known store sections =
+    IsOnWalk max_depth new known store sections × HasEnded new.query store max_depth sections whole
+HasGoneOn (Err fault) new known store sections = HasWalkCause new.query store max_depth sections fault
+
+-- ---- which blocks are given
+
+abbrev pub is_known : CidParts → List CidParts → Bool
+is_known cid known = list_any (same_cid cid) known
+
+abbrev pub known_with : Bool → CidParts → List CidParts → List CidParts
+known_with true cid known = known ++ cid ∷ []
+known_with false cid known = known
+
+-- where repeats are given a block is; and else where its CID isn't known yet
+abbrev pub IsGiven : Bool → List CidParts → CidParts → Bool → List CidParts → Type 0
+IsGiven true old cid given new = (given ≡ true) × (new ≡ old)
+IsGiven false old cid given new = (given ≡ not (is_known cid old)) × (new ≡ known_with given cid old)
+
+-- ---- blocks
+
+-- what a CID leads to in the store, as far as it is told, and a block only where the CID names it
+pub record IsBlockOf (told : Option Store) (cid : CidParts) (found : Option (List ℕ)) : Type 0 where
+  pub stored : IfSome told (λ store. found ≡ block_at store cid)
+  pub named : IsNamedBlock cid found
+
+-- the CID was looked up, but for an identity CID, or nothing was where no answer came
+pub record HasFetched (cid : CidParts) (result : Result (Option (List ℕ)) BlocksFault) (lookups : Lookups) : Type 0 where
+  pub cids : List CidParts
+  pub looked : LookedUp cids lookups
+  pub hashed : All (λ cid. cid.hash ≡ Sha256) cids
+  pub few : length cids ≤ 1
+  pub last : OnOk result (cid.hash ≡ Sha256 → cids ≡ cid ∷ [])
+  pub quiet : OnOk result (LookupsQuiet lookups)
+
+-- in a step nothing else was looked up
+pub record HasLookedOnce (result : Result (Option (CidParts × List ℕ)) WalkFault) (lookups : Lookups) : Type 0 where
+  pub cids : List CidParts
+  pub looked : LookedUp cids lookups
+  pub hashed : All (λ cid. cid.hash ≡ Sha256) cids
+  pub last : IsLastOf result cids
+  pub alone : IsAloneIn result cids
+  pub quiet : OnOk result (LookupsQuiet lookups)

@@ -1,14 +1,14 @@
 //! Where a path leads in a store.
-ghost use Rattle.std.specs.Prelude.{◌≡◌, ◌≤◌, All, IfOk, List, Some, length};
-ghost use Rattle.tg_cid.specs.Cid.{CidParts};
+ghost use Rattle.std.specs.Prelude.{◌≡◌, ◌≤◌, All, IfOk, Some, length};
 ghost use Rattle.tg_walk.specs.Resolving.{HasResolveCause, IsResolvedTo, path_query};
+ghost use Rattle.tg_walk.specs.Walks.{HaveLookedUp};
 ghost use Rattle.tg_traversal.specs.Left.{tasks_left};
 ghost use Rattle.tg_traversal_laws.specs.Tasks.{start};
 ghost use Rattle.tg_model.specs.EntryNames.{IsGoodName};
-ghost use Rattle.tg_model.specs.Stores.{LookedUp, Store, looked_in};
+ghost use Rattle.tg_model.specs.Stores.{Store, looked_in};
 
 use crate::fault::ResolveFault;
-use crate::walk::{next_place, open};
+use crate::walk::{fetch, next_place, open};
 use std::alloc::{AllocError, Global};
 use tg_cid::Cid;
 use tg_model::{Blocks, Path, Query, Scope};
@@ -19,7 +19,7 @@ use tg_traversal::{Frames, copied_path};
 const MAX_PATH_PLACES: u32 = 1026;
 
 /// The CID of the block that a path leads to from a root, in a store that has it. A path has at most 128 segments, each
-/// the name of an entry.
+/// the name of an entry. The block of an identity CID is its digest, and isn't looked up.
 ///
 /// Path Gateway specification, Path Resolution. Errors, at the first place where one holds: `NoRoot` where the root
 /// isn't stored; `Gone` where a block below it isn't; `BadBlock` where a block of the path has no kind or can't stand
@@ -35,7 +35,7 @@ pub fn resolve<B: Blocks>(
     requires good { All IsGoodName path.now }
     ensures end { (store : Store) → B.blocks.stored blocks.old ≡ Some store
         → IsResolvedTo store root.now path.now result }
-    ensures looked { (cids : List CidParts) × LookedUp cids (looked_in B.blocks blocks.old blocks.new) }
+    ensures looked { HaveLookedUp (looked_in B.blocks blocks.old blocks.new) }
     ensures cause { HasResolveCause result (B.blocks.stored blocks.old) (looked_in B.blocks blocks.old blocks.new) }
 {
     match path_frames(alloc, root, path) {
@@ -67,7 +67,7 @@ fn follow<B: Blocks>(
     requires start { tasks_left frames.old ≡ start (path_query root.now frames.old.query.path) root.now }
     ensures end { (store : Store) → B.blocks.stored blocks.old ≡ Some store
         → IsResolvedTo store root.now frames.old.query.path result }
-    ensures looked { (cids : List CidParts) × LookedUp cids (looked_in B.blocks blocks.old blocks.new) }
+    ensures looked { HaveLookedUp (looked_in B.blocks blocks.old blocks.new) }
     ensures cause { HasResolveCause result (B.blocks.stored blocks.old) (looked_in B.blocks blocks.old blocks.new) }
 {
     tg_traversal_laws::resolved_paths();
@@ -77,7 +77,7 @@ fn follow<B: Blocks>(
             break;
         };
         last = place.cid;
-        let Some(block) = blocks.get(&place.cid)? else {
+        let Some(block) = fetch(alloc, blocks, &place.cid)? else {
             return Err(if passed == 0 {
                 ResolveFault::NoRoot
             } else {

@@ -1,40 +1,52 @@
 //! A walk over the blocks of a store.
-ghost use Rattle.std.specs.Prelude.{◌≡◌, ◌≤◌, ◌<◌, ◌^◌, List, [], None, Some, IfOk, IfSome, MatchResult, OnOk};
+ghost use Rattle.std.specs.Map.{keys_of};
+ghost use Rattle.std.specs.Prelude.{◌≡◌, ◌≤◌, ◌<◌, ◌^◌, List, [], None, Some, IfErr, IfOk, IfSome, MatchResult, OnOk};
 ghost use Rattle.tg_traversal.specs.Left.{IsHeldFor, WantedAt, tasks_left};
-ghost use Rattle.tg_walk.specs.Walks.{HasFewer, HasGone, HasLookedUp, HasStepped, HasStoreCause, IsNamedFound};
-ghost use Rattle.tg_walk.specs.Walks.{IsNextPlace, IsOnWalk, IsOpened, IsWantedHere, StandsFor, blocks_left};
-ghost use Rattle.tg_walk.specs.Walks.{blocks_over, fault_of_block, fault_of_miss, placed_links};
+ghost use Rattle.tg_walk.specs.Walks.{HasFetched, HasFewer, HasGone, HasGoneOn, HasLookedOnce, HasLookedUp, HasOpened};
+ghost use Rattle.tg_walk.specs.Walks.{HasStepped, HasStoreCause, IsBlockOf, IsGiven, IsNamedFound, IsNextPlace};
+ghost use Rattle.tg_walk.specs.Walks.{IsOnWalk, IsOpened, IsWantedHere, StandsFor, blocks_left, blocks_over};
+ghost use Rattle.tg_walk.specs.Walks.{fault_of_block, fault_of_miss, max_depth, placed_links};
 ghost use Rattle.tg_model.specs.Dag.{Section};
-ghost use Rattle.tg_model.specs.Stores.{Store, looked_in};
+ghost use Rattle.tg_model.specs.Stores.{IsCauseOf, Store, looked_in};
 
 use crate::fault::WalkFault;
+use indexmap::IndexMap;
 use std::alloc::{AllocError, Global};
 use std::marker::Model;
 use tg_bytes::Bytes;
-use tg_cid::Cid;
-use tg_model::{BlockFault, Blocks, PlacedKind, Query};
+use tg_cid::{Cid, HashKind};
+use tg_model::{BlockFault, Blocks, BlocksFault, PlacedKind, Query};
 use tg_traversal::{Frames, Miss, Next, Wanted};
 
 /// How many blocks there are at most from the root to a block that a walk gives, both counted.
 pub const MAX_DEPTH: u64 = 512;
 
-/// A walk over the blocks of a store for a query with repeats: it gives the blocks that the query asks for one by one,
-/// in order, and fetches each when it gives it.
+/// A walk over the blocks of a store for a query: it gives the blocks that the query asks for one by one, in order, and
+/// fetches each when it gives it; each at each of its places, or once where the query asks for that.
+///
+/// An identity CID's block is its digest, so none is fetched. Where each block is given once it holds the CIDs of those
+/// that it gave.
 ///
 /// Trustless Gateway specification, dag-scope, entity-bytes and order dfs.
 #[derive(Drop)]
 pub struct Walk {
     alloc: Global,
+    dups: bool,
     frames: Frames,
+    known: IndexMap<Cid, ()>,
     refused: Option<WalkFault>,
 }
 
 impl Model for Walk {
+    ghost use Rattle.std.specs.Map.{keys_of};
+    ghost use Rattle.std.specs.Prelude.{◌≡◌};
     ghost use Rattle.tg_walk.specs.Walks.{WalkState};
 
     ghost Value = { WalkState };
 
-    ghost view = { λ w. record { left = w.frames; refused = w.refused } };
+    ghost view = { λ w. record { left = w.frames; known = keys_of w.known.entries; refused = w.refused } };
+
+    ghost invariant = { λ w. w.dups ≡ w.frames.query.dups };
 }
 
 impl Walk {
@@ -47,12 +59,14 @@ impl Walk {
         tg_traversal_laws::store_walks();
         Ok(Walk {
             alloc,
+            dups: query.dups(),
             frames: Frames::new(alloc, query)?,
+            known: IndexMap::new(alloc),
             refused: None,
         })
     }
 
-    /// The next block with its CID, or none behind the last one.
+    /// The next block that is given with its CID, or none behind the last one.
     ///
     /// Errors, at the next place: `NotThere` and `NotFolder` where a segment of the path leads nowhere; `TooDeep` where
     /// it lies more than 512 blocks deep, stored or not; `Store` where the store gave no answer; `Gone` where it isn't
@@ -66,7 +80,7 @@ impl Walk {
         ensures named { IsNamedFound result }
         ensures fewer { IfOk result (λ found. IfSome found
             (λ _. blocks_left self.new.left < blocks_left self.old.left)) }
-        ensures looked { HasLookedUp result (looked_in B.blocks blocks.old blocks.new) }
+        ensures looked { HasLookedUp self.old.left.query result (looked_in B.blocks blocks.old blocks.new) }
         ensures cause { self.old.refused ≡ None
             → HasStoreCause result (B.blocks.stored blocks.old) (looked_in B.blocks blocks.old blocks.new) }
         ensures again { (fault : WalkFault) → self.old.refused ≡ Some fault
@@ -76,13 +90,60 @@ impl Walk {
         if let Some(fault) = self.refused {
             return Err(fault);
         }
-        let stepped = step(self.alloc, MAX_DEPTH, &mut self.frames, blocks);
-        self.refused = stepped.as_ref().err().copied();
-        stepped
+        let given = next_given(
+            self.alloc,
+            self.dups,
+            &mut self.frames,
+            &mut self.known,
+            blocks,
+        );
+        self.refused = given.as_ref().err().copied();
+        given
     }
 }
 
-/// The next block of what is left, with its CID.
+/// The next block that is given, with its CID. Where each is given once, a repeat is passed over, and what is below it
+/// is walked.
+fn next_given<B: Blocks>(
+    alloc: Global,
+    dups: bool,
+    frames: &mut Frames,
+    known: &mut IndexMap<Cid, ()>,
+    blocks: &mut B,
+) -> Result<Option<(Cid, Bytes)>, WalkFault>
+    requires { dups ≡ frames.old.query.dups }
+    ensures query { frames.new.query ≡ frames.old.query }
+    ensures stands { (store : Store) (sections : List Section) → B.blocks.stored blocks.old ≡ Some store
+        → IsOnWalk max_depth frames.old (keys_of known.old.entries) store sections
+        → HasGoneOn result frames.new (keys_of known.new.entries) store sections }
+    ensures named { IsNamedFound result }
+    ensures fewer { IfOk result (λ found. IfSome found (λ _. blocks_left frames.new < blocks_left frames.old)) }
+    ensures looked { HasLookedUp frames.old.query result (looked_in B.blocks blocks.old blocks.new) }
+    ensures cause { HasStoreCause result (B.blocks.stored blocks.old) (looked_in B.blocks blocks.old blocks.new) }
+{
+    tg_traversal_laws::store_walks();
+    while let Some(found) = step(alloc, MAX_DEPTH, frames, blocks)? {
+        if is_given(dups, known, found.0)? {
+            return Ok(Some(found));
+        }
+    }
+    Ok(None)
+}
+
+/// Whether a block is given: where repeats are, each; and else the first under its CID, which is known from then on.
+/// The error is want of memory.
+fn is_given(dups: bool, known: &mut IndexMap<Cid, ()>, cid: Cid) -> Result<bool, AllocError>
+    ensures { IfOk result (λ given. IsGiven dups (keys_of known.old.entries) cid given (keys_of known.new.entries)) }
+{
+    tg_cid::laws::equality();
+    if dups {
+        return Ok(true);
+    }
+    let before = known.insert(cid, ())?;
+    Ok(before.is_none())
+}
+
+/// Opens the next block of what is left, and gives it with its CID.
 fn step<B: Blocks>(
     alloc: Global,
     most: u64,
@@ -91,13 +152,13 @@ fn step<B: Blocks>(
 ) -> Result<Option<(Cid, Bytes)>, WalkFault>
     requires { most ≤ 1100 }
     ensures query { frames.new.query ≡ frames.old.query }
-    ensures stands { (store : Store) (sections : List Section) → B.blocks.stored blocks.old ≡ Some store
-        → IsOnWalk most frames.old store sections
-        → HasGone result most frames.new store sections }
+    ensures stands { (store : Store) (opened : List Section) → B.blocks.stored blocks.old ≡ Some store
+        → HasOpened most frames.old store opened
+        → HasGone result most frames.new store opened }
     ensures named { IsNamedFound result }
     ensures fewer { IfOk result (λ found. IfSome found
         (λ _. blocks_over most (tasks_left frames.new) < blocks_over most (tasks_left frames.old))) }
-    ensures looked { HasLookedUp result (looked_in B.blocks blocks.old blocks.new) }
+    ensures looked { HasLookedOnce result (looked_in B.blocks blocks.old blocks.new) }
     ensures cause { HasStoreCause result (B.blocks.stored blocks.old) (looked_in B.blocks blocks.old blocks.new) }
 {
     tg_traversal_laws::store_walks();
@@ -107,11 +168,32 @@ fn step<B: Blocks>(
     if place.depth > most {
         return Err(WalkFault::TooDeep);
     }
-    let Some(block) = blocks.get(&place.cid)? else {
+    let Some(block) = fetch(alloc, blocks, &place.cid)? else {
         return Err(WalkFault::Gone { cid: place.cid });
     };
     open(alloc, frames, place.cid, &block)?;
     Ok(Some((place.cid, block)))
+}
+
+/// The block that a CID leads to: of an identity CID its digest, for which the store isn't asked; and else the stored
+/// one.
+pub(crate) fn fetch<B: Blocks>(
+    alloc: Global,
+    blocks: &mut B,
+    cid: &Cid,
+) -> Result<Option<Bytes>, BlocksFault>
+    ensures found { IfOk result (λ found. IsBlockOf (B.blocks.stored blocks.old) cid.now found) }
+    ensures looked { HasFetched cid.now result (looked_in B.blocks blocks.old blocks.new) }
+    ensures cause { IfErr result (λ fault. IsCauseOf (B.blocks.stored blocks.old) cid.now (B.blocks.faults blocks.old)
+        (B.blocks.faults blocks.new) fault) }
+{
+    match cid.hash_kind() {
+        HashKind::Sha256 => blocks.get(cid),
+        HashKind::Identity => match Bytes::of(alloc, cid.digest()) {
+            Ok(block) => Ok(Some(block)),
+            Err(_) => Err(BlocksFault::OutOfMemory),
+        },
+    }
 }
 
 /// Goes on to the next place whose block is wanted, or to the end. Texts and entries are passed over.

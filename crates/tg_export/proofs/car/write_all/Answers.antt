@@ -1,7 +1,7 @@
 use Rattle.std.proofs.Common.{refl}
 use Rattle.std.proofs.lemmas.Result.{err_from_is_err_and}
 use Rattle.tg_export.proofs.Moves.{looks_nothing}
-use Rattle.tg_export.proofs.Parts.{car_ends, header_ends, resolved}
+use Rattle.tg_export.proofs.Parts.{car_ends, header_ends}
 use Rattle.tg_export.proofs.car.write_all.Goals as goal
 
 pub returns-in_err-put-clause-ends : goal.returns-in_err-put-clause-ends
@@ -12,8 +12,7 @@ returns-in_err-put-clause-ends g c =
 
 pub returns-in_err-put-clause-looked : goal.returns-in_err-put-clause-looked
 returns-in_err-put-clause-looked g c =
-    let none = looks_nothing g.B.Blocks.blocks c.args.blocks.now (g.met.B.Blocks.rests c.args.blocks.now) in
-    (none.cids, none.looked)
+    (looks_nothing g.B.Blocks.blocks c.args.blocks.now (g.met.B.Blocks.rests c.args.blocks.now)).up
 
 pub returns-in_err-put-clause-cause : goal.returns-in_err-put-clause-cause
 returns-in_err-put-clause-cause g c =

@@ -90,7 +90,7 @@ write_all-requires g c =
     let is = subst (λ (root : CidParts). HeaderOf root c.in_ok-header.header) c.root-2.ensures c.in_ok-header.ensures in
     record {
       header = subst (λ (bytes : List ℕ). HeaderOf c.in_ok-walk.walk.left.query.root bytes) (sym c.as_slice.ensures) (subst (λ (p : QueryParts). HeaderOf p.root c.in_ok-header.header) (sym q) is);
-      resolved = λ store e. subst (λ (p : QueryParts). HasResolved store p) (sym q) (way store (sym c.in_ok-resolve.ensures.looked.1.stored ∙ e));
+      resolved = λ store e. subst (λ (p : QueryParts). HasResolved store p) (sym q) (way store (sym c.in_ok-resolve.ensures.looked.looked.stored ∙ e));
       fresh = c.in_ok-walk.ensures.fresh;
       stands = c.in_ok-walk.ensures.stands;
     }
@@ -98,20 +98,17 @@ write_all-requires g c =
 pub returns-clause-ends : goal.returns-clause-ends
 returns-clause-ends g c =
     let out = into g.S.Sink.sink c.args.out.now c.write_all.new.out in
-    subst (λ (told : Option Store). CarEnds c.args.query.now told out c.write_all.result) c.in_ok-resolve.ensures.looked.1.stored
+    subst (λ (told : Option Store). CarEnds c.args.query.now told out c.write_all.result) c.in_ok-resolve.ensures.looked.looked.stored
     (subst (λ (q : QueryParts). CarEnds q (g.B.Blocks.blocks.stored c.resolve.new.blocks) out c.write_all.result) c.in_ok-walk.ensures.query c.write_all.ensures.ends)
 
 pub returns-clause-looked : goal.returns-clause-looked
 returns-clause-looked g c =
-    let first = c.in_ok-resolve.ensures.looked in
-    let next = c.write_all.ensures.looked in
-    (_, looks_both g.B.Blocks.blocks c.args.blocks.now c.resolve.new.blocks c.write_all.new.blocks first.0 next.0 g.met.B.Blocks.joins first.1 next.1)
+    looks_both g.B.Blocks.blocks c.args.blocks.now c.resolve.new.blocks c.write_all.new.blocks g.met.B.Blocks.joins c.in_ok-resolve.ensures.looked c.write_all.ensures.looked
 
 pub returns-clause-cause : goal.returns-clause-cause
 returns-clause-cause g c =
-    let first = c.in_ok-resolve.ensures.looked in
     car_cause g.B.Blocks.blocks c.args.blocks.now c.resolve.new.blocks c.write_all.new.blocks c.write_all.result
-    (record { cids = first.0; looked = first.1; quiet = c.in_ok-resolve.ensures.cause }) c.write_all.ensures.cause
+    (record { up = c.in_ok-resolve.ensures.looked; quiet = c.in_ok-resolve.ensures.cause }) c.write_all.ensures.cause
 
 pub returns-clause-memory : goal.returns-clause-memory
 returns-clause-memory g c = c.write_all.ensures.memory

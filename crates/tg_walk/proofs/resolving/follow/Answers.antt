@@ -1,6 +1,6 @@
-use Rattle.std.proofs.Common.{Err, Ok, Option, [], arith, refl, subst, sym, ◌∙◌, ◌∷◌}
+use Rattle.std.proofs.Common.{Err, Ok, Option, arith, subst, sym, ◌∙◌}
 use Rattle.std.proofs.lemmas.Result.{err_from_is_err_and}
-use Rattle.tg_walk.proofs.PathSteps.{IsPlaceAlong, before_cause, block_cause, cause_since, goes_on, gone_there, leads_there, looked_since, looks_on, never_ends, no_root, place_along, starts, stops_at_block, stops_before, store_stops, wanted_here}
+use Rattle.tg_walk.proofs.PathSteps.{IsPlaceAlong, before_cause, block_cause, cause_since, fetched_up, goes_on, gone_there, leads_there, looks_both, looks_nothing, looks_on, never_ends, no_root, place_along, starts, stops_at_block, stops_before, store_stops, wanted_here}
 use Rattle.tg_walk.proofs.WalkSteps.{found_in}
 use Rattle.tg_walk.proofs.resolving.follow.Goals.{else-loop-passed-test, else-passed-eq0, then-loop-passed-test+in_ok-place+in_default, then-passed-eq0}
 use Rattle.tg_walk.specs.Resolving.{HasResolveCause, IsResolvedTo}
@@ -13,7 +13,7 @@ use Rattle.tg_walk.proofs.resolving.follow.Goals as goal
 pub loop-passed-init : goal.loop-passed-init
 loop-passed-init g c = record {
   along = starts c.resolved_paths.ensures c.args.root.now c.args.frames.now.query.path (g.B.Blocks.blocks.stored c.args.blocks.now) c.args.frames.now c.requires.query c.requires.start;
-  looked = record { cids = []; looked = record { moved = g.met.B.Blocks.rests c.args.blocks.now; stored = refl }; quiet = refl };
+  looked = looks_nothing g.B.Blocks.blocks c.args.blocks.now (g.met.B.Blocks.rests c.args.blocks.now);
 }
 
 pub returns-in_err-place-clause-end : goal.returns-in_err-place-clause-end
@@ -23,7 +23,7 @@ returns-in_err-place-clause-end g c store told =
 
 pub returns-in_err-place-clause-looked : goal.returns-in_err-place-clause-looked
 returns-in_err-place-clause-looked g c =
-    (c.loop-passed.invariant.looked.cids, c.loop-passed.invariant.looked.looked)
+    c.loop-passed.invariant.looked.up
 
 pub returns-in_err-place-clause-cause : goal.returns-in_err-place-clause-cause
 returns-in_err-place-clause-cause g c =
@@ -37,12 +37,12 @@ returns-in_err-block-clause-end g c store told =
 
 pub returns-in_err-block-clause-looked : goal.returns-in_err-block-clause-looked
 returns-in_err-block-clause-looked g c =
-    looked_since g.B.Blocks.blocks g.met.B.Blocks.joins c.args.blocks.now c.loop-passed.blocks c.get.new.self [] c.loop-passed.invariant.looked c.in_err-block.ensures.err_looked
+    looks_both g.B.Blocks.blocks c.args.blocks.now c.loop-passed.blocks c.fetch.new.blocks g.met.B.Blocks.joins c.loop-passed.invariant.looked.up (fetched_up _ _ _ c.in_err-block.ensures.looked)
 
 pub returns-in_err-block-clause-cause : goal.returns-in_err-block-clause-cause
 returns-in_err-block-clause-cause g c =
     let p = err_from_is_err_and c.from_residual-in_err-block.result c.from_residual-in_err-block.ensures.1 in
-    rw (p.1, p.2) (cause_since g.B.Blocks.blocks c.args.blocks.now c.loop-passed.blocks c.get.new.self c.in-Some.place.cid c.in_err-block.field-0.0 c.loop-passed.invariant.looked c.in_err-block.ensures.cause)
+    rw (p.1, p.2) (cause_since g.B.Blocks.blocks c.args.blocks.now c.loop-passed.blocks c.fetch.new.blocks c.in-Some.place.cid c.in_err-block.field-0.0 c.loop-passed.invariant.looked c.in_err-block.ensures.cause)
 
 pub returns-in_default-2-clause-end : goal.returns-in_default-2-clause-end
 returns-in_default-2-clause-end g c store told =
@@ -50,35 +50,35 @@ returns-in_default-2-clause-end g c store told =
     (subst (λ (found : Option Wanted). IsNextPlace c.loop-passed.frames (Ok found) c.next_place.new.frames) c.in-Some.is c.in_ok-place.ensures.next)) in
     elim c.if-passed-eq0.branch [
       | then-passed-eq0 w ↦ subst (λ (fault : ResolveFault). IsResolvedTo store c.args.root.now c.args.frames.now.query.path (Err fault)) (sym w.result-is)
-          (no_root c.args.root.now c.args.frames.now.query.path (g.B.Blocks.blocks.stored c.args.blocks.now) store c.loop-passed.passed c.next_place.new.frames c.in-Some.place there w.if-passed-eq0.true (found_in (g.B.Blocks.blocks.stored c.loop-passed.blocks) store c.in-Some.place.cid c.in_ok-block.field-0 (c.loop-passed.invariant.looked.looked.stored ∙ told) c.in_ok-block.ensures.gotten ∙ c.in_default-2.is))
+          (no_root c.args.root.now c.args.frames.now.query.path (g.B.Blocks.blocks.stored c.args.blocks.now) store c.loop-passed.passed c.next_place.new.frames c.in-Some.place there w.if-passed-eq0.true (found_in (g.B.Blocks.blocks.stored c.loop-passed.blocks) store c.in-Some.place.cid c.in_ok-block.field-0 (c.loop-passed.invariant.looked.up.looked.stored ∙ told) c.in_ok-block.ensures.found ∙ c.in_default-2.is))
       | else-passed-eq0 w ↦ subst (λ (fault : ResolveFault). IsResolvedTo store c.args.root.now c.args.frames.now.query.path (Err fault)) (sym w.result-is)
-          (gone_there c.resolved_paths.ensures c.args.root.now c.args.frames.now.query.path (g.B.Blocks.blocks.stored c.args.blocks.now) store c.loop-passed.passed c.next_place.new.frames c.in-Some.place c.requires.few told there w.if-passed-eq0.false (found_in (g.B.Blocks.blocks.stored c.loop-passed.blocks) store c.in-Some.place.cid c.in_ok-block.field-0 (c.loop-passed.invariant.looked.looked.stored ∙ told) c.in_ok-block.ensures.gotten ∙ c.in_default-2.is))
+          (gone_there c.resolved_paths.ensures c.args.root.now c.args.frames.now.query.path (g.B.Blocks.blocks.stored c.args.blocks.now) store c.loop-passed.passed c.next_place.new.frames c.in-Some.place c.requires.few told there w.if-passed-eq0.false (found_in (g.B.Blocks.blocks.stored c.loop-passed.blocks) store c.in-Some.place.cid c.in_ok-block.field-0 (c.loop-passed.invariant.looked.up.looked.stored ∙ told) c.in_ok-block.ensures.found ∙ c.in_default-2.is))
     ]
 
 pub returns-in_default-2-clause-looked : goal.returns-in_default-2-clause-looked
 returns-in_default-2-clause-looked g c =
-    looked_since g.B.Blocks.blocks g.met.B.Blocks.joins c.args.blocks.now c.loop-passed.blocks c.get.new.self (c.in-Some.place.cid ∷ []) c.loop-passed.invariant.looked c.in_ok-block.ensures.looked
+    looks_both g.B.Blocks.blocks c.args.blocks.now c.loop-passed.blocks c.fetch.new.blocks g.met.B.Blocks.joins c.loop-passed.invariant.looked.up (fetched_up _ _ _ c.in_ok-block.ensures.looked)
 
 pub returns-in_default-2-clause-cause : goal.returns-in_default-2-clause-cause
 returns-in_default-2-clause-cause g c =
     elim c.if-passed-eq0.branch [
-      | then-passed-eq0 w ↦ subst (λ (fault : ResolveFault). HasResolveCause (Err fault) (g.B.Blocks.blocks.stored c.args.blocks.now) (looked_in g.B.Blocks.blocks c.args.blocks.now c.get.new.self)) (sym w.result-is) (looks_on g.B.Blocks.blocks g.met.B.Blocks.joins c.args.blocks.now c.loop-passed.blocks c.get.new.self (c.in-Some.place.cid ∷ []) c.loop-passed.invariant.looked c.in_ok-block.ensures.looked c.in_ok-block.ensures.quiet).quiet
-      | else-passed-eq0 w ↦ subst (λ (fault : ResolveFault). HasResolveCause (Err fault) (g.B.Blocks.blocks.stored c.args.blocks.now) (looked_in g.B.Blocks.blocks c.args.blocks.now c.get.new.self)) (sym w.result-is) (looks_on g.B.Blocks.blocks g.met.B.Blocks.joins c.args.blocks.now c.loop-passed.blocks c.get.new.self (c.in-Some.place.cid ∷ []) c.loop-passed.invariant.looked c.in_ok-block.ensures.looked c.in_ok-block.ensures.quiet).quiet
+      | then-passed-eq0 w ↦ subst (λ (fault : ResolveFault). HasResolveCause (Err fault) (g.B.Blocks.blocks.stored c.args.blocks.now) (looked_in g.B.Blocks.blocks c.args.blocks.now c.fetch.new.blocks)) (sym w.result-is) (looks_on g.B.Blocks.blocks c.args.blocks.now c.loop-passed.blocks c.fetch.new.blocks g.met.B.Blocks.joins c.loop-passed.invariant.looked (fetched_up _ _ _ c.in_ok-block.ensures.looked) c.in_ok-block.ensures.looked.quiet).quiet
+      | else-passed-eq0 w ↦ subst (λ (fault : ResolveFault). HasResolveCause (Err fault) (g.B.Blocks.blocks.stored c.args.blocks.now) (looked_in g.B.Blocks.blocks c.args.blocks.now c.fetch.new.blocks)) (sym w.result-is) (looks_on g.B.Blocks.blocks c.args.blocks.now c.loop-passed.blocks c.fetch.new.blocks g.met.B.Blocks.joins c.loop-passed.invariant.looked (fetched_up _ _ _ c.in_ok-block.ensures.looked) c.in_ok-block.ensures.looked.quiet).quiet
     ]
 
 pub returns-then-not-is_read-clause-end : goal.returns-then-not-is_read-clause-end
 returns-then-not-is_read-clause-end g c store told =
     let there : IsPlaceAlong c.args.root.now c.args.frames.now.query.path (g.B.Blocks.blocks.stored c.args.blocks.now) c.loop-passed.passed c.next_place.new.frames c.in-Some.place = (place_along c.args.root.now c.args.frames.now.query.path (g.B.Blocks.blocks.stored c.args.blocks.now) c.loop-passed.passed c.loop-passed.frames c.next_place.new.frames c.in-Some.place c.next_place.ensures.query c.loop-passed.invariant.along
     (subst (λ (found : Option Wanted). IsNextPlace c.loop-passed.frames (Ok found) c.next_place.new.frames) c.in-Some.is c.in_ok-place.ensures.next)) in
-    leads_there c.resolved_paths.ensures c.args.root.now c.args.frames.now.query.path (g.B.Blocks.blocks.stored c.args.blocks.now) store c.loop-passed.passed c.next_place.new.frames c.in-Some.place c.in-Some-2.block c.requires.few told there (found_in (g.B.Blocks.blocks.stored c.loop-passed.blocks) store c.in-Some.place.cid c.in_ok-block.field-0 (c.loop-passed.invariant.looked.looked.stored ∙ told) c.in_ok-block.ensures.gotten ∙ c.in-Some-2.is) (λ at w. sym (c.is_read.ensures at w) ∙ c.if-not-is_read.true)
+    leads_there c.resolved_paths.ensures c.args.root.now c.args.frames.now.query.path (g.B.Blocks.blocks.stored c.args.blocks.now) store c.loop-passed.passed c.next_place.new.frames c.in-Some.place c.in-Some-2.block c.requires.few told there (found_in (g.B.Blocks.blocks.stored c.loop-passed.blocks) store c.in-Some.place.cid c.in_ok-block.field-0 (c.loop-passed.invariant.looked.up.looked.stored ∙ told) c.in_ok-block.ensures.found ∙ c.in-Some-2.is) (λ at w. sym (c.is_read.ensures at w) ∙ c.if-not-is_read.true)
 
 pub returns-then-not-is_read-clause-looked : goal.returns-then-not-is_read-clause-looked
 returns-then-not-is_read-clause-looked g c =
-    looked_since g.B.Blocks.blocks g.met.B.Blocks.joins c.args.blocks.now c.loop-passed.blocks c.get.new.self (c.in-Some.place.cid ∷ []) c.loop-passed.invariant.looked c.in_ok-block.ensures.looked
+    looks_both g.B.Blocks.blocks c.args.blocks.now c.loop-passed.blocks c.fetch.new.blocks g.met.B.Blocks.joins c.loop-passed.invariant.looked.up (fetched_up _ _ _ c.in_ok-block.ensures.looked)
 
 pub returns-then-not-is_read-clause-cause : goal.returns-then-not-is_read-clause-cause
 returns-then-not-is_read-clause-cause g c =
-    (looks_on g.B.Blocks.blocks g.met.B.Blocks.joins c.args.blocks.now c.loop-passed.blocks c.get.new.self (c.in-Some.place.cid ∷ []) c.loop-passed.invariant.looked c.in_ok-block.ensures.looked c.in_ok-block.ensures.quiet).quiet
+    (looks_on g.B.Blocks.blocks c.args.blocks.now c.loop-passed.blocks c.fetch.new.blocks g.met.B.Blocks.joins c.loop-passed.invariant.looked (fetched_up _ _ _ c.in_ok-block.ensures.looked) c.in_ok-block.ensures.looked.quiet).quiet
 
 pub open-requires : goal.open-requires
 open-requires g c =
@@ -92,19 +92,19 @@ returns-in_err-open-clause-end g c store told =
     (subst (λ (found : Option Wanted). IsNextPlace c.loop-passed.frames (Ok found) c.next_place.new.frames) c.in-Some.is c.in_ok-place.ensures.next)) in
     let p = err_from_is_err_and c.from_residual-in_err-open.result c.from_residual-in_err-open.ensures.1 in
     rw (p.1, p.2) (stops_at_block c.resolved_paths.ensures c.args.root.now c.args.frames.now.query.path (g.B.Blocks.blocks.stored c.args.blocks.now) store c.loop-passed.passed c.next_place.new.frames c.open.new.frames c.in-Some.place c.in-Some-2.block c.in_err-open.field-0.0
-    c.requires.few told there (found_in (g.B.Blocks.blocks.stored c.loop-passed.blocks) store c.in-Some.place.cid c.in_ok-block.field-0 (c.loop-passed.invariant.looked.looked.stored ∙ told) c.in_ok-block.ensures.gotten ∙ c.in-Some-2.is) c.in_err-open.ensures.opened)
+    c.requires.few told there (found_in (g.B.Blocks.blocks.stored c.loop-passed.blocks) store c.in-Some.place.cid c.in_ok-block.field-0 (c.loop-passed.invariant.looked.up.looked.stored ∙ told) c.in_ok-block.ensures.found ∙ c.in-Some-2.is) c.in_err-open.ensures.opened)
 
 pub returns-in_err-open-clause-looked : goal.returns-in_err-open-clause-looked
 returns-in_err-open-clause-looked g c =
-    looked_since g.B.Blocks.blocks g.met.B.Blocks.joins c.args.blocks.now c.loop-passed.blocks c.get.new.self (c.in-Some.place.cid ∷ []) c.loop-passed.invariant.looked c.in_ok-block.ensures.looked
+    looks_both g.B.Blocks.blocks c.args.blocks.now c.loop-passed.blocks c.fetch.new.blocks g.met.B.Blocks.joins c.loop-passed.invariant.looked.up (fetched_up _ _ _ c.in_ok-block.ensures.looked)
 
 pub returns-in_err-open-clause-cause : goal.returns-in_err-open-clause-cause
 returns-in_err-open-clause-cause g c =
     let there : IsPlaceAlong c.args.root.now c.args.frames.now.query.path (g.B.Blocks.blocks.stored c.args.blocks.now) c.loop-passed.passed c.next_place.new.frames c.in-Some.place = (place_along c.args.root.now c.args.frames.now.query.path (g.B.Blocks.blocks.stored c.args.blocks.now) c.loop-passed.passed c.loop-passed.frames c.next_place.new.frames c.in-Some.place c.next_place.ensures.query c.loop-passed.invariant.along
     (subst (λ (found : Option Wanted). IsNextPlace c.loop-passed.frames (Ok found) c.next_place.new.frames) c.in-Some.is c.in_ok-place.ensures.next)) in
     let p = err_from_is_err_and c.from_residual-in_err-open.result c.from_residual-in_err-open.ensures.1 in
-    rw (p.1, p.2) (block_cause c.args.root.now c.args.frames.now.query.path (g.B.Blocks.blocks.stored c.args.blocks.now) (g.B.Blocks.blocks.stored c.args.blocks.now) (looked_in g.B.Blocks.blocks c.args.blocks.now c.get.new.self) c.loop-passed.passed c.next_place.new.frames c.open.new.frames c.in-Some.place c.in-Some-2.block c.in_err-open.field-0.0
-    there c.in_err-open.ensures.opened (looks_on g.B.Blocks.blocks g.met.B.Blocks.joins c.args.blocks.now c.loop-passed.blocks c.get.new.self (c.in-Some.place.cid ∷ []) c.loop-passed.invariant.looked c.in_ok-block.ensures.looked c.in_ok-block.ensures.quiet).quiet)
+    rw (p.1, p.2) (block_cause c.args.root.now c.args.frames.now.query.path (g.B.Blocks.blocks.stored c.args.blocks.now) (g.B.Blocks.blocks.stored c.args.blocks.now) (looked_in g.B.Blocks.blocks c.args.blocks.now c.fetch.new.blocks) c.loop-passed.passed c.next_place.new.frames c.open.new.frames c.in-Some.place c.in-Some-2.block c.in_err-open.field-0.0
+    there c.in_err-open.ensures.opened (looks_on g.B.Blocks.blocks c.args.blocks.now c.loop-passed.blocks c.fetch.new.blocks g.met.B.Blocks.joins c.loop-passed.invariant.looked (fetched_up _ _ _ c.in_ok-block.ensures.looked) c.in_ok-block.ensures.looked.quiet).quiet)
 
 pub loop-passed-preserved : goal.loop-passed-preserved
 loop-passed-preserved g c =
@@ -112,8 +112,8 @@ loop-passed-preserved g c =
     (subst (λ (found : Option Wanted). IsNextPlace c.loop-passed.frames (Ok found) c.next_place.new.frames) c.in-Some.is c.in_ok-place.ensures.next)) in
     record {
       along = goes_on c.resolved_paths.ensures c.args.root.now c.args.frames.now.query.path (g.B.Blocks.blocks.stored c.args.blocks.now) c.loop-passed.passed c.next_place.new.frames c.open.new.frames c.in-Some.place c.in-Some-2.block _ c.requires.few there
-          (λ store told. (found_in (g.B.Blocks.blocks.stored c.loop-passed.blocks) store c.in-Some.place.cid c.in_ok-block.field-0 (c.loop-passed.invariant.looked.looked.stored ∙ told) c.in_ok-block.ensures.gotten ∙ c.in-Some-2.is)) c.open.ensures.query (λ at w. sym (c.is_read.ensures at w) ∙ c.if-not-is_read.false) c.in_ok-open.ensures.opened;
-      looked = looks_on g.B.Blocks.blocks g.met.B.Blocks.joins c.args.blocks.now c.loop-passed.blocks c.get.new.self (c.in-Some.place.cid ∷ []) c.loop-passed.invariant.looked c.in_ok-block.ensures.looked c.in_ok-block.ensures.quiet;
+          (λ store told. (found_in (g.B.Blocks.blocks.stored c.loop-passed.blocks) store c.in-Some.place.cid c.in_ok-block.field-0 (c.loop-passed.invariant.looked.up.looked.stored ∙ told) c.in_ok-block.ensures.found ∙ c.in-Some-2.is)) c.open.ensures.query (λ at w. sym (c.is_read.ensures at w) ∙ c.if-not-is_read.false) c.in_ok-open.ensures.opened;
+      looked = looks_on g.B.Blocks.blocks c.args.blocks.now c.loop-passed.blocks c.fetch.new.blocks g.met.B.Blocks.joins c.loop-passed.invariant.looked (fetched_up _ _ _ c.in_ok-block.ensures.looked) c.in_ok-block.ensures.looked.quiet;
     }
 
 pub returns-clause-end : goal.returns-clause-end
@@ -126,7 +126,7 @@ returns-clause-end g c store told =
 
 pub returns-clause-looked : goal.returns-clause-looked
 returns-clause-looked g c =
-    (c.loop-passed.invariant.looked.cids, c.loop-passed.invariant.looked.looked)
+    c.loop-passed.invariant.looked.up
 
 pub returns-clause-cause : goal.returns-clause-cause
 returns-clause-cause g c =

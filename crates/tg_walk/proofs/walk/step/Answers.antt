@@ -24,7 +24,7 @@ returns-then-place-most-clause-stands g c store sections told on =
 pub returns-in_err-block-clause-stands : goal.returns-in_err-block-clause-stands
 returns-in_err-block-clause-stands g c store sections told on =
     let p = err_from_is_err_and c.from_residual-in_err-block.result c.from_residual-in_err-block.ensures.1 in
-    rw (p.1, p.2) (store_stops c.next_place.new.frames.query c.args.most store sections c.in_err-block.field-0.0
+    rw (p.1, p.2) (store_stops c.next_place.new.frames.query c.args.most store _ c.in_err-block.field-0.0
     (front_there c.store_walks.ensures c.args.most c.args.frames.now c.next_place.new.frames store sections c.in-Some.place c.next_place.ensures.query on
     (subst (λ (found : Option Wanted). IsNextPlace c.args.frames.now (Ok found) c.next_place.new.frames) c.in-Some.is c.in_ok-place.ensures.next)))
 
@@ -33,7 +33,7 @@ returns-in_default-2-clause-stands g c store sections told on =
     gone_there c.store_walks.ensures c.args.most c.args.frames.now c.next_place.new.frames store sections c.in-Some.place c.next_place.ensures.query on
     (subst (λ (found : Option Wanted). IsNextPlace c.args.frames.now (Ok found) c.next_place.new.frames) c.in-Some.is c.in_ok-place.ensures.next)
     c.requires c.if-place-most.false
-    (found_in _ store c.in-Some.place.cid c.in_ok-block.field-0 told c.in_ok-block.ensures.gotten ∙ c.in_default-2.is)
+    (found_in _ store c.in-Some.place.cid c.in_ok-block.field-0 told c.in_ok-block.ensures.found ∙ c.in_default-2.is)
 
 pub returns-in_err-open-clause-stands : goal.returns-in_err-open-clause-stands
 returns-in_err-open-clause-stands g c store sections told on =
@@ -41,14 +41,14 @@ returns-in_err-open-clause-stands g c store sections told on =
     rw (p.1, p.2) (stops_at_block c.store_walks.ensures c.args.most c.args.frames.now c.next_place.new.frames c.open.new.frames store sections c.in-Some.place c.in-Some-2.block c.in_err-open.field-0.0
     c.requires c.next_place.ensures.query c.open.ensures.query on
     (subst (λ (found : Option Wanted). IsNextPlace c.args.frames.now (Ok found) c.next_place.new.frames) c.in-Some.is c.in_ok-place.ensures.next)
-    c.if-place-most.false (found_in _ store c.in-Some.place.cid c.in_ok-block.field-0 told c.in_ok-block.ensures.gotten ∙ c.in-Some-2.is) c.in_err-open.ensures.opened)
+    c.if-place-most.false (found_in _ store c.in-Some.place.cid c.in_ok-block.field-0 told c.in_ok-block.ensures.found ∙ c.in-Some-2.is) c.in_err-open.ensures.opened)
 
 pub returns-clause-stands : goal.returns-clause-stands
 returns-clause-stands g c store sections told on =
     goes_on c.store_walks.ensures c.args.most c.args.frames.now c.next_place.new.frames c.open.new.frames store sections c.in-Some.place c.in-Some-2.block _
     c.requires c.next_place.ensures.query c.open.ensures.query on
     (subst (λ (found : Option Wanted). IsNextPlace c.args.frames.now (Ok found) c.next_place.new.frames) c.in-Some.is c.in_ok-place.ensures.next)
-    c.if-place-most.false (found_in _ store c.in-Some.place.cid c.in_ok-block.field-0 told c.in_ok-block.ensures.gotten ∙ c.in-Some-2.is) c.in_ok-open.ensures.opened
+    c.if-place-most.false (found_in _ store c.in-Some.place.cid c.in_ok-block.field-0 told c.in_ok-block.ensures.found ∙ c.in-Some-2.is) c.in_ok-open.ensures.opened
 
 pub returns-clause-fewer : goal.returns-clause-fewer
 returns-clause-fewer g c =

@@ -1,0 +1,94 @@
+use Rattle.std.proofs.Common.{Bool, List, Ok, Option, arith, ap, refl, subst, sym, ℕ, ◌<◌, ◌∙◌}
+use Rattle.std.proofs.lemmas.Result.{err_from_is_err_and}
+use Rattle.std.specs.Map.{keys_of}
+use Rattle.std.specs.Prelude.{IfSome}
+use Rattle.tg_cid.specs.Cid.{CidParts}
+use Rattle.tg_model.specs.Queries.{QueryParts}
+use Rattle.tg_model.specs.Stores.{looked_in}
+use Rattle.tg_model_laws.specs.SentSections.{taken_if}
+use Rattle.tg_traversal_laws.specs.Openings.{opened_by}
+use Rattle.tg_traversal_laws.specs.StoreWalks.{section_of}
+use Rattle.tg_walk.proofs.Giving.{all_given, front_so, goes_on, looked_since, not_given, opened_so, passed_none, passed_since, refused_behind, stops}
+use Rattle.tg_walk.specs.Walks.{HasGone, HasLookedOnce, IsGiven, IsOnWalk, blocks_left}
+use Rattle.tg_walk.proofs.walk.next_given.Goals as goal
+
+pub loop-found-init : goal.loop-found-init
+loop-found-init g c = record {
+  query = refl;
+  stands = λ store sections told on. on;
+  fewer = omega arith;
+  looked = passed_none g.B.Blocks.blocks c.args.blocks.now c.args.frames.now.query (g.met.B.Blocks.rests c.args.blocks.now);
+}
+
+pub returns-in_err-found-clause-stands : goal.returns-in_err-found-clause-stands
+returns-in_err-found-clause-stands g c store sections told start =
+    let p = err_from_is_err_and c.from_residual.result c.from_residual.ensures.1 in
+    let on = c.loop-found.invariant.stands store sections told start in
+    rw (p.1, p.2) (stops 512 c.loop-found.frames c.step.new.frames (keys_of c.loop-found.known.entries) store sections c.in_err-found.field-0.0 c.step.ensures.query on
+    (c.in_err-found.ensures.stands store _ (c.loop-found.invariant.looked.looked.stored ∙ told) (opened_so 512 c.loop-found.frames (keys_of c.loop-found.known.entries) store sections on)))
+
+pub returns-in_err-found-clause-looked : goal.returns-in_err-found-clause-looked
+returns-in_err-found-clause-looked g c =
+    let p = err_from_is_err_and c.from_residual.result c.from_residual.ensures.1 in
+    rw (p.1, p.2) (looked_since g.B.Blocks.blocks c.args.blocks.now c.loop-found.blocks c.step.new.blocks c.args.frames.now.query _ g.met.B.Blocks.joins c.loop-found.invariant.looked c.in_err-found.ensures.looked)
+
+pub returns-in_err-is_given-clause-stands : goal.returns-in_err-is_given-clause-stands
+returns-in_err-is_given-clause-stands g c store sections told start =
+    let p = err_from_is_err_and c.from_residual-in_err-is_given.result c.from_residual-in_err-is_given.ensures.1 in
+    rw (p.1, p.2) (front_so c.store_walks.ensures 512 c.loop-found.frames c.step.new.frames.query (keys_of c.loop-found.known.entries) store sections c.step.ensures.query
+    (c.loop-found.invariant.stands store sections told start))
+
+pub returns-in_err-is_given-clause-looked : goal.returns-in_err-is_given-clause-looked
+returns-in_err-is_given-clause-looked g c =
+    let p = err_from_is_err_and c.from_residual-in_err-is_given.result c.from_residual-in_err-is_given.ensures.1 in
+    let looked = subst (λ (found : Option (CidParts × List ℕ)). HasLookedOnce (Ok found) (looked_in g.B.Blocks.blocks c.loop-found.blocks c.step.new.blocks)) c.in-Some.is c.in_ok-found.ensures.looked in
+    rw (p.1, p.2) (looked_since g.B.Blocks.blocks c.args.blocks.now c.loop-found.blocks c.step.new.blocks c.args.frames.now.query _ g.met.B.Blocks.joins c.loop-found.invariant.looked (refused_behind _ _ _ looked))
+
+pub returns-then-branch-clause-stands : goal.returns-then-branch-clause-stands
+returns-then-branch-clause-stands g c store sections told start =
+    let on = c.loop-found.invariant.stands store sections told start in
+    let opened = c.in_ok-found.ensures.stands store _ (c.loop-found.invariant.looked.looked.stored ∙ told) (opened_so 512 c.loop-found.frames (keys_of c.loop-found.known.entries) store sections on) in
+    let more = subst (λ (found : Option (CidParts × List ℕ)). HasGone (Ok found) 512 c.step.new.frames store (opened_by on.given)) c.in-Some.is opened in
+    let dups = c.requires ∙ ap (λ (q : QueryParts). q.dups) (sym c.loop-found.invariant.query) in
+    let is = subst (λ (b : Bool). IsGiven b (keys_of c.loop-found.known.entries) c.in-Some.found.0 c.in_ok-is_given.field-0 (keys_of c.is_given.new.known.entries)) dups c.in_ok-is_given.ensures in
+    subst (λ (b : Bool). IsOnWalk 512 c.step.new.frames (keys_of c.is_given.new.known.entries) store (taken_if b sections (section_of c.in-Some.found.0 c.in-Some.found.1))) c.if-branch.true
+    (goes_on 512 c.loop-found.frames c.step.new.frames (keys_of c.loop-found.known.entries) (keys_of c.is_given.new.known.entries) store sections (section_of c.in-Some.found.0 c.in-Some.found.1) c.in_ok-is_given.field-0
+    c.step.ensures.query on is more)
+
+pub returns-then-branch-clause-looked : goal.returns-then-branch-clause-looked
+returns-then-branch-clause-looked g c =
+    let looked = subst (λ (found : Option (CidParts × List ℕ)). HasLookedOnce (Ok found) (looked_in g.B.Blocks.blocks c.loop-found.blocks c.step.new.blocks)) c.in-Some.is c.in_ok-found.ensures.looked in
+    looked_since g.B.Blocks.blocks c.args.blocks.now c.loop-found.blocks c.step.new.blocks c.args.frames.now.query _ g.met.B.Blocks.joins c.loop-found.invariant.looked looked
+
+pub loop-found-preserved : goal.loop-found-preserved
+loop-found-preserved g c =
+    let looked = subst (λ (found : Option (CidParts × List ℕ)). HasLookedOnce (Ok found) (looked_in g.B.Blocks.blocks c.loop-found.blocks c.step.new.blocks)) c.in-Some.is c.in_ok-found.ensures.looked in
+    let dups = c.requires ∙ ap (λ (q : QueryParts). q.dups) (sym c.loop-found.invariant.query) in
+    let is = subst (λ (b : Bool). IsGiven b (keys_of c.loop-found.known.entries) c.in-Some.found.0 c.in_ok-is_given.field-0 (keys_of c.is_given.new.known.entries)) dups c.in_ok-is_given.ensures in
+    let less = subst (λ (found : Option (CidParts × List ℕ)). IfSome found (λ _. blocks_left c.step.new.frames < blocks_left c.loop-found.frames)) c.in-Some.is c.in_ok-found.ensures.fewer in
+    let before = c.loop-found.invariant.fewer in
+    record {
+      query = c.step.ensures.query ∙ c.loop-found.invariant.query;
+      stands = λ store sections told start.
+          let on = c.loop-found.invariant.stands store sections told start in
+          let opened = c.in_ok-found.ensures.stands store _ (c.loop-found.invariant.looked.looked.stored ∙ told) (opened_so 512 c.loop-found.frames (keys_of c.loop-found.known.entries) store sections on) in
+          let more = subst (λ (found : Option (CidParts × List ℕ)). HasGone (Ok found) 512 c.step.new.frames store (opened_by on.given)) c.in-Some.is opened in
+          subst (λ (b : Bool). IsOnWalk 512 c.step.new.frames (keys_of c.is_given.new.known.entries) store (taken_if b sections (section_of c.in-Some.found.0 c.in-Some.found.1))) c.if-branch.false
+          (goes_on 512 c.loop-found.frames c.step.new.frames (keys_of c.loop-found.known.entries) (keys_of c.is_given.new.known.entries) store sections (section_of c.in-Some.found.0 c.in-Some.found.1) c.in_ok-is_given.field-0
+          c.step.ensures.query on is more);
+      fewer = omega (arith, less, before);
+      looked = passed_since g.B.Blocks.blocks c.args.blocks.now c.loop-found.blocks c.step.new.blocks c.args.frames.now.query _ g.met.B.Blocks.joins c.loop-found.invariant.looked looked
+          (λ e. not_given c.args.dups _ _ _ _ c.in_ok-is_given.ensures c.if-branch.false (c.requires ∙ e));
+    }
+
+pub returns-clause-stands : goal.returns-clause-stands
+returns-clause-stands g c store sections told start =
+    let on = c.loop-found.invariant.stands store sections told start in
+    let opened = c.in_ok-found.ensures.stands store _ (c.loop-found.invariant.looked.looked.stored ∙ told) (opened_so 512 c.loop-found.frames (keys_of c.loop-found.known.entries) store sections on) in
+    let ended = subst (λ (found : Option (CidParts × List ℕ)). HasGone (Ok found) 512 c.step.new.frames store (opened_by on.given)) c.in_default.is opened in
+    all_given 512 c.loop-found.frames c.step.new.frames (keys_of c.loop-found.known.entries) store sections c.step.ensures.query on ended
+
+pub returns-clause-looked : goal.returns-clause-looked
+returns-clause-looked g c =
+    let looked = subst (λ (found : Option (CidParts × List ℕ)). HasLookedOnce (Ok found) (looked_in g.B.Blocks.blocks c.loop-found.blocks c.step.new.blocks)) c.in_default.is c.in_ok-found.ensures.looked in
+    looked_since g.B.Blocks.blocks c.args.blocks.now c.loop-found.blocks c.step.new.blocks c.args.frames.now.query _ g.met.B.Blocks.joins c.loop-found.invariant.looked looked
