@@ -75,6 +75,7 @@ header_done laws old new piece text taken state whole limit refused was is came 
       within = took.1;
       moves = λ _. took.0;
       need = λ e. absurd cc;
+      at_end = tt;
       limit = limit;
       refused = refused;
       holds = λ fed given k.
@@ -106,6 +107,7 @@ header_more old new piece taken whole limit refused was is came text place w t f
       within = omega arith;
       moves = λ some. omega arith;
       need = λ e. took;
+      at_end = tt;
       limit = limit;
       refused = refused;
       holds = λ fed given k.
@@ -247,6 +249,7 @@ section_more old new piece taken limit refused was is place t =
       within = omega arith;
       moves = λ some. omega arith;
       need = λ e. took;
+      at_end = tt;
       limit = limit;
       refused = refused;
       holds = λ fed given k.
@@ -284,6 +287,7 @@ section_done laws old new piece taken came size section limit refused was is cam
   within = t.0;
   moves = t.1;
   need = λ e. absurd cc;
+  at_end = t.2;
   limit = limit;
   refused = refused;
   holds = λ fed given k.

@@ -1,6 +1,7 @@
 -- What a contract sees of a reader of a CAR, and the histories that it stands for.
-use Rattle.std.specs.Prelude.{◌≡◌, ℕ, ◌-◌, Bool, true, false, Option, Some, None, List, [], length}
+use Rattle.std.specs.Prelude.{◌≡◌, ℕ, ◌-◌, Bool, true, false, Option, Some, None, List, [], length, ⊤}
 use Rattle.tg_car.specs.declared.event.Event.{Event}
+use Rattle.tg_car.specs.declared.event.Event.TheVariants as events
 use Rattle.tg_car.specs.declared.header_state.HeaderState.{HeaderState}
 use Rattle.tg_car.specs.declared.fault.CarFault.{CarFault}
 use Rattle.tg_car.specs.HeaderState.{FollowsHeader}
@@ -21,6 +22,11 @@ abbrev pub fault_of : Option Stop → Option CarFault
 fault_of None = None
 fault_of (Some (at_piece piece fault)) = Some fault
 fault_of (Some (at_end fault)) = Some fault
+
+-- a section is given with its last byte: none of the next one came
+abbrev pub IsAtItsEnd : Event → List ℕ → Type 0
+IsAtItsEnd (events.Section at size section) came = came ≡ []
+IsAtItsEnd other came = ⊤
 
 -- bytes of the header came, or none yet
 pub record HoldsHeader (state : ReaderState) (fed : List ℕ) (given : List Event) : Type 0 where

@@ -8,7 +8,7 @@ use Rattle.tg_car.specs.CarText.{HeaderText}
 use Rattle.tg_car.specs.Fronts.{IsInHeader}
 use Rattle.tg_car.specs.HeaderState.{FollowsHeader}
 use Rattle.tg_car.specs.History.{StopsAt, given_by}
-use Rattle.tg_car.specs.State.{ReaderState, Holds}
+use Rattle.tg_car.specs.State.{Holds, IsAtItsEnd, ReaderState}
 
 -- a byte of the piece is one with which no header goes on
 pub record StopsHeader (bytes piece : List ℕ) : Type 0 where
@@ -39,6 +39,7 @@ pub record Steps (old new : ReaderState) (piece : List ℕ) (taken : ℕ) (event
   pub within : taken ≤ length piece
   pub moves : 0 < length piece → 0 < taken
   pub need : event ≡ Need → taken ≡ length piece
+  pub at_end : IsAtItsEnd event new.came
   pub limit : new.limit ≡ old.limit
   pub refused : new.refused ≡ old.refused
   pub holds : (fed : List ℕ) (given : List Event) → Holds old.in_header old fed given

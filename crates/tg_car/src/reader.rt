@@ -4,7 +4,7 @@ ghost use Rattle.std.specs.Prelude.{IfSome, OnOk, OnErr, MatchResult};
 ghost use Rattle.tg_car.specs.Fronts.{IsInHeader};
 ghost use Rattle.tg_car.specs.HeaderState.{FollowsHeader};
 ghost use Rattle.tg_car.specs.History.{History, IsGivenOf, nothing, with_end, with_feed};
-ghost use Rattle.tg_car.specs.State.{StandsFor};
+ghost use Rattle.tg_car.specs.State.{IsAtItsEnd, StandsFor};
 ghost use Rattle.tg_car.specs.Steps.{IsTaken, Steps, Stops, TakesHeader};
 
 use crate::event::Event;
@@ -92,6 +92,8 @@ impl CarReader {
         ensures within { IfOk result (λ found. found.0 ≤ length piece.now) }
         ensures moves { IfOk result (λ found. 0 < length piece.now → 0 < found.0) }
         ensures need { IfOk result (λ found. found.1 ≡ Event.Need → found.0 ≡ length piece.now) }
+        // No byte is taken behind the last one of a section that is given.
+        ensures at_end { IfOk result (λ found. IsAtItsEnd found.1 self.new.came) }
         // Each history that the reader stood for, with this call added, is one that it stands for.
         ensures stands { (h : History) → StandsFor self.old h
             → StandsFor self.new (with_feed h piece.now result) }

@@ -14,6 +14,7 @@ use Rattle.tg_model.specs.declared.limits.LimitKind.TheVariants as kinds
 use Rattle.tg_streams.specs.Streams.{Input, Output}
 use Rattle.tg_traversal_laws.specs.Stages.{Given}
 use Rattle.tg_traversal_laws.specs.Tasks.{Miss, Task, no_directory, no_entry, open_block, stop_at}
+use Rattle.tg_traversal_laws.specs.Repeats.{settled}
 use Rattle.tg_traversal_laws.specs.Verified.{Verified, VerifiedLaws, WantsNext}
 use Rattle.tg_verify.specs.Laws.{IsOwnFault}
 use Rattle.tg_verify.specs.Refusals.{HasRefused, IsCutShort, IsRefusedAt}
@@ -86,7 +87,7 @@ module _ (received : ReceivedLaws) (q : QueryParts) (limits : LimitNumbers) (inp
   module _ (R : ClientFault → Type 0) (own : (fault : ClientFault) → IsOwnEnd fault → R fault)
       (truncated : (want : CidParts) (number : ℕ) → IsAllHeard unheard input → (at : WantedAt) × (want ≡ at.cid) × IsCutShort q sections text at number
       → R (faults.Refused (refusals.Truncated want number)))
-      (extra : (number : ℕ) → HasSurplus q (heard ++ unheard) sections text number → R (faults.Refused (refusals.Extra number))) where
+      (extra : (number : ℕ) → HasSurplus q limits (heard ++ unheard) sections text number → R (faults.Refused (refusals.Extra number))) where
     refused : (why : WantedAt → Section → Type 0) (fault : Refusal) → IsRefusedAt q sections text why → HasRefused q limits sections text fault → IsOwnFault fault
     refused why fault h r =
         refused_at q limits all sections behind.0 text behind.1 (λ front more section fault e refused. taken front more section text fault e refused) why fault h r
@@ -122,36 +123,36 @@ module _ (received : ReceivedLaws) (q : QueryParts) (limits : LimitNumbers) (inp
 module _ (verified : VerifiedLaws) (q : QueryParts) (d : Dag) (all : List Section) (answer : List ℕ) (dups : q.dups ≡ true) (fits : Fits d q all answer) where
   pub wants_fitting : Wants q all
   wants_fitting = record {
-    next = λ front rest section given tasks e h. verified.fitting q d front rest section answer given tasks dups (subst (λ (l : List Section). Fits d q l answer) e fits) h;
+    next = λ front rest section given tasks e h. verified.fitting q d front rest section answer given tasks (settled verified.repeats_sent q dups front tasks) (subst (λ (l : List Section). Fits d q l answer) e fits) h;
   }
 
   pub fitting_nowhere : (text : List ℕ) (miss : Miss) → IsNowhere q all text miss → ⊥
   fitting_nowhere text miss h =
-      let (none, _) = verified.fitting_ends q d all answer h.given (stop_at miss ∷ h.later) dups fits h.verified in absurd (cc none)
+      let (none, _) = verified.fitting_ends q d all answer h.given (stop_at miss ∷ h.later) (settled verified.repeats_sent q dups all (stop_at miss ∷ h.later)) fits h.verified in absurd (cc none)
 
   pub fitting_done : (text : List ℕ) (at : WantedAt) → IsUpTo q all text at → ⊥
   fitting_done text at h =
-      let (none, _) = verified.fitting_ends q d all answer h.given (open_block at.want at.cid ∷ h.later) dups fits h.verified in absurd (cc none)
+      let (none, _) = verified.fitting_ends q d all answer h.given (open_block at.want at.cid ∷ h.later) (settled verified.repeats_sent q dups all (open_block at.want at.cid ∷ h.later)) fits h.verified in absurd (cc none)
 
 -- ---- sections in progress
 
 module _ (verified : VerifiedLaws) (q : QueryParts) (d : Dag) (all : List Section) (wanted : Spot) (dups : q.dups ≡ true) (progress : IsInProgress d q all wanted) where
   pub wants_progress : Wants q all
   wants_progress = record {
-    next = λ front rest section given tasks e h. verified.in_progress q d front rest section wanted given tasks dups (subst (λ (l : List Section). IsInProgress d q l wanted) e progress) h;
+    next = λ front rest section given tasks e h. verified.in_progress q d front rest section wanted given tasks (settled verified.repeats_sent q dups front tasks) (subst (λ (l : List Section). IsInProgress d q l wanted) e progress) h;
   }
 
   pub progress_nowhere : (text : List ℕ) (miss : Miss) → IsNowhere q all text miss → ⊥
   progress_nowhere text miss h =
-      let (wants, _) = verified.in_progress_ends q d all wanted h.given (stop_at miss ∷ h.later) dups progress h.verified in let e = wants.then_is in absurd (cc e)
+      let (wants, _) = verified.in_progress_ends q d all wanted h.given (stop_at miss ∷ h.later) (settled verified.repeats_sent q dups all (stop_at miss ∷ h.later)) progress h.verified in let e = wants.then_is in absurd (cc e)
 
   pub progress_through : (text : List ℕ) → IsThrough q all text → ⊥
   progress_through text h =
-      let (wants, _) = verified.in_progress_ends q d all wanted h.given [] dups progress h.verified in let e = wants.then_is in absurd (cc e)
+      let (wants, _) = verified.in_progress_ends q d all wanted h.given [] (settled verified.repeats_sent q dups all []) progress h.verified in let e = wants.then_is in absurd (cc e)
 
   pub progress_waits : (text : List ℕ) (at : WantedAt) → IsUpTo q all text at → at.cid ≡ wanted.cid
   progress_waits text at h =
-      let (wants, _) = verified.in_progress_ends q d all wanted h.given (open_block at.want at.cid ∷ h.later) dups progress h.verified in
+      let (wants, _) = verified.in_progress_ends q d all wanted h.given (open_block at.want at.cid ∷ h.later) (settled verified.repeats_sent q dups all (open_block at.want at.cid ∷ h.later)) progress h.verified in
       let e = wants.then_is in
       let cid : at.cid ≡ wants.cid = cc e in
       cid ∙ ap (λ (s : Spot). s.cid) wants.spot_is

@@ -22,7 +22,7 @@ use Rattle.tg_verify.specs.declared.fault.Refusal.{Refusal}
 use Rattle.tg_verify.specs.declared.fault.Refusal.TheVariants as refusals
 use Rattle.tg_bytes.specs.Lists.{All-split_push}
 use Rattle.tg_client.specs.Body.{IsAfterWanted, IsLastWanted, IsStopped, unknown}
-use Rattle.tg_client.specs.Ends.{EndsBy, IsBrokenBy, SaysFor, fault_of_car, fault_of_refusal}
+use Rattle.tg_client.specs.Ends.{EndsBy, IsBrokenBy, IsWithinReceived, SaysFor, fault_of_car, fault_of_refusal}
 use Rattle.tg_client.specs.Received.{HasReceived, sections_given}
 use Rattle.tg_client.specs.ReceivedLaws.{ReceivedLaws}
 use Rattle.tg_client.specs.declared.fault.ClientFault.{ClientFault}
@@ -32,15 +32,15 @@ use Rattle.tg_client.proofs.Going.{held_front, surplus_of}
 -- ---- by the reader
 
 module _ (q : QueryParts) (limits : LimitNumbers) (heard : List ℕ) (last : ℕ) (more : List ℕ) (sections : List Section) (text : List ℕ) (at : WantedAt) (up_to : IsUpTo q sections text at) where
-  broken : (why : List ℕ → Type 0) → why (heard ++ last ∷ []) → IsBrokenBy q heard (last ∷ more) sections text why
-  broken why brings = record { at = at; up_to = up_to; last = last; more = more; unheard_is = refl; brings = brings }
+  broken : length heard < limits.received → (why : List ℕ → Type 0) → why (heard ++ last ∷ []) → IsBrokenBy q limits heard (last ∷ more) sections text why
+  broken few why brings = record { at = at; up_to = up_to; last = last; more = more; unheard_is = refl; brings = brings; within = few }
 
-  pub car_ends : (fault : CarFault) → Brings limits.block (heard ++ last ∷ []) fault → EndsBy q limits unknown heard (last ∷ more) sections text (Err (fault_of_car fault))
-  car_ends (cars.BadHeader place) brings = (tt, broken (λ bytes. Brings limits.block bytes (cars.BadHeader place)) brings)
-  car_ends (cars.BadSection place) brings = (tt, broken (λ bytes. Brings limits.block bytes (cars.BadSection place)) brings)
-  car_ends (cars.BlockLimit place number) brings = (brings.0, broken (λ bytes. (place : ℕ) × PassesLimit limits.block bytes place) (brings.1, brings.3))
-  car_ends (cars.Torn place) brings = absurd brings
-  car_ends cars.OutOfMemory brings = inr (inl (at, up_to))
+  pub car_ends : length heard < limits.received → (fault : CarFault) → Brings limits.block (heard ++ last ∷ []) fault → EndsBy q limits unknown heard (last ∷ more) sections text (Err (fault_of_car fault))
+  car_ends few (cars.BadHeader place) brings = (tt, broken few (λ bytes. Brings limits.block bytes (cars.BadHeader place)) brings)
+  car_ends few (cars.BadSection place) brings = (tt, broken few (λ bytes. Brings limits.block bytes (cars.BadSection place)) brings)
+  car_ends few (cars.BlockLimit place number) brings = (brings.0, broken few (λ bytes. (place : ℕ) × PassesLimit limits.block bytes place) (brings.1, brings.3))
+  car_ends few (cars.Torn place) brings = absurd brings
+  car_ends few cars.OutOfMemory brings = inr (inl (at, up_to))
 
   pub car_says : AnswerLaws → (fault : CarFault) → Brings limits.block (heard ++ last ∷ []) fault → ForEachSound q (λ d. SaysFor q d sections text (Err (fault_of_car fault)))
   car_says laws (cars.BadHeader place) brings d sound root = held_front laws q sections text (inl (at, up_to)) d sound root
@@ -87,7 +87,8 @@ refusal_says q d sections text refusals.OutOfMemory h = h.0
 
 module _ (laws : AnswerLaws) (received : ReceivedLaws) (q : QueryParts) (limits : LimitNumbers) (heard part rest : List ℕ) (given : List Event) (sections : List Section) (section : Section)
     (before : HasReceived limits.block heard sections) (after : HasReceived limits.block (heard ++ part) (sections ++ section ∷ []))
-    (past : (bytes : List ℕ) × IsAmongSections limits.block heard given bytes) (are : sections_given given ≡ sections) (some : 0 < length (part ++ rest)) (written text : List ℕ) (out : Output) (put : Put text out) (at : WantedAt) (up_to : IsUpTo q sections written at) where
+    (past : (bytes : List ℕ) × IsAmongSections limits.block heard given bytes) (are : sections_given given ≡ sections) (some : 0 < length (part ++ rest)) (written text : List ℕ) (out : Output) (put : Put text out) (at : WantedAt) (up_to : IsUpTo q sections written at)
+    (few : length heard < limits.received) (within : IsWithinReceived limits (heard ++ part)) where
   abbrev pub IsNow : ClientFault → Type 0
   IsNow fault = IsStopped q limits (heard ++ (part ++ rest)) written out fault
 
@@ -97,6 +98,7 @@ module _ (laws : AnswerLaws) (received : ReceivedLaws) (q : QueryParts) (limits 
     heard = heard ++ part;
     unheard = rest;
     whole = sym (append_assoc heard part rest);
+    within = within;
     sections = sections ++ section ∷ [];
     received = after;
     text = text;
@@ -129,11 +131,12 @@ module _ (laws : AnswerLaws) (received : ReceivedLaws) (q : QueryParts) (limits 
         heard = heard;
         unheard = part ++ rest;
         whole = refl;
+        within = omega (arith, few);
         sections = sections;
         received = before;
         text = text;
         put = put;
-        ends = surplus_of q limits.block heard (part ++ rest) given sections (written ++ text) number past are more through number_is;
+        ends = surplus_of q limits limits.block heard (part ++ rest) given sections (written ++ text) number past are more (omega (arith, few)) through number_is;
         sound = λ d sound root. (laws.answer_front q d sections (written ++ text) (laws.sound_through q d sections (written ++ text) sound root through), tt);
         wanted = tt;
       }

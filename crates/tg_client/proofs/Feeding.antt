@@ -19,6 +19,7 @@ module _ {S : Type 0} (m : SinkMeaning S) (joins : SinkJoins S m) (a b c : S) (w
         heard = s.heard;
         unheard = s.unheard;
         whole = s.whole;
+        within = s.within;
         sections = s.sections;
         received = s.received;
         text = text ++ s.text;

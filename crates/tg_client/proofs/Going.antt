@@ -1,7 +1,9 @@
 -- A body that goes on: what it holds, and what that says of each sound DAG.
-use Rattle.std.proofs.Common.{◌≡◌, ℕ, ◌<◌, List, [], ◌∷◌, ◌++◌, length, map, Option, Some, None, Err, refl, ap, sym, subst, ◌∙◌, inl, inr, append-nil, append_assoc, arith}
+use Rattle.std.proofs.Common.{◌≡◌, ℕ, Bool, true, false, ◌+◌, ◌<◌, List, [], ◌∷◌, ◌++◌, length, map, Option, Some, None, Err, refl, ap, sym, subst, ◌∙◌, inl, inr, append-nil, append_assoc, arith}
+use Rattle.std.proofs.lemmas.List.{length-append}
 use Rattle.tg_car.specs.CarText.{SectionsText}
 use Rattle.tg_car.specs.History.{GoesOn, IsAmongSections}
+use Rattle.tg_car.specs.State.{Holds, ReaderState}
 use Rattle.tg_car.specs.declared.event.Event.{Event}
 use Rattle.tg_car.specs.declared.event.Event.TheVariants as events
 use Rattle.tg_car.specs.declared.section.Section.{Section as CarSection}
@@ -15,8 +17,8 @@ use Rattle.tg_verify.specs.Sound.{ForEachSound, IsItsFront}
 use Rattle.tg_verify.specs.State.{VerifierState, count_of}
 use Rattle.tg_verify.specs.Taken.{IsGoing, IsThrough}
 use Rattle.tg_client.specs.Body.{IsAfterWanted, IsBody, IsStopped, unknown}
-use Rattle.tg_client.specs.Ends.{EndsBy, HasSurplus, IsHeld, SaysFor}
-use Rattle.tg_client.specs.Received.{HasReceived, in_car, out_of_car, sections_given}
+use Rattle.tg_client.specs.Ends.{EndsBy, HasSurplus, IsHeld, IsHeldExactly, IsWithinReceived, SaysFor}
+use Rattle.tg_client.specs.Received.{HasReceived, IsCarOf, in_car, out_of_car, sections_given}
 use Rattle.tg_client.specs.declared.body.Body.{Body}
 use Rattle.tg_client.specs.declared.fault.ClientFault.{ClientFault}
 use Rattle.tg_client.proofs.Sections.{among_sections}
@@ -39,6 +41,10 @@ is_received body heard sections written h = record {
   sections_are = h.sections_are;
 }
 
+pub is_within : (body : Body) (heard : List ℕ) (sections : List Section) (written : List ℕ) → IsBody body heard sections written → IsWithinReceived body.verifier.limits heard
+is_within body heard sections written h =
+    let most : body.most ≡ body.verifier.limits.received = h.most in omega (arith, most, h.within)
+
 -- ---- of each sound DAG
 
 pub held_front : AnswerLaws → (q : QueryParts) (sections : List Section) (written : List ℕ) → IsHeld q sections written → ForEachSound q (λ d. IsItsFront q d sections written)
@@ -48,12 +54,13 @@ held_front laws q sections written (inr through) d sound root = laws.answer_fron
 -- ---- a refusal with which nothing more is put
 
 pub stopped_here : (q : QueryParts) (limits : LimitNumbers) (bytes heard unheard : List ℕ) (sections : List Section) (written : List ℕ) (out : Output) (fault : ClientFault) → bytes ≡ heard ++ unheard
-    → HasReceived limits.block heard sections → Put [] out → EndsBy q limits unknown heard unheard sections written (Err fault)
+    → IsWithinReceived limits heard → HasReceived limits.block heard sections → Put [] out → EndsBy q limits unknown heard unheard sections written (Err fault)
     → ForEachSound q (λ d. SaysFor q d sections written (Err fault)) → IsAfterWanted q sections fault → IsStopped q limits bytes written out fault
-stopped_here q limits bytes heard unheard sections written out fault whole received put ends sound wanted = record {
+stopped_here q limits bytes heard unheard sections written out fault whole within received put ends sound wanted = record {
   heard = heard;
   unheard = unheard;
   whole = whole;
+  within = within;
   sections = sections;
   received = received;
   text = [];
@@ -85,11 +92,48 @@ past_header_then limit other heard more (e ∷ given) at size section (inl b) ne
 past_header_then limit other heard more [] at size section (inl b) (inr a) =
     let both : events.Section at size section ∷ [] ≡ events.Header a.1.reaches.header ∷ a.1.placed = a.1.given_is in absurd (cc both)
 
-pub surplus_of : (q : QueryParts) (limit : ℕ) (heard piece : List ℕ) (given : List Event) (sections : List Section) (written : List ℕ) (number : ℕ)
-    → (a : (rest : List ℕ) × IsAmongSections limit heard given rest) → sections_given given ≡ sections → 0 < length (a.0 ++ piece)
-    → IsThrough q sections written → number ≡ count_of sections → HasSurplus q (heard ++ piece) sections written number
-surplus_of q limit heard piece given sections written number (rest, a) are some through number_is =
+-- where a reader gave some section, these bytes of the next one came
+among_by : (in_header : Bool) (reader : ReaderState) (heard : List ℕ) (given : List Event) → Holds in_header reader heard given → 0 < length (sections_given given)
+    → IsAmongSections reader.limit heard given reader.came
+among_by true reader heard given holds some =
+    let none : length (sections_given given) ≡ 0 = ap (λ (l : List Event). length (sections_given l)) holds.before.nothing_given in absurd (omega (arith, none, some))
+among_by false reader heard given holds some = holds.among
+
+-- none of the next section came
+whole_car : (limit : ℕ) (heard rest : List ℕ) (given : List Event) (sections : List Section) → IsAmongSections limit heard given rest → rest ≡ [] → sections_given given ≡ sections → IsCarOf heard sections
+whole_car limit heard rest given sections a none are =
     let own = a.reaches in
+    let same : map in_car sections ≡ a.sections = ap (map in_car) (sym are ∙ among_sections limit heard given rest a) ∙ back_in a.sections in (
+      own.roots,
+      record {
+        header = own.header;
+        rest = own.done;
+        whole = own.whole ∙ (ap (λ (l : List ℕ). own.header ++ (own.done ++ l)) none ∙ ap (λ (l : List ℕ). own.header ++ l) (append-nil own.done));
+        header_is = own.header_is;
+        sections_are = subst (λ (l : List CarSection). SectionsText l own.done) (sym same) own.sections_are;
+      },
+    )
+
+-- where all sections came, what was heard is their CAR
+pub car_behind : (body : Body) (heard : List ℕ) (sections : List Section) (written : List ℕ) → IsBody body heard sections written → body.verifier.left.wanted ≡ None → IsCarOf heard sections
+car_behind body heard sections written h none =
+    let given : 0 < length (sections_given h.given) = subst (λ (l : List Section). 0 < length l) (sym h.sections_are) (h.some none) in
+    whole_car body.reader.limit heard body.reader.came h.given sections (among_by body.reader.in_header body.reader heard h.given (h.reads.holds refl) given) (h.behind none) h.sections_are
+
+module _ (laws : AnswerLaws) (body : Body) (heard : List ℕ) (sections : List Section) (written : List ℕ) (h : IsBody body heard sections written) where
+  exactly_by : (wanted : Option WantedAt) → body.verifier.left.wanted ≡ wanted → IsHeldExactly body.verifier.left.query heard sections written
+  exactly_by (Some at) e = inl (at, laws.going_up_to body.verifier sections written h.going at e)
+  exactly_by None e = inr (laws.going_through body.verifier sections written h.going e, car_behind body heard sections written h e)
+
+  pub is_held_exactly : IsHeldExactly body.verifier.left.query heard sections written
+  is_held_exactly = exactly_by body.verifier.left.wanted refl
+
+pub surplus_of : (q : QueryParts) (limits : LimitNumbers) (limit : ℕ) (heard piece : List ℕ) (given : List Event) (sections : List Section) (written : List ℕ) (number : ℕ)
+    → (a : (rest : List ℕ) × IsAmongSections limit heard given rest) → sections_given given ≡ sections → 0 < length (a.0 ++ piece) → length heard < limits.received + length a.0
+    → IsThrough q sections written → number ≡ count_of sections → HasSurplus q limits (heard ++ piece) sections written number
+surplus_of q limits limit heard piece given sections written number (rest, a) are some few through number_is =
+    let own = a.reaches in
+    let size : length heard ≡ length (own.header ++ (own.done ++ rest)) = ap length own.whole in
     let same : map in_car sections ≡ a.sections = ap (map in_car) (sym are ∙ among_sections limit heard given rest a) ∙ back_in a.sections in
     record {
       through = through;
@@ -110,4 +154,5 @@ surplus_of q limit heard piece given sections written number (rest, a) are some 
           sections_are = subst (λ (l : List CarSection). SectionsText l own.done) (sym same) own.sections_are;
         },
       );
+      within = omega (arith, few, size, length-append own.header (own.done ++ rest), length-append own.done rest, length-append own.header own.done);
     }

@@ -21,13 +21,13 @@ use Rattle.tg_verify.specs.Laws.{AnswerLaws}
 use Rattle.tg_verify.specs.Taken.{IsUpTo}
 use Rattle.tg_verify.specs.declared.fault.Refusal.TheVariants as refusals
 use Rattle.tg_client.specs.Body.{EndsAt, HasEnded, HasOutCause, IsAfterWanted, IsEndFault, IsStopped, IsVerified, unknown}
-use Rattle.tg_client.specs.Ends.{EndsBy, HasStreamCause, HasSurplus, IsHeld, Verifies}
+use Rattle.tg_client.specs.Ends.{EndsBy, HasStreamCause, IsHeld, IsWithinReceived, Verifies}
 use Rattle.tg_client.specs.Received.{HasReceived}
 use Rattle.tg_client.specs.declared.body.Body.{Body}
 use Rattle.tg_client.specs.declared.fault.ClientFault.{ClientFault}
 use Rattle.tg_client.specs.declared.fault.ClientFault.TheVariants as faults
 use Rattle.tg_client.proofs.Coming.{HasCome}
-use Rattle.tg_client.proofs.Going.{held_front, is_held, is_received}
+use Rattle.tg_client.proofs.Going.{held_front, is_held, is_received, is_within}
 
 -- with nothing more to say
 as_verified : (q : QueryParts) (limits : LimitNumbers) (input : Input) (out : Output) (fault : ClientFault) → ((sections : List Section) → IsAfterWanted q sections fault)
@@ -66,6 +66,7 @@ module _ (varints : SpellingLaws) (verified : VerifiedLaws) (laws : AnswerLaws) 
     heard = [];
     unheard = [];
     took = took;
+    within = omega arith;
     sections = [];
     received = record { given = []; goes_on = inl (record { nothing_given = refl; inside = in_header varints }); sections_are = refl };
     text = [];
@@ -85,6 +86,7 @@ fault_heard laws limits q body input out query same come =
       heard = come.heard;
       unheard = [];
       took = subst (λ (l : List ℕ). Took l input) (sym (append-nil come.heard)) come.took;
+      within = subst (λ (l : LimitNumbers). IsWithinReceived l come.heard) same (is_within body come.heard w.sections w.text w.is_body);
       sections = w.sections;
       received = subst (λ (l : LimitNumbers). HasReceived l.block come.heard w.sections) same (is_received body come.heard w.sections w.text w.is_body);
       text = w.text;
@@ -97,8 +99,7 @@ ends_there : (q : QueryParts) (limits : LimitNumbers) (input : Input) (heard : L
     → EndsAt q limits heard sections text result → EndsBy q limits input heard [] sections text result
 ends_there q limits input heard sections text (Ok done) ended h = (record { all = refl; ended = ended }, h)
 ends_there q limits input heard sections text (Err (faults.Refused (refusals.Truncated want number))) ended h = (record { all = refl; ended = ended }, h)
-ends_there q limits input heard sections text (Err (faults.Refused (refusals.Extra number))) ended h =
-    subst (λ (l : List ℕ). HasSurplus q l sections text number) (sym (append-nil heard)) h
+ends_there q limits input heard sections text (Err (faults.Refused (refusals.Extra number))) ended h = absurd h
 ends_there q limits input heard sections text (Err (faults.Refused (refusals.Limit kind number))) ended h = absurd h
 ends_there q limits input heard sections text (Err (faults.Refused (refusals.BadDigest cid))) ended h = absurd h
 ends_there q limits input heard sections text (Err (faults.Refused (refusals.WrongBlock want got))) ended h = absurd h
@@ -116,7 +117,7 @@ end_verified : (q : QueryParts) (limits : LimitNumbers) (heard : List ℕ) (sect
     → EndsAt q limits heard sections text result → Verifies q limits input out result → IsVerified q limits input out result
 end_verified q limits heard sections text input out (Ok done) h v = record { verifies = v; wanted = λ fault e. absurd (cc e) }
 end_verified q limits heard sections text input out (Err (faults.Refused (refusals.Truncated want number))) h v = as_verified q limits input out _ (λ s. tt) v
-end_verified q limits heard sections text input out (Err (faults.Refused (refusals.Extra number))) h v = as_verified q limits input out _ (λ s. tt) v
+end_verified q limits heard sections text input out (Err (faults.Refused (refusals.Extra number))) h v = absurd h
 end_verified q limits heard sections text input out (Err (faults.Refused (refusals.Limit kind number))) h v = absurd h
 end_verified q limits heard sections text input out (Err (faults.Refused (refusals.BadDigest cid))) h v = absurd h
 end_verified q limits heard sections text input out (Err (faults.Refused (refusals.WrongBlock want got))) h v = absurd h
@@ -131,11 +132,12 @@ end_verified q limits heard sections text input out (Err faults.InputFault) h v 
 end_verified q limits heard sections text input out (Err faults.OutOfMemory) h v = absurd h
 
 pub end_heard : (limits : LimitNumbers) (q : QueryParts) (input : Input) (out : Output) (heard : List ℕ) (sections : List Section) (text : List ℕ) (result : Result ⊤ ClientFault) → Took heard input → Ended input
-    → Put text out → HasEnded q limits heard sections text result → IsVerified q limits input out result
-end_heard limits q input out heard sections text result took ended put h = end_verified q limits heard sections text input out result h.ends (record {
+    → IsWithinReceived limits heard → Put text out → HasEnded q limits heard sections text result → IsVerified q limits input out result
+end_heard limits q input out heard sections text result took ended within put h = end_verified q limits heard sections text input out result h.ends (record {
   heard = heard;
   unheard = [];
   took = subst (λ (l : List ℕ). Took l input) (sym (append-nil heard)) took;
+  within = within;
   sections = sections;
   received = h.received;
   text = text;
@@ -180,6 +182,7 @@ stop_heard limits q input out bytes fault took s = record { verifies = stop_veri
       heard = s.heard;
       unheard = s.unheard;
       took = subst (λ (l : List ℕ). Took l input) s.whole took;
+      within = s.within;
       sections = s.sections;
       received = s.received;
       text = s.text;

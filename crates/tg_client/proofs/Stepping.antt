@@ -30,7 +30,7 @@ use Rattle.tg_client.specs.ReceivedLaws.{ReceivedLaws}
 use Rattle.tg_client.specs.declared.body.Body.{Body}
 use Rattle.tg_client.specs.declared.fault.ClientFault.TheVariants as faults
 use Rattle.tg_client.proofs.Breaking.{car_ends, car_says, car_wants, refused_now}
-use Rattle.tg_client.proofs.Going.{held_front, is_held, is_received, past_header, past_header_then, stopped_here, surplus_of}
+use Rattle.tg_client.proofs.Going.{held_front, is_held, is_held_exactly, is_received, is_within, past_header, past_header_then, stopped_here, surplus_of}
 
 -- ---- whether a block is wanted
 
@@ -75,20 +75,22 @@ module _ (laws : AnswerLaws) (body : Body) (heard : List ℕ) (sections : List S
   past_received piece out full some put =
       let all : length heard ≡ body.most = omega (arith, full, h.within, h.count) in
       stopped_here body.verifier.left.query body.verifier.limits (heard ++ piece) heard piece sections written out (faults.Refused (refusals.Limit kinds.Received body.most)) refl
-      (is_received body heard sections written h) put
-      (record { number_is = h.most; heard_is = all; some = some; held = is_held laws body.verifier sections written h.going })
+      (is_within body heard sections written h) (is_received body heard sections written h) put
+      (record { number_is = h.most; heard_is = all; some = some; held = is_held_exactly laws body heard sections written h })
       (λ d sound root. (held_front laws body.verifier.left.query sections written (is_held laws body.verifier sections written h.going) d sound root, tt)) tt
 
-  pub behind_last : (piece : List ℕ) (out : Output) → body.verifier.left.wanted ≡ None → 0 < length piece → Put [] out
+  pub behind_last : (piece : List ℕ) (out : Output) → body.heard < body.most → body.verifier.left.wanted ≡ None → 0 < length piece → Put [] out
       → IsStopped body.verifier.left.query body.verifier.limits (heard ++ piece) written out (faults.Refused (refusals.Extra body.verifier.taken))
-  behind_last piece out none some put =
+  behind_last piece out few none some put =
       let through = laws.going_through body.verifier sections written h.going none in
       let given : 0 < length (sections_given h.given) = subst (λ (l : List Section). 0 < length l) (sym h.sections_are) (h.some none) in
       let past = past_header body.reader.limit heard h.given h.reads.exact.goes_on given in
+      let most : body.most ≡ body.verifier.limits.received = h.most in
       let more : 0 < length (past.0 ++ piece) = omega (arith, some, length-append past.0 piece) in
       stopped_here body.verifier.left.query body.verifier.limits (heard ++ piece) heard piece sections written out (faults.Refused (refusals.Extra body.verifier.taken)) refl
-      (is_received body heard sections written h) put
-      (surplus_of body.verifier.left.query body.reader.limit heard piece h.given sections written body.verifier.taken past h.sections_are more through h.going.count)
+      (is_within body heard sections written h) (is_received body heard sections written h) put
+      (surplus_of body.verifier.left.query body.verifier.limits body.reader.limit heard piece h.given sections written body.verifier.taken past h.sections_are more
+      (omega (arith, few, most, h.count)) through h.going.count)
       (λ d sound root. (laws.answer_front body.verifier.left.query d sections written (laws.sound_through body.verifier.left.query d sections written sound root through), tt)) tt
 
   -- ---- the reader refuses
@@ -99,18 +101,22 @@ module _ (laws : AnswerLaws) (body : Body) (heard : List ℕ) (sections : List S
       (sym (take-append-drop room piece) ∙ (ap (λ (l : List ℕ). l ++ drop room piece) e ∙ append_assoc front (last ∷ more) (drop room piece)))
       ∙ sym (append_assoc heard front (last ∷ (more ++ drop room piece)))
 
-  pub reader_stops : (reader : ReaderState) (piece : List ℕ) (room : ℕ) (out : Output) (fault : CarFault) (at : WantedAt) → body.verifier.left.wanted ≡ Some at
+  pub reader_stops : (reader : ReaderState) (piece : List ℕ) (room : ℕ) (out : Output) (fault : CarFault) (at : WantedAt) → body.heard + room ≤ body.most → body.verifier.left.wanted ≡ Some at
       → StandsFor reader (with_feed (going_on heard h.given) (take room piece) (Err fault)) → reader.limit ≡ body.reader.limit → Put [] out
       → IsStopped body.verifier.left.query body.verifier.limits (heard ++ piece) written out (fault_of_car fault)
-  reader_stops reader piece room out fault at wanted stands limit put =
+  reader_stops reader piece room out fault at fits wanted stands limit put =
       let same : reader.limit ≡ body.verifier.limits.block = limit ∙ h.limit in
       let stop : StopsAt body.verifier.limits.block heard h.given (take room piece) fault = subst (λ (n : ℕ). StopsAt n heard h.given (take room piece) fault) same stands.exact.stopped in
       let up_to = laws.going_up_to body.verifier sections written h.going at wanted in
       let rest : List ℕ = stop.more ++ drop room piece in
+      let most : body.most ≡ body.verifier.limits.received = h.most in
+      let size : length (take room piece) ≡ length (stop.front ++ stop.last ∷ stop.more) = ap length stop.whole in
+      let few : length (heard ++ stop.front) < body.verifier.limits.received =
+      omega (arith, fits, most, h.count, size, length-append heard stop.front, length-append stop.front (stop.last ∷ stop.more), length-take room piece) in
       stopped_here body.verifier.left.query body.verifier.limits (heard ++ piece) (heard ++ stop.front) (stop.last ∷ rest) sections written out (fault_of_car fault)
-      (split_at piece stop.front stop.more stop.last room stop.whole)
+      (split_at piece stop.front stop.more stop.last room stop.whole) (omega (arith, few))
       (record { given = h.given; goes_on = stop.went_on; sections_are = h.sections_are }) put
-      (car_ends body.verifier.left.query body.verifier.limits (heard ++ stop.front) stop.last rest sections written at up_to fault stop.brings)
+      (car_ends body.verifier.left.query body.verifier.limits (heard ++ stop.front) stop.last rest sections written at up_to few fault stop.brings)
       (car_says body.verifier.left.query body.verifier.limits (heard ++ stop.front) stop.last rest sections written at up_to laws fault stop.brings)
       (car_wants body.verifier.left.query sections fault)
 
@@ -133,9 +139,9 @@ module _ (laws : AnswerLaws) (body : Body) (heard : List ℕ) (sections : List S
     sections_then = given_more h.given (events.Section at size section) ∙ ap (λ (l : List Section). l ++ out_of_car section ∷ []) h.sections_are
 
     pub section_taken : (progress : Progress) (count : ℕ) → HasWritten verifier (sections ++ out_of_car section ∷ []) written out (Ok progress) → verifier.refused ≡ None
-        → taken ≤ length piece → count ≡ body.heard + taken → count ≤ body.most
+        → taken ≤ length piece → count ≡ body.heard + taken → count ≤ body.most → reader.came ≡ []
         → WentOn (record { reader = reader; verifier = verifier; most = body.most; heard = count }) (heard ++ take taken piece) written out
-    section_taken progress count w fresh within count_is most = record {
+    section_taken progress count w fresh within count_is most at_end = record {
       sections = sections ++ out_of_car section ∷ [];
       text = w.text;
       put = w.put;
@@ -148,6 +154,7 @@ module _ (laws : AnswerLaws) (body : Body) (heard : List ℕ) (sections : List S
         fresh = fresh;
         going = subst (λ (r : Option Refusal). StandsBy r verifier (sections ++ out_of_car section ∷ []) (written ++ w.text)) fresh w.stands;
         some = λ none. omega (arith, length-append sections (out_of_car section ∷ []));
+        behind = λ none. at_end;
         count = omega (arith, count_is, h.count, length-append heard (take taken piece), length-take-le taken piece within);
         within = omega (arith, most, count_is, h.count, length-append heard (take taken piece), length-take-le taken piece within);
       };
@@ -155,8 +162,9 @@ module _ (laws : AnswerLaws) (body : Body) (heard : List ℕ) (sections : List S
 
     pub section_refused : (wanted_at : WantedAt) → body.verifier.left.wanted ≡ Some wanted_at → (fault : Refusal) → HasWritten verifier (sections ++ out_of_car section ∷ []) written out (Err fault) → verifier.refused ≡ Some fault
         → HasPutCause (Err fault) out → 0 < length piece
+        → taken ≤ length piece → body.heard < body.most → body.heard + taken ≤ body.most
         → IsStopped body.verifier.left.query body.verifier.limits (heard ++ piece) written out (fault_of_refusal fault)
-    section_refused wanted_at wanted fault w is cause some =
+    section_refused wanted_at wanted fault w is cause some bound few fits =
         let all : List Section = sections ++ out_of_car section ∷ [] in
         let refused : HasRefused verifier.left.query verifier.limits all (written ++ w.text) fault =
         subst (λ (r : Option Refusal). StandsBy r verifier all (written ++ w.text)) is w.stands in
@@ -173,19 +181,21 @@ module _ (laws : AnswerLaws) (body : Body) (heard : List ℕ) (sections : List S
           sections_are = sections_then;
         } in
         let whole : take taken piece ++ drop taken piece ≡ piece = take-append-drop taken piece in
+        let most : body.most ≡ body.verifier.limits.received = h.most in
         let some_left : 0 < length (take taken piece ++ drop taken piece) = subst (λ (l : List ℕ). 0 < length l) (sym whole) some in
         subst (λ (l : List ℕ). IsStopped body.verifier.left.query body.verifier.limits (heard ++ l) written out (fault_of_refusal fault)) whole
         (refused_now laws received body.verifier.left.query body.verifier.limits heard (take taken piece) (drop taken piece) h.given sections (out_of_car section)
         (is_received body heard sections written h) after
         (past_header_then body.verifier.limits.block body.verifier.limits.block heard (heard ++ take taken piece) h.given at size section on after.goes_on)
-        h.sections_are some_left written w.text out w.put wanted_at (laws.going_up_to body.verifier sections written h.going wanted_at wanted) fault refused_here cause sound)
+        h.sections_are some_left written w.text out w.put wanted_at (laws.going_up_to body.verifier sections written h.going wanted_at wanted)
+        (omega (arith, few, most, h.count)) (omega (arith, fits, most, h.count, length-append heard (take taken piece), length-take-le taken piece bound)) fault refused_here cause sound)
 
   -- with no section
   pub step_taken : (reader : ReaderState) (piece : List ℕ) (taken count : ℕ) (event : Event) (out : Output) → sections_given (given_by event) ≡ []
       → StandsFor reader (going_on (heard ++ take taken piece) (h.given ++ given_by event)) → reader.limit ≡ body.reader.limit → Put [] out
-      → taken ≤ length piece → count ≡ body.heard + taken → count ≤ body.most
+      → taken ≤ length piece → count ≡ body.heard + taken → count ≤ body.most → (wanted_at : WantedAt) → body.verifier.left.wanted ≡ Some wanted_at
       → WentOn (record { reader = reader; verifier = body.verifier; most = body.most; heard = count }) (heard ++ take taken piece) written out
-  step_taken reader piece taken count event out none reads limit put within count_is most = record {
+  step_taken reader piece taken count event out none reads limit put within count_is most wanted_at wanted = record {
     sections = sections;
     text = [];
     put = put;
@@ -198,6 +208,7 @@ module _ (laws : AnswerLaws) (body : Body) (heard : List ℕ) (sections : List S
       fresh = h.fresh;
       going = subst (λ (text : List ℕ). IsGoing body.verifier sections text) (sym (append-nil written)) h.going;
       some = h.some;
+      behind = λ none. absurd (cc (sym none ∙ wanted));
       count = omega (arith, count_is, h.count, length-append heard (take taken piece), length-take-le taken piece within);
       within = omega (arith, most, count_is, h.count, length-append heard (take taken piece), length-take-le taken piece within);
     };

@@ -1,12 +1,12 @@
 -- An input that goes on behind a CAR of sections that fit.
-use Rattle.std.proofs.Common.{◌≡◌, ◌≢◌, ℕ, ◌<◌, ◌≤◌, Bool, Contains, List, [], ◌∷◌, ◌++◌, length, Some, Ok, Err, refl, ap, sym, subst, ◌∙◌, inl, inr, append-nil, append_assoc, arith, true}
+use Rattle.std.proofs.Common.{◌≡◌, ℕ, ◌<◌, ◌≤◌, List, [], ◌∷◌, ◌++◌, length, Some, Ok, Err, refl, ap, sym, subst, ◌∙◌, inl, inr, append-nil, append_assoc, arith, true}
 use Rattle.std.specs.Prelude.{Result, ⊤, ◌⊎◌}
 use Rattle.std.proofs.lemmas.List.{append_cancel_left, length-append}
 use Rattle.tg_car.specs.Laws.{CarLaws}
 use Rattle.tg_traversal.specs.Left.{WantedAt}
-use Rattle.tg_model_laws.specs.Fronts.{FitsByFronts, IsNew, ProgressByFronts}
+use Rattle.tg_model_laws.specs.Fronts.{FitsByFronts, ProgressByFronts}
 use Rattle.tg_model.specs.Dag.{Dag, Section}
-use Rattle.tg_model.specs.Fits.{Fits, IfOnce, IsInProgress}
+use Rattle.tg_model.specs.Fits.{Fits, IsInProgress}
 use Rattle.tg_model.specs.LimitNumbers.{LimitNumbers}
 use Rattle.tg_model.specs.PathWalk.{Spot}
 use Rattle.tg_model.specs.Queries.{QueryParts}
@@ -60,20 +60,17 @@ before_last (s ∷ all) rest (t ∷ taken) next section e =
 
 module _ (laws : AnswerLaws) (verified : VerifiedLaws) (fronts : FitsByFronts) (progresses : ProgressByFronts) (q : QueryParts) (d : Dag) (all : List Section) (answer : List ℕ) (dups : q.dups ≡ true)
     (either : (sections : List Section) (a b : Dag) (x : List ℕ) (w : Spot) → Fits a q sections x → IsInProgress b q sections w → ⊥) (fits : Fits d q all answer) where
-  new : (next : Section) → IsNew q all next
-  new next = subst (λ (b : Bool). IfOnce b ((section : Section) → Contains all section → section.cid ≢ next.cid)) (sym dups) tt
-
   pub up_to_behind : (rest : List Section) (text : List ℕ) (at : WantedAt) → IsUpTo q (all ++ rest) text at → ⊥
   up_to_behind [] text at h = fitting_done verified q d all answer dups fits text at (subst (λ (l : List Section). IsUpTo q l text at) (append-nil all) h)
   up_to_behind (next ∷ rest) text at h =
       let p = laws.up_to q (all ++ next ∷ rest) text at h in
-      let f = progresses q p.s all rest next _ p.progress (new next) in
+      let f = progresses q p.s all rest next _ p.progress in
       either all d f.partial answer f.spot fits f.progress
 
   pub through_behind : (rest : List Section) (next : Section) (text : List ℕ) → IsThrough q (all ++ next ∷ rest) text → ⊥
   through_behind rest next text h =
       let p = laws.through q (all ++ next ∷ rest) text h in
-      let f = fronts q p.s all rest next text p.fits (new next) in
+      let f = fronts q p.s all rest next text p.fits in
       either all d f.partial answer f.spot fits f.progress
 
   pub last_behind : (rest : List Section) (next : Section) → IsLastWanted q (all ++ next ∷ rest) → ⊥

@@ -4,7 +4,7 @@ use Rattle.std.specs.Prelude.{Err, List, None, Ok, Result, [], length, ⊤, ℕ,
 use Rattle.tg_car.specs.History.{History}
 use Rattle.tg_car.specs.State.{StandsFor}
 use Rattle.tg_car.specs.declared.event.Event.{Event}
-use Rattle.tg_client.specs.Ends.{EndsBy, HasSurplus, IsAccepted, SaysFor, Verifies}
+use Rattle.tg_client.specs.Ends.{EndsBy, IsAccepted, IsWithinReceived, SaysFor, Verifies}
 use Rattle.tg_client.specs.Received.{HasReceived, sections_given}
 use Rattle.tg_client.specs.declared.body.Body.{Body}
 use Rattle.tg_client.specs.declared.fault.ClientFault.{ClientFault}
@@ -35,6 +35,8 @@ pub record IsBody (body : Body) (heard : List ℕ) (sections : List Section) (wr
   pub going : IsGoing body.verifier sections written
   -- the first block is always wanted
   pub some : body.verifier.left.wanted ≡ None → 0 < length sections
+  -- and no byte is heard behind the last wanted section
+  pub behind : body.verifier.left.wanted ≡ None → body.reader.came ≡ []
   pub count : body.heard ≡ length heard
   pub within : length heard ≤ body.most
 
@@ -69,6 +71,7 @@ pub record IsStopped (q : QueryParts) (limits : LimitNumbers) (bytes written : L
   pub heard : List ℕ
   pub unheard : List ℕ
   pub whole : bytes ≡ heard ++ unheard
+  pub within : IsWithinReceived limits heard
   pub sections : List Section
   pub received : HasReceived limits.block heard sections
   pub text : List ℕ
@@ -87,8 +90,6 @@ abbrev pub EndsAt : QueryParts → LimitNumbers → List ℕ → List Section �
 EndsAt q limits heard sections text (Ok done) = IsAccepted q limits heard sections text
 EndsAt q limits heard sections text (Err (faults.Refused (refusals.Truncated want number))) =
     (at : WantedAt) × (want ≡ at.cid) × IsCutShort q sections text at number
-EndsAt q limits heard sections text (Err (faults.Refused (refusals.Extra number))) =
-    HasSurplus q heard sections text number
 EndsAt q limits heard sections text (Err other) = ⊥
 
 pub record HasEnded (q : QueryParts) (limits : LimitNumbers) (heard : List ℕ) (sections : List Section) (text : List ℕ) (result : Result ⊤ ClientFault) : Type 0 where
@@ -105,5 +106,4 @@ HasOutCause out other = OutputQuiet out
 -- a refusal where no more bytes come
 abbrev pub IsEndFault : ClientFault → Type 0
 IsEndFault (faults.Refused (refusals.Truncated want number)) = ⊤
-IsEndFault (faults.Refused (refusals.Extra number)) = ⊤
 IsEndFault other = ⊥

@@ -26,8 +26,14 @@ use Rattle.tg_verify.specs.declared.fault.Refusal.TheVariants as refusals
 abbrev pub IsHeld : QueryParts → List Section → List ℕ → Type 0
 IsHeld q sections text = ((at : WantedAt) × IsUpTo q sections text at) ⊎ IsThrough q sections text
 
--- all sections came, and bytes behind them
-pub record HasSurplus (q : QueryParts) (bytes : List ℕ) (sections : List Section) (text : List ℕ) (number : ℕ) : Type 0 where
+-- the sections were taken, and nothing was refused: a block is wanted, or all came, and what was heard is the CAR of
+-- these sections, with no byte behind the last of them
+abbrev pub IsHeldExactly : QueryParts → List ℕ → List Section → List ℕ → Type 0
+IsHeldExactly q heard sections text =
+    ((at : WantedAt) × IsUpTo q sections text at) ⊎ (IsThrough q sections text × IsCarOf heard sections)
+
+-- all sections came, and bytes behind them, of which the first may be received
+pub record HasSurplus (q : QueryParts) (limits : LimitNumbers) (bytes : List ℕ) (sections : List Section) (text : List ℕ) (number : ℕ) : Type 0 where
   pub through : IsThrough q sections text
   pub number_is : number ≡ count_of sections
   pub car : List ℕ
@@ -35,22 +41,24 @@ pub record HasSurplus (q : QueryParts) (bytes : List ℕ) (sections : List Secti
   pub whole : bytes ≡ car ++ more
   pub some : 0 < length more
   pub is_car : IsCarOf car sections
+  pub within : length car < limits.received
 
--- so many bytes were heard as may be, and a further one came
+-- so many bytes were heard as may be, none of them behind the last wanted section, and a further one came
 pub record IsPastReceived (q : QueryParts) (limits : LimitNumbers) (heard unheard : List ℕ) (sections : List Section) (text : List ℕ) (number : ℕ) : Type 0 where
   pub number_is : number ≡ limits.received
   pub heard_is : length heard ≡ number
   pub some : 0 < length unheard
-  pub held : IsHeld q sections text
+  pub held : IsHeldExactly q heard sections text
 
--- a block is wanted, and with the next byte this holds of what was heard
-pub record IsBrokenBy (q : QueryParts) (heard unheard : List ℕ) (sections : List Section) (text : List ℕ) (why : List ℕ → Type 0) : Type 0 where
+-- a block is wanted, and with the next byte, which may be received, this holds of what was heard
+pub record IsBrokenBy (q : QueryParts) (limits : LimitNumbers) (heard unheard : List ℕ) (sections : List Section) (text : List ℕ) (why : List ℕ → Type 0) : Type 0 where
   pub at : WantedAt
   pub up_to : IsUpTo q sections text at
   pub last : ℕ
   pub more : List ℕ
   pub unheard_is : unheard ≡ last ∷ more
   pub brings : why (heard ++ last ∷ [])
+  pub within : length heard < limits.received
 
 -- the input has ended, and all of it was heard
 pub record IsAllHeard (unheard : List ℕ) (input : Input) : Type 0 where
@@ -70,21 +78,25 @@ abbrev pub EndsBy : QueryParts → LimitNumbers → Input → List ℕ → List 
 EndsBy q limits input heard unheard sections text (Ok done) =
     IsAllHeard unheard input × IsAccepted q limits heard sections text
 EndsBy q limits input heard unheard sections text (Err (faults.Refused (refusals.Extra number))) =
-    (HasSurplus q (heard ++ unheard) sections text number)
+    (HasSurplus q limits (heard ++ unheard) sections text number)
 EndsBy q limits input heard unheard sections text (Err (faults.Refused (refusals.Limit kinds.Received number))) =
     (IsPastReceived q limits heard unheard sections text number)
 EndsBy q limits input heard unheard sections text (Err (faults.Refused (refusals.Limit kinds.Block number))) =
-    ((number ≡ limits.block) × IsBrokenBy q heard unheard sections text (λ bytes. (place : ℕ) × PassesLimit limits.block bytes place))
+    ((number ≡ limits.block) × IsBrokenBy q limits heard unheard sections text (λ bytes. (place : ℕ) × PassesLimit limits.block bytes place))
 EndsBy q limits input heard unheard sections text (Err (faults.Refused (refusals.Truncated want number))) =
     IsAllHeard unheard input × ((at : WantedAt) × (want ≡ at.cid) × IsCutShort q sections text at number)
 EndsBy q limits input heard unheard sections text (Err (faults.Refused refusals.OutOfMemory)) = ⊥
 EndsBy q limits input heard unheard sections text (Err (faults.Refused fault)) =
     (HasRefused q limits sections text fault)
 EndsBy q limits input heard unheard sections text (Err (faults.BadCar fault)) =
-    (IsNoCar fault × IsBrokenBy q heard unheard sections text (λ bytes. Brings limits.block bytes fault))
+    (IsNoCar fault × IsBrokenBy q limits heard unheard sections text (λ bytes. Brings limits.block bytes fault))
 EndsBy q limits input heard unheard sections text (Err faults.InputFault) = ((unheard ≡ []) × IsHeld q sections text)
 EndsBy q limits input heard unheard sections text (Err faults.OutOfMemory) =
     (HasRefused q limits sections text refusals.OutOfMemory ⊎ IsHeld q sections text)
+
+-- no more was heard than may be received
+abbrev pub IsWithinReceived : LimitNumbers → List ℕ → Type 0
+IsWithinReceived limits heard = length heard ≤ limits.received
 
 -- what an answer says of a sound DAG: its answer, or a front of it; and what a refusal says of it
 abbrev pub SaysFor : QueryParts → Dag → List Section → List ℕ → Result ⊤ ClientFault → Type 0
@@ -98,6 +110,7 @@ pub record Verifies (q : QueryParts) (limits : LimitNumbers) (input : Input) (ou
   pub heard : List ℕ
   pub unheard : List ℕ
   pub took : Took (heard ++ unheard) input
+  pub within : IsWithinReceived limits heard
   pub sections : List Section
   pub received : HasReceived limits.block heard sections
   pub text : List ℕ

@@ -8,9 +8,11 @@ use Rattle.tg_model.specs.Queries.{QueryParts}
 use Rattle.tg_streams.specs.Joining.{took_took}
 use Rattle.tg_streams.specs.Streams.{Took, into, through}
 use Rattle.tg_client.specs.Body.{HasEnded, IsEndFault, IsStopped}
+use Rattle.tg_client.specs.Ends.{IsWithinReceived}
 use Rattle.tg_client.specs.declared.fault.ClientFault.{ClientFault}
 use Rattle.tg_client.proofs.Coming.{come_first, come_more, come_none, ended_there}
 use Rattle.tg_client.proofs.Feeding.{stopped_on}
+use Rattle.tg_client.proofs.Going.{is_within}
 use Rattle.tg_client.proofs.Hearing.{end_cause, end_heard, fault_heard, out_cause_from, stop_cause, stop_heard}
 use Rattle.tg_client.proofs.cars.hear_pieces.Goals as goal
 
@@ -53,7 +55,8 @@ returns-then-filled-eq0-clause-verifies g c dups =
     let all : come.heard ++ take c.in-Ok.filled c.take_piece.new.buf ≡ come.heard = ap (λ (l : List ℕ). come.heard ++ l) none ∙ append-nil come.heard in
     end_heard c.args.body.now.verifier.limits c.args.body.now.verifier.left.query input (into g.S.Sink.sink c.args.out.now c.loop-filled.out) come.heard w.sections w.text c.end.result
     (subst (λ (l : List ℕ). Took l input) all took)
-    (ended_there g.I.Source.source g.met.I.Source.joins g.S.Sink.sink g.met.S.Sink.joins c.args.input.now c.loop-filled.input c.take_piece.new.source (c.in-Ok.ensures.end c.if-filled-eq0.true room)) w.put
+    (ended_there g.I.Source.source g.met.I.Source.joins g.S.Sink.sink g.met.S.Sink.joins c.args.input.now c.loop-filled.input c.take_piece.new.source (c.in-Ok.ensures.end c.if-filled-eq0.true room))
+    (subst (λ (n : LimitNumbers). IsWithinReceived n come.heard) inv.limits (is_within old come.heard w.sections w.text w.is_body)) w.put
     (subst (λ (n : LimitNumbers). HasEnded c.args.body.now.verifier.left.query n come.heard w.sections w.text c.end.result) inv.limits
     (subst (λ (q : QueryParts). HasEnded q old.verifier.limits come.heard w.sections w.text c.end.result) inv.query (c.end.ensures.stands come.heard w.sections w.text w.is_body)))
 

@@ -1,12 +1,10 @@
-use Rattle.std.proofs.Common.{◌≡◌, ℕ, None, Err, ap, sym, subst}
+use Rattle.std.proofs.Common.{◌≡◌, None, Err, sym, subst}
 use Rattle.std.proofs.lemmas.Result.{err_from_is_err_and}
-use Rattle.tg_verify.specs.State.{VerifierState}
 use Rattle.tg_verify.specs.declared.fault.Refusal.{Refusal}
 use Rattle.tg_verify.specs.declared.fault.Refusal.TheVariants as refusals
-use Rattle.tg_client.specs.Body.{HasEnded, going_on}
+use Rattle.tg_client.specs.Body.{HasEnded}
 use Rattle.tg_client.specs.Ends.{fault_of_refusal}
-use Rattle.tg_client.specs.declared.fault.ClientFault.TheVariants as faults
-use Rattle.tg_client.proofs.Closing.{accepted, cut_short, torn}
+use Rattle.tg_client.proofs.Closing.{accepted, cut_short}
 use Rattle.tg_client.proofs.Stepping.{some_of}
 use Rattle.tg_client.proofs.body.Body.end.Goals as goal
 
@@ -30,15 +28,5 @@ returns-in_err-finish-clause-stands c heard sections written h =
     (subst (λ (f : Refusal). HasEnded c.args.self.now.verifier.left.query c.args.self.now.verifier.limits heard sections written (Err (fault_of_refusal f))) (sym is)
     (cut_short c.verified_answers.ensures c.args.self.now heard sections written h at wanted))
 
-pub returns-in-Ok-clause-stands : goal.returns-in-Ok-clause-stands
-returns-in-Ok-clause-stands c heard sections written h =
-    let given = c.in-Ok.ensures.whole (going_on heard h.given) h.reads in
-    accepted c.verified_answers.ensures c.args.self.now heard sections written h c.in_ok-finish.ensures.done.1 given
-
-pub returns-in-Err-clause-stands : goal.returns-in-Err-clause-stands
-returns-in-Err-clause-stands c heard sections written h =
-    let stands = c.in-Err.ensures.stands (going_on heard h.given) h.reads in
-    rw (c.surplus.ensures)
-    (subst (λ (n : ℕ). HasEnded c.args.self.now.verifier.left.query c.args.self.now.verifier.limits heard sections written (Err (faults.Refused (refusals.Extra n))))
-    (sym (ap (λ (v : VerifierState). v.taken) c.in_ok-finish.ensures.done.2))
-    (torn c.verified_answers.ensures c.args.self.now heard sections written h c.car_laws.ensures c.end.new.self c.in-Err.field-0 c.in_ok-finish.ensures.done.1 stands))
+pub returns-clause-stands : goal.returns-clause-stands
+returns-clause-stands c heard sections written h = accepted c.verified_answers.ensures c.args.self.now heard sections written h c.in_ok-finish.ensures.done.1

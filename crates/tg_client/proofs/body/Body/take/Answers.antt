@@ -1,5 +1,7 @@
-use Rattle.std.proofs.Common.{rules, ◌≡◌, [], None, refl, sym, ◌∙◌, arith}
+use Rattle.std.proofs.Common.{rules, ◌≡◌, [], None, refl, subst, sym, ◌∙◌, arith}
 use Rattle.std.proofs.lemmas.Result.{err_from_is_err_and}
+use Rattle.tg_car.specs.State.{IsAtItsEnd}
+use Rattle.tg_car.specs.declared.event.Event.{Event}
 use Rattle.tg_car.specs.declared.event.Event.TheVariants as events
 use Rattle.tg_car.specs.History.{given_by}
 use Rattle.tg_client.specs.Received.{sections_given}
@@ -18,7 +20,7 @@ pub returns-then-is_none-clause-stands : goal.returns-then-is_none-clause-stands
 returns-then-is_none-clause-stands g c heard sections written h =
     let none : c.want.result ≡ None = search rules in
     rw c.surplus.ensures
-    (behind_last c.verified_answers.ensures c.args.self.now heard sections written h c.args.piece.now (into g.S.Sink.sink c.args.out.now c.args.out.now)
+    (behind_last c.verified_answers.ensures c.args.self.now heard sections written h c.args.piece.now (into g.S.Sink.sink c.args.out.now c.args.out.now) (omega arith)
     (wants_none c.args.self.now.verifier.refused c.args.self.now.verifier.left.wanted h.fresh (sym c.want.ensures ∙ none)) c.requires
     (put_nothing _ g.S.Sink.sink c.args.out.now (g.met.S.Sink.rests c.args.out.now)))
 
@@ -30,7 +32,7 @@ returns-in_err-taken-clause-stands g c heard sections written h =
     let (at, wanted) = wants_some c.args.self.now.verifier.refused c.args.self.now.verifier.left.wanted cid (sym c.want.ensures ∙ some) in
     rw (p.1, p.2)
     (reader_stops c.verified_answers.ensures c.args.self.now heard sections written h c.feed.new.self c.args.piece.now c.min-room.result (into g.S.Sink.sink c.args.out.now c.args.out.now) c.in_err-taken.field-0.0
-    at wanted (c.in_err-taken.ensures.stands _ h.reads) c.in_err-taken.ensures.limit
+    at (omega arith) wanted (c.in_err-taken.ensures.stands _ h.reads) c.in_err-taken.ensures.limit
     (put_nothing _ g.S.Sink.sink c.args.out.now (g.met.S.Sink.rests c.args.out.now)))
 
 pub returns-in_err-section-clause-stands : goal.returns-in_err-section-clause-stands
@@ -43,10 +45,11 @@ returns-in_err-section-clause-stands g c heard sections written h =
     let reads = reads_on c.feed.new.self heard c.args.piece.now h.given c.min-room.result c.in_ok-taken.taken c.in_ok-taken.event (events.Section s.at s.size s.section)
     (c.in_ok-taken.ensures.stands _ h.reads) c.in_ok-taken.ensures.within s.is in
     let e = c.in_err-section in
+    let bounds = within_piece c.args.piece.now c.min-room.result c.in_ok-taken.taken c.in_ok-taken.ensures.within in
     rw (p.1, p.2)
     (section_refused c.verified_answers.ensures c.args.self.now heard sections written h c.received_sections.ensures c.feed.new.self c.section.new.self c.args.piece.now c.in_ok-taken.taken s.at s.size s.section
     (into g.S.Sink.sink c.args.out.now c.section.new.out) reads c.in_ok-taken.ensures.limit e.ensures.query e.ensures.limits at wanted e.field-0.0
-    (e.ensures.stands sections written h.fresh (stands_going c.args.self.now.verifier sections written h.fresh h.going)) e.ensures.refused (e.ensures.cause h.fresh) c.requires)
+    (e.ensures.stands sections written h.fresh (stands_going c.args.self.now.verifier sections written h.fresh h.going)) e.ensures.refused (e.ensures.cause h.fresh) c.requires bounds.1 (omega arith) (omega arith))
 
 pub returns-clause-stands : goal.returns-clause-stands
 returns-clause-stands g c heard sections written h =
@@ -60,12 +63,16 @@ returns-clause-stands g c heard sections written h =
           rw (w.self-is, w.out-is)
           (section_taken c.verified_answers.ensures c.args.self.now heard sections written h c.received_sections.ensures c.feed.new.self w.section.new.self c.args.piece.now c.in_ok-taken.taken s.at s.size s.section
           (into g.S.Sink.sink c.args.out.now w.section.new.out) reads c.in_ok-taken.ensures.limit o.ensures.query o.ensures.limits o.field-0 _
-          (o.ensures.stands sections written h.fresh (stands_going c.args.self.now.verifier sections written h.fresh h.going)) o.ensures.refused bounds.1 refl (omega arith))
+          (o.ensures.stands sections written h.fresh (stands_going c.args.self.now.verifier sections written h.fresh h.going)) o.ensures.refused bounds.1 refl (omega arith)
+          (subst (λ (event : Event). IsAtItsEnd event c.feed.new.self.came) s.is c.in_ok-taken.ensures.at_end))
       | in_default w ↦
+          let not_none : c.want.result ≡ None → ⊥ = λ e. search rules in
+          let (cid, some) = some_of c.want.result not_none in
+          let (at, wanted) = wants_some c.args.self.now.verifier.refused c.args.self.now.verifier.left.wanted cid (sym c.want.ensures ∙ some) in
           let none : sections_given (given_by c.in_ok-taken.event) ≡ [] = no_section c.in_ok-taken.event w.in_default.not-Section in
           let reads = reads_on c.feed.new.self heard c.args.piece.now h.given c.min-room.result c.in_ok-taken.taken c.in_ok-taken.event c.in_ok-taken.event
           (c.in_ok-taken.ensures.stands _ h.reads) c.in_ok-taken.ensures.within refl in
           rw (w.self-is, w.out-is)
           (step_taken c.verified_answers.ensures c.args.self.now heard sections written h c.feed.new.self c.args.piece.now c.in_ok-taken.taken _ c.in_ok-taken.event
-          (into g.S.Sink.sink c.args.out.now c.args.out.now) none reads c.in_ok-taken.ensures.limit (put_nothing _ g.S.Sink.sink c.args.out.now (g.met.S.Sink.rests c.args.out.now)) bounds.1 refl (omega arith))
+          (into g.S.Sink.sink c.args.out.now c.args.out.now) none reads c.in_ok-taken.ensures.limit (put_nothing _ g.S.Sink.sink c.args.out.now (g.met.S.Sink.rests c.args.out.now)) bounds.1 refl (omega arith) at wanted)
     ]
