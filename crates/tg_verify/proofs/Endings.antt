@@ -8,6 +8,7 @@ use Rattle.tg_model.specs.PathWalk.{Spot, TraversalEnd, gone, stopped, whole}
 use Rattle.tg_traversal_laws.specs.Stages.{Given, up_to_next}
 use Rattle.tg_traversal_laws.specs.Tasks.{Miss, Task, no_directory, no_entry, open_block, spot_of, stop_of, tasks_then}
 use Rattle.tg_traversal_laws.specs.Verified.{VerifiedLaws, WantsAt, written_whole}
+use Rattle.tg_traversal_laws.specs.Repeats.{settled}
 use Rattle.tg_verify.specs.State.{VerifierState}
 use Rattle.tg_verify.specs.Taken.{IsGoing, IsWrittenAt}
 
@@ -55,11 +56,11 @@ module _ (state : VerifierState) (given : Given) (written : List ℕ) where
 module _ (v : VerifiedLaws) (state : VerifierState) (d : Dag) (sections : List Section) (written : List ℕ) (h : IsGoing state sections written) where
   pub fit_ends : (text : List ℕ) → Fits d state.left.query sections text → (state.left.wanted ≡ None) × (written ≡ text)
   fit_ends text fits =
-      let (none, is) = v.fitting_ends state.left.query d sections text h.given (tasks_left state.left) h.repeats fits h.verified in
+      let (none, is) = v.fitting_ends state.left.query d sections text h.given (tasks_left state.left) (settled v.repeats_sent state.left.query h.repeats sections (tasks_left state.left)) fits h.verified in
       ends_by state h.given written state.left.wanted text refl h.writes none is
 
   pub progress_waits : (wanted : Spot) → IsInProgress d state.left.query sections wanted
       → (at : WantedAt) × (state.left.wanted ≡ Some at) × (spot_of at.want at.cid ≡ wanted) × (written ≡ output_so_far state.left.query d)
   progress_waits wanted progress =
-      let (wants, is) = v.in_progress_ends state.left.query d sections wanted h.given (tasks_left state.left) h.repeats progress h.verified in
+      let (wants, is) = v.in_progress_ends state.left.query d sections wanted h.given (tasks_left state.left) (settled v.repeats_sent state.left.query h.repeats sections (tasks_left state.left)) progress h.verified in
       waits_by state h.given written state.left.wanted wanted (output_so_far state.left.query d) refl h.writes wants is

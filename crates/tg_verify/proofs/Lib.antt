@@ -17,3 +17,4 @@ mod Settled
 mod Shown
 mod Started
 mod Taking
+mod Counting

@@ -17,9 +17,10 @@ use Rattle.tg_model.specs.declared.placed.PlacedKind.{PlacedKind}
 use Rattle.tg_model.specs.declared.queries.Scope.{Scope}
 use Rattle.tg_model.specs.declared.queries.Scope.TheVariants as scopes
 use Rattle.tg_traversal_laws.specs.Openings.{IsReadAt}
-use Rattle.tg_traversal_laws.specs.Stages.{Given}
+use Rattle.tg_traversal_laws.specs.Stages.{Given, with_place}
 use Rattle.tg_traversal_laws.specs.Tasks.{Miss, Task, Want, child_then, children_tasks, entries_then, give_entries, give_text, link_tasks, no_directory, no_entry, node_tasks, node_want, open_block, path_want, position_below, position_of, segment_want, step_tasks, stop_at, tasks_of, tasks_then, terminal_tasks, terminal_want, text_at, text_last}
 use Rattle.tg_traversal_laws.specs.Verified.{Verified, VerifiedLaws}
+use Rattle.tg_traversal_laws.specs.Repeats.{known, one_taken}
 use Rattle.tg_verify.proofs.Misread.{Computes}
 use Rattle.tg_verify.specs.Refusals.{IsReadBlock}
 use Rattle.tg_verify.specs.State.{VerifierState, listed_of}
@@ -130,8 +131,9 @@ module _ (v : VerifiedLaws) (computes : Computes) (limits : LimitNumbers) where
       record {
         repeats = repeats;
         given = _;
-        verified = v.alone q sections given at.want section later repeats alone wanted.block.named
-            (subst (λ (tasks : List (Task CidParts)). Verified q sections given tasks) (same_task at section later wanted.same) verified);
+        verified = subst (λ (all : List Section). Verified q all (with_place at.want section section.block given) later) (one_taken v.repeats_sent q repeats sections section)
+            (v.alone q sections given at.want section later (known v.repeats_sent q repeats sections section) alone wanted.block.named
+            (subst (λ (tasks : List (Task CidParts)). Verified q sections given tasks) (same_task at section later wanted.same) verified));
         text_is = ap (λ (t : List ℕ). t ++ section.block) (sym text);
         names_are = names_are;
         leads = leads_on no_stop;
@@ -141,8 +143,9 @@ module _ (v : VerifiedLaws) (computes : Computes) (limits : LimitNumbers) where
       record {
         repeats = repeats;
         given = _;
-        verified = v.taken q sections given at.want section kind later repeats block.is_read (reads_there q at section kind bytes passing.passes)
-            (subst (λ (tasks : List (Task CidParts)). Verified q sections given tasks) (same_task at section later block.wanted.same) verified);
+        verified = subst (λ (all : List Section). Verified q all (with_place at.want section (text_at q at.want section kind) given) (tasks_of q at.want section kind (links_of kind) ++ later)) (one_taken v.repeats_sent q repeats sections section)
+            (v.taken q sections given at.want section kind later (known v.repeats_sent q repeats sections section) block.is_read (reads_there q at section kind bytes passing.passes)
+            (subst (λ (tasks : List (Task CidParts)). Verified q sections given tasks) (same_task at section later block.wanted.same) verified));
         text_is = ap (λ (t : List ℕ). t ++ text_at q at.want section kind) (sym text);
         names_are = names_are;
         leads = leads_more (text_at q at.want section kind) (tasks_of q at.want section kind (links_of kind)) later no_stop (leads_at q at.want section kind (links_of kind));

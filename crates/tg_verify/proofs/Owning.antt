@@ -16,6 +16,7 @@ use Rattle.tg_traversal_laws.specs.BesideSound.{BesideLaws}
 use Rattle.tg_traversal_laws.specs.Stages.{Given}
 use Rattle.tg_traversal_laws.specs.Tasks.{Task}
 use Rattle.tg_traversal_laws.specs.Verified.{Verified, VerifiedLaws, WantsNext}
+use Rattle.tg_traversal_laws.specs.Repeats.{settled}
 use Rattle.tg_verify.proofs.Endings.{fit_ends, not_whole}
 use Rattle.tg_verify.proofs.Misread.{Computes}
 use Rattle.tg_verify.proofs.Passing.{is_own_fault}
@@ -49,7 +50,7 @@ module _ (v : VerifiedLaws) (b : BesideLaws) (computes : Computes) (laws : Sound
   own_taken q limits d sections rest section written text fault sound root is list within refused =
       let wants : (given : Given) (tasks : List (Task CidParts)) → q.dups ≡ true → Verified q sections given tasks → WantsNext q tasks section = λ given tasks dups verified.
       let (s, fits) = own_fits laws q d text sound root is dups in
-      v.fitting q s sections rest section text given tasks dups (subst (λ (all : List Section). Fits s q all text) list fits) verified in
+      v.fitting q s sections rest section text given tasks (settled v.repeats_sent q dups sections tasks) (subst (λ (all : List Section). Fits s q all text) list fits) verified in
       is_own_fault v.repeats_sent b computes q limits d sections rest section sound.checked root list (not_whole _ (own_whole laws q d text sound root is)) wants within written fault refused
 
   own_through : OwnIsThrough

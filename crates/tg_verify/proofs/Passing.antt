@@ -86,7 +86,7 @@ module _ (sent : RepeatsAreSent) (b : BesideLaws) (computes : Computes) (q : Que
   goes_on : (front more : List Section) (given : Given) (tasks : List (Task CidParts)) → q.dups ≡ true → sections ++ section ∷ rest ≡ front ++ more → Verified q front given tasks
       → opened_list q d ≡ opened_by given ++ more
   goes_on front more given tasks dups e verified =
-      sym (sent q dups (traversal q d).places) ∙ list ∙ e ∙ ap (λ (some : List Section). some ++ more) (sym verified.sent ∙ sent q dups given.places)
+      sym ((sent q dups).0 (opened_list q d)) ∙ list ∙ e ∙ ap (λ (some : List Section). some ++ more) (sym verified.sent_are ∙ (sent q dups).0 (opened_by given))
 
   -- with the section taken at its place
   record IsTakenThere (given : Given) (w : Want) : Type 0 where

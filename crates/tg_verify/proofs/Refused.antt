@@ -18,6 +18,7 @@ use Rattle.tg_traversal_laws.specs.Openings.{IsReadAt}
 use Rattle.tg_traversal_laws.specs.Stages.{place_of}
 use Rattle.tg_traversal_laws.specs.Tasks.{depth_of, no_directory, no_entry, open_block, position_of}
 use Rattle.tg_traversal_laws.specs.Verified.{Verified, VerifiedLaws}
+use Rattle.tg_traversal_laws.specs.Repeats.{known, one_taken}
 use Rattle.tg_verify.proofs.Fronts.{greatest_at, or_pair_more, pair_more}
 use Rattle.tg_verify.proofs.Misread.{Computes, bad_isnt_read, missized_isnt_read}
 use Rattle.tg_verify.proofs.Shown.{PeerLaws, answer_front, no_directory_says, no_entry_says, nowhere_front, through_sound, up_to_sound, written_front}
@@ -42,7 +43,8 @@ module _ (v : VerifiedLaws) (p : PeerLaws) (b : BesideLaws) (q : QueryParts) (li
         let given = h.up_to.given in
         let here : Verified q h.taken given (open_block h.at.want h.section.cid ∷ h.up_to.later) =
         subst (λ (cid : CidParts). Verified q h.taken given (open_block h.at.want cid ∷ h.up_to.later)) (sym same) h.up_to.verified in
-        subst (λ (all : List Section). CollisionPair all d) (sym h.received) (v.refused q d h.taken given h.at.want h.section h.up_to.later sound root named bad here)
+        subst (λ (all : List Section). CollisionPair all d) (sym h.received) (subst (λ (all : List Section). CollisionPair all d) (one_taken v.repeats_sent q h.up_to.repeats h.taken h.section)
+        (v.refused q d h.taken given h.at.want h.section h.up_to.later sound root (known v.repeats_sent q h.up_to.repeats h.taken h.section) named bad here))
 
     -- the wanted place is one of the DAG's
     is_deep : (number : ℕ) → number < depth_of h.at.want → (number < (counts q d).depth) ⊎ CollisionPair sections d

@@ -1,12 +1,12 @@
 -- What was taken of a query's sections, what is written for them, and both beside a sound DAG.
-use Rattle.std.proofs.Common.{◌≡◌, ◌≢◌, ◌⊎◌, ◌++◌, ◌∷◌, ℕ, Bool, Contains, List, [], Some, inl, inr, ⊎_elim, refl, sym, true, ap, ◌∙◌, subst}
+use Rattle.std.proofs.Common.{◌≡◌, ◌⊎◌, ◌++◌, ◌∷◌, ℕ, List, [], Some, inl, inr, ⊎_elim, refl, sym, true, ap, ◌∙◌, subst}
 use Rattle.tg_cid.specs.Cid.{CidParts}
 use Rattle.tg_traversal.specs.Left.{WantedAt}
 use Rattle.tg_model_laws.specs.PartialDags.{WriteFronts}
 use Rattle.tg_model.specs.Answer.{answer}
-use Rattle.tg_model.specs.Dag.{Dag, Section, blocks, root_cid}
+use Rattle.tg_model.specs.Dag.{Dag, Section, root_cid}
 use Rattle.tg_model.specs.Ends.{StopsAlike}
-use Rattle.tg_model.specs.Fits.{CollisionPair, Fits, IfOnce, IsFrontOfAnswer, IsInProgress, IsOpenedFor, output_so_far}
+use Rattle.tg_model.specs.Fits.{CollisionPair, Fits, IsFrontOfAnswer, IsInProgress, IsOpenedFor, output_so_far}
 use Rattle.tg_model.specs.Lookup.{LookupEnd, lookup_path}
 use Rattle.tg_model.specs.Lookup as lookups
 use Rattle.tg_model.specs.PathWalk.{Spot, not_folder, not_there, stopped}
@@ -29,9 +29,9 @@ pub record PeerLaws : Type 0 where
   pub meanwhile : (q : QueryParts) (d s : Dag) (sections : List Section) (wanted : Spot) → IsSound d → root_cid d ≡ q.root → IsInProgress s q sections wanted
       → IsFrontOfAnswer (output_so_far q s) (answer q d) ⊎ CollisionPair sections d
   pub absent : (q : QueryParts) (d s : Dag) (i : ℕ) → IsSound d → root_cid d ≡ q.root → IsOpenedFor s q → (traversal q s).end ≡ stopped (not_there i)
-      → StopsAlike (not_there i) (lookup_path q.path d) ⊎ CollisionPair (blocks s) d
+      → StopsAlike (not_there i) (lookup_path q.path d) ⊎ CollisionPair (block_list q s) d
   pub not_folder : (q : QueryParts) (d s : Dag) (i : ℕ) → IsSound d → root_cid d ≡ q.root → IsOpenedFor s q → (traversal q s).end ≡ stopped (not_folder i)
-      → StopsAlike (not_folder i) (lookup_path q.path d) ⊎ CollisionPair (blocks s) d
+      → StopsAlike (not_folder i) (lookup_path q.path d) ⊎ CollisionPair (block_list q s) d
 
 -- ---- an answer is a front of itself
 
@@ -44,9 +44,7 @@ module _ (v : VerifiedLaws) where
 
   pub up_to_progress : (q : QueryParts) (sections : List Section) (written : List ℕ) (at : WantedAt) → IsUpTo q sections written at → IsProgressOf q sections written (spot_of at.want at.cid)
   up_to_progress q sections written at h =
-      let once : IfOnce q.dups ((section : Section) → Contains sections section → section.cid ≢ at.cid) =
-      subst (λ (repeats : Bool). IfOnce repeats ((section : Section) → Contains sections section → section.cid ≢ at.cid)) (sym h.repeats) tt in
-      let goes : GoesOn q sections h.given (spot_of at.want at.cid) = v.goes q sections h.given at.want at.cid h.later once h.verified in
+      let goes : GoesOn q sections h.given (spot_of at.want at.cid) = v.goes q sections h.given at.want at.cid h.later ((v.repeats_sent q h.repeats).1 sections at.cid) h.verified in
       record { s = goes.s; progress = goes.progress; output = goes.output ∙ sym h.text }
 
   pub through_fits : (q : QueryParts) (sections : List Section) (written : List ℕ) → IsThrough q sections written → IsFitOf q sections written
@@ -78,10 +76,9 @@ module _ (v : VerifiedLaws) where
       leads : IsNowhereOf q sections written miss
       leads = nowhere_leads q sections written miss h
 
-      -- the blocks are those sections
-      of_sections : CollisionPair (blocks leads.s) d → CollisionPair sections d
-      of_sections pair =
-          subst (λ (some : List Section). CollisionPair some d) (leads.opened.opened ∙ sym (v.repeats_sent q h.repeats (traversal q leads.s).places) ∙ leads.list) pair
+      -- what was sent are those sections
+      of_sections : CollisionPair (block_list q leads.s) d → CollisionPair sections d
+      of_sections pair = subst (λ (some : List Section). CollisionPair some d) leads.list pair
 
       pub nowhere_front : IsItsFront q d sections written
       nowhere_front = ⊎_elim

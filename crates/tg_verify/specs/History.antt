@@ -1,5 +1,5 @@
 -- What a verifier stands for: the sections that it received and what it wrote for them.
-use Rattle.std.specs.Prelude.{Err, List, None, Ok, Option, Result, Some, [], ⊤, ℕ, ◌++◌, ◌≡◌, ◌≢◌}
+use Rattle.std.specs.Prelude.{Err, List, None, Ok, Option, Result, Some, [], min, ⊤, ℕ, ◌++◌, ◌+◌, ◌-◌, ◌^◌, ◌≡◌, ◌≢◌, ◌⊎◌}
 use Rattle.tg_cid.specs.Cid.{CidParts}
 use Rattle.tg_traversal.specs.Left.{WantedAt}
 use Rattle.tg_model.specs.Dag.{Section}
@@ -36,6 +36,19 @@ HasPutCause (Ok progress) out = OutputQuiet out
 HasPutCause (Err refusals.SinkFault) out = OutputRose out
 HasPutCause (Err (refusals.Truncated want number)) out = ⊥
 HasPutCause (Err other) out = OutputQuiet out
+
+-- how many sections were taken, by how many were before: one more where it passed, also where a segment leads nowhere
+-- behind it; and where out failed or memory was wanted, one more or none
+abbrev pub one_more : ℕ → ℕ
+one_more n = min (n + 1) (2 ^ 64 - 1)
+
+abbrev pub IsCounted : ℕ → ℕ → Result Progress Refusal → Type 0
+IsCounted before now (Ok progress) = now ≡ one_more before
+IsCounted before now (Err (refusals.NotThere segment)) = now ≡ one_more before
+IsCounted before now (Err (refusals.NotFolder segment)) = now ≡ one_more before
+IsCounted before now (Err refusals.SinkFault) = (now ≡ before) ⊎ (now ≡ one_more before)
+IsCounted before now (Err refusals.OutOfMemory) = (now ≡ before) ⊎ (now ≡ one_more before)
+IsCounted before now (Err other) = now ≡ before
 
 -- a refusal puts nothing, but that out may fail, or memory be wanted, in what the section says
 abbrev pub PutsFor : Result Progress Refusal → List ℕ → Type 0

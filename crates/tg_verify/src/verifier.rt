@@ -7,7 +7,7 @@ ghost use Rattle.tg_model.specs.Fits.{Fits, IsInProgress};
 ghost use Rattle.tg_model.specs.PathWalk.{Spot};
 ghost use Rattle.tg_model.specs.declared.kinds.Kind.{Kind};
 ghost use Rattle.tg_streams.specs.Streams.{into};
-ghost use Rattle.tg_verify.specs.History.{HasPutCause, HasTaken, HasWritten, IsProgress, StandsFor};
+ghost use Rattle.tg_verify.specs.History.{HasPutCause, HasTaken, HasWritten, IsCounted, IsProgress, StandsFor};
 ghost use Rattle.tg_verify.specs.Laws.{IsFitOf, IsOwnFault, IsWithinLimits};
 ghost use Rattle.tg_verify.specs.Sound.{EndsFor, ForEachSound};
 ghost use Rattle.tg_verify.specs.State.{next_cid};
@@ -101,7 +101,9 @@ impl Verifier {
         Some(self.frames.wanted()?.cid)
     }
 
-    /// How many sections were taken; the number stands still at 2 ^ 64 - 1. It takes no memory.
+    /// How many sections were taken; the number stands still at 2 ^ 64 - 1. After a refusal these are the ones before it,
+    /// and the last one too where it passed and a segment of the path leads nowhere behind it, as it may have where out
+    /// failed or memory was wanted. It takes no memory.
     pub fn sections(&self) -> u64
         ensures { result ≡ self.now.taken }
     {
@@ -132,6 +134,8 @@ impl Verifier {
             ∷ []) written (into S.sink out.old out.new) result }
         ensures progress { IfOk result (λ progress. IsProgress progress self.new) }
         ensures cause { self.old.refused ≡ None → HasPutCause result (into S.sink out.old out.new) }
+        // What `sections` tells then.
+        ensures counted { self.old.refused ≡ None → IsCounted self.old.taken self.new.taken result }
         // The next of sections that fit, or that are in progress, is taken, but for a fault of out and want of memory.
         ensures fitting { (d : Dag) (sections rest : Items Section) (written text : Items ℕ) → self.old.refused ≡ None
             → StandsFor self.old sections written
@@ -212,6 +216,7 @@ impl Verifier {
             → HasTaken self.new (sections ++ section_with cid block ∷ []) written (into S.sink out.old out.new) result }
         ensures progress { IfOk result (λ progress. IsProgress progress self.new) }
         ensures cause { HasPutCause result (into S.sink out.old out.new) }
+        ensures counted { IsCounted self.old.taken self.new.taken result }
     {
         tg_model::laws::readings();
         tg_traversal_laws::verified_sections();

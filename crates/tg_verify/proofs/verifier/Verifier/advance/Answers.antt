@@ -1,4 +1,4 @@
-use Rattle.std.proofs.Common.{None, Ok, ap, subst, sym}
+use Rattle.std.proofs.Common.{ap, subst, sym}
 use Rattle.std.specs.Prelude.{Option, Result}
 use Rattle.tg_streams.specs.Streams.{into}
 use Rattle.tg_traversal.specs.Left.{IsNext}
