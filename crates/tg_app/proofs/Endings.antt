@@ -446,7 +446,7 @@ import_answered_of parts files out (Some refusal) good no_folder no_pack no_out 
 -- ---- bytes that the input told
 
 -- all of an input that told its bytes, once nothing is left
-whole_is : (block bytes : List ℕ) (new : Option (List ℕ)) → Some bytes ≡ after_front block new → IsNothing new → block ≡ bytes
+pub whole_is : (block bytes : List ℕ) (new : Option (List ℕ)) → Some bytes ≡ after_front block new → IsNothing new → block ≡ bytes
 whole_is block bytes None e nothing = cc
 whole_is block bytes (Some rest) e nothing =
     let all : Some bytes ≡ Some (block ++ []) = e ∙ ap (λ xs. Some (block ++ xs)) nothing in
@@ -500,7 +500,7 @@ dec_list (x ∷ xs) (y ∷ ys) = dec_cons x y xs ys (dec_nat x y) (dec_list xs y
 -- two blocks that a CID names are one, or have one hash
 agree_by : (hash : HashKind) (digest received block : List ℕ) → IsDigestOf hash digest received → IsDigestOf hash digest block → (received ≡ block) ⊎ CollisionPair received block
 agree_by Sha256 digest received block p q = elim (dec_list received block) [ inl e ↦ inl e | inr f ↦ inr (record { differ = f; one_hash = sym p ∙ q }) ]
-agree_by Identity digest received block p q = absurd p
+agree_by Identity digest received block p q = inl (sym p ∙ q)
 
 pub agrees : (cid : CidParts) (block : List ℕ) (input : Input) (out : Output) → Names cid block → Checked cid input out → Agrees block input out
 agrees cid block input out named done = record {

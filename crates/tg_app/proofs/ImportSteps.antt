@@ -6,7 +6,7 @@ use Rattle.std.proofs.lemmas.List.{append_assoc}
 use Rattle.tg_app.specs.Blocks.{OutputUntouched}
 use Rattle.tg_app.specs.Imports.{AreAttached, AttachedAnswers, AttachedRefused, ImportAnswers, ImportLines, IsImportRefusal, IsInPack, LinesEnd, PutsLines, StopsWritingAt, WritesPackAt, options_of, summary_line}
 use Rattle.tg_app.specs.Lines.{PutAll}
-use Rattle.tg_app.specs.Objects.{Files, files_between}
+use Rattle.tg_app.specs.Objects.{files_between}
 use Rattle.tg_app.specs.declared.fault.CommandFault.{CommandFault}
 use Rattle.tg_app.specs.declared.fault.CommandFault.TheVariants as refusals
 use Rattle.tg_bytes.specs.Told.{IsNothing}
@@ -18,7 +18,6 @@ use Rattle.tg_import.specs.Counting.{nothing}
 use Rattle.tg_import.specs.Refused.{HasFolderFault, max_levels}
 use Rattle.tg_import.specs.declared.fault.ImportFault.{ImportFault}
 use Rattle.tg_import.specs.declared.fault.ImportFault.TheVariants as faults
-use Rattle.tg_import.specs.declared.summary.Options.{Options}
 use Rattle.tg_import_pack.specs.Packing.{IsBegun, IsPacked, IsPackingCause, IsUnfinished, StopsWriting, WritesPack}
 use Rattle.tg_store.specs.Packs.{IsGrowth}
 use Rattle.tg_words.specs.ImportLines.{ImportParts}

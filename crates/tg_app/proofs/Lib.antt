@@ -4,4 +4,7 @@ mod ExportSteps
 mod ImportSteps
 mod VerifyEndings
 mod VerifySteps
+mod OwnCars
+mod OwnAnswers
+mod OwnDone
 mod Running

@@ -1,6 +1,9 @@
 -- What a run says, from how its words end.
-use Rattle.std.proofs.Common.{List, Option, Some, inl, inr, subst, sym, ◌∙◌, ◌≡◌, ◌⊎◌, ℕ}
+use Rattle.std.proofs.Common.{Option, subst, sym, ◌∙◌, ◌≡◌, ◌⊎◌, ℕ}
 use Rattle.tg_app.proofs.Endings.{agrees, answered_of, checked_of, ends_of, export_answered_of, exported_of, fault_of, import_answered_of, imported_of, kept_of, memory_of, node_answered_of, node_other_of, noded_of, nowhere_of, other_of, passed_of, printed_of, quiet_of, refused_of, untouched_of, usage_of}
+use Rattle.tg_app.proofs.OwnCars.{AttachAlike, own_car_of}
+use Rattle.tg_app.proofs.OwnAnswers.{AnswerTexts, own_answer_of}
+use Rattle.tg_app.proofs.OwnDone.{DoneLaws, has_answer}
 use Rattle.tg_app.proofs.VerifyEndings.{verified_of, verify_answered_of, vouched_of}
 use Rattle.tg_app.specs.Check.{CheckStatus}
 use Rattle.tg_app.specs.CidLines.{HexLine, TextLine}
@@ -11,6 +14,7 @@ use Rattle.tg_app.specs.Runs.{Asks, CheckRun, CidHexRun, CidTextRun, ExportRun, 
 use Rattle.tg_app.specs.declared.fault.CommandFault.{CommandFault}
 use Rattle.tg_cid.specs.Cid.{CidParts}
 use Rattle.tg_model.specs.Queries.{QueryParts}
+use Rattle.tg_model_laws.specs.Depths.{CutsAtDepths, ShowsDownTo}
 use Rattle.tg_traversal_laws.specs.Verified.{VerifiedStarts}
 use Rattle.tg_verify.specs.Laws.{AnswerIsFront, ThroughFits}
 use Rattle.tg_words.specs.ExportLines.{ExportParts}
@@ -20,6 +24,7 @@ use Rattle.tg_words.specs.declared.Command.TheVariants.{Check, CidToHex, CidToTe
 
 -- how the words of a run end, its status and its line
 module _ (run : Run) (end : Option CommandFault) (starts : VerifiedStarts) (through : ThroughFits) (front : AnswerIsFront)
+    (cuts : CutsAtDepths) (shows : ShowsDownTo) (alike : AttachAlike) (texts : AnswerTexts) (dones : DoneLaws)
     (status : run.status ≡ exit_status end) (line : Says end run.err) (ends : Ends run.words run.objects end) where
   by : (command : Command) → Asks run command → CommandEnds command run.objects end
   by command asked = ends_of starts run.words command run.objects end asked ends
@@ -86,6 +91,10 @@ module _ (run : Run) (end : Option CommandFault) (starts : VerifiedStarts) (thro
         nowhere = λ nine. nowhere_of parts.pack parts.query pack same run.objects.out end (has nine) did.2;
         answered = λ answer no_pack no_out. subst (λ (n : ℕ). (n ≡ 8) ⊎ (n ≡ 0)) (sym status)
             (export_answered_of parts.pack parts.query pack same run.objects.out end answer no_pack no_out did.2);
+        own_car = λ d text held sound root answers zero. own_car_of cuts shows parts.query d sound root alike text answers run.objects.out parts.pack pack held
+            (exported_of parts.pack parts.query pack same run.objects.out end (has zero) did.2);
+        own_done = λ d text held sound root answers shallow no_pack no_out. subst (λ (n : ℕ). (n ≡ 8) ⊎ (n ≡ 0)) (sym status)
+            (export_answered_of parts.pack parts.query pack same run.objects.out end (has_answer dones parts.query d text pack.content_old held sound root answers shallow) no_pack no_out did.2);
       }
 
   import_run : (parts : ImportParts) → Asks run (Import parts) → ImportRun parts run
@@ -107,7 +116,8 @@ module _ (run : Run) (end : Option CommandFault) (starts : VerifiedStarts) (thro
         verified = λ zero. verified_of q run.objects.input run.objects.out end through (has zero) did.1;
         answered = λ bytes told good none. subst (λ (n : ℕ). (n ≡ 8) ⊎ (n ≡ 0)) (sym status)
             (verify_answered_of q bytes run.objects.input run.objects.out end told good none.input none.out did.1);
-        vouched_answer = λ d sound root. vouched_of front q d run.objects.input run.objects.out end run.status status sound root did.1;
+        own_answer = λ d text bytes told its zero. own_answer_of texts q d text bytes run.objects.input run.objects.out end (has zero) did.1 told its;
+        vouched_answer = λ d sound root. vouched_of front q d run.objects.input run.objects.out run.err run.status sound root end status line did.1;
       }
 
   pub runs : Runs run

@@ -2,8 +2,8 @@
 use Rattle.std.proofs.Common.{◌≡◌, ◌≢◌, ℕ, ◌⊎◌, inl, inr, List, [], ◌∷◌, ◌++◌, Option, Some, None, Err, refl, sym, ap, ◌∙◌, subst, append-nil, arith, rules}
 use Rattle.std.specs.Prelude.{Ok, Result, true, ⊤}
 use Rattle.tg_app.specs.Blocks.{Untouched}
-use Rattle.tg_app.specs.Lines.{exit_status, status_of}
-use Rattle.tg_app.specs.Verify.{IsGoodCar, IsNoAnswer, IsVerifyRefusal, NotAccepted, ShowsSome, TellsVerify, VerifiedInput, VerifyEnds, Vouched}
+use Rattle.tg_app.specs.Lines.{Says, exit_status, status_of}
+use Rattle.tg_app.specs.Verify.{IsGoodCar, IsNoAnswer, IsVerifyRefusal, NotAccepted, SaysLine, ShowsSome, TellsVerify, VerifiedInput, VerifyEnds, Vouched}
 use Rattle.tg_app.specs.declared.fault.CommandFault.{CommandFault}
 use Rattle.tg_app.specs.declared.fault.CommandFault.TheVariants.{OutOfMemory, Usage}
 use Rattle.tg_app.proofs.Statuses.{not_zero}
@@ -20,6 +20,7 @@ use Rattle.tg_model.specs.Fits.{CollisionPair, IsFrontOfAnswer}
 use Rattle.tg_model.specs.LimitNumbers.{standard}
 use Rattle.tg_model.specs.Queries.{QueryParts}
 use Rattle.tg_model.specs.Sound.{IsSound}
+use Rattle.tg_model.specs.declared.limits.LimitKind.TheVariants as kinds
 use Rattle.tg_streams.specs.Streams.{Input, InputQuiet, InputRose, Output, OutputQuiet, OutputRose, Took}
 use Rattle.tg_traversal_laws.specs.Stages.{nothing_given}
 use Rattle.tg_traversal_laws.specs.Tasks.{path_want}
@@ -177,37 +178,62 @@ nowhere_for : (q : QueryParts) (d : Dag) (sections : List Section) (text : List 
 nowhere_for q d sections text fault refusal e (inl h) says = nowhere_at_9 q d sections text fault (sym h ∙ e) says
 nowhere_for q d sections text fault refusal e (inr h) says = let k = sym h.1 ∙ e in cc
 
-vouched_at : (q : QueryParts) (d : Dag) (input : Input) (out : Output) (result : Result ⊤ ClientFault) (status : ℕ) → (did : Verifies q standard input out result)
-    → (status ≡ 0 → IsItsAnswer q d did.sections did.text) → IsItsFront q d did.sections did.text → (status ≡ 9 → IsNoAnswer q d ⊎ CollisionPair did.sections d)
-    → Vouched q d input out status
-vouched_at q d input out result status did accepted front nowhere = record {
-  heard = did.heard;
-  unheard = did.unheard;
-  took = did.took;
-  sections = did.sections;
-  received = did.received;
-  text = did.text;
-  put = did.put;
-  accepted = accepted;
-  front = front;
-  nowhere = nowhere;
-}
+-- what a refusal says of the DAG, its line says
+says_line : (q : QueryParts) (d : Dag) (sections : List Section) (text : List ℕ) (fault : ClientFault) (refusal : CommandFault) → TellsVerify fault refusal → SaysFor q d sections text (Err fault)
+    → SaysLine q d sections (Some refusal)
+says_line q d sections text (clients.Refused (verifiers.Extra number)) refusal h says = rw h tt
+says_line q d sections text (clients.Refused (verifiers.Limit kinds.Depth number)) refusal h says = rw h says.1
+says_line q d sections text (clients.Refused (verifiers.Limit kind number)) refusal h says = rw h tt
+says_line q d sections text (clients.Refused (verifiers.BadDigest cid)) refusal (shown, is_text, h) says = rw h tt
+says_line q d sections text (clients.Refused (verifiers.WrongBlock want got)) refusal (a, b, is_a, is_b, h) says = rw h tt
+says_line q d sections text (clients.Refused (verifiers.BadBlock cid fault)) refusal (shown, is_text, h) says = rw h says.1
+says_line q d sections text (clients.Refused (verifiers.BadSize declared actual)) refusal h says = rw h says.1
+says_line q d sections text (clients.Refused (verifiers.NotFolder segment)) refusal h says = rw h says.1
+says_line q d sections text (clients.Refused (verifiers.NotThere segment)) refusal h says = rw h says.1
+says_line q d sections text (clients.Refused verifiers.SinkFault) refusal h says = rw h tt
+says_line q d sections text (clients.Refused (verifiers.Truncated want number)) refusal (shown, is_text, h) says = rw h tt
+says_line q d sections text (clients.Refused verifiers.OutOfMemory) refusal h says = rw h tt
+says_line q d sections text (clients.BadCar car) refusal h says = rw h tt
+says_line q d sections text clients.InputFault refusal h says = rw h tt
+says_line q d sections text clients.OutOfMemory refusal h says = rw h tt
 
-vouched_by : AnswerIsFront → (q : QueryParts) (d : Dag) (input : Input) (out : Output) (end : Option CommandFault) → IsSound d → root_cid d ≡ q.root → VerifyEnds q input out end
-    → Vouched q d input out (exit_status end)
-vouched_by law q d input out None sound root ends =
-    let did = ends.verifies in
-    let is = did.sound d sound root in
-    vouched_at q d input out (Ok ends.done) 0 did (λ e. is) (law q d did.sections did.text is) (λ e. cc)
-vouched_by law q d input out (Some refusal) sound root ends =
-    let did = ends.verifies in
-    let says = did.sound d sound root in
-    vouched_at q d input out (Err ends.fault) (status_of refusal) did (λ e. absurd (not_zero refusal e)) (front_at_fault q d did.sections did.text ends.fault says)
-    (λ e. nowhere_for q d did.sections did.text ends.fault refusal e (has_status ends.fault refusal ends.tells) says)
+line_for : (q : QueryParts) (d : Dag) (sections : List Section) (text : List ℕ) (fault : ClientFault) (refusal : CommandFault) → IsVerifyRefusal fault refusal → SaysFor q d sections text (Err fault)
+    → SaysLine q d sections (Some refusal)
+line_for q d sections text fault refusal (inl tells) says = says_line q d sections text fault refusal tells says
+line_for q d sections text fault refusal (inr memory) says = rw (memory.1) tt
 
-pub vouched_of : AnswerIsFront → (q : QueryParts) (d : Dag) (input : Input) (out : Output) (end : Option CommandFault) (status : ℕ) → status ≡ exit_status end → IsSound d → root_cid d ≡ q.root
-    → VerifyEnds q input out end → Vouched q d input out status
-vouched_of law q d input out end status e sound root ends = subst (Vouched q d input out) (sym e) (vouched_by law q d input out end sound root ends)
+module _ (law : AnswerIsFront) (q : QueryParts) (d : Dag) (input : Input) (out err : Output) (status : ℕ) (sound : IsSound d) (root : root_cid d ≡ q.root) where
+  vouched_at : (result : Result ⊤ ClientFault) (end : Option CommandFault) → status ≡ exit_status end → Says end err → (did : Verifies q standard input out result)
+      → (exit_status end ≡ 0 → IsItsAnswer q d did.sections did.text) → IsItsFront q d did.sections did.text → (exit_status end ≡ 9 → IsNoAnswer q d ⊎ CollisionPair did.sections d)
+      → SaysLine q d did.sections end → Vouched q d input out err status
+  vouched_at result end e line did accepted front nowhere says = record {
+    heard = did.heard;
+    unheard = did.unheard;
+    took = did.took;
+    sections = did.sections;
+    received = did.received;
+    text = did.text;
+    put = did.put;
+    accepted = λ zero. accepted (sym e ∙ zero);
+    front = front;
+    nowhere = λ nine. nowhere (sym e ∙ nine);
+    end = end;
+    status_is = e;
+    line = line;
+    says = says;
+  }
+
+  pub vouched_of : (end : Option CommandFault) → status ≡ exit_status end → Says end err → VerifyEnds q input out end → Vouched q d input out err status
+  vouched_of None e line ends =
+      let did = ends.verifies in
+      let is = did.sound d sound root in
+      vouched_at (Ok ends.done) None e line did (λ zero. is) (law q d did.sections did.text is) (λ nine. cc) tt
+  vouched_of (Some refusal) e line ends =
+      let did = ends.verifies in
+      let says = did.sound d sound root in
+      vouched_at (Err ends.fault) (Some refusal) e line did (λ zero. absurd (not_zero refusal zero)) (front_at_fault q d did.sections did.text ends.fault says)
+      (λ nine. nowhere_for q d did.sections did.text ends.fault refusal nine (has_status ends.fault refusal ends.tells) says)
+      (line_for q d did.sections did.text ends.fault refusal ends.tells says)
 
 -- ---- nothing was done for want of memory
 
@@ -263,6 +289,7 @@ unverified q input out starts repeats none = record {
     heard = [];
     unheard = [];
     took = record { moved = none.untaken.untaken.moved; left = untaken_is input.left_old input.left_new none.untaken.untaken.left };
+    within = omega arith;
     sections = [];
     received = record { given = []; goes_on = inl (record { nothing_given = refl; inside = before_header }); sections_are = refl };
     text = [];

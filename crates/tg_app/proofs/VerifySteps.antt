@@ -37,7 +37,7 @@ module _ (q : QueryParts) (limits : LimitNumbers) (input : Input) (out : Output)
   good_is_taken bytes own fitting told good =
       let few : length bytes ≤ limits.received = subst (λ (l : LimitNumbers). length bytes ≤ l.received) (sym are) good.1 in
       elim good.0 [
-        | inl car ↦ own car.d bytes car.text told car.sound car.root car.answers car.is_car (within car.d car.within) few
+        | inl (d, text, car) ↦ own d bytes text told car.sound car.root car.answers car.is_car (within d car.within) few
         | inr car ↦ fitting car.d car.sections bytes car.text told car.fits car.is_car (within car.d car.within) few
       ]
 

@@ -10,7 +10,7 @@ use Rattle.tg_app.specs.Check.{CheckEnds}
 use Rattle.tg_app.specs.Node.{NodeEnds}
 use Rattle.tg_app.specs.CidLines.{HexLine, TextLine, PrintEnds}
 use Rattle.tg_app.specs.Exports.{ExportAnswers}
-use Rattle.tg_app.specs.Imports.{ImportAnswers, options_of}
+use Rattle.tg_app.specs.Imports.{ImportAnswers}
 use Rattle.tg_app.specs.Objects.{Objects, SameFiles}
 use Rattle.tg_app.specs.Verify.{VerifyEnds}
 use Rattle.tg_app.specs.declared.fault.CommandFault.{CommandFault}

@@ -10,12 +10,13 @@ use Rattle.tg_export.specs.declared.fault.ExportFault.TheVariants as faults
 use Rattle.tg_faults.specs.Faults.{Rose}
 use Rattle.tg_files.specs.Packs.{Did, PackQuiet, PackRose, PackStep, SameContent}
 use Rattle.tg_files.specs.Packs.PackWrite.{attach}
-use Rattle.tg_model.specs.Dag.{Section}
+use Rattle.tg_model.specs.Dag.{Dag, Section}
 use Rattle.tg_model.specs.PathWalk.{whole}
 use Rattle.tg_model.specs.Queries.{QueryParts}
 use Rattle.tg_model.specs.Stores.{Store}
 use Rattle.tg_model.specs.declared.stores.BlocksFault.{BlocksFault}
 use Rattle.tg_model.specs.declared.stores.BlocksFault.TheVariants as stores
+use Rattle.tg_model_laws.specs.Stores.{Holds}
 use Rattle.tg_store.specs.Attaching.{IsAttached}
 use Rattle.tg_store.specs.declared.fault.PackFault.TheVariants as packs
 use Rattle.tg_streams.specs.Streams.{Output}
@@ -89,6 +90,14 @@ pub record HasAnswer (q : QueryParts) (content : Option (List ℕ)) : Type 0 whe
   pub attached : IsAttached bytes store
   pub sections : List Section
   pub ended : HasEnded q store max_depth sections whole
+
+-- the content holds the blocks of the DAG
+pub record HoldsDag (content : Option (List ℕ)) (d : Dag) : Type 0 where
+  pub bytes : List ℕ
+  pub told : content ≡ Some bytes
+  pub store : Store
+  pub attached : IsAttached bytes store
+  pub holds : Holds store d
 
 -- it isn't refused so where all of the answer is there
 abbrev pub IsNotForMissing : QueryParts → PackStep → ExportFault → Type 0

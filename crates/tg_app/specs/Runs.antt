@@ -1,23 +1,26 @@
 -- What `run` says of one run: how the words end, and for each command what each exit status says.
-use Rattle.std.specs.Prelude.{List, Option, Some, ℕ, ◌≡◌, ◌≢◌, ◌⊎◌}
+use Rattle.std.specs.Prelude.{List, Some, ℕ, ◌≡◌, ◌≢◌, ◌≤◌, ◌⊎◌}
 use Rattle.tg_app.specs.Blocks.{OutputUntouched, PassedLimit}
 use Rattle.tg_app.specs.Check.{Agrees, CheckEnds, CheckStatus, Checked, CheckedOther}
 use Rattle.tg_app.specs.CidLines.{HexLine, PutsLine, TextLine}
 use Rattle.tg_app.specs.Commands.{AllUntouched, Answers, CommandEnds, Ends, IsNoCommand, ReadsBlock, UsesNoFiles}
 use Rattle.tg_app.specs.Commands.{WantsMemory}
-use Rattle.tg_app.specs.Exports.{Exported, ExportedNothing, HasAnswer, IsRisen}
+use Rattle.tg_app.specs.Exports.{Exported, ExportedNothing, HasAnswer, HoldsDag, IsRisen}
 use Rattle.tg_app.specs.Imports.{Imported, IsGoodFolder, options_of}
 use Rattle.tg_app.specs.Node.{NodeEnds, NodeStatus, Noded, NodedOther}
 use Rattle.tg_app.specs.Objects.{Objects, SameFiles}
-use Rattle.tg_app.specs.Verify.{IsGoodCar, VerifiedInput, Vouched}
+use Rattle.tg_app.specs.Verify.{IsGoodCar, IsItsCar, VerifiedInput, Vouched}
 use Rattle.tg_cid.specs.Cid.{CidParts}
 use Rattle.tg_cid.specs.Names.{Names}
 use Rattle.tg_files.specs.Folders.{FolderRose}
 use Rattle.tg_files.specs.Packs.{PackRose}
+use Rattle.tg_model.specs.Answer.{answer}
+use Rattle.tg_model.specs.Counts.{counts}
 use Rattle.tg_model.specs.Dag.{Dag, root_cid}
 use Rattle.tg_model.specs.Queries.{QueryParts}
 use Rattle.tg_model.specs.Sound.{IsSound}
-use Rattle.tg_streams.specs.Streams.{InputQuiet, InputRose, Output, OutputQuiet, OutputRose}
+use Rattle.tg_streams.specs.Streams.{InputQuiet, InputRose, Output, OutputQuiet, OutputRose, Put}
+use Rattle.tg_walk.specs.Walks.{max_depth}
 use Rattle.tg_words.specs.CommandLine.{CommandLine}
 use Rattle.tg_words.specs.ExportLines.{ExportParts}
 use Rattle.tg_words.specs.ImportLines.{ImportParts}
@@ -102,6 +105,15 @@ pub record ExportRun (parts : ExportParts) (run : Run) : Type 0 where
   -- where the content has all of it, none too deep, no fault is counted and memory is found, it is 0
   pub answered : HasAnswer parts.query run.objects.files.pack.content_old → (IsRisen run.objects.files.pack → ⊥)
       → (OutputRose run.objects.out → ⊥) → (run.status ≡ 8) ⊎ (run.status ≡ 0)
+  -- of a pack that holds a sound DAG the CAR is that of its own traversal, which `verify` of the same query accepts
+  pub own_car : (d : Dag) (text : List ℕ) → HoldsDag run.objects.files.pack.content_old d → IsSound d
+      → root_cid d ≡ parts.query.root → answer parts.query d ≡ Some text → run.status ≡ 0
+      → (bytes : List ℕ) × Put bytes run.objects.out × IsItsCar parts.query d text bytes
+  -- and it is done, where none of what is asked lies deeper than 512 blocks, no fault is counted and memory is found
+  pub own_done : (d : Dag) (text : List ℕ) → HoldsDag run.objects.files.pack.content_old d → IsSound d
+      → root_cid d ≡ parts.query.root → answer parts.query d ≡ Some text
+      → (counts parts.query d).depth ≤ max_depth → (IsRisen run.objects.files.pack → ⊥)
+      → (OutputRose run.objects.out → ⊥) → (run.status ≡ 8) ⊎ (run.status ≡ 0)
 
 -- `import`: at 0 the pack is the CAR of a sound DAG that shows the folder, as far as they are told, in the importer's
 -- layout, and out tells its root and what it holds
@@ -120,10 +132,14 @@ pub record VerifyRun (q : QueryParts) (run : Run) : Type 0 where
   -- a good CAR, where no fault is counted and memory is found, is accepted
   pub answered : (bytes : List ℕ) → run.objects.input.left_old ≡ Some bytes → IsGoodCar q bytes → NoStreamRose run
       → (run.status ≡ 8) ⊎ (run.status ≡ 0)
+  -- of the CAR of a sound DAG's own traversal its answer is put
+  pub own_answer : (d : Dag) (text bytes : List ℕ) → run.objects.input.left_old ≡ Some bytes → IsItsCar q d text bytes
+      → run.status ≡ 0 → Put text run.objects.out
   -- for every sound DAG with the query's root, whatever the input: at 0 out grew by the DAG's answer, and else by a
-  -- front of it, or a received block and one of the DAG are different bytes with one SHA-256
+  -- front of it, and what the line on err says of the DAG holds; or a received block and one of the DAG are different
+  -- bytes with one SHA-256
   pub vouched_answer : (d : Dag) → IsSound d → root_cid d ≡ q.root
-      → Vouched q d run.objects.input run.objects.out run.status
+      → Vouched q d run.objects.input run.objects.out run.err run.status
 
 -- what a run says, by the command that its words spell
 pub record Runs (run : Run) : Type 0 where

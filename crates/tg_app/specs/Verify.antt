@@ -1,7 +1,8 @@
 -- `verify`: a CAR on input is verified, and what it says goes to out.
-use Rattle.std.specs.Prelude.{◌≡◌, ◌⊎◌, ◌≤◌, ℕ, ⊤, List, Option, Some, None, Ok, Err, length, ◌++◌}
+use Rattle.std.specs.Prelude.{◌≡◌, ◌⊎◌, ◌<◌, ◌≤◌, ℕ, ⊤, List, Option, Some, None, Ok, Err, length, ◌++◌}
 use Rattle.tg_app.specs.Blocks.{IsTextOf}
 use Rattle.tg_app.specs.Exports.{ShowsCid}
+use Rattle.tg_app.specs.Lines.{Says, exit_status}
 use Rattle.tg_app.specs.declared.fault.CommandFault.{CommandFault}
 use Rattle.tg_app.specs.declared.fault.CommandFault.TheVariants as refusals
 use Rattle.tg_cid.specs.Cid.{CidParts}
@@ -10,6 +11,7 @@ use Rattle.tg_client.specs.Received.{HasReceived, IsCarOf}
 use Rattle.tg_client.specs.declared.fault.ClientFault.{ClientFault}
 use Rattle.tg_client.specs.declared.fault.ClientFault.TheVariants as clients
 use Rattle.tg_model.specs.Answer.{answer}
+use Rattle.tg_model.specs.Counts.{counts}
 use Rattle.tg_model.specs.Dag.{Dag, Section, root_cid}
 use Rattle.tg_model.specs.Fits.{CollisionPair, Fits}
 use Rattle.tg_model.specs.LimitNumbers.{standard}
@@ -18,6 +20,7 @@ use Rattle.tg_model.specs.Lookup as lookups
 use Rattle.tg_model.specs.Queries.{QueryParts}
 use Rattle.tg_model.specs.Sound.{IsSound}
 use Rattle.tg_model.specs.Traversal.{block_list}
+use Rattle.tg_model.specs.declared.limits.LimitKind.TheVariants as kinds
 use Rattle.tg_streams.specs.Streams.{Input, InputQuiet, Output, OutputQuiet, Put, Took, TookAll}
 use Rattle.tg_verify.specs.Laws.{IsFitOf, IsWithinLimits}
 use Rattle.tg_verify.specs.Sound.{ForEachSound, IsItsAnswer, IsItsFront}
@@ -65,16 +68,17 @@ pub record Accepted (q : QueryParts) (input : Input) (out : Output) : Type 0 whe
   pub verifies : Verifies q standard input out (Ok done)
   pub cause : HasStreamCause input out (Ok done)
 
--- a CAR of the sections of a sound DAG's own traversal, where it has an answer; or of sections that fit; none of its
+-- a CAR of the sections of a sound DAG's own traversal, whose answer is this text; or of sections that fit; none of its
 -- limits passed
-pub record IsOwnCar (q : QueryParts) (bytes : List ℕ) : Type 0 where
-  pub d : Dag
+pub record IsItsCar (q : QueryParts) (d : Dag) (text bytes : List ℕ) : Type 0 where
   pub sound : IsSound d
   pub root : root_cid d ≡ q.root
-  pub text : List ℕ
   pub answers : answer q d ≡ Some text
   pub is_car : IsCarOf bytes (block_list q d)
   pub within : IsWithinLimits q standard d
+
+abbrev pub IsOwnCar : QueryParts → List ℕ → Type 0
+IsOwnCar q bytes = (d : Dag) × (text : List ℕ) × IsItsCar q d text bytes
 
 pub record IsFittingCar (q : QueryParts) (bytes : List ℕ) : Type 0 where
   pub d : Dag
@@ -121,10 +125,23 @@ abbrev pub IsNoAnswer : QueryParts → Dag → Type 0
 IsNoAnswer q d =
     ((i : ℕ) × (lookup_path q.path d ≡ lookups.not_there i)) ⊎ ((i : ℕ) × (lookup_path q.path d ≡ lookups.not_folder i))
 
+-- what the line on err says of the DAG: its path leads nowhere at this segment; it is deeper than this; a block of it is
+-- never bad, nor is a size of it, but for a pair
+abbrev pub SaysLine : QueryParts → Dag → List Section → Option CommandFault → Type 0
+SaysLine q d sections (Some (refusals.NotThere segment)) =
+    (lookup_path q.path d ≡ lookups.not_there segment) ⊎ CollisionPair sections d
+SaysLine q d sections (Some (refusals.NotFolder segment)) =
+    (lookup_path q.path d ≡ lookups.not_folder segment) ⊎ CollisionPair sections d
+SaysLine q d sections (Some (refusals.Limit kinds.Depth number)) =
+    (number < (counts q d).depth) ⊎ CollisionPair sections d
+SaysLine q d sections (Some (refusals.BadReceived cid fault)) = CollisionPair sections d
+SaysLine q d sections (Some (refusals.BadSize declared actual)) = CollisionPair sections d
+SaysLine q d sections other = ⊤
+
 -- `verify` at any status, beside a sound DAG with the query's root: of the bytes that were heard these sections stand
--- whole; what was put is the DAG's answer at status 0, and else a front of it; at status 9 its path leads nowhere; or
--- there is a pair
-pub record Vouched (q : QueryParts) (d : Dag) (input : Input) (out : Output) (status : ℕ) : Type 0 where
+-- whole; what was put is the DAG's answer at status 0, and else a front of it; at status 9 its path leads nowhere; what
+-- the line on err says of it holds; or there is a pair
+pub record Vouched (q : QueryParts) (d : Dag) (input : Input) (out err : Output) (status : ℕ) : Type 0 where
   pub heard : List ℕ
   pub unheard : List ℕ
   pub took : Took (heard ++ unheard) input
@@ -135,3 +152,7 @@ pub record Vouched (q : QueryParts) (d : Dag) (input : Input) (out : Output) (st
   pub accepted : status ≡ 0 → IsItsAnswer q d sections text
   pub front : IsItsFront q d sections text
   pub nowhere : status ≡ 9 → IsNoAnswer q d ⊎ CollisionPair sections d
+  pub end : Option CommandFault
+  pub status_is : status ≡ exit_status end
+  pub line : Says end err
+  pub says : SaysLine q d sections end

@@ -52,8 +52,18 @@ pub fn run<F: Folder, P: Pack, I: Source, O: Sink, E: Sink>(
       status = result;
     }) }
 {
-    tg_verify::laws::verified_answers();
+    tg_client::laws::received_sections();
+    tg_model::laws::readings();
+    tg_model_laws::cut_traversals();
+    tg_model_laws::one_fit();
+    tg_model_laws::own_sections();
+    tg_model_laws::paths();
+    tg_model_laws::traversals();
+    tg_store::laws::finished_packs::<P>();
+    tg_traversal_laws::beside_dags();
+    tg_traversal_laws::store_walks();
     tg_traversal_laws::verified_sections();
+    tg_verify::laws::verified_answers();
     let end = command(alloc, words, folder, pack, input, out);
     tell(&end, err)
 }

@@ -57,6 +57,48 @@ const F_TEXT: &[u8] = b"links 3\n\
     link bafkreiefy5w4vyrjturdlr4t7y2clpmig5xvyrzbz7o4dsnjyrjmedc5gm 3 =\n\
     payload 10\nunix 2 filesize 11 inline - sizes 3 hash - fanout -\nsize 4\nsize 4\nsize 3\n";
 
+/// Identity CIDs: of no bytes, of four, and of the empty directory's, which is a node.
+const NOTHING: &str = "bafkqaaa";
+
+const O_WO: &str = "bafkqabdpeb3w6";
+
+const E_ITSELF: &str = "bafyaabakaieac";
+
+/// The file above with the second of its blocks under its identity CID, and a directory with it as `x`.
+const G: &str = "bafybeicaczjlywylbif6acxjeyf4cnyf3g4tqreifrf625de6xyybbsarq";
+
+const G_BLOCK: &[u8] =
+    b"\x12\x2a\x0a\x24\x01\x55\x12\x20\x0e\xbd\xc3\x31\x7b\x75\x83\x9f\x64\x33\x87\xd7\x83\x53\x5a\xdc\x36\x0c\xa0\x1f\
+    \x33\xc7\x5f\x7c\x1e\x73\x73\xad\xcd\x67\x5c\x0b\x12\x00\x18\x04\
+    \x12\x0e\x0a\x08\x01\x55\x00\x04o wo\x12\x00\x18\x04\
+    \x12\x2a\x0a\x24\x01\x55\x12\x20\x85\xc7\x6d\xca\xe2\x29\x9d\x22\x35\xc7\x93\xfe\x34\x25\xbd\x88\x37\x6f\x5c\x47\
+    \x21\xcf\xdd\xc1\xc9\xa9\xc4\x52\xc2\x0c\x5d\x33\x12\x00\x18\x03\
+    \x0a\x0a\x08\x02\x18\x0b\x20\x04\x20\x04\x20\x03";
+
+const G_TEXT: &[u8] = b"links 3\n\
+    link bafkreiaoxxbtc63vqopwim4h26bvgww4gygkahzty5pxyhttoow42z24bm 4 =\n\
+    link bafkqabdpeb3w6 4 =\n\
+    link bafkreiefy5w4vyrjturdlr4t7y2clpmig5xvyrzbz7o4dsnjyrjmedc5gm 3 =\n\
+    payload 10\nunix 2 filesize 11 inline - sizes 3 hash - fanout -\nsize 4\nsize 4\nsize 3\n";
+
+const D: &str = "bafybeifrumtlh7zste4yhscqrxwlig2ukrq2i7xesgebpw6woj5dcwteqi";
+
+const D_BLOCK: &[u8] = b"\x12\x0f\x0a\x08\x01\x55\x00\x04o wo\x12\x01x\x18\x04\x0a\x02\x08\x01";
+
+const D_TEXT: &[u8] = b"links 1\nlink bafkqabdpeb3w6 4 =x\n\
+    payload 2\nunix 1 filesize - inline - sizes 0 hash - fanout -\n";
+
+/// A shard with that block behind slot 0 as `x`.
+const S: &str = "bafybeiae2x7cs5ymn5mhkjyovvf7ki73bwyqpj3zo3lpm6sbh7t6krah6m";
+
+const S_BLOCK: &[u8] =
+    b"\x12\x11\x0a\x08\x01\x55\x00\x04o wo\x12\x0300x\x18\x04\x0a\x0a\x08\x05\x12\x01\x01\x28\x22\x30\x80\x02";
+
+const S_TEXT: &[u8] = b"links 1\nlink bafkqabdpeb3w6 4 =00x\n\
+    payload 10\nunix 5 filesize - inline 1 sizes 0 hash 34 fanout 256\n";
+
+const E_TEXT: &[u8] = b"links 0\npayload 2\nunix 1 filesize - inline - sizes 0 hash - fanout -\n";
+
 const BAD_DIGEST: &str =
     "tgate: BadDigest bafkreifzjut3te2nhyekklss27nh3k72ysco7y32koao5eei66wof36n5e\n";
 
@@ -96,6 +138,39 @@ const ANSWERS: &[Row] = &[
     (&["cid", "--hex", H_HEX_UPPER], b"", NONE, 0, H_LINE, ""),
     (&["cid", E_HEX_OPTION], b"", NONE, 0, E_LINE, ""),
     (&["cid", "--hex", E_V0_HEX], b"", NONE, 0, E_LINE, ""),
+    // Identity CIDs, whose blocks are their digests.
+    (&["cid", NOTHING], b"", NONE, 0, b"01550000\n", ""),
+    (
+        &["cid", "--hex", "01550000"],
+        b"",
+        NONE,
+        0,
+        b"bafkqaaa\n",
+        "",
+    ),
+    (&["check", NOTHING], b"", NONE, 0, b"", ""),
+    (
+        &["check", NOTHING],
+        b"a",
+        NONE,
+        3,
+        b"",
+        "tgate: BadDigest bafkqaaa\n",
+    ),
+    (&["check", O_WO], b"o wo", NONE, 0, b"o wo", ""),
+    (
+        &["check", O_WO],
+        b"o w",
+        NONE,
+        3,
+        b"",
+        "tgate: BadDigest bafkqabdpeb3w6\n",
+    ),
+    (&["node", O_WO], b"o wo", NONE, 0, b"raw 4\n", ""),
+    (&["node", E_ITSELF], E_BLOCK, NONE, 0, E_TEXT, ""),
+    (&["node", G], G_BLOCK, NONE, 0, G_TEXT, ""),
+    (&["node", D], D_BLOCK, NONE, 0, D_TEXT, ""),
+    (&["node", S], S_BLOCK, NONE, 0, S_TEXT, ""),
 ];
 
 const PIECES: &[usize] = &[1, 7, 65_536];
@@ -192,7 +267,8 @@ const OTHER_WORDS: &[&[&str]] = &[
         "01551220b94d27b9934d3e08a52e52d7da7dabfac484efe37a5380ee9088f7ace2efcde900",
     ],
     &["cid", H, "--hex", "00"],
-    &["cid", "bafkqaaa"],
+    &["cid", "bafkqbaib"],
+    &["check", "bafkqaaaa"],
     &["--help"],
     &["node", H, H],
     &["node", "--hex", H_HEX],
