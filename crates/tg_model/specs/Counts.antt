@@ -1,7 +1,7 @@
 -- What the limits of a query count.
 use Rattle.std.specs.List.{flat_map}
-use Rattle.std.specs.Prelude.{Bool, List, [], bytes_eq, false, filter, if◌then◌else◌, length, map, max, sum, true, ℕ}
-use Rattle.std.specs.Prelude.{◌+◌, ◌-◌, ◌∷◌}
+use Rattle.std.specs.Prelude.{Bool, List, [], bytes_eq, false, filter, if◌then◌else◌, length, map, max, nat_eq, nat_lt}
+use Rattle.std.specs.Prelude.{not, sum, true, ℕ, ◌++◌, ◌+◌, ◌-◌, ◌∷◌}
 use Rattle.tg_model.specs.Dag.{Dag}
 use Rattle.tg_model.specs.LimitNumbers.{LimitNumbers}
 use Rattle.tg_model.specs.Queries.{QueryParts}
@@ -13,15 +13,24 @@ abbrev pub greatest : List ℕ → ℕ
 greatest [] = 0
 greatest (n ∷ ns) = max n (greatest ns)
 
--- the entries met of one directory
-abbrev pub met_of : List ℕ → List ListedEntry → List ListedEntry
-met_of directory met = filter (λ m. bytes_eq directory m.directory) met
+-- the entries that were met with one more behind them, but for those of directories below its own, which are done with:
+-- the path of a directory is longer than that of the one that it stands in
+abbrev pub met_with : List ListedEntry → ListedEntry → List ListedEntry
+met_with before m =
+    filter (λ other. not (nat_lt (length m.directory) (length other.directory))) before ++ m ∷ []
 
-abbrev pub entries_of_one : List ListedEntry → ListedEntry → ℕ
-entries_of_one met m = length (met_of m.directory met)
+-- and those of them that are of its directory
+abbrev pub met_beside : List ListedEntry → ListedEntry → List ListedEntry
+met_beside before m = filter (λ other. nat_eq (length other.directory) (length m.directory)) (met_with before m)
 
-abbrev pub names_of_one : List ListedEntry → ListedEntry → ℕ
-names_of_one met m = sum (map (λ other. length other.name) (met_of m.directory met))
+-- what is counted of the directory of each entry up to it, of entries that are met in preorder behind these
+abbrev pub each_counted : (List ListedEntry → ℕ) → List ListedEntry → List ListedEntry → List ℕ
+each_counted count before [] = []
+each_counted count before (m ∷ met) = count (met_beside before m) ∷ each_counted count (met_with before m) met
+
+-- the bytes of their names
+abbrev pub names_size : List ListedEntry → ℕ
+names_size met = sum (map (λ m. length m.name) met)
 
 -- the lines of a listing that is met; a bundle's lines stand in the text
 abbrev pub met_line : ListedEntry → List ℕ
@@ -45,8 +54,8 @@ counts_of q t =
     record {
       block = greatest sizes;
       depth = greatest (map (λ p. p.depth) t.places);
-      entries = greatest (map (entries_of_one t.met) t.met);
-      names = greatest (map (names_of_one t.met) t.met);
+      entries = greatest (each_counted length [] t.met);
+      names = greatest (each_counted names_size [] t.met);
       received = 0;
       output = output_count t;
       seen_blocks = if_once q.dups (length given);

@@ -8,7 +8,7 @@ use Rattle.tg_model.specs.Dag.{Dag, Section, bare, blocks, node, root_cid, unope
 use Rattle.tg_model.specs.PathWalk.{PathEnd, Spot, TraversalEnd, gone, not_reached, path_walk, stopped, terminal, whole}
 use Rattle.tg_model.specs.Queries.{QueryParts}
 use Rattle.tg_model.specs.Sound.{IsChecked}
-use Rattle.tg_model.specs.Traversal.{block_list, opened_list, traversal}
+use Rattle.tg_model.specs.Traversal.{block_list, is_asked, opened_list, traversal}
 use Rattle.tg_model.specs.declared.queries.Scope.{Scope}
 
 -- one block stands under each CID
@@ -63,6 +63,7 @@ pub record IsInProgress (d : Dag) (q : QueryParts) (sections : List Section) (wa
   pub right : IsOpenedFor d q
   pub list : block_list q d ≡ sections
   pub end : (traversal q d).end ≡ stopped (gone wanted)
+  pub asked : is_asked q wanted.cid ≡ true
   pub not_seen : IfOnce q.dups ((section : Section) → Contains sections section → section.cid ≢ wanted.cid)
 
 -- whether a block alone is asked for

@@ -1,13 +1,16 @@
--- The traversal of a DAG for a query: the places that are sent, in preorder and in the order of the links, with the
+-- The traversal of a DAG for a query: the places that are opened, in preorder and in the order of the links, with the
 -- text that they give and the entries that are met (Trustless Gateway specification: dag-scope, entity-bytes, order
 -- dfs).
+use Rattle.tg_model.specs.declared.queries.Form.TheVariants as forms
 use Rattle.tg_model.specs.declared.queries.Scope.TheVariants as scopes
 use Rattle.tg_bytes.specs.Ascii.{line_feed, slash}
 use Rattle.std.specs.List.{list_any}
-use Rattle.std.specs.Prelude.{Bool, List, None, Option, Some, [], drop, false, if◌then◌else◌, length, map, nat_lt}
+use Rattle.std.specs.Prelude.{Bool, List, None, Option, Some, [], drop, false, filter, if◌then◌else◌, length, map, nat_lt}
 use Rattle.std.specs.Prelude.{not, take, true, ℕ, ◌&&◌, ◌++◌, ◌+◌, ◌-◌, ◌||◌, ◌∷◌}
 use Rattle.tg_cid.specs.Cid.{CidParts}
 use Rattle.tg_cid.specs.CodeLaws.{same_cid}
+use Rattle.tg_cid.specs.declared.cid.HashKind.{HashKind}
+use Rattle.tg_cid.specs.declared.cid.HashKind.TheVariants.{Identity, Sha256}
 use Rattle.tg_model.specs.ByteRanges.{high_of, low_of}
 use Rattle.tg_model.specs.Dag.{Dag, Children, Section, bare, with_child, no_child, node, total_of, unopened}
 use Rattle.tg_model.specs.PathWalk.{PathEnd, Spot, Stop, TraversalEnd, bad_block, child_below, gone, not_reached}
@@ -20,6 +23,7 @@ use Rattle.tg_model.specs.declared.kinds.Kind.{Kind}
 use Rattle.tg_model.specs.declared.kinds.Kind.TheVariants.{Basic, File, Raw, Shard, Symlink}
 use Rattle.tg_model.specs.declared.kinds.Part.{Part}
 use Rattle.tg_model.specs.declared.kinds.Slot.{Slot}
+use Rattle.tg_model.specs.declared.queries.Form.{Form}
 use Rattle.tg_model.specs.declared.queries.Scope.{Scope}
 
 -- a place of a traversal: the section that is opened there, and how many blocks there are from the root to it, both
@@ -279,9 +283,24 @@ first_behind before (section ∷ sections) =
     let behind = first_behind (before ++ section ∷ []) sections in
     if has_cid section.cid before then behind else section ∷ behind
 
--- the sections that are asked for: each of them
+-- a query for a raw block
+abbrev pub is_raw : Form → Bool
+is_raw forms.Raw = true
+is_raw forms.Car = false
+
+-- a CID with sha2-256
+abbrev pub is_hashed : HashKind → Bool
+is_hashed Sha256 = true
+is_hashed Identity = false
+
+-- whether a section under the CID is asked for: under an identity CID none is, whose block is its digest, but for the
+-- root of a query for a raw block
+abbrev pub is_asked : QueryParts → CidParts → Bool
+is_asked q cid = is_raw q.form || is_hashed cid.hash
+
+-- the sections that are asked for
 abbrev pub asked : QueryParts → List Section → List Section
-asked q sections = sections
+asked q sections = filter (λ section. is_asked q section.cid) sections
 
 -- and of these the ones that are sent: each where repeats are, and else the first under each CID
 abbrev pub unrepeated : Bool → List Section → List Section
@@ -293,7 +312,7 @@ sent q sections = unrepeated q.dups (asked q sections)
 
 -- a section under the CID is sent behind these
 abbrev pub is_sent_behind : QueryParts → List Section → CidParts → Bool
-is_sent_behind q before cid = q.dups || not (has_cid cid before)
+is_sent_behind q before cid = is_asked q cid && (q.dups || not (has_cid cid before))
 
 -- the opened sections, repeats with them
 abbrev pub opened_list : QueryParts → Dag → List Section

@@ -3,12 +3,13 @@ ghost use Rattle.std.specs.Prelude.{◌≡◌, ℕ, ◌^◌, ◌<◌, ◌≤◌,
 ghost use Rattle.std.specs.Prelude.{List as Items};
 ghost use Rattle.tg_cid.specs.Cid.{CidParts};
 ghost use Rattle.tg_model.specs.EntryNames.{IsGoodName};
+ghost use Rattle.tg_model.specs.Traversal.{is_asked};
 ghost use Rattle.tg_model.specs.Queries.{IsFrom, IsSpan, IsUpTo, QueryParts, SpanParts, WellFormed};
 
 use std::alloc::Global;
 use std::marker::Model;
 use tg_bytes::{Bytes, List};
-use tg_cid::Cid;
+use tg_cid::{Cid, HashKind};
 
 /// The segments of a path in order, each the name of an entry.
 pub type Path = List<Bytes>;
@@ -228,6 +229,19 @@ impl Query {
         ensures { result ≡ self.now.dups }
     {
         self.dups
+    }
+
+    /// Whether a section under the CID is asked for: under an identity CID none is, since its block is its digest, but
+    /// for the root of a query for a raw block.
+    ///
+    /// Trustless Gateway specification, CAR responses; CID specification.
+    pub fn asks(&self, cid: &Cid) -> bool
+        ensures { result ≡ is_asked self.now cid.now }
+    {
+        match (self.form, cid.hash_kind()) {
+            (Form::Car, HashKind::Identity) => false,
+            _ => true,
+        }
     }
 }
 

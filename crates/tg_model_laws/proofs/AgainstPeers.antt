@@ -2,15 +2,15 @@
 use Rattle.std.proofs.Common.{◌≡◌, ◌≢◌, ◌⊎◌, ℕ, ◌+◌, Bool, true, false, Option, Some, None, List, [], Contains, inl, inr, ⊎_elim, length, ◌++◌, refl, sym, ap, ◌∙◌, subst}
 use Rattle.tg_model_laws.proofs.OwnSections.{own_sections_fit, path_leads}
 use Rattle.tg_model_laws.proofs.SentOpenings.{one_fit}
-use Rattle.tg_model_laws.proofs.CountsWithin.{counts_within}
+use Rattle.tg_model_laws.specs.CountsWithin.{counts_within}
 use Rattle.tg_model_laws.proofs.Followed.{EndFollows, Follows, at_end, at_node, gives_front, path_follows, traversal_follows}
-use Rattle.tg_model_laws.proofs.Fronts.{FrontOf}
+use Rattle.tg_model_laws.specs.ListFronts.{FrontOf}
 use Rattle.tg_model_laws.proofs.OpenedDags.{Collision, OneKind, opened_or_collision}
 use Rattle.tg_model_laws.specs.PartialDags.{OpenedFrom, alone, opened, same_bare, unseen}
 use Rattle.tg_model_laws.proofs.TerminalTexts.{traversal-text}
 use Rattle.tg_model_laws.proofs.Terminals.{traversal_whole}
 use Rattle.tg_model_laws.specs.PathStops.{path_stops}
-use Rattle.tg_model_laws.specs.SentSections.{held_sent}
+use Rattle.tg_model_laws.specs.SentSections.{hashed_asked, held_sent}
 use Rattle.tg_model.specs.Answer.{answer, is_listed, node_text}
 use Rattle.tg_model.specs.Counts.{counts}
 use Rattle.tg_model.specs.Dag.{Dag, Section, blocks, node, root_cid}
@@ -40,12 +40,12 @@ collision_pair sections s d e (a, b, in_a, in_b, clash) = record {
   same_hash = clash.same_hash;
 }
 
--- a pair of what was opened is one of what was sent: each block that was opened was sent
+-- a pair of what was opened is one of what was sent: each block that was opened under a CID with sha2-256 was sent
 sent_pair : (q : QueryParts) (d s : Dag) → IsOpenedFor s q → CollisionPair (blocks s) d → CollisionPair (block_list q s) d
 sent_pair q d s right p = record {
   received = p.received;
   held = p.held;
-  is_received = held_sent q (opened_list q s) p.received (subst (λ (sections : List Section). IfOnce q.dups (HasOneBlockEach sections)) right.opened right.one_each)
+  is_received = held_sent q (opened_list q s) p.received (subst (λ (sections : List Section). IfOnce q.dups (HasOneBlockEach sections)) right.opened right.one_each) (hashed_asked q p.received.cid p.kind)
       (subst (λ (sections : List Section). Contains sections p.received) right.opened p.is_received);
   is_held = p.is_held;
   same_cid = p.same_cid;

@@ -4,7 +4,7 @@ use Rattle.std.proofs.lemmas.List.{length-map, map-append}
 use Rattle.std.proofs.lemmas.List.Elements.{Contains-append_left}
 use Rattle.tg_model_laws.proofs.CountedPlaces.{just_asked}
 use Rattle.tg_model_laws.proofs.Followed.{EndFollows, at_end, at_node, gives_front, path_follows, traversal_follows}
-use Rattle.tg_model_laws.proofs.Fronts.{FrontOf}
+use Rattle.tg_model_laws.specs.ListFronts.{FrontOf}
 use Rattle.tg_model_laws.proofs.OpenedDags.{opened_checked, same_root}
 use Rattle.tg_model_laws.proofs.Terminals.{top_reached}
 use Rattle.tg_model_laws.proofs.Trimmed.{Stops, path_stops, trimmed, trimmed_blocks, trimmed_from}

@@ -2,7 +2,8 @@
 -- text and what is met are fronts of the other's.
 use Rattle.std.proofs.Common.{◌≡◌, ◌⊎◌, ℕ, suc, zero, ◌+◌, Option, Some, None, List, [], ◌∷◌, ◌++◌, inl, inr, length, refl, sym, ap, ap₂, subst}
 use Rattle.std.proofs.lemmas.List.{append-nil}
-use Rattle.tg_model_laws.proofs.Fronts.{FrontOf, front_behind, front_empty, front_longer, front_whole}
+use Rattle.tg_model_laws.specs.CountsWithin.{GivesFront}
+use Rattle.tg_model_laws.specs.ListFronts.{FrontOf, front_behind, front_empty, front_longer, front_whole}
 use Rattle.tg_model_laws.specs.PartialDags.{ChildrenOpenedFrom, OpenedFrom, alone, each, none, opened, same_bare, unseen}
 use Rattle.tg_model.specs.Dag.{Dag, Children, Section, node}
 use Rattle.tg_model.specs.PathWalk.{PathEnd, PathWalk, Spot, StepTo, Stop, TraversalEnd, absent, child_below, gone, not_folder_here, not_reached, path_walk, spot_at, step_of, stopped, stopped_at, terminal, to_child, to_entry, unless_misfit, walk_from, walk_child, walk_step, whole}
@@ -15,12 +16,6 @@ use Rattle.tg_model.specs.declared.queries.Scope.TheVariants as scopes
 use Rattle.tg_murmur.specs.NameHash.{slot_of}
 
 -- ---- one traversal beside another
-
--- the places, the text and what is met are fronts of the other's
-pub record GivesFront (t u : Traversal) : Type 0 where
-  pub places : FrontOf t.places u.places
-  pub text : FrontOf t.text u.text
-  pub met : FrontOf t.met u.met
 
 -- a traversal ends at an unopened place, and what it gives is a front of what the other gives
 pub record EndsEarly (t u : Traversal) : Type 0 where

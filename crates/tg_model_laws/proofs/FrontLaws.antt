@@ -3,11 +3,11 @@ use Rattle.std.proofs.Common.{◌≡◌, ◌⊎◌, ◌+◌, ◌++◌, ◌∷◌
 use Rattle.tg_model_laws.proofs.AgainstPeers.{early_end}
 use Rattle.tg_model_laws.proofs.CutOpenings.{IsCut, cut_before}
 use Rattle.tg_model_laws.proofs.Followed.{EndFollows, at_end, at_node, gives_front, path_follows, traversal_follows}
-use Rattle.tg_model_laws.proofs.Fronts.{FrontOf}
+use Rattle.tg_model_laws.specs.ListFronts.{FrontOf}
 use Rattle.tg_model_laws.specs.Fronts.{IsFrontOf}
 use Rattle.tg_model_laws.specs.Openings.{IsAtPlace}
 use Rattle.tg_model_laws.specs.PartialDags.{OpenedFrom}
-use Rattle.tg_model_laws.specs.SentSections.{SplitAt, new_behind, sent_split}
+use Rattle.tg_model_laws.specs.SentSections.{SplitAt, asked_behind, new_behind, sent_split}
 use Rattle.tg_model.specs.Answer.{is_listed}
 use Rattle.tg_model.specs.Dag.{Dag, Section}
 use Rattle.tg_model.specs.Fits.{Fits, IsInProgress, IsOpenedFor, is_late_terminal, output_so_far, so_far, whole_text}
@@ -78,6 +78,7 @@ is_front : (q : QueryParts) (d : Dag) (front rest : List Section) (next : Sectio
 is_front q d front rest next right list at =
     let parts : SplitAt q (opened_list q d) front next = sent_split q (opened_list q d) front rest next list in
     let cut : IsCut q d parts.before next = cut_before q d parts.before parts.behind next right parts.whole at in
+    let wanted_sent : is_sent_behind q front cut.spot.cid ≡ true = ap (is_sent_behind q front) cut.wanted ∙ parts.next_sent in
     let (tail, output) = written_by q cut.partial d cut.spot (is_late_terminal q.scope (path_walk q.path cut.partial).end) cut.from cut.end refl in
     record {
       partial = cut.partial;
@@ -86,7 +87,8 @@ is_front q d front rest next right list at =
         right = cut.right;
         list = ap (sent q) cut.list ∙ parts.front_is;
         end = cut.end;
-        not_seen = new_behind q front cut.spot.cid (ap (is_sent_behind q front) cut.wanted ∙ parts.next_sent);
+        asked = asked_behind q front cut.spot.cid wanted_sent;
+        not_seen = new_behind q front cut.spot.cid wanted_sent;
       };
       wanted = cut.wanted;
       from = cut.from;

@@ -3,12 +3,10 @@ mod AskedPlaces
 mod BundleTexts
 mod ContentSizes
 mod CountedPlaces
-mod CountsWithin
 mod DepthLaws
 mod FileTexts
 mod Followed
 mod FrontLaws
-mod Fronts
 mod KeptSections
 mod Listings
 mod OpenedDags

@@ -2,19 +2,28 @@
 use Rattle.std.proofs.Common.{◌≡◌, ◌++◌, ◌∷◌, ℕ, Bool, true, false, Contains, List, [], append_assoc, append-nil, inl, inr, length, refl, sym, ap, ◌∙◌, subst, arith, length-append}
 use Rattle.std.proofs.lemmas.List.{append_cancel_left}
 use Rattle.std.proofs.lemmas.List.Elements.{Contains-append_left, Contains-append_right}
+use Rattle.tg_cid.specs.Cid.{CidParts}
+use Rattle.tg_cid.specs.Names.{Names}
+use Rattle.tg_cid.specs.declared.cid.HashKind.TheVariants.{Identity}
 use Rattle.tg_model_laws.proofs.CutOpenings.{IsCut, cut_before}
 use Rattle.tg_model_laws.proofs.SameOpenings.{OneKind, one_opened}
+use Rattle.tg_model_laws.specs.NamedBlocks.{checked_named, identity_block}
 use Rattle.tg_model_laws.specs.Openings.{IsAtPlace, IsSettled, IsSettledAt}
-use Rattle.tg_model_laws.specs.SentSections.{known_behind, not_among, once, sent_all, sent_behind, sent_more}
+use Rattle.tg_model_laws.specs.SentSections.{known_behind, not_among, once, sent_behind, sent_more, unasked_identity}
 use Rattle.tg_model.specs.Dag.{Dag, Section}
 use Rattle.tg_model.specs.Fits.{Fits, HasOneBlockEach, IfOnce, IsInProgress, IsOpenedFor, whole_text}
 use Rattle.tg_model.specs.PathWalk.{Spot}
 use Rattle.tg_model.specs.Queries.{QueryParts}
+use Rattle.tg_model.specs.Sound.{top}
 use Rattle.tg_model.specs.Traversal.{block_list, is_sent_behind, opened_list, sent, traversal}
 
 -- the first of a list is one of it
 first_of : (x : Section) (xs : List Section) (before : List Section) → Contains (before ++ x ∷ xs) x
 first_of x xs before = Contains-append_right before (x ∷ xs) x (0, omega arith, refl)
+
+-- each block of what was opened is one that its CID names
+opened_named : (q : QueryParts) (d : Dag) → IsOpenedFor d q → (x : Section) → Contains (opened_list q d) x → Names x.cid x.block
+opened_named q d h x held = checked_named top d h.checked x (subst (λ (l : List Section). Contains l x) (sym h.opened) held)
 
 module _ (law : OneKind) (q : QueryParts) (a b : Dag) (h : IsOpenedFor a q) (g : IsOpenedFor b q) (list : block_list q a ≡ block_list q b) where
   -- two DAGs that were opened alike up to their next sections: these are equal
@@ -36,12 +45,19 @@ module _ (law : OneKind) (q : QueryParts) (a b : Dag) (h : IsOpenedFor a q) (g :
       let rest : x ∷ mine.0 ≡ y ∷ other.0 = append_cancel_left (sent q front) (x ∷ mine.0) (y ∷ other.0) lists in
       cc
   same_next front xs ys x y e f cids false known =
-      let z = known_behind q front x.cid known in
-      let mine : HasOneBlockEach (front ++ x ∷ xs) = once q.dups _ (HasOneBlockEach (front ++ x ∷ xs)) known (subst (λ (l : List Section). IfOnce q.dups (HasOneBlockEach l)) (h.opened ∙ e) h.one_each) in
-      let other : HasOneBlockEach (front ++ y ∷ ys) = once q.dups _ (HasOneBlockEach (front ++ y ∷ ys)) known (subst (λ (l : List Section). IfOnce q.dups (HasOneBlockEach l)) (g.opened ∙ f) g.one_each) in
-      let in_mine : x.block ≡ z.0.block = mine x z.0 (first_of x xs front) (Contains-append_left front (x ∷ xs) z.0 z.1) (sym z.2) in
-      let in_other : y.block ≡ z.0.block = other y z.0 (first_of y ys front) (Contains-append_left front (y ∷ ys) z.0 z.1) (sym cids ∙ sym z.2) in
-      let block : x.block ≡ y.block = in_mine ∙ sym in_other in
+      let block : x.block ≡ y.block = elim (known_behind q front x.cid known) [
+        | inl unasked ↦
+            let mine : Names x.cid x.block = opened_named q a h x (subst (λ (l : List Section). Contains l x) (sym e) (first_of x xs front)) in
+            let other : Names y.cid y.block = opened_named q b g y (subst (λ (l : List Section). Contains l y) (sym f) (first_of y ys front)) in
+            let kind : x.cid.hash ≡ Identity = unasked_identity q x.cid unasked in
+            identity_block x.cid x.block kind mine ∙ sym (identity_block x.cid y.block kind (subst (λ (cid : CidParts). Names cid y.block) (sym cids) other))
+        | inr (each_once, (z, held, is)) ↦
+            let mine : HasOneBlockEach (front ++ x ∷ xs) = once q.dups _ each_once (subst (λ (l : List Section). IfOnce q.dups (HasOneBlockEach l)) (h.opened ∙ e) h.one_each) in
+            let other : HasOneBlockEach (front ++ y ∷ ys) = once q.dups _ each_once (subst (λ (l : List Section). IfOnce q.dups (HasOneBlockEach l)) (g.opened ∙ f) g.one_each) in
+            let in_mine : x.block ≡ z.block = mine x z (first_of x xs front) (Contains-append_left front (x ∷ xs) z held) (sym is) in
+            let in_other : y.block ≡ z.block = other y z (first_of y ys front) (Contains-append_left front (y ∷ ys) z held) (sym cids ∙ sym is) in
+            in_mine ∙ sym in_other
+      ] in
       λ i. record { cid = cids i; block = block i }
 
 -- one that was opened as far as another, but no further, isn't settled there
@@ -76,19 +92,17 @@ same_lists law q a b h g list at at_b s t front (x ∷ u) (y ∷ v) e f =
 
 -- what is sent determines what is opened, where both traversals came through or stopped at a block that is sent
 pub sent_opened : OneKind → (q : QueryParts) (a b : Dag) → IsOpenedFor a q → IsOpenedFor b q → block_list q a ≡ block_list q b → IsSettled a q → IsSettled b q → opened_list q a ≡ opened_list q b
-sent_opened law q a b h g list (inl dups) t = sym (sent_all q (opened_list q a) dups) ∙ list ∙ sent_all q (opened_list q b) dups
-sent_opened law q a b h g list (inr s) (inl dups) = sym (sent_all q (opened_list q a) dups) ∙ list ∙ sent_all q (opened_list q b) dups
-sent_opened law q a b h g list (inr s) (inr t) = same_lists law q a b h g list s.0 t.0 s.1 t.1 [] (opened_list q a) (opened_list q b) refl refl
+sent_opened law q a b h g list s t = same_lists law q a b h g list s.0 t.0 s.1 t.1 [] (opened_list q a) (opened_list q b) refl refl
 
 -- sections that fit, or are in progress, are settled
 fit_settled : (q : QueryParts) (sections : List Section) (d : Dag) (out : List ℕ) → Fits d q sections out → IsSettled d q
-fit_settled q sections d out h = inr (subst IsAtPlace (sym h.end) tt, subst (IsSettledAt q (block_list q d)) (sym h.end) tt)
+fit_settled q sections d out h = (subst IsAtPlace (sym h.end) tt, subst (IsSettledAt q (block_list q d)) (sym h.end) tt)
 
 progress_settled : (q : QueryParts) (sections : List Section) (d : Dag) (wanted : Spot) → IsInProgress d q sections wanted → IsSettled d q
-progress_settled q sections d wanted h = inr (
+progress_settled q sections d wanted h = (
   subst IsAtPlace (sym h.end) tt,
   subst (IsSettledAt q (block_list q d)) (sym h.end)
-      (ap (λ (l : List Section). is_sent_behind q l wanted.cid) h.list ∙ not_among q sections wanted.cid h.not_seen),
+      (ap (λ (l : List Section). is_sent_behind q l wanted.cid) h.list ∙ not_among q sections wanted.cid h.asked h.not_seen),
 )
 
 -- what the sections of a query have opened is determined

@@ -1,6 +1,9 @@
 pub mod Contents
+pub mod CountsWithin
 pub mod Depths
 pub mod Fronts
+pub mod ListFronts
+pub mod NamedBlocks
 pub mod Openings
 pub mod PartialDags
 pub mod PathStops

@@ -1,5 +1,5 @@
 -- Where the traversal of what was opened for a query may end.
-use Rattle.std.specs.Prelude.{List, true, ⊤, ◌≡◌, ◌⊎◌}
+use Rattle.std.specs.Prelude.{List, true, ⊤, ◌≡◌}
 use Rattle.tg_model.specs.Dag.{Dag, Section}
 use Rattle.tg_model.specs.PathWalk.{Stop, TraversalEnd, bad_block, gone, not_folder, not_there, stopped, whole}
 use Rattle.tg_model.specs.Queries.{QueryParts}
@@ -25,8 +25,7 @@ IsSettledAt q sections (stopped (not_folder i)) = ⊤
 IsSettledAt q sections (stopped (gone spot)) = is_sent_behind q sections spot.cid ≡ true
 IsSettledAt q sections (stopped (bad_block spot fault)) = ⊤
 
--- what is opened for a query is determined by what is sent: repeats are sent, or the traversal stopped where a block is
--- sent, or came through
+-- what is opened for a query is determined by what is sent: the traversal came through, or it stopped where a block is
+-- sent or isn't a node
 abbrev pub IsSettled : Dag → QueryParts → Type 0
-IsSettled d q = (q.dups ≡ true)
-    ⊎ (IsAtPlace (traversal q d).end × IsSettledAt q (block_list q d) (traversal q d).end)
+IsSettled d q = IsAtPlace (traversal q d).end × IsSettledAt q (block_list q d) (traversal q d).end

@@ -57,8 +57,8 @@ MeetEntries = (q : QueryParts) (s t : Dag) → IsOpenedFor s q → (path_walk q.
 abbrev pub WriteFronts : Type 0
 WriteFronts = (q : QueryParts) (d s : Dag) → IsSound d → root_cid d ≡ q.root → IsOpenedFor s q → IsFrontOfAnswer (output_so_far q s) (answer q d) ⊎ CollisionPair (block_list q s) d
 
--- under scope all, without a path, what fits is what is sent of the sound DAG's blocks, all of them where repeats are,
--- or there is a collision pair
+-- under scope all, without a path, what fits is what is sent of the sound DAG's blocks, where repeats are each that is
+-- asked for, or there is a collision pair
 abbrev pub HoldAll : Type 0
 HoldAll = (q : QueryParts) (d s : Dag) (sections : List Section) (out : List ℕ) → IsSound d → root_cid d ≡ q.root → q.scope ≡ scopes.All → q.path ≡ [] → Fits s q sections out
     → (sections ≡ sent q (blocks d)) ⊎ CollisionPair sections d

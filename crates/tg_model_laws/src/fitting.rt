@@ -21,7 +21,8 @@ ghost use Rattle.tg_model.specs.Traversal.{block_list, opened_list, traversal};
 /// both.
 pub fn one_fit()
     // What is opened is determined by the list of what is opened, and this by what is sent, where the traversal came
-    // through or stopped at a block that would be sent: a repeat that isn't may be opened or not.
+    // through or stopped at a block that would be sent: another, as a repeat or one of an identity CID, may be opened
+    // or not.
     ensures opened { (q : QueryParts) (a b : Dag) → IsOpenedFor a q → IsOpenedFor b q
         → opened_list q a ≡ opened_list q b
         → IsAtPlace (traversal q a).end → IsAtPlace (traversal q b).end → (a ≡ b)
@@ -46,7 +47,8 @@ pub fn front_sections()
     ensures in_progress { ProgressByFronts }
 {}
 
-/// The sections of a sound DAG's own traversal fit, with its answer, where the query has one.
+/// The sections of a sound DAG's own traversal fit, with its answer, where the query has one, and one block stands
+/// under each CID where each is sent once.
 pub fn own_sections()
     ensures { (q : QueryParts) (d : Dag) (text : List ℕ) → IsSound d → root_cid d ≡ q.root
         → IfOnce q.dups (HasOneBlockEach (opened_list q d)) → answer q d ≡ Some text

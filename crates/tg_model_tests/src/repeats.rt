@@ -4,9 +4,8 @@ use std::alloc::Global;
 use std::rt::HostRuntime;
 use tg_cid::Cid;
 use tg_model::{Path, Query, Scope, SpanFrom};
-use tg_oracle::{End, evaluate, scoped_query, span_of};
+use tg_oracle::{End, evaluate, scoped_query};
 use tg_test_dags::{ALL, Asked, Block, Case, Dag, ENTITY, NO_SLOT, Stored, store};
-use tg_traversal::copied_path;
 
 /// What a DAG is, the DAG, a path in it and what is asked for there, the numbers of the blocks that are sent at each of
 /// their places, the same where each is sent once, and the text.
@@ -277,25 +276,8 @@ fn case_of(alloc: Global, row: &Row, dups: bool) -> Option<Case> {
 /// The query of a row, with repeats or without.
 fn query_of(alloc: Global, root: Cid, row: &Row, dups: bool) -> Option<Query> {
     match scoped_query(alloc, root, row.path, Scope::Entity) {
-        Ok(query) => asked_at(alloc, &query, row.asked, dups),
+        Ok(query) => row.asked.at(alloc, &query, dups),
         Err(_) => None,
-    }
-}
-
-/// What is asked for at the path of a query.
-fn asked_at(alloc: Global, query: &Query, asked: Asked, dups: bool) -> Option<Query> {
-    let Ok(path) = copied_path(alloc, query.path()) else {
-        return None;
-    };
-    match asked {
-        Asked::Scope(scope) => Some(Query::car(query.root(), path, scope, None, dups)),
-        Asked::Bytes(from, to) => match span_of(from, to) {
-            Ok(span) => {
-                let span = Some(span);
-                Some(Query::car(query.root(), path, Scope::Entity, span, dups))
-            }
-            Err(_) => None,
-        },
     }
 }
 
@@ -417,8 +399,8 @@ const IDENTITY: &[Row] = &[
         dag: ITSELF,
         path: &[],
         asked: ENTITY,
-        each: &[1],
-        once: &[1],
+        each: &[],
+        once: &[],
         text: b"aaaa",
     },
     Row {
@@ -426,8 +408,8 @@ const IDENTITY: &[Row] = &[
         dag: ENTRIES,
         path: &[],
         asked: ALL,
-        each: &[2, 1, 1],
-        once: &[2, 1],
+        each: &[2],
+        once: &[2],
         text: b"dir /\nfile 4 /p\naaaa\nfile 4 /q\naaaa\n",
     },
     Row {
@@ -435,8 +417,8 @@ const IDENTITY: &[Row] = &[
         dag: HASHES,
         path: &[],
         asked: ALL,
-        each: &[2, 0, 1, 0, 1],
-        once: &[2, 0, 1],
+        each: &[2, 0, 0],
+        once: &[2, 0],
         text: b"dir /\nfile 4 /p\naaaa\nfile 4 /q\naaaa\nfile 4 /r\naaaa\nfile 4 /s\naaaa\n",
     },
     Row {
@@ -444,8 +426,8 @@ const IDENTITY: &[Row] = &[
         dag: PARTS,
         path: &[],
         asked: Asked::Bytes(SpanFrom::Start(5), Some(12)),
-        each: &[3, 2, 0, 2],
-        once: &[3, 2, 0],
+        each: &[3, 0],
+        once: &[3, 0],
         text: b"bbaaaabb",
     },
     Row {
@@ -453,8 +435,8 @@ const IDENTITY: &[Row] = &[
         dag: FILE,
         path: &[],
         asked: ENTITY,
-        each: &[2, 0, 0],
-        once: &[2, 0],
+        each: &[0, 0],
+        once: &[0],
         text: b"aaaaaaaa",
     },
     Row {
@@ -462,8 +444,8 @@ const IDENTITY: &[Row] = &[
         dag: FOLDERS,
         path: &[],
         asked: ALL,
-        each: &[3, 2, 0, 2, 0],
-        once: &[3, 2, 0],
+        each: &[3, 0, 0],
+        once: &[3, 0],
         text: b"dir /\ndir /d\nfile 4 /d/p\naaaa\ndir /e\nfile 4 /e/p\naaaa\n",
     },
     Row {
@@ -471,21 +453,21 @@ const IDENTITY: &[Row] = &[
         dag: FOLDERS,
         path: &["e", "p"],
         asked: ENTITY,
-        each: &[3, 2, 0],
-        once: &[3, 2, 0],
+        each: &[3, 0],
+        once: &[3, 0],
         text: b"aaaa",
     },
 ];
 
 #[test]
-fn blocks_of_identity_cids_are_given(rt: HostRuntime) {
+fn blocks_of_identity_cids_are_opened_and_not_given(rt: HostRuntime) {
     for row in IDENTITY {
         assert!(rt; gives_both(rt.alloc(), row), "{}", row.name);
     }
 }
 
 /// What a DAG is, the DAG, the numbers of those of its blocks that are stored, and of those that a walk over all of it
-/// gives at each of their places, and once.
+/// gives at each of their places, and once; none of an identity CID.
 type Unstored = (
     &'static str,
     Dag,
@@ -495,16 +477,10 @@ type Unstored = (
 );
 
 const UNSTORED: &[Unstored] = &[
-    ("the root, and nothing is stored", ITSELF, &[], &[1], &[1]),
-    ("a raw entry twice", ENTRIES, &[2], &[2, 1, 1], &[2, 1]),
-    ("the root of a file", FILE, &[0], &[2, 0, 0], &[2, 0]),
-    (
-        "a directory twice",
-        FOLDERS,
-        &[0, 3],
-        &[3, 2, 0, 2, 0],
-        &[3, 2, 0],
-    ),
+    ("the root, and nothing is stored", ITSELF, &[], &[], &[]),
+    ("a raw entry twice", ENTRIES, &[2], &[2], &[2]),
+    ("the root of a file", FILE, &[0], &[0, 0], &[0]),
+    ("a directory twice", FOLDERS, &[0, 3], &[3, 0, 0], &[3, 0]),
 ];
 
 /// Whether a walk over all of a row's DAG gives what it says, with repeats and without.

@@ -2,7 +2,7 @@
 use std::alloc::Global;
 use std::rt::HostRuntime;
 use tg_bytes::Bytes;
-use tg_cid::{Cid, MAX_BLOCK_LEN};
+use tg_cid::{Cid, HashKind, MAX_BLOCK_LEN};
 use tg_model::{Keep, Query, Scope};
 use tg_oracle::{End, Evaluation, Sent, StoredBlock, evaluate, scoped_query};
 use tg_store::MemStore;
@@ -117,8 +117,7 @@ fn ends_so(walk: &mut Walk, store: &mut MemStore, end: &End) -> bool {
     goes_on(walk, store) == want && goes_on(walk, store) == want
 }
 
-/// Whether the path of a query leads to the block which the evaluator sends last for it, or ends as its evaluation
-/// does.
+/// Whether the path of a query leads to the block which the evaluator tells for it, or ends as its evaluation does.
 fn leads_so(alloc: Global, case: &Case, store: &mut MemStore) -> bool {
     let Some(block) = block_query(alloc, &case.query) else {
         return false;
@@ -145,8 +144,16 @@ fn resolved(alloc: Global, store: &mut MemStore, query: &Query) -> Result<Cid, R
 /// Whether a path leads where the evaluator says.
 fn leads_as(found: &Evaluation, resolved: Result<Cid, ResolveFault>) -> bool {
     match resolved {
-        Ok(cid) => found.end == End::Whole && last_cid(found) == Some(cid),
+        Ok(cid) => found.end == End::Whole && is_terminal(found, cid),
         Err(fault) => refusal_at(&found.end) == Some(fault),
+    }
+}
+
+/// Whether the block of the CID is sent last, or, of an identity CID, is the text.
+fn is_terminal(found: &Evaluation, cid: Cid) -> bool {
+    match cid.hash_kind() {
+        HashKind::Sha256 => last_cid(found) == Some(cid),
+        HashKind::Identity => cid.holds(found.text.as_slice()),
     }
 }
 

@@ -7,7 +7,10 @@ use Rattle.tg_oracle.specs.HelloWorld.{cid_with}
 use Rattle.tg_model.specs.Queries.{QueryParts, SpanParts}
 use Rattle.tg_model.specs.declared.kinds.Kind.TheVariants.{Basic, File, Raw, Shard, Symlink}
 use Rattle.tg_model.specs.declared.kinds.Slot.{Slot}
+use Rattle.tg_cid.specs.declared.cid.HashKind.TheVariants.{Identity}
 use Rattle.tg_model.specs.declared.queries.Form.TheVariants.{Car}
+use Rattle.tg_model.specs.declared.queries.Form.TheVariants as forms
+use Rattle.tg_model.specs.declared.queries.Scope.TheVariants as scopes
 use Rattle.tg_model.specs.declared.queries.Scope.{Scope}
 use Rattle.tg_model.specs.declared.queries.SpanFrom.TheVariants.{Start, Last}
 
@@ -22,6 +25,10 @@ node_with number = record { cid = cid_with codecs.DagPb (number ∷ []); block =
 abbrev pub with_version_zero : Section → Section
 with_version_zero section = record { cid = record section.cid { version = 0 }; block = section.block }
 
+-- the same block under its identity CID, whose digest it is
+abbrev pub with_own_digest : Section → Section
+with_own_digest section = record { cid = record section.cid { hash = Identity; digest = section.block }; block = section.block }
+
 abbrev pub raw_leaf : Section → Dag
 raw_leaf section = node section Raw no_child
 
@@ -33,6 +40,10 @@ asking path scope span =
 -- the same without repeats
 abbrev pub asking_once : Scope → Option SpanParts → QueryParts
 asking_once scope span = record (asking [] scope span) { dups = false }
+
+-- a query for the raw block of a root
+abbrev pub asking_raw : QueryParts
+asking_raw = record (asking [] scopes.Block None) { form = forms.Raw }
 
 -- the bytes 2 to 5, and the last no bytes
 abbrev pub two_to_five : SpanParts

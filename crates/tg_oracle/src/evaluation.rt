@@ -5,8 +5,8 @@ use crate::ranges::{bounds, is_met};
 use crate::texts::{escaped, joined};
 use std::alloc::{AllocError, Global};
 use tg_bytes::{Bytes, List};
-use tg_cid::Cid;
-use tg_model::{BlockFault, Entry, Kind, Part, Query, Scope, Slot, Span, check_shard, reads};
+use tg_cid::{Cid, HashKind};
+use tg_model::{BlockFault, Entry, Form, Kind, Part, Query, Scope, Slot, Span, check_shard, reads};
 use tg_murmur::hash64;
 use thiserror::Error;
 
@@ -75,7 +75,8 @@ pub enum EvaluationFault {
 }
 
 /// Evaluates a query over stored blocks. A block that stands at several places is sent at each of them, or at the first
-/// of them under each CID where the query asks for no repeats.
+/// of them under each CID where the query asks for no repeats; and one of an identity CID isn't sent, but for a raw
+/// query's.
 ///
 /// Path Gateway specification, Path Resolution; Trustless Gateway specification, dag-scope and entity-bytes; UnixFS
 /// specification. The texts of listings and bundles are this project's own. That the CIDs name the blocks isn't looked
@@ -89,6 +90,7 @@ pub fn evaluate(
         alloc,
         stored,
         repeats: query.dups(),
+        raw: query.form() == Form::Raw,
         sent: List::new(alloc),
         text: Bytes::new(alloc),
     };
@@ -101,6 +103,7 @@ pub fn evaluate(
         alloc: _,
         stored: _,
         repeats: _,
+        raw: _,
         sent,
         text,
     } = run;
@@ -160,6 +163,7 @@ struct Run<'a> {
     alloc: Global,
     stored: &'a [StoredBlock],
     repeats: bool,
+    raw: bool,
     sent: List<Sent>,
     text: Bytes,
 }
@@ -409,8 +413,11 @@ impl<'a> Run<'a> {
         Ok((passed, opened))
     }
 
-    /// Sends a block, but not again where each is sent once.
+    /// Sends a block, but not again where each is sent once, and none of an identity CID but for a raw query.
     fn send(&mut self, cid: Cid, index: usize, block: &[u8]) -> Result<(), AllocError> {
+        if !self.raw && cid.hash_kind() == HashKind::Identity {
+            return Ok(());
+        }
         if !self.repeats && self.is_sent(cid) {
             return Ok(());
         }

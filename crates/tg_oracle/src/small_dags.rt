@@ -5,7 +5,8 @@ ghost use Rattle.tg_model.specs.Content.{content, entries};
 ghost use Rattle.tg_model.specs.Lookup.{found, lookup_path, not_folder, not_there};
 ghost use Rattle.tg_model.specs.PathWalk.{not_reached, path_walk, terminal};
 ghost use Rattle.tg_model.specs.PathWalk as walk;
-ghost use Rattle.tg_oracle.specs.SmallDags.{asking, asking_once, with_version_zero};
+ghost use Rattle.tg_oracle.specs.SmallDags.{asking, asking_once, asking_raw, with_own_digest};
+ghost use Rattle.tg_oracle.specs.SmallDags.{with_version_zero};
 ghost use Rattle.tg_oracle.specs.SmallDags.{folder, folder_dag, hell, inner, inner_dag, link, link_dag};
 ghost use Rattle.tg_oracle.specs.SmallDags.{no_bytes, nothing, one_shard, one_shard_dag, one_shard_slots, inner_slots};
 ghost use Rattle.tg_oracle.specs.SmallDags.{over_inner, parent, parent_dag, raw_leaf, twin_file, twins, two_to_five};
@@ -30,6 +31,10 @@ pub fn small_files()
     ensures once_inside { block_list (asking_once scopes.Entity (Some two_to_five)) twin_file ≡ twins ∷ hell ∷ [] }
     ensures versions { sent (asking_once scopes.Entity None) (twins ∷ with_version_zero twins ∷ twins ∷ [])
         ≡ twins ∷ with_version_zero twins ∷ [] }
+    // A block of an identity CID isn't asked for, but for the root of a raw query.
+    ensures unsent { sent (asking [] scopes.Entity None) (twins ∷ with_own_digest hell ∷ hell ∷ []) ≡ twins ∷ hell ∷ [] }
+    ensures unsent_once { sent (asking_once scopes.Entity None) (hell ∷ with_own_digest hell ∷ hell ∷ []) ≡ hell ∷ [] }
+    ensures raw_sent { sent asking_raw (with_own_digest hell ∷ []) ≡ with_own_digest hell ∷ [] }
     ensures counted { (counts (asking_once scopes.Entity None) twin_file).reused ≡ 1 }
     ensures empty { block_list (asking [] scopes.Entity (Some no_bytes)) twin_file ≡ twins ∷ [] }
     ensures no_answer { answer (asking [] scopes.Entity (Some no_bytes)) twin_file ≡ Some [] }

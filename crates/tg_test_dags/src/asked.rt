@@ -4,13 +4,34 @@ use crate::stored::Stored;
 use std::alloc::Global;
 use tg_cid::Cid;
 use tg_model::{Query, Scope, SpanFrom};
-use tg_oracle::{Evaluation, QueryFault, evaluate, ranged_query, scoped_query};
+use tg_oracle::{Evaluation, QueryFault, evaluate, ranged_query, scoped_query, span_of};
+use tg_traversal::copied_path;
 
 /// What is asked for at the end of a path: a scope, or a range of a file.
 #[derive(Clone, Copy, Debug)]
 pub enum Asked {
     Scope(Scope),
     Bytes(SpanFrom, Option<u64>),
+}
+
+impl Asked {
+    /// The query with the root and the path of another that asks for this, with repeats or without. There is none for
+    /// want of memory, or where that makes no query.
+    pub fn at(self, alloc: Global, query: &Query, dups: bool) -> Option<Query> {
+        let Ok(path) = copied_path(alloc, query.path()) else {
+            return None;
+        };
+        match self {
+            Asked::Scope(scope) => Some(Query::car(query.root(), path, scope, None, dups)),
+            Asked::Bytes(from, to) => match span_of(from, to) {
+                Ok(span) => {
+                    let span = Some(span);
+                    Some(Query::car(query.root(), path, Scope::Entity, span, dups))
+                }
+                Err(_) => None,
+            },
+        }
+    }
 }
 
 /// The block alone.

@@ -5,10 +5,13 @@ use Rattle.std.proofs.lemmas.List.Elements.{Contains-append_left, Contains-appen
 use Rattle.std.specs.Prelude.{⊤}
 use Rattle.tg_cid.specs.Cid.{CidParts}
 use Rattle.tg_cid.specs.Names.{Names}
+use Rattle.tg_model_laws.specs.CountsWithin.{counts_within}
 use Rattle.tg_model_laws.specs.PartialDags.{AreOneBlock}
 use Rattle.tg_model_laws.specs.Standing.{Each, IsAt, IsLedTo, Stands, StepsLead, VisitsStand}
+use Rattle.tg_model.specs.Counts.{counts, counts_of}
 use Rattle.tg_model.specs.Dag.{AreWhole, Children, Dag, IsWhole, Section, bare, blocks, blocks_of_children, links_of, no_child, node, root_cid, root_cids, unopened, with_child}
 use Rattle.tg_model.specs.Fits.{CollisionPair}
+use Rattle.tg_model.specs.LimitNumbers.{AreWithin}
 use Rattle.tg_model.specs.PathWalk.{StepTo, TraversalEnd, absent, gone, not_folder_here, step_of, stopped, to_child, to_entry, whole}
 use Rattle.tg_model.specs.Queries.{QueryParts, SpanParts}
 use Rattle.tg_model.specs.Reading.{Reads}
@@ -145,6 +148,15 @@ module _ (laws : StageLaws) (stand : VisitsStand) (lead : StepsLead) where
 
   pub beside_ends : (q : QueryParts) (d : Dag) (given : Given) → IsBeside q d given [] → traversal q d ≡ ending given whole
   beside_ends q d given b = laws.done q d given (subst (λ (nodes : List (Task Dag)). IsStage q d given nodes) (no_task b.nodes b.same) b.stage)
+
+  pub beside_counts : (q : QueryParts) (d : Dag) (given : Given) (tasks : List (Task CidParts)) → IsBeside q d given tasks → AreWithin (counts q d) (counts_of q (ending given whole))
+  beside_counts q d given tasks b =
+      let rest : Traversal = tasks_give q b.nodes in
+      counts_within q (ending given whole) (traversal q d) (record {
+        places = record { rest = rest.places; is = ap (λ (t : Traversal). t.places) b.stage };
+        text = record { rest = rest.text; is = ap (λ (t : Traversal). t.text) b.stage };
+        met = record { rest = rest.met; is = ap (λ (t : Traversal). t.met) b.stage };
+      })
 
   -- ---- the node at the wanted place
 

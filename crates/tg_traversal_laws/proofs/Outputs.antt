@@ -1,7 +1,8 @@
 -- What is written of a DAG that was opened for a query, by the text and the entries that its traversal gives.
-use Rattle.std.proofs.Common.{◌≡◌, ℕ, ◌+◌, ◌-◌, Bool, true, false, Option, Some, None, List, [], ◌∷◌, ◌++◌, length, map, refl, sym, ap, ap₂, ◌∙◌, append-nil}
+use Rattle.std.proofs.Common.{◌≡◌, ℕ, ◌+◌, ◌-◌, Bool, true, false, Option, Some, None, List, [], ◌∷◌, ◌++◌, length, map, refl, sym, ap, ap₂, ◌∙◌, append-nil, subst}
 use Rattle.std.specs.Prelude.{⊤, if◌then◌else◌}
 use Rattle.tg_cid.specs.Cid.{CidParts}
+use Rattle.tg_model_laws.specs.Openings.{IsAtBlock, IsAtPlace}
 use Rattle.tg_model_laws.specs.PartialDags.{MeetEntries, SayTexts}
 use Rattle.tg_model.specs.Answer.{is_listed, named_of, node_text}
 use Rattle.tg_model.specs.Content.{entries}
@@ -19,6 +20,7 @@ use Rattle.tg_model.specs.declared.kinds.Part.{Part}
 use Rattle.tg_model.specs.declared.queries.Scope.{Scope}
 use Rattle.tg_model.specs.declared.queries.Scope.TheVariants as scopes
 use Rattle.tg_traversal_laws.specs.Stages.{Given, ending}
+use Rattle.tg_traversal_laws.specs.Tasks.{Miss, no_directory, no_entry, stop_of}
 use Rattle.tg_traversal_laws.specs.Verified.{listing_at_end, written_whole}
 
 -- ---- reaches of which nothing of one kind is given
@@ -35,13 +37,13 @@ each_mapped : {A : Type 0} (R : Reach → Type 0) (Z : Traversal → Type 0) (f 
 each_mapped R Z f h [] = tt
 each_mapped R Z f h (x ∷ xs) = (h x, each_mapped R Z f h xs)
 
-module _ (R : Reach → Type 0) (Z : Traversal → Type 0) (none : Z (giving_text [])) (both : (a b : Traversal) → Z a → Z b → Z (and_then a b)) (stop : (s : Stop) → Z (ended s))
+module _ (R : Reach → Type 0) (Z : Traversal → Type 0) (none : Z (giving_text [])) (both : (a b : Traversal) → Z a → Z b → Z (and_then a b)) (stop : (s : Stop) → IsAtBlock s → Z (ended s))
     (at_place : (reach : Reach) (position : Position) (p : Place) (section : Section) (kind : Kind) → R reach → Z (giving_place p (text_before reach position section kind)))
     (behind : (reach : Reach) (kind : Kind) → R reach → Z (giving_text (text_behind reach kind)))
     (inside : (reach : Reach) (position : Position) (kind : Kind) → R reach → EachVisit R Z (visits reach position kind)) where
   unless_any : (spot : Spot) (fault : Option BlockFault) (t : Traversal) → Z t → Z (unless_bad spot fault t)
   unless_any spot None t h = h
-  unless_any spot (Some fault) t h = stop _
+  unless_any spot (Some fault) t h = stop _ tt
 
   visited_any : (into : Option (Reach × Position)) (depth : ℕ) (d : Dag) → IntoIs R into → ((reach : Reach) (position : Position) → R reach → Z (traverse reach position depth d))
       → Z (visited (λ reach position. traverse reach position depth d) into)
@@ -50,9 +52,9 @@ module _ (R : Reach → Type 0) (Z : Traversal → Type 0) (none : Z (giving_tex
 
   mutual
     in_dag : (reach : Reach) (position : Position) (depth : ℕ) (d : Dag) → R reach → Z (traverse reach position depth d)
-    in_dag reach position depth (unopened cid) r = stop _
-    in_dag reach position depth (bare section None) r = stop _
-    in_dag reach position depth (bare section (Some fault)) r = stop _
+    in_dag reach position depth (unopened cid) r = stop _ tt
+    in_dag reach position depth (bare section None) r = stop _ tt
+    in_dag reach position depth (bare section (Some fault)) r = stop _ tt
     in_dag reach position depth (node section kind children) r =
         unless_any _ (position_fault position kind) _
         (both _ _ (at_place reach position (record { section = section; depth = depth }) section kind r)
@@ -108,7 +110,7 @@ listed_visits listed position (Symlink target) r = tt
 
 listing_has_no_text : (position : Position) (depth : ℕ) (d : Dag) → (traverse listed position depth d).text ≡ []
 listing_has_no_text position depth d =
-    in_dag IsListing HasNoText refl (λ a b h g. no_text_both a.end a b h g) (λ s. refl) no_text_before no_text_behind listed_visits listed position depth d tt
+    in_dag IsListing HasNoText refl (λ a b h g. no_text_both a.end a b h g) (λ s at. refl) no_text_before no_text_behind listed_visits listed position depth d tt
 
 -- ---- a content meets no entries
 
@@ -164,7 +166,7 @@ content_visits reach position (Symlink target) r = tt
 
 content_has_no_entry : (reach : Reach) (position : Position) (depth : ℕ) (d : Dag) → IsContent reach → (traverse reach position depth d).met ≡ []
 content_has_no_entry reach position depth d r =
-    in_dag IsContent HasNoEntry refl (λ a b h g. no_entry_both a.end a b h g) (λ s. refl) (λ reach position p section kind r. refl) (λ reach kind r. refl) content_visits reach position depth d r
+    in_dag IsContent HasNoEntry refl (λ a b h g. no_entry_both a.end a b h g) (λ s at. refl) (λ reach position p section kind r. refl) (λ reach kind r. refl) content_visits reach position depth d r
 
 -- ---- at the terminal
 
@@ -209,6 +211,50 @@ late_stopped scopes.Block span depth (terminal (bare section fault)) stop l e = 
 late_stopped scopes.Block span depth (terminal (node section kind children)) stop l e = absurd (cc e)
 late_stopped scopes.Entity span depth (terminal t) stop l e = listed_alone scopes.Entity span depth t l
 late_stopped scopes.All span depth (terminal t) stop l e = absurd (cc l)
+
+-- ---- below a terminal a traversal ends at a place
+
+abbrev EndsAtPlace : Traversal → Type 0
+EndsAtPlace t = IsAtPlace t.end
+
+at_place_both : (end : TraversalEnd) (a b : Traversal) → a.end ≡ end → EndsAtPlace a → EndsAtPlace b → EndsAtPlace (after_end end a b)
+at_place_both whole a b e h g = g
+at_place_both (stopped stop) a b e h g = h
+
+any_into : (into : Option (Reach × Position)) → IntoIs (λ reach. ⊤) into
+any_into None = tt
+any_into (Some into) = tt
+
+any_visits : (todo : List Visit) → EachVisit (λ reach. ⊤) EndsAtPlace todo
+any_visits [] = tt
+any_visits (visit ∷ todo) = ((tt, any_into visit.into), any_visits todo)
+
+ends_at_place : (reach : Reach) (position : Position) (depth : ℕ) (d : Dag) → EndsAtPlace (traverse reach position depth d)
+ends_at_place reach position depth d =
+    in_dag (λ reach. ⊤) EndsAtPlace tt (λ a b h g. at_place_both a.end a b refl h g) (λ s at. at) (λ reach position p section kind r. tt) (λ reach kind r. tt)
+    (λ reach position kind r. any_visits (visits reach position kind)) reach position depth d tt
+
+terminal_at_place : (scope : Scope) (span : Option SpanParts) (depth : ℕ) (t : Dag) → EndsAtPlace (at_terminal scope span depth t)
+terminal_at_place scopes.Block span depth (unopened cid) = tt
+terminal_at_place scopes.Block span depth (bare section fault) = tt
+terminal_at_place scopes.Block span depth (node section kind children) = tt
+terminal_at_place scopes.Entity span depth t = ends_at_place _ top depth t
+terminal_at_place scopes.All span depth t = ends_at_place _ top depth t
+
+-- so one that stops where a segment leads nowhere gives no text
+no_block : (miss : Miss) → IsAtBlock (stop_of miss) → ⊥
+no_block (no_entry i) h = h
+no_block (no_directory i) h = h
+
+nowhere_alone : (scope : Scope) (span : Option SpanParts) (depth : ℕ) (end : PathEnd) (miss : Miss) → (from_end end scope span depth).end ≡ stopped (stop_of miss)
+    → (from_end end scope span depth).text ≡ []
+nowhere_alone scope span depth (not_reached stop) miss e = refl
+nowhere_alone scope span depth (terminal t) miss e = absurd (no_block miss (subst IsAtPlace e (terminal_at_place scope span depth t)))
+
+pub nowhere_text : (q : QueryParts) (s : Dag) (given : Given) (miss : Miss) → traversal q s ≡ ending given (stopped (stop_of miss)) → given.text ≡ []
+nowhere_text q s given miss e =
+    let walk = path_walk q.path s in
+    sym (ap (λ (t : Traversal). t.text) e) ∙ nowhere_alone q.scope q.span (length walk.sections + 1) walk.end miss (ap (λ (t : Traversal). t.end) e)
 
 -- ---- what is written
 

@@ -1,26 +1,28 @@
 -- A verifier's sections, one after another.
-use Rattle.std.proofs.Common.{◌≡◌, ◌≢◌, ◌⊎◌, ℕ, Bool, true, false, List, [], ◌∷◌, ◌++◌, Contains, inl, inr, ⊎_elim, length, length-append, map, not, refl, sym, ap, ◌∙◌, ◌||◌, append_assoc, append-nil, subst, arith}
+use Rattle.std.proofs.Common.{◌≡◌, ◌≢◌, ◌⊎◌, ℕ, Bool, true, false, List, [], ◌∷◌, ◌++◌, Contains, inl, inr, ⊎_elim, length, length-append, map, refl, sym, ap, ◌∙◌, append_assoc, append-nil, subst, arith}
 use Rattle.std.proofs.lemmas.List.{append_cancel_left, map-append}
 use Rattle.std.proofs.lemmas.List.Elements.{Contains-append_left, Contains-append_right, Contains-push_cases}
 use Rattle.tg_cid.specs.Cid.{CidParts}
 use Rattle.tg_cid.specs.Names.{Names}
+use Rattle.tg_cid.specs.declared.cid.HashKind.TheVariants.{Identity, Sha256}
+use Rattle.tg_model_laws.specs.NamedBlocks.{checked_named, identity_block}
 use Rattle.tg_model_laws.specs.Openings.{IsSettledAt}
 use Rattle.tg_model_laws.specs.PartialDags.{AreFollowed, AreOpenedFrom, MeetEntries, SayTexts}
-use Rattle.tg_model_laws.specs.SentSections.{new_behind, not_among, once, sent_all, sent_behind, sent_held, sent_more, sent_step, taken_as, taken_if}
+use Rattle.tg_model_laws.specs.SentSections.{asked_behind, new_behind, not_among, once, once_behind, sent_asked, sent_behind, sent_held, sent_more, sent_step, taken_as, taken_if}
 use Rattle.tg_model.specs.Dag.{Dag, Section, blocks, links_of, root_cid}
-use Rattle.tg_model.specs.Fits.{CollisionPair, Fits, HasOneBlockEach, IfOnce, IsInProgress, output_so_far}
+use Rattle.tg_model.specs.Fits.{CollisionPair, Fits, HasOneBlockEach, IfOnce, IsInProgress, IsOpenedFor, output_so_far}
 use Rattle.tg_model.specs.PathWalk.{Spot, TraversalEnd, gone, stopped, whole}
 use Rattle.tg_model.specs.Queries.{QueryParts}
-use Rattle.tg_model.specs.Sound.{IsSound}
-use Rattle.tg_model.specs.Traversal.{ListedEntry, Place, Traversal, block_list, has_cid, is_sent_behind, opened_list, sections_of, sent, traversal, unrepeated}
+use Rattle.tg_model.specs.Sound.{IsSound, top}
+use Rattle.tg_model.specs.Traversal.{ListedEntry, Place, Traversal, block_list, is_asked, is_sent_behind, opened_list, sections_of, sent, traversal, unrepeated}
 use Rattle.tg_model.specs.declared.kinds.Kind.{Kind}
 use Rattle.tg_traversal_laws.proofs.OpeningSteps.{opened_more}
-use Rattle.tg_traversal_laws.proofs.Outputs.{whole_is, written_is, written_stopped}
-use Rattle.tg_traversal_laws.specs.BesideSound.{BesideLaws, IsBeside, Passes}
+use Rattle.tg_traversal_laws.proofs.Outputs.{nowhere_text, whole_is, written_is, written_stopped}
+use Rattle.tg_traversal_laws.specs.BesideSound.{BesideLaws, IsBeside, Passes, PassesIf}
 use Rattle.tg_traversal_laws.specs.Openings.{IsReadAt, OpeningLaws, Shows, end_now, opened_by}
 use Rattle.tg_traversal_laws.specs.Stages.{Given, ending, nothing_given, up_to_next, with_place}
 use Rattle.tg_traversal_laws.specs.Tasks.{Miss, Task, Want, give_entries, give_text, is_read_at, no_directory, no_entry, open_block, position_of, spot_of, start, stop_at, stop_of, tasks_of, tasks_then, text_at}
-use Rattle.tg_traversal_laws.specs.Verified.{AreSettled, GoesOn, IsAccepted, IsKnown, IsKnownIf, IsOther, LeadsNowhere, Then, Verified, WantsAt, WantsNext, then_block, then_none, then_stop, written_whole}
+use Rattle.tg_traversal_laws.specs.Verified.{AreSettled, GoesOn, IsAccepted, IsHad, IsKnown, IsKnownIf, IsOther, IsOwnBlock, LeadsNowhere, Then, Verified, WantsAt, WantsNext, then_block, then_none, then_stop, written_whole}
 
 -- ---- sections that are sent
 
@@ -30,9 +32,6 @@ starts_sent q = by q.dups
     by : (dups : Bool) → unrepeated dups [] ≡ []
     by true = refl
     by false = refl
-
-pub repeats_sent : (q : QueryParts) → q.dups ≡ true → ((sections : List Section) → sent q sections ≡ sections) × ((sections : List Section) (cid : CidParts) → is_sent_behind q sections cid ≡ true)
-repeats_sent q e = (λ sections. sent_all q sections e, λ sections cid. ap (λ (dups : Bool). dups || not (has_cid cid sections)) e)
 
 none_each : (dups : Bool) → IfOnce dups (HasOneBlockEach [])
 none_each true = tt
@@ -50,6 +49,37 @@ pair_of some sections d h p = record {
   differ = p.differ;
   same_hash = p.same_hash;
 }
+
+-- sections that are had are so among more
+had_too : (sections more : List Section) (x : Section) → ((section : Section) → Contains sections section → Contains more section) → IsHad sections x → IsHad more x
+had_too sections more x h (inl within) = inl (h x within)
+had_too sections more x h (inr own) = inr own
+
+-- a pair of sections that are had is one of those that hold them: a block that is its CID's digest is in no pair
+pub pair_had : (some sections : List Section) (d : Dag) → ((section : Section) → Contains some section → IsHad sections section) → CollisionPair some d → CollisionPair sections d
+pair_had some sections d h p = record {
+  received = p.received;
+  held = p.held;
+  is_received = elim (h p.received p.is_received) [
+    | inl within ↦ within
+    | inr own ↦ let both : Sha256 ≡ Identity = sym p.kind ∙ own.0 in absurd (cc both)
+  ];
+  is_held = p.is_held;
+  same_cid = p.same_cid;
+  kind = p.kind;
+  differ = p.differ;
+  same_hash = p.same_hash;
+}
+
+-- a named block of the CID of one that is its digest is this one
+own_again : (x section : Section) → x.cid ≡ section.cid → Names x.cid x.block → IsOwnBlock section → x.block ≡ section.block
+own_again x section e named own =
+    identity_block x.cid x.block (ap (λ (cid : CidParts). cid.hash) e ∙ own.0) named ∙ ap (λ (cid : CidParts). cid.digest) e ∙ sym own.1
+
+-- a block that passes is named
+passes_named : (reads : Bool) (w : Want) (x : Section) → PassesIf reads w x → Names x.cid x.block
+passes_named true w x h = h.1.named
+passes_named false w x h = h
 
 -- a list of one section has that one
 one_alone : (section x : Section) → Contains (section ∷ []) x → section ≡ x
@@ -91,7 +121,7 @@ module _ (o : OpeningLaws) (b : BesideLaws) where
   pub verified_starts : (q : QueryParts) → Verified q [] nothing_given (start q q.root)
   verified_starts q = record {
     sent_are = starts_sent q;
-    received = λ section c. c;
+    received = λ section c. inl c;
     one_each = none_each q.dups;
     opening = o.start q;
     beside = λ d rest checked root l. b.start q d checked root;
@@ -117,53 +147,61 @@ module _ (o : OpeningLaws) (b : BesideLaws) where
     behind_it : (d : Dag) (text : List ℕ) (rest : List Section) → opened_list q d ≡ opened_by (with_place w section text given) ++ rest → opened_list q d ≡ opened_by given ++ section ∷ rest
     behind_it d text rest l = l ∙ ap (λ (some : List Section). some ++ rest) (opened_more given w section text) ∙ append_assoc (opened_by given) (section ∷ []) rest
 
-    -- it is taken, or was before
-    taken_too : (sends : Bool) → is_sent_behind q sections section.cid ≡ sends → IsKnownIf sends sections section → Contains (taken_if sends sections section) section
-    taken_too true e h = Contains-append_right sections (section ∷ []) section (0, omega arith, refl)
+    -- it is taken, or was had before
+    taken_too : (sends : Bool) → is_sent_behind q sections section.cid ≡ sends → IsKnownIf sends sections section → IsHad (taken_if sends sections section) section
+    taken_too true e h = inl (Contains-append_right sections (section ∷ []) section (0, omega arith, refl))
     taken_too false e h = h
 
     still_taken : (sends : Bool) (other : Section) → Contains sections other → Contains (taken_if sends sections section) other
     still_taken true other h = Contains-append_left sections (section ∷ []) other h
     still_taken false other h = h
 
-    received_more : (text : List ℕ) (other : Section) → Contains (opened_by (with_place w section text given)) other → Contains (taken_as q sections section) other
+    received_more : (text : List ℕ) (other : Section) → Contains (opened_by (with_place w section text given)) other → IsHad (taken_as q sections section) other
     received_more text other c = elim (Contains-push_cases (opened_by given) section other (subst (λ (some : List Section). Contains some other) (opened_more given w section text) c)) [
-      | inl before ↦ still_taken (is_sent_behind q sections section.cid) other (v.received other before)
-      | inr same ↦ subst (Contains (taken_as q sections section)) same (taken_too (is_sent_behind q sections section.cid) refl known)
+      | inl before ↦ had_too sections (taken_as q sections section) other (still_taken (is_sent_behind q sections section.cid)) (v.received other before)
+      | inr same ↦ subst (IsHad (taken_as q sections section)) same (taken_too (is_sent_behind q sections section.cid) refl known)
     ]
 
-    -- one block stands under each CID, as before: none of the others has the CID of a section that is sent, and one that isn't
-    -- is one of them
-    each_known : HasOneBlockEach (opened_by given) → Contains sections section → HasOneBlockEach (opened_by given ++ section ∷ [])
-    each_known one within a b in_a in_b e = one a b (held a in_a) (held b in_b) e
-      where
-        held : (x : Section) → Contains (opened_by given ++ section ∷ []) x → Contains (opened_by given) x
-        held x c = elim (Contains-push_cases (opened_by given) section x c) [
-          | inl before ↦ before
-          | inr same ↦
-              subst (Contains (opened_by given)) same (sent_held q (opened_by given) section (subst (λ (some : List Section). Contains some section) (sym v.sent_are) within))
-        ]
+    -- the opened blocks are named
+    opened_named : (x : Section) → Contains (opened_by given) x → Names x.cid x.block
+    opened_named x c =
+        let shows = o.shows q given (open_block w section.cid ∷ tasks) v.one_each v.opening in
+        let mine = opens_just q shows.s (up_to_next (open_block w section.cid ∷ tasks) given) (end_now (open_block w section.cid ∷ tasks)) shows.gives in
+        checked_named top shows.s shows.opened.checked x (subst (λ (some : List Section). Contains some x) (sym (shows.opened.opened ∙ mine)) c)
 
-    each_new : HasOneBlockEach (opened_by given) → ((x : Section) → Contains (opened_by given) x → x.cid ≢ section.cid) → HasOneBlockEach (opened_by given ++ section ∷ [])
-    each_new one new a b in_a in_b e = elim (Contains-push_cases (opened_by given) section a in_a) [
+    -- a section that was received is asked for
+    received_asked : (x : Section) → Contains sections x → is_asked q x.cid ≡ true
+    received_asked x within = sent_asked q (opened_by given) x (subst (λ (some : List Section). Contains some x) (sym v.sent_are) within)
+
+    -- one block stands under each CID, as before: none of the others has the CID of a section that is sent, one that isn't is
+    -- one of them, or its block is its digest, as theirs are under its CID
+    each_known : HasOneBlockEach (opened_by given) → ((x : Section) → Contains (opened_by given) x → x.cid ≡ section.cid → x.block ≡ section.block)
+        → HasOneBlockEach (opened_by given ++ section ∷ [])
+    each_known one same a b in_a in_b e = elim (Contains-push_cases (opened_by given) section a in_a) [
       | inl a_before ↦ elim (Contains-push_cases (opened_by given) section b in_b) [
         | inl b_before ↦ one a b a_before b_before e
-        | inr same ↦ absurd (new a a_before (e ∙ ap (λ (x : Section). x.cid) (sym same)))
+        | inr b_is ↦ same a a_before (e ∙ ap (λ (x : Section). x.cid) (sym b_is)) ∙ ap (λ (x : Section). x.block) b_is
       ]
-      | inr mine ↦ elim (Contains-push_cases (opened_by given) section b in_b) [
-        | inl b_before ↦ absurd (new b b_before (sym e ∙ ap (λ (x : Section). x.cid) (sym mine)))
-        | inr same ↦ ap (λ (x : Section). x.block) (sym mine ∙ same)
+      | inr a_is ↦ elim (Contains-push_cases (opened_by given) section b in_b) [
+        | inl b_before ↦ ap (λ (x : Section). x.block) (sym a_is) ∙ sym (same b b_before (sym e ∙ ap (λ (x : Section). x.cid) (sym a_is)))
+        | inr b_is ↦ ap (λ (x : Section). x.block) (sym a_is ∙ b_is)
       ]
     ]
+
+    had_once : HasOneBlockEach (opened_by given) → IsHad sections section → (x : Section) → Contains (opened_by given) x → x.cid ≡ section.cid → x.block ≡ section.block
+    had_once one (inl within) x c e =
+        one x section c (sent_held q (opened_by given) section (subst (λ (some : List Section). Contains some section) (sym v.sent_are) within)) e
+    had_once one (inr own) x c e = own_again x section e (opened_named x c) own
 
     one_each_by : (dups : Bool) → q.dups ≡ dups → (sends : Bool) → is_sent_behind q sections section.cid ≡ sends → IsKnownIf sends sections section → IfOnce dups (HasOneBlockEach (opened_by given))
         → IfOnce dups (HasOneBlockEach (opened_by given ++ section ∷ []))
     one_each_by true e sends f h one = tt
-    one_each_by false e false f h one = each_known one h
+    one_each_by false e false f h one = each_known one (had_once one h)
     one_each_by false e true f h one =
         let there : is_sent_behind q (opened_by given) section.cid ≡ true =
         sym (sent_behind q (opened_by given) section.cid) ∙ ap (λ (some : List Section). is_sent_behind q some section.cid) v.sent_are ∙ f in
-        each_new one (subst (λ (dups : Bool). IfOnce dups ((x : Section) → Contains (opened_by given) x → x.cid ≢ section.cid)) e (new_behind q (opened_by given) section.cid there))
+        let new = subst (λ (dups : Bool). IfOnce dups ((x : Section) → Contains (opened_by given) x → x.cid ≢ section.cid)) e (new_behind q (opened_by given) section.cid there) in
+        each_known one (λ x c same. absurd (new x c same))
 
     one_each_more : (text : List ℕ) → IfOnce q.dups (HasOneBlockEach (opened_by (with_place w section text given)))
     one_each_more text =
@@ -180,8 +218,8 @@ module _ (o : OpeningLaws) (b : BesideLaws) where
 
     -- where its next block is of the wanted CID, it is this one
     same_next : (d : Dag) (rest more : List Section) (x : Section) → IsOther q d → block_list q d ≡ taken_as q sections section ++ rest → opened_list q d ≡ opened_by given ++ x ∷ more
-        → x.cid ≡ section.cid → x ≡ section
-    same_next d rest more x other l all cids = by (is_sent_behind q sections section.cid) refl known l
+        → x.cid ≡ section.cid → Names x.cid x.block → x ≡ section
+    same_next d rest more x other l all cids named = by (is_sent_behind q sections section.cid) refl known l
       where
         first : (some others : List Section) → Contains (some ++ x ∷ others) x
         first some others = Contains-append_right some (x ∷ others) x (0, omega arith, refl)
@@ -195,12 +233,16 @@ module _ (o : OpeningLaws) (b : BesideLaws) where
             ap (λ (some : List Section). some ++ x ∷ sends.0) (sym v.sent_are) ∙ sym sends.1 ∙ ap (sent q) (sym all) ∙ l ∙ append_assoc sections (section ∷ []) rest in
             let tails : x ∷ sends.0 ≡ section ∷ rest = append_cancel_left sections (x ∷ sends.0) (section ∷ rest) lists in
             cc
-        by false e h l =
-            let one : HasOneBlockEach (opened_list q d) = once q.dups _ (HasOneBlockEach (opened_list q d)) e other.one_each in
-            let within : Contains (opened_list q d) section =
-            sent_held q (opened_list q d) section (subst (λ (some : List Section). Contains some section) (sym l) (Contains-append_left sections rest section h)) in
+        by false e (inl within) l =
+            let each_once : q.dups ≡ false = once_behind q sections section.cid (received_asked section within) e in
+            let one : HasOneBlockEach (opened_list q d) = once q.dups (HasOneBlockEach (opened_list q d)) each_once other.one_each in
+            let there : Contains (opened_list q d) section =
+            sent_held q (opened_list q d) section (subst (λ (some : List Section). Contains some section) (sym l) (Contains-append_left sections rest section within)) in
             let mine : Contains (opened_list q d) x = subst (λ (some : List Section). Contains some x) (sym all) (first (opened_by given) more) in
-            let block : x.block ≡ section.block = one x section mine within cids in
+            let block : x.block ≡ section.block = one x section mine there cids in
+            λ i. record { cid = cids i; block = block i }
+        by false e (inr own) l =
+            let block : x.block ≡ section.block = own_again x section cids named own in
             λ i. record { cid = cids i; block = block i }
 
     opens_by : (d : Dag) (rest more : List Section) → IsOther q d → block_list q d ≡ taken_as q sections section ++ rest → opened_list q d ≡ opened_by given ++ more
@@ -219,7 +261,7 @@ module _ (o : OpeningLaws) (b : BesideLaws) where
     opens_by d rest (x ∷ more) other l all =
         let beside = v.beside d (x ∷ more) other.checked other.root all in
         let passes = b.passes q d given w section.cid tasks x more all beside in
-        let same : x ≡ section = same_next d rest more x other l all passes.0 in
+        let same : x ≡ section = same_next d rest more x other l all passes.0 (passes_named (is_read_at q w) w x passes.1) in
         (more, all ∙ ap (λ (y : Section). opened_by given ++ y ∷ more) same)
 
     opens_more : (text : List ℕ) (d : Dag) (rest : List Section) → IsOther q d → block_list q d ≡ taken_as q sections section ++ rest
@@ -282,6 +324,7 @@ module _ (o : OpeningLaws) (b : BesideLaws) where
           right = shows.opened;
           list = list_is q sections given (open_block w cid ∷ tasks) shows.s (stopped (gone (spot_of w cid))) v gives;
           end = ap (λ (t : Traversal). t.end) gives;
+          asked = asked_behind q sections cid new;
           not_seen = new_behind q sections cid new;
         };
         gives = gives;
@@ -299,6 +342,7 @@ module _ (o : OpeningLaws) (b : BesideLaws) where
         list = list_is q sections given (stop_at miss ∷ tasks) shows.s (stopped (stop_of miss)) v gives;
         gives = gives;
         output = written_stopped q shows.s given (stop_of miss) gives;
+        nothing = nowhere_text q shows.s given miss gives;
       }
 
   module _ (say : SayTexts) (meet : MeetEntries) where
@@ -332,14 +376,14 @@ module _ (o : OpeningLaws) (b : BesideLaws) where
       (ap (map (λ (p : Place). p.section)) before.places ∙ map-append (λ (p : Place). p.section) (traversal q shows.s).places before.places_behind
       ∙ ap (λ (some : List Section). some ++ map (λ (p : Place). p.section) before.places_behind) mine)))
       (followed q d shows.s from))
-      (λ pair. inr (pair_of (blocks shows.s) sections d (λ section c. v.received section (subst (λ (some : List Section). Contains some section) (shows.opened.opened ∙ mine) c)) pair))
+      (λ pair. inr (pair_had (blocks shows.s) sections d (λ section c. v.received section (subst (λ (some : List Section). Contains some section) (shows.opened.opened ∙ mine) c)) pair))
       (opened_from d shows.s sound shows.opened.checked (shows.opened.root ∙ sym root))
 
   pub verified_refuses : AreOpenedFrom → AreFollowed → (q : QueryParts) (d : Dag) (sections : List Section) (given : Given) (w : Want) (section : Section) (tasks : List (Task CidParts))
       → IsSound d → root_cid d ≡ q.root → IsKnown q sections section → Names section.cid section.block → ((kind : Kind) → IsReadAt (position_of w) section kind → ⊥)
       → Verified q sections given (open_block w section.cid ∷ tasks) → CollisionPair (taken_as q sections section) d
   verified_refuses opened_from followed q d sections given w section tasks sound root known named bad v = ⊎_elim
-      (λ beside. pair_of (section ∷ []) (taken_as q sections section) d (λ x c. subst (Contains (taken_as q sections section)) (one_alone section x c) (taken_too q sections given w section tasks known v (is_sent_behind q sections section.cid) refl known))
+      (λ beside. pair_had (section ∷ []) (taken_as q sections section) d (λ x c. subst (IsHad (taken_as q sections section)) (one_alone section x c) (taken_too q sections given w section tasks known v (is_sent_behind q sections section.cid) refl known))
       (b.refused q d given w section tasks sound named bad beside))
       (λ pair. pair_of sections (taken_as q sections section) d (still_taken q sections given w section tasks known v (is_sent_behind q sections section.cid)) pair)
       (verified_beside opened_from followed q d sections given (open_block w section.cid ∷ tasks) sound root v)
@@ -361,8 +405,21 @@ module _ (o : OpeningLaws) (b : BesideLaws) where
     root = h.right.root;
     one_each = subst (λ (some : List Section). IfOnce q.dups (HasOneBlockEach some)) h.right.opened h.right.one_each;
     settled = subst (IsSettledAt q (block_list q d)) (sym h.end)
-        (ap (λ (some : List Section). is_sent_behind q some wanted.cid) h.list ∙ not_among q sections wanted.cid h.not_seen);
+        (ap (λ (some : List Section). is_sent_behind q some wanted.cid) h.list ∙ not_among q sections wanted.cid h.asked h.not_seen);
   }
+
+  -- a DAG in which a segment of the path leads nowhere
+  pub nowhere_other : (q : QueryParts) (d : Dag) (miss : Miss) → IsOpenedFor d q → (traversal q d).end ≡ stopped (stop_of miss) → IsOther q d
+  nowhere_other q d miss right end = record {
+    checked = right.checked;
+    root = right.root;
+    one_each = subst (λ (some : List Section). IfOnce q.dups (HasOneBlockEach some)) right.opened right.one_each;
+    settled = subst (IsSettledAt q (block_list q d)) (sym end) (by miss);
+  }
+    where
+      by : (miss : Miss) → IsSettledAt q (block_list q d) (stopped (stop_of miss))
+      by (no_entry i) = tt
+      by (no_directory i) = tt
 
   module _ (q : QueryParts) (d : Dag) (given : Given) (tasks : List (Task CidParts)) where
     -- the next block of the DAG is wanted, and it passes
@@ -413,20 +470,23 @@ module _ (o : OpeningLaws) (b : BesideLaws) where
         let opened = opened_then front (next ∷ rest) v other l in
         wants_first front rest opened.0 next settled v l opened.1 opened.2
 
-    -- a block that was received is the DAG's again
+    -- a block that is had is the DAG's again
     same_again : (front rest more : List Section) (x known : Section) → IsOther q d → block_list q d ≡ front ++ rest → opened_list q d ≡ opened_by given ++ x ∷ more → x.cid ≡ known.cid
-        → is_sent_behind q front known.cid ≡ false → Contains front known → x ≡ known
-    same_again front rest more x known other l all cids e within =
-        let one : HasOneBlockEach (opened_list q d) = once q.dups _ (HasOneBlockEach (opened_list q d)) e other.one_each in
-        let there : Contains (opened_list q d) known =
-        sent_held q (opened_list q d) known (subst (λ (some : List Section). Contains some known) (sym l) (Contains-append_left front rest known within)) in
+        → Names x.cid x.block → is_sent_behind q front known.cid ≡ false → IsHad front known → x ≡ known
+    same_again front rest more x known other l all cids named e (inl within) =
+        let sends : Contains (sent q (opened_list q d)) known = subst (λ (some : List Section). Contains some known) (sym l) (Contains-append_left front rest known within) in
+        let each_once : q.dups ≡ false = once_behind q front known.cid (sent_asked q (opened_list q d) known sends) e in
+        let one : HasOneBlockEach (opened_list q d) = once q.dups (HasOneBlockEach (opened_list q d)) each_once other.one_each in
         let mine : Contains (opened_list q d) x =
         subst (λ (some : List Section). Contains some x) (sym all) (Contains-append_right (opened_by given) (x ∷ more) x (0, omega arith, refl)) in
-        let block : x.block ≡ known.block = one x known mine there cids in
+        let block : x.block ≡ known.block = one x known mine (sent_held q (opened_list q d) known sends) cids in
+        λ i. record { cid = cids i; block = block i }
+    same_again front rest more x known other l all cids named e (inr own) =
+        let block : x.block ≡ known.block = own_again x known cids named own in
         λ i. record { cid = cids i; block = block i }
 
     passes_by : (front rest more : List Section) (known : Section) (w : Want) (behind : List (Task CidParts)) → tasks_then tasks ≡ open_block w known.cid ∷ behind
-        → is_sent_behind q front known.cid ≡ false → Contains front known → Verified q front given tasks → IsOther q d → block_list q d ≡ front ++ rest
+        → is_sent_behind q front known.cid ≡ false → IsHad front known → Verified q front given tasks → IsOther q d → block_list q d ≡ front ++ rest
         → opened_list q d ≡ opened_by given ++ more → IsBeside q d (up_to_next tasks given) (tasks_then tasks) → Passes q w known
     passes_by front rest [] known w behind e new within v other l all beside =
         let here : opened_list q d ≡ opened_by given = all ∙ append-nil (opened_by given) in
@@ -437,11 +497,11 @@ module _ (o : OpeningLaws) (b : BesideLaws) where
         absurd (cc (both, new))
     passes_by front rest (x ∷ more) known w behind e new within v other l all beside =
         let passes = b.passes q d (up_to_next tasks given) w known.cid behind x more all (subst (λ (xs : List (Task CidParts)). IsBeside q d (up_to_next tasks given) xs) e beside) in
-        let same : x ≡ known = same_again front rest more x known other l all passes.0 new within in
+        let same : x ≡ known = same_again front rest more x known other l all passes.0 (passes_named (is_read_at q w) w x passes.1) new within in
         subst (Passes q w) same passes.1
 
     pub passes_again : (front rest : List Section) (known : Section) (w : Want) (more : List (Task CidParts)) → tasks_then tasks ≡ open_block w known.cid ∷ more
-        → is_sent_behind q front known.cid ≡ false → Contains front known → Verified q front given tasks → IsOther q d → block_list q d ≡ front ++ rest → Passes q w known
+        → is_sent_behind q front known.cid ≡ false → IsHad front known → Verified q front given tasks → IsOther q d → block_list q d ≡ front ++ rest → Passes q w known
     passes_again front rest known w more e new within v other l =
         let opened = opened_then front rest v other l in
         passes_by front rest opened.0 known w more e new within v other l opened.1 opened.2
@@ -507,3 +567,30 @@ module _ (o : OpeningLaws) (b : BesideLaws) where
         let (l, beside) = all_taken sections settled v (fit_other q d sections out h) h.list in
         let (none, gives) = ends_by l h.end beside (how_then tasks) in
         (none, h.text ∙ whole_is say meet q d (up_to_next tasks given) h.right gives)
+
+    -- the tasks stop where the DAG's path does
+    one_miss : (other miss : Miss) → stopped (stop_of other) ≡ stopped (stop_of miss) → other ≡ miss
+    one_miss (no_entry i) (no_entry j) e = let same : i ≡ j = cc in ap no_entry same
+    one_miss (no_entry i) (no_directory j) e = cc
+    one_miss (no_directory i) (no_entry j) e = cc
+    one_miss (no_directory i) (no_directory j) e = let same : i ≡ j = cc in ap no_directory same
+
+    nowhere_by : (miss : Miss) → opened_list q d ≡ opened_by given → (traversal q d).end ≡ stopped (stop_of miss) → IsBeside q d (up_to_next tasks given) (tasks_then tasks) → Then tasks
+        → (more : List (Task CidParts)) × (tasks_then tasks ≡ stop_at miss ∷ more)
+    nowhere_by miss l end beside (then_none e) =
+        let done = b.done q d (up_to_next tasks given) (subst (λ (xs : List (Task CidParts)). IsBeside q d (up_to_next tasks given) xs) e beside) in
+        let both : whole ≡ stopped (stop_of miss) = sym (ap (λ (t : Traversal). t.end) done) ∙ end in
+        absurd (cc both)
+    nowhere_by miss l end beside (then_stop other more e) =
+        let stops = b.miss q d (up_to_next tasks given) other more (subst (λ (xs : List (Task CidParts)). IsBeside q d (up_to_next tasks given) xs) e beside) in
+        let same : other ≡ miss = one_miss other miss (sym (ap (λ (t : Traversal). t.end) stops) ∙ end) in
+        (more, e ∙ ap (λ (miss : Miss). stop_at miss ∷ more) same)
+    nowhere_by miss l end beside (then_block w cid more e) =
+        let stops = b.stops q d (up_to_next tasks given) w cid more l (subst (λ (xs : List (Task CidParts)). IsBeside q d (up_to_next tasks given) xs) e beside) in
+        absurd (stop_differs miss (spot_of w cid) (sym end ∙ ap (λ (t : Traversal). t.end) stops))
+
+    pub stops_nowhere : (sections : List Section) (miss : Miss) → AreSettled q sections tasks → Verified q sections given tasks → IsOpenedFor d q → block_list q d ≡ sections
+        → (traversal q d).end ≡ stopped (stop_of miss) → (more : List (Task CidParts)) × (tasks_then tasks ≡ stop_at miss ∷ more)
+    stops_nowhere sections miss settled v right list end =
+        let (l, beside) = all_taken sections settled v (nowhere_other q d miss right end) list in
+        nowhere_by miss l end beside (how_then tasks)

@@ -2,8 +2,10 @@
 use Rattle.std.specs.Prelude.{Bool, Contains, List, [], false, true, ◌++◌, ◌∷◌, ◌≡◌, ◌⊎◌}
 use Rattle.tg_cid.specs.Cid.{CidParts}
 use Rattle.tg_cid.specs.Names.{Names}
+use Rattle.tg_model.specs.Counts.{counts, counts_of}
 use Rattle.tg_model.specs.Dag.{Dag, IsWhole, Section, blocks, links_of, root_cid}
 use Rattle.tg_model.specs.Fits.{CollisionPair}
+use Rattle.tg_model.specs.LimitNumbers.{AreWithin}
 use Rattle.tg_model.specs.PathWalk.{gone, stopped, whole}
 use Rattle.tg_model.specs.Queries.{QueryParts}
 use Rattle.tg_model.specs.Reading.{Reads}
@@ -51,6 +53,10 @@ BesideMisses = (q : QueryParts) (d : Dag) (given : Given) (miss : Miss) (tasks :
 
 abbrev pub BesideEnds : Type 0
 BesideEnds = (q : QueryParts) (d : Dag) (given : Given) → IsBeside q d given [] → traversal q d ≡ ending given whole
+
+-- what was given counts no more than the DAG does
+abbrev pub BesideCounts : Type 0
+BesideCounts = (q : QueryParts) (d : Dag) (given : Given) (tasks : List (Task CidParts)) → IsBeside q d given tasks → AreWithin (counts q d) (counts_of q (ending given whole))
 
 -- ---- beside a sound DAG
 
@@ -118,6 +124,7 @@ pub record BesideLaws : Type 0 where
   pub up_to_next : BesideGives
   pub miss : BesideMisses
   pub done : BesideEnds
+  pub counted : BesideCounts
   pub next : BesideWants
   pub opened : BesideOpens
   pub alone : BesideOpensAlone

@@ -1,7 +1,6 @@
 pub mod BesideSound
 pub mod Openings
 pub mod PathStages
-pub mod Repeats
 pub mod Stages
 pub mod StoreWalks
 pub mod Tasks

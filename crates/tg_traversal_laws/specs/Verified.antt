@@ -4,6 +4,7 @@ use Rattle.tg_model.specs.declared.queries.Scope.TheVariants as scopes
 use Rattle.std.specs.Prelude.{Bool, Contains, List, [], map, true, false, ℕ, ⊤, ◌++◌, ◌∷◌, ◌≡◌, ◌⊎◌}
 use Rattle.tg_cid.specs.Cid.{CidParts}
 use Rattle.tg_cid.specs.Names.{Names}
+use Rattle.tg_cid.specs.declared.cid.HashKind.TheVariants.{Identity}
 use Rattle.tg_model.specs.Dag.{Dag, Section, links_of, root_cid}
 use Rattle.tg_model.specs.Fits.{CollisionPair, Fits, HasOneBlockEach, IfOnce, IsInProgress, IsOpenedFor, output_so_far}
 use Rattle.tg_model.specs.PathWalk.{Spot, gone, stopped, whole}
@@ -21,10 +22,18 @@ use Rattle.tg_traversal_laws.specs.Stages.{Given, ending, nothing_given, up_to_n
 use Rattle.tg_traversal_laws.specs.Tasks.{Miss, Task, Want, is_read_at, open_block, position_of, spot_of, start}
 use Rattle.tg_traversal_laws.specs.Tasks.{stop_at, stop_of, tasks_of, tasks_then, text_at}
 
--- what is known of a block at a place: a section that isn't sent behind these is one of them
+-- its CID is an identity CID, and its block is its digest
+abbrev pub IsOwnBlock : Section → Type 0
+IsOwnBlock section = (section.cid.hash ≡ Identity) × (section.block ≡ section.cid.digest)
+
+-- the section is one of these, or its block is its CID's digest
+abbrev pub IsHad : List Section → Section → Type 0
+IsHad sections section = Contains sections section ⊎ IsOwnBlock section
+
+-- what is known of a block at a place: of a section that isn't sent behind these the block is had
 abbrev pub IsKnownIf : Bool → List Section → Section → Type 0
 IsKnownIf true sections section = ⊤
-IsKnownIf false sections section = Contains sections section
+IsKnownIf false sections section = IsHad sections section
 
 abbrev pub IsKnown : QueryParts → List Section → Section → Type 0
 IsKnown q sections section = IsKnownIf (is_sent_behind q sections section.cid) sections section
@@ -41,12 +50,12 @@ pub record IsOther (q : QueryParts) (d : Dag) : Type 0 where
   pub one_each : IfOnce q.dups (HasOneBlockEach (opened_list q d))
   pub settled : IsSettledAt q (block_list q d) (traversal q d).end
 
--- the sections were sent, of the places that were opened; each opened block was received; these tasks are left, of the
--- partial DAG and beside each checked DAG of the query's root that opens with the same blocks; and a DAG whose sections
--- begin with these opens with these blocks
+-- the sections were sent, of the places that were opened; each opened block was received, or is its CID's digest; these
+-- tasks are left, of the partial DAG and beside each checked DAG of the query's root that opens with the same blocks;
+-- and a DAG whose sections begin with these opens with these blocks
 pub record Verified (q : QueryParts) (sections : List Section) (given : Given) (tasks : List (Task CidParts)) : Type 0 where
   pub sent_are : sent q (opened_by given) ≡ sections
-  pub received : (section : Section) → Contains (opened_by given) section → Contains sections section
+  pub received : (section : Section) → Contains (opened_by given) section → IsHad sections section
   pub one_each : IfOnce q.dups (HasOneBlockEach (opened_by given))
   pub opening : Opening q given tasks
   pub beside : (d : Dag) (rest : List Section) → IsChecked d → root_cid d ≡ q.root
@@ -80,13 +89,14 @@ pub record IsAccepted (q : QueryParts) (sections : List Section) (given : Given)
   pub gives : traversal q s ≡ ending given whole
   pub output : output_so_far q s ≡ written_whole q given
 
--- they open a DAG in which a segment of the path leads nowhere
+-- they open a DAG in which a segment of the path leads nowhere: before it no text is given
 pub record LeadsNowhere (q : QueryParts) (sections : List Section) (given : Given) (miss : Miss) : Type 0 where
   pub s : Dag
   pub right : IsOpenedFor s q
   pub list : block_list q s ≡ sections
   pub gives : traversal q s ≡ ending given (stopped (stop_of miss))
   pub output : output_so_far q s ≡ given.text
+  pub nothing : given.text ≡ []
 
 -- the section's CID is wanted next, and it passes there
 pub record WantsNext (q : QueryParts) (tasks : List (Task CidParts)) (section : Section) : Type 0 where
@@ -119,7 +129,7 @@ abbrev pub VerifiedGives : Type 0
 VerifiedGives = (q : QueryParts) (sections : List Section) (given : Given) (tasks : List (Task CidParts)) → Verified q sections given tasks
     → Verified q sections (up_to_next tasks given) (tasks_then tasks)
 
--- a block that passes is taken: a section that is sent behind the others, or else one of them
+-- a block that passes is taken: a section that is sent behind the others, or else one that is had
 abbrev pub VerifiedTakes : Type 0
 VerifiedTakes = (q : QueryParts) (sections : List Section) (given : Given) (w : Want) (section : Section) (kind : Kind) (tasks : List (Task CidParts)) → IsKnown q sections section
     → is_read_at q w ≡ true → IsReadAt (position_of w) section kind → Verified q sections given (open_block w section.cid ∷ tasks)
@@ -168,15 +178,15 @@ abbrev pub InProgressPasses : Type 0
 InProgressPasses = (q : QueryParts) (d : Dag) (front rest : List Section) (next : Section) (wanted : Spot) (given : Given) (tasks : List (Task CidParts)) → AreSettled q front tasks
     → IsInProgress d q (front ++ next ∷ rest) wanted → Verified q front given tasks → WantsNext q tasks next
 
--- and where one is wanted that isn't sent, the block that was received passes again
+-- and where one is wanted that isn't sent, the block that was received, or that is its CID's digest, passes
 abbrev pub FittingPassesAgain : Type 0
 FittingPassesAgain = (q : QueryParts) (d : Dag) (front rest : List Section) (known : Section) (out : List ℕ) (given : Given) (w : Want) (more tasks : List (Task CidParts))
-    → tasks_then tasks ≡ open_block w known.cid ∷ more → is_sent_behind q front known.cid ≡ false → Contains front known
+    → tasks_then tasks ≡ open_block w known.cid ∷ more → is_sent_behind q front known.cid ≡ false → IsHad front known
     → Fits d q (front ++ rest) out → Verified q front given tasks → Passes q w known
 
 abbrev pub InProgressPassesAgain : Type 0
 InProgressPassesAgain = (q : QueryParts) (d : Dag) (front rest : List Section) (known : Section) (wanted : Spot) (given : Given) (w : Want) (more tasks : List (Task CidParts))
-    → tasks_then tasks ≡ open_block w known.cid ∷ more → is_sent_behind q front known.cid ≡ false → Contains front known
+    → tasks_then tasks ≡ open_block w known.cid ∷ more → is_sent_behind q front known.cid ≡ false → IsHad front known
     → IsInProgress d q (front ++ rest) wanted → Verified q front given tasks → Passes q w known
 
 -- once all were taken, what fits is accepted, with its text
@@ -189,19 +199,37 @@ abbrev pub InProgressEnds : Type 0
 InProgressEnds = (q : QueryParts) (d : Dag) (sections : List Section) (wanted : Spot) (given : Given) (tasks : List (Task CidParts)) → AreSettled q sections tasks
     → IsInProgress d q sections wanted → Verified q sections given tasks → WantsAt tasks wanted × (output_so_far q d ≡ (up_to_next tasks given).text)
 
+-- ---- so are sections that open a DAG in which a segment of the path leads nowhere
+
+abbrev pub NowherePasses : Type 0
+NowherePasses = (q : QueryParts) (d : Dag) (front rest : List Section) (next : Section) (miss : Miss) (given : Given) (tasks : List (Task CidParts)) → AreSettled q front tasks
+    → IsOpenedFor d q → block_list q d ≡ front ++ next ∷ rest → (traversal q d).end ≡ stopped (stop_of miss)
+    → Verified q front given tasks → WantsNext q tasks next
+
+abbrev pub NowherePassesAgain : Type 0
+NowherePassesAgain = (q : QueryParts) (d : Dag) (front rest : List Section) (known : Section) (miss : Miss) (given : Given) (w : Want) (more tasks : List (Task CidParts))
+    → tasks_then tasks ≡ open_block w known.cid ∷ more → is_sent_behind q front known.cid ≡ false → IsHad front known
+    → IsOpenedFor d q → block_list q d ≡ front ++ rest → (traversal q d).end ≡ stopped (stop_of miss)
+    → Verified q front given tasks → Passes q w known
+
+-- and once all were taken, the tasks stop at that segment
+abbrev pub NowhereEnds : Type 0
+NowhereEnds = (q : QueryParts) (d : Dag) (sections : List Section) (miss : Miss) (given : Given) (tasks : List (Task CidParts)) → AreSettled q sections tasks
+    → IsOpenedFor d q → block_list q d ≡ sections → (traversal q d).end ≡ stopped (stop_of miss)
+    → Verified q sections given tasks → (more : List (Task CidParts)) × (tasks_then tasks ≡ stop_at miss ∷ more)
+
 -- ---- of tasks, and of lists of sections
 
 abbrev pub EachGoesOn : Type 0
 EachGoesOn = (tasks : List (Task CidParts)) → Then tasks
 
--- where repeats are sent, each section is, and each is sent behind others
-abbrev pub RepeatsAreSent : Type 0
-RepeatsAreSent = (q : QueryParts) → q.dups ≡ true → ((sections : List Section) → sent q sections ≡ sections)
-    × ((sections : List Section) (cid : CidParts) → is_sent_behind q sections cid ≡ true)
-
 -- a collision pair of some sections is one of all that hold them
 abbrev pub PairOfSome : Type 0
 PairOfSome = (some sections : List Section) (d : Dag) → ((section : Section) → Contains some section → Contains sections section) → CollisionPair some d → CollisionPair sections d
+
+-- a collision pair of some sections is one of all that hold those of them that aren't their CIDs' digests
+abbrev pub PairOfHad : Type 0
+PairOfHad = (some sections : List Section) (d : Dag) → ((section : Section) → Contains some section → IsHad sections section) → CollisionPair some d → CollisionPair sections d
 
 -- all of these
 pub record VerifiedLaws : Type 0 where
@@ -220,6 +248,9 @@ pub record VerifiedLaws : Type 0 where
   pub in_progress_again : InProgressPassesAgain
   pub fitting_ends : FittingEnds
   pub in_progress_ends : InProgressEnds
+  pub nowhere : NowherePasses
+  pub nowhere_again : NowherePassesAgain
+  pub nowhere_ends : NowhereEnds
   pub how_then : EachGoesOn
-  pub repeats_sent : RepeatsAreSent
   pub pair_of_some : PairOfSome
+  pub pair_had : PairOfHad

@@ -33,6 +33,7 @@ returns-clause-in_progress c = λ named. record {
   };
   list = refl;
   end = refl;
+  asked = refl;
   not_seen = tt;
 }
 

@@ -1,4 +1,4 @@
-use Rattle.tg_traversal_laws.proofs.BesideSteps.{beside_alone, beside_ends, beside_gives, beside_misses, beside_next, beside_opens, beside_refuses, beside_starts, opened_alone, opened_goes_on, opened_passes, opened_stops}
+use Rattle.tg_traversal_laws.proofs.BesideSteps.{beside_alone, beside_counts, beside_ends, beside_gives, beside_misses, beside_next, beside_opens, beside_refuses, beside_starts, opened_alone, opened_goes_on, opened_passes, opened_stops}
 use Rattle.tg_traversal_laws.proofs.beside.beside_dags.Goals as goal
 
 pub returns : goal.returns
@@ -13,6 +13,7 @@ returns c =
       up_to_next = beside_gives laws stand lead;
       miss = beside_misses laws stand lead;
       done = beside_ends laws stand lead;
+      counted = beside_counts laws stand lead;
       next = beside_next laws stand lead;
       opened = λ q d given w section kind tasks sound named r b. beside_opens laws stand lead one_kind one_block q d given w section tasks sound named b kind r;
       alone = λ q d given w section tasks sound unread named b. beside_alone laws stand lead one_kind one_block q d given w section tasks sound named b unread;

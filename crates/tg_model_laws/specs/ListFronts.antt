@@ -1,11 +1,9 @@
 -- A list that is a front of another, and what follows for lengths, sums and greatest numbers.
-use Rattle.std.proofs.Common.{◌≡◌, ℕ, ◌+◌, ◌≤◌, Bool, List, [], ◌∷◌, ◌++◌, length, map, sum, refl, sym, ap, ◌∙◌, append_assoc, arith, length-append}
+use Rattle.std.proofs.Common.{◌≡◌, ℕ, ◌+◌, ◌≤◌, List, [], ◌∷◌, ◌++◌, length, map, sum, refl, sym, ap, ◌∙◌, append_assoc, arith, length-append}
 use Rattle.std.proofs.lemmas.Grind.{flat_map-append}
 use Rattle.std.proofs.lemmas.List.{append-nil, map-append}
-use Rattle.std.proofs.lemmas.List.Elements.{filter-append}
 use Rattle.std.proofs.lemmas.List.Sums.{sum_by-append}
 use Rattle.std.specs.List.{flat_map}
-use Rattle.std.specs.Prelude.{filter}
 use Rattle.tg_model.specs.Counts.{greatest}
 
 -- the second list is the first and more
@@ -35,10 +33,6 @@ front_longer {A = A} front all more f = record { rest = f.rest ++ more; is = ap 
 pub front_mapped : {A B : Type 0} (f : A → B) (front all : List A) → FrontOf front all → FrontOf (map f front) (map f all)
 front_mapped f front all h = record { rest = map f h.rest; is = ap (map f) h.is ∙ map-append f front h.rest }
 
--- the elements that pass a test
-pub front_filtered : {A : Type 0} (test : A → Bool) (front all : List A) → FrontOf front all → FrontOf (filter test front) (filter test all)
-front_filtered test front all h = record { rest = filter test h.rest; is = ap (filter test) h.is ∙ filter-append test front h.rest }
-
 -- the lists that the elements give, end to end
 pub front_joined : {A B : Type 0} (f : A → List B) (front all : List A) → FrontOf front all → FrontOf (flat_map f front) (flat_map f all)
 front_joined f front all h = record { rest = flat_map f h.rest; is = ap (flat_map f) h.is ∙ flat_map-append f front h.rest }
@@ -55,6 +49,17 @@ front-length {A = A} front all h =
 pub front-sum : (front all : List ℕ) → FrontOf front all → sum front ≤ sum all
 front-sum front all h =
     let more : sum all ≡ sum front + sum h.rest = ap sum h.is ∙ sum_by-append (λ n. n) front h.rest in
+    omega arith
+
+-- nor is its greatest number
+greatest_first : (front rest : List ℕ) → greatest front ≤ greatest (front ++ rest)
+greatest_first [] rest = omega arith
+greatest_first (n ∷ front) rest = let later = greatest_first front rest in omega arith
+
+pub front-most : (front all : List ℕ) → FrontOf front all → greatest front ≤ greatest all
+front-most front all h =
+    let same : greatest all ≡ greatest (front ++ h.rest) = ap greatest h.is in
+    let within : greatest front ≤ greatest (front ++ h.rest) = greatest_first front h.rest in
     omega arith
 
 -- the greatest number of a list isn't above that of a longer list, where no element has less there
