@@ -75,7 +75,7 @@ header_done laws old new piece text taken state whole limit refused was is came 
       within = took.1;
       moves = λ _. took.0;
       need = λ e. absurd cc;
-      at_end = tt;
+      at_end = came;
       limit = limit;
       refused = refused;
       holds = λ fed given k.

@@ -23,10 +23,12 @@ fault_of None = None
 fault_of (Some (at_piece piece fault)) = Some fault
 fault_of (Some (at_end fault)) = Some fault
 
--- a section is given with its last byte: none of the next one came
-abbrev pub IsAtItsEnd : Event → List ℕ → Type 0
-IsAtItsEnd (events.Section at size section) came = came ≡ []
-IsAtItsEnd other came = ⊤
+-- the header and a section are given with their last bytes: with a section none of the next one came, and with the header
+-- none more of the first than before
+abbrev pub IsAtItsEnd : Event → List ℕ → List ℕ → Type 0
+IsAtItsEnd (events.Header header) before came = came ≡ before
+IsAtItsEnd (events.Section at size section) before came = came ≡ []
+IsAtItsEnd events.Need before came = ⊤
 
 -- bytes of the header came, or none yet
 pub record HoldsHeader (state : ReaderState) (fed : List ℕ) (given : List Event) : Type 0 where

@@ -39,7 +39,7 @@ pub record Steps (old new : ReaderState) (piece : List ℕ) (taken : ℕ) (event
   pub within : taken ≤ length piece
   pub moves : 0 < length piece → 0 < taken
   pub need : event ≡ Need → taken ≡ length piece
-  pub at_end : IsAtItsEnd event new.came
+  pub at_end : IsAtItsEnd event old.came new.came
   pub limit : new.limit ≡ old.limit
   pub refused : new.refused ≡ old.refused
   pub holds : (fed : List ℕ) (given : List Event) → Holds old.in_header old fed given

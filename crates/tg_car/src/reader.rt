@@ -92,8 +92,8 @@ impl CarReader {
         ensures within { IfOk result (λ found. found.0 ≤ length piece.now) }
         ensures moves { IfOk result (λ found. 0 < length piece.now → 0 < found.0) }
         ensures need { IfOk result (λ found. found.1 ≡ Event.Need → found.0 ≡ length piece.now) }
-        // No byte is taken behind the last one of a section that is given.
-        ensures at_end { IfOk result (λ found. IsAtItsEnd found.1 self.new.came) }
+        // No byte is taken behind the last one of the header or of a section that is given.
+        ensures at_end { IfOk result (λ found. IsAtItsEnd found.1 self.old.came self.new.came) }
         // Each history that the reader stood for, with this call added, is one that it stands for.
         ensures stands { (h : History) → StandsFor self.old h
             → StandsFor self.new (with_feed h piece.now result) }

@@ -6,4 +6,5 @@ mod Opened
 mod OpenedPlaces
 mod Reaches
 mod StepsLeft
+mod FewerBlocks
 mod OwnTexts

@@ -87,10 +87,10 @@ slot_done path depth position slot cid (Some name) into old h = tt
 
 -- ---- a step
 
-pub entry_visited : (depth : ℕ) (old new : EntriesLeft) (entry : Entry) (into : Option Place) → new.path ≡ old.path → old.entries.items ≡ new.entries.items ++ entry ∷ []
+pub entry_visited : (depth size : ℕ) (old new : EntriesLeft) (entry : Entry) (into : Option Place) → size ≡ length (directory_at old.path) → new.path ≡ old.path → old.entries.items ≡ new.entries.items ++ entry ∷ []
     → IsPlaceOf depth entry.cid (entry_visit (directory_reach old.path) entry.name entry.cid).into into
-    → AreEntriesVisited depth old (record { met = Some entry; into = into }) new
-entry_visited depth old new entry into same e h =
+    → AreEntriesVisited depth old (record { met = Some entry; into = into; directory = size }) new
+entry_visited depth size old new entry into long same e h =
     let turned : reverse old.entries.items ≡ entry ∷ reverse new.entries.items = ap reverse e ∙ reverse-append new.entries.items (entry ∷ []) in
     let visit : Option (List ℕ) → Entry → Visit = λ path entry. entry_visit (directory_reach path) entry.name entry.cid in (
       same,
@@ -100,16 +100,17 @@ entry_visited depth old new entry into same e h =
             ∙ ap (λ path. entries_then (visit old.path entry).met (child_then (visit old.path entry).into depth entry.cid
             (children_tasks (map (visit path) (reverse new.entries.items)) depth (map (λ (x : Entry). x.cid) (reverse new.entries.items))))) (sym same)
             ∙ at_entry old.path depth entry.name entry.cid into (entry_tasks depth new) h;
+        sized = long;
         done = tt;
         of_child = is_of_child depth entry.cid (visit old.path entry).into into h;
       },
     )
 
-pub slot_visited : (depth : ℕ) (old new : SlotsLeft) (slot : Slot) (into : Option Place) → new.path ≡ old.path → new.above ≡ old.above
+pub slot_visited : (depth size : ℕ) (old new : SlotsLeft) (slot : Slot) (into : Option Place) → size ≡ length (directory_at old.path) → new.path ≡ old.path → new.above ≡ old.above
     → old.slots.items ≡ new.slots.items ++ slot ∷ []
     → IsPlaceOf depth slot.cid (slot_visit (directory_reach old.path) (child old.above) slot).into into
-    → AreSlotsVisited depth old (record { met = named_entry slot.cid slot.name; into = into }) new
-slot_visited depth old new slot into same above e h =
+    → AreSlotsVisited depth old (record { met = named_entry slot.cid slot.name; into = into; directory = size }) new
+slot_visited depth size old new slot into long same above e h =
     let turned : reverse old.slots.items ≡ slot ∷ reverse new.slots.items = ap reverse e ∙ reverse-append new.slots.items (slot ∷ []) in
     let visit : Option (List ℕ) → List ℕ → Slot → Visit = λ path above. slot_visit (directory_reach path) (child above) in (
       same,
@@ -119,6 +120,7 @@ slot_visited depth old new slot into same above e h =
             ∙ ap₂ (λ path above. entries_then (visit old.path old.above slot).met (child_then (visit old.path old.above slot).into depth slot.cid
             (children_tasks (map (visit path above) (reverse new.slots.items)) depth (map (λ (x : Slot). x.cid) (reverse new.slots.items))))) (sym same) (sym above)
             ∙ at_slot old.path depth (child old.above) slot.slot slot.cid slot.name into (slot_tasks depth new) h;
+        sized = long;
         done = slot_done old.path depth (child old.above) slot.slot slot.cid slot.name into (slot_tasks depth old) h;
         of_child = is_of_child depth slot.cid (visit old.path old.above slot).into into h;
       },

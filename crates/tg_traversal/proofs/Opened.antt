@@ -82,8 +82,8 @@ ask_fault q (asks.Node reach other) position depth kind e h = ap (λ (p : Positi
 -- ---- what is opened there
 
 pub read_there : (q : QueryParts) (position : Position) {wanted : Option Place} {place : Place} {later : List (Task CidParts)} {state : LeftState} {ask : Ask} {at : WantedAt} {section : Section}
-    {kind : Kind} {found : PlacedKind} {held : List ℕ} → wanted ≡ Some place → record { query = q; wanted = wanted_at q.path wanted; later = later } ≡ state → IsPlaceOnPath wanted (length q.path)
-    → place.ask ≡ ask → IsAskAt ask position → IsReadHere state at section kind found held → IsReadBy position section kind found
+    {kind : Kind} {found : PlacedKind} → wanted ≡ Some place → record { query = q; wanted = wanted_at q.path wanted; later = later } ≡ state → IsPlaceOnPath wanted (length q.path)
+    → place.ask ≡ ask → IsAskAt ask position → IsReadHere state at section kind found → IsReadBy position section kind found
 read_there q position {wanted} {place} {later} {state} {ask} {at} {section} {kind} is view on_path ask_is stands here =
     let there : at ≡ at_place q.path place = place_wanted q.path wanted place state.wanted at is (ap (λ (s : LeftState). s.wanted) view) here.wanted in
     let fits : fault_at q at.want kind ≡ None = ap (λ (s : LeftState). fault_at s.query at.want kind) view ∙ here.fits in

@@ -6,7 +6,6 @@ use Rattle.std.proofs.Common.{Err, List, None, Ok, Option, Result, Some, ap, app
 use Rattle.std.specs.Prelude.{Bool, OnOk}
 use Rattle.std.proofs.lemmas.Result.{on_ok_weaker}
 use Rattle.tg_model.specs.Fits.{is_block}
-use Rattle.tg_traversal.specs.Left.{IsHeldFor}
 use Rattle.tg_traversal.specs.Places.{reach_of}
 use Rattle.tg_traversal.specs.declared.position.Reach.{Reach}
 use Rattle.tg_model.specs.Sound.{top}
@@ -62,13 +61,13 @@ segment_at : (q : QueryParts) (place : Place) (i : ℕ) (position : Position) (a
 segment_at q place i position at e g = ap (λ (a : WantedAt). a.want) e ∙ ap (λ (ask : Ask). want_of q.path ask place.depth) g
 
 pub stepped_left : (q : QueryParts) (before : Option Place) (place : Place) (i : ℕ) (position : Position) (gone : Option Miss) (stack : List (Task CidParts)) (state : LeftState)
-    (stepped : Result Place Miss) (wanted : Option Place) (missed : Option Miss) (found : PlacedKind) (held : List ℕ)
+    (stepped : Result Place Miss) (wanted : Option Place) (missed : Option Miss) (found : PlacedKind)
     → before ≡ Some place → place.ask ≡ asks.Segment i position → HasOneAtMost before gone → record { query = q; wanted = wanted_at q.path before; later = missed_tasks gone ++ stack } ≡ state
     → ((section : Section) (kind : Kind) → IsReadBy position section kind found → IsStepLeft q i position place.depth section kind stepped) → IsParted stepped wanted missed
-    → ((at : WantedAt) (section : Section) (kind : Kind) → IsReadHere state at section kind found held → IsReadBy position section kind found)
-    → (at : WantedAt) (section : Section) (kind : Kind) → IsReadHere state at section kind found held
+    → ((at : WantedAt) (section : Section) (kind : Kind) → IsReadHere state at section kind found → IsReadBy position section kind found)
+    → (at : WantedAt) (section : Section) (kind : Kind) → IsReadHere state at section kind found
     → wanted_tasks (wanted_at q.path wanted) ++ (missed_tasks missed ++ stack) ≡ tasks_of state.query at.want section kind (links_of kind) ++ state.later
-stepped_left q before place i position gone stack state stepped wanted missed found held b a one same left parts reads at section kind here =
+stepped_left q before place i position gone stack state stepped wanted missed found b a one same left parts reads at section kind here =
     let there : at ≡ at_place q.path place = place_wanted q.path before place state.wanted at b (ap (λ (s : LeftState). s.wanted) same) here.wanted in
     let want : at.want ≡ want_of q.path (asks.Segment i position) place.depth = segment_at q place i position at there a in
     let behind : stack ≡ state.later = frames_later before place gone stack state.later b one (ap (λ (s : LeftState). s.later) same) in
@@ -94,9 +93,9 @@ read_terminal scopes.All q depth e other = rw e refl
 terminal_at : (q : QueryParts) (place : Place) (at : WantedAt) → at ≡ at_place q.path place → place.ask ≡ asks.Terminal → at.want ≡ terminal_want place.depth
 terminal_at q place at e g = ap (λ (a : WantedAt). a.want) e ∙ ap (λ (ask : Ask). want_of q.path ask place.depth) g
 
-read_at_top : (q : QueryParts) (state : LeftState) (place : Place) (at : WantedAt) (section : Section) (kind : Kind) (found : PlacedKind) (held : List ℕ)
-    → q ≡ state.query → at.want ≡ terminal_want place.depth → q.scope ≢ scopes.Block → IsReadHere state at section kind found held → IsReadBy positions.Top section kind found
-read_at_top q state place at section kind found held e w other here =
+read_at_top : (q : QueryParts) (state : LeftState) (place : Place) (at : WantedAt) (section : Section) (kind : Kind) (found : PlacedKind)
+    → q ≡ state.query → at.want ≡ terminal_want place.depth → q.scope ≢ scopes.Block → IsReadHere state at section kind found → IsReadBy positions.Top section kind found
+read_at_top q state place at section kind found e w other here =
     let told : fault_at q (terminal_want place.depth) kind ≡ None = ap (λ (want : Want). fault_at q want kind) (sym w) ∙ ap (λ (p : QueryParts). fault_at p at.want kind) e ∙ here.fits in
     record {
       reads = here.reads;
@@ -105,23 +104,23 @@ read_at_top q state place at section kind found held e w other here =
     }
 
 pub terminal_left : {A E : Type 0} (q : QueryParts) (before after : Option Place) (place : Place) (gone : Option Miss) (stack now : List (Task CidParts)) (state : LeftState)
-    (reach : Reach) (frame : List (Task CidParts)) (result : Result A E) (found : PlacedKind) (held : List ℕ)
+    (reach : Reach) (frame : List (Task CidParts)) (result : Result A E) (found : PlacedKind) (block : List ℕ)
     → before ≡ Some place → after ≡ None → place.ask ≡ asks.Terminal → HasOneAtMost before gone → q.scope ≢ scopes.Block
     → record { query = q; wanted = wanted_at q.path before; later = missed_tasks gone ++ stack } ≡ state
     → ((depth : ℕ) (section : Section) (kind : Kind) → IsReadBy positions.Top section kind found → q.scope ≢ scopes.Block
     → node_tasks (reach_of reach) top depth kind (links_of kind) ≡ terminal_tasks q.scope q.span depth section kind (links_of kind))
-    → ((section : Section) (kind : Kind) → IsReadBy positions.Top section kind found → IsHeldFor found held section.block
+    → ((section : Section) (kind : Kind) → IsReadBy positions.Top section kind found → section.block ≡ block
     → frame ≡ node_tasks (reach_of reach) (standing_of positions.Top) place.depth kind (links_of kind))
     → OnOk result (now ≡ frame ++ stack)
-    → (at : WantedAt) (section : Section) (kind : Kind) → IsReadHere state at section kind found held
+    → (at : WantedAt) (section : Section) (kind : Kind) → IsReadHere state at section kind found → section.block ≡ block
     → OnOk result (wanted_tasks (wanted_at q.path after) ++ (missed_tasks gone ++ now) ≡ tasks_of state.query at.want section kind (links_of kind) ++ state.later)
-terminal_left q before after place gone stack now state reach frame result found held b n a one other same asked framed pushed at section kind here =
+terminal_left q before after place gone stack now state reach frame result found block b n a one other same asked framed pushed at section kind here is =
     let there : at ≡ at_place q.path place = place_wanted q.path before place state.wanted at b (ap (λ (s : LeftState). s.wanted) same) here.wanted in
     let want : at.want ≡ terminal_want place.depth = terminal_at q place at there a in
     let query : q ≡ state.query = ap (λ (s : LeftState). s.query) same in
     let behind : stack ≡ state.later = frames_later before place gone stack state.later b one (ap (λ (s : LeftState). s.later) same) in
-    let reads : IsReadBy positions.Top section kind found = read_at_top q state place at section kind found held query want other here in
-    let first : frame ≡ terminal_tasks q.scope q.span place.depth section kind (links_of kind) = framed section kind reads here.held_for ∙ asked place.depth section kind reads other in
+    let reads : IsReadBy positions.Top section kind found = read_at_top q state place at section kind found query want other here in
+    let first : frame ≡ terminal_tasks q.scope q.span place.depth section kind (links_of kind) = framed section kind reads is ∙ asked place.depth section kind reads other in
     let wanted : tasks_of state.query at.want section kind (links_of kind) ≡ tasks_of q (terminal_want place.depth) section kind (links_of kind)
     = ap (λ (p : QueryParts). tasks_of p at.want section kind (links_of kind)) (sym query) ∙ ap (λ (w : Want). tasks_of q w section kind (links_of kind)) want in
     let none : missed_tasks gone ++ now ≡ now = ap (λ (m : Option Miss). missed_tasks m ++ now) (none_missed before place gone b one) in

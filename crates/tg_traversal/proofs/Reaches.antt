@@ -10,9 +10,8 @@ use Rattle.tg_cid.specs.Cid.{CidParts}
 use Rattle.tg_cid.specs.declared.cid.Codec.TheVariants as codecs
 use Rattle.tg_cid.specs.declared.cid.Codec.{Codec}
 use Rattle.tg_traversal.specs.Frames.{ArePartsLeft, block_parts, last_parts, line_of, parts_found}
-use Rattle.tg_traversal.specs.Left.{IsHeldFor}
 use Rattle.tg_model.specs.Computed.{read, read_under}
-use Rattle.tg_traversal.specs.Opening.{IsFileHeld, file_asked, is_bundled}
+use Rattle.tg_traversal.specs.Opening.{IsFileHere, file_asked, is_bundled}
 use Rattle.tg_traversal.specs.Places.{reach_of}
 use Rattle.tg_traversal.specs.declared.position.Reach.{Reach}
 use Rattle.tg_model.specs.Dag.{Section, links_of, total_of}
@@ -179,11 +178,11 @@ all_parts held count parts e h =
     let none : length (block_parts held) - count ≡ 0 = omega arith in
     ap₂ (λ (k : ℕ) (ps : List Part). drop k ps) none e
 
-pub parts_are_left : (places : FilePlaces) (held inline : List ℕ) (filesize : Option ℕ) (parts : List Part) (range : Option (ℕ × ℕ)) → places.total < 2 ^ 64
-    → (places.count ≡ 0 → ⊥) → IsFileHeld places held inline filesize parts
+pub parts_are_left : (places : FilePlaces) (block held inline : List ℕ) (filesize : Option ℕ) (parts : List Part) (range : Option (ℕ × ℕ)) → places.total < 2 ^ 64
+    → held ≡ block → IsFileHere places block inline filesize parts
     → ArePartsLeft (record { block = held; cursor = places.parts; count = places.count; from = places.inline.end - places.inline.start; range = range })
-parts_are_left places held inline filesize parts range small some h =
-    let same : held ≡ h.section.block = elim h.held_for [ inl none ↦ absurd (some none) | inr e ↦ e ] in
+parts_are_left places block held inline filesize parts range small copy h =
+    let same : held ≡ h.section.block = copy ∙ sym h.block_is in
     let parts_are : block_parts held ≡ parts = ap block_parts same ∙ h.parts_are in
     let last : last_parts held places.count ≡ parts = all_parts held places.count parts parts_are h.file_at.count_is in
     let as_many : length (block_parts held) ≡ length parts = ap (λ (ps : List Part). length ps) parts_are in
@@ -211,13 +210,13 @@ dagpb_parts : (codec : Codec) (block inline : List ℕ) (filesize : Option ℕ) 
 dagpb_parts codecs.Raw block inline filesize parts e = absurd (cc)
 dagpb_parts codecs.DagPb block inline filesize parts e = ap parts_found e
 
-pub file_held : (section : Section) (places : FilePlaces) (held : List ℕ) (kind : Kind) → read section.cid section.block ≡ Ok kind → (file : IsFileFor section.block places kind)
-    → IsHeldFor (placed.File places) held section.block → IsFileHeld places held file.inline file.filesize file.parts
-file_held section places held kind reads file h = record {
+pub file_here : (section : Section) (places : FilePlaces) (block : List ℕ) (kind : Kind) → read section.cid section.block ≡ Ok kind → (file : IsFileFor section.block places kind)
+    → section.block ≡ block → IsFileHere places block file.inline file.filesize file.parts
+file_here section places block kind reads file e = record {
   section = section;
+  block_is = e;
   file_at = file.file_at;
   parts_are = dagpb_parts section.cid.codec section.block file.inline file.filesize file.parts (reads ∙ ap Ok file.kind_is);
-  held_for = h;
 }
 
 line_behind : (reach : Reaching) (inline : List ℕ) (filesize : Option ℕ) (parts : List Part) → line_of (is_bundled reach) ≡ text_behind reach (kinds.File inline filesize parts)

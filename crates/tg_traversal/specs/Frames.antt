@@ -151,12 +151,13 @@ IsSomething (Some entry) into = ⊤
 
 pub record AreVisited (directory : List ℕ) (visited : Visited) (old new : List (Task CidParts)) : Type 0 where
   pub first : old ≡ met_tasks directory visited.met ++ into_tasks visited.into ++ new
+  pub sized : visited.directory ≡ length directory
   pub done : IsDone visited.met visited.into old
   pub of_child : IsOfChild visited.into
 
 abbrev pub ArePartsVisited : ℕ → PartsLeft → Option Place → PartsLeft → Type 0
 ArePartsVisited depth old into new =
-    AreVisited [] (record { met = None; into = into }) (part_tasks depth old) (part_tasks depth new)
+    AreVisited [] (record { met = None; into = into; directory = 0 }) (part_tasks depth old) (part_tasks depth new)
 
 abbrev pub AreEntriesVisited : ℕ → EntriesLeft → Visited → EntriesLeft → Type 0
 AreEntriesVisited depth old visited new =

@@ -3,8 +3,7 @@ use Rattle.tg_traversal.specs.declared.frames.Next.TheVariants as nexts
 use Rattle.tg_traversal.specs.declared.stack.Came.TheVariants as comes
 use Rattle.tg_traversal.specs.declared.position.Ask.TheVariants as asks
 use Rattle.tg_traversal.specs.declared.position.Position.TheVariants as positions
-use Rattle.tg_model.specs.declared.placed.PlacedKind.TheVariants as placed
-use Rattle.std.specs.Prelude.{All, Err, IfSome, List, None, Ok, Option, Result, Some, [], ⊤, ℕ, ◌++◌, ◌<◌, ◌∷◌, ◌≡◌, ◌⊎◌}
+use Rattle.std.specs.Prelude.{All, Err, IfSome, List, None, Ok, Option, Result, Some, [], length, ⊤, ℕ, ◌++◌, ◌<◌, ◌∷◌, ◌≡◌, ◌⊎◌}
 use Rattle.tg_bytes.specs.Ascii.{line_feed}
 use Rattle.tg_cid.specs.Cid.{CidParts}
 use Rattle.tg_traversal.specs.Frames.{AreVisited, IsFrame, IsSomething, directory_of, frame_tasks, listed_at}
@@ -118,8 +117,8 @@ abbrev pub IsNext : LeftState → Next → LeftState → Type 0
 IsNext old nexts.Nothing new = (tasks_left old ≡ []) × (tasks_left new ≡ [])
 IsNext old nexts.Block new = (at : WantedAt) × (new.wanted ≡ Some at) × (tasks_left new ≡ tasks_left old)
 IsNext old nexts.Line new = tasks_left old ≡ give_text (line_feed ∷ []) ∷ tasks_left new
-IsNext old (nexts.Entry entry) new =
-    (directory : List ℕ) × (tasks_left old ≡ give_entries (listed_at directory entry ∷ []) ∷ tasks_left new)
+IsNext old (nexts.Entry entry size) new =
+    (directory : List ℕ) × (size ≡ length directory) × (tasks_left old ≡ give_entries (listed_at directory entry ∷ []) ∷ tasks_left new)
 IsNext old (nexts.Missing miss) new =
     (more : List (Task CidParts)) × (tasks_left old ≡ stop_at (missing_of miss) ∷ more) × (new ≡ old)
 
@@ -136,19 +135,10 @@ abbrev pub IsFitting : Position → Kind → PlacedKind → Result PlacedKind Bl
 IsFitting position kind found (Ok same) = (same ≡ found) × (position_fault position kind ≡ None)
 IsFitting position kind found (Err fault) = position_fault position kind ≡ Some fault
 
--- the bytes are those of the block, where it is a file with parts; of other blocks none are needed
-abbrev pub IsHeldFor : PlacedKind → List ℕ → List ℕ → Type 0
-IsHeldFor placed.Raw held block = ⊤
-IsHeldFor (placed.File places) held block = (places.count ≡ 0) ⊎ (held ≡ block)
-IsHeldFor (placed.Basic entries) held block = ⊤
-IsHeldFor (placed.Shard slots) held block = ⊤
-IsHeldFor (placed.Symlink target) held block = ⊤
-
 -- a block that was read at the wanted place, with its kind
-pub record IsReadHere (state : LeftState) (at : WantedAt) (section : Section) (kind : Kind) (found : PlacedKind) (held : List ℕ) : Type 0 where
+pub record IsReadHere (state : LeftState) (at : WantedAt) (section : Section) (kind : Kind) (found : PlacedKind) : Type 0 where
   pub wanted : state.wanted ≡ Some at
   pub cid : section.cid ≡ at.cid
   pub reads : read section.cid section.block ≡ Ok kind
   pub fits : fault_at state.query at.want kind ≡ None
   pub stands : StandsForKind section.block found kind
-  pub held_for : IsHeldFor found held section.block

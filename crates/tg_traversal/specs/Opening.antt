@@ -5,7 +5,7 @@ use Rattle.tg_traversal.specs.declared.position.Position.{Position}
 use Rattle.tg_model.specs.declared.placed.PlacedKind.TheVariants as placed
 use Rattle.tg_model.specs.declared.queries.Scope.TheVariants as scopes
 use Rattle.std.specs.Prelude.{Bool, Err, List, None, Ok, Option, Result, Some, [], drop, false, length, true, ℕ, ◌∷◌}
-use Rattle.std.specs.Prelude.{◌≡◌, ◌⊎◌}
+use Rattle.std.specs.Prelude.{◌≡◌}
 use Rattle.tg_bytes.specs.Ascii.{slash}
 use Rattle.tg_traversal.specs.Frames.{block_parts}
 use Rattle.tg_traversal.specs.Left.{IsOnPath}
@@ -73,9 +73,17 @@ is_bundled entire = false
 is_bundled (ranged low high) = false
 is_bundled listed = false
 
--- the bytes are those of a block that is this file, where it has parts
-pub record IsFileHeld (places : FilePlaces) (held inline : List ℕ) (filesize : Option ℕ) (parts : List Part) : Type 0 where
+-- the bytes are those of a block that is this file
+pub record IsFileHere (places : FilePlaces) (block inline : List ℕ) (filesize : Option ℕ) (parts : List Part) : Type 0 where
   pub section : Section
+  pub block_is : section.block ≡ block
   pub file_at : IsFileAt section.block places inline filesize parts
   pub parts_are : block_parts section.block ≡ parts
-  pub held_for : (places.count ≡ 0) ⊎ (held ≡ section.block)
+
+-- how many links a block has that is read as this kind
+abbrev pub placed_links : PlacedKind → ℕ
+placed_links placed.Raw = 0
+placed_links (placed.File places) = places.count
+placed_links (placed.Basic entries) = length entries
+placed_links (placed.Shard slots) = length slots
+placed_links (placed.Symlink target) = 0

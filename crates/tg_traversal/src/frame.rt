@@ -1,7 +1,7 @@
 //! A block that was opened, and what of its children is to come.
 ghost use Rattle.std.specs.Prelude.{◌≡◌, ◌<◌, ◌+◌, ◌^◌, [], false, true, None, Some, IfErr, IfOk, OnErr, length};
 ghost use Rattle.tg_traversal.specs.Frames.{AreEntriesVisited, ArePartsLeft, ArePartsVisited, AreSlotsVisited, IsFrame};
-ghost use Rattle.tg_traversal.specs.Frames.{IsVisited, IsSomething, entry_in, frame_tasks};
+ghost use Rattle.tg_traversal.specs.Frames.{IsVisited, IsSomething, directory_at, entry_in, frame_tasks};
 ghost use Rattle.tg_traversal.specs.Places.{IsPlaceOf, IsReachOfPart, directory_reach, part_reach};
 ghost use Rattle.tg_model.specs.Sound.{child};
 ghost use Rattle.tg_model.specs.Texts.{joined};
@@ -59,11 +59,13 @@ pub(crate) struct Frame {
     pub(crate) line: bool,
 }
 
-/// What is done at one link, or at none where no link is left: the entry that is met, and the child that is gone into.
+/// What is done at one link, or at none where no link is left: the entry that is met, and the child that is gone into;
+/// and the length of the path of the entry's directory, in bytes.
 #[derive(Drop)]
 pub(crate) struct Visited {
     pub(crate) met: Option<Entry>,
     pub(crate) into: Option<Place>,
+    pub(crate) directory: u64,
 }
 
 impl Frame {
@@ -88,7 +90,7 @@ impl Frame {
                     depth,
                     line,
                 };
-                Ok((Visited::nothing(), frame))
+                Ok((Visited::nothing(0), frame))
             }
             ChildrenLeft::Parts(left) => {
                 let mut left = left;
@@ -98,7 +100,12 @@ impl Frame {
                     depth,
                     line,
                 };
-                Ok((Visited { met: None, into }, frame))
+                let visited = Visited {
+                    met: None,
+                    into,
+                    directory: 0,
+                };
+                Ok((visited, frame))
             }
             ChildrenLeft::Entries(left) => {
                 let mut left = left;
@@ -155,14 +162,16 @@ impl Visited {
         self.met.is_none() && self.into.is_none()
     }
 
-    /// No link is left.
-    fn nothing() -> Visited
+    /// No link is left of a directory whose path has this length.
+    fn nothing(directory: u64) -> Visited
         ensures met { result.met ≡ None }
         ensures into { result.into ≡ None }
+        ensures directory { result.directory ≡ directory }
     {
         Visited {
             met: None,
             into: None,
+            directory,
         }
     }
 }
@@ -214,14 +223,26 @@ impl EntriesLeft {
         ensures next { IfOk result (λ visited. AreEntriesVisited depth self.old visited self.new) }
         ensures err { OnErr result (self.new ≡ self.old) }
     {
+        let directory = path_len(&self.path);
         let Some(entry) = self.entries.last() else {
-            return Ok(Visited::nothing());
+            return Ok(Visited::nothing(directory));
         };
         let into = place_of_entry(alloc, &self.path, entry.name.as_slice(), entry.cid, depth)?;
         Ok(Visited {
             met: self.entries.pop(),
             into,
+            directory,
         })
+    }
+}
+
+/// The length of the path of a directory in bytes; a listed one has the empty path.
+fn path_len(path: &Option<Bytes>) -> u64
+    ensures { result ≡ length (directory_at path.now) }
+{
+    match path {
+        Some(path) => path.as_slice().len() as u64,
+        None => 0,
     }
 }
 
@@ -268,15 +289,20 @@ impl SlotsLeft {
         ensures above { self.new.above ≡ self.old.above }
         ensures err { OnErr result (self.new ≡ self.old) }
     {
+        let directory = path_len(&self.path);
         let Some(slot) = self.slots.last() else {
-            return Ok(Visited::nothing());
+            return Ok(Visited::nothing(directory));
         };
         let into = place_of_slot(alloc, &self.path, self.above.as_slice(), slot, depth)?;
         let met = match self.slots.pop() {
             Some(slot) => entry_of(slot),
             None => None,
         };
-        Ok(Visited { met, into })
+        Ok(Visited {
+            met,
+            into,
+            directory,
+        })
     }
 }
 

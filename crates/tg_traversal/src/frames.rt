@@ -1,9 +1,11 @@
 //! What is left of a traversal, as a stack of frames.
 ghost use Rattle.std.specs.Prelude.{◌≡◌, ℕ, None, Some, IfOk, OnErr, drop, length};
+ghost use Rattle.tg_traversal.specs.BlocksLeft.{HasFewer};
 ghost use Rattle.tg_traversal.specs.Left.{IsNext, IsOnPath, tasks_left, told_wanted};
 ghost use Rattle.tg_traversal.specs.Places.{want_of};
 ghost use Rattle.tg_traversal_laws.specs.Tasks.{path_want, start};
 
+use crate::frame::Visited;
 use crate::position::{Ask, Miss, Place, Position, Wanted};
 use crate::stack::{Came, Stack};
 use std::alloc::{AllocError, Global};
@@ -20,8 +22,9 @@ pub enum Next {
     Block,
     /// A line ends behind a file or a symbolic link of a bundle.
     Line,
-    /// A directory that is listed or bundled has this entry.
-    Entry(Entry),
+    /// A directory that is listed or bundled has this entry. The directory's path is `directory` bytes long; that of a
+    /// listed one is empty.
+    Entry { entry: Entry, directory: u64 },
     /// A segment of the path leads nowhere.
     Missing(Miss),
 }
@@ -30,8 +33,8 @@ pub enum Next {
 /// outer ones first, and the place whose block is wanted now. Contracts see the query, that place, and the tasks behind
 /// it.
 ///
-/// A frame holds a file's block with a cursor over its links, or what is left of a directory's entries; one of which
-/// nothing is left is dropped before its last child is gone into. Trustless Gateway specification, dag-scope,
+/// A frame holds a copy of a file's block with a cursor over its links, or what is left of a directory's entries; one
+/// of which nothing is left is dropped before its last child is gone into. Trustless Gateway specification, dag-scope,
 /// entity-bytes and order dfs.
 #[derive(Drop)]
 pub struct Frames {
@@ -80,6 +83,13 @@ impl Frames {
         })
     }
 
+    /// The query whose traversal it is.
+    pub fn query(&self) -> &Query
+        ensures { result.now ≡ self.now.query }
+    {
+        &self.query
+    }
+
     /// The place that is wanted now, which `next` gave as `Block`. It takes no memory.
     pub fn wanted(&self) -> Option<Wanted>
         ensures { result ≡ told_wanted self.now.wanted }
@@ -109,9 +119,14 @@ impl Frames {
             Came::Nothing => Ok(Next::Nothing),
             Came::Line => Ok(Next::Line),
             Came::Link(visited) => {
-                self.wanted = visited.into;
-                match visited.met {
-                    Some(entry) => Ok(Next::Entry(entry)),
+                let Visited {
+                    met,
+                    into,
+                    directory,
+                } = visited;
+                self.wanted = into;
+                match met {
+                    Some(entry) => Ok(Next::Entry { entry, directory }),
                     None => Ok(Next::Block),
                 }
             }
@@ -123,6 +138,7 @@ impl Frames {
         ensures query { self.new.query ≡ self.old.query }
         ensures wanted { self.new.wanted ≡ None }
         ensures later { self.new.later ≡ self.old.later }
+        ensures fewer { HasFewer self.old self.new }
     {
         self.wanted = None;
     }

@@ -2,9 +2,10 @@
 ghost use Rattle.std.specs.Prelude.{◌≡◌, ◌≢◌, ℕ, ◌+◌, ◌++◌, ◌<◌, ◌^◌, IfOk, None, OnErr, OnOk, Option, length, map};
 ghost use Rattle.std.specs.Prelude.{List as Items};
 ghost use Rattle.tg_traversal.specs.Frames.{AreLeft, IsFrame, children_left, frame_tasks};
-ghost use Rattle.tg_traversal.specs.Left.{IsHeldFor, IsReadHere, WantedAt, tasks_left};
-ghost use Rattle.tg_traversal.specs.Opening.{IsFileHeld, IsParted, IsReadBy, IsStepLeft, directory_asked};
-ghost use Rattle.tg_traversal.specs.Opening.{directory_kind, file_asked, is_bundled};
+ghost use Rattle.tg_traversal.specs.BlocksLeft.{HasFewer};
+ghost use Rattle.tg_traversal.specs.Left.{IsReadHere, WantedAt, tasks_left};
+ghost use Rattle.tg_traversal.specs.Opening.{IsFileHere, IsParted, IsReadBy, IsStepLeft, directory_asked};
+ghost use Rattle.tg_traversal.specs.Opening.{directory_kind, file_asked, is_bundled, placed_links};
 ghost use Rattle.tg_model.specs.PathWalk.{step_of};
 ghost use Rattle.tg_model.specs.Sound.{passed, position_fault, top};
 ghost use Rattle.tg_model.specs.StepAnswers.{IsStep};
@@ -30,21 +31,23 @@ use tg_murmur::{hash64, slot};
 
 impl Frames {
     /// Opens the block at the place that is wanted now, as what `read` gave for it: what it leaves comes before what
-    /// was left behind it. The bytes are the block's where it is a file with parts, and of other blocks none are
-    /// needed.
+    /// was left behind it. Of a file whose parts are to come the block is copied, and of other blocks nothing is.
     ///
     /// Path Gateway specification, Path Resolution; Trustless Gateway specification, dag-scope and entity-bytes. The
     /// error is want of memory, with which the place is given up, and what was left behind it stays.
-    pub fn open(&mut self, found: PlacedKind, block: Bytes) -> Result<(), AllocError>
+    pub fn open(&mut self, found: PlacedKind, block: &[u8]) -> Result<(), AllocError>
         requires here { (at : WantedAt) × (section : Section) × (kind : Kind)
-            × IsReadHere self.old at section kind found block × (depth_of at.want + 1 < 2 ^ 64) }
+            × IsReadHere self.old at section kind found × (section.block ≡ block.now)
+            × (depth_of at.want + 1 < 2 ^ 64) }
         ensures query { self.new.query ≡ self.old.query }
         ensures opened { (at : WantedAt) (section : Section) (kind : Kind)
-            → IsReadHere self.old at section kind found block
+            → IsReadHere self.old at section kind found → section.block ≡ block.now
             → OnOk result (tasks_left self.new ≡ tasks_of self.old.query at.want section kind (links_of kind)
             ++ self.old.later) }
+        ensures fewer { OnOk result (HasFewer self.old self.new) }
         ensures err { OnErr result (tasks_left self.new ≡ self.old.later) }
     {
+        let _links = link_count(&found);
         let Some(Place { depth, ask, .. }) = self.wanted.take() else {
             unreachable!();
         };
@@ -61,14 +64,27 @@ impl Frames {
                     return Ok(());
                 }
                 let reach = terminal_reach(self.alloc, &self.query, &found)?;
-                self.stack
-                    .push(node_frame(reach, Position::Top, depth, found, block))
+                let frame = node_frame(self.alloc, reach, Position::Top, depth, found, block)?;
+                self.stack.push(frame)
             }
             Ask::Node(reach, position) => {
-                self.stack
-                    .push(node_frame(reach, position, depth, found, block))
+                let frame = node_frame(self.alloc, reach, position, depth, found, block)?;
+                self.stack.push(frame)
             }
         }
+    }
+}
+
+/// How many links a block has that is read as this kind.
+fn link_count(found: &PlacedKind) -> u64
+    ensures count { result ≡ placed_links found.now }
+    ensures few { result < 2 ^ 64 }
+{
+    match found {
+        PlacedKind::Raw | PlacedKind::Symlink { .. } => 0,
+        PlacedKind::File(places) => places.count,
+        PlacedKind::Basic { entries } => entries.as_slice().len() as u64,
+        PlacedKind::Shard { slots } => slots.as_slice().len() as u64,
     }
 }
 
@@ -204,45 +220,50 @@ fn file_asked(span: Option<Span>, found: &PlacedKind) -> Reach
     }
 }
 
-/// The frame of a node of this depth, of which so much is asked.
+/// The frame of a node of this depth, of which so much is asked. The error is want of memory.
 fn node_frame(
+    alloc: Global,
     reach: Reach,
     position: Position,
     depth: u64,
     found: PlacedKind,
-    block: Bytes,
-) -> Frame
+    block: &[u8],
+) -> Result<Frame, AllocError>
     requires depth { depth + 1 < 2 ^ 64 }
     requires read { (section : Section) × (kind : Kind) × IsReadBy position section kind found
-        × IsHeldFor found block section.block }
-    ensures frame { IsFrame result }
+        × (section.block ≡ block.now) }
+    ensures frame { IfOk result IsFrame }
     ensures tasks { (section : Section) (kind : Kind) → IsReadBy position section kind found
-        → IsHeldFor found block section.block
-        → frame_tasks result ≡ node_tasks (reach_of reach) (standing_of position) depth kind (links_of kind) }
+        → section.block ≡ block.now
+        → IfOk result (λ frame. frame_tasks frame
+        ≡ node_tasks (reach_of reach) (standing_of position) depth kind (links_of kind)) }
 {
     let depth = depth + 1;
     let line = is_bundled(&reach);
     match found {
-        PlacedKind::Raw | PlacedKind::Symlink { .. } => Frame {
+        PlacedKind::Raw | PlacedKind::Symlink { .. } => Ok(Frame {
             children: ChildrenLeft::Nothing,
             depth,
             line,
-        },
-        PlacedKind::File(places) => Frame {
-            children: parts_left(reach, places, block),
-            depth,
-            line,
-        },
-        PlacedKind::Basic { entries } => Frame {
+        }),
+        PlacedKind::File(places) => {
+            let children = parts_left(alloc, reach, places, block)?;
+            Ok(Frame {
+                children,
+                depth,
+                line,
+            })
+        }
+        PlacedKind::Basic { entries } => Ok(Frame {
             children: entries_left(reach, entries),
             depth,
             line: false,
-        },
-        PlacedKind::Shard { slots } => Frame {
+        }),
+        PlacedKind::Shard { slots } => Ok(Frame {
             children: slots_left(reach, position, slots),
             depth,
             line: false,
-        },
+        }),
     }
 }
 
@@ -256,31 +277,37 @@ fn is_bundled(reach: &Reach) -> bool
     }
 }
 
-/// What is left of the parts of a file; the bytes are its block's where it has parts.
-fn parts_left(reach: Reach, places: FilePlaces, block: Bytes) -> ChildrenLeft
+/// What is left of the parts of a file, with a copy of its block where it has parts. The error is want of memory.
+fn parts_left(
+    alloc: Global,
+    reach: Reach,
+    places: FilePlaces,
+    block: &[u8],
+) -> Result<ChildrenLeft, AllocError>
     requires { (inline : Items ℕ) × (filesize : Option ℕ) × (parts : Items Part)
-        × IsFileHeld places block inline filesize parts }
-    ensures left { AreLeft result }
+        × IsFileHere places block.now inline filesize parts }
+    ensures left { IfOk result AreLeft }
     ensures tasks { (depth : ℕ) (inline : Items ℕ) (filesize : Option ℕ) (parts : Items Part)
-        → IsFileHeld places block inline filesize parts
-        → children_left depth result ≡ children_tasks (file_visits (reach_of reach) inline parts) depth
-        (map (λ part. part.cid) parts) }
+        → IsFileHere places block.now inline filesize parts
+        → IfOk result (λ left. children_left depth left
+        ≡ children_tasks (file_visits (reach_of reach) inline parts) depth (map (λ part. part.cid) parts)) }
 {
     let range = match reach {
         Reach::Bundled(_) | Reach::Entire => None,
         Reach::Ranged(low, high) => Some((low, high)),
-        Reach::Listed => return ChildrenLeft::Nothing,
+        Reach::Listed => return Ok(ChildrenLeft::Nothing),
     };
     if places.count == 0 {
-        return ChildrenLeft::Nothing;
+        return Ok(ChildrenLeft::Nothing);
     }
-    ChildrenLeft::Parts(PartsLeft {
+    let block = Bytes::of(alloc, block)?;
+    Ok(ChildrenLeft::Parts(PartsLeft {
         block,
         cursor: places.parts,
         count: places.count,
         from: (places.inline.end - places.inline.start) as u64,
         range,
-    })
+    }))
 }
 
 /// What is left of a directory in one block.

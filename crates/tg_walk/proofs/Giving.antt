@@ -1,5 +1,5 @@
 -- Which blocks a walk gives of those that it opens.
-use Rattle.std.proofs.Common.{All, Bool, Err, IsTrue, List, None, Ok, OnOk, Option, Result, Some, [], ap, cond, false, is_some, map, not, refl, subst, sym, true, ℕ, ◌++◌, ◌∙◌, ◌∷◌, ◌≡◌, ◌||◌, ◌↔◌}
+use Rattle.std.proofs.Common.{All, Bool, Err, IsTrue, List, None, Ok, OnOk, Option, Result, Some, [], ap, ap₂, cond, false, is_some, map, not, refl, subst, sym, true, ℕ, ◌++◌, ◌∙◌, ◌∷◌, ◌≡◌, ◌&&◌, ◌||◌, ◌↔◌}
 use Rattle.std.proofs.lemmas.List.{append_assoc, map-append}
 use Rattle.std.proofs.lemmas.List.Elements.{All-append, All-nil}
 use Rattle.std.specs.Map.{keys_of, lookup}
@@ -7,13 +7,13 @@ use Rattle.indexmap.proofs.CallerLemmas.{insert_entry-new, keys-insert_entry-pre
 use Rattle.indexmap.specs.IndexMap.{IndexMap, get, insert_entry}
 use Rattle.tg_cid.specs.Cid.{CidParts}
 use Rattle.tg_cid.specs.CodeLaws.{same_cid, same_cid_decides}
-use Rattle.tg_cid.specs.declared.cid.HashKind.TheVariants.{Sha256}
+use Rattle.tg_cid.specs.declared.cid.HashKind.TheVariants.{Identity, Sha256}
 use Rattle.tg_model.specs.Dag.{Section}
 use Rattle.tg_model.specs.Fits.{IfOnce}
 use Rattle.tg_model.specs.PathWalk.{whole}
 use Rattle.tg_model.specs.Queries.{QueryParts}
 use Rattle.tg_model.specs.Stores.{BlocksMeaning, IsCauseOf, LookedUp, Lookups, LookupsQuiet, Store, looked_in}
-use Rattle.tg_model.specs.Traversal.{has_cid, is_sent_behind, sent, unrepeated}
+use Rattle.tg_model.specs.Traversal.{has_cid, is_asked, is_sent_behind, sent, unrepeated}
 use Rattle.tg_model.specs.declared.stores.BlocksFault.{BlocksFault}
 use Rattle.tg_model_laws.specs.SentSections.{sent_step, taken_if}
 use Rattle.tg_traversal.specs.Left.{LeftState, tasks_left}
@@ -111,24 +111,37 @@ starts_on laws q most left known store e t k =
 pub opened_so : (most : ℕ) (left : LeftState) (known : List CidParts) (store : Store) (sections : List Section) → (on : IsOnWalk most left known store sections) → HasOpened most left store (opened_by on.given)
 opened_so most left known store sections on = record { given = on.given; gave = refl; walked = on.walked }
 
--- a block was opened, and is given or not
+-- a block was opened and is asked for, and is given or not
 goes_on_by : (most : ℕ) (q : QueryParts) (new : LeftState) (known now : List CidParts) (store : Store) (opened sections : List Section) (s : Section) (given : Bool) → new.query ≡ q → sent q opened ≡ sections
-    → HasKnown q known sections → IsGiven q.dups known s.cid given now → HasOpened most new store (opened ++ s ∷ []) → IsOnWalk most new now store (taken_if given sections s)
-goes_on_by most q new known now store opened sections s given e gave knows is h =
+    → HasKnown q known sections → is_asked q s.cid ≡ true → IsGiven q.dups known s.cid given now → HasOpened most new store (opened ++ s ∷ []) → IsOnWalk most new now store (taken_if given sections s)
+goes_on_by most q new known now store opened sections s given e gave knows asks is h =
     let both = sent_given q.dups known now sections s given knows is in
     record {
       given = h.given;
       gave = ap (λ (p : QueryParts). sent p (opened_by h.given)) e ∙ ap (sent q) h.gave ∙ sent_step q opened s
-          ∙ ap (λ (l : List Section). taken_if (is_sent_behind q l s.cid) l s) gave ∙ ap (λ (b : Bool). taken_if b sections s) both.0;
+          ∙ ap (λ (l : List Section). taken_if (is_sent_behind q l s.cid) l s) gave
+          ∙ ap (λ (b : Bool). taken_if (b && (q.dups || not (has_cid s.cid sections))) sections s) asks ∙ ap (λ (b : Bool). taken_if b sections s) both.0;
       knows = subst (λ (p : QueryParts). HasKnown p now (taken_if given sections s)) (sym e) both.1;
       walked = h.walked;
     }
 
 pub goes_on : (most : ℕ) (old new : LeftState) (known now : List CidParts) (store : Store) (sections : List Section) (s : Section) (given : Bool) → new.query ≡ old.query
-    → (on : IsOnWalk most old known store sections) → IsGiven old.query.dups known s.cid given now → HasOpened most new store (opened_by on.given ++ s ∷ [])
+    → (on : IsOnWalk most old known store sections) → is_asked new.query s.cid ≡ true → IsGiven old.query.dups known s.cid given now → HasOpened most new store (opened_by on.given ++ s ∷ [])
     → IsOnWalk most new now store (taken_if given sections s)
-goes_on most old new known now store sections s given e on is h =
-    goes_on_by most old.query new known now store (opened_by on.given) sections s given e on.gave on.knows is h
+goes_on most old new known now store sections s given e on asks is h =
+    goes_on_by most old.query new known now store (opened_by on.given) sections s given e on.gave on.knows (ap (λ (p : QueryParts). is_asked p s.cid) (sym e) ∙ asks) is h
+
+-- a block was opened that isn't asked for
+pub passes_on : (most : ℕ) (old new : LeftState) (known : List CidParts) (store : Store) (sections : List Section) (s : Section) → new.query ≡ old.query
+    → (on : IsOnWalk most old known store sections) → is_asked new.query s.cid ≡ false → HasOpened most new store (opened_by on.given ++ s ∷ []) → IsOnWalk most new known store sections
+passes_on most old new known store sections s e on asks h = record {
+  given = h.given;
+  gave = ap (sent new.query) h.gave ∙ sent_step new.query (opened_by on.given) s
+      ∙ ap (λ (b : Bool). taken_if (b && (new.query.dups || not (has_cid s.cid (sent new.query (opened_by on.given))))) (sent new.query (opened_by on.given)) s) asks
+      ∙ ap (λ (p : QueryParts). sent p (opened_by on.given)) e ∙ on.gave;
+  knows = subst (λ (p : QueryParts). HasKnown p known sections) (sym e) on.knows;
+  walked = h.walked;
+}
 
 -- all were opened
 pub all_given : (most : ℕ) (old new : LeftState) (known : List CidParts) (store : Store) (sections : List Section) → new.query ≡ old.query → (on : IsOnWalk most old known store sections)
@@ -157,14 +170,14 @@ front_so laws most old q known store sections e on =
     let found = laws.front old.query store most on.given (tasks_left old) on.walked in
     subst (λ (p : QueryParts). IsFront p store sections) (sym e) (record { given = on.given; gave = on.gave; rest = found.0; front = found.1 })
 
--- a block that isn't given is one of those that are given once
+-- a block that is asked for and isn't given is one of those that are given once
 pub not_given : {A : Type 0} → (dups : Bool) (old new : List CidParts) (cid : CidParts) (given : Bool) → IsGiven dups old cid given new → given ≡ false → dups ≡ true → A
 not_given true old new cid given (g, n) f e = cc
 not_given false old new cid given (g, n) f e = cc
 
 -- ---- look-ups
 
--- what was looked up for blocks that were passed over: nothing where repeats are given
+-- what was looked up for blocks that were passed over: nothing where repeats are given, since these are under identity CIDs
 pub record HasPassed (q : QueryParts) (lookups : Lookups) : Type 0 where
   pub cids : List CidParts
   pub looked : LookedUp cids lookups
@@ -211,18 +224,18 @@ looked_since m a b c q result joins so h = record {
 }
 
 pub passed_since : {S : Type 0} → (m : BlocksMeaning S) (a b c : S) (q : QueryParts) (found : CidParts × List ℕ) → LooksJoin S m → HasPassed q (looked_in m a b)
-    → HasLookedOnce (Ok (Some found)) (looked_in m b c) → (q.dups ≡ true → ⊥) → HasPassed q (looked_in m a c)
-passed_since m a b c q found joins so h once = record {
+    → HasLookedOnce (Ok (Some found)) (looked_in m b c) → (q.dups ≡ true → found.0.hash ≡ Identity) → HasPassed q (looked_in m a c)
+passed_since m a b c q found joins so h unasked = record {
   cids = so.cids ++ h.cids;
   looked = looks_both m a b c so.cids h.cids joins so.looked h.looked;
   hashed = All-append (λ (cid : CidParts). cid.hash ≡ Sha256) so.cids h.cids so.hashed h.hashed;
-  none = λ e. absurd (once e);
+  none = λ e. ap₂ (λ (u v : List CidParts). u ++ v) (so.none e) (h.none (unasked e));
   quiet = h.quiet ∙ so.quiet;
 }
 
 -- a block that was opened isn't given for want of memory
 pub refused_behind : (found : CidParts × List ℕ) (fault : WalkFault) (lookups : Lookups) → HasLookedOnce (Ok (Some found)) lookups → HasLookedOnce (Err fault) lookups
-refused_behind found fault lookups h = record { cids = h.cids; looked = h.looked; hashed = h.hashed; last = tt; alone = h.alone; quiet = tt }
+refused_behind found fault lookups h = record { cids = h.cids; looked = h.looked; hashed = h.hashed; last = tt; none = tt; alone = h.alone; quiet = tt }
 
 -- ---- causes
 

@@ -2,7 +2,7 @@
 use Rattle.std.proofs.Common.{Err, List, Ok, Result, Some, ap, arith, inl, inr, refl, subst, sym, true, ℕ, ◌+◌, ◌<◌, ◌^◌, ◌∙◌, ◌≡◌, ◌≤◌, ◌⊎◌}
 use Rattle.std.proofs.lemmas.Option.{same_Some}
 use Rattle.tg_cid.specs.Cid.{CidParts}
-use Rattle.tg_traversal.specs.Left.{IsHeldFor, IsReadAs, IsReadHere, LeftState, WantedAt}
+use Rattle.tg_traversal.specs.Left.{IsReadAs, IsReadHere, LeftState, WantedAt}
 use Rattle.tg_traversal.specs.SaidFaults.{either_said}
 use Rattle.tg_walk.specs.Walks.{IsBadThere, IsWantedHere, fault_of_block}
 use Rattle.tg_walk.specs.declared.fault.WalkFault.{WalkFault}
@@ -40,15 +40,15 @@ bad_here state cid block fault result given here reads read e g at w =
 
 -- it may be opened there
 abbrev pub MayOpen : LeftState → PlacedKind → List ℕ → Type 0
-MayOpen state found held = (at : WantedAt) × (section : Section) × (kind : Kind) × IsReadHere state at section kind found held × (depth_of at.want + 1 < 2 ^ 64)
+MayOpen state found block = (at : WantedAt) × (section : Section) × (kind : Kind) × IsReadHere state at section kind found × (section.block ≡ block) × (depth_of at.want + 1 < 2 ^ 64)
 
-may_open_at : (state : LeftState) (at : WantedAt) (block held : List ℕ) (found : PlacedKind) → state.wanted ≡ Some at → depth_of at.want ≤ 1100 → IsHeldFor found held block
-    → IsReadAs state.query at block (Ok found) → MayOpen state found held
-may_open_at state at block held found w d h (kind, reads, fits, stands) =
-    (at, section_of at.cid block, kind, record { wanted = w; cid = refl; reads = reads; fits = fits; stands = stands; held_for = h }, omega (arith, d))
+may_open_at : (state : LeftState) (at : WantedAt) (block : List ℕ) (found : PlacedKind) → state.wanted ≡ Some at → depth_of at.want ≤ 1100
+    → IsReadAs state.query at block (Ok found) → MayOpen state found block
+may_open_at state at block found w d (kind, reads, fits, stands) =
+    (at, section_of at.cid block, kind, record { wanted = w; cid = refl; reads = reads; fits = fits; stands = stands }, refl, omega (arith, d))
 
-pub may_open : (state : LeftState) (cid : CidParts) (block held : List ℕ) (found : PlacedKind) (result : Result PlacedKind BlockFault)
-    → IsWantedHere state cid → Reading state block result → ((at : WantedAt) → state.wanted ≡ Some at → is_read_at state.query at.want ≡ true) → result ≡ Ok found → IsHeldFor found held block
-    → MayOpen state found held
-may_open state cid block held found result here reads read e h =
-    may_open_at state here.at block held found here.wanted here.shallow h (subst (IsReadAs state.query here.at block) e (reads here.at here.wanted (read here.at here.wanted)))
+pub may_open : (state : LeftState) (cid : CidParts) (block : List ℕ) (found : PlacedKind) (result : Result PlacedKind BlockFault)
+    → IsWantedHere state cid → Reading state block result → ((at : WantedAt) → state.wanted ≡ Some at → is_read_at state.query at.want ≡ true)
+    → result ≡ Ok found → MayOpen state found block
+may_open state cid block found result here reads read e =
+    may_open_at state here.at block found here.wanted here.shallow (subst (IsReadAs state.query here.at block) e (reads here.at here.wanted (read here.at here.wanted)))

@@ -1,14 +1,15 @@
 -- What a walk over a store has given, and why it gives no more (Trustless Gateway specification: dag-scope,
 -- entity-bytes, order dfs).
-use Rattle.std.specs.Prelude.{All, Bool, Err, IfSome, List, None, Ok, OnOk, Option, Result, Some, [], false, length, map, not, suc, true, zero, ⊤, ℕ}
-use Rattle.std.specs.Prelude.{◌*◌, ◌++◌, ◌+◌, ◌-◌, ◌<◌, ◌^◌, ◌∷◌, ◌≡◌, ◌≤◌, ◌⊎◌}
+use Rattle.std.specs.Prelude.{All, Bool, Err, IfSome, List, None, Ok, OnOk, Option, Result, Some, [], false, length, map, not, true, ⊤, ℕ}
+use Rattle.std.specs.Prelude.{◌++◌, ◌∷◌, ◌≡◌, ◌≤◌, ◌⊎◌}
 use Rattle.std.specs.List.{list_any}
 use Rattle.tg_cid.specs.Cid.{CidParts}
 use Rattle.tg_cid.specs.CodeLaws.{same_cid}
 use Rattle.tg_cid.specs.Limits.{max_block_len}
 use Rattle.tg_cid.specs.Names.{Names}
-use Rattle.tg_cid.specs.declared.cid.HashKind.TheVariants.{Sha256}
+use Rattle.tg_cid.specs.declared.cid.HashKind.TheVariants.{Identity, Sha256}
 use Rattle.tg_traversal.specs.declared.position.Miss.TheVariants as misses
+use Rattle.tg_traversal.specs.BlocksLeft.{blocks_over}
 use Rattle.tg_traversal.specs.Left.{LeftState, WantedAt, tasks_left}
 use Rattle.tg_traversal.specs.Places.{missing_of}
 use Rattle.tg_traversal.specs.SaidFaults.{fault_said}
@@ -18,8 +19,6 @@ use Rattle.tg_model.specs.Computed.{read}
 use Rattle.tg_model.specs.Dag.{links_of}
 use Rattle.tg_model.specs.declared.fault.BlockFault.{BlockFault}
 use Rattle.tg_model.specs.declared.kinds.Kind.{Kind}
-use Rattle.tg_model.specs.declared.placed.PlacedKind.TheVariants as placed
-use Rattle.tg_model.specs.declared.placed.PlacedKind.{PlacedKind}
 use Rattle.tg_walk.specs.declared.fault.WalkFault.{WalkFault}
 use Rattle.tg_walk.specs.declared.fault.WalkFault.TheVariants as faults
 use Rattle.tg_model.specs.declared.stores.BlocksFault.TheVariants as store_faults
@@ -34,8 +33,8 @@ use Rattle.tg_model.specs.declared.stores.BlocksFault.{BlocksFault}
 use Rattle.tg_traversal_laws.specs.Openings.{opened_by}
 use Rattle.tg_traversal_laws.specs.StoreWalks.{IsWalked, WalkEnds, WalkTooDeep, section_of}
 use Rattle.tg_traversal_laws.specs.Stages.{Given, ending}
-use Rattle.tg_traversal_laws.specs.Tasks.{Task, Want, depth_of, fault_at, give_entries, give_text, is_read_at}
-use Rattle.tg_traversal_laws.specs.Tasks.{open_block, stop_at, tasks_of, tasks_then}
+use Rattle.tg_traversal_laws.specs.Tasks.{Task, Want, depth_of, fault_at, is_read_at}
+use Rattle.tg_traversal_laws.specs.Tasks.{stop_at, tasks_of, tasks_then}
 
 -- how many blocks there are at most from the root to a block that a walk gives, both counted
 abbrev pub max_depth : ℕ
@@ -104,20 +103,6 @@ StandsBy (Some fault) most left known store sections = HasWalkCause left.query s
 abbrev pub StandsFor : WalkState → Store → List Section → Type 0
 StandsFor state store sections = StandsBy state.refused max_depth state.left state.known store sections
 
--- how many blocks a walk gives at most from a place on, with so many levels of blocks below it: a block has less than 2
--- ^ 64 links
-abbrev pub blocks_from : ℕ → ℕ
-blocks_from zero = 1
-blocks_from (suc levels) = 2 ^ 64 * blocks_from levels
-
--- and from each place on that is left, none of them more than `most` blocks deep
-abbrev pub blocks_over : ℕ → List (Task CidParts) → ℕ
-blocks_over most [] = 0
-blocks_over most (open_block w cid ∷ tasks) = blocks_from (most + 1 - depth_of w) + blocks_over most tasks
-blocks_over most (give_text text ∷ tasks) = blocks_over most tasks
-blocks_over most (give_entries met ∷ tasks) = blocks_over most tasks
-blocks_over most (stop_at miss ∷ tasks) = blocks_over most tasks
-
 -- how many blocks a walk still gives at most, which ends the loop that asks for them
 abbrev pub blocks_left : LeftState → ℕ
 blocks_left left = blocks_over max_depth (tasks_left left)
@@ -176,18 +161,6 @@ fault_of_store store_faults.Failed = faults.Store store_faults.Failed
 fault_of_store store_faults.OutOfMemory = faults.OutOfMemory
 
 -- ---- steps
-
--- how many links a block has that is read as this kind
-abbrev pub placed_links : PlacedKind → ℕ
-placed_links placed.Raw = 0
-placed_links (placed.File places) = places.count
-placed_links (placed.Basic entries) = length entries
-placed_links (placed.Shard slots) = length slots
-placed_links (placed.Symlink target) = 0
-
--- behind a block that was opened at the wanted place, not too deep, fewer blocks are left
-abbrev pub HasFewer : LeftState → LeftState → Type 0
-HasFewer old new = (most : ℕ) (at : WantedAt) → old.wanted ≡ Some at → depth_of at.want ≤ most → blocks_over most (tasks_left new) < blocks_over most (tasks_left old)
 
 abbrev pub fault_of_miss : Miss → WalkFault
 fault_of_miss (misses.NoEntry i) = faults.NotThere i
@@ -281,7 +254,14 @@ pub record HasFetched (cid : CidParts) (result : Result (Option (List ℕ)) Bloc
   pub hashed : All (λ cid. cid.hash ≡ Sha256) cids
   pub few : length cids ≤ 1
   pub last : OnOk result (cid.hash ≡ Sha256 → cids ≡ cid ∷ [])
+  pub none : cid.hash ≡ Identity → cids ≡ []
   pub quiet : OnOk result (LookupsQuiet lookups)
+
+-- for the block under an identity CID nothing was looked up
+abbrev pub IsNoneOf : Result (Option (CidParts × List ℕ)) WalkFault → List CidParts → Type 0
+IsNoneOf (Ok (Some found)) cids = found.0.hash ≡ Identity → cids ≡ []
+IsNoneOf (Ok None) cids = ⊤
+IsNoneOf (Err fault) cids = ⊤
 
 -- in a step nothing else was looked up
 pub record HasLookedOnce (result : Result (Option (CidParts × List ℕ)) WalkFault) (lookups : Lookups) : Type 0 where
@@ -289,5 +269,6 @@ pub record HasLookedOnce (result : Result (Option (CidParts × List ℕ)) WalkFa
   pub looked : LookedUp cids lookups
   pub hashed : All (λ cid. cid.hash ≡ Sha256) cids
   pub last : IsLastOf result cids
+  pub none : IsNoneOf result cids
   pub alone : IsAloneIn result cids
   pub quiet : OnOk result (LookupsQuiet lookups)

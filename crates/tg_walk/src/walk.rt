@@ -1,11 +1,12 @@
 //! A walk over the blocks of a store.
 ghost use Rattle.std.specs.Map.{keys_of};
 ghost use Rattle.std.specs.Prelude.{◌≡◌, ◌≤◌, ◌<◌, ◌^◌, List, [], None, Some, IfErr, IfOk, IfSome, MatchResult, OnOk};
-ghost use Rattle.tg_traversal.specs.Left.{IsHeldFor, WantedAt, tasks_left};
-ghost use Rattle.tg_walk.specs.Walks.{HasFetched, HasFewer, HasGone, HasGoneOn, HasLookedOnce, HasLookedUp, HasOpened};
+ghost use Rattle.tg_traversal.specs.BlocksLeft.{HasFewer, blocks_over};
+ghost use Rattle.tg_traversal.specs.Left.{WantedAt, tasks_left};
+ghost use Rattle.tg_walk.specs.Walks.{HasFetched, HasGone, HasGoneOn, HasLookedOnce, HasLookedUp, HasOpened};
 ghost use Rattle.tg_walk.specs.Walks.{HasStepped, HasStoreCause, IsBlockOf, IsGiven, IsNamedFound, IsNextPlace};
-ghost use Rattle.tg_walk.specs.Walks.{IsOnWalk, IsOpened, IsWantedHere, StandsFor, blocks_left, blocks_over};
-ghost use Rattle.tg_walk.specs.Walks.{fault_of_block, fault_of_miss, max_depth, placed_links};
+ghost use Rattle.tg_walk.specs.Walks.{IsOnWalk, IsOpened, IsWantedHere, StandsFor, blocks_left};
+ghost use Rattle.tg_walk.specs.Walks.{fault_of_block, fault_of_miss, max_depth};
 ghost use Rattle.tg_model.specs.Dag.{Section};
 ghost use Rattle.tg_model.specs.Stores.{IsCauseOf, Store, looked_in};
 
@@ -15,7 +16,7 @@ use std::alloc::{AllocError, Global};
 use std::marker::Model;
 use tg_bytes::Bytes;
 use tg_cid::{Cid, HashKind};
-use tg_model::{BlockFault, Blocks, BlocksFault, PlacedKind, Query};
+use tg_model::{BlockFault, Blocks, BlocksFault, Query};
 use tg_traversal::{Frames, Miss, Next, Wanted};
 
 /// How many blocks there are at most from the root to a block that a walk gives, both counted.
@@ -24,14 +25,13 @@ pub const MAX_DEPTH: u64 = 512;
 /// A walk over the blocks of a store for a query: it gives the blocks that the query asks for one by one, in order, and
 /// fetches each when it gives it; each at each of its places, or once where the query asks for that.
 ///
-/// An identity CID's block is its digest, so none is fetched. Where each block is given once it holds the CIDs of those
-/// that it gave.
+/// An identity CID's block is its digest, so none is fetched, nor is it given, but for the root of a raw query. Where
+/// each block is given once it holds the CIDs of those that it gave.
 ///
 /// Trustless Gateway specification, dag-scope, entity-bytes and order dfs.
 #[derive(Drop)]
 pub struct Walk {
     alloc: Global,
-    dups: bool,
     frames: Frames,
     known: IndexMap<Cid, ()>,
     refused: Option<WalkFault>,
@@ -39,14 +39,11 @@ pub struct Walk {
 
 impl Model for Walk {
     ghost use Rattle.std.specs.Map.{keys_of};
-    ghost use Rattle.std.specs.Prelude.{◌≡◌};
     ghost use Rattle.tg_walk.specs.Walks.{WalkState};
 
     ghost Value = { WalkState };
 
     ghost view = { λ w. record { left = w.frames; known = keys_of w.known.entries; refused = w.refused } };
-
-    ghost invariant = { λ w. w.dups ≡ w.frames.query.dups };
 }
 
 impl Walk {
@@ -59,7 +56,6 @@ impl Walk {
         tg_traversal_laws::store_walks();
         Ok(Walk {
             alloc,
-            dups: query.dups(),
             frames: Frames::new(alloc, query)?,
             known: IndexMap::new(alloc),
             refused: None,
@@ -90,28 +86,20 @@ impl Walk {
         if let Some(fault) = self.refused {
             return Err(fault);
         }
-        let given = next_given(
-            self.alloc,
-            self.dups,
-            &mut self.frames,
-            &mut self.known,
-            blocks,
-        );
+        let given = next_given(self.alloc, &mut self.frames, &mut self.known, blocks);
         self.refused = given.as_ref().err().copied();
         given
     }
 }
 
-/// The next block that is given, with its CID. Where each is given once, a repeat is passed over, and what is below it
-/// is walked.
+/// The next block that is given, with its CID. An identity CID that isn't asked for, and a repeat where each block is
+/// given once, are passed over, and what is below them is walked.
 fn next_given<B: Blocks>(
     alloc: Global,
-    dups: bool,
     frames: &mut Frames,
     known: &mut IndexMap<Cid, ()>,
     blocks: &mut B,
 ) -> Result<Option<(Cid, Bytes)>, WalkFault>
-    requires { dups ≡ frames.old.query.dups }
     ensures query { frames.new.query ≡ frames.old.query }
     ensures stands { (store : Store) (sections : List Section) → B.blocks.stored blocks.old ≡ Some store
         → IsOnWalk max_depth frames.old (keys_of known.old.entries) store sections
@@ -122,8 +110,9 @@ fn next_given<B: Blocks>(
     ensures cause { HasStoreCause result (B.blocks.stored blocks.old) (looked_in B.blocks blocks.old blocks.new) }
 {
     tg_traversal_laws::store_walks();
+    let dups = frames.query().dups();
     while let Some(found) = step(alloc, MAX_DEPTH, frames, blocks)? {
-        if is_given(dups, known, found.0)? {
+        if frames.query().asks(&found.0) && is_given(dups, known, found.0)? {
             return Ok(Some(found));
         }
     }
@@ -205,7 +194,7 @@ pub(crate) fn next_place(frames: &mut Frames) -> Result<Option<Wanted>, WalkFaul
         match frames.next()? {
             Next::Nothing => return Ok(None),
             Next::Block => return Ok(frames.wanted()),
-            Next::Line | Next::Entry(_) => {}
+            Next::Line | Next::Entry { .. } => {}
             Next::Missing(miss) => return Err(fault_of_miss(miss)),
         }
     }
@@ -242,23 +231,8 @@ pub(crate) fn open(
         Ok(found) => found,
         Err(fault) => return Err(fault_of_block(cid, fault)),
     };
-    let _links = link_count(&found);
-    let held = held_for(alloc, &found, block)?;
-    frames.open(found, held)?;
+    frames.open(found, block.as_slice())?;
     Ok(())
-}
-
-/// How many links a block has that is read as this kind.
-fn link_count(found: &PlacedKind) -> u64
-    ensures count { result ≡ placed_links found.now }
-    ensures few { result < 2 ^ 64 }
-{
-    match found {
-        PlacedKind::Raw | PlacedKind::Symlink { .. } => 0,
-        PlacedKind::File(places) => places.count,
-        PlacedKind::Basic { entries } => entries.as_slice().len() as u64,
-        PlacedKind::Shard { slots } => slots.as_slice().len() as u64,
-    }
 }
 
 /// Why a walk gives no more at a block with this fault.
@@ -269,16 +243,5 @@ fn fault_of_block(cid: Cid, fault: BlockFault) -> WalkFault
         WalkFault::OutOfMemory
     } else {
         WalkFault::BadBlock { cid, fault }
-    }
-}
-
-/// The bytes that a frame of the block needs: a copy of a file with parts, and of other blocks none. The error is want
-/// of memory.
-fn held_for(alloc: Global, found: &PlacedKind, block: &Bytes) -> Result<Bytes, AllocError>
-    ensures { IfOk result (λ held. IsHeldFor found.now held block.now) }
-{
-    match found {
-        PlacedKind::File(places) if places.count > 0 => Bytes::of(alloc, block.as_slice()),
-        _ => Ok(Bytes::new(alloc)),
     }
 }

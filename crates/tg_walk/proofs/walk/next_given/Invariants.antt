@@ -6,7 +6,7 @@ use Rattle.tg_walk.proofs.Giving.{HasPassed}
 use Rattle.tg_walk.specs.Walks.{IsOnWalk, blocks_left, max_depth}
 use Rattle.tg_walk.proofs.walk.next_given.Given as goal
 
--- blocks that were given before were passed over
+-- blocks that were given before, or that are not asked for, were passed over
 abbrev pub invariant-loop-found : goal.invariant-loop-found
 invariant-loop-found g l = record {
   query : l.frames.query ≡ l.fn.frames.query;

@@ -30,6 +30,7 @@ returns-in-Some-reach_of_part-clause-next c = record {
   first = c.loop-part.invariant.tasks ∙ next_tasks c.args.depth c.loop-part.self c.in-Some.part c.in-Some.cursor (Some c.in-Some-reach_of_part.reach) c.loop-part.invariant.left
       (next_of c.loop-part.self c.as_slice.result.now c.in-Some.part c.in-Some.cursor c.loop-part.invariant.left c.as_slice.ensures (c.in-Some.ensures).next)
       c.in-Some-reach_of_part.ensures;
+  sized = refl;
   done = tt;
   of_child = λ path. refl;
 }
@@ -56,6 +57,7 @@ returns-clause-next c =
     (subst (λ (block : _). ArePartsAhead block c.loop-part.self.cursor (last_parts c.loop-part.self.block c.loop-part.self.count)) (sym c.as_slice.ensures) c.loop-part.invariant.left.ahead) in
     record {
       first = c.loop-part.invariant.tasks;
+      sized = refl;
       done = c.loop-part.invariant.tasks ∙ no_tasks c.args.depth c.loop-part.self none;
       of_child = tt;
     }

@@ -16,10 +16,10 @@ returns-clause-next c =
       | in-Some-pop w ↦ w.met-is ∙ w.entry_of-met.ensures ∙ ap entry_at (sym w.in-Some-pop.is ∙ popped)
       | in-None w ↦ let gone : None ≡ Some c.in-Some.slot.now = sym w.in-None.is ∙ popped in absurd (cc)
     ] in
-    subst (λ met. AreSlotsVisited c.args.depth c.args.self.now (record { met = met; into = c.in_ok-into.into })
+    subst (λ met. AreSlotsVisited c.args.depth c.args.self.now (record { met = met; into = c.in_ok-into.into; directory = c.path_len-directory.result })
     (record { slots = c.pop.new.self; above = c.args.self.now.above; path = c.args.self.now.path }))
     (sym met)
-    (slot_visited c.args.depth c.args.self.now (record { slots = c.pop.new.self; above = c.args.self.now.above; path = c.args.self.now.path }) c.in-Some.slot.now c.in_ok-into.into refl refl
+    (slot_visited c.args.depth c.path_len-directory.result c.args.self.now (record { slots = c.pop.new.self; above = c.args.self.now.above; path = c.args.self.now.path }) c.in-Some.slot.now c.in_ok-into.into c.path_len-directory.ensures refl refl
     (taken_last c.args.self.now.slots.items c.pop.new.self.items c.pop.result c.in-Some.slot.now c.pop.ensures.items popped)
     (subst (λ above. IsPlaceOf c.args.depth c.in-Some.slot.now.cid (slot_visit (directory_reach c.args.self.now.path) (child above) c.in-Some.slot.now).into c.in_ok-into.into)
     c.as_slice.ensures (c.in_ok-into.ensures)))

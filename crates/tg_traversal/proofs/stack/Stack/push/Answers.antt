@@ -1,4 +1,4 @@
-use Rattle.std.proofs.Common.{◌∙◌, ◌++◌, ap, subst, sym, List, Option}
+use Rattle.std.proofs.Common.{◌∙◌, ◌++◌, ap, sym, List, Option}
 use Rattle.tg_cid.specs.Cid.{CidParts}
 use Rattle.tg_traversal.proofs.Stacks.{innermost, pushed}
 use Rattle.tg_traversal.specs.Frames.{frame_tasks}
