@@ -5,4 +5,4 @@ mod fault;
 mod listing;
 
 pub use fault::ListingFault;
-pub use listing::put_listing;
+pub use listing::{line_len, put_listing};

@@ -1,6 +1,6 @@
 //! A line for each entry of a directory, gathered and put.
 ghost use Rattle.std.specs.List.{flat_map};
-ghost use Rattle.std.specs.Prelude.{◌≡◌, ◌++◌, IfErr, IfOk, OnOk, map};
+ghost use Rattle.std.specs.Prelude.{◌≡◌, ◌++◌, IfErr, IfOk, OnOk, length, map};
 ghost use Rattle.tg_listing.specs.Listings.{PutBut, StopsListing, named_entry};
 ghost use Rattle.tg_model.specs.Texts.{listing, listing_line, sorted};
 ghost use Rattle.tg_streams.specs.Streams.{OutputQuiet, Put, into};
@@ -78,6 +78,15 @@ fn put_line<S: Sink>(
         lines.clear();
     }
     Ok(())
+}
+
+/// How many bytes the line of an entry has in a listing. The error is want of memory.
+pub fn line_len(alloc: Global, entry: &Entry) -> Result<u64, AllocError>
+    ensures { IfOk result (λ len. len ≡ length (listing_line (named_entry entry.now))) }
+{
+    let mut line = Bytes::new(alloc);
+    push_line(alloc, entry, &mut line)?;
+    Ok(line.as_slice().len() as u64)
 }
 
 /// Adds the line of an entry at the end of the lines. The error is want of memory.

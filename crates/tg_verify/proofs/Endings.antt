@@ -1,16 +1,17 @@
 -- Once all sections that fit, or are in progress, were taken.
-use Rattle.std.proofs.Common.{◌≡◌, ◌++◌, ◌∷◌, ℕ, List, [], None, Option, Some, refl, sym, ap, ◌∙◌, append-nil}
+use Rattle.std.proofs.Common.{◌≡◌, ◌++◌, ◌∷◌, ℕ, List, [], None, Option, Some, refl, sym, subst, true, ap, ◌∙◌, append-nil}
 use Rattle.tg_cid.specs.Cid.{CidParts}
 use Rattle.tg_traversal.specs.Left.{WantedAt, tasks_left, wanted_tasks}
 use Rattle.tg_model.specs.Dag.{Dag, Section}
 use Rattle.tg_model.specs.Fits.{Fits, IsInProgress, output_so_far}
+use Rattle.tg_model.specs.Queries.{QueryParts}
+use Rattle.tg_model.specs.Traversal.{is_sent_behind}
 use Rattle.tg_model.specs.PathWalk.{Spot, TraversalEnd, gone, stopped, whole}
 use Rattle.tg_traversal_laws.specs.Stages.{Given, up_to_next}
-use Rattle.tg_traversal_laws.specs.Tasks.{Miss, Task, no_directory, no_entry, open_block, spot_of, stop_of, tasks_then}
-use Rattle.tg_traversal_laws.specs.Verified.{VerifiedLaws, WantsAt, written_whole}
-use Rattle.tg_traversal_laws.specs.Repeats.{settled}
+use Rattle.tg_traversal_laws.specs.Tasks.{Miss, Task, Want, no_directory, no_entry, open_block, spot_of, stop_of, tasks_then}
+use Rattle.tg_traversal_laws.specs.Verified.{AreSettled, VerifiedLaws, WantsAt, written_whole}
 use Rattle.tg_verify.specs.State.{VerifierState}
-use Rattle.tg_verify.specs.Taken.{IsGoing, IsWrittenAt}
+use Rattle.tg_verify.specs.Taken.{IsGoing, IsSentFor, IsWrittenAt}
 
 -- ---- a segment that leads nowhere is neither of these ends
 
@@ -20,6 +21,18 @@ not_whole end e miss h = let both : whole ≡ stopped (stop_of miss) = sym e ∙
 pub not_gone : (end : TraversalEnd) (spot : Spot) → end ≡ stopped (gone spot) → (miss : Miss) → end ≡ stopped (stop_of miss) → ⊥
 not_gone end spot e (no_entry i) h = let both : stopped (gone spot) ≡ stopped (stop_of (no_entry i)) = sym e ∙ h in absurd (cc both)
 not_gone end spot e (no_directory i) h = let both : stopped (gone spot) ≡ stopped (stop_of (no_directory i)) = sym e ∙ h in absurd (cc both)
+
+-- ---- a wanted block is sent
+
+pub place_settled : (q : QueryParts) (sections : List Section) (w : Want) (cid : CidParts) (later : List (Task CidParts)) → is_sent_behind q sections cid ≡ true
+    → AreSettled q sections (open_block w cid ∷ later)
+place_settled q sections w cid later sends other that more e =
+    let same : cid ≡ that = cc in
+    subst (λ (one : CidParts). is_sent_behind q sections one ≡ true) same sends
+
+-- or none is wanted
+pub none_settled : (q : QueryParts) (sections : List Section) → AreSettled q sections []
+none_settled q sections w cid more e = absurd (cc e)
 
 -- ---- by the wanted place
 
@@ -53,14 +66,23 @@ module _ (state : VerifierState) (given : Given) (written : List ℕ) where
       let both : open_block h.want h.cid ∷ h.more ≡ [] = sym e ∙ nothing in
       absurd (cc both)
 
+  settled_by : (sections : List Section) (wanted : Option WantedAt) → IsSentFor state.left.query sections wanted → IsWrittenAt state given written wanted
+      → AreSettled state.left.query sections (left_at wanted)
+  settled_by sections (Some at) sends h = place_settled state.left.query sections at.want at.cid state.left.later sends
+  settled_by sections None sends h =
+      subst (λ (tasks : List (Task CidParts)). AreSettled state.left.query sections tasks) (sym h.0) (none_settled state.left.query sections)
+
 module _ (v : VerifiedLaws) (state : VerifierState) (d : Dag) (sections : List Section) (written : List ℕ) (h : IsGoing state sections written) where
+  is_settled : AreSettled state.left.query sections (tasks_left state.left)
+  is_settled = settled_by state h.given written sections state.left.wanted h.sends h.writes
+
   pub fit_ends : (text : List ℕ) → Fits d state.left.query sections text → (state.left.wanted ≡ None) × (written ≡ text)
   fit_ends text fits =
-      let (none, is) = v.fitting_ends state.left.query d sections text h.given (tasks_left state.left) (settled v.repeats_sent state.left.query h.repeats sections (tasks_left state.left)) fits h.verified in
+      let (none, is) = v.fitting_ends state.left.query d sections text h.given (tasks_left state.left) is_settled fits h.verified in
       ends_by state h.given written state.left.wanted text refl h.writes none is
 
   pub progress_waits : (wanted : Spot) → IsInProgress d state.left.query sections wanted
       → (at : WantedAt) × (state.left.wanted ≡ Some at) × (spot_of at.want at.cid ≡ wanted) × (written ≡ output_so_far state.left.query d)
   progress_waits wanted progress =
-      let (wants, is) = v.in_progress_ends state.left.query d sections wanted h.given (tasks_left state.left) (settled v.repeats_sent state.left.query h.repeats sections (tasks_left state.left)) progress h.verified in
+      let (wants, is) = v.in_progress_ends state.left.query d sections wanted h.given (tasks_left state.left) is_settled progress h.verified in
       waits_by state h.given written state.left.wanted wanted (output_so_far state.left.query d) refl h.writes wants is

@@ -3,7 +3,7 @@ use Rattle.std.proofs.Common.{Err, List, None, Ok, Option, Some, refl, subst, sy
 use Rattle.std.specs.Prelude.{MatchResult, Result, ⊤}
 use Rattle.tg_traversal.specs.Left.{WantedAt}
 use Rattle.tg_model.specs.Dag.{Section}
-use Rattle.tg_verify.proofs.Opened.{going_through, going_up_to}
+use Rattle.tg_verify.proofs.Going.{going_through, going_up_to}
 use Rattle.tg_verify.proofs.Sections.{is_going, stands_by}
 use Rattle.tg_verify.specs.History.{StandsBy, StandsFor}
 use Rattle.tg_verify.specs.Laws.{AnswerLaws}
@@ -29,7 +29,7 @@ module _ (laws : AnswerLaws) (state : VerifierState) (sections : List Section) (
       let going = is_going state sections written e h in
       subst (λ (r : Result ⊤ Refusal). EndsFor state.left.query d sections written r) (sym (cut at w))
       (laws.sound_refused state.left.query state.limits d sections written (refusals.Truncated at.cid state.taken) sound root
-      (at, refl, record { up_to = going_up_to state sections written going at w; number_is = going.count }))
+      (at, refl, record { up_to = going_up_to state sections written going at w; number_is = going.keeps.count }))
 
   -- with the refusal kept
   pub ended_stands : (result : Result ⊤ Refusal) (refused : Option Refusal) → state.refused ≡ None → (state.left.wanted ≡ None → result ≡ Ok tt)
@@ -43,4 +43,4 @@ module _ (laws : AnswerLaws) (state : VerifierState) (sections : List Section) (
       let some : refused ≡ Some (refusals.Truncated at.cid state.taken) =
       subst (λ (r : Result ⊤ Refusal). MatchResult r (λ _. refused ≡ None) (λ fault. refused ≡ Some fault)) (cut at w) kept in
       stands_by laws state sections written refused (Err (refusals.Truncated at.cid state.taken)) some
-      (at, refl, record { up_to = going_up_to state sections written going at w; number_is = going.count })
+      (at, refl, record { up_to = going_up_to state sections written going at w; number_is = going.keeps.count })

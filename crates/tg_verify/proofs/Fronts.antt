@@ -1,26 +1,18 @@
--- Fronts of texts, the last of a list, the greatest of numbers, and pairs of longer lists.
-use Rattle.std.proofs.Common.{◌≡◌, ◌⊎◌, ◌≤◌, ◌++◌, ◌∷◌, ℕ, List, [], None, Option, Some, inl, inr, map, refl, sym, ap, ap₂, ◌∙◌, append-nil, append_assoc, subst, arith}
-use Rattle.std.proofs.lemmas.List.Elements.{Contains-append_left}
+-- Fronts of texts, the only one of a list, the greatest of numbers, and pairs of longer lists.
+use Rattle.std.proofs.Common.{◌≡◌, ◌⊎◌, ◌≤◌, ◌++◌, ◌∷◌, ℕ, Contains, List, [], None, Option, Some, inl, inr, map, refl, sym, ap, ◌∙◌, append-nil, append_assoc, subst, arith}
+use Rattle.std.proofs.lemmas.List.Elements.{Contains-append_left, Contains-push_cases}
 use Rattle.tg_model.specs.Counts.{greatest}
 use Rattle.tg_model.specs.Dag.{Dag, Section}
 use Rattle.tg_model.specs.Fits.{CollisionPair, IsFrontOfAnswer}
 use Rattle.tg_traversal_laws.specs.Verified.{PairOfSome}
 
--- ---- the last of a list, and those before it
+-- ---- the only one of a list
 
-not_none : {A : Type 0} (xs : List A) (x : A) → [] ≡ xs ++ x ∷ [] → ⊥
-not_none [] x e = absurd (cc e)
-not_none (y ∷ xs) x e = absurd (cc e)
-
-pub same_front : {A : Type 0} (xs ys : List A) (x y : A) → xs ++ x ∷ [] ≡ ys ++ y ∷ [] → (xs ≡ ys) × (x ≡ y)
-same_front [] [] x y e = (refl, cc)
-same_front [] (b ∷ ys) x y e = let none : [] ≡ ys ++ y ∷ [] = cc in absurd (not_none ys y none)
-same_front (a ∷ xs) [] x y e = let none : [] ≡ xs ++ x ∷ [] = cc in absurd (not_none xs x none)
-same_front {A} (a ∷ xs) (b ∷ ys) x y e =
-    let first : a ≡ b = cc in
-    let behind : xs ++ x ∷ [] ≡ ys ++ y ∷ [] = cc in
-    let (front, last) = same_front xs ys x y behind in
-    (ap₂ (λ (a : A) (xs : List A). a ∷ xs) first front, last)
+pub only_one : (x one : Section) → Contains (x ∷ []) one → x ≡ one
+only_one x one h = elim (Contains-push_cases [] x one h) [
+  | inl none ↦ absurd (omega (arith, none.1))
+  | inr same ↦ same
+]
 
 -- ---- the greatest of numbers
 

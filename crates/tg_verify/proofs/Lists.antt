@@ -1,8 +1,8 @@
 -- The sections of a list, one by one.
-use Rattle.std.proofs.Common.{Err, List, None, Ok, Option, Some, [], ap, append-nil, inr, refl, subst, sym, true, ℕ, ◌++◌, ◌∙◌, ◌∷◌, ◌≡◌}
+use Rattle.std.proofs.Common.{[], Err, List, None, Ok, Option, Some, ap, append-nil, drop, get_or, inr, length, map, refl, subst, sym, take, ℕ, ◌+◌, ◌++◌, ◌<◌, ◌∙◌, ◌∷◌, ◌≡◌}
+use Rattle.std.proofs.lemmas.List.{map-append, take-append-drop, take_more}
 use Rattle.std.specs.Prelude.{MatchResult, Result}
 use Rattle.tg_cid.specs.Cid.{CidParts}
-use Rattle.tg_faults.specs.Faults.{Rose}
 use Rattle.tg_traversal.specs.Left.{WantedAt, tasks_left, wanted_tasks}
 use Rattle.tg_model.specs.Dag.{Section}
 use Rattle.tg_model.specs.LimitNumbers.{LimitNumbers}
@@ -12,11 +12,13 @@ use Rattle.tg_streams.specs.Streams.{Output, OutputQuiet, SinkMeaning, into}
 use Rattle.tg_traversal_laws.specs.Stages.{nothing_given}
 use Rattle.tg_traversal_laws.specs.Tasks.{Task, start}
 use Rattle.tg_traversal_laws.specs.Verified.{VerifiedLaws}
-use Rattle.tg_verify.proofs.Opened.{going_through, going_up_to}
+use Rattle.tg_verify.proofs.Going.{going_through, going_up_to}
 use Rattle.tg_verify.proofs.Sections.{is_going}
-use Rattle.tg_verify.specs.History.{AllEnd, HasPut, HasPutCause, HasWritten, StandsBy, StandsFor}
+use Rattle.tg_verify.proofs.Turns.{cause_later}
+use Rattle.tg_verify.specs.History.{AllEnd, HasPut, HasPutCause, HasWritten, StandsBy, StandsFor, section_of_pair}
 use Rattle.tg_verify.specs.Refusals.{HasRefused}
 use Rattle.tg_verify.specs.State.{VerifierState, cid_wanted, next_cid}
+use Rattle.tg_verify.specs.Steps.{section_with}
 use Rattle.tg_verify.specs.Taken.{IsFrontWritten, IsGoing, IsThrough, IsUpTo, IsWrittenAt, most_text}
 use Rattle.tg_verify.specs.declared.fault.Refusal.{Refusal}
 use Rattle.tg_verify.specs.declared.fault.Refusal.TheVariants as refusals
@@ -28,7 +30,7 @@ pub record AreTaken (q : QueryParts) (limits : LimitNumbers) (state : VerifierSt
   pub limits_are : state.limits ≡ limits
   pub fresh : state.refused ≡ None
   pub quiet : OutputQuiet out
-  pub stands : q.dups ≡ true → HasPut out (λ text. IsGoing state sections text)
+  pub stands : HasPut out (λ text. IsGoing state sections text)
 
 -- what `section` says
 pub record SectionSays (old : VerifierState) (section : Section) (out : Output) (new : VerifierState) (result : Result Progress Refusal) : Type 0 where
@@ -51,7 +53,6 @@ going_front_by state sections written h None (later, text) =
 
 going_front : (state : VerifierState) (sections : List Section) (written : List ℕ) → IsGoing state sections written → IsFrontWritten state.left.query sections written
 going_front state sections written h = record {
-  repeats = h.repeats;
   given = h.given;
   tasks = tasks_left state.left;
   verified = h.verified;
@@ -60,9 +61,9 @@ going_front state sections written h = record {
 }
 
 -- before the first
-pub wants_at_start : (v : VerifiedLaws) {S : Type 0} (m : SinkMeaning S) (a : S) (q : QueryParts) (limits : LimitNumbers) (all : List Section) → m.wrote a a [] → q.dups ≡ true
+pub wants_at_start : (v : VerifiedLaws) {S : Type 0} (m : SinkMeaning S) (a : S) (q : QueryParts) (limits : LimitNumbers) (all : List Section) → m.wrote a a []
     → AllEnd q limits all (into m a a) (Err refusals.OutOfMemory)
-wants_at_start v {S} m a q limits all rests dups = (
+wants_at_start v {S} m a q limits all rests = (
   record {
     text = [];
     put = put_nothing S m a rests;
@@ -70,17 +71,17 @@ wants_at_start v {S} m a q limits all rests dups = (
       front = [];
       rest = all;
       whole = refl;
-      refused = inr (record { repeats = dups; given = nothing_given; tasks = start q q.root; verified = v.start q; rest = []; text = refl });
+      refused = inr (record { given = nothing_given; tasks = start q q.root; verified = v.start q; rest = []; text = refl });
     };
   },
   refl,
 )
 
 module _ (q : QueryParts) (limits : LimitNumbers) where
-  pub wants_behind : (state : VerifierState) (front rest all : List Section) (out : Output) → q.dups ≡ true → all ≡ front ++ rest → AreTaken q limits state front out
+  pub wants_behind : (state : VerifierState) (front rest all : List Section) (out : Output) → all ≡ front ++ rest → AreTaken q limits state front out
       → AllEnd q limits all out (Err refusals.OutOfMemory)
-  wants_behind state front rest all out dups whole h =
-      let p = h.stands dups in (
+  wants_behind state front rest all out whole h =
+      let p = h.stands in (
         record {
           text = p.text;
           put = p.put;
@@ -91,20 +92,20 @@ module _ (q : QueryParts) (limits : LimitNumbers) where
 
   -- ---- the end of the list
 
-  ends_by : (state : VerifierState) (all : List Section) (out : Output) (wanted : Option WantedAt) → state.left.wanted ≡ wanted → q.dups ≡ true → AreTaken q limits state all out
+  ends_by : (state : VerifierState) (all : List Section) (out : Output) (wanted : Option WantedAt) → state.left.wanted ≡ wanted → AreTaken q limits state all out
       → AllEnd q limits all out (Ok (cid_wanted wanted))
-  ends_by state all out None e dups h =
-      let p = h.stands dups in
+  ends_by state all out None e h =
+      let p = h.stands in
       (record { text = p.text; put = p.put; is_so = subst (λ (q : QueryParts). IsThrough q all p.text) h.query (going_through state all p.text p.is_so e) }, h.quiet)
-  ends_by state all out (Some at) e dups h =
-      let p = h.stands dups in
+  ends_by state all out (Some at) e h =
+      let p = h.stands in
       (record { text = p.text; put = p.put; is_so = (at, refl, subst (λ (q : QueryParts). IsUpTo q all p.text at) h.query (going_up_to state all p.text p.is_so at e)) }, h.quiet)
 
-  pub ends_all : (state : VerifierState) (all : List Section) (out : Output) (want : Option CidParts) → want ≡ next_cid state.refused state.left.wanted → q.dups ≡ true → AreTaken q limits state all out
+  pub ends_all : (state : VerifierState) (all : List Section) (out : Output) (want : Option CidParts) → want ≡ next_cid state.refused state.left.wanted → AreTaken q limits state all out
       → AllEnd q limits all out (Ok want)
-  ends_all state all out want e dups h =
+  ends_all state all out want e h =
       let is_next : want ≡ cid_wanted state.left.wanted = e ∙ ap (λ (r : Option Refusal). next_cid r state.left.wanted) h.fresh in
-      subst (λ (w : Option CidParts). AllEnd q limits all out (Ok w)) (sym is_next) (ends_by state all out state.left.wanted refl dups h)
+      subst (λ (w : Option CidParts). AllEnd q limits all out (Ok w)) (sym is_next) (ends_by state all out state.left.wanted refl h)
 
   -- ---- a section
 
@@ -119,32 +120,16 @@ module _ (q : QueryParts) (limits : LimitNumbers) where
       limits_are = says.limits_are ∙ h.limits_are;
       fresh = says.refused;
       quiet = says.cause h.fresh ∙ h.quiet;
-      stands = λ dups.
-          let p = h.stands dups in
+      stands =
+          let p = h.stands in
           let w = written_more (Ok progress) says p in
           record { text = p.text ++ w.text; put = put_put S m a b c p.text w.text joins p.put w.put; is_so = is_going new (front ++ section ∷ []) (p.text ++ w.text) says.refused w.stands };
     }
 
-    later_quiet : OutputQuiet (into m b c) → OutputQuiet (into m a c)
-    later_quiet quiet = quiet ∙ h.quiet
-
-    later_cause : (fault : Refusal) → HasPutCause (Err fault) (into m b c) → HasPutCause (Err fault) (into m a c)
-    later_cause refusals.SinkFault rose = subst (λ (n : ℕ). Rose n (m.faults c)) h.quiet rose
-    later_cause (refusals.Truncated want number) none = none
-    later_cause (refusals.Extra number) quiet = later_quiet quiet
-    later_cause (refusals.Limit kind number) quiet = later_quiet quiet
-    later_cause (refusals.BadDigest cid) quiet = later_quiet quiet
-    later_cause (refusals.WrongBlock want got) quiet = later_quiet quiet
-    later_cause (refusals.BadBlock cid fault) quiet = later_quiet quiet
-    later_cause (refusals.BadSize declared actual) quiet = later_quiet quiet
-    later_cause (refusals.NotFolder segment) quiet = later_quiet quiet
-    later_cause (refusals.NotThere segment) quiet = later_quiet quiet
-    later_cause refusals.OutOfMemory quiet = later_quiet quiet
-
-    pub stops_at : (fault : Refusal) (rest all : List Section) → all ≡ (front ++ section ∷ []) ++ rest → q.dups ≡ true → SectionSays old section (into m b c) new (Err fault)
+    pub stops_at : (fault : Refusal) (rest all : List Section) → all ≡ (front ++ section ∷ []) ++ rest → SectionSays old section (into m b c) new (Err fault)
         → AllEnd q limits all (into m a c) (Err fault)
-    stops_at fault rest all whole dups says =
-        let p = h.stands dups in
+    stops_at fault rest all whole says =
+        let p = h.stands in
         let w = written_more (Err fault) says p in
         let text = p.text ++ w.text in
         let refused : HasRefused new.left.query new.limits (front ++ section ∷ []) text fault =
@@ -160,16 +145,64 @@ module _ (q : QueryParts) (limits : LimitNumbers) where
                   (subst (λ (l : LimitNumbers). HasRefused new.left.query l (front ++ section ∷ []) text fault) (says.limits_are ∙ h.limits_are) refused);
             };
           },
-          later_cause fault (says.cause h.fresh),
+          cause_later m a b c (Err fault) h.quiet (says.cause h.fresh),
         )
 
--- before the first of them
-pub none_yet : (q : QueryParts) (limits : LimitNumbers) (state : VerifierState) {S : Type 0} (m : SinkMeaning S) (a : S) → m.wrote a a [] → state.left.query ≡ q → state.limits ≡ limits
-    → state.refused ≡ None → (q.dups ≡ true → StandsFor state [] []) → AreTaken q limits state [] (into m a a)
-none_yet q limits state {S} m a rests query limits_are fresh stands = record {
-  query = query;
-  limits_are = limits_are;
-  fresh = fresh;
-  quiet = refl;
-  stands = λ dups. record { text = []; put = put_nothing S m a rests; is_so = is_going state [] [] fresh (stands dups) };
-}
+-- ---- before the first of them
+
+-- what `start` says
+pub record StartSays (old : VerifierState) (out : Output) (new : VerifierState) (result : Result Progress Refusal) : Type 0 where
+  pub query : new.left.query ≡ old.left.query
+  pub limits_are : new.limits ≡ old.limits
+  pub stands : HasWritten new [] [] out result
+  pub cause : HasPutCause result out
+  pub refused : MatchResult result (λ _. new.refused ≡ None) (λ fault. new.refused ≡ Some fault)
+
+pub none_yet : (old new : VerifierState) (out : Output) (progress : Progress) → StartSays old out new (Ok progress) → AreTaken old.left.query old.limits new [] out
+none_yet old new out progress says =
+    let w = says.stands in
+    record {
+      query = says.query;
+      limits_are = says.limits_are;
+      fresh = says.refused;
+      quiet = says.cause;
+      stands = record { text = w.text; put = w.put; is_so = is_going new [] w.text says.refused w.stands };
+    }
+
+pub stops_first : (old new : VerifierState) (out : Output) (fault : Refusal) (all : List Section) → StartSays old out new (Err fault) → AllEnd old.left.query old.limits all out (Err fault)
+stops_first old new out fault all says =
+    let w = says.stands in
+    let refused : HasRefused new.left.query new.limits [] w.text fault = subst (λ (r : Option Refusal). StandsBy r new [] w.text) says.refused w.stands in (
+      record {
+        text = w.text;
+        put = w.put;
+        is_so = record {
+          front = [];
+          rest = all;
+          whole = refl;
+          refused = subst (λ (q : QueryParts). HasRefused q old.limits [] w.text fault) says.query
+              (subst (λ (l : LimitNumbers). HasRefused new.left.query l [] w.text fault) says.limits_are refused);
+        };
+      },
+      says.cause,
+    )
+
+-- ---- CIDs and blocks as sections
+
+pub split_at : (i : ℕ) (pairs : List (CidParts × List ℕ)) → map section_of_pair pairs ≡ map section_of_pair (take i pairs) ++ map section_of_pair (drop i pairs)
+split_at i pairs = ap (λ (ps : List (CidParts × List ℕ)). map section_of_pair ps) (sym (take-append-drop i pairs)) ∙ map-append section_of_pair (take i pairs) (drop i pairs)
+
+-- with the pair at this place, of which the block is a copy
+module _ (pairs items : List (CidParts × List ℕ)) (i : ℕ) (pair : CidParts × List ℕ) (slice block : List ℕ) (same : items ≡ pairs) (less : i < length items) (is : pair ≡ get_or items i pair)
+    (slice_is : slice ≡ pair.1) (block_is : block ≡ slice) where
+  pub front_more : map section_of_pair (take i pairs) ++ section_with pair.0 block ∷ [] ≡ map section_of_pair (take (i + 1) pairs)
+  front_more =
+      let here : section_with pair.0 block ≡ section_of_pair (get_or pairs i pair) =
+      ap (λ (b : List ℕ). section_with pair.0 b) (block_is ∙ slice_is) ∙ ap section_of_pair (is ∙ ap (λ (ps : List (CidParts × List ℕ)). get_or ps i pair) same) in
+      let fits : i < length pairs = subst (λ (ps : List (CidParts × List ℕ)). i < length ps) same less in
+      ap (λ (s : Section). map section_of_pair (take i pairs) ++ s ∷ []) here
+      ∙ sym (map-append section_of_pair (take i pairs) (get_or pairs i pair ∷ []))
+      ∙ ap (λ (ps : List (CidParts × List ℕ)). map section_of_pair ps) (sym (take_more pairs i pair fits))
+
+  pub split_behind : map section_of_pair pairs ≡ (map section_of_pair (take i pairs) ++ section_with pair.0 block ∷ []) ++ map section_of_pair (drop (i + 1) pairs)
+  split_behind = split_at (i + 1) pairs ∙ ap (λ (front : List Section). front ++ map section_of_pair (drop (i + 1) pairs)) (sym front_more)

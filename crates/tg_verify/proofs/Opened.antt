@@ -1,188 +1,287 @@
--- What stands once a section passed at the wanted place and was opened there.
-use Rattle.std.proofs.Common.{All, List, None, Option, Some, [], length, map, refl, subst, sym, true, ap, ℕ, ◌+◌, ◌++◌, ◌<◌, ◌∙◌, ◌∷◌, ◌≡◌}
-use Rattle.std.specs.Prelude.{zero, suc}
+-- What stands once a block was opened at its place, or wasn't.
+use Rattle.std.proofs.Common.{[], Err, List, None, Option, Some, ap, append-nil, append_assoc, map, refl, subst, sym, ℕ, ◌++◌, ◌∙◌, ◌∷◌, ◌≡◌}
+use Rattle.std.proofs.lemmas.List.{map-append}
+use Rattle.std.specs.Bool.{⊤}
 use Rattle.tg_cid.specs.Cid.{CidParts}
-use Rattle.tg_traversal.specs.FaultLaws.{fault_same}
-use Rattle.tg_traversal.specs.Left.{WantedAt, wanted_tasks}
 use Rattle.tg_listing.specs.Listings.{named_entry}
-use Rattle.tg_model.specs.Dag.{Section, links_of}
+use Rattle.tg_model.specs.Dag.{Section}
 use Rattle.tg_model.specs.LimitNumbers.{LimitNumbers}
-use Rattle.tg_model.specs.PathWalk.{StepTo, absent, not_folder_here, step_of, to_child, to_entry}
-use Rattle.tg_model.specs.Queries.{QueryParts, SpanParts}
-use Rattle.tg_model.specs.Sound.{Position, passed, top}
+use Rattle.tg_model.specs.Queries.{QueryParts}
 use Rattle.tg_model.specs.Texts.{Named}
-use Rattle.tg_model.specs.Traversal.{ListedEntry, Reach, Visit, all_reach, entity_reach, text_behind, visits}
+use Rattle.tg_model.specs.Traversal.{ListedEntry, named_met, sent}
 use Rattle.tg_model.specs.declared.kinds.Kind.{Kind}
-use Rattle.tg_model.specs.declared.placed.PlacedKind.{PlacedKind}
+use Rattle.tg_model.specs.declared.limits.LimitKind.TheVariants as kinds
+use Rattle.tg_model.specs.declared.limits.LimitKind.{LimitKind}
 use Rattle.tg_model.specs.declared.queries.Scope.{Scope}
 use Rattle.tg_model.specs.declared.queries.Scope.TheVariants as scopes
-use Rattle.tg_traversal_laws.specs.Openings.{IsReadAt}
+use Rattle.tg_model_laws.specs.SentSections.{taken_as}
+use Rattle.tg_streams.specs.Streams.{Output, Put}
+use Rattle.tg_traversal.specs.FaultLaws.{fault_same}
+use Rattle.tg_traversal.specs.Left.{WantedAt, tasks_left}
+use Rattle.tg_traversal_laws.specs.Openings.{IsReadAt, opened_by}
 use Rattle.tg_traversal_laws.specs.Stages.{Given, with_place}
-use Rattle.tg_traversal_laws.specs.Tasks.{Miss, Task, Want, child_then, children_tasks, entries_then, give_entries, give_text, link_tasks, no_directory, no_entry, node_tasks, node_want, open_block, path_want, position_below, position_of, segment_want, step_tasks, stop_at, tasks_of, tasks_then, terminal_tasks, terminal_want, text_at, text_last}
-use Rattle.tg_traversal_laws.specs.Verified.{Verified, VerifiedLaws}
-use Rattle.tg_traversal_laws.specs.Repeats.{known, one_taken}
+use Rattle.tg_traversal_laws.specs.Tasks.{Miss, Task, entries_now, no_directory, no_entry, open_block, position_of, tasks_then, text_now}
+use Rattle.tg_traversal_laws.specs.Verified.{IsKnown, Verified, VerifiedLaws, listing_at_end}
+use Rattle.tg_verify.proofs.Counting.{IsFrom, counted_on, is_passed, is_unpassed}
 use Rattle.tg_verify.proofs.Misread.{Computes}
-use Rattle.tg_verify.specs.Refusals.{IsReadBlock}
-use Rattle.tg_verify.specs.State.{VerifierState, listed_of}
-use Rattle.tg_verify.specs.Steps.{IsPassing, PassesAs, tasks_behind, text_of}
-use Rattle.tg_verify.specs.Taken.{HasNoStop, IsGoing, IsThrough, IsUpTo, IsWrittenAt}
+use Rattle.tg_verify.specs.Counting.{AreUnpassed, HasCounted, counts_given}
+use Rattle.tg_verify.specs.History.{HasPutCause, IsPlaceFault}
+use Rattle.tg_verify.specs.Refusals.{HasPlaceCause, IsOver, PassesAs, given_with, tasks_behind, text_of}
+use Rattle.tg_verify.specs.State.{OpenerState, listed_of}
+use Rattle.tg_verify.specs.Steps.{HasOpenCause, IsMissedBehind, IsOverBehind, IsPlaced, IsPlacedAt, IsUnopened, behind}
+use Rattle.tg_verify.specs.Taken.{IsFrontWritten, IsNamed, IsNowhere, most_text}
+use Rattle.tg_verify.specs.declared.counts.Source.{Source}
+use Rattle.tg_verify.specs.declared.fault.Refusal.{Refusal}
+use Rattle.tg_verify.specs.declared.fault.Refusal.TheVariants as refusals
 
--- ---- segments that lead nowhere stand among tasks only behind a segment's step
+-- ---- names and texts
 
-pub no_stop_both : (xs ys : List (Task CidParts)) → HasNoStop xs → HasNoStop ys → HasNoStop (xs ++ ys)
-no_stop_both [] ys p q = q
-no_stop_both (open_block w cid ∷ xs) ys p q = no_stop_both xs ys p q
-no_stop_both (give_text text ∷ xs) ys p q = no_stop_both xs ys p q
-no_stop_both (give_entries met ∷ xs) ys p q = no_stop_both xs ys p q
-no_stop_both (stop_at miss ∷ xs) ys p q = absurd p
+listed_both : (scope : Scope) (u w : List ListedEntry) → listed_of scope (u ++ w) ≡ listed_of scope u ++ listed_of scope w
+listed_both scopes.Block u w = refl
+listed_both scopes.Entity u w = map-append named_met u w
+listed_both scopes.All u w = refl
 
-pub no_stop_then : (xs : List (Task CidParts)) → HasNoStop xs → HasNoStop (tasks_then xs)
-no_stop_then [] p = tt
-no_stop_then (open_block w cid ∷ xs) p = p
-no_stop_then (give_text text ∷ xs) p = no_stop_then xs p
-no_stop_then (give_entries met ∷ xs) p = no_stop_then xs p
-no_stop_then (stop_at miss ∷ xs) p = absurd p
+-- what is at most written begins with the text that was given
+pub most_more : (q : QueryParts) (given : Given) (tasks : List (Task CidParts)) → (more : List ℕ) × (most_text q given tasks ≡ given.text ++ more)
+most_more q given [] = (listing_at_end q.scope given.met, refl)
+most_more q given (task ∷ tasks) = ([], sym (append-nil given.text))
 
-no_stop_entries : (met : List ListedEntry) (xs : List (Task CidParts)) → HasNoStop xs → HasNoStop (entries_then met xs)
-no_stop_entries [] xs p = p
-no_stop_entries (m ∷ met) xs p = p
+-- a front of the text that was given is written
+pub front_of : (q : QueryParts) (sections : List Section) (given : Given) (tasks : List (Task CidParts)) (written rest : List ℕ) → Verified q sections given tasks → given.text ≡ written ++ rest
+    → IsFrontWritten q sections written
+front_of q sections given tasks written rest verified e =
+    let more = most_more q given tasks in
+    record {
+      given = given;
+      tasks = tasks;
+      verified = verified;
+      rest = rest ++ more.0;
+      text = more.1 ∙ ap (λ (t : List ℕ). t ++ more.0) e ∙ append_assoc written rest more.0;
+    }
 
-no_stop_child : (into : Option (Reach × Position)) (depth : ℕ) (cid : CidParts) (xs : List (Task CidParts)) → HasNoStop xs → HasNoStop (child_then into depth cid xs)
-no_stop_child None depth cid xs p = p
-no_stop_child (Some into) depth cid xs p = p
+-- ---- a block at its place
 
-no_stop_text : (text : List ℕ) → HasNoStop (text_last text)
-no_stop_text [] = tt
-no_stop_text (b ∷ text) = tt
+-- the place is wanted behind these sections, and this is its block
+pub record IsAtPlace (state : OpenerState) (sections : List Section) (given : Given) (at : WantedAt) (section : Section) (source : Source) : Type 0 where
+  pub verified : Verified state.left.query sections given (open_block at.want at.cid ∷ state.left.later)
+  pub is_named : IsNamed section
+  pub same : section.cid ≡ at.cid
+  pub from : IsFrom state.left.query sections section source
+  pub known : IsKnown state.left.query sections section
+  pub counted : HasCounted state.left.query state.counts given
+  pub names : map named_entry state.entries ≡ listed_of state.left.query.scope given.met
 
-no_stop_children : (todo : List Visit) (depth : ℕ) (cids : List CidParts) → HasNoStop (children_tasks todo depth cids)
-no_stop_children todo depth [] = tt
-no_stop_children [] depth (cid ∷ cids) = tt
-no_stop_children (visit ∷ todo) depth (cid ∷ cids) =
-    no_stop_entries visit.met (child_then visit.into depth cid (children_tasks todo depth cids)) (no_stop_child visit.into depth cid (children_tasks todo depth cids) (no_stop_children todo depth cids))
+-- the block was opened there: these tasks are left
+pub record IsOpenedUpTo (old : OpenerState) (sections : List Section) (given : Given) (said : List ℕ) (new : OpenerState) : Type 0 where
+  pub next : Given
+  pub verified : Verified old.left.query sections next (tasks_left new.left)
+  pub counted : HasCounted old.left.query new.counts next
+  pub within : AreUnpassed old.limits (counts_given old.left.query next)
+  pub text : next.text ≡ given.text ++ said
+  pub names : map named_entry new.entries ≡ listed_of old.left.query.scope next.met
 
-no_stop_node : (reach : Reach) (position : Position) (depth : ℕ) (kind : Kind) (cids : List CidParts) → HasNoStop (node_tasks reach position depth kind cids)
-no_stop_node reach position depth kind cids =
-    no_stop_both (children_tasks (visits reach position kind) (depth + 1) cids) (text_last (text_behind reach kind)) (no_stop_children (visits reach position kind) (depth + 1) cids)
-    (no_stop_text (text_behind reach kind))
+-- but where out failed nothing is put
+abbrev pub IsNothing : Refusal → List ℕ → Type 0
+IsNothing refusals.SinkFault text = ⊤
+IsNothing other text = text ≡ []
 
-no_stop_terminal : (scope : Scope) (span : Option SpanParts) (depth : ℕ) (section : Section) (kind : Kind) (cids : List CidParts) → HasNoStop (terminal_tasks scope span depth section kind cids)
-no_stop_terminal scopes.Block span depth section kind cids = tt
-no_stop_terminal scopes.Entity span depth section kind cids = no_stop_node (entity_reach span section kind) top depth kind cids
-no_stop_terminal scopes.All span depth section kind cids = no_stop_node (all_reach kind) top depth kind cids
+pub nothing_put : (fault : Refusal) → IsNothing fault []
+nothing_put refusals.SinkFault = tt
+nothing_put (refusals.Truncated want number) = refl
+nothing_put (refusals.NotThere segment) = refl
+nothing_put (refusals.NotFolder segment) = refl
+nothing_put (refusals.Extra number) = refl
+nothing_put (refusals.Limit kind number) = refl
+nothing_put (refusals.BadDigest cid) = refl
+nothing_put (refusals.WrongBlock want got) = refl
+nothing_put (refusals.BadBlock cid bad) = refl
+nothing_put (refusals.BadSize declared actual) = refl
+nothing_put refusals.OutOfMemory = refl
 
--- these tasks lead on; or the first leads nowhere, and nothing was said before it
-pub data Leads (text : List ℕ) (tasks : List (Task CidParts)) : Type 0 where
-  leads_on : HasNoStop tasks → Leads text tasks
-  leads_nowhere : (miss : Miss) (more : List (Task CidParts)) → tasks ≡ stop_at miss ∷ more → text ≡ [] → Leads text tasks
+-- a text was put, and with it this stands for the refusal
+pub record EndsWith (written : List ℕ) (out : Output) (fault : Refusal) (P : List ℕ → Refusal → Type 0) : Type 0 where
+  pub text : List ℕ
+  pub put : Put text out
+  pub nothing : IsNothing fault text
+  pub is : P (written ++ text) fault
 
-leads_more : (text : List ℕ) (xs ys : List (Task CidParts)) → HasNoStop ys → Leads text xs → Leads text (xs ++ ys)
-leads_more text xs ys p (leads_on q) = leads_on (no_stop_both xs ys q p)
-leads_more text xs ys p (leads_nowhere miss more e none) = leads_nowhere miss (more ++ ys) (ap (λ (zs : List (Task CidParts)). zs ++ ys) e) none
-
-leads_link : (k i : ℕ) (w : Want) (cids : List CidParts) → Leads [] (link_tasks k i w cids)
-leads_link k i w [] = leads_nowhere (no_entry i) [] refl refl
-leads_link zero i w (cid ∷ cids) = leads_on tt
-leads_link (suc k) i w (cid ∷ cids) = leads_link k i w cids
-
-leads_step : (i : ℕ) (entry inner : Want) (step : StepTo) (cids : List CidParts) → Leads [] (step_tasks i entry inner step cids)
-leads_step i entry inner (to_entry k) cids = leads_link k (i + 1) entry cids
-leads_step i entry inner (to_child k) cids = leads_link k i inner cids
-leads_step i entry inner absent cids = leads_nowhere (no_entry i) [] refl refl
-leads_step i entry inner not_folder_here cids = leads_nowhere (no_directory i) [] refl refl
-
-leads_at : (q : QueryParts) (w : Want) (section : Section) (kind : Kind) (cids : List CidParts) → Leads (text_at q w section kind) (tasks_of q w section kind cids)
-leads_at q (segment_want i position name path depth) section kind cids =
-    leads_step i (path_want (i + 1) path (depth + 1)) (segment_want i (position_below position name) name path (depth + 1)) (step_of kind (length (passed position)) name) cids
-leads_at q (terminal_want depth) section kind cids = leads_on (no_stop_terminal q.scope q.span depth section kind cids)
-leads_at q (node_want reach position depth) section kind cids = leads_on (no_stop_node reach position depth kind cids)
-
--- ---- the section is taken
-
--- these sections were taken, this is written for them, these names are kept, and these tasks are left
-pub record IsTakenUpTo (q : QueryParts) (sections : List Section) (written : List ℕ) (names : List Named) (text : List ℕ) (tasks : List (Task CidParts)) : Type 0 where
-  pub repeats : q.dups ≡ true
-  pub given : Given
-  pub verified : Verified q sections given tasks
-  pub text_is : given.text ≡ written ++ text
-  pub names_are : names ≡ listed_of q.scope given.met
-  pub leads : Leads text tasks
-
-module _ (v : VerifiedLaws) (computes : Computes) (limits : LimitNumbers) where
-  reads_there : (q : QueryParts) (at : WantedAt) (section : Section) (kind : Kind) → All (λ b. b < 256) section.block → PassesAs q limits at section (Some kind)
+module _ (v : VerifiedLaws) (computes : Computes) where
+  reads_there : (q : QueryParts) (limits : LimitNumbers) (at : WantedAt) (section : Section) (kind : Kind) → IsNamed section → PassesAs q limits at section (Some kind)
       → IsReadAt (position_of at.want) section kind
-  reads_there q at section kind bytes (block, sizes) = record {
-    named = block.wanted.block.named;
-    reads = (computes section.cid section.block kind bytes).0 block.reads;
+  reads_there q limits at section kind named (block, sizes) = record {
+    named = named.named;
+    reads = (computes section.cid section.block kind named.are_bytes).0 block.reads;
     stands = sym (fault_same q at.want kind block.is_read) ∙ block.fits;
     of_size = sizes.0;
     tells_size = sizes.1;
   }
 
-  same_task : (at : WantedAt) (section : Section) (later : List (Task CidParts)) → section.cid ≡ at.cid → open_block at.want at.cid ∷ later ≡ open_block at.want section.cid ∷ later
-  same_task at section later e = ap (λ (cid : CidParts). open_block at.want cid ∷ later) (sym e)
+  -- with what the block leaves
+  takes_block : (q : QueryParts) (limits : LimitNumbers) (sections : List Section) (given : Given) (at : WantedAt) (later : List (Task CidParts)) (section : Section) (kind : Option Kind)
+      → IsNamed section → IsKnown q sections section → PassesAs q limits at section kind → Verified q sections given (open_block at.want section.cid ∷ later)
+      → Verified q (taken_as q sections section) (with_place at.want section (text_of q at section kind) given) (tasks_behind q at section kind ++ later)
+  takes_block q limits sections given at later section None named known passes verified = v.alone q sections given at.want section later known passes.1 named.named verified
+  takes_block q limits sections given at later section (Some kind) named known passes verified =
+      v.taken q sections given at.want section kind later known passes.0.is_read (reads_there q limits at section kind named passes) verified
 
-  pub taken_at : (q : QueryParts) (at : WantedAt) (section : Section) (kind : Option Kind) (found : Option PlacedKind) (sections : List Section) (written : List ℕ) (names : List Named)
-      (later : List (Task CidParts)) (given : Given) → q.dups ≡ true → All (λ b. b < 256) section.block → IsPassing q limits at section kind found
-      → Verified q sections given (open_block at.want at.cid ∷ later) → HasNoStop later → written ≡ given.text → names ≡ listed_of q.scope given.met
-      → IsTakenUpTo q (sections ++ section ∷ []) written names (text_of q at section kind) (tasks_behind q at section kind ++ later)
-  taken_at q at section None found sections written names later given repeats bytes passing verified no_stop text names_are =
-      let (wanted, alone) = passing.passes in
-      record {
-        repeats = repeats;
-        given = _;
-        verified = subst (λ (all : List Section). Verified q all (with_place at.want section section.block given) later) (one_taken v.repeats_sent q repeats sections section)
-            (v.alone q sections given at.want section later (known v.repeats_sent q repeats sections section) alone wanted.block.named
-            (subst (λ (tasks : List (Task CidParts)). Verified q sections given tasks) (same_task at section later wanted.same) verified));
-        text_is = ap (λ (t : List ℕ). t ++ section.block) (sym text);
-        names_are = names_are;
-        leads = leads_on no_stop;
-      }
-  taken_at q at section (Some kind) found sections written names later given repeats bytes passing verified no_stop text names_are =
-      let block : IsReadBlock q limits at section kind = passing.passes.0 in
-      record {
-        repeats = repeats;
-        given = _;
-        verified = subst (λ (all : List Section). Verified q all (with_place at.want section (text_at q at.want section kind) given) (tasks_of q at.want section kind (links_of kind) ++ later)) (one_taken v.repeats_sent q repeats sections section)
-            (v.taken q sections given at.want section kind later (known v.repeats_sent q repeats sections section) block.is_read (reads_there q at section kind bytes passing.passes)
-            (subst (λ (tasks : List (Task CidParts)). Verified q sections given tasks) (same_task at section later block.wanted.same) verified));
-        text_is = ap (λ (t : List ℕ). t ++ text_at q at.want section kind) (sym text);
-        names_are = names_are;
-        leads = leads_more (text_at q at.want section kind) (tasks_of q at.want section kind (links_of kind)) later no_stop (leads_at q at.want section kind (links_of kind));
-      }
+  module _ (old : OpenerState) (sections : List Section) (given : Given) (at : WantedAt) (section : Section) (source : Source) (h : IsAtPlace old sections given at section source) where
+    takes_next : (kind : Option Kind) → PassesAs old.left.query old.limits at section kind
+        → Verified old.left.query (taken_as old.left.query sections section) (given_with old.left.query given old.left.later at section kind) (tasks_then (behind old at section kind))
+    takes_next kind passes =
+        v.up_to_next old.left.query (taken_as old.left.query sections section) _ (behind old at section kind)
+        (takes_block old.left.query old.limits sections given at old.left.later section kind h.is_named h.known passes
+        (subst (λ (cid : CidParts). Verified old.left.query sections given (open_block at.want cid ∷ old.left.later)) (sym h.same) h.verified))
 
--- ---- a verifier that goes on, by whether a block is wanted
+    -- where it is sent from
+    from_opened : IsFrom old.left.query (sent old.left.query (opened_by given)) section source
+    from_opened = subst (λ (all : List Section). IsFrom old.left.query all section source) (sym h.verified.sent_are) h.from
 
-module _ (state : VerifierState) (sections : List Section) (written : List ℕ) (h : IsGoing state sections written) where
-  pub going_up_to : (at : WantedAt) → state.left.wanted ≡ Some at → IsUpTo state.left.query sections written at
-  going_up_to at e =
-      let writes = subst (λ (w : Option WantedAt). IsWrittenAt state h.given written w) e h.writes in
-      record {
-        repeats = h.repeats;
-        given = h.given;
-        later = state.left.later;
-        verified = subst (λ (w : Option WantedAt). Verified state.left.query sections h.given (wanted_tasks w ++ state.left.later)) e h.verified;
-        text = writes.0;
-      }
+    pub opens_up_to : (said : List ℕ) (new : OpenerState) → IsPlaced old at section source said new
+        → IsOpenedUpTo old (taken_as old.left.query sections section) given said new
+    opens_up_to said new p =
+        let q = old.left.query in
+        let next = given_with q given old.left.later at section p.kind in
+        let counted : HasCounted q new.counts next =
+        counted_on q given at section (text_of q at section p.kind) said (behind old at section p.kind) source old.counts new.counts from_opened p.said_is h.counted p.counted in
+        record {
+          next = next;
+          verified = subst (λ (tasks : List (Task CidParts)). Verified q (taken_as q sections section) next tasks) (sym p.left) (takes_next p.kind p.passes);
+          counted = counted;
+          within = is_unpassed q old.limits p.small new.counts next counted p.within;
+          text = append_assoc given.text (text_of q at section p.kind) (text_now (behind old at section p.kind)) ∙ ap (λ (t : List ℕ). given.text ++ t) (sym p.said_is);
+          names = p.names ∙ ap (λ (ns : List Named). ns ++ listed_of q.scope (entries_now (behind old at section p.kind))) h.names
+              ∙ sym (listed_both q.scope given.met (entries_now (behind old at section p.kind)));
+        }
 
-  pub going_through : state.left.wanted ≡ None → IsThrough state.left.query sections written
-  going_through e =
-      let writes = subst (λ (w : Option WantedAt). IsWrittenAt state h.given written w) e h.writes in
-      let verified = subst (λ (w : Option WantedAt). Verified state.left.query sections h.given (wanted_tasks w ++ state.left.later)) e h.verified in
-      record {
-        repeats = h.repeats;
-        given = h.given;
-        verified = subst (λ (tasks : List (Task CidParts)). Verified state.left.query sections h.given tasks) writes.0 verified;
-        text = writes.1;
-      }
+    -- ---- or it isn't
 
-  -- with the section that passes there
-  pub going_takes : (v : VerifiedLaws) (computes : Computes) (at : WantedAt) (section : Section) (kind : Option Kind) (found : Option PlacedKind) → All (λ b. b < 256) section.block
-      → state.left.wanted ≡ Some at → IsPassing state.left.query state.limits at section kind found
-      → IsTakenUpTo state.left.query (sections ++ section ∷ []) written (map named_entry state.entries) (text_of state.left.query at section kind)
-      (tasks_behind state.left.query at section kind ++ state.left.later)
-  going_takes v computes at section kind found bytes e passing =
-      let writes = subst (λ (w : Option WantedAt). IsWrittenAt state h.given written w) e h.writes in
-      let verified = subst (λ (w : Option WantedAt). Verified state.left.query sections h.given (wanted_tasks w ++ state.left.later)) e h.verified in
-      taken_at v computes state.limits state.left.query at section kind found sections written (map named_entry state.entries) state.left.later h.given h.repeats bytes passing verified h.no_stop
-      writes.0 writes.1
+    -- a segment leads nowhere behind it: before it no text is given
+    pub misses_behind : (written : List ℕ) (miss : Miss) → written ≡ given.text → IsMissedBehind old at section miss
+        → IsNowhere old.left.query (taken_as old.left.query sections section) written miss
+    misses_behind written miss text m =
+        let q = old.left.query in
+        let (more, stops) = m.stops in
+        let next = given_with q given old.left.later at section m.kind in
+        let verified = subst (λ (tasks : List (Task CidParts)). Verified q (taken_as q sections section) next tasks) stops (takes_next m.kind m.passes) in
+        let none : next.text ≡ [] = (v.misses q (taken_as q sections section) next miss more verified).nothing in
+        record {
+          given = next;
+          later = more;
+          verified = verified;
+          text = text ∙ both_nothing given.text (text_of q at section m.kind) (text_now (behind old at section m.kind)) none ∙ sym none;
+        }
+      where
+        both_nothing : (a b c : List ℕ) → (a ++ b) ++ c ≡ [] → a ≡ []
+        both_nothing [] b c e = refl
+        both_nothing (x ∷ a) b c e = cc
+
+    -- a limit is passed with it
+    is_over : (limit : LimitKind) (number : ℕ) → IsOverBehind old at section source limit number → IsOver old.left.query old.limits given old.left.later at section limit number
+    is_over limit number o =
+        let q = old.left.query in
+        let counted = counted_on q given at section (text_of q at section o.kind) (text_of q at section o.kind ++ text_now (behind old at section o.kind)) (behind old at section o.kind) source old.counts
+        o.counts from_opened refl h.counted o.counted in
+        record {
+          kind = o.kind;
+          passes = o.passes;
+          number_is = o.number_is;
+          over = is_passed q old.limits o.small o.counts (given_with q given old.left.later at section o.kind) counted limit o.over;
+        }
+
+    pub place_cause : (fault : Refusal) → HasOpenCause old at section source fault → ((segment : ℕ) → fault ≡ refusals.NotThere segment → ⊥) → ((segment : ℕ)
+        → fault ≡ refusals.NotFolder segment → ⊥)
+        → HasPlaceCause old.left.query old.limits given old.left.later at section fault
+    place_cause (refusals.NotThere segment) cause there folder = absurd (there segment refl)
+    place_cause (refusals.NotFolder segment) cause there folder = absurd (folder segment refl)
+    place_cause (refusals.Limit kinds.Block number) cause there folder = absurd cause.over
+    place_cause (refusals.Limit kinds.Depth number) cause there folder = cause
+    place_cause (refusals.Limit kinds.Entries number) cause there folder = is_over kinds.Entries number cause
+    place_cause (refusals.Limit kinds.Names number) cause there folder = is_over kinds.Names number cause
+    place_cause (refusals.Limit kinds.Received number) cause there folder = absurd cause.over
+    place_cause (refusals.Limit kinds.Output number) cause there folder = is_over kinds.Output number cause
+    place_cause (refusals.Limit kinds.SeenBlocks number) cause there folder = is_over kinds.SeenBlocks number cause
+    place_cause (refusals.Limit kinds.SeenBytes number) cause there folder = is_over kinds.SeenBytes number cause
+    place_cause (refusals.Limit kinds.Reused number) cause there folder = is_over kinds.Reused number cause
+    place_cause (refusals.BadBlock cid bad) cause there folder = cause
+    place_cause (refusals.BadSize declared actual) cause there folder = cause
+    place_cause refusals.OutOfMemory cause there folder = tt
+    place_cause (refusals.Extra number) cause there folder = absurd cause
+    place_cause (refusals.BadDigest cid) cause there folder = absurd cause
+    place_cause (refusals.WrongBlock want got) cause there folder = absurd cause
+    place_cause refusals.SinkFault cause there folder = absurd cause
+    place_cause (refusals.Truncated want number) cause there folder = absurd cause
+
+    -- ---- what stands for it
+
+    -- the refusals of which this holds
+    pub record Ends (all : List Section) (written : List ℕ) (P : List ℕ → Refusal → Type 0) : Type 0 where
+      pub no_entry_there : (segment : ℕ) → IsNowhere old.left.query all written (no_entry segment) → P written (refusals.NotThere segment)
+      pub no_directory_there : (segment : ℕ) → IsNowhere old.left.query all written (no_directory segment) → P written (refusals.NotFolder segment)
+      pub front : (text : List ℕ) → IsFrontWritten old.left.query all text → P text refusals.SinkFault
+      pub refused : (fault : Refusal) → HasPlaceCause old.left.query old.limits given old.left.later at section fault → P written fault
+
+    module _ (written : List ℕ) (text : written ≡ given.text) (P : List ℕ → Refusal → Type 0) (ends : Ends (taken_as old.left.query sections section) written P) (out : Output) (new : OpenerState) where
+      unopened : (fault : Refusal) → IsUnopened old at section source out fault → P written fault → EndsWith written out fault P
+      unopened fault u p = record { text = []; put = u.put; nothing = nothing_put fault; is = subst (λ (t : List ℕ). P t fault) (sym (append-nil written)) p }
+
+      other : (fault : Refusal) → IsUnopened old at section source out fault → ((segment : ℕ) → fault ≡ refusals.NotThere segment → ⊥) → ((segment : ℕ) → fault ≡ refusals.NotFolder segment → ⊥)
+          → EndsWith written out fault P
+      other fault u there folder = unopened fault u (ends.refused fault (place_cause fault u.cause there folder))
+
+      pub placed_ends : (fault : Refusal) → IsPlacedAt old at section source out new (Err fault) → EndsWith written out fault P
+      placed_ends refusals.SinkFault f =
+          let o = opens_up_to f.said new f.placed in
+          record {
+            text = f.front.front;
+            put = f.front.put;
+            nothing = tt;
+            is = ends.front (written ++ f.front.front) (front_of old.left.query (taken_as old.left.query sections section) o.next (tasks_left new.left) (written ++ f.front.front) f.front.rest o.verified
+                (o.text ∙ ap (λ (t : List ℕ). t ++ f.said) (sym text) ∙ ap (λ (t : List ℕ). written ++ t) f.front.whole ∙ sym (append_assoc written f.front.front f.front.rest)));
+          }
+      placed_ends (refusals.NotThere segment) u = unopened (refusals.NotThere segment) u (ends.no_entry_there segment (misses_behind written (no_entry segment) text u.cause))
+      placed_ends (refusals.NotFolder segment) u = unopened (refusals.NotFolder segment) u (ends.no_directory_there segment (misses_behind written (no_directory segment) text u.cause))
+      placed_ends (refusals.Extra number) u = other (refusals.Extra number) u (λ s e. cc) (λ s e. cc)
+      placed_ends (refusals.Limit kind number) u = other (refusals.Limit kind number) u (λ s e. cc) (λ s e. cc)
+      placed_ends (refusals.BadDigest cid) u = other (refusals.BadDigest cid) u (λ s e. cc) (λ s e. cc)
+      placed_ends (refusals.WrongBlock want got) u = other (refusals.WrongBlock want got) u (λ s e. cc) (λ s e. cc)
+      placed_ends (refusals.BadBlock cid bad) u = other (refusals.BadBlock cid bad) u (λ s e. cc) (λ s e. cc)
+      placed_ends (refusals.BadSize declared actual) u = other (refusals.BadSize declared actual) u (λ s e. cc) (λ s e. cc)
+      placed_ends (refusals.Truncated want number) u = other (refusals.Truncated want number) u (λ s e. cc) (λ s e. cc)
+      placed_ends refusals.OutOfMemory u = other refusals.OutOfMemory u (λ s e. cc) (λ s e. cc)
+
+-- ---- whatever stood before: faults of out, and which refusals there are
+
+module _ (old : OpenerState) (at : WantedAt) (section : Section) (source : Source) (out : Output) (new : OpenerState) where
+  pub placed_cause : (fault : Refusal) → IsPlacedAt old at section source out new (Err fault) → HasPutCause (Err fault) out
+  placed_cause refusals.SinkFault f = f.rose
+  placed_cause (refusals.Truncated want number) u = absurd u.cause
+  placed_cause (refusals.NotThere segment) u = u.quiet
+  placed_cause (refusals.NotFolder segment) u = u.quiet
+  placed_cause (refusals.Extra number) u = u.quiet
+  placed_cause (refusals.Limit kind number) u = u.quiet
+  placed_cause (refusals.BadDigest cid) u = u.quiet
+  placed_cause (refusals.WrongBlock want got) u = u.quiet
+  placed_cause (refusals.BadBlock cid bad) u = u.quiet
+  placed_cause (refusals.BadSize declared actual) u = u.quiet
+  placed_cause refusals.OutOfMemory u = u.quiet
+
+  pub placed_fault : (fault : Refusal) → IsPlacedAt old at section source out new (Err fault) → IsPlaceFault fault
+  placed_fault refusals.SinkFault f = tt
+  placed_fault (refusals.Truncated want number) u = absurd u.cause
+  placed_fault (refusals.NotThere segment) u = tt
+  placed_fault (refusals.NotFolder segment) u = tt
+  placed_fault (refusals.Extra number) u = absurd u.cause
+  placed_fault (refusals.Limit kinds.Block number) u = let cause = u.cause in absurd cause.over
+  placed_fault (refusals.Limit kinds.Depth number) u = tt
+  placed_fault (refusals.Limit kinds.Entries number) u = tt
+  placed_fault (refusals.Limit kinds.Names number) u = tt
+  placed_fault (refusals.Limit kinds.Received number) u = tt
+  placed_fault (refusals.Limit kinds.Output number) u = tt
+  placed_fault (refusals.Limit kinds.SeenBlocks number) u = tt
+  placed_fault (refusals.Limit kinds.SeenBytes number) u = tt
+  placed_fault (refusals.Limit kinds.Reused number) u = tt
+  placed_fault (refusals.BadDigest cid) u = absurd u.cause
+  placed_fault (refusals.WrongBlock want got) u = absurd u.cause
+  placed_fault (refusals.BadBlock cid bad) u = tt
+  placed_fault (refusals.BadSize declared actual) u = tt
+  placed_fault refusals.OutOfMemory u = tt

@@ -1,6 +1,5 @@
 -- The sections of a sound DAG's own traversal are taken, and give its answer.
-use Rattle.std.proofs.Common.{◌≡◌, ℕ, Bool, List, Some, refl, subst, sym, true}
-use Rattle.tg_cid.specs.Cid.{CidParts}
+use Rattle.std.proofs.Common.{◌≡◌, ℕ, List, Some, refl, subst, sym, ◌∷◌}
 use Rattle.tg_model.specs.Answer.{answer, answer_at}
 use Rattle.tg_model.specs.Dag.{Dag, Section, root_cid}
 use Rattle.tg_model.specs.Ends.{EndsAlike}
@@ -12,11 +11,10 @@ use Rattle.tg_model.specs.PathWalk as walk
 use Rattle.tg_model.specs.Queries.{QueryParts}
 use Rattle.tg_model.specs.Sound.{IsSound}
 use Rattle.tg_model.specs.Traversal.{block_list, opened_list, traversal}
+use Rattle.tg_model_laws.specs.Openings.{IsSettledAt}
 use Rattle.tg_traversal_laws.specs.BesideSound.{BesideLaws}
-use Rattle.tg_traversal_laws.specs.Stages.{Given}
-use Rattle.tg_traversal_laws.specs.Tasks.{Task}
-use Rattle.tg_traversal_laws.specs.Verified.{Verified, VerifiedLaws, WantsNext}
-use Rattle.tg_traversal_laws.specs.Repeats.{settled}
+use Rattle.tg_traversal_laws.specs.Tasks.{open_block}
+use Rattle.tg_traversal_laws.specs.Verified.{IsOther, VerifiedLaws}
 use Rattle.tg_verify.proofs.Endings.{fit_ends, not_whole}
 use Rattle.tg_verify.proofs.Misread.{Computes}
 use Rattle.tg_verify.proofs.Passing.{is_own_fault}
@@ -41,21 +39,33 @@ module _ (laws : SoundLaws) (q : QueryParts) (d : Dag) (text : List ℕ) (sound 
   own_whole : (traversal q d).end ≡ whole
   own_whole = let (t, e) = reaches q text (path_walk q.path d).end (lookup_path q.path d) (laws.alike d q.path sound) is in laws.through q d t sound e
 
-  -- and where repeats are sent its sections fit
-  own_fits : q.dups ≡ true → (s : Dag) × Fits s q (block_list q d) text
-  own_fits dups = laws.own q d text sound root (subst (λ (repeats : Bool). IfOnce repeats (HasOneBlockEach (opened_list q d))) (sym dups) tt) is
+  -- the DAG is as one that sections have opened, and its sections fit
+  module _ (one : IfOnce q.dups (HasOneBlockEach (opened_list q d))) where
+    own_other : IsOther q d
+    own_other = record {
+      checked = sound.checked;
+      root = root;
+      one_each = one;
+      settled = subst (IsSettledAt q (block_list q d)) (sym own_whole) tt;
+    }
+
+    own_fits : (s : Dag) × Fits s q (block_list q d) text
+    own_fits = laws.own q d text sound root one is
 
 module _ (v : VerifiedLaws) (b : BesideLaws) (computes : Computes) (laws : SoundLaws) where
   own_taken : OwnIsTaken
-  own_taken q limits d sections rest section written text fault sound root is list within refused =
-      let wants : (given : Given) (tasks : List (Task CidParts)) → q.dups ≡ true → Verified q sections given tasks → WantsNext q tasks section = λ given tasks dups verified.
-      let (s, fits) = own_fits laws q d text sound root is dups in
-      v.fitting q s sections rest section text given tasks (settled v.repeats_sent q dups sections tasks) (subst (λ (all : List Section). Fits s q all text) list fits) verified in
-      is_own_fault v.repeats_sent b computes q limits d sections rest section sound.checked root list (not_whole _ (own_whole laws q d text sound root is)) wants within written fault refused
+  own_taken q limits d sections rest written text fault sound root one is list within refused =
+      let (s, fits) = own_fits laws q d text sound root is one in
+      is_own_fault v b computes q limits d (own_other laws q d text sound root is one) within
+      (λ front behind next given tasks settled whole verified.
+      v.fitting q s front behind next text given tasks settled (subst (λ (all : List Section). Fits s q all text) whole fits) verified)
+      (λ front behind known given w tasks unsent had whole verified.
+      v.fitting_again q s front behind known text given w tasks (open_block w known.cid ∷ tasks) refl unsent had (subst (λ (all : List Section). Fits s q all text) whole fits) verified)
+      sections rest list written (not_whole _ (own_whole laws q d text sound root is)) fault refused
 
   own_through : OwnIsThrough
-  own_through state d written text sound root is h =
-      let (s, fits) = own_fits laws state.left.query d text sound root is h.repeats in
+  own_through state d written text sound root one is h =
+      let (s, fits) = own_fits laws state.left.query d text sound root is one in
       fit_ends v state s (block_list state.left.query d) written h text fits
 
   pub own_laws : OwnLaws

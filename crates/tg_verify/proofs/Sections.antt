@@ -7,7 +7,7 @@ use Rattle.tg_model.specs.LimitNumbers.{LimitNumbers}
 use Rattle.tg_model.specs.Queries.{QueryParts}
 use Rattle.tg_streams.specs.Streams.{Output}
 use Rattle.tg_traversal_laws.specs.Tasks.{no_directory, no_entry}
-use Rattle.tg_verify.proofs.Opened.{going_through, going_up_to}
+use Rattle.tg_verify.proofs.Going.{going_through, going_up_to}
 use Rattle.tg_verify.specs.History.{HasTaken, HasWritten, IsProgress, ShowsFor, StandsAfter, StandsBy, StandsFor}
 use Rattle.tg_verify.specs.Laws.{AnswerLaws, IsOwnFault}
 use Rattle.tg_verify.specs.Refusals.{HasRefused}
@@ -23,7 +23,8 @@ use Rattle.tg_verify.specs.declared.verifier.Progress.TheVariants as progresses
 pub is_going : (state : VerifierState) (sections : List Section) (written : List ℕ) → state.refused ≡ None → StandsFor state sections written → IsGoing state sections written
 is_going state sections written e h = subst (λ (r : Option Refusal). StandsBy r state sections written) e h
 
-wants_some : (state : VerifierState) (sections : List Section) (written : List ℕ) → IsGoing state sections written → (wanted : Option WantedAt) → state.left.wanted ≡ wanted → state.left.wanted ≢ None
+wants_some : (state : VerifierState) (sections : List Section) (written : List ℕ) → IsGoing state sections written → (wanted : Option WantedAt) → state.left.wanted ≡ wanted
+    → state.left.wanted ≢ None
     → (at : WantedAt) × (state.left.wanted ≡ Some at) × IsUpTo state.left.query sections written at
 wants_some state sections written h None e more = absurd (more e)
 wants_some state sections written h (Some at) e more = (at, e, going_up_to state sections written h at e)
@@ -58,7 +59,14 @@ module _ (laws : AnswerLaws) (state : VerifierState) (sections : List Section) (
       → StandsAfter result state sections written → StandsFor (record state { refused = refused }) sections written
   stands_by refused (Ok progress) e h =
       subst (λ (r : Option Refusal). StandsBy r (record state { refused = refused }) sections written) (sym e)
-      (record { repeats = h.repeats; given = h.given; verified = h.verified; no_stop = h.no_stop; count = h.count; writes = writes_as state.left.wanted h.writes })
+      (record {
+        given = h.given;
+        verified = h.verified;
+        sends = h.sends;
+        keeps = record { named = h.keeps.named; remembers = h.keeps.remembers; count = h.keeps.count };
+        counted = record { counted = h.counted.counted; within = h.counted.within };
+        writes = writes_as state.left.wanted h.writes;
+      })
     where
       writes_as : (wanted : Option WantedAt) → IsWrittenAt state h.given written wanted → IsWrittenAt (record state { refused = refused }) h.given written wanted
       writes_as None w = w
@@ -79,7 +87,8 @@ written_of laws state refused sections written out result kept progress h = reco
 
 -- ---- sections that fit, or are in progress
 
-pub own_fault : (q : QueryParts) (limits : LimitNumbers) (state : VerifierState) (sections : List Section) (written : List ℕ) (out : Output) (result : Result Progress Refusal) → state.left.query ≡ q
+pub own_fault : (q : QueryParts) (limits : LimitNumbers) (state : VerifierState) (sections : List Section) (written : List ℕ) (out : Output) (result : Result Progress Refusal)
+    → state.left.query ≡ q
     → state.limits ≡ limits → HasTaken state sections written out result → ((written : List ℕ) (fault : Refusal) → HasRefused q limits sections written fault → IsOwnFault fault) → IfErr result IsOwnFault
 own_fault q limits state sections written out (Ok progress) same_query same_limits h own = tt
 own_fault q limits state sections written out (Err fault) same_query same_limits h own =

@@ -1,5 +1,5 @@
 -- What was taken of a query's sections, what is written for them, and both beside a sound DAG.
-use Rattle.std.proofs.Common.{◌≡◌, ◌⊎◌, ◌++◌, ◌∷◌, ℕ, List, [], Some, inl, inr, ⊎_elim, refl, sym, true, ap, ◌∙◌, subst}
+use Rattle.std.proofs.Common.{◌≡◌, ◌⊎◌, ◌++◌, ◌∷◌, ℕ, List, [], Some, inl, inr, ⊎_elim, refl, sym, ap, ◌∙◌, subst}
 use Rattle.tg_cid.specs.Cid.{CidParts}
 use Rattle.tg_traversal.specs.Left.{WantedAt}
 use Rattle.tg_model_laws.specs.PartialDags.{WriteFronts}
@@ -14,8 +14,10 @@ use Rattle.tg_model.specs.Queries.{QueryParts}
 use Rattle.tg_model.specs.Sound.{IsSound}
 use Rattle.tg_model.specs.Traversal.{Traversal, block_list, traversal}
 use Rattle.tg_traversal_laws.specs.Stages.{Given, up_to_next}
-use Rattle.tg_traversal_laws.specs.Tasks.{Miss, Task, no_directory, no_entry, spot_of, tasks_then, text_now}
+use Rattle.tg_traversal_laws.specs.Openings.{opened_by}
+use Rattle.tg_traversal_laws.specs.Tasks.{Miss, Task, Want, no_directory, no_entry, open_block, spot_of, tasks_then, text_now}
 use Rattle.tg_traversal_laws.specs.Verified.{GoesOn, IsAccepted, LeadsNowhere, Then, Verified, VerifiedLaws, listing_at_end, then_block, then_none, then_stop, written_whole}
+use Rattle.tg_verify.proofs.EachAsked.{each_asked, each_verified}
 use Rattle.tg_verify.proofs.Fronts.{front_of_front, whole_is_front}
 use Rattle.tg_verify.specs.Laws.{IsFitOf, IsNowhereOf, IsProgressOf}
 use Rattle.tg_verify.specs.Sound.{IsItsAnswer, IsItsFront}
@@ -42,9 +44,10 @@ answer_front q d sections written (inr pair) = inr pair
 module _ (v : VerifiedLaws) where
   -- ---- what the sections are
 
-  pub up_to_progress : (q : QueryParts) (sections : List Section) (written : List ℕ) (at : WantedAt) → IsUpTo q sections written at → IsProgressOf q sections written (spot_of at.want at.cid)
+  pub up_to_progress : (q : QueryParts) (sections : List Section) (written : List ℕ) (at : WantedAt) → IsUpTo q sections written at
+      → IsProgressOf q sections written (spot_of at.want at.cid)
   up_to_progress q sections written at h =
-      let goes : GoesOn q sections h.given (spot_of at.want at.cid) = v.goes q sections h.given at.want at.cid h.later ((v.repeats_sent q h.repeats).1 sections at.cid) h.verified in
+      let goes : GoesOn q sections h.given (spot_of at.want at.cid) = v.goes q sections h.given at.want at.cid h.later h.sends h.verified in
       record { s = goes.s; progress = goes.progress; output = goes.output ∙ sym h.text }
 
   pub through_fits : (q : QueryParts) (sections : List Section) (written : List ℕ) → IsThrough q sections written → IsFitOf q sections written
@@ -60,10 +63,22 @@ module _ (v : VerifiedLaws) where
   -- ---- beside a sound DAG
 
   module _ (p : PeerLaws) (q : QueryParts) (d : Dag) (sound : IsSound d) (root : root_cid d ≡ q.root) (sections : List Section) where
+    -- where a block is wanted, whether a section brings it or not: the same sections are in progress for a query for each
+    -- block, which has the same answer
+    pub given_front : (given : Given) (w : Want) (cid : CidParts) (later : List (Task CidParts)) → Verified q sections given (open_block w cid ∷ later)
+        → IsItsFront q d sections given.text
+    given_front given w cid later h =
+        let all = each_asked q in
+        let goes : GoesOn all (opened_by given) given (spot_of w cid) =
+        v.goes all (opened_by given) given w cid later refl (each_verified q sections given (open_block w cid ∷ later) h) in
+        ⊎_elim
+        (λ front. inl (subst (λ (out : List ℕ). IsFrontOfAnswer out (answer q d)) goes.output front))
+        (λ pair. inr (v.pair_had (opened_by given) sections d h.received pair))
+        (p.meanwhile all d goes.s (opened_by given) (spot_of w cid) sound root goes.progress)
+
     pub up_to_sound : (written : List ℕ) (at : WantedAt) → IsUpTo q sections written at → IsItsFront q d sections written
     up_to_sound written at h =
-        let progress : IsProgressOf q sections written (spot_of at.want at.cid) = up_to_progress q sections written at h in
-        subst (λ (out : List ℕ). IsItsFront q d sections out) progress.output (p.meanwhile q d progress.s sections (spot_of at.want at.cid) sound root progress.progress)
+        subst (λ (out : List ℕ). IsItsFront q d sections out) (sym h.text) (given_front h.given at.want at.cid h.later h.verified)
 
     pub through_sound : (written : List ℕ) → IsThrough q sections written → IsItsAnswer q d sections written
     through_sound written h =
@@ -120,43 +135,34 @@ module _ (v : VerifiedLaws) where
 
     -- by what comes next
 
-    front_by : (repeats : q.dups ≡ true) (given : Given) (tasks : List (Task CidParts)) → Verified q sections (up_to_next tasks given) (tasks_then tasks) → Then tasks
+    front_by : (given : Given) (tasks : List (Task CidParts)) → Verified q sections (up_to_next tasks given) (tasks_then tasks) → Then tasks
         → IsItsFront q d sections (given.text ++ text_now tasks)
-    front_by repeats given tasks verified (then_none e) =
+    front_by given tasks verified (then_none e) =
         let next = up_to_next tasks given in
         let through : IsThrough q sections (written_whole q next) = record {
-          repeats = repeats;
           given = next;
           verified = subst (λ (xs : List (Task CidParts)). Verified q sections next xs) e verified;
           text = refl;
         } in
         shorter (written_whole q next) (given.text ++ text_now tasks) (listing_at_end q.scope next.met) refl
         (answer_front q d sections (written_whole q next) (through_sound (written_whole q next) through))
-    front_by repeats given tasks verified (then_block w cid more e) =
-        let next = up_to_next tasks given in
-        up_to_sound (given.text ++ text_now tasks) (record { want = w; cid = cid }) (record {
-          repeats = repeats;
-          given = next;
-          later = more;
-          verified = subst (λ (xs : List (Task CidParts)). Verified q sections next xs) e verified;
-          text = refl;
-        })
-    front_by repeats given tasks verified (then_stop miss more e) =
+    front_by given tasks verified (then_block w cid more e) =
+        given_front (up_to_next tasks given) w cid more (subst (λ (xs : List (Task CidParts)). Verified q sections (up_to_next tasks given) xs) e verified)
+    front_by given tasks verified (then_stop miss more e) =
         let next = up_to_next tasks given in
         nowhere_front (given.text ++ text_now tasks) miss (record {
-          repeats = repeats;
           given = next;
           later = more;
           verified = subst (λ (xs : List (Task CidParts)). Verified q sections next xs) e verified;
           text = refl;
         })
 
-    most_by : (repeats : q.dups ≡ true) (given : Given) (tasks : List (Task CidParts)) → Verified q sections given tasks → IsItsFront q d sections (most_text q given tasks)
-    most_by repeats given [] verified =
-        answer_front q d sections (written_whole q given) (through_sound (written_whole q given) (record { repeats = repeats; given = given; verified = verified; text = refl }))
-    most_by repeats given (task ∷ tasks) verified =
+    most_by : (given : Given) (tasks : List (Task CidParts)) → Verified q sections given tasks → IsItsFront q d sections (most_text q given tasks)
+    most_by given [] verified =
+        answer_front q d sections (written_whole q given) (through_sound (written_whole q given) (record { given = given; verified = verified; text = refl }))
+    most_by given (task ∷ tasks) verified =
         let all = task ∷ tasks in
-        shorter (given.text ++ text_now all) given.text (text_now all) refl (front_by repeats given all (v.up_to_next q sections given all verified) (v.how_then all))
+        shorter (given.text ++ text_now all) given.text (text_now all) refl (front_by given all (v.up_to_next q sections given all verified) (v.how_then all))
 
     pub written_front : (written : List ℕ) → IsFrontWritten q sections written → IsItsFront q d sections written
-    written_front written h = shorter (most_text q h.given h.tasks) written h.rest h.text (most_by h.repeats h.given h.tasks h.verified)
+    written_front written h = shorter (most_text q h.given h.tasks) written h.rest h.text (most_by h.given h.tasks h.verified)

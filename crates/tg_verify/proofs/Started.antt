@@ -1,40 +1,66 @@
 -- A verifier before its first section.
-use Rattle.std.proofs.Common.{List, Option, Some, [], ap, map, refl, subst, sym, true, ◌++◌, ◌∙◌, ◌∷◌, ◌≡◌}
+use Rattle.std.proofs.Common.{[], List, ap, map, refl, subst, sym, ◌∙◌, ◌≡◌, arith, false, true, Bool, ℕ, length, ◌-◌}
+use Rattle.std.specs.Prelude.{sum}
 use Rattle.tg_cid.specs.Cid.{CidParts}
-use Rattle.tg_traversal.specs.Left.{WantedAt, tasks_left, told_wanted, wanted_tasks}
-use Rattle.tg_traversal.specs.declared.position.Wanted.{Wanted}
 use Rattle.tg_listing.specs.Listings.{named_entry}
+use Rattle.tg_model.specs.Counts.{if_once}
+use Rattle.tg_model.specs.Dag.{Section}
+use Rattle.tg_model.specs.LimitNumbers.{LimitNumbers}
 use Rattle.tg_model.specs.Queries.{QueryParts}
+use Rattle.tg_model.specs.Traversal.{unrepeated}
 use Rattle.tg_model.specs.declared.kinds.Entry.{Entry}
 use Rattle.tg_model.specs.declared.queries.Scope.{Scope}
 use Rattle.tg_model.specs.declared.queries.Scope.TheVariants as scopes
 use Rattle.tg_traversal_laws.specs.Stages.{nothing_given}
-use Rattle.tg_traversal_laws.specs.Tasks.{Task, start}
+use Rattle.tg_traversal_laws.specs.Tasks.{Task}
 use Rattle.tg_traversal_laws.specs.Verified.{Verified, VerifiedLaws}
-use Rattle.tg_verify.proofs.Checks.{told_at}
+use Rattle.tg_verify.specs.Counting.{AreUnpassed, counts_given}
 use Rattle.tg_verify.specs.State.{VerifierState, listed_of}
-use Rattle.tg_verify.specs.Taken.{HasNoStop, IsGoing, IsWrittenAt}
+use Rattle.tg_verify.specs.Taken.{IsFresh, IsOn, Remembers}
 
 none_listed : (scope : Scope) → [] ≡ listed_of scope []
 none_listed scopes.Block = refl
 none_listed scopes.Entity = refl
 none_listed scopes.All = refl
 
-only_one : (first second : Task CidParts) (later : List (Task CidParts)) → first ∷ later ≡ second ∷ [] → later ≡ []
-only_one first second later e = cc
+none_remembered : (dups : Bool) → Remembers dups [] []
+none_remembered true = refl
+none_remembered false = refl
 
-pub starts : (v : VerifiedLaws) (state : VerifierState) (q : QueryParts) (told : Wanted) → q.dups ≡ true → state.left.query ≡ q → tasks_left state.left ≡ start q q.root
-    → told_wanted state.left.wanted ≡ Some told → state.entries ≡ [] → state.taken ≡ 0 → IsGoing state [] []
-starts v state q told dups query left wanted entries taken =
-    let found = told_at state.left.wanted told wanted in
-    let none : state.left.later ≡ [] = only_one _ _ state.left.later (ap (λ (w : Option WantedAt). wanted_tasks w ++ state.left.later) (sym found.1) ∙ left) in
-    let verified : Verified q [] nothing_given (tasks_left state.left) = subst (λ (tasks : List (Task CidParts)). Verified q [] nothing_given tasks) (sym left) (v.start q) in
-    record {
-      repeats = ap (λ (p : QueryParts). p.dups) query ∙ dups;
-      given = nothing_given;
-      verified = subst (λ (p : QueryParts). Verified p [] nothing_given (tasks_left state.left)) (sym query) verified;
-      no_stop = subst (λ (tasks : List (Task CidParts)). HasNoStop tasks) (sym none) tt;
-      count = taken;
-      writes = subst (λ (w : Option WantedAt). IsWrittenAt state nothing_given [] w) (sym found.1)
-          (refl, ap (λ (es : List Entry). map named_entry es) entries ∙ none_listed state.left.query.scope);
-    }
+-- nothing is counted yet
+blocks_none : (dups : Bool) → if_once dups (length (unrepeated dups [])) ≡ 0
+blocks_none true = refl
+blocks_none false = refl
+
+bytes_none : (dups : Bool) → if_once dups (sum (map (λ (section : Section). length section.block) (unrepeated dups []))) ≡ 0
+bytes_none true = refl
+bytes_none false = refl
+
+reused_none : (dups : Bool) → if_once dups (0 - length (unrepeated dups [])) ≡ 0
+reused_none true = refl
+reused_none false = refl
+
+none_passed : (q : QueryParts) (limits : LimitNumbers) → AreUnpassed limits (counts_given q nothing_given)
+none_passed q limits = record {
+  entries = omega arith;
+  names = omega arith;
+  output = omega arith;
+  seen_blocks = omega (arith, blocks_none q.dups);
+  seen_bytes = omega (arith, bytes_none q.dups);
+  reused = omega (arith, reused_none q.dups);
+}
+
+pub starts : (v : VerifiedLaws) (state : VerifierState) → IsFresh state → IsOn state [] []
+starts v state fresh = record {
+  given = nothing_given;
+  verified = subst (λ (tasks : List (Task CidParts)). Verified state.left.query [] nothing_given tasks) (sym fresh.left) (v.start state.left.query);
+  ends = λ none. absurd (fresh.wanted none);
+  keeps = record {
+    named = λ section h. absurd (omega (arith, h.1));
+    remembers = subst (λ (seen : List (CidParts × List ℕ)). Remembers state.left.query.dups seen []) (sym fresh.seen) (none_remembered state.left.query.dups);
+    count = fresh.taken;
+  };
+  counted = record { counted = fresh.counted; within = none_passed state.left.query state.limits };
+  text = refl;
+  names = ap (λ (es : List Entry). map named_entry es) fresh.entries ∙ none_listed state.left.query.scope;
+}

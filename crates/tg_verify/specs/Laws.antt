@@ -1,15 +1,15 @@
 -- What follows from what a verifier stands for.
-use Rattle.std.specs.Prelude.{List, None, Some, [], ⊤, ℕ, ◌++◌, ◌∷◌, ◌≡◌, ◌≤◌}
+use Rattle.std.specs.Prelude.{List, None, Some, ⊤, ℕ, ◌++◌, ◌≡◌, ◌⊎◌}
 use Rattle.tg_traversal.specs.Left.{WantedAt}
 use Rattle.tg_model.specs.Counts.{counts}
 use Rattle.tg_model.specs.Dag.{Dag, Section, root_cid}
 use Rattle.tg_model.specs.Fits.{Fits, IsInProgress, IsOpenedFor, output_so_far}
-use Rattle.tg_model.specs.LimitNumbers.{LimitNumbers}
+use Rattle.tg_model.specs.LimitNumbers.{AreWithin, LimitNumbers}
 use Rattle.tg_model.specs.PathWalk.{Spot, stopped}
 use Rattle.tg_model.specs.Queries.{QueryParts}
 use Rattle.tg_model.specs.Sound.{IsSound}
 use Rattle.tg_model.specs.Traversal.{block_list, traversal}
-use Rattle.tg_traversal_laws.specs.Tasks.{Miss, spot_of, stop_of}
+use Rattle.tg_traversal_laws.specs.Tasks.{Miss, no_directory, no_entry, spot_of, stop_of}
 use Rattle.tg_verify.specs.Refusals.{HasRefused}
 use Rattle.tg_verify.specs.Sound.{IsItsAnswer, IsItsFront, SaysOfDag}
 use Rattle.tg_verify.specs.State.{VerifierState}
@@ -77,10 +77,9 @@ RefusedSound = (q : QueryParts) (limits : LimitNumbers) (d : Dag) (sections : Li
 
 -- ---- sections that fit, or are in progress, are taken
 
--- no block and no depth passes its limit
-pub record IsWithinLimits (q : QueryParts) (limits : LimitNumbers) (d : Dag) : Type 0 where
-  pub block : (counts q d).block ≤ limits.block
-  pub depth : (counts q d).depth ≤ limits.depth
+-- no count of the DAG for the query is above its limit
+abbrev pub IsWithinLimits : QueryParts → LimitNumbers → Dag → Type 0
+IsWithinLimits q limits d = AreWithin limits (counts q d)
 
 -- a fault of out, or want of memory
 abbrev pub IsOwnFault : Refusal → Type 0
@@ -89,14 +88,26 @@ IsOwnFault refusals.OutOfMemory = ⊤
 IsOwnFault (refusals.Truncated want number) = ⊤
 IsOwnFault other = ⊥
 
--- the next of sections that fit, or that are in progress, isn't refused for what it is
+-- the refusal of this segment
+abbrev pub IsMissOf : Miss → Refusal → Type 0
+IsMissOf (no_entry i) (refusals.NotThere segment) = segment ≡ i
+IsMissOf (no_directory i) (refusals.NotFolder segment) = segment ≡ i
+IsMissOf miss other = ⊥
+
+-- no front of sections that fit, or that are in progress, is refused for what it is
 abbrev pub FitIsTaken : Type 0
-FitIsTaken = (q : QueryParts) (limits : LimitNumbers) (d : Dag) (sections rest : List Section) (section : Section) (written text : List ℕ) (fault : Refusal)
-    → Fits d q (sections ++ section ∷ rest) text → IsWithinLimits q limits d → HasRefused q limits (sections ++ section ∷ []) written fault → IsOwnFault fault
+FitIsTaken = (q : QueryParts) (limits : LimitNumbers) (d : Dag) (sections rest : List Section) (written text : List ℕ) (fault : Refusal)
+    → Fits d q (sections ++ rest) text → IsWithinLimits q limits d → HasRefused q limits sections written fault → IsOwnFault fault
 
 abbrev pub ProgressIsTaken : Type 0
-ProgressIsTaken = (q : QueryParts) (limits : LimitNumbers) (d : Dag) (sections rest : List Section) (section : Section) (written : List ℕ) (wanted : Spot) (fault : Refusal)
-    → IsInProgress d q (sections ++ section ∷ rest) wanted → IsWithinLimits q limits d → HasRefused q limits (sections ++ section ∷ []) written fault → IsOwnFault fault
+ProgressIsTaken = (q : QueryParts) (limits : LimitNumbers) (d : Dag) (sections rest : List Section) (written : List ℕ) (wanted : Spot) (fault : Refusal)
+    → IsInProgress d q (sections ++ rest) wanted → IsWithinLimits q limits d → HasRefused q limits sections written fault → IsOwnFault fault
+
+-- nor is a front of sections that open a DAG in which a segment of the path leads nowhere, but for that segment
+abbrev pub NowhereIsTaken : Type 0
+NowhereIsTaken = (q : QueryParts) (limits : LimitNumbers) (d : Dag) (sections rest : List Section) (written : List ℕ) (miss : Miss) (fault : Refusal)
+    → IsOpenedFor d q → block_list q d ≡ sections ++ rest → (traversal q d).end ≡ stopped (stop_of miss) → IsWithinLimits q limits d
+    → HasRefused q limits sections written fault → IsMissOf miss fault ⊎ IsOwnFault fault
 
 -- once all sections that fit were taken no block is wanted, and their text is written; and for those in progress it is
 -- the wanted one
@@ -118,6 +129,7 @@ pub record AnswerLaws : Type 0 where
   pub sound_refused : RefusedSound
   pub fit_taken : FitIsTaken
   pub progress_taken : ProgressIsTaken
+  pub nowhere_taken : NowhereIsTaken
   pub fit_through : FitIsThrough
   pub progress_up_to : ProgressIsUpTo
   pub going_up_to : GoingUpTo

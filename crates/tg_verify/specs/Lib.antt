@@ -1,4 +1,5 @@
 pub mod State
+pub mod Counting
 pub mod Taken
 pub mod Refusals
 pub mod History
@@ -7,3 +8,4 @@ pub mod Laws
 pub mod Steps
 pub mod Own
 pub mod WantsLaws
+pub mod Absences

@@ -1,5 +1,5 @@
 -- Why a verifier refuses a section, or that no more come.
-use Rattle.std.specs.Prelude.{All, Err, List, None, Ok, Some, [], length, true, ⊤, ℕ, ◌++◌, ◌<◌, ◌∷◌, ◌≡◌, ◌≢◌, ◌≤◌}
+use Rattle.std.specs.Prelude.{All, Err, List, None, Ok, Option, Some, [], false, length, true, ⊤, ℕ, ◌++◌, ◌<◌, ◌∷◌, ◌≡◌, ◌≢◌, ◌≤◌}
 use Rattle.std.specs.Prelude.{◌⊎◌}
 use Rattle.tg_cid.specs.Cid.{CidParts}
 use Rattle.tg_cid.specs.Names.{Names}
@@ -8,15 +8,21 @@ use Rattle.tg_traversal.specs.PlaceTexts.{IsSizeFault}
 use Rattle.tg_traversal.specs.SaidFaults.{fault_said}
 use Rattle.tg_traversal.specs.declared.text.SizeFault.{SizeFault}
 use Rattle.tg_model.specs.Computed.{read}
-use Rattle.tg_model.specs.Dag.{Section}
-use Rattle.tg_model.specs.LimitNumbers.{LimitNumbers}
+use Rattle.tg_model.specs.Dag.{Section, links_of}
+use Rattle.tg_model.specs.LimitNumbers.{LimitNumbers, number_of}
 use Rattle.tg_model.specs.Queries.{QueryParts}
 use Rattle.tg_model.specs.declared.fault.BlockFault.{BlockFault}
 use Rattle.tg_model.specs.declared.kinds.Kind.{Kind}
 use Rattle.tg_model.specs.declared.limits.LimitKind.TheVariants as kinds
-use Rattle.tg_traversal_laws.specs.Tasks.{depth_of, fault_at, is_read_at, no_directory, no_entry, position_of}
+use Rattle.tg_model.specs.declared.limits.LimitKind.{LimitKind}
+use Rattle.tg_model.specs.Traversal.{is_sent_behind}
+use Rattle.tg_traversal_laws.specs.Stages.{Given, up_to_next, with_place}
+use Rattle.tg_traversal_laws.specs.Tasks.{Task, depth_of, fault_at, is_read_at, no_directory, no_entry, open_block}
+use Rattle.tg_traversal_laws.specs.Tasks.{position_of, tasks_of, text_at}
+use Rattle.tg_traversal_laws.specs.Verified.{IsHad, Verified}
+use Rattle.tg_verify.specs.Counting.{IsFirstPassed, counts_given}
 use Rattle.tg_verify.specs.State.{count_of}
-use Rattle.tg_verify.specs.Taken.{IsFrontWritten, IsNowhere, IsThrough, IsUpTo}
+use Rattle.tg_verify.specs.Taken.{IsFrontWritten, IsNamed, IsNowhere, IsThrough, IsUpTo}
 use Rattle.tg_verify.specs.declared.fault.Refusal.{Refusal}
 use Rattle.tg_verify.specs.declared.fault.Refusal.TheVariants as refusals
 
@@ -27,15 +33,16 @@ pub record IsNamedBlock (limits : LimitNumbers) (section : Section) : Type 0 whe
   pub small : length section.block ≤ limits.block
   pub named : Names section.cid section.block
 
--- it is the wanted one, and lies no deeper than the limit
+-- it is the wanted one
 pub record IsWantedBlock (limits : LimitNumbers) (at : WantedAt) (section : Section) : Type 0 where
   pub block : IsNamedBlock limits section
   pub same : section.cid ≡ at.cid
-  pub shallow : depth_of at.want ≤ limits.depth
 
--- it is read there as a kind that may stand there
+-- ---- the checks of a block at a place, where a section brought it or none need to
+
+-- the place lies no deeper than the limit, and the block is read there as a kind that may stand there
 pub record IsReadBlock (q : QueryParts) (limits : LimitNumbers) (at : WantedAt) (section : Section) (kind : Kind) : Type 0 where
-  pub wanted : IsWantedBlock limits at section
+  pub shallow : depth_of at.want ≤ limits.depth
   pub is_read : is_read_at q at.want ≡ true
   pub reads : read section.cid section.block ≡ Ok kind
   pub fits : fault_at q at.want kind ≡ None
@@ -54,15 +61,13 @@ pub record IsAnother (limits : LimitNumbers) (at : WantedAt) (section : Section)
   pub block : IsNamedBlock limits section
   pub other : section.cid ≢ at.cid
 
-pub record IsTooDeep (limits : LimitNumbers) (at : WantedAt) (section : Section) (number : ℕ) : Type 0 where
-  pub block : IsNamedBlock limits section
-  pub same : section.cid ≡ at.cid
+pub record IsTooDeep (limits : LimitNumbers) (at : WantedAt) (number : ℕ) : Type 0 where
   pub number_is : number ≡ limits.depth
   pub deep : number < depth_of at.want
 
--- it has no kind, or one that can't stand there
+-- the block has no kind, or one that can't stand there
 pub record IsBadBlock (q : QueryParts) (limits : LimitNumbers) (at : WantedAt) (section : Section) (fault : BlockFault) : Type 0 where
-  pub wanted : IsWantedBlock limits at section
+  pub shallow : depth_of at.want ≤ limits.depth
   pub is_read : is_read_at q at.want ≡ true
   pub cause : (read section.cid section.block ≡ Err fault) ⊎ ((kind : Kind) × (read section.cid section.block ≡ Ok kind) × (fault_at q at.want kind ≡ Some fault))
 
@@ -72,17 +77,68 @@ pub record IsMissized (q : QueryParts) (limits : LimitNumbers) (at : WantedAt) (
   pub block : IsReadBlock q limits at section kind
   pub size : IsSizeFault (position_of at.want) section kind (Some fault)
 
+-- why a section isn't the wanted one; of the checks the first that fails
+abbrev pub HasReceiptCause : LimitNumbers → WantedAt → Section → Refusal → Type 0
+HasReceiptCause limits at section (refusals.Limit kinds.Block number) = IsTooLarge limits section number
+HasReceiptCause limits at section (refusals.BadDigest cid) = (cid ≡ section.cid) × IsMisnamed limits section
+HasReceiptCause limits at section (refusals.WrongBlock want got) =
+    (want ≡ at.cid) × (got ≡ section.cid) × IsAnother limits at section
+HasReceiptCause limits at section other = ⊥
+
+-- the block passes at the place: it is read there as this kind with right sizes; or it isn't read there, where no kind is
+-- given
+abbrev pub PassesAs : QueryParts → LimitNumbers → WantedAt → Section → Option Kind → Type 0
+PassesAs q limits at section None = (depth_of at.want ≤ limits.depth) × (is_read_at q at.want ≡ false)
+PassesAs q limits at section (Some kind) =
+    IsReadBlock q limits at section kind × IsSizeFault (position_of at.want) section kind None
+
+-- what the block says there itself, and the tasks that it leaves
+abbrev pub text_of : QueryParts → WantedAt → Section → Option Kind → List ℕ
+text_of q at section None = section.block
+text_of q at section (Some kind) = text_at q at.want section kind
+
+abbrev pub tasks_behind : QueryParts → WantedAt → Section → Option Kind → List (Task CidParts)
+tasks_behind q at section None = []
+tasks_behind q at section (Some kind) = tasks_of q at.want section kind (links_of kind)
+
+-- what was given with the block opened at the place, up to the next place
+abbrev pub given_with : QueryParts → Given → List (Task CidParts) → WantedAt → Section → Option Kind → Given
+given_with q given later at section kind =
+    up_to_next (tasks_behind q at section kind ++ later) (with_place at.want section (text_of q at section kind) given)
+
+-- with the block opened at the place, up to the next place, more is counted of this kind than its limit, which is the
+-- first that is passed
+pub record IsOver (q : QueryParts) (limits : LimitNumbers) (given : Given) (later : List (Task CidParts)) (at : WantedAt) (section : Section) (limit : LimitKind) (number : ℕ) : Type 0 where
+  pub kind : Option Kind
+  pub passes : PassesAs q limits at section kind
+  pub number_is : number ≡ number_of limit limits
+  pub over : IsFirstPassed limits (counts_given q (given_with q given later at section kind)) limit
+
+-- why a block is refused at a place, behind what was given; of the checks the first that fails
+abbrev pub HasPlaceCause : QueryParts → LimitNumbers → Given → List (Task CidParts) → WantedAt → Section → Refusal → Type 0
+HasPlaceCause q limits given later at section (refusals.Limit kinds.Block number) = ⊥
+HasPlaceCause q limits given later at section (refusals.Limit kinds.Received number) = ⊥
+HasPlaceCause q limits given later at section (refusals.Limit kinds.Depth number) = IsTooDeep limits at number
+HasPlaceCause q limits given later at section (refusals.Limit limit number) =
+    IsOver q limits given later at section limit number
+HasPlaceCause q limits given later at section (refusals.BadBlock cid fault) =
+    (cid ≡ section.cid) × IsBadBlock q limits at section fault
+HasPlaceCause q limits given later at section (refusals.BadSize declared actual) =
+    IsMissized q limits at section (record { declared = declared; actual = actual })
+HasPlaceCause q limits given later at section refusals.OutOfMemory = ⊤
+HasPlaceCause q limits given later at section other = ⊥
+
 -- ---- what was received and taken when a verifier refused
 
 -- the last of these sections was refused, and what was written for those before it stays
-pub record IsRefusedAt (q : QueryParts) (sections : List Section) (written : List ℕ) (why : WantedAt → Section → Type 0) : Type 0 where
+pub record IsRefusedAt (q : QueryParts) (sections : List Section) (written : List ℕ) (why : Given → List (Task CidParts) → WantedAt → Section → Type 0) : Type 0 where
   pub taken : List Section
   pub section : Section
   pub received : sections ≡ taken ++ section ∷ []
   pub are_bytes : All (λ b. b < 256) section.block
   pub at : WantedAt
   pub up_to : IsUpTo q taken written at
-  pub cause : why at section
+  pub cause : why up_to.given up_to.later at section
 
 -- all came before the last of them
 pub record IsSurplus (q : QueryParts) (sections : List Section) (written : List ℕ) (number : ℕ) : Type 0 where
@@ -97,19 +153,26 @@ pub record IsCutShort (q : QueryParts) (sections : List Section) (written : List
   pub up_to : IsUpTo q sections written at
   pub number_is : number ≡ count_of sections
 
--- why the section at the wanted place is refused; of the checks the first that fails
-abbrev pub HasSectionCause : QueryParts → LimitNumbers → WantedAt → Section → Refusal → Type 0
-HasSectionCause q limits at section (refusals.Limit kinds.Block number) = IsTooLarge limits section number
-HasSectionCause q limits at section (refusals.BadDigest cid) = (cid ≡ section.cid) × IsMisnamed limits section
-HasSectionCause q limits at section (refusals.WrongBlock want got) =
-    (want ≡ at.cid) × (got ≡ section.cid) × IsAnother limits at section
-HasSectionCause q limits at section (refusals.Limit kinds.Depth number) = IsTooDeep limits at section number
-HasSectionCause q limits at section (refusals.BadBlock cid fault) =
-    (cid ≡ section.cid) × IsBadBlock q limits at section fault
-HasSectionCause q limits at section (refusals.BadSize declared actual) =
-    IsMissized q limits at section (record { declared = declared; actual = actual })
-HasSectionCause q limits at section refusals.OutOfMemory = ⊤
-HasSectionCause q limits at section other = ⊥
+-- why a section is refused where a block is wanted: it isn't the wanted one, or it is refused at its place
+abbrev pub HasSectionCause : QueryParts → LimitNumbers → Given → List (Task CidParts) → WantedAt → Section → Refusal → Type 0
+HasSectionCause q limits given later at section fault =
+    HasReceiptCause limits at section fault
+    ⊎ (IsWantedBlock limits at section × HasPlaceCause q limits given later at section fault)
+
+-- behind these sections, at a place whose block no section brings: it was received before, or is its CID's digest; and
+-- it was refused there
+pub record IsRefusedBehind (q : QueryParts) (limits : LimitNumbers) (sections : List Section) (written : List ℕ) (fault : Refusal) : Type 0 where
+  pub given : Given
+  pub at : WantedAt
+  pub later : List (Task CidParts)
+  pub verified : Verified q sections given (open_block at.want at.cid ∷ later)
+  pub text : written ≡ given.text
+  pub known : is_sent_behind q sections at.cid ≡ false
+  pub section : Section
+  pub same : section.cid ≡ at.cid
+  pub had : IsHad sections section
+  pub is_named : IsNamed section
+  pub cause : HasPlaceCause q limits given later at section fault
 
 -- each refusal, by the sections that were received and what is written
 abbrev pub HasRefused : QueryParts → LimitNumbers → List Section → List ℕ → Refusal → Type 0
@@ -120,9 +183,11 @@ HasRefused q limits sections written (refusals.Truncated want number) =
     (at : WantedAt) × (want ≡ at.cid) × IsCutShort q sections written at number
 HasRefused q limits sections written refusals.SinkFault = IsFrontWritten q sections written
 HasRefused q limits sections written refusals.OutOfMemory =
-    IsRefusedAt q sections written (λ at section. HasSectionCause q limits at section refusals.OutOfMemory) ⊎ IsFrontWritten q sections written
+    IsRefusedAt q sections written (λ given later at section. HasSectionCause q limits given later at section refusals.OutOfMemory)
+    ⊎ IsFrontWritten q sections written
 HasRefused q limits sections written fault =
-    IsRefusedAt q sections written (λ at section. HasSectionCause q limits at section fault)
+    IsRefusedAt q sections written (λ given later at section. HasSectionCause q limits given later at section fault)
+    ⊎ IsRefusedBehind q limits sections written fault
 
 -- the refusal at a block with this fault; want of memory is the verifier's own
 abbrev pub refusal_of_block : CidParts → BlockFault → Refusal

@@ -4,6 +4,7 @@ use Rattle.tg_model.specs.Answer.{answer}
 use Rattle.tg_model.specs.Counts.{counts}
 use Rattle.tg_model.specs.Dag.{Dag, Section, root_cid}
 use Rattle.tg_model.specs.Fits.{CollisionPair, IsFrontOfAnswer}
+use Rattle.tg_model.specs.LimitNumbers.{number_of}
 use Rattle.tg_model.specs.Lookup.{lookup_path}
 use Rattle.tg_model.specs.Lookup as lookups
 use Rattle.tg_model.specs.Queries.{QueryParts}
@@ -22,13 +23,16 @@ IsItsAnswer q d sections written = (answer q d ≡ Some written) ⊎ CollisionPa
 abbrev pub IsItsFront : QueryParts → Dag → List Section → List ℕ → Type 0
 IsItsFront q d sections written = IsFrontOfAnswer written (answer q d) ⊎ CollisionPair sections d
 
--- what a refusal says of the DAG: its path leads nowhere at that segment; it is that deep; or there is a pair
+-- what a refusal says of the DAG: its path leads nowhere at that segment; it counts more than the limit; or there is a
+-- pair. Of the size of a block that was received, and of bytes that were fed, it says nothing
 abbrev pub SaysOfDag : QueryParts → Dag → List Section → Refusal → Type 0
 SaysOfDag q d sections (refusals.NotThere segment) =
     (lookup_path q.path d ≡ lookups.not_there segment) ⊎ CollisionPair sections d
 SaysOfDag q d sections (refusals.NotFolder segment) =
     (lookup_path q.path d ≡ lookups.not_folder segment) ⊎ CollisionPair sections d
-SaysOfDag q d sections (refusals.Limit kinds.Depth number) = (number < (counts q d).depth) ⊎ CollisionPair sections d
+SaysOfDag q d sections (refusals.Limit kinds.Block number) = ⊤
+SaysOfDag q d sections (refusals.Limit kinds.Received number) = ⊤
+SaysOfDag q d sections (refusals.Limit kind number) = (number < number_of kind (counts q d)) ⊎ CollisionPair sections d
 SaysOfDag q d sections (refusals.BadBlock cid fault) = CollisionPair sections d
 SaysOfDag q d sections (refusals.BadSize declared actual) = CollisionPair sections d
 SaysOfDag q d sections other = ⊤

@@ -9,20 +9,35 @@ use Rattle.tg_model.specs.Traversal.{ListedEntry, named_met}
 use Rattle.tg_model.specs.declared.kinds.Entry.{Entry}
 use Rattle.tg_model.specs.declared.queries.Scope.TheVariants as scopes
 use Rattle.tg_model.specs.declared.queries.Scope.{Scope}
+use Rattle.tg_verify.specs.declared.counts.Counts.{Counts}
 use Rattle.tg_verify.specs.declared.fault.Refusal.{Refusal}
 
--- what is left of the query's traversal; the limits; the entries of the directory that is listed, so far; how many
--- sections were taken; and the refusal after which nothing is taken
+-- what is left of the query's traversal; the limits; the entries of the directory that is listed, so far; and what is
+-- counted
+pub record OpenerState : Type 0 where
+  pub left : LeftState
+  pub limits : LimitNumbers
+  pub entries : List Entry
+  pub counts : Counts
+
+-- with it the blocks that are remembered, each under its CID; how many sections were taken; and the refusal after which
+-- nothing is taken
 pub record VerifierState : Type 0 where
   pub left : LeftState
   pub limits : LimitNumbers
   pub entries : List Entry
+  pub counts : Counts
+  pub seen : List (CidParts × List ℕ)
   pub taken : ℕ
   pub refused : Option Refusal
 
--- how many sections there are, as a verifier shows it: the number stands still at 2 ^ 64 - 1
+-- a number as it is told, which stands still at 2 ^ 64 - 1
+abbrev pub told : ℕ → ℕ
+told n = min n (2 ^ 64 - 1)
+
+-- how many sections there are, as a verifier shows it
 abbrev pub count_of : List Section → ℕ
-count_of sections = min (length sections) (2 ^ 64 - 1)
+count_of sections = told (length sections)
 
 -- the CID of the block that must come next: none once all came, and none after a refusal
 abbrev pub cid_wanted : Option WantedAt → Option CidParts

@@ -1,34 +1,39 @@
--- How a section is taken: it is checked, its text is put and its block opened, and then what comes before the next
--- place is given.
-use Rattle.std.specs.Prelude.{Err, List, None, Ok, Option, Result, Some, [], false, length, map, ⊤, ℕ, ◌++◌, ◌<◌, ◌∷◌}
-use Rattle.std.specs.Prelude.{◌≡◌}
+-- How a block is opened at its place: it is checked and opened, what comes up to the next place is gathered and counted,
+-- and what it says is put.
+use Rattle.std.specs.List.{flat_map}
+use Rattle.std.specs.Prelude.{Bool, Contains, Err, List, None, Ok, Option, Result, Some, [], false, length, map, true, ⊤, ℕ}
+use Rattle.std.specs.Prelude.{◌++◌, ◌+◌, ◌<◌, ◌∷◌, ◌≡◌}
 use Rattle.tg_cid.specs.Cid.{CidParts}
-use Rattle.tg_traversal.specs.Left.{WantedAt, tasks_left}
-use Rattle.tg_traversal.specs.PlaceTexts.{IsSizeFault}
-use Rattle.tg_traversal.specs.declared.position.Miss.{Miss as FrameMiss}
-use Rattle.tg_traversal.specs.declared.position.Miss.TheVariants as misses
 use Rattle.tg_listing.specs.Listings.{named_entry}
-use Rattle.tg_listing.specs.declared.fault.ListingFault.{ListingFault}
 use Rattle.tg_listing.specs.declared.fault.ListingFault.TheVariants as listings
-use Rattle.tg_model.specs.Dag.{Section, links_of}
-use Rattle.tg_model.specs.LimitNumbers.{LimitNumbers}
+use Rattle.tg_listing.specs.declared.fault.ListingFault.{ListingFault}
+use Rattle.tg_model.specs.Counts.{met_line}
+use Rattle.tg_model.specs.Dag.{Section}
+use Rattle.tg_model.specs.LimitNumbers.{AreWithin, LimitNumbers, number_of, standard}
 use Rattle.tg_model.specs.Placed.{StandsForKind}
 use Rattle.tg_model.specs.Queries.{QueryParts}
-use Rattle.tg_model.specs.Texts.{Named, listing}
+use Rattle.tg_model.specs.Texts.{Named}
+use Rattle.tg_model.specs.Traversal.{ListedEntry}
 use Rattle.tg_model.specs.declared.kinds.Entry.{Entry}
 use Rattle.tg_model.specs.declared.kinds.Kind.{Kind}
+use Rattle.tg_model.specs.declared.limits.LimitKind.TheVariants as kinds
+use Rattle.tg_model.specs.declared.limits.LimitKind.{LimitKind}
 use Rattle.tg_model.specs.declared.placed.PlacedKind.{PlacedKind}
 use Rattle.tg_model.specs.declared.queries.Scope.TheVariants as scopes
 use Rattle.tg_model.specs.declared.queries.Scope.{Scope}
 use Rattle.tg_streams.specs.Streams.{Output, OutputQuiet, OutputRose, Put, PutFront}
-use Rattle.tg_traversal_laws.specs.Tasks.{Miss, Task, entries_now, is_read_at, no_directory, no_entry, position_of}
-use Rattle.tg_traversal_laws.specs.Tasks.{stop_at, tasks_of, tasks_then, text_at, text_now}
-use Rattle.tg_verify.specs.Refusals.{HasSectionCause, IsReadBlock, IsWantedBlock}
-use Rattle.tg_verify.specs.State.{VerifierState, listed_of}
-use Rattle.tg_verify.specs.declared.fault.Refusal.{Refusal}
+use Rattle.tg_traversal.specs.Left.{WantedAt, tasks_left}
+use Rattle.tg_traversal.specs.declared.position.Miss.TheVariants as misses
+use Rattle.tg_traversal.specs.declared.position.Miss.{Miss as FrameMiss}
+use Rattle.tg_traversal_laws.specs.Tasks.{Miss, Task, entries_now, no_directory, no_entry, stop_at, tasks_then, text_now}
+use Rattle.tg_verify.specs.Counting.{AreUnpassed, HasMet, IsCountedOn, IsFirstPassed, numbers_of}
+use Rattle.tg_verify.specs.Refusals.{HasReceiptCause, IsBadBlock, IsMissized, IsTooDeep, IsWantedBlock, PassesAs}
+use Rattle.tg_verify.specs.Refusals.{tasks_behind, text_of}
+use Rattle.tg_verify.specs.State.{OpenerState, listed_of, told}
+use Rattle.tg_verify.specs.declared.counts.Counts.{Counts}
+use Rattle.tg_verify.specs.declared.counts.Source.{Source}
 use Rattle.tg_verify.specs.declared.fault.Refusal.TheVariants as refusals
-use Rattle.tg_verify.specs.declared.verifier.Progress.{Progress}
-use Rattle.tg_verify.specs.declared.verifier.Progress.TheVariants as progresses
+use Rattle.tg_verify.specs.declared.fault.Refusal.{Refusal}
 
 -- the section with this CID and block
 abbrev pub section_with : CidParts → List ℕ → Section
@@ -36,12 +41,10 @@ section_with cid block = record { cid = cid; block = block }
 
 -- ---- the checks
 
--- the section passes at the wanted place: it is read there as this kind with right sizes; or it isn't read there, where
--- no kind is given
-abbrev pub PassesAs : QueryParts → LimitNumbers → WantedAt → Section → Option Kind → Type 0
-PassesAs q limits at section None = IsWantedBlock limits at section × (is_read_at q at.want ≡ false)
-PassesAs q limits at section (Some kind) =
-    IsReadBlock q limits at section kind × IsSizeFault (position_of at.want) section kind None
+-- the section is the wanted one, or why it isn't
+abbrev pub IsReceivedAt : LimitNumbers → WantedAt → Section → Result ⊤ Refusal → Type 0
+IsReceivedAt limits at section (Ok done) = IsWantedBlock limits at section
+IsReceivedAt limits at section (Err fault) = HasReceiptCause limits at section fault
 
 -- what it was read as stands for the kind
 abbrev pub StandsForRead : List ℕ → Option PlacedKind → Option Kind → Type 0
@@ -53,31 +56,154 @@ pub record IsPassing (q : QueryParts) (limits : LimitNumbers) (at : WantedAt) (s
   pub passes : PassesAs q limits at section kind
   pub stands : StandsForRead section.block found kind
 
--- how the checks end where a block is wanted
+-- why a block isn't opened at its place: it lies too deep, has no kind, or one that can't stand there, or a size that is
+-- told of it isn't its own
+abbrev pub HasCheckCause : QueryParts → LimitNumbers → WantedAt → Section → Refusal → Type 0
+HasCheckCause q limits at section (refusals.Limit kinds.Depth number) = IsTooDeep limits at number
+HasCheckCause q limits at section (refusals.BadBlock cid fault) =
+    (cid ≡ section.cid) × IsBadBlock q limits at section fault
+HasCheckCause q limits at section (refusals.BadSize declared actual) =
+    IsMissized q limits at section (record { declared = declared; actual = actual })
+HasCheckCause q limits at section refusals.OutOfMemory = ⊤
+HasCheckCause q limits at section other = ⊥
+
+-- how the checks end at a place
 abbrev pub IsCheckedAt : QueryParts → LimitNumbers → WantedAt → Section → Result (Option PlacedKind) Refusal → Type 0
 IsCheckedAt q limits at section (Ok found) = (kind : Option Kind) × IsPassing q limits at section kind found
-IsCheckedAt q limits at section (Err fault) = HasSectionCause q limits at section fault
+IsCheckedAt q limits at section (Err fault) = HasCheckCause q limits at section fault
 
--- ---- the block is opened
-
--- what the block says there itself, and the tasks that it leaves
-abbrev pub text_of : QueryParts → WantedAt → Section → Option Kind → List ℕ
-text_of q at section None = section.block
-text_of q at section (Some kind) = text_at q at.want section kind
-
-abbrev pub tasks_behind : QueryParts → WantedAt → Section → Option Kind → List (Task CidParts)
-tasks_behind q at section None = []
-tasks_behind q at section (Some kind) = tasks_of q at.want section kind (links_of kind)
-
--- the place is wanted, and the section passes there
-pub record IsPassingHere (state : VerifierState) (at : WantedAt) (section : Section) (kind : Option Kind) (found : Option PlacedKind) : Type 0 where
+-- the place is wanted, and the section has its CID, and passes there
+pub record IsPassingHere (state : OpenerState) (at : WantedAt) (section : Section) (kind : Option Kind) (found : Option PlacedKind) : Type 0 where
   pub wanted : state.left.wanted ≡ Some at
+  pub same : section.cid ≡ at.cid
   pub passing : IsPassing state.left.query state.limits at section kind found
 
--- the text was put, or out failed in it
-abbrev pub PutEnds : List ℕ → Output → Result ⊤ Refusal → Type 0
-PutEnds text out (Ok done) = Put text out × OutputQuiet out
-PutEnds text out (Err fault) = (fault ≡ refusals.SinkFault) × PutFront text out
+-- all that is left behind the block
+abbrev pub behind : OpenerState → WantedAt → Section → Option Kind → List (Task CidParts)
+behind state at section kind = tasks_behind state.left.query at section kind ++ state.left.later
+
+-- the block's text is told, and it is opened; or memory was wanted
+pub record IsOpenedHere (old : OpenerState) (at : WantedAt) (section : Section) (kind : Option Kind) (said : List ℕ) (new : OpenerState) : Type 0 where
+  pub said_is : said ≡ text_of old.left.query at section kind
+  pub left : tasks_left new.left ≡ behind old at section kind
+
+-- ---- up to the next place
+
+-- all that is left, as a stop or a place comes first
+abbrev pub left_of : OpenerState → List (Task CidParts)
+left_of state = tasks_left state.left
+
+-- of the entries that are met before the next place these are kept
+abbrev pub kept_now : OpenerState → List (Task CidParts) → List Named
+kept_now state tasks = listed_of state.left.query.scope (entries_now tasks)
+
+-- what comes before the next place was gathered: its text, and its entries, which are counted, and kept where they are of
+-- a listing
+pub record IsGathered (old : OpenerState) (before : List ℕ) (new : OpenerState) (ends : List ℕ) : Type 0 where
+  pub ends_are : ends ≡ before ++ text_now (left_of old)
+  pub names : map named_entry new.entries ≡ map named_entry old.entries ++ kept_now old (left_of old)
+  pub met : (met : List ListedEntry) → HasMet old.counts met → HasMet new.counts (met ++ entries_now (left_of old))
+  pub output : new.counts.output ≡ told (old.counts.output + length (flat_map met_line (entries_now (left_of old))))
+  pub seen_blocks : new.counts.seen_blocks ≡ old.counts.seen_blocks
+  pub seen_bytes : new.counts.seen_bytes ≡ old.counts.seen_bytes
+  pub reused : new.counts.reused ≡ old.counts.reused
+  pub left : left_of new ≡ tasks_then (left_of old)
+  pub last : new.left.wanted ≡ None → new.left.later ≡ []
+
+-- a segment of the path leads nowhere before the next place
+abbrev pub StopsThere : List (Task CidParts) → Miss → Type 0
+StopsThere tasks miss = (more : List (Task CidParts)) × (tasks_then tasks ≡ stop_at miss ∷ more)
+
+abbrev pub IsGatheredBy : OpenerState → List ℕ → OpenerState → List ℕ → Result ⊤ Refusal → Type 0
+IsGatheredBy old before new ends (Ok done) = IsGathered old before new ends
+IsGatheredBy old before new ends (Err (refusals.NotThere segment)) = StopsThere (left_of old) (no_entry segment)
+IsGatheredBy old before new ends (Err (refusals.NotFolder segment)) = StopsThere (left_of old) (no_directory segment)
+IsGatheredBy old before new ends (Err refusals.OutOfMemory) = ⊤
+IsGatheredBy old before new ends (Err other) = ⊥
+
+-- one of what comes before the next place was gathered, and no place passed
+pub record IsNearer (old : OpenerState) (before : List ℕ) (new : OpenerState) (ends : List ℕ) : Type 0 where
+  pub text : List ℕ
+  pub ends_are : ends ≡ before ++ text
+  pub text_is : text_now (left_of old) ≡ text ++ text_now (left_of new)
+  pub met_entries : List ListedEntry
+  pub entries_are : entries_now (left_of old) ≡ met_entries ++ entries_now (left_of new)
+  pub names : map named_entry new.entries ≡ map named_entry old.entries ++ listed_of old.left.query.scope met_entries
+  pub met : (met : List ListedEntry) → HasMet old.counts met → HasMet new.counts (met ++ met_entries)
+  pub output : new.counts.output ≡ told (old.counts.output + length (flat_map met_line met_entries))
+  pub seen_blocks : new.counts.seen_blocks ≡ old.counts.seen_blocks
+  pub seen_bytes : new.counts.seen_bytes ≡ old.counts.seen_bytes
+  pub reused : new.counts.reused ≡ old.counts.reused
+  pub then_is : tasks_then (left_of new) ≡ tasks_then (left_of old)
+
+-- the next of it was gathered, or none is left before the next place
+abbrev pub IsAdvanced : OpenerState → List ℕ → OpenerState → List ℕ → Result Bool Refusal → Type 0
+IsAdvanced old before new ends (Ok true) =
+    IsNearer old before new ends × (length (left_of new) < length (left_of old))
+IsAdvanced old before new ends (Ok false) = IsGathered old before new ends
+IsAdvanced old before new ends (Err fault) = IsGatheredBy old before new ends (Err fault)
+
+-- an entry that comes is kept where it is of a listing
+abbrev pub listed_entry : Scope → Entry → List Named
+listed_entry scopes.Block entry = []
+listed_entry scopes.Entity entry = named_entry entry ∷ []
+listed_entry scopes.All entry = []
+
+-- the entry was counted, and kept where it is of a listing
+pub record IsMetAt (old : OpenerState) (m : ListedEntry) (entry : Entry) (new : OpenerState) : Type 0 where
+  pub left : new.left ≡ old.left
+  pub names : map named_entry new.entries ≡ map named_entry old.entries ++ listed_entry old.left.query.scope entry
+  pub met : (met : List ListedEntry) → HasMet old.counts met → HasMet new.counts (met ++ m ∷ [])
+  pub output : new.counts.output ≡ told (old.counts.output + length (met_line m))
+  pub seen_blocks : new.counts.seen_blocks ≡ old.counts.seen_blocks
+  pub seen_bytes : new.counts.seen_bytes ≡ old.counts.seen_bytes
+  pub reused : new.counts.reused ≡ old.counts.reused
+
+-- ---- a block at its place
+
+-- the block was opened at its place, with all that comes up to the next one; this is said, and no limit is passed
+pub record IsPlaced (old : OpenerState) (at : WantedAt) (section : Section) (source : Source) (said : List ℕ) (new : OpenerState) : Type 0 where
+  pub kind : Option Kind
+  pub passes : PassesAs old.left.query old.limits at section kind
+  pub said_is : said ≡ text_of old.left.query at section kind ++ text_now (behind old at section kind)
+  pub names : map named_entry new.entries ≡ map named_entry old.entries ++ kept_now old (behind old at section kind)
+  pub counted : IsCountedOn old.left.query.dups source section.block said (entries_now (behind old at section kind)) old.counts new.counts
+  pub small : AreWithin standard old.limits
+  pub within : AreUnpassed old.limits (numbers_of new.counts)
+  pub left : left_of new ≡ tasks_then (behind old at section kind)
+  pub last : new.left.wanted ≡ None → new.left.later ≡ []
+
+-- a segment leads nowhere behind the block
+pub record IsMissedBehind (old : OpenerState) (at : WantedAt) (section : Section) (miss : Miss) : Type 0 where
+  pub kind : Option Kind
+  pub passes : PassesAs old.left.query old.limits at section kind
+  pub stops : StopsThere (behind old at section kind) miss
+
+-- a limit of this kind would be passed with the block, the first of them
+pub record IsOverBehind (old : OpenerState) (at : WantedAt) (section : Section) (source : Source) (limit : LimitKind) (number : ℕ) : Type 0 where
+  pub kind : Option Kind
+  pub passes : PassesAs old.left.query old.limits at section kind
+  pub counts : Counts
+  pub counted : IsCountedOn old.left.query.dups source section.block (text_of old.left.query at section kind ++ text_now (behind old at section kind))
+      (entries_now (behind old at section kind)) old.counts counts
+  pub small : AreWithin standard old.limits
+  pub number_is : number ≡ number_of limit old.limits
+  pub over : IsFirstPassed old.limits (numbers_of counts) limit
+
+-- why a block isn't opened at its place, or not with all that comes up to the next one
+abbrev pub HasOpenCause : OpenerState → WantedAt → Section → Source → Refusal → Type 0
+HasOpenCause old at section source (refusals.NotThere segment) = IsMissedBehind old at section (no_entry segment)
+HasOpenCause old at section source (refusals.NotFolder segment) = IsMissedBehind old at section (no_directory segment)
+HasOpenCause old at section source (refusals.Limit kinds.Depth number) = IsTooDeep old.limits at number
+HasOpenCause old at section source (refusals.Limit limit number) = IsOverBehind old at section source limit number
+HasOpenCause old at section source fault = HasCheckCause old.left.query old.limits at section fault
+
+-- a block that is opened, and put; out failed in what it says; or it isn't opened, and nothing is put
+pub record IsPutAt (old : OpenerState) (at : WantedAt) (section : Section) (source : Source) (out : Output) (new : OpenerState) : Type 0 where
+  pub said : List ℕ
+  pub placed : IsPlaced old at section source said new
+  pub put : Put said out
+  pub quiet : OutputQuiet out
 
 -- a front of the text was put
 pub record PutFrontOf (text : List ℕ) (out : Output) : Type 0 where
@@ -86,75 +212,33 @@ pub record PutFrontOf (text : List ℕ) (out : Output) : Type 0 where
   pub whole : text ≡ front ++ rest
   pub put : Put front out
 
--- how the block's text is put and the block opened
-abbrev pub IsOpenedAt : List ℕ → List (Task CidParts) → Output → VerifierState → Result ⊤ Refusal → Type 0
-IsOpenedAt text tasks out new (Ok done) = Put text out × OutputQuiet out × (tasks_left new.left ≡ tasks)
-IsOpenedAt text tasks out new (Err refusals.SinkFault) = PutFrontOf text out × OutputRose out
-IsOpenedAt text tasks out new (Err refusals.OutOfMemory) = PutFrontOf text out × OutputQuiet out
-IsOpenedAt text tasks out new (Err other) = ⊥
+pub record FailsAt (old : OpenerState) (at : WantedAt) (section : Section) (source : Source) (out : Output) (new : OpenerState) : Type 0 where
+  pub said : List ℕ
+  pub placed : IsPlaced old at section source said new
+  pub front : PutFrontOf said out
+  pub rose : OutputRose out
 
--- ---- up to the next place
+pub record IsUnopened (old : OpenerState) (at : WantedAt) (section : Section) (source : Source) (out : Output) (fault : Refusal) : Type 0 where
+  pub cause : HasOpenCause old at section source fault
+  pub put : Put [] out
+  pub quiet : OutputQuiet out
 
--- the entries of a listing with those that come before the next place
-abbrev pub names_then : VerifierState → List Named
-names_then state =
-    map named_entry state.entries ++ listed_of state.left.query.scope (entries_now (tasks_left state.left))
-
--- the listing is put where no place is left
-abbrev pub late_text : List (Task CidParts) → List Named → List ℕ
-late_text [] names = listing names
-late_text (task ∷ tasks) names = []
-
--- all that is put up to the next place
-abbrev pub text_then : VerifierState → List ℕ
-text_then state = text_now (tasks_left state.left) ++ late_text (tasks_then (tasks_left state.left)) (names_then state)
-
--- a segment of the path leads nowhere before the next place
-abbrev pub StopsThere : VerifierState → Output → Miss → Type 0
-StopsThere old out miss = (more : List (Task CidParts)) × (tasks_then (tasks_left old.left) ≡ stop_at miss ∷ more) × Put (text_now (tasks_left old.left)) out × OutputQuiet out
-
--- how what comes before the next place is given
-abbrev pub IsSettled : VerifierState → Output → VerifierState → Result Progress Refusal → Type 0
-IsSettled old out new (Ok progresses.More) =
-    (at : WantedAt) × (new.left.wanted ≡ Some at) × (tasks_left new.left ≡ tasks_then (tasks_left old.left)) × (map named_entry new.entries ≡ names_then old)
-    × Put (text_then old) out × OutputQuiet out
-IsSettled old out new (Ok progresses.Done) =
-    (new.left.wanted ≡ None) × (new.left.later ≡ []) × (tasks_then (tasks_left old.left) ≡ []) × Put (text_then old) out × OutputQuiet out
-IsSettled old out new (Err (refusals.NotThere segment)) = StopsThere old out (no_entry segment)
-IsSettled old out new (Err (refusals.NotFolder segment)) = StopsThere old out (no_directory segment)
-IsSettled old out new (Err refusals.SinkFault) = PutFrontOf (text_then old) out × OutputRose out
-IsSettled old out new (Err refusals.OutOfMemory) = PutFrontOf (text_then old) out × OutputQuiet out
-IsSettled old out new (Err other) = ⊥
+abbrev pub IsPlacedAt : OpenerState → WantedAt → Section → Source → Output → OpenerState → Result ⊤ Refusal → Type 0
+IsPlacedAt old at section source out new (Ok done) = IsPutAt old at section source out new
+IsPlacedAt old at section source out new (Err refusals.SinkFault) = FailsAt old at section source out new
+IsPlacedAt old at section source out new (Err fault) = IsUnopened old at section source out fault
 
 -- ---- one of these
 
--- what is left, and the entries, may have changed
-pub record IsSameVerifier (old new : VerifierState) : Type 0 where
+-- what is left, the entries and the counts may have changed
+pub record IsSameOpener (old new : OpenerState) : Type 0 where
   pub query : new.left.query ≡ old.left.query
   pub limits : new.limits ≡ old.limits
-  pub taken : new.taken ≡ old.taken
-  pub refused : new.refused ≡ old.refused
 
--- this much was put or kept, and no place passed
-pub record IsNearer (old : VerifierState) (out : Output) (new : VerifierState) : Type 0 where
-  pub text : List ℕ
-  pub put : Put text out
-  pub quiet : OutputQuiet out
-  pub text_is : text_now (tasks_left old.left) ≡ text ++ text_now (tasks_left new.left)
-  pub then_is : tasks_then (tasks_left new.left) ≡ tasks_then (tasks_left old.left)
-  pub names : names_then new ≡ names_then old
-
--- one was given, or none is left before the next place
-abbrev pub IsAdvanced : VerifierState → Output → VerifierState → Result (Option Progress) Refusal → Type 0
-IsAdvanced old out new (Ok None) = IsNearer old out new × (length (tasks_left new.left) < length (tasks_left old.left))
-IsAdvanced old out new (Ok (Some progress)) = IsSettled old out new (Ok progress)
-IsAdvanced old out new (Err fault) = IsSettled old out new (Err fault)
-
--- an entry that comes is kept where it is of a listing
-abbrev pub listed_entry : Scope → Entry → List Named
-listed_entry scopes.Block entry = []
-listed_entry scopes.Entity entry = named_entry entry ∷ []
-listed_entry scopes.All entry = []
+-- the text was put, or out failed in it
+abbrev pub PutEnds : List ℕ → Output → Result ⊤ Refusal → Type 0
+PutEnds text out (Ok done) = Put text out × OutputQuiet out
+PutEnds text out (Err fault) = (fault ≡ refusals.SinkFault) × PutFront text out
 
 -- the text was put, or out failed in it, or memory was wanted
 abbrev pub PutOrWants : List ℕ → Output → Result ⊤ Refusal → Type 0
@@ -172,3 +256,12 @@ refusal_of_listing listings.OutOfMemory = refusals.OutOfMemory
 abbrev pub refusal_of_miss : FrameMiss → Refusal
 refusal_of_miss (misses.NoEntry segment) = refusals.NotThere segment
 refusal_of_miss (misses.NoDirectory segment) = refusals.NotFolder segment
+
+-- ---- blocks that no section brings
+
+-- the block that is known for a CID: where the CID isn't asked for its digest, and else what is remembered under it; or
+-- none, and a section is to bring it
+abbrev pub IsKnownBlock : Bool → List (CidParts × List ℕ) → CidParts → Option (List ℕ) → Type 0
+IsKnownBlock true seen cid (Some block) = Contains seen (cid, block)
+IsKnownBlock true seen cid None = (block : List ℕ) → Contains seen (cid, block) → ⊥
+IsKnownBlock false seen cid found = found ≡ Some cid.digest

@@ -1,33 +1,35 @@
 -- What was taken of a query's sections, and what is written for them.
-use Rattle.std.specs.Prelude.{List, None, Option, Some, [], map, true, ⊤, ℕ, ◌++◌, ◌∷◌, ◌≡◌}
+use Rattle.std.specs.Prelude.{All, Bool, Contains, List, None, Option, Some, [], false, map, true, ⊤, ℕ, ◌++◌, ◌<◌, ◌∷◌}
+use Rattle.std.specs.Prelude.{◌≡◌, ◌≢◌}
 use Rattle.tg_cid.specs.Cid.{CidParts}
+use Rattle.tg_cid.specs.Names.{Names}
 use Rattle.tg_traversal.specs.Left.{WantedAt, tasks_left}
 use Rattle.tg_listing.specs.Listings.{named_entry}
 use Rattle.tg_model.specs.Dag.{Section}
 use Rattle.tg_model.specs.Queries.{QueryParts}
-use Rattle.tg_traversal_laws.specs.Stages.{Given}
-use Rattle.tg_traversal_laws.specs.Tasks.{Miss, Task, give_entries, give_text, open_block, stop_at}
+use Rattle.tg_model.specs.Traversal.{is_sent_behind}
+use Rattle.tg_traversal_laws.specs.Stages.{Given, nothing_given}
+use Rattle.tg_traversal_laws.specs.Tasks.{Miss, Task, open_block, start, stop_at}
 use Rattle.tg_traversal_laws.specs.Verified.{Verified, written_whole}
+use Rattle.tg_verify.specs.Counting.{AreUnpassed, HasCounted, counts_given}
 use Rattle.tg_verify.specs.State.{VerifierState, count_of, listed_of}
 
--- these sections were taken, this is written for them, and a block is wanted here
+-- these sections were taken, this is written for them, and a block that is sent behind them is wanted here
 pub record IsUpTo (q : QueryParts) (sections : List Section) (written : List ℕ) (at : WantedAt) : Type 0 where
-  pub repeats : q.dups ≡ true
   pub given : Given
   pub later : List (Task CidParts)
   pub verified : Verified q sections given (open_block at.want at.cid ∷ later)
+  pub sends : is_sent_behind q sections at.cid ≡ true
   pub text : written ≡ given.text
 
 -- these are all sections of the query, and all is written
 pub record IsThrough (q : QueryParts) (sections : List Section) (written : List ℕ) : Type 0 where
-  pub repeats : q.dups ≡ true
   pub given : Given
   pub verified : Verified q sections given []
   pub text : written ≡ written_whole q given
 
 -- these sections were taken, and a segment of the path leads nowhere
 pub record IsNowhere (q : QueryParts) (sections : List Section) (written : List ℕ) (miss : Miss) : Type 0 where
-  pub repeats : q.dups ≡ true
   pub given : Given
   pub later : List (Task CidParts)
   pub verified : Verified q sections given (stop_at miss ∷ later)
@@ -39,7 +41,6 @@ most_text q given [] = written_whole q given
 most_text q given (task ∷ tasks) = given.text
 
 pub record IsFrontWritten (q : QueryParts) (sections : List Section) (written : List ℕ) : Type 0 where
-  pub repeats : q.dups ≡ true
   pub given : Given
   pub tasks : List (Task CidParts)
   pub verified : Verified q sections given tasks
@@ -48,13 +49,15 @@ pub record IsFrontWritten (q : QueryParts) (sections : List Section) (written : 
 
 -- ---- a verifier that refused nothing
 
--- no segment of the path is among these tasks that leads nowhere
-abbrev pub HasNoStop : List (Task CidParts) → Type 0
-HasNoStop [] = ⊤
-HasNoStop (open_block w cid ∷ tasks) = HasNoStop tasks
-HasNoStop (give_text text ∷ tasks) = HasNoStop tasks
-HasNoStop (give_entries met ∷ tasks) = HasNoStop tasks
-HasNoStop (stop_at miss ∷ tasks) = ⊥
+-- before it opened anything
+pub record IsFresh (state : VerifierState) : Type 0 where
+  pub left : tasks_left state.left ≡ start state.left.query state.left.query.root
+  pub wanted : state.left.wanted ≢ None
+  pub entries : state.entries ≡ []
+  pub counted : HasCounted state.left.query state.counts nothing_given
+  pub seen : state.seen ≡ []
+  pub taken : state.taken ≡ 0
+  pub refused : state.refused ≡ None
 
 -- as long as a block is wanted, the text that was given is written, and the entries of a listing are kept; and then all
 -- is written
@@ -63,10 +66,50 @@ IsWrittenAt state given written (Some at) =
     (written ≡ given.text) × (map named_entry state.entries ≡ listed_of state.left.query.scope given.met)
 IsWrittenAt state given written None = (state.left.later ≡ []) × (written ≡ written_whole state.left.query given)
 
+-- a section of bytes, which its CID names
+pub record IsNamed (section : Section) : Type 0 where
+  pub named : Names section.cid section.block
+  pub are_bytes : All (λ b. b < 256) section.block
+
+abbrev pub AreNamed : List Section → Type 0
+AreNamed sections = (section : Section) → Contains sections section → IsNamed section
+
+-- where each block is sent once, the blocks of the sections are remembered, each under its CID
+abbrev pub Remembers : Bool → List (CidParts × List ℕ) → List Section → Type 0
+Remembers true seen sections = seen ≡ []
+Remembers false seen sections = seen ≡ map (λ section. (section.cid, section.block)) sections
+
+-- what a verifier keeps of the sections that it took
+pub record Keeps (state : VerifierState) (sections : List Section) : Type 0 where
+  pub named : AreNamed sections
+  pub remembers : Remembers state.left.query.dups state.seen sections
+  pub count : state.taken ≡ count_of sections
+
+-- what was given is counted, and passes no limit
+pub record IsCountedWithin (state : VerifierState) (given : Given) : Type 0 where
+  pub counted : HasCounted state.left.query state.counts given
+  pub within : AreUnpassed state.limits (counts_given state.left.query given)
+
+-- where a block is wanted, one under its CID is sent behind the sections
+abbrev pub IsSentFor : QueryParts → List Section → Option WantedAt → Type 0
+IsSentFor q sections None = ⊤
+IsSentFor q sections (Some at) = is_sent_behind q sections at.cid ≡ true
+
+-- it goes on where a section is wanted, or took all
 pub record IsGoing (state : VerifierState) (sections : List Section) (written : List ℕ) : Type 0 where
-  pub repeats : state.left.query.dups ≡ true
   pub given : Given
   pub verified : Verified state.left.query sections given (tasks_left state.left)
-  pub no_stop : HasNoStop state.left.later
-  pub count : state.taken ≡ count_of sections
+  pub sends : IsSentFor state.left.query sections state.left.wanted
+  pub keeps : Keeps state sections
+  pub counted : IsCountedWithin state given
   pub writes : IsWrittenAt state given written state.left.wanted
+
+-- it goes on, and places whose blocks no section brings may come before a section is wanted
+pub record IsOn (state : VerifierState) (sections : List Section) (written : List ℕ) : Type 0 where
+  pub given : Given
+  pub verified : Verified state.left.query sections given (tasks_left state.left)
+  pub ends : state.left.wanted ≡ None → state.left.later ≡ []
+  pub keeps : Keeps state sections
+  pub counted : IsCountedWithin state given
+  pub text : written ≡ given.text
+  pub names : map named_entry state.entries ≡ listed_of state.left.query.scope given.met

@@ -1,7 +1,8 @@
 //! A query's sections in a list.
-ghost use Rattle.std.specs.Prelude.{◌≡◌, [], None, true, map};
+ghost use Rattle.std.specs.Prelude.{map};
 ghost use Rattle.tg_streams.specs.Streams.{into};
-ghost use Rattle.tg_verify.specs.History.{AllEnd, StandsFor, section_of_pair};
+ghost use Rattle.tg_verify.specs.History.{AllEnd, section_of_pair};
+ghost use Rattle.tg_verify.specs.Taken.{IsFresh};
 
 use crate::fault::Refusal;
 use crate::verifier::Verifier;
@@ -11,10 +12,11 @@ use tg_cid::Cid;
 use tg_model::{Limits, Query};
 use tg_streams::Sink;
 
-/// Verifies the sections of a query with repeats, from the first one on, and puts what they say. It answers the CID of
-/// the block that is wanted behind them, or none where they are all that the query asks for. Each block is copied.
+/// Verifies the sections of a query, from the first one on, and puts what they say. It answers the CID of the block
+/// that is wanted behind them, or none where they are all that the query asks for. Each block is copied.
 ///
-/// Trustless Gateway specification, dag-scope and entity-bytes. Errors: those of `Verifier::section`.
+/// Trustless Gateway specification, dag-scope, entity-bytes and dups. Errors: those of `Verifier::start` and
+/// `Verifier::section`.
 pub fn verify_all<S: Sink>(
     alloc: Global,
     query: &Query,
@@ -22,8 +24,7 @@ pub fn verify_all<S: Sink>(
     sections: &List<(Cid, Bytes)>,
     out: &mut S,
 ) -> Result<Option<Cid>, Refusal>
-    ensures { query.now.dups ≡ true
-        → AllEnd query.now limits (map section_of_pair sections.now) (into S.sink out.old out.new) result }
+    ensures { AllEnd query.now limits (map section_of_pair sections.now) (into S.sink out.old out.new) result }
 {
     tg_traversal_laws::verified_sections();
     match Verifier::new(alloc, query, limits) {
@@ -32,20 +33,19 @@ pub fn verify_all<S: Sink>(
     }
 }
 
-/// Hands these sections to a verifier that took none, and answers the CID of the block that is wanted behind them.
-/// Errors: those of `Verifier::section`.
+/// Starts a verifier and hands it these sections, and answers the CID of the block that is wanted behind them. Errors:
+/// those of `Verifier::start` and `Verifier::section`.
 fn take_all<S: Sink>(
     alloc: Global,
     verifier: &mut Verifier,
     sections: &List<(Cid, Bytes)>,
     out: &mut S,
 ) -> Result<Option<Cid>, Refusal>
-    requires fresh { verifier.old.refused ≡ None }
-    requires stands { verifier.old.left.query.dups ≡ true → StandsFor verifier.old [] [] }
-    ensures { verifier.old.left.query.dups ≡ true
-        → AllEnd verifier.old.left.query verifier.old.limits (map section_of_pair sections.now)
+    requires fresh { IsFresh verifier.old }
+    ensures { AllEnd verifier.old.left.query verifier.old.limits (map section_of_pair sections.now)
         (into S.sink out.old out.new) result }
 {
+    verifier.start(out)?;
     for (cid, block) in sections.as_slice() {
         let block = Bytes::of(alloc, block.as_slice())?;
         verifier.section(*cid, block, out)?;

@@ -1,31 +1,31 @@
-//! The checks of a section.
-ghost use Rattle.std.specs.Prelude.{◌≡◌, ◌<◌, All, Err, None, Some, true};
+//! The checks of a section, and of a block at its place.
+ghost use Rattle.std.specs.Prelude.{◌≡◌, ◌<◌, ◌≤◌, All, Err, None, Some, true};
 ghost use Rattle.tg_traversal.specs.Left.{WantedAt};
-ghost use Rattle.tg_traversal_laws.specs.Tasks.{is_read_at};
-ghost use Rattle.tg_verify.specs.Refusals.{IsWantedBlock, refusal_of_block};
-ghost use Rattle.tg_verify.specs.Steps.{IsCheckedAt, section_with};
+ghost use Rattle.tg_traversal_laws.specs.Tasks.{depth_of, is_read_at};
+ghost use Rattle.tg_verify.specs.Refusals.{refusal_of_block};
+ghost use Rattle.tg_verify.specs.Steps.{IsCheckedAt, IsReceivedAt, section_with};
 
 use crate::fault::Refusal;
+use crate::opener::Opener;
 use crate::verifier::Verifier;
 use tg_cid::Cid;
 use tg_model::{BlockFault, LimitKind, PlacedKind};
 
 impl Verifier {
-    /// What the section's block is read as at the wanted place, where it passes there; and none where it isn't read,
-    /// since the query asks for the block alone. The block is hashed once.
+    /// Checks that the section is the wanted one. The block is hashed once.
     ///
-    /// Errors: those of `section` up to `BadSize`, in their order.
-    pub(crate) fn checked(&self, cid: &Cid, block: &[u8]) -> Result<Option<PlacedKind>, Refusal>
+    /// Errors: those of `section` up to `WrongBlock`, in their order.
+    pub(crate) fn receive(&self, cid: &Cid, block: &[u8]) -> Result<(), Refusal>
         ensures surplus { self.now.left.wanted ≡ None → result ≡ Err (Refusal.Extra self.now.taken) }
-        ensures checked { (at : WantedAt) → self.now.left.wanted ≡ Some at
-            → IsCheckedAt self.now.left.query self.now.limits at (section_with cid.now block.now) result }
+        ensures received { (at : WantedAt) → self.now.left.wanted ≡ Some at
+            → IsReceivedAt self.now.limits at (section_with cid.now block.now) result }
     {
-        let Some(wanted) = self.frames.wanted() else {
+        let Some(wanted) = self.opener.wanted() else {
             return Err(Refusal::Extra {
                 sections: self.taken,
             });
         };
-        let most = self.limits.number(LimitKind::Block);
+        let most = self.opener.limits.number(LimitKind::Block);
         if block.len() as u64 > most {
             return Err(limit(LimitKind::Block, most));
         }
@@ -38,6 +38,23 @@ impl Verifier {
                 got: *cid,
             });
         }
+        Ok(())
+    }
+}
+
+impl Opener {
+    /// What the block is read as at the wanted place, which has this CID, where it passes there; and none where it
+    /// isn't read, since the query asks for the block alone.
+    ///
+    /// Errors: those of `place` up to `BadSize`, in their order; and `OutOfMemory`.
+    pub(crate) fn checked(&self, cid: &Cid, block: &[u8]) -> Result<Option<PlacedKind>, Refusal>
+        requires here { (at : WantedAt) × (self.now.left.wanted ≡ Some at) × (at.cid ≡ cid.now) }
+        ensures checked { (at : WantedAt) → self.now.left.wanted ≡ Some at
+            → IsCheckedAt self.now.left.query self.now.limits at (section_with cid.now block.now) result }
+    {
+        let Some(wanted) = self.frames.wanted() else {
+            return Ok(None);
+        };
         let deepest = self.limits.number(LimitKind::Depth);
         if wanted.depth > deepest {
             return Err(limit(LimitKind::Depth, deepest));
@@ -53,9 +70,9 @@ impl Verifier {
     ///
     /// Errors: `BadBlock`, `BadSize`, and `OutOfMemory`.
     fn read(&self, cid: &Cid, block: &[u8]) -> Result<Option<PlacedKind>, Refusal>
-        requires { (at : WantedAt) × (self.now.left.wanted ≡ Some at) }
+        requires { (at : WantedAt) × (self.now.left.wanted ≡ Some at) × (at.cid ≡ cid.now) }
         ensures { (at : WantedAt) → self.now.left.wanted ≡ Some at → is_read_at self.now.left.query at.want ≡ true
-            → IsWantedBlock self.now.limits at (section_with cid.now block.now)
+            → depth_of at.want ≤ self.now.limits.depth
             → IsCheckedAt self.now.left.query self.now.limits at (section_with cid.now block.now) result }
     {
         let found = match self.frames.read(self.alloc, block) {
@@ -78,14 +95,14 @@ pub(crate) fn are_bytes(_bytes: &[u8])
 {}
 
 /// The refusal at a limit.
-fn limit(kind: LimitKind, number: u64) -> Refusal
+pub(crate) fn limit(kind: LimitKind, number: u64) -> Refusal
     ensures { result ≡ Refusal.Limit kind number }
 {
     Refusal::Limit { kind, number }
 }
 
 /// The refusal at a block with this fault; want of memory is the verifier's own.
-fn refusal_of_block(cid: Cid, fault: BlockFault) -> Refusal
+pub(crate) fn refusal_of_block(cid: Cid, fault: BlockFault) -> Refusal
     ensures { result ≡ refusal_of_block cid fault }
 {
     match fault {

@@ -5,8 +5,8 @@ use tg_listing::ListingFault;
 use tg_model::{BlockFault, LimitKind};
 use thiserror::Error;
 
-/// Why a verifier takes no more sections, in the order of its checks, but for `Truncated`, which says that no more
-/// came. Segments count from 0. No inner fault is want of memory.
+/// Why a verifier takes no more sections; `Verifier::section` says in which order it checks. `Truncated` says that no
+/// more came. Segments count from 0. No inner fault is want of memory.
 #[derive(Clone, Copy, Debug, PartialEq, Eq, Error)]
 pub enum Refusal {
     /// A section came after the last wanted one; so many were taken before it.

@@ -17,8 +17,8 @@ pub fn verified_answers()
     tg_traversal_laws::verified_sections();
 }
 
-/// The sections of a sound DAG's own traversal, where its query has an answer, are taken one by one, and what is then
-/// written is the answer.
+/// The sections of a sound DAG's own traversal, where its query has an answer, and one block stands under each CID
+/// where each is sent once, are taken one by one, and what is then written is the answer.
 ///
 /// Trustless Gateway specification, dag-scope and entity-bytes.
 pub fn own_sections_taken()

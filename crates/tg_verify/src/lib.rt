@@ -2,13 +2,18 @@
 //! writes what they say.
 #![tactic(auto)]
 
+mod absence;
 mod all;
 mod checking;
+mod counts;
 mod fault;
+mod known;
 pub mod laws;
+mod opener;
 mod settling;
 mod verifier;
 
+pub use absence::Absence;
 pub use all::verify_all;
 pub use fault::Refusal;
 pub use verifier::{Progress, Verifier};

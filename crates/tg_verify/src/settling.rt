@@ -1,71 +1,69 @@
-//! What comes before the next place.
-ghost use Rattle.std.specs.Prelude.{◌≡◌, ◌++◌, ◌∷◌, [], map, MatchResult};
+//! What comes before the next place, and a listing at the end.
+ghost use Rattle.std.specs.Prelude.{◌≡◌, [], ℕ, List as Items, OnOk, length, map};
 ghost use Rattle.tg_listing.specs.Listings.{named_entry};
 ghost use Rattle.tg_model.specs.Texts.{listing};
 ghost use Rattle.tg_streams.specs.Streams.{into};
-ghost use Rattle.tg_verify.specs.Steps.{IsAdvanced, IsSameVerifier, IsSettled, PutOrWants, listed_entry};
-ghost use Rattle.tg_verify.specs.Steps.{refusal_of_miss};
+ghost use Rattle.tg_traversal.specs.Frames.{listed_at};
+ghost use Rattle.tg_verify.specs.Steps.{IsAdvanced, IsGatheredBy, IsMetAt, IsSameOpener, PutOrWants, refusal_of_miss};
 
 use crate::fault::Refusal;
-use crate::verifier::{Progress, Verifier, put_from};
+use crate::opener::Opener;
+use std::alloc::AllocError;
 use std::mem::replace;
-use tg_bytes::List;
-use tg_listing::put_listing;
+use tg_bytes::{Bytes, List};
+use tg_listing::{line_len, put_listing};
 use tg_model::{Entry, Scope};
 use tg_streams::Sink;
 use tg_traversal::{Miss, Next};
 
-impl Verifier {
-    /// Gives what comes before the next place: ends of lines are put, entries of a listing are kept. Where no place is
-    /// left, the listing is put.
+impl Opener {
+    /// Gathers what comes before the next place: ends of lines go to `ends`, entries are counted, and kept where they
+    /// are of a listing.
     ///
-    /// Errors: `NotThere` and `NotFolder` where a segment of the path leads nowhere; `SinkFault`; and `OutOfMemory`.
-    pub(crate) fn settle<S: Sink>(&mut self, out: &mut S) -> Result<Progress, Refusal>
-        ensures same { IsSameVerifier self.old self.new }
-        ensures settled { IsSettled self.old (into S.sink out.old out.new) self.new result }
+    /// Errors: `NotThere` and `NotFolder` where a segment of the path leads nowhere; and `OutOfMemory`.
+    pub(crate) fn gather(&mut self, ends: &mut Bytes) -> Result<(), Refusal>
+        ensures same { IsSameOpener self.old self.new }
+        ensures gathered { IsGatheredBy self.old ends.old self.new ends.new result }
     {
-        loop {
-            if let Some(progress) = self.advance(out)? {
-                return Ok(progress);
-            }
-        }
+        while self.advance(ends)? {}
+        Ok(())
     }
 
-    /// Gives the next of what comes before the next place; or says that a block is wanted, or, once all is put, that
-    /// none is.
+    /// Gathers the next of what comes before the next place, and says whether there was one.
     ///
-    /// Errors: those of `settle`.
-    fn advance<S: Sink>(&mut self, out: &mut S) -> Result<Option<Progress>, Refusal>
-        ensures same { IsSameVerifier self.old self.new }
-        ensures step { IsAdvanced self.old (into S.sink out.old out.new) self.new result }
+    /// Errors: those of `gather`.
+    fn advance(&mut self, ends: &mut Bytes) -> Result<bool, Refusal>
+        ensures same { IsSameOpener self.old self.new }
+        ensures step { IsAdvanced self.old ends.old self.new ends.new result }
     {
         match self.frames.next()? {
-            Next::Nothing => self.put_entries(out).and(Ok(Some(Progress::Done))),
-            Next::Block => Ok(Some(Progress::More)),
-            Next::Line => put_from(out, &[], b"\n").and(Ok(None)),
-            Next::Entry(entry) => self.meet(entry).and(Ok(None)),
-            Next::Missing(miss) => Err(refusal_of_miss(miss)),
+            Next::Nothing | Next::Block => return Ok(false),
+            Next::Line => ends.push_all(b"\n")?,
+            Next::Entry { entry, directory } => self.meet(entry, directory)?,
+            Next::Missing(miss) => return Err(refusal_of_miss(miss)),
         }
+        Ok(true)
     }
 
-    /// Keeps an entry of a directory that is listed. The error is want of memory.
-    fn meet(&mut self, entry: Entry) -> Result<(), Refusal>
-        ensures others { self.new ≡ record self.old { entries = self.new.entries } }
-        ensures met { MatchResult result (λ _. map named_entry self.new.entries ≡ map named_entry self.old.entries
-            ++ listed_entry self.old.left.query.scope entry)
-            (λ fault. fault ≡ Refusal.OutOfMemory) }
+    /// Counts an entry of a directory whose path has so many bytes, with its line where it is of a listing, and keeps
+    /// it there. The error is want of memory.
+    fn meet(&mut self, entry: Entry, directory: u64) -> Result<(), AllocError>
+        ensures same { IsSameOpener self.old self.new }
+        ensures met { (path : Items ℕ) → length path ≡ directory
+            → OnOk result (IsMetAt self.old (listed_at path entry) entry self.new) }
     {
+        self.counts.meet(directory, entry.name.as_slice())?;
+        if directory == 0 {
+            self.counts.say(line_len(self.alloc, &entry)?);
+        }
         match self.scope {
-            Scope::Entity => {
-                self.entries.push(entry)?;
-                Ok(())
-            }
+            Scope::Entity => self.entries.push(entry),
             Scope::Block | Scope::All => Ok(()),
         }
     }
 
     /// Puts the listing of the entries that were kept. Errors: `SinkFault`; and `OutOfMemory`.
-    fn put_entries<S: Sink>(&mut self, out: &mut S) -> Result<(), Refusal>
+    pub(crate) fn put_entries<S: Sink>(&mut self, out: &mut S) -> Result<(), Refusal>
         ensures others { self.new ≡ record self.old { entries = [] } }
         ensures put { PutOrWants (listing (map named_entry self.old.entries)) (into S.sink out.old out.new) result }
     {

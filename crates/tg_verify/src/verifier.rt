@@ -1,29 +1,32 @@
 //! A verifier that is handed a query's sections one by one.
 ghost use Rattle.std.specs.Prelude.{◌≡◌, ◌++◌, ◌∷◌, [], ℕ, List as Items, None, Ok, Option, Some, IfErr, IfOk};
-ghost use Rattle.std.specs.Prelude.{MatchResult, OnErr, OnOk, true};
+ghost use Rattle.std.specs.Prelude.{Contains, Err, MatchResult, OnErr, OnOk, false, true, ◌<◌};
+ghost use Rattle.indexmap.specs.IndexMap.{spare};
 ghost use Rattle.tg_traversal.specs.Left.{WantedAt};
 ghost use Rattle.tg_model.specs.Dag.{Dag, Section};
 ghost use Rattle.tg_model.specs.Fits.{Fits, IsInProgress};
 ghost use Rattle.tg_model.specs.PathWalk.{Spot};
-ghost use Rattle.tg_model.specs.declared.kinds.Kind.{Kind};
-ghost use Rattle.tg_streams.specs.Streams.{into};
-ghost use Rattle.tg_verify.specs.History.{HasPutCause, HasTaken, HasWritten, IsCounted, IsProgress, StandsFor};
+ghost use Rattle.tg_streams.specs.Streams.{OutputQuiet, into};
+ghost use Rattle.tg_verify.specs.History.{HasAccepted, HasPutCause, HasTaken, HasWritten, IsCounted, IsProgress};
+ghost use Rattle.tg_verify.specs.History.{IsSameVerifier, StandsFor, one_more};
 ghost use Rattle.tg_verify.specs.Laws.{IsFitOf, IsOwnFault, IsWithinLimits};
 ghost use Rattle.tg_verify.specs.Sound.{EndsFor, ForEachSound};
 ghost use Rattle.tg_verify.specs.State.{next_cid};
-ghost use Rattle.tg_verify.specs.Steps.{IsOpenedAt, IsPassingHere, PutEnds, section_with, tasks_behind, text_of};
-ghost use Rattle.tg_verify.specs.Taken.{IsGoing};
+ghost use Rattle.tg_verify.specs.Steps.{section_with};
+ghost use Rattle.tg_verify.specs.Taken.{IsFresh, IsGoing};
 
 use crate::checking::are_bytes;
+use crate::counts::Source;
 use crate::fault::Refusal;
 use crate::laws;
+use crate::opener::Opener;
+use indexmap::IndexMap;
 use std::alloc::{AllocError, Global};
 use std::marker::Model;
-use tg_bytes::{Bytes, List};
+use tg_bytes::Bytes;
 use tg_cid::Cid;
-use tg_model::{Entry, LimitKind, Limits, PlacedKind, Query, Scope};
-use tg_streams::{Sink, put_pieces};
-use tg_traversal::Frames;
+use tg_model::{Limits, Query};
+use tg_streams::Sink;
 
 /// Whether a verifier wants more sections.
 #[derive(Clone, Copy, Debug, PartialEq, Eq)]
@@ -34,19 +37,20 @@ pub enum Progress {
     Done,
 }
 
-/// A verifier of the sections of a query with repeats. It is handed them one by one and takes each where it is the
-/// block that the query asks for next; what the block says is written before the call returns, but for the listing of a
-/// directory, which is written at the end. It trusts the query's root alone.
+/// A verifier of the sections of a query. It is started, and then handed the sections one by one, and takes each where
+/// it is the block that the query asks for next; what the block says is written before the call returns, but for the
+/// listing of a directory, which is written at the end. It trusts the query's root alone.
 ///
-/// It holds the blocks on the way to the wanted place of which links are to come, and of a listing names and CIDs.
-/// Trustless Gateway specification, CAR responses, dag-scope, entity-bytes and order dfs.
+/// Of an identity CID no section is wanted, since its block is its digest. Where each block is sent once, a further
+/// place of its CID takes the block that was received. It holds copies of the blocks of files on the way to the wanted
+/// place of which links are to come, of directories on it the names and CIDs that are to come, of a listing all of
+/// them, and, where each block is sent once, each block that was received. Trustless Gateway specification, CAR
+/// responses, dag-scope, entity-bytes, order dfs and dups.
 #[derive(Drop)]
 pub struct Verifier {
-    pub(crate) alloc: Global,
-    pub(crate) frames: Frames,
-    pub(crate) scope: Scope,
-    pub(crate) limits: Limits,
-    pub(crate) entries: List<Entry>,
+    pub(crate) opener: Opener,
+    pub(crate) dups: bool,
+    pub(crate) seen: IndexMap<Cid, Bytes>,
     pub(crate) taken: u64,
     refused: Option<Refusal>,
 }
@@ -58,37 +62,66 @@ impl Model for Verifier {
     ghost Value = { VerifierState };
 
     ghost view = { λ v. record {
-      left = v.frames;
-      limits = v.limits;
-      entries = v.entries;
+      left = v.opener.left;
+      limits = v.opener.limits;
+      entries = v.opener.entries;
+      counts = v.opener.counts;
+      seen = v.seen.entries;
       taken = v.taken;
       refused = v.refused;
     } };
 
-    ghost invariant = { λ v. v.scope ≡ v.frames.query.scope };
+    ghost invariant = { λ v. v.dups ≡ v.opener.left.query.dups };
 }
 
 impl Verifier {
-    /// The verifier for a query, before its first section. The error is want of memory.
-    ///
-    /// What is said of a verifier is said for a query with repeats.
+    /// The verifier for a query, which is to be started. The error is want of memory.
     pub fn new(alloc: Global, query: &Query, limits: Limits) -> Result<Verifier, AllocError>
         ensures query { IfOk result (λ v. v.left.query ≡ query.now) }
         ensures limits { IfOk result (λ v. v.limits ≡ limits) }
-        ensures fresh { IfOk result (λ v. v.refused ≡ None) }
-        ensures wanted { IfOk result (λ v. next_cid v.refused v.left.wanted ≡ Some query.now.root) }
-        ensures stands { IfOk result (λ v. query.now.dups ≡ true → StandsFor v [] []) }
+        ensures fresh { IfOk result IsFresh }
     {
-        tg_traversal_laws::verified_sections();
         Ok(Verifier {
-            alloc,
-            frames: Frames::new(alloc, query)?,
-            scope: query.scope(),
-            limits,
-            entries: List::new(alloc),
+            opener: Opener::new(alloc, query, limits)?,
+            dups: query.dups(),
+            seen: IndexMap::new(alloc),
             taken: 0,
             refused: None,
         })
+    }
+
+    /// Starts a verifier: opens the places of identity CIDs before the first section, puts what they say, and says
+    /// whether a section is wanted. It is to be called once, before the first section.
+    ///
+    /// Errors at such a place: those of `section` from `Limit` of kind `Depth` on, in their order. Each further call
+    /// gives the same error and changes nothing.
+    pub fn start<S: Sink>(&mut self, out: &mut S) -> Result<Progress, Refusal>
+        ensures query { self.new.left.query ≡ self.old.left.query }
+        ensures limits { self.new.limits ≡ self.old.limits }
+        ensures taken { self.new.taken ≡ self.old.taken }
+        // What is written before the first section.
+        ensures stands { IsFresh self.old → HasWritten self.new [] [] (into S.sink out.old out.new) result }
+        ensures progress { IfOk result (λ progress. IsProgress progress self.new) }
+        ensures cause { self.old.refused ≡ None → HasPutCause result (into S.sink out.old out.new) }
+        // Before sections that fit, or that are in progress, it starts, but for a fault of out and want of memory.
+        ensures fitting { (d : Dag) (sections : Items Section) (text : Items ℕ) → IsFresh self.old
+            → Fits d self.old.left.query sections text → IsWithinLimits self.old.left.query self.old.limits d
+            → IfErr result IsOwnFault }
+        ensures in_progress { (d : Dag) (sections : Items Section) (wanted : Spot) → IsFresh self.old
+            → IsInProgress d self.old.left.query sections wanted
+            → IsWithinLimits self.old.left.query self.old.limits d → IfErr result IsOwnFault }
+        ensures again { (fault : Refusal) → self.old.refused ≡ Some fault
+            → (result ≡ Err fault) × (self.new ≡ self.old) × (out.new ≡ out.old) }
+        ensures refused { MatchResult result (λ _. self.new.refused ≡ None) (λ fault. self.new.refused ≡ Some fault) }
+    {
+        laws::verified_answers();
+        tg_traversal_laws::verified_sections();
+        if let Some(fault) = self.refused {
+            return Err(fault);
+        }
+        let end = self.go_on(out);
+        self.refused = refusal_of(&end);
+        end
     }
 
     /// The CID of the block that must come next: none once all came, and none after a refusal. It takes no memory.
@@ -98,27 +131,30 @@ impl Verifier {
         if self.refused.is_some() {
             return None;
         }
-        Some(self.frames.wanted()?.cid)
+        Some(self.opener.wanted()?.cid)
     }
 
-    /// How many sections were taken; the number stands still at 2 ^ 64 - 1. After a refusal these are the ones before it,
-    /// and the last one too where it passed and a segment of the path leads nowhere behind it, as it may have where out
-    /// failed or memory was wanted. It takes no memory.
+    /// How many sections were taken; the number stands still at 2 ^ 64 - 1. After a refusal these are the ones before
+    /// it, and the last one too where it passed and the refusal came behind it, at a place whose block no section
+    /// brings. It takes no memory.
     pub fn sections(&self) -> u64
         ensures { result ≡ self.now.taken }
     {
         self.taken
     }
 
-    /// Takes the next section and puts what it says, and says whether more are wanted.
+    /// Takes the next section and puts what it says; opens the places behind it whose blocks no section brings, and
+    /// puts what they say; and says whether more sections are wanted.
     ///
     /// Errors, the first of these checks that fails: `Extra` where no block is wanted any more; `Limit` of kind `Block`
     /// where the block is larger than the limit; `BadDigest` where the CID doesn't name the block; `WrongBlock` where
     /// another block is wanted; `Limit` of kind `Depth` where it lies deeper than the limit; `BadBlock` where it has no
     /// kind, or one that can't stand there; `BadSize` where the size that its parent declares, or a file's own, isn't
-    /// that of its content; `NotFolder` and `NotThere` where a segment of the path leads nowhere; `SinkFault` where out
-    /// failed, which then has a front of what the section says; and `OutOfMemory`. Each further call gives the same
-    /// error and changes nothing.
+    /// that of its content; `NotFolder` and `NotThere` where a segment of the path leads nowhere; `Limit` of another
+    /// kind where with it more is counted than the limit; `SinkFault` where out failed, which then has a front of what
+    /// the section and the places behind it say; and `OutOfMemory`. A place whose block no section brings is checked
+    /// from kind `Depth` on; what was put before it stays, and none but `SinkFault` puts anything of the place itself.
+    /// Each further call gives the same error and changes nothing.
     pub fn section<S: Sink>(
         &mut self,
         cid: Cid,
@@ -198,7 +234,7 @@ impl Verifier {
         ensures cut { (at : WantedAt) → self.now.left.wanted ≡ Some at
             → result ≡ Err (Refusal.Truncated at.cid self.now.taken) }
     {
-        match self.frames.wanted() {
+        match self.opener.wanted() {
             None => Ok(()),
             Some(wanted) => Err(Refusal::Truncated {
                 want: wanted.cid,
@@ -209,59 +245,63 @@ impl Verifier {
 
     /// Takes the next section of a verifier that refused nothing; no refusal is kept.
     fn take<S: Sink>(&mut self, cid: Cid, block: Bytes, out: &mut S) -> Result<Progress, Refusal>
-        ensures query { self.new.left.query ≡ self.old.left.query }
-        ensures limits { self.new.limits ≡ self.old.limits }
-        ensures kept { self.new.refused ≡ self.old.refused }
+        ensures same { IsSameVerifier self.old self.new }
         ensures stands { (sections : Items Section) (written : Items ℕ) → IsGoing self.old sections written
             → HasTaken self.new (sections ++ section_with cid block ∷ []) written (into S.sink out.old out.new) result }
         ensures progress { IfOk result (λ progress. IsProgress progress self.new) }
         ensures cause { HasPutCause result (into S.sink out.old out.new) }
         ensures counted { IsCounted self.old.taken self.new.taken result }
     {
+        tg_traversal_laws::verified_sections();
+        self.accept(cid, block, out)?;
+        self.go_on(out)
+    }
+
+    /// Takes the next section, and opens its block at its place. Errors: those of `section`, at that place.
+    fn accept<S: Sink>(&mut self, cid: Cid, block: Bytes, out: &mut S) -> Result<(), Refusal>
+        ensures same { IsSameVerifier self.old self.new }
+        ensures stands { (sections : Items Section) (written : Items ℕ) → IsGoing self.old sections written
+            → HasAccepted self.new (sections ++ section_with cid block ∷ []) written
+            (into S.sink out.old out.new) result }
+        ensures cause { MatchResult result (λ _. OutputQuiet (into S.sink out.old out.new))
+            (λ fault. HasPutCause (Err fault) (into S.sink out.old out.new)) }
+        ensures counted { MatchResult result (λ _. self.new.taken ≡ one_more self.old.taken)
+            (λ _. self.new.taken ≡ self.old.taken) }
+    {
         tg_model::laws::readings();
         tg_traversal_laws::verified_sections();
         are_bytes(block.as_slice());
-        let found = self.checked(&cid, block.as_slice())?;
-        self.open(found, block, out)?;
+        self.receive(&cid, block.as_slice())?;
+        make_room(self.dups, &mut self.seen)?;
+        self.opener
+            .place(&cid, block.as_slice(), Source::Section, out)?;
         self.taken = self.taken.saturating_add(1);
-        self.settle(out)
-    }
-
-    /// Puts what the block at the wanted place says itself, and opens it there.
-    ///
-    /// Errors: `SinkFault`; and `OutOfMemory`.
-    fn open<S: Sink>(
-        &mut self,
-        found: Option<PlacedKind>,
-        block: Bytes,
-        out: &mut S,
-    ) -> Result<(), Refusal>
-        requires here { (at : WantedAt) × (section : Section) × (kind : Option Kind)
-            × IsPassingHere self.old at section kind found × (section.block ≡ block) }
-        ensures query { self.new.left.query ≡ self.old.left.query }
-        ensures limits { self.new.limits ≡ self.old.limits }
-        ensures entries { self.new.entries ≡ self.old.entries }
-        ensures taken { self.new.taken ≡ self.old.taken }
-        ensures refused { self.new.refused ≡ self.old.refused }
-        ensures opened { (at : WantedAt) (section : Section) (kind : Option Kind)
-            → IsPassingHere self.old at section kind found → section.block ≡ block
-            → IsOpenedAt (text_of self.old.left.query at section kind) (tasks_behind self.old.left.query at section kind
-            ++ self.old.left.later)
-            (into S.sink out.old out.new) self.new result }
-    {
-        let Some(found) = found else {
-            put_from(out, &[], block.as_slice())?;
-            self.frames.pass();
-            return Ok(());
-        };
-        match self.frames.text(self.alloc, &found, block.as_slice()) {
-            Ok(text) => put_from(out, text.line.as_slice(), text.bytes)?,
-            Err(_) => return Err(Refusal::OutOfMemory),
-        }
-        // The limit is at most the standard one, so that what lies below has a depth, too.
-        let _deepest = self.limits.number(LimitKind::Depth);
-        self.frames.open(found, block)?;
+        remember(self.dups, &mut self.seen, cid, block);
         Ok(())
+    }
+}
+
+/// Makes room for one more block, where blocks are remembered. The error is want of memory.
+fn make_room(dups: bool, seen: &mut IndexMap<Cid, Bytes>) -> Result<(), AllocError>
+    ensures unchanged { seen.new.entries ≡ seen.old.entries }
+    ensures room { OnOk result (dups ≡ false → 0 < spare seen.new) }
+{
+    if !dups {
+        seen.reserve(1)?;
+    }
+    Ok(())
+}
+
+/// Keeps a block under its CID, where blocks are remembered and none is yet that has it.
+fn remember(dups: bool, seen: &mut IndexMap<Cid, Bytes>, cid: Cid, block: Bytes)
+    requires room { dups ≡ false → 0 < spare seen.old }
+    ensures all { dups ≡ true → seen.new.entries ≡ seen.old.entries }
+    ensures once { dups ≡ false → ((other : Items ℕ) → Contains seen.old.entries (cid, other) → ⊥)
+        → seen.new.entries ≡ seen.old.entries ++ (cid, block) ∷ [] }
+{
+    tg_cid::laws::equality();
+    if !dups {
+        let _ = seen.insert(cid, block);
     }
 }
 
@@ -272,15 +312,5 @@ fn refusal_of<T>(end: &Result<T, Refusal>) -> Option<Refusal>
     match end {
         Ok(_) => None,
         Err(fault) => Some(*fault),
-    }
-}
-
-/// Puts a line and bytes. The error is a fault of out, which then has a front of them.
-pub(crate) fn put_from<S: Sink>(out: &mut S, line: &[u8], bytes: &[u8]) -> Result<(), Refusal>
-    ensures { PutEnds (line.now ++ bytes.now) (into S.sink out.old out.new) result }
-{
-    match put_pieces(out, &[line, bytes]) {
-        Ok(()) => Ok(()),
-        Err(_) => Err(Refusal::SinkFault),
     }
 }

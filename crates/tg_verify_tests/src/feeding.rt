@@ -39,17 +39,23 @@ fn sink_of(alloc: Global, fails: &[u64]) -> Result<MemSink, AllocError> {
     Ok(MemSink::new(alloc, 4, fails))
 }
 
-/// How a verifier of the query ends over the sections, which puts into this sink.
-fn end_over(alloc: Global, query: &Query, sections: &Sections, out: &mut MemSink) -> VerifyEnd {
-    verify_all(alloc, query, Limits::standard(), sections, out)
-}
-
 /// Feeds the sections to a verifier of the query, whose puts with these numbers fail. There is nothing for want of
 /// memory.
 pub fn fed(alloc: Global, query: &Query, sections: &Sections, fails: &[u64]) -> Option<Verified> {
+    fed_within(alloc, query, Limits::standard(), sections, fails)
+}
+
+/// The same with these limits.
+pub fn fed_within(
+    alloc: Global,
+    query: &Query,
+    limits: Limits,
+    sections: &Sections,
+    fails: &[u64],
+) -> Option<Verified> {
     match sink_of(alloc, fails) {
         Ok(mut out) => {
-            let end = end_over(alloc, query, sections, &mut out);
+            let end = verify_all(alloc, query, limits, sections, &mut out);
             kept(alloc, end, &out)
         }
         Err(_) => None,

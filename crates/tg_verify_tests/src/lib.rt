@@ -2,6 +2,8 @@
 #![tactic(auto)]
 
 #[cfg(test)]
+mod absences;
+#[cfg(test)]
 mod changes;
 #[cfg(test)]
 mod evaluated;
@@ -9,5 +11,7 @@ mod evaluated;
 mod feeding;
 #[cfg(test)]
 mod refusals;
+#[cfg(test)]
+mod repeats;
 #[cfg(test)]
 mod steps;

@@ -23,7 +23,7 @@ enum Fed {
 /// How the verifier ends, told without CIDs that aren't known before: by the number of the stored block that is
 /// wanted, or came.
 #[derive(Clone, Copy, Debug)]
-enum Ended {
+pub enum Ended {
     /// All came.
     Done,
     /// The block with this number is wanted.
@@ -40,6 +40,10 @@ enum Ended {
     BadSize(u64, u64),
     /// A limit and its number.
     Limit(LimitKind, u64),
+    /// The segment is looked for where there is no directory.
+    NotFolder(u32),
+    /// The directory has no entry with the segment's name.
+    NotThere(u32),
     /// Out failed.
     SinkFault,
 }
@@ -53,7 +57,7 @@ fn cid_at(stored: &Stored, index: usize) -> Cid {
 }
 
 /// The end with the CIDs.
-fn end_of(stored: &Stored, ended: Ended) -> VerifyEnd {
+pub fn end_of(stored: &Stored, ended: Ended) -> VerifyEnd {
     match ended {
         Ended::Done => Ok(None),
         Ended::Wants(index) => Ok(Some(cid_at(stored, index))),
@@ -71,6 +75,8 @@ fn end_of(stored: &Stored, ended: Ended) -> VerifyEnd {
         Ended::Extra(sections) => Err(Refusal::Extra { sections }),
         Ended::BadSize(declared, actual) => Err(Refusal::BadSize { declared, actual }),
         Ended::Limit(kind, number) => Err(Refusal::Limit { kind, number }),
+        Ended::NotFolder(segment) => Err(Refusal::NotFolder { segment }),
+        Ended::NotThere(segment) => Err(Refusal::NotThere { segment }),
         Ended::SinkFault => Err(Refusal::SinkFault),
     }
 }

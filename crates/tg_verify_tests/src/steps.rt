@@ -17,12 +17,17 @@ struct Session {
 }
 
 impl Session {
-    /// A verifier of a query, that was handed nothing.
+    /// A verifier of a query, that was handed nothing and isn't started.
     fn new(alloc: Global, query: &Query) -> Result<Session, AllocError> {
         Ok(Session {
             verifier: Verifier::new(alloc, query, Limits::standard())?,
             out: MemSink::new(alloc, 4, List::new(alloc)),
         })
+    }
+
+    /// Whether it starts, and wants a section then.
+    fn starts(&mut self) -> bool {
+        self.verifier.start(&mut self.out) == Ok(Progress::More)
     }
 
     /// Hands over a section.
@@ -164,7 +169,7 @@ fn stays_refused(
 /// Whether a verifier that takes these blocks ends as a row says.
 fn ends_so(alloc: Global, session: &mut Session, blocks: &[StoredBlock], row: &Row) -> bool {
     let (indexes, next, text) = *row;
-    if !takes(alloc, session, blocks, indexes) {
+    if !session.starts() || !takes(alloc, session, blocks, indexes) {
         return false;
     }
     match next {

@@ -1,9 +1,8 @@
-use Rattle.tg_verify.proofs.Endings.{fit_ends, not_gone, not_whole, progress_waits}
-use Rattle.tg_verify.proofs.Opened.{going_through, going_up_to}
-use Rattle.tg_verify.proofs.Passing.{is_own_fault}
+use Rattle.tg_verify.proofs.Endings.{fit_ends, progress_waits}
+use Rattle.tg_verify.proofs.Going.{going_through, going_up_to}
 use Rattle.tg_verify.proofs.Refused.{refused_sound}
-use Rattle.tg_traversal_laws.specs.Repeats.{settled}
 use Rattle.tg_verify.proofs.Shown.{PeerLaws, answer_front, nowhere_leads, through_fits, through_sound, up_to_progress, up_to_sound}
+use Rattle.tg_verify.proofs.Fitting.{fit_taken, nowhere_taken, progress_taken}
 use Rattle.tg_verify.proofs.laws.verified_answers.Goals as goal
 
 pub returns : goal.returns
@@ -24,13 +23,10 @@ returns c =
       nowhere = nowhere_leads v;
       sound_up_to = λ q d sections written at sound root h. up_to_sound v p q d sound root sections written at h;
       sound_through = λ q d sections written sound root h. through_sound v p q d sound root sections written h;
-      sound_refused = λ q limits d sections written fault sound root h. refused_sound v p b q limits d sound root sections written computes fault h;
-      fit_taken = λ q limits d sections rest section written text fault h within refused.
-          is_own_fault v.repeats_sent b computes q limits d sections rest section h.right.checked h.right.root h.list (not_whole _ h.end)
-          (λ given tasks dups verified. v.fitting q d sections rest section text given tasks (settled v.repeats_sent q dups sections tasks) h verified) within written fault refused;
-      progress_taken = λ q limits d sections rest section written wanted fault h within refused.
-          is_own_fault v.repeats_sent b computes q limits d sections rest section h.right.checked h.right.root h.list (not_gone _ wanted h.end)
-          (λ given tasks dups verified. v.in_progress q d sections rest section wanted given tasks (settled v.repeats_sent q dups sections tasks) h verified) within written fault refused;
+      sound_refused = λ q limits d sections written fault sound root h. refused_sound v p b computes q limits d sound root sections written fault h;
+      fit_taken = fit_taken v b computes;
+      progress_taken = progress_taken v b computes;
+      nowhere_taken = nowhere_taken v b computes;
       fit_through = λ state d sections written text fits h. fit_ends v state d sections written h text fits;
       progress_up_to = λ state d sections written wanted progress h. progress_waits v state d sections written h wanted progress;
       going_up_to = going_up_to;

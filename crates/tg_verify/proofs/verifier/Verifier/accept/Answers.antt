@@ -1,0 +1,77 @@
+use Rattle.std.proofs.Common.{[], All, Contains, Err, List, Ok, ap, refl, subst, sym, ℕ, ◌++◌, ◌<◌, ◌∙◌, ◌∷◌}
+use Rattle.std.proofs.lemmas.Result.{err_from_is_err_and}
+use Rattle.tg_cid.specs.Cid.{CidParts}
+use Rattle.tg_streams.specs.Streams.{into}
+use Rattle.tg_verify.proofs.Opened.{placed_cause}
+use Rattle.tg_verify.proofs.Taking.{HasReceived, place_refused, place_taken, receipt_refused, room_refused, wanted_there}
+use Rattle.tg_verify.specs.State.{VerifierState}
+use Rattle.tg_verify.specs.Steps.{IsPlacedAt, section_with}
+use Rattle.tg_verify.specs.Taken.{IsGoing}
+use Rattle.tg_verify.specs.declared.counts.Source.TheVariants as sources
+use Rattle.tg_verify.proofs.verifier.Verifier.accept.Goals as goal
+
+pub returns-in_err-receive-clause-stands : goal.returns-in_err-receive-clause-stands
+returns-in_err-receive-clause-stands g c sections written h =
+    let p = err_from_is_err_and c.from_residual.result c.from_residual.ensures.1 in
+    let bytes = subst (λ (block : List ℕ). All (λ b. b < 256) block) c.as_slice.ensures c.are_bytes.ensures in
+    let received = subst (λ (block : List ℕ). HasReceived c.args.self.now (section_with c.args.cid block) (Err c.in_err-receive.field-0.0)) c.as_slice-2.ensures
+    (record { surplus = c.in_err-receive.ensures.surplus; received = c.in_err-receive.ensures.received }) in
+    rw (p.1, p.2) (receipt_refused c.args.self.now sections written h (section_with c.args.cid c.args.block) bytes g.S.Sink.sink c.args.out.now (g.met.S.Sink.rests c.args.out.now)
+    c.in_err-receive.field-0.0 received)
+
+pub returns-in_err-make_room-clause-stands : goal.returns-in_err-make_room-clause-stands
+returns-in_err-make_room-clause-stands g c sections written h =
+    let p = err_from_is_err_and c.from_residual-in_err-make_room.result c.from_residual-in_err-make_room.ensures.1 in
+    let bytes = subst (λ (block : List ℕ). All (λ b. b < 256) block) c.as_slice.ensures c.are_bytes.ensures in
+    let received = subst (λ (block : List ℕ). HasReceived c.args.self.now (section_with c.args.cid block) (Ok c.in_ok-receive.field-0)) c.as_slice-2.ensures
+    (record { surplus = c.in_ok-receive.ensures.surplus; received = c.in_ok-receive.ensures.received }) in
+    let going = subst (λ (state : VerifierState). IsGoing state sections written) (sym c.self.view_is) h in
+    let there = wanted_there _ (section_with c.args.cid c.args.block)
+    (subst (λ (state : VerifierState). HasReceived state (section_with c.args.cid c.args.block) (Ok tt)) (sym c.self.view_is) received) in
+    let refused = room_refused _ sections written going (section_with c.args.cid c.args.block) bytes g.S.Sink.sink c.args.out.now (g.met.S.Sink.rests c.args.out.now) there in
+    rw (p.1, p.2) (record { text = refused.text; put = refused.put; puts = refused.puts; stands = refused.stands })
+
+pub returns-in_err-place-clause-stands : goal.returns-in_err-place-clause-stands
+returns-in_err-place-clause-stands g c sections written h =
+    let p = err_from_is_err_and c.from_residual-in_err-place.result c.from_residual-in_err-place.ensures.1 in
+    let bytes = subst (λ (block : List ℕ). All (λ b. b < 256) block) c.as_slice.ensures c.are_bytes.ensures in
+    let received = subst (λ (block : List ℕ). HasReceived c.args.self.now (section_with c.args.cid block) (Ok c.in_ok-receive.field-0)) c.as_slice-2.ensures
+    (record { surplus = c.in_ok-receive.ensures.surplus; received = c.in_ok-receive.ensures.received }) in
+    let going = subst (λ (state : VerifierState). IsGoing state sections written) (sym c.self.view_is) h in
+    let there = wanted_there _ (section_with c.args.cid c.args.block)
+    (subst (λ (state : VerifierState). HasReceived state (section_with c.args.cid c.args.block) (Ok tt)) (sym c.self.view_is) received) in
+    let out = into g.S.Sink.sink c.args.out.now c.place.new.out in
+    rw (p.1, p.2) (place_refused _ sections written going (section_with c.args.cid c.args.block) bytes c.verified_sections.ensures c.readings.ensures.computed there out c.place.new.self _
+    c.in_err-place.field-0.0 c.in_err-place.ensures.same.query c.in_err-place.ensures.same.limits
+    (subst (λ (block : List ℕ). IsPlacedAt c.self.inside.opener there.at (section_with c.args.cid block) sources.Section out c.place.new.self (Err c.in_err-place.field-0.0)) c.as_slice-3.ensures
+    (c.in_err-place.ensures.placed there.at there.wanted)))
+
+pub returns-in_err-place-clause-cause : goal.returns-in_err-place-clause-cause
+returns-in_err-place-clause-cause g c =
+    let p = err_from_is_err_and c.from_residual-in_err-place.result c.from_residual-in_err-place.ensures.1 in
+    let received = subst (λ (block : List ℕ). HasReceived c.args.self.now (section_with c.args.cid block) (Ok c.in_ok-receive.field-0)) c.as_slice-2.ensures
+    (record { surplus = c.in_ok-receive.ensures.surplus; received = c.in_ok-receive.ensures.received }) in
+    let there = wanted_there _ (section_with c.args.cid c.args.block)
+    (subst (λ (state : VerifierState). HasReceived state (section_with c.args.cid c.args.block) (Ok tt)) (sym c.self.view_is) received) in
+    rw (p.1, p.2) (placed_cause c.self.inside.opener there.at (section_with c.args.cid c.as_slice-3.result.now) sources.Section (into g.S.Sink.sink c.args.out.now c.place.new.out) c.place.new.self
+    c.in_err-place.field-0.0 (c.in_err-place.ensures.placed there.at there.wanted))
+
+pub returns-clause-stands : goal.returns-clause-stands
+returns-clause-stands g c sections written h =
+    let bytes = subst (λ (block : List ℕ). All (λ b. b < 256) block) c.as_slice.ensures c.are_bytes.ensures in
+    let received = subst (λ (block : List ℕ). HasReceived c.args.self.now (section_with c.args.cid block) (Ok c.in_ok-receive.field-0)) c.as_slice-2.ensures
+    (record { surplus = c.in_ok-receive.ensures.surplus; received = c.in_ok-receive.ensures.received }) in
+    let going = subst (λ (state : VerifierState). IsGoing state sections written) (sym c.self.view_is) h in
+    let there = wanted_there _ (section_with c.args.cid c.args.block)
+    (subst (λ (state : VerifierState). HasReceived state (section_with c.args.cid c.args.block) (Ok tt)) (sym c.self.view_is) received) in
+    let out = into g.S.Sink.sink c.args.out.now c.place.new.out in
+    place_taken _ sections written going (section_with c.args.cid c.args.block) bytes c.verified_sections.ensures c.readings.ensures.computed there out c.place.new.self _
+    c.in_ok-place.ensures.same refl refl refl refl (record {
+      all = λ dups. c.remember.ensures.all (c.self.invariant ∙ dups) ∙ c.make_room.ensures.unchanged;
+      each = λ dups none. c.remember.ensures.once (c.self.invariant ∙ dups)
+          (λ other there. none other (subst (λ (seen : List (CidParts × List ℕ)). Contains seen (c.args.cid, other)) c.make_room.ensures.unchanged there))
+          ∙ ap (λ (seen : List (CidParts × List ℕ)). seen ++ (c.args.cid, c.args.block) ∷ []) c.make_room.ensures.unchanged;
+      taken = c.saturating_add-self-inside.ensures;
+    })
+    (subst (λ (block : List ℕ). IsPlacedAt c.self.inside.opener there.at (section_with c.args.cid block) sources.Section out c.place.new.self (Ok tt)) c.as_slice-3.ensures
+    (c.in_ok-place.ensures.placed there.at there.wanted))

@@ -1,0 +1,96 @@
+//! Places whose blocks no section brings.
+ghost use Rattle.std.specs.Prelude.{◌≡◌, ◌<◌, ℕ, List as Items, Err, IfErr, IfOk, MatchResult, None, Ok, Some};
+ghost use Rattle.std.specs.Prelude.{option_copied};
+ghost use Rattle.tg_model.specs.Dag.{Section};
+ghost use Rattle.tg_streams.specs.Streams.{OutputQuiet, into};
+ghost use Rattle.tg_traversal.specs.BlocksLeft.{blocks_over};
+ghost use Rattle.tg_traversal.specs.Left.{tasks_left};
+ghost use Rattle.tg_verify.specs.History.{HasGone, HasPutCause, HasTurned, IsPlaceFault, IsProgress};
+ghost use Rattle.tg_verify.specs.History.{IsSameVerifier};
+ghost use Rattle.tg_verify.specs.Steps.{IsKnownBlock};
+ghost use Rattle.tg_verify.specs.Taken.{IsOn};
+
+use crate::checking::are_bytes;
+use crate::counts::Source;
+use crate::fault::Refusal;
+use crate::verifier::{Progress, Verifier};
+use indexmap::IndexMap;
+use tg_bytes::Bytes;
+use tg_cid::Cid;
+use tg_streams::Sink;
+
+impl Verifier {
+    /// Opens each place whose block no section brings, up to the next one that does or to the end: of an identity CID
+    /// that isn't asked for the block is the digest, and where each block is sent once the one that was received under
+    /// the CID is taken again. At the end a listing is put.
+    ///
+    /// Errors: those of `section` from `Limit` of kind `Depth` on.
+    pub(crate) fn go_on<S: Sink>(&mut self, out: &mut S) -> Result<Progress, Refusal>
+        ensures same { IsSameVerifier self.old self.new }
+        ensures taken { self.new.taken ≡ self.old.taken }
+        ensures stands { (sections : Items Section) (written : Items ℕ) → IsOn self.old sections written
+            → HasGone self.new sections written (into S.sink out.old out.new) result }
+        ensures progress { IfOk result (λ progress. IsProgress progress self.new) }
+        ensures cause { HasPutCause result (into S.sink out.old out.new) }
+        ensures place { IfErr result IsPlaceFault }
+    {
+        loop {
+            if let Some(progress) = self.turn(out)? {
+                return Ok(progress);
+            }
+        }
+    }
+
+    /// Opens the next place where no section brings its block; or says that a section is wanted, or, once all is put,
+    /// that none is.
+    ///
+    /// Errors: those of `go_on`.
+    fn turn<S: Sink>(&mut self, out: &mut S) -> Result<Option<Progress>, Refusal>
+        ensures same { IsSameVerifier self.old self.new }
+        ensures taken { self.new.taken ≡ self.old.taken }
+        ensures stands { (sections : Items Section) (written : Items ℕ) → IsOn self.old sections written
+            → HasTurned self.new sections written (into S.sink out.old out.new) result }
+        ensures progress { (progress : Progress) → result ≡ Ok (Some progress) → IsProgress progress self.new }
+        ensures cause { MatchResult result (λ _. OutputQuiet (into S.sink out.old out.new))
+            (λ fault. HasPutCause (Err fault) (into S.sink out.old out.new)) }
+        ensures place { IfErr result IsPlaceFault }
+        ensures fewer { result ≡ Ok None
+            → blocks_over self.old.limits.depth (tasks_left self.new.left) < blocks_over self.old.limits.depth
+            (tasks_left self.old.left) }
+    {
+        tg_model::laws::readings();
+        tg_traversal_laws::verified_sections();
+        tg_cid::laws::equality();
+        let Some(wanted) = self.opener.wanted() else {
+            self.opener.put_entries(out)?;
+            return Ok(Some(Progress::Done));
+        };
+        let asked = self.opener.asks(&wanted.cid);
+        let source = if asked {
+            Source::Remembered
+        } else {
+            Source::Digest
+        };
+        match known_block(&self.seen, asked, &wanted.cid) {
+            None => Ok(Some(Progress::More)),
+            Some(block) => {
+                are_bytes(block);
+                self.opener.place(&wanted.cid, block, source, out)?;
+                Ok(None)
+            }
+        }
+    }
+}
+
+/// The block that is known for a CID: where it isn't asked for its digest, and else the one that is remembered under
+/// it.
+fn known_block<'a>(seen: &'a IndexMap<Cid, Bytes>, asked: bool, cid: &'a Cid) -> Option<&'a [u8]>
+    ensures { IsKnownBlock asked seen.now.entries cid.now (option_copied result) }
+{
+    tg_cid::laws::equality();
+    if !asked {
+        return Some(cid.digest());
+    }
+    let block = seen.get(cid)?;
+    Some(block.as_slice())
+}

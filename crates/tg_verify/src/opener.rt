@@ -1,0 +1,207 @@
+//! Blocks that are opened at their places.
+ghost use Rattle.std.specs.Prelude.{◌≡◌, ◌≢◌, ◌++◌, ◌+◌, [], ℕ, List as Items, None, Option, Some, IfOk, MatchResult};
+ghost use Rattle.std.specs.Prelude.{OnOk, length};
+ghost use Rattle.tg_model.specs.Dag.{Section};
+ghost use Rattle.tg_model.specs.Traversal.{ListedEntry, is_asked};
+ghost use Rattle.tg_model.specs.declared.kinds.Kind.{Kind};
+ghost use Rattle.tg_streams.specs.Streams.{into};
+ghost use Rattle.tg_traversal.specs.BlocksLeft.{HasFewer};
+ghost use Rattle.tg_traversal.specs.Left.{WantedAt, tasks_left, told_wanted};
+ghost use Rattle.tg_traversal_laws.specs.Stages.{nothing_given};
+ghost use Rattle.tg_traversal_laws.specs.Tasks.{start};
+ghost use Rattle.tg_verify.specs.Counting.{HasCounted, HasMet, blocks_added, bytes_added, reused_added};
+ghost use Rattle.tg_verify.specs.State.{told};
+ghost use Rattle.tg_verify.specs.Steps.{HasOpenCause, IsOpenedHere, IsPassingHere, IsPlaced, IsPlacedAt, IsSameOpener};
+ghost use Rattle.tg_verify.specs.Steps.{PutEnds, section_with};
+
+use crate::checking::limit;
+use crate::counts::{Counts, Source};
+use crate::fault::Refusal;
+use std::alloc::{AllocError, Global};
+use std::marker::Model;
+use tg_bytes::{Bytes, List};
+use tg_cid::Cid;
+use tg_model::{Entry, LimitKind, Limits, PlacedKind, Query, Scope};
+use tg_streams::{Sink, put_pieces};
+use tg_traversal::{Frames, PlaceText, Wanted};
+
+/// Opens the blocks that a query asks for at their places, one after another, and puts what they say. It holds of a
+/// listing the entries, and counts what the limits count.
+#[derive(Drop)]
+pub(crate) struct Opener {
+    pub(crate) alloc: Global,
+    pub(crate) frames: Frames,
+    pub(crate) scope: Scope,
+    pub(crate) limits: Limits,
+    pub(crate) entries: List<Entry>,
+    pub(crate) counts: Counts,
+}
+
+/// What a block says, up to the next place: a line, bytes of the block, and ends of lines.
+#[derive(Drop)]
+pub(crate) struct Said<'a> {
+    pub(crate) text: PlaceText<'a>,
+    pub(crate) ends: Bytes,
+}
+
+impl Model for Opener {
+    ghost use Rattle.std.specs.Prelude.{◌≡◌};
+    ghost use Rattle.tg_verify.specs.State.{OpenerState};
+
+    ghost Value = { OpenerState };
+
+    ghost view = { λ o. record { left = o.frames; limits = o.limits; entries = o.entries; counts = o.counts } };
+
+    ghost invariant = { λ o. o.scope ≡ o.frames.query.scope };
+}
+
+impl Opener {
+    /// The opener for a query, before its first block. The error is want of memory.
+    pub(crate) fn new(alloc: Global, query: &Query, limits: Limits) -> Result<Opener, AllocError>
+        ensures query { IfOk result (λ o. o.left.query ≡ query.now) }
+        ensures limits { IfOk result (λ o. o.limits ≡ limits) }
+        ensures start { IfOk result (λ o. tasks_left o.left ≡ start query.now query.now.root) }
+        ensures wanted { IfOk result (λ o. o.left.wanted ≢ None) }
+        ensures entries { IfOk result (λ o. o.entries ≡ []) }
+        ensures counted { IfOk result (λ o. HasCounted query.now o.counts nothing_given) }
+    {
+        Ok(Opener {
+            alloc,
+            frames: Frames::new(alloc, query)?,
+            scope: query.scope(),
+            limits,
+            entries: List::new(alloc),
+            counts: Counts::new(alloc),
+        })
+    }
+
+    /// The place that is wanted now. It takes no memory.
+    pub(crate) fn wanted(&self) -> Option<Wanted>
+        ensures { result ≡ told_wanted self.now.left.wanted }
+    {
+        self.frames.wanted()
+    }
+
+    /// Whether a section under the CID is asked for.
+    pub(crate) fn asks(&self, cid: &Cid) -> bool
+        ensures { result ≡ is_asked self.now.left.query cid.now }
+    {
+        self.frames.query().asks(cid)
+    }
+
+    /// Opens the block from this source at the wanted place, which has this CID, and puts what it says and what comes
+    /// up to the next place.
+    ///
+    /// Errors, the first of these checks that fails: `Limit` of kind `Depth`; `BadBlock`; `BadSize`; `NotFolder` and
+    /// `NotThere` where a segment of the path leads nowhere behind it; `Limit` of another kind; and `OutOfMemory`; and
+    /// `SinkFault`, with which a front of it is put, and with the others nothing.
+    pub(crate) fn place<S: Sink>(
+        &mut self,
+        cid: &Cid,
+        block: &[u8],
+        source: Source,
+        out: &mut S,
+    ) -> Result<(), Refusal>
+        requires here { (at : WantedAt) × (self.old.left.wanted ≡ Some at) × (at.cid ≡ cid.now) }
+        ensures same { IsSameOpener self.old self.new }
+        ensures placed { (at : WantedAt) → self.old.left.wanted ≡ Some at
+            → IsPlacedAt self.old at (section_with cid.now block.now) source (into S.sink out.old out.new) self.new result }
+        ensures fewer { OnOk result (HasFewer self.old.left self.new.left) }
+    {
+        let said = self.prepare(cid, block, source)?;
+        put_from(
+            out,
+            said.text.line.as_slice(),
+            said.text.bytes,
+            said.ends.as_slice(),
+        )
+    }
+
+    /// Opens the block there without a put, and tells what is to be put. Errors: those of `place` but `SinkFault`.
+    fn prepare<'a>(
+        &mut self,
+        cid: &Cid,
+        block: &'a [u8],
+        source: Source,
+    ) -> Result<Said<'a>, Refusal>
+        requires here { (at : WantedAt) × (self.old.left.wanted ≡ Some at) × (at.cid ≡ cid.now) }
+        ensures same { IsSameOpener self.old self.new }
+        ensures placed { (at : WantedAt) → self.old.left.wanted ≡ Some at → MatchResult result
+            (λ said. IsPlaced self.old at (section_with cid.now block.now) source
+            (said.text.line ++ (said.text.bytes.now ++ said.ends)) self.new)
+            (λ fault. HasOpenCause self.old at (section_with cid.now block.now) source fault) }
+        ensures fewer { OnOk result (HasFewer self.old.left self.new.left) }
+    {
+        let found = self.checked(cid, block)?;
+        let text = self.open(found, block)?;
+        let mut ends = Bytes::new(self.alloc);
+        self.gather(&mut ends)?;
+        let said = Said { text, ends };
+        self.count(&said, block, source);
+        match self.counts.passed(&self.limits) {
+            None => Ok(said),
+            Some(kind) => Err(limit(kind, self.limits.number(kind))),
+        }
+    }
+
+    /// Tells what the block at the wanted place says itself, and opens it there. The error is want of memory.
+    fn open<'a>(
+        &mut self,
+        found: Option<PlacedKind>,
+        block: &'a [u8],
+    ) -> Result<PlaceText<'a>, AllocError>
+        requires here { (at : WantedAt) × (section : Section) × (kind : Option Kind)
+            × IsPassingHere self.old at section kind found × (section.block ≡ block.now) }
+        ensures same { IsSameOpener self.old self.new }
+        ensures entries { self.new.entries ≡ self.old.entries }
+        ensures counts { self.new.counts ≡ self.old.counts }
+        ensures opened { (at : WantedAt) (section : Section) (kind : Option Kind)
+            → IsPassingHere self.old at section kind found → section.block ≡ block.now
+            → IfOk result (λ text. IsOpenedHere self.old at section kind (text.line ++ text.bytes.now) self.new) }
+        ensures fewer { OnOk result (HasFewer self.old.left self.new.left) }
+    {
+        let Some(found) = found else {
+            self.frames.pass();
+            return Ok(PlaceText {
+                line: Bytes::new(self.alloc),
+                bytes: block,
+            });
+        };
+        let text = self.frames.text(self.alloc, &found, block)?;
+        // The limit is at most the standard one, so that what lies below has a depth, too.
+        let _deepest = self.limits.number(LimitKind::Depth);
+        self.frames.open(found, block)?;
+        Ok(text)
+    }
+
+    /// Counts a block from this source that is opened, and what is said with it.
+    fn count(&mut self, said: &Said<'_>, block: &[u8], source: Source)
+        ensures left { self.new.left ≡ self.old.left }
+        ensures limits { self.new.limits ≡ self.old.limits }
+        ensures entries { self.new.entries ≡ self.old.entries }
+        ensures output { self.new.counts.output ≡ told (self.old.counts.output
+            + length (said.now.text.line ++ (said.now.text.bytes.now ++ said.now.ends))) }
+        ensures seen_blocks { self.new.counts.seen_blocks ≡ told (self.old.counts.seen_blocks
+            + blocks_added self.old.left.query.dups source) }
+        ensures seen_bytes { self.new.counts.seen_bytes ≡ told (self.old.counts.seen_bytes
+            + bytes_added self.old.left.query.dups source block.now) }
+        ensures reused { self.new.counts.reused ≡ told (self.old.counts.reused
+            + reused_added self.old.left.query.dups source) }
+        ensures met { (met : Items ListedEntry) → HasMet self.old.counts met → HasMet self.new.counts met }
+    {
+        self.counts.say(said.text.line.as_slice().len() as u64);
+        self.counts.say(said.text.bytes.len() as u64);
+        self.counts.say(said.ends.as_slice().len() as u64);
+        self.counts.open(self.frames.query().dups(), source, block);
+    }
+}
+
+/// Puts a line, bytes, and ends of lines. The error is a fault of out, which then has a front of them.
+fn put_from<S: Sink>(out: &mut S, line: &[u8], bytes: &[u8], ends: &[u8]) -> Result<(), Refusal>
+    ensures { PutEnds (line.now ++ (bytes.now ++ ends.now)) (into S.sink out.old out.new) result }
+{
+    match put_pieces(out, &[line, bytes, ends]) {
+        Ok(()) => Ok(()),
+        Err(_) => Err(Refusal::SinkFault),
+    }
+}
