@@ -10,49 +10,48 @@ use Rattle.tg_model.specs.Fits.{Fits, IsInProgress}
 use Rattle.tg_model.specs.LimitNumbers.{LimitNumbers}
 use Rattle.tg_model.specs.PathWalk.{Spot}
 use Rattle.tg_model.specs.Queries.{QueryParts}
+use Rattle.tg_model.specs.Traversal.{is_sent_behind}
 use Rattle.tg_model.specs.declared.limits.LimitKind.TheVariants as kinds
 use Rattle.tg_streams.specs.Streams.{Input, Output}
-use Rattle.tg_traversal_laws.specs.Stages.{Given}
-use Rattle.tg_traversal_laws.specs.Tasks.{Miss, Task, no_directory, no_entry, open_block, stop_at}
-use Rattle.tg_traversal_laws.specs.Repeats.{settled}
-use Rattle.tg_traversal_laws.specs.Verified.{Verified, VerifiedLaws, WantsNext}
+use Rattle.tg_traversal_laws.specs.Tasks.{Task, open_block}
+use Rattle.tg_traversal_laws.specs.Verified.{AreSettled, VerifiedLaws}
 use Rattle.tg_verify.specs.Laws.{IsOwnFault}
-use Rattle.tg_verify.specs.Refusals.{HasRefused, IsCutShort, IsRefusedAt}
+use Rattle.tg_verify.specs.Refusals.{HasRefused}
 use Rattle.tg_verify.specs.State.{count_of}
-use Rattle.tg_verify.specs.Taken.{IsNowhere, IsThrough, IsUpTo}
+use Rattle.tg_verify.specs.Taken.{IsThrough, IsUpTo}
 use Rattle.tg_verify.specs.declared.fault.Refusal.{Refusal}
 use Rattle.tg_verify.specs.declared.fault.Refusal.TheVariants as refusals
-use Rattle.tg_client.specs.Ends.{EndsBy, HasSurplus, IsAcceptedElse, IsAllHeard, IsOwnEnd, IsRefusedElse, Verifies}
-use Rattle.tg_client.specs.Received.{HasReceived, IsCarOf}
+use Rattle.tg_client.specs.Ends.{EndsBy, HasSurplus, IsAcceptedElse, IsAllHeard, IsEndedShort, IsOwnEnd, IsRefusedElse, Verifies}
+use Rattle.tg_client.specs.Received.{HasHeader, HasReceived, IsCarOf}
 use Rattle.tg_client.specs.ReceivedLaws.{ReceivedLaws}
 use Rattle.tg_client.specs.declared.fault.ClientFault.{ClientFault}
 use Rattle.tg_client.specs.declared.fault.ClientFault.TheVariants as faults
-use Rattle.tg_client.proofs.Told.{IsLeft, all_heard, car_once, left_of}
+use Rattle.tg_client.proofs.Told.{IsLeft, all_heard, car_once, header_inside, left_of, no_header}
 use Rattle.tg_verify.specs.WantsLaws.{none_next}
 
 -- ---- by what is wanted
 
--- the sections that were taken are some of these, and what is wanted behind them is the next of these
-pub record Wants (q : QueryParts) (all : List Section) : Type 0 where
-  pub next : (front rest : List Section) (section : Section) (given : Given) (tasks : List (Task CidParts)) → all ≡ front ++ section ∷ rest → Verified q front given tasks → WantsNext q tasks section
+-- where a block is wanted that is sent
+pub settled : (q : QueryParts) (sections : List Section) (at : WantedAt) (later : List (Task CidParts)) → is_sent_behind q sections at.cid ≡ true → AreSettled q sections (open_block at.want at.cid ∷ later)
+settled q sections at later sends w cid more e =
+    let same : at.cid ≡ cid = cc e in subst (λ (c : CidParts). is_sent_behind q sections c ≡ true) same sends
 
-pub never_next : (q : QueryParts) (miss : Miss) (later : List (Task CidParts)) (section : Section) → WantsNext q (stop_at miss ∷ later) section → ⊥
-never_next q miss later section h = let e = h.then_is in absurd (cc e)
+-- where none is
+pub none_settled : (q : QueryParts) (sections : List Section) → AreSettled q sections []
+none_settled q sections w cid more e = absurd (cc e)
 
--- a refusal at a section
-module _ (q : QueryParts) (limits : LimitNumbers) (all some rest : List Section) (text : List ℕ) (split : all ≡ some ++ rest)
-    (taken : (front more : List Section) (section : Section) (fault : Refusal) → all ≡ front ++ section ∷ more → HasRefused q limits (front ++ section ∷ []) text fault → IsOwnFault fault) where
-  pub refused_at : (why : WantedAt → Section → Type 0) (fault : Refusal) → (h : IsRefusedAt q some text why) → HasRefused q limits some text fault → IsOwnFault fault
-  refused_at why fault h refused =
-      let there : all ≡ h.taken ++ h.section ∷ rest = split ∙ (ap (λ (l : List Section). l ++ rest) h.received ∙ append_assoc h.taken (h.section ∷ []) rest) in
-      taken h.taken rest h.section fault there (subst (λ (l : List Section). HasRefused q limits l text fault) h.received refused)
+-- none is wanted only behind the last of these sections
+abbrev pub ThroughAll : QueryParts → List Section → Type 0
+ThroughAll q all = (front rest : List Section) (section : Section) (text : List ℕ) → all ≡ front ++ section ∷ rest → IsThrough q front text → ⊥
+
+-- no front of these sections is refused for what it is
+abbrev pub AreTaken : QueryParts → LimitNumbers → List Section → Type 0
+AreTaken q limits all = (front rest : List Section) (text : List ℕ) (fault : Refusal) → all ≡ front ++ rest → HasRefused q limits front text fault → IsOwnFault fault
 
 -- ---- an input of which a front was heard
 
-module _ (received : ReceivedLaws) (q : QueryParts) (limits : LimitNumbers) (input : Input) (out : Output) (bytes : List ℕ) (all : List Section) (here : HasReceived limits.block bytes all)
-    (few : length bytes ≤ limits.received) (wants : Wants q all)
-    (taken : (front more : List Section) (section : Section) (text : List ℕ) (fault : Refusal) → all ≡ front ++ section ∷ more → HasRefused q limits (front ++ section ∷ []) text fault → IsOwnFault fault)
-    (nowhere : (text : List ℕ) (miss : Miss) → IsNowhere q all text miss → ⊥)
+module _ (received : ReceivedLaws) (q : QueryParts) (limits : LimitNumbers) (input : Input) (bytes : List ℕ) (all : List Section) (here : HasReceived limits.block bytes all)
+    (few : length bytes ≤ limits.received) (ends : ThroughAll q all) (taken : AreTaken q limits all)
     (heard unheard : List ℕ) (sections : List Section) (text : List ℕ) (l : IsLeft bytes heard unheard input) (got : HasReceived limits.block heard sections) where
   behind : (rest : List Section) × (all ≡ sections ++ rest)
   behind = received.front limits.block heard (unheard ++ l.left) sections all got (subst (λ (b : List ℕ). HasReceived limits.block b all) l.whole here)
@@ -61,18 +60,13 @@ module _ (received : ReceivedLaws) (q : QueryParts) (limits : LimitNumbers) (inp
   pub all_came : heard ≡ bytes → sections ≡ all
   all_came e = received.one limits.block bytes sections all (subst (λ (b : List ℕ). HasReceived limits.block b sections) e got) here
 
-  -- nowhere before the last
-  no_miss : (rest : List Section) → all ≡ sections ++ rest → (miss : Miss) → IsNowhere q sections text miss → ⊥
-  no_miss [] e miss h = nowhere text miss (subst (λ (s : List Section). IsNowhere q s text miss) (sym (e ∙ append-nil sections)) h)
-  no_miss (next ∷ rest) e miss h = never_next q miss h.later next (wants.next sections rest next h.given (stop_at miss ∷ h.later) e h.verified)
-
   -- none is wanted before the last
   pub through_all : IsThrough q sections text → sections ≡ all
   through_all h = by behind.0 behind.1
     where
       by : (rest : List Section) → all ≡ sections ++ rest → sections ≡ all
       by [] e = sym (e ∙ append-nil sections)
-      by (next ∷ rest) e = absurd (none_next q next (wants.next sections rest next h.given [] e h.verified))
+      by (next ∷ rest) e = absurd (ends sections rest next text e h)
 
   broken_whole : (last : ℕ) (more : List ℕ) → unheard ≡ last ∷ more → HasReceived limits.block (heard ++ last ∷ (more ++ l.left)) all
   broken_whole last more e = subst (λ (b : List ℕ). HasReceived limits.block b all) (l.whole ∙ ap (λ (u : List ℕ). heard ++ (u ++ l.left)) e) here
@@ -85,34 +79,33 @@ module _ (received : ReceivedLaws) (q : QueryParts) (limits : LimitNumbers) (inp
   -- ---- no other refusals than these
 
   module _ (R : ClientFault → Type 0) (own : (fault : ClientFault) → IsOwnEnd fault → R fault)
-      (truncated : (want : CidParts) (number : ℕ) → IsAllHeard unheard input → (at : WantedAt) × (want ≡ at.cid) × IsCutShort q sections text at number
+      (truncated : (want : CidParts) (number : ℕ) → IsAllHeard unheard input → IsEndedShort q limits heard sections text want number
       → R (faults.Refused (refusals.Truncated want number)))
       (extra : (number : ℕ) → HasSurplus q limits (heard ++ unheard) sections text number → R (faults.Refused (refusals.Extra number))) where
-    refused : (why : WantedAt → Section → Type 0) (fault : Refusal) → IsRefusedAt q sections text why → HasRefused q limits sections text fault → IsOwnFault fault
-    refused why fault h r =
-        refused_at q limits all sections behind.0 text behind.1 (λ front more section fault e refused. taken front more section text fault e refused) why fault h r
+    refused : (fault : Refusal) → HasRefused q limits sections text fault → IsOwnFault fault
+    refused fault h = taken sections behind.0 text fault behind.1 h
 
     pub only : (fault : ClientFault) → EndsBy q limits input heard unheard sections text (Err fault) → R fault
     only (faults.Refused (refusals.Extra number)) h = extra number h
     only (faults.Refused (refusals.Truncated want number)) h = truncated want number h.0 h.1
     only (faults.Refused refusals.SinkFault) h = own (faults.Refused refusals.SinkFault) tt
     only (faults.Refused refusals.OutOfMemory) h = absurd h
-    only (faults.Refused (refusals.NotFolder segment)) h = absurd (no_miss behind.0 behind.1 (no_directory segment) h)
-    only (faults.Refused (refusals.NotThere segment)) h = absurd (no_miss behind.0 behind.1 (no_entry segment) h)
-    only (faults.Refused (refusals.BadDigest cid)) h = absurd (refused _ (refusals.BadDigest cid) h h)
-    only (faults.Refused (refusals.WrongBlock want got)) h = absurd (refused _ (refusals.WrongBlock want got) h h)
-    only (faults.Refused (refusals.BadBlock cid fault)) h = absurd (refused _ (refusals.BadBlock cid fault) h h)
-    only (faults.Refused (refusals.BadSize declared actual)) h = absurd (refused _ (refusals.BadSize declared actual) h h)
     only (faults.Refused (refusals.Limit kinds.Received number)) h = absurd (too_many (h.heard_is ∙ h.number_is) h.some)
     only (faults.Refused (refusals.Limit kinds.Block number)) (is, h) =
         absurd (received.unpassed limits.block heard (h.more ++ l.left) h.last h.brings.0 all (broken_whole h.last h.more h.unheard_is) h.brings.1)
-    only (faults.Refused (refusals.Limit kinds.Depth number)) h = absurd (refused _ (refusals.Limit kinds.Depth number) h h)
-    only (faults.Refused (refusals.Limit kinds.Entries number)) h = absurd h.cause
-    only (faults.Refused (refusals.Limit kinds.Names number)) h = absurd h.cause
-    only (faults.Refused (refusals.Limit kinds.Output number)) h = absurd h.cause
-    only (faults.Refused (refusals.Limit kinds.SeenBlocks number)) h = absurd h.cause
-    only (faults.Refused (refusals.Limit kinds.SeenBytes number)) h = absurd h.cause
-    only (faults.Refused (refusals.Limit kinds.Reused number)) h = absurd h.cause
+    only (faults.Refused (refusals.NotFolder segment)) h = absurd (refused (refusals.NotFolder segment) h)
+    only (faults.Refused (refusals.NotThere segment)) h = absurd (refused (refusals.NotThere segment) h)
+    only (faults.Refused (refusals.BadDigest cid)) h = absurd (refused (refusals.BadDigest cid) h)
+    only (faults.Refused (refusals.WrongBlock want got)) h = absurd (refused (refusals.WrongBlock want got) h)
+    only (faults.Refused (refusals.BadBlock cid fault)) h = absurd (refused (refusals.BadBlock cid fault) h)
+    only (faults.Refused (refusals.BadSize declared actual)) h = absurd (refused (refusals.BadSize declared actual) h)
+    only (faults.Refused (refusals.Limit kinds.Depth number)) h = absurd (refused (refusals.Limit kinds.Depth number) h)
+    only (faults.Refused (refusals.Limit kinds.Entries number)) h = absurd (refused (refusals.Limit kinds.Entries number) h)
+    only (faults.Refused (refusals.Limit kinds.Names number)) h = absurd (refused (refusals.Limit kinds.Names number) h)
+    only (faults.Refused (refusals.Limit kinds.Output number)) h = absurd (refused (refusals.Limit kinds.Output number) h)
+    only (faults.Refused (refusals.Limit kinds.SeenBlocks number)) h = absurd (refused (refusals.Limit kinds.SeenBlocks number) h)
+    only (faults.Refused (refusals.Limit kinds.SeenBytes number)) h = absurd (refused (refusals.Limit kinds.SeenBytes number) h)
+    only (faults.Refused (refusals.Limit kinds.Reused number)) h = absurd (refused (refusals.Limit kinds.Reused number) h)
     only (faults.BadCar car) (no_car, h) =
         absurd (received.unbroken limits.block heard (h.more ++ l.left) h.last all car (broken_whole h.last h.more h.unheard_is) no_car h.brings)
     only faults.InputFault h = own faults.InputFault tt
@@ -120,39 +113,29 @@ module _ (received : ReceivedLaws) (q : QueryParts) (limits : LimitNumbers) (inp
 
 -- ---- sections that fit
 
-module _ (verified : VerifiedLaws) (q : QueryParts) (d : Dag) (all : List Section) (answer : List ℕ) (dups : q.dups ≡ true) (fits : Fits d q all answer) where
-  pub wants_fitting : Wants q all
-  wants_fitting = record {
-    next = λ front rest section given tasks e h. verified.fitting q d front rest section answer given tasks (settled verified.repeats_sent q dups front tasks) (subst (λ (l : List Section). Fits d q l answer) e fits) h;
-  }
-
-  pub fitting_nowhere : (text : List ℕ) (miss : Miss) → IsNowhere q all text miss → ⊥
-  fitting_nowhere text miss h =
-      let (none, _) = verified.fitting_ends q d all answer h.given (stop_at miss ∷ h.later) (settled verified.repeats_sent q dups all (stop_at miss ∷ h.later)) fits h.verified in absurd (cc none)
+module _ (verified : VerifiedLaws) (q : QueryParts) (d : Dag) (all : List Section) (answer : List ℕ) (fits : Fits d q all answer) where
+  pub fitting_through : ThroughAll q all
+  fitting_through front rest section text e h =
+      none_next q section (verified.fitting q d front rest section answer h.given [] (none_settled q front) (subst (λ (l : List Section). Fits d q l answer) e fits) h.verified)
 
   pub fitting_done : (text : List ℕ) (at : WantedAt) → IsUpTo q all text at → ⊥
   fitting_done text at h =
-      let (none, _) = verified.fitting_ends q d all answer h.given (open_block at.want at.cid ∷ h.later) (settled verified.repeats_sent q dups all (open_block at.want at.cid ∷ h.later)) fits h.verified in absurd (cc none)
+      let (none, _) = verified.fitting_ends q d all answer h.given (open_block at.want at.cid ∷ h.later) (settled q all at h.later h.sends) fits h.verified in absurd (cc none)
 
 -- ---- sections in progress
 
-module _ (verified : VerifiedLaws) (q : QueryParts) (d : Dag) (all : List Section) (wanted : Spot) (dups : q.dups ≡ true) (progress : IsInProgress d q all wanted) where
-  pub wants_progress : Wants q all
-  wants_progress = record {
-    next = λ front rest section given tasks e h. verified.in_progress q d front rest section wanted given tasks (settled verified.repeats_sent q dups front tasks) (subst (λ (l : List Section). IsInProgress d q l wanted) e progress) h;
-  }
-
-  pub progress_nowhere : (text : List ℕ) (miss : Miss) → IsNowhere q all text miss → ⊥
-  progress_nowhere text miss h =
-      let (wants, _) = verified.in_progress_ends q d all wanted h.given (stop_at miss ∷ h.later) (settled verified.repeats_sent q dups all (stop_at miss ∷ h.later)) progress h.verified in let e = wants.then_is in absurd (cc e)
+module _ (verified : VerifiedLaws) (q : QueryParts) (d : Dag) (all : List Section) (wanted : Spot) (progress : IsInProgress d q all wanted) where
+  pub progress_by : ThroughAll q all
+  progress_by front rest section text e h =
+      none_next q section (verified.in_progress q d front rest section wanted h.given [] (none_settled q front) (subst (λ (l : List Section). IsInProgress d q l wanted) e progress) h.verified)
 
   pub progress_through : (text : List ℕ) → IsThrough q all text → ⊥
   progress_through text h =
-      let (wants, _) = verified.in_progress_ends q d all wanted h.given [] (settled verified.repeats_sent q dups all []) progress h.verified in let e = wants.then_is in absurd (cc e)
+      let (wants, _) = verified.in_progress_ends q d all wanted h.given [] (none_settled q all) progress h.verified in let e = wants.then_is in absurd (cc e)
 
   pub progress_waits : (text : List ℕ) (at : WantedAt) → IsUpTo q all text at → at.cid ≡ wanted.cid
   progress_waits text at h =
-      let (wants, _) = verified.in_progress_ends q d all wanted h.given (open_block at.want at.cid ∷ h.later) (settled verified.repeats_sent q dups all (open_block at.want at.cid ∷ h.later)) progress h.verified in
+      let (wants, _) = verified.in_progress_ends q d all wanted h.given (open_block at.want at.cid ∷ h.later) (settled q all at h.later h.sends) progress h.verified in
       let e = wants.then_is in
       let cid : at.cid ≡ wants.cid = cc e in
       cid ∙ ap (λ (s : Spot). s.cid) wants.spot_is
@@ -161,21 +144,24 @@ module _ (verified : VerifiedLaws) (q : QueryParts) (d : Dag) (all : List Sectio
 
 -- each section is taken, and with all of them nothing is wanted
 module _ (cars : CarLaws) (received : ReceivedLaws) (q : QueryParts) (limits : LimitNumbers) (input : Input) (out : Output) (bytes : List ℕ) (all : List Section) (here : HasReceived limits.block bytes all)
-    (is_car : IsCarOf bytes all) (few : length bytes ≤ limits.received) (wants : Wants q all)
-    (taken : (front more : List Section) (section : Section) (text : List ℕ) (fault : Refusal) → all ≡ front ++ section ∷ more → HasRefused q limits (front ++ section ∷ []) text fault → IsOwnFault fault)
-    (nowhere : (text : List ℕ) (miss : Miss) → IsNowhere q all text miss → ⊥) (done : (text : List ℕ) (at : WantedAt) → IsUpTo q all text at → ⊥)
+    (is_car : IsCarOf bytes all) (few : length bytes ≤ limits.received) (ends : ThroughAll q all) (taken : AreTaken q limits all) (done : (text : List ℕ) (at : WantedAt) → IsUpTo q all text at → ⊥)
     (told : input.left_old ≡ Some bytes) where
+  -- all was heard
+  not_short : (heard : List ℕ) (sections : List Section) (text : List ℕ) (want : CidParts) (number : ℕ) → heard ≡ bytes → sections ≡ all → IsEndedShort q limits heard sections text want number → ⊥
+  not_short heard sections text want number same are (inl (before, _, _)) = no_header cars limits.block all bytes [] heard is_car (same ∙ sym (append-nil bytes)) before.goes_on
+  not_short heard sections text want number same are (inr (at, is, cut)) = done text at (subst (λ (s : List Section). IsUpTo q s text at) are cut.up_to)
+
   pub accepts : (result : Result ⊤ ClientFault) → Verifies q limits input out result → IsAcceptedElse result
   accepts (Ok end) v = tt
   accepts (Err fault) v =
       let l = left_of bytes v.heard v.unheard input told v.took in
-      only received q limits input out bytes all here few wants taken nowhere v.heard v.unheard v.sections v.text l v.received IsOwnEnd (λ fault own. own)
-      (λ want number heard (at, is, cut).
-      let same = all_came received q limits input out bytes all here few wants taken nowhere v.heard v.unheard v.sections v.text l v.received
-      (all_heard bytes v.heard v.unheard input l heard.all heard.ended) in
-      absurd (done v.text at (subst (λ (s : List Section). IsUpTo q s v.text at) same cut.up_to)))
+      only received q limits input bytes all here few ends taken v.heard v.unheard v.sections v.text l v.received IsOwnEnd (λ fault own. own)
+      (λ want number heard short.
+      let whole = all_heard bytes v.heard v.unheard input l heard.all heard.ended in
+      let same = all_came received q limits input bytes all here few ends taken v.heard v.unheard v.sections v.text l v.received whole in
+      absurd (not_short v.heard v.sections v.text want number whole same short))
       (λ number h.
-      let same = through_all received q limits input out bytes all here few wants taken nowhere v.heard v.unheard v.sections v.text l v.received h.through in
+      let same = through_all received q limits input bytes all here few ends taken v.heard v.unheard v.sections v.text l v.received h.through in
       let whole : bytes ≡ h.car ++ (h.more ++ l.left) =
       l.whole ∙ (sym (append_assoc v.heard v.unheard l.left) ∙ (ap (λ (x : List ℕ). x ++ l.left) h.whole ∙ append_assoc h.car h.more l.left)) in
       let some : 0 < length h.more = h.some in
@@ -183,27 +169,32 @@ module _ (cars : CarLaws) (received : ReceivedLaws) (q : QueryParts) (limits : L
       fault v.ends
 
 -- each section is taken, and with all of them a block is wanted
-module _ (received : ReceivedLaws) (q : QueryParts) (limits : LimitNumbers) (input : Input) (out : Output) (bytes : List ℕ) (all : List Section) (here : HasReceived limits.block bytes all)
-    (few : length bytes ≤ limits.received) (wants : Wants q all)
-    (taken : (front more : List Section) (section : Section) (text : List ℕ) (fault : Refusal) → all ≡ front ++ section ∷ more → HasRefused q limits (front ++ section ∷ []) text fault → IsOwnFault fault)
-    (nowhere : (text : List ℕ) (miss : Miss) → IsNowhere q all text miss → ⊥) (through : (text : List ℕ) → IsThrough q all text → ⊥) (cid : CidParts)
+module _ (cars : CarLaws) (received : ReceivedLaws) (q : QueryParts) (limits : LimitNumbers) (input : Input) (out : Output) (bytes : List ℕ) (all : List Section) (here : HasReceived limits.block bytes all)
+    (header : HasHeader limits.block bytes) (few : length bytes ≤ limits.received) (ends : ThroughAll q all) (taken : AreTaken q limits all) (through : (text : List ℕ) → IsThrough q all text → ⊥) (cid : CidParts)
     (waits : (text : List ℕ) (at : WantedAt) → IsUpTo q all text at → at.cid ≡ cid) (told : input.left_old ≡ Some bytes) where
+  -- all was heard
+  is_short : (heard : List ℕ) (sections : List Section) (text : List ℕ) (want : CidParts) (number : ℕ) → heard ≡ bytes → sections ≡ all → IsEndedShort q limits heard sections text want number
+      → faults.Refused (refusals.Truncated want number) ≡ faults.Refused (refusals.Truncated cid (count_of all))
+  is_short heard sections text want number same are (inl (before, _, _)) = absurd (header_inside cars limits.block bytes [] heard header (same ∙ sym (append-nil bytes)) before.goes_on)
+  is_short heard sections text want number same are (inr (at, is, cut)) =
+      let wanted : want ≡ cid = is ∙ waits text at (subst (λ (s : List Section). IsUpTo q s text at) are cut.up_to) in
+      let counted : number ≡ count_of all = cut.number_is ∙ ap (λ (s : List Section). count_of s) are in
+      cc (wanted, counted)
+
   pub cuts : (result : Result ⊤ ClientFault) → Verifies q limits input out result → IsRefusedElse (refusals.Truncated cid (count_of all)) result
   cuts (Ok end) v =
       let l = left_of bytes v.heard v.unheard input told v.took in
-      let same = through_all received q limits input out bytes all here few wants taken nowhere v.heard v.unheard v.sections v.text l v.received v.ends.1.through in
+      let same = through_all received q limits input bytes all here few ends taken v.heard v.unheard v.sections v.text l v.received v.ends.1.through in
       through v.text (subst (λ (s : List Section). IsThrough q s v.text) same v.ends.1.through)
   cuts (Err fault) v =
       let l = left_of bytes v.heard v.unheard input told v.took in
-      only received q limits input out bytes all here few wants taken nowhere v.heard v.unheard v.sections v.text l v.received
+      only received q limits input bytes all here few ends taken v.heard v.unheard v.sections v.text l v.received
       (λ fault. (fault ≡ faults.Refused (refusals.Truncated cid (count_of all))) ⊎ IsOwnEnd fault) (λ fault own. inr own)
-      (λ want number heard (at, is, cut).
-      let same = all_came received q limits input out bytes all here few wants taken nowhere v.heard v.unheard v.sections v.text l v.received
-      (all_heard bytes v.heard v.unheard input l heard.all heard.ended) in
-      let wanted : want ≡ cid = is ∙ waits v.text at (subst (λ (s : List Section). IsUpTo q s v.text at) same cut.up_to) in
-      let counted : number ≡ count_of all = cut.number_is ∙ ap (λ (s : List Section). count_of s) same in
-      inl (cc (wanted, counted)))
+      (λ want number heard short.
+      let whole = all_heard bytes v.heard v.unheard input l heard.all heard.ended in
+      let same = all_came received q limits input bytes all here few ends taken v.heard v.unheard v.sections v.text l v.received whole in
+      inl (is_short v.heard v.sections v.text want number whole same short))
       (λ number h.
-      let same = through_all received q limits input out bytes all here few wants taken nowhere v.heard v.unheard v.sections v.text l v.received h.through in
+      let same = through_all received q limits input bytes all here few ends taken v.heard v.unheard v.sections v.text l v.received h.through in
       absurd (through v.text (subst (λ (s : List Section). IsThrough q s v.text) same h.through)))
       fault v.ends

@@ -14,16 +14,16 @@ use Rattle.tg_model.specs.declared.limits.LimitKind.TheVariants as kinds
 use Rattle.tg_streams.specs.Streams.{Output, Put}
 use Rattle.tg_verify.specs.History.{HasPutCause}
 use Rattle.tg_verify.specs.Laws.{AnswerLaws}
-use Rattle.tg_verify.specs.Refusals.{HasRefused}
+use Rattle.tg_verify.specs.Refusals.{HasRefused, HasSectionCause, IsSurplus}
 use Rattle.tg_verify.specs.Sound.{AnswersFor, ForEachSound}
 use Rattle.tg_verify.specs.State.{count_of}
 use Rattle.tg_verify.specs.Taken.{IsThrough, IsUpTo}
 use Rattle.tg_verify.specs.declared.fault.Refusal.{Refusal}
 use Rattle.tg_verify.specs.declared.fault.Refusal.TheVariants as refusals
 use Rattle.tg_bytes.specs.Lists.{All-split_push}
-use Rattle.tg_client.specs.Body.{IsAfterWanted, IsLastWanted, IsStopped, unknown}
-use Rattle.tg_client.specs.Ends.{EndsBy, IsBrokenBy, IsWithinReceived, SaysFor, fault_of_car, fault_of_refusal}
-use Rattle.tg_client.specs.Received.{HasReceived, sections_given}
+use Rattle.tg_client.specs.Body.{IsAfterWanted, IsBehindHeader, IsLastWanted, IsStopped, unknown}
+use Rattle.tg_client.specs.Ends.{EndsBy, IsBrokenBy, IsWaiting, IsWithinReceived, SaysFor, fault_of_car, fault_of_refusal}
+use Rattle.tg_client.specs.Received.{HasHeader, HasReceived, sections_given}
 use Rattle.tg_client.specs.ReceivedLaws.{ReceivedLaws}
 use Rattle.tg_client.specs.declared.fault.ClientFault.{ClientFault}
 use Rattle.tg_client.specs.declared.fault.ClientFault.TheVariants as faults
@@ -31,30 +31,30 @@ use Rattle.tg_client.proofs.Going.{held_front, surplus_of}
 
 -- ---- by the reader
 
-module _ (q : QueryParts) (limits : LimitNumbers) (heard : List ℕ) (last : ℕ) (more : List ℕ) (sections : List Section) (text : List ℕ) (at : WantedAt) (up_to : IsUpTo q sections text at) where
+module _ (q : QueryParts) (limits : LimitNumbers) (heard : List ℕ) (last : ℕ) (more : List ℕ) (sections : List Section) (text : List ℕ) (waits : IsWaiting q limits heard sections text) where
   broken : length heard < limits.received → (why : List ℕ → Type 0) → why (heard ++ last ∷ []) → IsBrokenBy q limits heard (last ∷ more) sections text why
-  broken few why brings = record { at = at; up_to = up_to; last = last; more = more; unheard_is = refl; brings = brings; within = few }
+  broken few why brings = record { waits = waits; last = last; more = more; unheard_is = refl; brings = brings; within = few }
 
   pub car_ends : length heard < limits.received → (fault : CarFault) → Brings limits.block (heard ++ last ∷ []) fault → EndsBy q limits unknown heard (last ∷ more) sections text (Err (fault_of_car fault))
   car_ends few (cars.BadHeader place) brings = (tt, broken few (λ bytes. Brings limits.block bytes (cars.BadHeader place)) brings)
   car_ends few (cars.BadSection place) brings = (tt, broken few (λ bytes. Brings limits.block bytes (cars.BadSection place)) brings)
   car_ends few (cars.BlockLimit place number) brings = (brings.0, broken few (λ bytes. (place : ℕ) × PassesLimit limits.block bytes place) (brings.1, brings.3))
   car_ends few (cars.Torn place) brings = absurd brings
-  car_ends few cars.OutOfMemory brings = inr (inl (at, up_to))
+  car_ends few cars.OutOfMemory brings = inr (inl waits)
 
   pub car_says : AnswerLaws → (fault : CarFault) → Brings limits.block (heard ++ last ∷ []) fault → ForEachSound q (λ d. SaysFor q d sections text (Err (fault_of_car fault)))
-  car_says laws (cars.BadHeader place) brings d sound root = held_front laws q sections text (inl (at, up_to)) d sound root
-  car_says laws (cars.BadSection place) brings d sound root = held_front laws q sections text (inl (at, up_to)) d sound root
-  car_says laws (cars.BlockLimit place number) brings d sound root = (held_front laws q sections text (inl (at, up_to)) d sound root, tt)
+  car_says laws (cars.BadHeader place) brings d sound root = held_front laws q limits heard sections text (inl waits) d sound root
+  car_says laws (cars.BadSection place) brings d sound root = held_front laws q limits heard sections text (inl waits) d sound root
+  car_says laws (cars.BlockLimit place number) brings d sound root = (held_front laws q limits heard sections text (inl waits) d sound root, tt)
   car_says laws (cars.Torn place) brings d sound root = absurd brings
-  car_says laws cars.OutOfMemory brings d sound root = held_front laws q sections text (inl (at, up_to)) d sound root
+  car_says laws cars.OutOfMemory brings d sound root = held_front laws q limits heard sections text (inl waits) d sound root
 
-pub car_wants : (q : QueryParts) (sections : List Section) (fault : CarFault) → IsAfterWanted q sections (fault_of_car fault)
-car_wants q sections (cars.BadHeader place) = tt
-car_wants q sections (cars.BadSection place) = tt
-car_wants q sections (cars.BlockLimit place number) = tt
-car_wants q sections (cars.Torn place) = tt
-car_wants q sections cars.OutOfMemory = tt
+pub car_wants : (q : QueryParts) (limits : LimitNumbers) (heard : List ℕ) (sections : List Section) (fault : CarFault) → IsAfterWanted q limits heard sections (fault_of_car fault)
+car_wants q limits heard sections (cars.BadHeader place) = tt
+car_wants q limits heard sections (cars.BadSection place) = tt
+car_wants q limits heard sections (cars.BlockLimit place number) = tt
+car_wants q limits heard sections (cars.Torn place) = tt
+car_wants q limits heard sections cars.OutOfMemory = tt
 
 -- ---- by the verifier
 
@@ -85,21 +85,18 @@ refusal_says q d sections text refusals.SinkFault h = h
 refusal_says q d sections text (refusals.Truncated want number) h = h
 refusal_says q d sections text refusals.OutOfMemory h = h.0
 
-module _ (laws : AnswerLaws) (received : ReceivedLaws) (q : QueryParts) (limits : LimitNumbers) (heard part rest : List ℕ) (given : List Event) (sections : List Section) (section : Section)
-    (before : HasReceived limits.block heard sections) (after : HasReceived limits.block (heard ++ part) (sections ++ section ∷ []))
-    (past : (bytes : List ℕ) × IsAmongSections limits.block heard given bytes) (are : sections_given given ≡ sections) (some : 0 < length (part ++ rest)) (written text : List ℕ) (out : Output) (put : Put text out) (at : WantedAt) (up_to : IsUpTo q sections written at)
-    (few : length heard < limits.received) (within : IsWithinReceived limits (heard ++ part)) where
-  abbrev pub IsNow : ClientFault → Type 0
-  IsNow fault = IsStopped q limits (heard ++ (part ++ rest)) written out fault
-
-  at_section : (fault : ClientFault) → EndsBy q limits unknown (heard ++ part) rest (sections ++ section ∷ []) (written ++ text) (Err fault)
-      → ForEachSound q (λ d. SaysFor q d (sections ++ section ∷ []) (written ++ text) (Err fault)) → IsAfterWanted q (sections ++ section ∷ []) fault → IsNow fault
-  at_section fault ends sound wanted = record {
-    heard = heard ++ part;
+-- at a place behind the header, or a section
+module _ (received : ReceivedLaws) (q : QueryParts) (limits : LimitNumbers) (bytes heard rest : List ℕ) (whole : bytes ≡ heard ++ rest) (within : IsWithinReceived limits heard) (sections : List Section)
+    (after : HasReceived limits.block heard sections) (behind : IsBehindHeader q limits heard sections) (written text : List ℕ) (out : Output) (put : Put text out)
+    (extra : (number : ℕ) → IsSurplus q sections (written ++ text) number → IsStopped q limits bytes written out (faults.Refused (refusals.Extra number))) where
+  there : (fault : ClientFault) → EndsBy q limits unknown heard rest sections (written ++ text) (Err fault)
+      → ForEachSound q (λ d. SaysFor q d sections (written ++ text) (Err fault)) → IsAfterWanted q limits heard sections fault → IsStopped q limits bytes written out fault
+  there fault ends sound wanted = record {
+    heard = heard;
     unheard = rest;
-    whole = sym (append_assoc heard part rest);
+    whole = whole;
     within = within;
-    sections = sections ++ section ∷ [];
+    sections = sections;
     received = after;
     text = text;
     put = put;
@@ -109,19 +106,64 @@ module _ (laws : AnswerLaws) (received : ReceivedLaws) (q : QueryParts) (limits 
   }
 
   -- no block that was received is above the limit
+  none_large : (number : ℕ) → HasRefused q limits sections (written ++ text) (refusals.Limit kinds.Block number) → ⊥
+  none_large number (inr h) = h.cause
+  none_large number (inl h) = by h.cause
+    where
+      by : HasSectionCause q limits h.up_to.given h.up_to.later h.at h.section (refusals.Limit kinds.Block number) → ⊥
+      by (inr (wanted, none)) = none
+      by (inl cause) =
+          let all = received.within limits.block heard sections after in
+          let small : length h.section.block ≤ limits.block =
+          (All-split_push (λ (s : Section). length s.block ≤ limits.block) h.taken h.section (subst (λ (l : List Section). All (λ (s : Section). length s.block ≤ limits.block) l) h.received all)).1 in
+          let is : number ≡ limits.block = cause.number_is in
+          let large : number < length h.section.block = cause.large in
+          absurd (omega (arith, small, is, large))
+
+  none_received : (number : ℕ) → HasRefused q limits sections (written ++ text) (refusals.Limit kinds.Received number) → ⊥
+  none_received number (inr h) = h.cause
+  none_received number (inl h) = by h.cause
+    where
+      by : HasSectionCause q limits h.up_to.given h.up_to.later h.at h.section (refusals.Limit kinds.Received number) → ⊥
+      by (inl none) = none
+      by (inr (wanted, none)) = none
+
+  pub refused_there : (fault : Refusal) → HasRefused q limits sections (written ++ text) fault → HasPutCause (Err fault) out
+      → ForEachSound q (λ d. AnswersFor q d sections (written ++ text) (Err fault)) → IsStopped q limits bytes written out (fault_of_refusal fault)
+  refused_there (refusals.Extra number) h cause sound = extra number h
+  refused_there (refusals.Limit kinds.Block number) h cause sound = absurd (none_large number h)
+  refused_there (refusals.Limit kinds.Received number) h cause sound = absurd (none_received number h)
+  refused_there (refusals.Truncated want number) h cause sound = absurd cause
+  refused_there refusals.OutOfMemory h cause sound = there faults.OutOfMemory (inl h) (λ d s root. (sound d s root).0) tt
+  refused_there refusals.SinkFault h cause sound = there (faults.Refused refusals.SinkFault) h sound behind
+  refused_there (refusals.Limit kinds.Depth number) h cause sound = there (faults.Refused (refusals.Limit kinds.Depth number)) h sound behind
+  refused_there (refusals.Limit kinds.Entries number) h cause sound = there (faults.Refused (refusals.Limit kinds.Entries number)) h sound behind
+  refused_there (refusals.Limit kinds.Names number) h cause sound = there (faults.Refused (refusals.Limit kinds.Names number)) h sound behind
+  refused_there (refusals.Limit kinds.Output number) h cause sound = there (faults.Refused (refusals.Limit kinds.Output number)) h sound behind
+  refused_there (refusals.Limit kinds.SeenBlocks number) h cause sound = there (faults.Refused (refusals.Limit kinds.SeenBlocks number)) h sound behind
+  refused_there (refusals.Limit kinds.SeenBytes number) h cause sound = there (faults.Refused (refusals.Limit kinds.SeenBytes number)) h sound behind
+  refused_there (refusals.Limit kinds.Reused number) h cause sound = there (faults.Refused (refusals.Limit kinds.Reused number)) h sound behind
+  refused_there (refusals.BadDigest cid) h cause sound = there (faults.Refused (refusals.BadDigest cid)) h sound behind
+  refused_there (refusals.WrongBlock want got) h cause sound = there (faults.Refused (refusals.WrongBlock want got)) h sound behind
+  refused_there (refusals.BadBlock cid fault) h cause sound = there (faults.Refused (refusals.BadBlock cid fault)) h sound behind
+  refused_there (refusals.BadSize declared actual) h cause sound = there (faults.Refused (refusals.BadSize declared actual)) h sound behind
+  refused_there (refusals.NotFolder segment) h cause sound = there (faults.Refused (refusals.NotFolder segment)) h sound behind
+  refused_there (refusals.NotThere segment) h cause sound = there (faults.Refused (refusals.NotThere segment)) h sound behind
+
+-- before the first section
+no_surplus : (q : QueryParts) (written : List ℕ) (number : ℕ) → IsSurplus q [] written number → ⊥
+no_surplus q written number h =
+    let none : 0 ≡ length (h.taken ++ h.section ∷ []) = ap length h.received in omega (arith, none, length-append h.taken (h.section ∷ []))
+
+-- at a section where a block was wanted
+module _ (laws : AnswerLaws) (received : ReceivedLaws) (q : QueryParts) (limits : LimitNumbers) (heard part rest : List ℕ) (given : List Event) (sections : List Section) (section : Section)
+    (before : HasReceived limits.block heard sections) (after : HasReceived limits.block (heard ++ part) (sections ++ section ∷ []))
+    (past : (bytes : List ℕ) × IsAmongSections limits.block heard given bytes) (are : sections_given given ≡ sections) (some : 0 < length (part ++ rest)) (written text : List ℕ) (out : Output) (put : Put text out) (at : WantedAt) (up_to : IsUpTo q sections written at)
+    (few : length heard < limits.received) (within : IsWithinReceived limits (heard ++ part)) (header : HasHeader limits.block (heard ++ part)) where
   last_wanted : IsLastWanted q (sections ++ section ∷ [])
   last_wanted = record { taken = sections; section = section; sections_are = refl; text = written; at = at; up_to = up_to }
 
-  none_large : (number : ℕ) → HasRefused q limits (sections ++ section ∷ []) (written ++ text) (refusals.Limit kinds.Block number) → ⊥
-  none_large number h =
-      let all = received.within limits.block (heard ++ part) (sections ++ section ∷ []) after in
-      let small : length h.section.block ≤ limits.block =
-      (All-split_push (λ (s : Section). length s.block ≤ limits.block) h.taken h.section (subst (λ (l : List Section). All (λ (s : Section). length s.block ≤ limits.block) l) h.received all)).1 in
-      let is : number ≡ limits.block = h.cause.number_is in
-      let large : number < length h.section.block = h.cause.large in
-      absurd (omega (arith, small, is, large))
-
-  extra_ends : (number : ℕ) → HasRefused q limits (sections ++ section ∷ []) (written ++ text) (refusals.Extra number) → IsNow (faults.Refused (refusals.Extra number))
+  extra_ends : (number : ℕ) → IsSurplus q (sections ++ section ∷ []) (written ++ text) number → IsStopped q limits (heard ++ (part ++ rest)) written out (faults.Refused (refusals.Extra number))
   extra_ends number h =
       let (same, _) = last_same sections h.taken section h.section h.received in
       let through : IsThrough q sections (written ++ text) = subst (λ (l : List Section). IsThrough q l (written ++ text)) (sym same) h.through in
@@ -142,23 +184,14 @@ module _ (laws : AnswerLaws) (received : ReceivedLaws) (q : QueryParts) (limits 
       }
 
   pub refused_now : (fault : Refusal) → HasRefused q limits (sections ++ section ∷ []) (written ++ text) fault → HasPutCause (Err fault) out
-      → ForEachSound q (λ d. AnswersFor q d (sections ++ section ∷ []) (written ++ text) (Err fault)) → IsNow (fault_of_refusal fault)
-  refused_now (refusals.Extra number) h cause sound = extra_ends number h
-  refused_now (refusals.Limit kinds.Block number) h cause sound = absurd (none_large number h)
-  refused_now (refusals.Limit kinds.Received number) h cause sound = absurd h.cause
-  refused_now (refusals.Truncated want number) h cause sound = absurd cause
-  refused_now refusals.OutOfMemory h cause sound = at_section faults.OutOfMemory (inl h) (λ d s root. (sound d s root).0) tt
-  refused_now (refusals.Limit kinds.Depth number) h cause sound = at_section (faults.Refused (refusals.Limit kinds.Depth number)) h sound tt
-  refused_now (refusals.Limit kinds.Entries number) h cause sound = at_section (faults.Refused (refusals.Limit kinds.Entries number)) h sound tt
-  refused_now (refusals.Limit kinds.Names number) h cause sound = at_section (faults.Refused (refusals.Limit kinds.Names number)) h sound tt
-  refused_now (refusals.Limit kinds.Output number) h cause sound = at_section (faults.Refused (refusals.Limit kinds.Output number)) h sound tt
-  refused_now (refusals.Limit kinds.SeenBlocks number) h cause sound = at_section (faults.Refused (refusals.Limit kinds.SeenBlocks number)) h sound tt
-  refused_now (refusals.Limit kinds.SeenBytes number) h cause sound = at_section (faults.Refused (refusals.Limit kinds.SeenBytes number)) h sound tt
-  refused_now (refusals.Limit kinds.Reused number) h cause sound = at_section (faults.Refused (refusals.Limit kinds.Reused number)) h sound tt
-  refused_now (refusals.BadDigest cid) h cause sound = at_section (faults.Refused (refusals.BadDigest cid)) h sound tt
-  refused_now (refusals.WrongBlock want got) h cause sound = at_section (faults.Refused (refusals.WrongBlock want got)) h sound tt
-  refused_now (refusals.BadBlock cid fault) h cause sound = at_section (faults.Refused (refusals.BadBlock cid fault)) h sound tt
-  refused_now (refusals.BadSize declared actual) h cause sound = at_section (faults.Refused (refusals.BadSize declared actual)) h sound tt
-  refused_now (refusals.NotFolder segment) h cause sound = at_section (faults.Refused (refusals.NotFolder segment)) h sound last_wanted
-  refused_now (refusals.NotThere segment) h cause sound = at_section (faults.Refused (refusals.NotThere segment)) h sound last_wanted
-  refused_now refusals.SinkFault h cause sound = at_section (faults.Refused refusals.SinkFault) h sound tt
+      → ForEachSound q (λ d. AnswersFor q d (sections ++ section ∷ []) (written ++ text) (Err fault)) → IsStopped q limits (heard ++ (part ++ rest)) written out (fault_of_refusal fault)
+  refused_now = refused_there received q limits (heard ++ (part ++ rest)) (heard ++ part) rest (sym (append_assoc heard part rest)) within (sections ++ section ∷ []) after
+      (record { header = header; last = inr last_wanted }) written text out put extra_ends
+
+-- where the header is whole
+module _ (received : ReceivedLaws) (q : QueryParts) (limits : LimitNumbers) (bytes heard rest : List ℕ) (whole : bytes ≡ heard ++ rest) (within : IsWithinReceived limits heard)
+    (after : HasReceived limits.block heard []) (header : HasHeader limits.block heard) (written text : List ℕ) (out : Output) (put : Put text out) where
+  pub refused_first : (fault : Refusal) → HasRefused q limits [] (written ++ text) fault → HasPutCause (Err fault) out
+      → ForEachSound q (λ d. AnswersFor q d [] (written ++ text) (Err fault)) → IsStopped q limits bytes written out (fault_of_refusal fault)
+  refused_first = refused_there received q limits bytes heard rest whole within [] after (record { header = header; last = inl refl }) written text out put
+      (λ number h. absurd (no_surplus q (written ++ text) number h))

@@ -1,14 +1,25 @@
 -- A whole piece, step by step.
-use Rattle.std.proofs.Common.{◌≡◌, ℕ, List, ◌++◌, Err, subst, append_assoc}
+use Rattle.std.proofs.Common.{◌≡◌, ℕ, List, [], ◌++◌, Err, sym, subst, append-nil, append_assoc}
+use Rattle.tg_model.specs.Dag.{Section}
 use Rattle.tg_model.specs.LimitNumbers.{LimitNumbers}
 use Rattle.tg_model.specs.Queries.{QueryParts}
-use Rattle.tg_streams.specs.Joining.{SinkJoins, put_put}
+use Rattle.tg_streams.specs.Joining.{SinkJoins, put_nothing, put_put}
 use Rattle.tg_streams.specs.Streams.{Put, SinkMeaning, into}
 use Rattle.tg_verify.specs.Sound.{ForEachSound}
 use Rattle.tg_client.specs.Body.{IsBody, IsStopped, WentOn, unknown}
 use Rattle.tg_client.specs.Ends.{EndsBy, SaysFor}
 use Rattle.tg_client.specs.declared.body.Body.{Body}
 use Rattle.tg_client.specs.declared.fault.ClientFault.{ClientFault}
+
+-- of a piece of which nothing was taken
+pub went_nothing : {S : Type 0} (m : SinkMeaning S) (a : S) → m.wrote a a [] → (body : Body) (heard : List ℕ) (sections : List Section) (written : List ℕ) → IsBody body heard sections written
+    → WentOn body (heard ++ []) written (into m a a)
+went_nothing {S} m a stays body heard sections written h = record {
+  sections = sections;
+  text = [];
+  put = put_nothing S m a stays;
+  is_body = subst (λ (l : List ℕ). IsBody body l sections (written ++ [])) (sym (append-nil heard)) (subst (λ (t : List ℕ). IsBody body heard sections t) (sym (append-nil written)) h);
+}
 
 module _ {S : Type 0} (m : SinkMeaning S) (joins : SinkJoins S m) (a b c : S) (written text : List ℕ) (put : Put text (into m a b)) where
   pub stopped_on : (q : QueryParts) (limits : LimitNumbers) (bytes : List ℕ) (fault : ClientFault) → IsStopped q limits bytes (written ++ text) (into m b c) fault

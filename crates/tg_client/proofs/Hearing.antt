@@ -1,27 +1,23 @@
 -- What was heard of an input when a CAR on it ends, or is refused.
-use Rattle.std.proofs.Common.{◌≡◌, ℕ, ◌^◌, ◌<◌, List, [], ◌++◌, length, Ok, Err, refl, sym, subst, ◌∙◌, inl, inr, append-nil, arith, true}
+use Rattle.std.proofs.Common.{◌≡◌, ℕ, ◌^◌, ◌<◌, List, [], ◌++◌, length, Ok, Err, refl, sym, subst, ◌∙◌, inl, inr, append-nil, arith}
 use Rattle.std.specs.Prelude.{Result, ⊤}
 use Rattle.std.proofs.lemmas.List.{length-append}
 use Rattle.std.proofs.lemmas.List.Elements.{All-nil}
 use Rattle.tg_car.specs.CarText.{IsRoot, header_map}
 use Rattle.tg_car.specs.Fronts.{IsInHeader}
+use Rattle.tg_car.specs.History.{GoesOn}
 use Rattle.tg_faults.specs.Faults.{Rose}
-use Rattle.tg_traversal.specs.Left.{WantedAt}
 use Rattle.tg_model.specs.Dag.{Section}
 use Rattle.tg_model.specs.LimitNumbers.{LimitNumbers}
 use Rattle.tg_model.specs.Queries.{QueryParts}
 use Rattle.tg_model.specs.declared.limits.LimitKind.TheVariants as kinds
 use Rattle.tg_streams.specs.Streams.{Ended, Input, Output, OutputQuiet, Put, SinkMeaning, Took, into}
-use Rattle.tg_traversal_laws.specs.Stages.{nothing_given}
-use Rattle.tg_traversal_laws.specs.Tasks.{path_want}
-use Rattle.tg_traversal_laws.specs.Verified.{VerifiedLaws}
 use Rattle.tg_varint.specs.Computed.{varint}
 use Rattle.tg_varint.specs.Laws.{SpellingLaws}
 use Rattle.tg_verify.specs.Laws.{AnswerLaws}
-use Rattle.tg_verify.specs.Taken.{IsUpTo}
 use Rattle.tg_verify.specs.declared.fault.Refusal.TheVariants as refusals
 use Rattle.tg_client.specs.Body.{EndsAt, HasEnded, HasOutCause, IsAfterWanted, IsEndFault, IsStopped, IsVerified, unknown}
-use Rattle.tg_client.specs.Ends.{EndsBy, HasStreamCause, IsHeld, IsWithinReceived, Verifies}
+use Rattle.tg_client.specs.Ends.{EndsBy, HasStreamCause, IsBeforeHeader, IsHeld, IsWithinReceived, Verifies}
 use Rattle.tg_client.specs.Received.{HasReceived}
 use Rattle.tg_client.specs.declared.body.Body.{Body}
 use Rattle.tg_client.specs.declared.fault.ClientFault.{ClientFault}
@@ -30,9 +26,9 @@ use Rattle.tg_client.proofs.Coming.{HasCome}
 use Rattle.tg_client.proofs.Going.{held_front, is_held, is_received, is_within}
 
 -- with nothing more to say
-as_verified : (q : QueryParts) (limits : LimitNumbers) (input : Input) (out : Output) (fault : ClientFault) → ((sections : List Section) → IsAfterWanted q sections fault)
+as_verified : (q : QueryParts) (limits : LimitNumbers) (input : Input) (out : Output) (fault : ClientFault) → ((heard : List ℕ) (sections : List Section) → IsAfterWanted q limits heard sections fault)
     → Verifies q limits input out (Err fault) → IsVerified q limits input out (Err fault)
-as_verified q limits input out fault any v = record { verifies = v; wanted = λ other e. subst (λ (f : ClientFault). IsAfterWanted q v.sections f) (cc e) (any v.sections) }
+as_verified q limits input out fault any v = record { verifies = v; wanted = λ other e. subst (λ (f : ClientFault). IsAfterWanted q limits v.heard v.sections f) (cc e) (any v.heard v.sections) }
 
 -- ---- before the first byte
 
@@ -52,28 +48,23 @@ in_header varints =
       };
     }
 
-module _ (varints : SpellingLaws) (verified : VerifiedLaws) (laws : AnswerLaws) (q : QueryParts) (limits : LimitNumbers) (dups : q.dups ≡ true) where
-  at_start : WantedAt
-  at_start = record { want = path_want 0 q.path 1; cid = q.root }
-
-  starts : IsUpTo q [] [] at_start
-  unfolding at_start
-  starts = record { repeats = dups; given = nothing_given; later = []; verified = verified.start q; text = refl }
-
-  -- no memory was found before the first byte
-  pub none_heard : (input : Input) (out : Output) → Took [] input → Put [] out → IsVerified q limits input out (Err faults.OutOfMemory)
-  none_heard input out took put = as_verified q limits input out faults.OutOfMemory (λ sections. tt) (record {
-    heard = [];
-    unheard = [];
-    took = took;
-    within = omega arith;
-    sections = [];
-    received = record { given = []; goes_on = inl (record { nothing_given = refl; inside = in_header varints }); sections_are = refl };
-    text = [];
-    put = put;
-    ends = inr (inl (at_start, starts));
-    sound = λ d sound root. held_front laws q [] [] (inl (at_start, starts)) d sound root;
-  })
+-- no memory was found before the first byte
+pub none_heard : SpellingLaws → AnswerLaws → (q : QueryParts) (limits : LimitNumbers) (input : Input) (out : Output) → Took [] input → Put [] out → IsVerified q limits input out (Err faults.OutOfMemory)
+none_heard varints laws q limits input out took put =
+    let on : GoesOn limits.block [] [] = inl (record { nothing_given = refl; inside = in_header varints }) in
+    let before : IsBeforeHeader limits [] [] [] = record { goes_on = on; no_section = refl; no_text = refl } in
+    as_verified q limits input out faults.OutOfMemory (λ heard sections. tt) (record {
+      heard = [];
+      unheard = [];
+      took = took;
+      within = omega arith;
+      sections = [];
+      received = record { given = []; goes_on = on; sections_are = refl };
+      text = [];
+      put = put;
+      ends = inr (inl (inl before));
+      sound = λ d sound root. held_front laws q limits [] [] [] (inl (inl before)) d sound root;
+    })
 
 -- ---- the input fails, or ends
 
@@ -81,8 +72,9 @@ pub fault_heard : AnswerLaws → (limits : LimitNumbers) (q : QueryParts) (body 
     → IsVerified q limits input out (Err faults.InputFault)
 fault_heard laws limits q body input out query same come =
     let w = come.went in
-    let held = subst (λ (q : QueryParts). IsHeld q w.sections w.text) query (is_held laws body.verifier w.sections w.text w.is_body.going) in
-    as_verified q limits input out faults.InputFault (λ sections. tt) (record {
+    let held = subst (λ (l : LimitNumbers). IsHeld q l come.heard w.sections w.text) same
+    (subst (λ (q : QueryParts). IsHeld q body.verifier.limits come.heard w.sections w.text) query (is_held laws body come.heard w.sections w.text w.is_body)) in
+    as_verified q limits input out faults.InputFault (λ heard sections. tt) (record {
       heard = come.heard;
       unheard = [];
       took = subst (λ (l : List ℕ). Took l input) (sym (append-nil come.heard)) come.took;
@@ -92,7 +84,7 @@ fault_heard laws limits q body input out query same come =
       text = w.text;
       put = w.put;
       ends = (refl, held);
-      sound = λ d sound root. held_front laws q w.sections w.text held d sound root;
+      sound = λ d sound root. held_front laws q limits come.heard w.sections w.text held d sound root;
     })
 
 ends_there : (q : QueryParts) (limits : LimitNumbers) (input : Input) (heard : List ℕ) (sections : List Section) (text : List ℕ) (result : Result ⊤ ClientFault) → Ended input
@@ -113,38 +105,23 @@ ends_there q limits input heard sections text (Err (faults.BadCar car)) ended h 
 ends_there q limits input heard sections text (Err faults.InputFault) ended h = absurd h
 ends_there q limits input heard sections text (Err faults.OutOfMemory) ended h = absurd h
 
-end_verified : (q : QueryParts) (limits : LimitNumbers) (heard : List ℕ) (sections : List Section) (text : List ℕ) (input : Input) (out : Output) (result : Result ⊤ ClientFault)
-    → EndsAt q limits heard sections text result → Verifies q limits input out result → IsVerified q limits input out result
-end_verified q limits heard sections text input out (Ok done) h v = record { verifies = v; wanted = λ fault e. absurd (cc e) }
-end_verified q limits heard sections text input out (Err (faults.Refused (refusals.Truncated want number))) h v = as_verified q limits input out _ (λ s. tt) v
-end_verified q limits heard sections text input out (Err (faults.Refused (refusals.Extra number))) h v = absurd h
-end_verified q limits heard sections text input out (Err (faults.Refused (refusals.Limit kind number))) h v = absurd h
-end_verified q limits heard sections text input out (Err (faults.Refused (refusals.BadDigest cid))) h v = absurd h
-end_verified q limits heard sections text input out (Err (faults.Refused (refusals.WrongBlock want got))) h v = absurd h
-end_verified q limits heard sections text input out (Err (faults.Refused (refusals.BadBlock cid fault))) h v = absurd h
-end_verified q limits heard sections text input out (Err (faults.Refused (refusals.BadSize declared actual))) h v = absurd h
-end_verified q limits heard sections text input out (Err (faults.Refused (refusals.NotFolder segment))) h v = absurd h
-end_verified q limits heard sections text input out (Err (faults.Refused (refusals.NotThere segment))) h v = absurd h
-end_verified q limits heard sections text input out (Err (faults.Refused refusals.SinkFault)) h v = absurd h
-end_verified q limits heard sections text input out (Err (faults.Refused refusals.OutOfMemory)) h v = absurd h
-end_verified q limits heard sections text input out (Err (faults.BadCar car)) h v = absurd h
-end_verified q limits heard sections text input out (Err faults.InputFault) h v = absurd h
-end_verified q limits heard sections text input out (Err faults.OutOfMemory) h v = absurd h
-
 pub end_heard : (limits : LimitNumbers) (q : QueryParts) (input : Input) (out : Output) (heard : List ℕ) (sections : List Section) (text : List ℕ) (result : Result ⊤ ClientFault) → Took heard input → Ended input
     → IsWithinReceived limits heard → Put text out → HasEnded q limits heard sections text result → IsVerified q limits input out result
-end_heard limits q input out heard sections text result took ended within put h = end_verified q limits heard sections text input out result h.ends (record {
-  heard = heard;
-  unheard = [];
-  took = subst (λ (l : List ℕ). Took l input) (sym (append-nil heard)) took;
-  within = within;
-  sections = sections;
-  received = h.received;
-  text = text;
-  put = put;
-  ends = ends_there q limits input heard sections text result ended h.ends;
-  sound = h.sound;
-})
+end_heard limits q input out heard sections text result took ended within put h = record {
+  verifies = record {
+    heard = heard;
+    unheard = [];
+    took = subst (λ (l : List ℕ). Took l input) (sym (append-nil heard)) took;
+    within = within;
+    sections = sections;
+    received = h.received;
+    text = text;
+    put = put;
+    ends = ends_there q limits input heard sections text result ended h.ends;
+    sound = h.sound;
+  };
+  wanted = h.wanted;
+}
 
 -- ---- a refusal before the end of a piece
 
@@ -175,7 +152,7 @@ known q limits input heard unheard sections text faults.OutOfMemory h = h
 
 pub stop_heard : (limits : LimitNumbers) (q : QueryParts) (input : Input) (out : Output) (bytes : List ℕ) (fault : ClientFault) → Took bytes input → IsStopped q limits bytes [] out fault
     → IsVerified q limits input out (Err fault)
-stop_heard limits q input out bytes fault took s = record { verifies = stop_verifies; wanted = λ other e. subst (λ (f : ClientFault). IsAfterWanted q s.sections f) (cc e) s.wanted }
+stop_heard limits q input out bytes fault took s = record { verifies = stop_verifies; wanted = λ other e. subst (λ (f : ClientFault). IsAfterWanted q limits s.heard s.sections f) (cc e) s.wanted }
   where
     stop_verifies : Verifies q limits input out (Err fault)
     stop_verifies = record {

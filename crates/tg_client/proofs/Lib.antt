@@ -12,3 +12,4 @@ mod Hearing
 mod Told
 mod Accepting
 mod Surplus
+mod Headless

@@ -1,8 +1,8 @@
 -- One step of a body.
-use Rattle.std.proofs.Common.{◌≡◌, ℕ, ◌+◌, ◌<◌, ◌≤◌, List, [], ◌∷◌, ◌++◌, length, take, drop, Option, Some, None, Ok, Err, refl, ap, sym, subst, ◌∙◌, append-nil, append_assoc, arith}
+use Rattle.std.proofs.Common.{◌≡◌, ℕ, Bool, true, false, inl, inr, ◌+◌, ◌<◌, ◌≤◌, List, [], ◌∷◌, ◌++◌, length, take, drop, Option, Some, None, Ok, Err, refl, ap, sym, subst, ◌∙◌, append-nil, append_assoc, arith}
 use Rattle.std.proofs.lemmas.List.{length-append, length-take, length-take-le, take-append-drop, take-take}
-use Rattle.tg_car.specs.History.{GoesOn, StopsAt, given_by, with_feed}
-use Rattle.tg_car.specs.State.{ReaderState, StandsFor}
+use Rattle.tg_car.specs.History.{ArePlaced, GoesOn, StopsAt, given_by, with_feed}
+use Rattle.tg_car.specs.State.{Holds, ReaderState, StandsFor}
 use Rattle.tg_car.specs.declared.event.Event.{Event}
 use Rattle.tg_car.specs.declared.event.Event.TheVariants as events
 use Rattle.tg_car.specs.declared.fault.CarFault.{CarFault}
@@ -19,18 +19,18 @@ use Rattle.tg_verify.specs.Laws.{AnswerLaws}
 use Rattle.tg_verify.specs.Refusals.{HasRefused}
 use Rattle.tg_verify.specs.Sound.{AnswersFor, ForEachSound}
 use Rattle.tg_verify.specs.State.{VerifierState, next_cid}
-use Rattle.tg_verify.specs.Taken.{IsGoing}
+use Rattle.tg_verify.specs.Taken.{IsFresh, IsGoing}
 use Rattle.tg_verify.specs.declared.fault.Refusal.{Refusal}
 use Rattle.tg_verify.specs.declared.fault.Refusal.TheVariants as refusals
 use Rattle.tg_verify.specs.declared.verifier.Progress.{Progress}
-use Rattle.tg_client.specs.Body.{IsBody, IsStopped, WentOn, going_on}
+use Rattle.tg_client.specs.Body.{IsBody, IsBodyAt, IsStopped, WentOn, going_on}
 use Rattle.tg_client.specs.Ends.{fault_of_car, fault_of_refusal}
-use Rattle.tg_client.specs.Received.{HasReceived, out_of_car, sections_given}
+use Rattle.tg_client.specs.Received.{HasHeader, HasReceived, out_of_car, sections_given}
 use Rattle.tg_client.specs.ReceivedLaws.{ReceivedLaws}
 use Rattle.tg_client.specs.declared.body.Body.{Body}
 use Rattle.tg_client.specs.declared.fault.ClientFault.TheVariants as faults
-use Rattle.tg_client.proofs.Breaking.{car_ends, car_says, car_wants, refused_now}
-use Rattle.tg_client.proofs.Going.{held_front, is_held, is_held_exactly, is_received, is_within, past_header, past_header_then, stopped_here, surplus_of}
+use Rattle.tg_client.proofs.Breaking.{car_ends, car_says, car_wants, refused_first, refused_now}
+use Rattle.tg_client.proofs.Going.{held_front, is_held, is_held_exactly, is_waiting, is_received, is_within, past_header, past_header_then, stopped_here, surplus_of}
 
 -- ---- whether a block is wanted
 
@@ -51,10 +51,38 @@ some_of (Some a) none = (a, refl)
 pub stands_going : (state : VerifierState) (sections : List Section) (written : List ℕ) → state.refused ≡ None → IsGoing state sections written → VerifierStands state sections written
 stands_going state sections written e h = subst (λ (r : Option Refusal). StandsBy r state sections written) (sym e) h
 
-pub no_section : (event : Event) → ((at size : ℕ) (section : CarSection) → event ≡ events.Section at size section → ⊥) → sections_given (given_by event) ≡ []
-no_section events.Need none = refl
-no_section (events.Header header) none = refl
-no_section (events.Section at size section) none = absurd (none at size section refl)
+-- the header is given once, before all sections
+none_placed : (at : ℕ) (sections : List CarSection) (bytes : List ℕ) (given : List Event) (header : List ℕ) → ArePlaced at sections bytes (given ++ events.Header header ∷ []) → ⊥
+none_placed at [] bytes [] header h = absurd (cc h.1)
+none_placed at [] bytes (event ∷ given) header h = absurd (cc h.1)
+none_placed at (s ∷ sections) bytes [] header h = let e = h.5 in absurd (cc e)
+none_placed at (s ∷ sections) bytes (event ∷ given) header h =
+    let e = h.5 in
+    let same : h.2 ≡ given ++ events.Header header ∷ [] = sym (cc e) in
+    none_placed (at + length h.0) sections h.1 given header (subst (λ (l : List Event). ArePlaced (at + length h.0) sections h.1 l) same h.6)
+
+pub none_before : (limit : ℕ) (bytes : List ℕ) (given : List Event) (header : List ℕ) → GoesOn limit bytes (given ++ events.Header header ∷ []) → given ≡ []
+none_before limit bytes [] header on = refl
+none_before limit bytes (event ∷ given) header (inl b) = absurd (cc b.nothing_given)
+none_before limit bytes (event ∷ given) header (inr (rest, a)) =
+    let is = a.given_is in
+    let same : a.placed ≡ given ++ events.Header header ∷ [] = sym (cc is) in
+    absurd (none_placed (length a.reaches.header) a.sections a.reaches.done given header (subst (λ (l : List Event). ArePlaced (length a.reaches.header) a.sections a.reaches.done l) same a.placed_are))
+
+-- before it no byte of a section came
+none_came : (in_header : Bool) (reader : ReaderState) (heard : List ℕ) (given : List Event) → Holds in_header reader heard given → given ≡ [] → reader.came ≡ []
+none_came true reader heard given holds none = holds.none_came
+none_came false reader heard given holds none = let is = holds.among.given_is in absurd (cc (sym none ∙ is))
+
+-- the header is whole where something was given
+pub header_whole : (limit : ℕ) (bytes : List ℕ) (given more : List Event) (event : Event) (placed : List Event) → given ≡ event ∷ placed → GoesOn limit bytes (given ++ more) → HasHeader limit bytes
+header_whole limit bytes given more event placed is on =
+    record { event = event; given = placed ++ more; goes_on = subst (λ (l : List Event). GoesOn limit bytes (l ++ more)) is on }
+
+-- the verifier stays as it is
+at_same : (old new : Body) (given : List Event) (sections : List Section) (written : List ℕ) → new.verifier ≡ old.verifier → IsBodyAt old given sections written → IsBodyAt new given sections written
+at_same old new [] sections written same (fresh, none) = (subst IsFresh (sym same) fresh, none)
+at_same old new (event ∷ given) sections written same going = subst (λ (v : VerifierState). IsGoing v sections written) (sym same) going
 
 -- what a reader was fed of the first bytes of a piece
 pub reads_on : (reader : ReaderState) (heard piece : List ℕ) (given : List Event) (room taken : ℕ) (event other : Event) → StandsFor reader (with_feed (going_on heard given) (take room piece) (Ok (taken, event)))
@@ -77,21 +105,26 @@ module _ (laws : AnswerLaws) (body : Body) (heard : List ℕ) (sections : List S
       stopped_here body.verifier.left.query body.verifier.limits (heard ++ piece) heard piece sections written out (faults.Refused (refusals.Limit kinds.Received body.most)) refl
       (is_within body heard sections written h) (is_received body heard sections written h) put
       (record { number_is = h.most; heard_is = all; some = some; held = is_held_exactly laws body heard sections written h })
-      (λ d sound root. (held_front laws body.verifier.left.query sections written (is_held laws body.verifier sections written h.going) d sound root, tt)) tt
+      (λ d sound root. (held_front laws body.verifier.left.query body.verifier.limits heard sections written (is_held laws body heard sections written h) d sound root, tt)) tt
 
-  pub behind_last : (piece : List ℕ) (out : Output) → body.heard < body.most → body.verifier.left.wanted ≡ None → 0 < length piece → Put [] out
+  behind_by : (piece : List ℕ) (out : Output) → body.heard < body.most → body.verifier.left.wanted ≡ None → 0 < length piece → Put [] out
+      → (given : List Event) → GoesOn body.reader.limit heard given → sections_given given ≡ sections → IsBodyAt body given sections written
       → IsStopped body.verifier.left.query body.verifier.limits (heard ++ piece) written out (faults.Refused (refusals.Extra body.verifier.taken))
-  behind_last piece out few none some put =
-      let through = laws.going_through body.verifier sections written h.going none in
-      let given : 0 < length (sections_given h.given) = subst (λ (l : List Section). 0 < length l) (sym h.sections_are) (h.some none) in
-      let past = past_header body.reader.limit heard h.given h.reads.exact.goes_on given in
+  behind_by piece out few none some put [] on are (fresh, nothing) = absurd (fresh.wanted none)
+  behind_by piece out few none some put (event ∷ given) on are going =
+      let through = laws.going_through body.verifier sections written going none in
+      let past = past_header body.reader.limit heard event given on in
       let most : body.most ≡ body.verifier.limits.received = h.most in
       let more : 0 < length (past.0 ++ piece) = omega (arith, some, length-append past.0 piece) in
       stopped_here body.verifier.left.query body.verifier.limits (heard ++ piece) heard piece sections written out (faults.Refused (refusals.Extra body.verifier.taken)) refl
       (is_within body heard sections written h) (is_received body heard sections written h) put
-      (surplus_of body.verifier.left.query body.verifier.limits body.reader.limit heard piece h.given sections written body.verifier.taken past h.sections_are more
-      (omega (arith, few, most, h.count)) through h.going.count)
+      (surplus_of body.verifier.left.query body.verifier.limits body.reader.limit heard piece (event ∷ given) sections written body.verifier.taken past are more
+      (omega (arith, few, most, h.count)) through going.keeps.count)
       (λ d sound root. (laws.answer_front body.verifier.left.query d sections written (laws.sound_through body.verifier.left.query d sections written sound root through), tt)) tt
+
+  pub behind_last : (piece : List ℕ) (out : Output) → body.heard < body.most → body.verifier.left.wanted ≡ None → 0 < length piece → Put [] out
+      → IsStopped body.verifier.left.query body.verifier.limits (heard ++ piece) written out (faults.Refused (refusals.Extra body.verifier.taken))
+  behind_last piece out few none some put = behind_by piece out few none some put h.given h.reads.exact.goes_on h.sections_are h.at
 
   -- ---- the reader refuses
 
@@ -107,7 +140,7 @@ module _ (laws : AnswerLaws) (body : Body) (heard : List ℕ) (sections : List S
   reader_stops reader piece room out fault at fits wanted stands limit put =
       let same : reader.limit ≡ body.verifier.limits.block = limit ∙ h.limit in
       let stop : StopsAt body.verifier.limits.block heard h.given (take room piece) fault = subst (λ (n : ℕ). StopsAt n heard h.given (take room piece) fault) same stands.exact.stopped in
-      let up_to = laws.going_up_to body.verifier sections written h.going at wanted in
+      let waits = is_waiting laws body (heard ++ stop.front) sections written h.given stop.went_on h.sections_are h.at at wanted in
       let rest : List ℕ = stop.more ++ drop room piece in
       let most : body.most ≡ body.verifier.limits.received = h.most in
       let size : length (take room piece) ≡ length (stop.front ++ stop.last ∷ stop.more) = ap length stop.whole in
@@ -116,9 +149,9 @@ module _ (laws : AnswerLaws) (body : Body) (heard : List ℕ) (sections : List S
       stopped_here body.verifier.left.query body.verifier.limits (heard ++ piece) (heard ++ stop.front) (stop.last ∷ rest) sections written out (fault_of_car fault)
       (split_at piece stop.front stop.more stop.last room stop.whole) (omega (arith, few))
       (record { given = h.given; goes_on = stop.went_on; sections_are = h.sections_are }) put
-      (car_ends body.verifier.left.query body.verifier.limits (heard ++ stop.front) stop.last rest sections written at up_to few fault stop.brings)
-      (car_says body.verifier.left.query body.verifier.limits (heard ++ stop.front) stop.last rest sections written at up_to laws fault stop.brings)
-      (car_wants body.verifier.left.query sections fault)
+      (car_ends body.verifier.left.query body.verifier.limits (heard ++ stop.front) stop.last rest sections written waits few fault stop.brings)
+      (car_says body.verifier.left.query body.verifier.limits (heard ++ stop.front) stop.last rest sections written waits laws fault stop.brings)
+      (car_wants body.verifier.left.query body.verifier.limits (heard ++ stop.front) sections fault)
 
   -- ---- it goes on
 
@@ -132,11 +165,24 @@ module _ (laws : AnswerLaws) (body : Body) (heard : List ℕ) (sections : List S
   module _ (received : ReceivedLaws) (reader : ReaderState) (verifier : VerifierState) (piece : List ℕ) (taken at size : ℕ) (section : CarSection) (out : Output)
       (reads : StandsFor reader (going_on (heard ++ take taken piece) (h.given ++ events.Section at size section ∷ []))) (limit : reader.limit ≡ body.reader.limit)
       (same_query : verifier.left.query ≡ body.verifier.left.query) (same_limits : verifier.limits ≡ body.verifier.limits) where
+    -- the verifier was started
+    pub stands_there : VerifierStands body.verifier sections written
+    stands_there =
+        let past = past_header_then body.reader.limit reader.limit heard (heard ++ take taken piece) h.given at size section h.reads.exact.goes_on reads.exact.goes_on in
+        stands_going body.verifier sections written h.fresh (subst (λ (g : List Event). IsBodyAt body g sections written) past.1.given_is h.at)
+
     block_limit : reader.limit ≡ verifier.limits.block
     block_limit = limit ∙ (h.limit ∙ ap (λ (l : LimitNumbers). l.block) (sym same_limits))
 
     sections_then : sections_given (h.given ++ events.Section at size section ∷ []) ≡ sections ++ out_of_car section ∷ []
     sections_then = given_more h.given (events.Section at size section) ∙ ap (λ (l : List Section). l ++ out_of_car section ∷ []) h.sections_are
+
+    -- something was given
+    going_on_at : (given : List Event) (text : List ℕ) → sections_given given ≡ sections ++ out_of_car section ∷ [] → IsGoing verifier (sections ++ out_of_car section ∷ []) text
+        → (next : Body) → next.verifier ≡ verifier → IsBodyAt next given (sections ++ out_of_car section ∷ []) text
+    going_on_at [] text are going next same =
+        let none : 0 ≡ length (sections ++ out_of_car section ∷ []) = ap length are in absurd (omega (arith, none, length-append sections (out_of_car section ∷ [])))
+    going_on_at (event ∷ given) text are going next same = subst (λ (v : VerifierState). IsGoing v (sections ++ out_of_car section ∷ []) text) (sym same) going
 
     pub section_taken : (progress : Progress) (count : ℕ) → HasWritten verifier (sections ++ out_of_car section ∷ []) written out (Ok progress) → verifier.refused ≡ None
         → taken ≤ length piece → count ≡ body.heard + taken → count ≤ body.most → reader.came ≡ []
@@ -152,8 +198,9 @@ module _ (laws : AnswerLaws) (body : Body) (heard : List ℕ) (sections : List S
         limit = block_limit;
         most = h.most ∙ ap (λ (l : LimitNumbers). l.received) (sym same_limits);
         fresh = fresh;
-        going = subst (λ (r : Option Refusal). StandsBy r verifier (sections ++ out_of_car section ∷ []) (written ++ w.text)) fresh w.stands;
-        some = λ none. omega (arith, length-append sections (out_of_car section ∷ []));
+        at = going_on_at (h.given ++ events.Section at size section ∷ []) (written ++ w.text) sections_then
+            (subst (λ (r : Option Refusal). StandsBy r verifier (sections ++ out_of_car section ∷ []) (written ++ w.text)) fresh w.stands)
+            (record { reader = reader; verifier = verifier; most = body.most; heard = count }) refl;
         behind = λ none. at_end;
         count = omega (arith, count_is, h.count, length-append heard (take taken piece), length-take-le taken piece within);
         within = omega (arith, most, count_is, h.count, length-append heard (take taken piece), length-take-le taken piece within);
@@ -182,32 +229,93 @@ module _ (laws : AnswerLaws) (body : Body) (heard : List ℕ) (sections : List S
         } in
         let whole : take taken piece ++ drop taken piece ≡ piece = take-append-drop taken piece in
         let most : body.most ≡ body.verifier.limits.received = h.most in
+        let past = past_header_then body.verifier.limits.block body.verifier.limits.block heard (heard ++ take taken piece) h.given at size section on after.goes_on in
+        let going : IsGoing body.verifier sections written = subst (λ (g : List Event). IsBodyAt body g sections written) past.1.given_is h.at in
         let some_left : 0 < length (take taken piece ++ drop taken piece) = subst (λ (l : List ℕ). 0 < length l) (sym whole) some in
         subst (λ (l : List ℕ). IsStopped body.verifier.left.query body.verifier.limits (heard ++ l) written out (fault_of_refusal fault)) whole
         (refused_now laws received body.verifier.left.query body.verifier.limits heard (take taken piece) (drop taken piece) h.given sections (out_of_car section)
         (is_received body heard sections written h) after
-        (past_header_then body.verifier.limits.block body.verifier.limits.block heard (heard ++ take taken piece) h.given at size section on after.goes_on)
-        h.sections_are some_left written w.text out w.put wanted_at (laws.going_up_to body.verifier sections written h.going wanted_at wanted)
-        (omega (arith, few, most, h.count)) (omega (arith, fits, most, h.count, length-append heard (take taken piece), length-take-le taken piece bound)) fault refused_here cause sound)
+        past
+        h.sections_are some_left written w.text out w.put wanted_at (laws.going_up_to body.verifier sections written going wanted_at wanted)
+        (omega (arith, few, most, h.count)) (omega (arith, fits, most, h.count, length-append heard (take taken piece), length-take-le taken piece bound))
+        (header_whole body.verifier.limits.block (heard ++ take taken piece) h.given (events.Section at size section ∷ []) _ _ past.1.given_is after.goes_on) fault refused_here cause sound)
 
-  -- with no section
-  pub step_taken : (reader : ReaderState) (piece : List ℕ) (taken count : ℕ) (event : Event) (out : Output) → sections_given (given_by event) ≡ []
-      → StandsFor reader (going_on (heard ++ take taken piece) (h.given ++ given_by event)) → reader.limit ≡ body.reader.limit → Put [] out
+  -- with the header, as the verifier starts
+  module _ (received : ReceivedLaws) (reader : ReaderState) (verifier : VerifierState) (piece : List ℕ) (taken : ℕ) (header : List ℕ) (out : Output)
+      (reads : StandsFor reader (going_on (heard ++ take taken piece) (h.given ++ events.Header header ∷ []))) (limit : reader.limit ≡ body.reader.limit)
+      (same_query : verifier.left.query ≡ body.verifier.left.query) (same_limits : verifier.limits ≡ body.verifier.limits) where
+    pub first : h.given ≡ []
+    first = none_before reader.limit (heard ++ take taken piece) h.given header reads.exact.goes_on
+
+    fresh_then : IsFresh body.verifier × (written ≡ [])
+    fresh_then = subst (λ (g : List Event). IsBodyAt body g sections written) first h.at
+
+    pub is_fresh : IsFresh body.verifier
+    is_fresh = fresh_then.0
+
+    reads_header : StandsFor reader (going_on (heard ++ take taken piece) (events.Header header ∷ []))
+    reads_header = subst (λ (g : List Event). StandsFor reader (going_on (heard ++ take taken piece) (g ++ events.Header header ∷ []))) first reads
+
+    pub header_taken : (progress : Progress) (count : ℕ) → HasWritten verifier [] [] out (Ok progress) → verifier.refused ≡ None
+        → taken ≤ length piece → count ≡ body.heard + taken → count ≤ body.most → reader.came ≡ body.reader.came
+        → WentOn (record { reader = reader; verifier = verifier; most = body.most; heard = count }) (heard ++ take taken piece) written out
+    header_taken progress count w fresh within count_is most at_end = record {
+      sections = [];
+      text = w.text;
+      put = w.put;
+      is_body = record {
+        given = events.Header header ∷ [];
+        reads = reads_header;
+        sections_are = refl;
+        limit = limit ∙ (h.limit ∙ ap (λ (l : LimitNumbers). l.block) (sym same_limits));
+        most = h.most ∙ ap (λ (l : LimitNumbers). l.received) (sym same_limits);
+        fresh = fresh;
+        at = subst (λ (t : List ℕ). IsGoing verifier [] (t ++ w.text)) (sym fresh_then.1) (subst (λ (r : Option Refusal). StandsBy r verifier [] w.text) fresh w.stands);
+        behind = λ none. at_end ∙ none_came body.reader.in_header body.reader heard h.given (h.reads.holds refl) first;
+        count = omega (arith, count_is, h.count, length-append heard (take taken piece), length-take-le taken piece within);
+        within = omega (arith, most, count_is, h.count, length-append heard (take taken piece), length-take-le taken piece within);
+      };
+    }
+
+    pub header_refused : (fault : Refusal) → HasWritten verifier [] [] out (Err fault) → verifier.refused ≡ Some fault → HasPutCause (Err fault) out
+        → taken ≤ length piece → body.heard + taken ≤ body.most
+        → IsStopped body.verifier.left.query body.verifier.limits (heard ++ piece) written out (fault_of_refusal fault)
+    header_refused fault w is cause bound fits =
+        let refused : HasRefused verifier.left.query verifier.limits [] w.text fault = subst (λ (r : Option Refusal). StandsBy r verifier [] w.text) is w.stands in
+        let refused_here : HasRefused body.verifier.left.query body.verifier.limits [] w.text fault =
+        subst (λ (l : LimitNumbers). HasRefused body.verifier.left.query l [] w.text fault) same_limits
+        (subst (λ (q : QueryParts). HasRefused q verifier.limits [] w.text fault) same_query refused) in
+        let sound : ForEachSound body.verifier.left.query (λ d. AnswersFor body.verifier.left.query d [] w.text (Err fault)) =
+        subst (λ (q : QueryParts). ForEachSound q (λ d. AnswersFor q d [] w.text (Err fault))) same_query w.sound in
+        let on : GoesOn body.verifier.limits.block (heard ++ take taken piece) (events.Header header ∷ []) =
+        subst (λ (n : ℕ). GoesOn n (heard ++ take taken piece) (events.Header header ∷ [])) (limit ∙ h.limit) reads_header.exact.goes_on in
+        let most : body.most ≡ body.verifier.limits.received = h.most in
+        let whole : heard ++ piece ≡ (heard ++ take taken piece) ++ drop taken piece =
+        ap (λ (l : List ℕ). heard ++ l) (sym (take-append-drop taken piece)) ∙ sym (append_assoc heard (take taken piece) (drop taken piece)) in
+        subst (λ (t : List ℕ). IsStopped body.verifier.left.query body.verifier.limits (heard ++ piece) t out (fault_of_refusal fault)) (sym fresh_then.1)
+        (refused_first received body.verifier.left.query body.verifier.limits (heard ++ piece) (heard ++ take taken piece) (drop taken piece) whole
+        (omega (arith, fits, most, h.count, length-append heard (take taken piece), length-take-le taken piece bound))
+        (record { given = events.Header header ∷ []; goes_on = on; sections_are = refl }) (record { event = events.Header header; given = []; goes_on = on }) [] w.text out w.put
+        fault refused_here cause sound)
+
+  -- with nothing whole
+  pub step_taken : (reader : ReaderState) (piece : List ℕ) (taken count : ℕ) (out : Output)
+      → StandsFor reader (going_on (heard ++ take taken piece) (h.given ++ [])) → reader.limit ≡ body.reader.limit → Put [] out
       → taken ≤ length piece → count ≡ body.heard + taken → count ≤ body.most → (wanted_at : WantedAt) → body.verifier.left.wanted ≡ Some wanted_at
       → WentOn (record { reader = reader; verifier = body.verifier; most = body.most; heard = count }) (heard ++ take taken piece) written out
-  step_taken reader piece taken count event out none reads limit put within count_is most wanted_at wanted = record {
+  step_taken reader piece taken count out reads limit put within count_is most wanted_at wanted = record {
     sections = sections;
     text = [];
     put = put;
     is_body = record {
-      given = h.given ++ given_by event;
-      reads = reads;
-      sections_are = given_more h.given event ∙ (ap (λ (l : List Section). sections_given h.given ++ l) none ∙ (append-nil (sections_given h.given) ∙ h.sections_are));
+      given = h.given;
+      reads = subst (λ (g : List Event). StandsFor reader (going_on (heard ++ take taken piece) g)) (append-nil h.given) reads;
+      sections_are = h.sections_are;
       limit = limit ∙ h.limit;
       most = h.most;
       fresh = h.fresh;
-      going = subst (λ (text : List ℕ). IsGoing body.verifier sections text) (sym (append-nil written)) h.going;
-      some = h.some;
+      at = at_same body (record { reader = reader; verifier = body.verifier; most = body.most; heard = count }) h.given sections (written ++ []) refl
+          (subst (λ (text : List ℕ). IsBodyAt body h.given sections text) (sym (append-nil written)) h.at);
       behind = λ none. absurd (cc (sym none ∙ wanted));
       count = omega (arith, count_is, h.count, length-append heard (take taken piece), length-take-le taken piece within);
       within = omega (arith, most, count_is, h.count, length-append heard (take taken piece), length-take-le taken piece within);

@@ -1,8 +1,9 @@
 -- An input that goes on behind a CAR of sections that fit.
-use Rattle.std.proofs.Common.{◌≡◌, ℕ, ◌<◌, ◌≤◌, List, [], ◌∷◌, ◌++◌, length, Some, Ok, Err, refl, ap, sym, subst, ◌∙◌, inl, inr, append-nil, append_assoc, arith, true}
+use Rattle.std.proofs.Common.{◌≡◌, ℕ, ◌<◌, ◌≤◌, List, [], ◌∷◌, ◌++◌, length, Some, Ok, Err, refl, ap, sym, subst, ◌∙◌, inl, inr, append-nil, append_assoc, arith}
 use Rattle.std.specs.Prelude.{Result, ⊤, ◌⊎◌}
 use Rattle.std.proofs.lemmas.List.{append_cancel_left, length-append}
 use Rattle.tg_car.specs.Laws.{CarLaws}
+use Rattle.tg_cid.specs.Cid.{CidParts}
 use Rattle.tg_traversal.specs.Left.{WantedAt}
 use Rattle.tg_model_laws.specs.Fronts.{FitsByFronts, ProgressByFronts}
 use Rattle.tg_model.specs.Dag.{Dag, Section}
@@ -12,23 +13,21 @@ use Rattle.tg_model.specs.PathWalk.{Spot}
 use Rattle.tg_model.specs.Queries.{QueryParts}
 use Rattle.tg_model.specs.declared.limits.LimitKind.TheVariants as kinds
 use Rattle.tg_streams.specs.Streams.{Input, Output}
-use Rattle.tg_traversal_laws.specs.Tasks.{Miss, no_directory, no_entry, stop_at}
 use Rattle.tg_traversal_laws.specs.Verified.{VerifiedLaws}
 use Rattle.tg_verify.specs.Laws.{AnswerLaws, IsOwnFault, IsWithinLimits}
-use Rattle.tg_verify.specs.Refusals.{HasRefused, IsRefusedAt}
+use Rattle.tg_verify.specs.Refusals.{HasRefused}
 use Rattle.tg_verify.specs.State.{count_of}
-use Rattle.tg_verify.specs.Taken.{IsNowhere, IsThrough, IsUpTo}
+use Rattle.tg_verify.specs.Taken.{IsThrough, IsUpTo}
 use Rattle.tg_verify.specs.declared.fault.Refusal.{Refusal}
 use Rattle.tg_verify.specs.declared.fault.Refusal.TheVariants as refusals
-use Rattle.tg_client.specs.Body.{IsAfterWanted, IsLastWanted, IsVerified}
-use Rattle.tg_client.specs.Ends.{EndsBy, IsOwnEnd, IsRefusedElse}
+use Rattle.tg_client.specs.Body.{IsAfterWanted, IsBehindHeader, IsLastWanted, IsVerified}
+use Rattle.tg_client.specs.Ends.{EndsBy, IsEndedShort, IsOwnEnd, IsRefusedElse, IsWaiting}
 use Rattle.tg_client.specs.Received.{HasReceived, IsCarOf}
 use Rattle.tg_client.specs.ReceivedLaws.{ReceivedLaws}
 use Rattle.tg_client.specs.declared.fault.ClientFault.{ClientFault}
 use Rattle.tg_client.specs.declared.fault.ClientFault.TheVariants as faults
-use Rattle.tg_client.proofs.Accepting.{fitting_done, fitting_nowhere, never_next, refused_at, wants_fitting}
-use Rattle.tg_client.proofs.Told.{IsLeft, all_heard, car_once, left_of}
-use Rattle.tg_verify.specs.WantsLaws.{none_next}
+use Rattle.tg_client.proofs.Accepting.{AreTaken, fitting_done, fitting_through}
+use Rattle.tg_client.proofs.Told.{IsLeft, all_heard, car_once, left_of, no_header}
 
 -- ---- fronts of lists
 
@@ -58,10 +57,10 @@ before_last (s ∷ all) rest (t ∷ taken) next section e =
 
 -- ---- nothing is taken behind sections that fit
 
-module _ (laws : AnswerLaws) (verified : VerifiedLaws) (fronts : FitsByFronts) (progresses : ProgressByFronts) (q : QueryParts) (d : Dag) (all : List Section) (answer : List ℕ) (dups : q.dups ≡ true)
+module _ (laws : AnswerLaws) (verified : VerifiedLaws) (fronts : FitsByFronts) (progresses : ProgressByFronts) (q : QueryParts) (d : Dag) (all : List Section) (answer : List ℕ)
     (either : (sections : List Section) (a b : Dag) (x : List ℕ) (w : Spot) → Fits a q sections x → IsInProgress b q sections w → ⊥) (fits : Fits d q all answer) where
   pub up_to_behind : (rest : List Section) (text : List ℕ) (at : WantedAt) → IsUpTo q (all ++ rest) text at → ⊥
-  up_to_behind [] text at h = fitting_done verified q d all answer dups fits text at (subst (λ (l : List Section). IsUpTo q l text at) (append-nil all) h)
+  up_to_behind [] text at h = fitting_done verified q d all answer fits text at (subst (λ (l : List Section). IsUpTo q l text at) (append-nil all) h)
   up_to_behind (next ∷ rest) text at h =
       let p = laws.up_to q (all ++ next ∷ rest) text at h in
       let f = progresses q p.s all rest next _ p.progress in
@@ -83,12 +82,12 @@ module _ (laws : AnswerLaws) (verified : VerifiedLaws) (fronts : FitsByFronts) (
   module _ (cars : CarLaws) (received : ReceivedLaws) (limits : LimitNumbers) (within : IsWithinLimits q limits d) (input : Input) (car more : List ℕ) (is_car : IsCarOf car all) (whole : HasReceived limits.block car all)
       (some : 0 < length more) (short : length (car ++ more) ≤ limits.received) (heard unheard : List ℕ) (sections : List Section) (text : List ℕ) (l : IsLeft (car ++ more) heard unheard input)
       (got : HasReceived limits.block heard sections) where
-    taken : (front rest : List Section) (section : Section) (fault : Refusal) → all ≡ front ++ section ∷ rest → HasRefused q limits (front ++ section ∷ []) text fault → IsOwnFault fault
-    taken front rest section fault e refused = laws.fit_taken q limits d front rest section text answer fault (subst (λ (s : List Section). Fits d q s answer) e fits) within refused
+    taken : AreTaken q limits all
+    taken front rest text fault e refused = laws.fit_taken q limits d front rest text answer fault (subst (λ (s : List Section). Fits d q s answer) e fits) within refused
 
     -- the sections go on behind these, or these behind them
     data Order : Type 0 where
-      past : (rest : List Section) → sections ≡ all ++ rest → Order
+      past : (more : List ℕ) (rest : List Section) → heard ≡ car ++ more → sections ≡ all ++ rest → Order
       before : (y : ℕ) (z : List ℕ) (rest : List Section) → car ≡ heard ++ y ∷ z → all ≡ sections ++ rest → Order
 
     order : Order
@@ -96,7 +95,7 @@ module _ (laws : AnswerLaws) (verified : VerifiedLaws) (fronts : FitsByFronts) (
       where
         by : ((z : List ℕ) × (heard ≡ car ++ z)) ⊎ ((y : ℕ) × (z : List ℕ) × (car ≡ heard ++ y ∷ z)) → Order
         by (inl (z, e)) =
-            let (rest, is) = received.behind limits.block car z all sections is_car (subst (λ (b : List ℕ). HasReceived limits.block b sections) e got) in past rest is
+            let (rest, is) = received.behind limits.block car z all sections is_car (subst (λ (b : List ℕ). HasReceived limits.block b sections) e got) in past z rest e is
         by (inr (y, z, e)) =
             let (rest, is) = received.front limits.block heard (y ∷ z) sections all got (subst (λ (b : List ℕ). HasReceived limits.block b all) e whole) in before y z rest e is
 
@@ -110,31 +109,33 @@ module _ (laws : AnswerLaws) (verified : VerifiedLaws) (fronts : FitsByFronts) (
 
     through_under : (rest : List Section) → all ≡ sections ++ rest → IsThrough q sections text → sections ≡ all
     through_under [] e h = sym (e ∙ append-nil sections)
-    through_under (next ∷ rest) e h =
-        let wants = wants_fitting verified q d all answer dups fits in absurd (none_next q next (wants.next sections rest next h.given [] e h.verified))
+    through_under (next ∷ rest) e h = absurd (fitting_through verified q d all answer fits sections rest next text e h)
 
     through_here : Order → IsThrough q sections text → sections ≡ all
-    through_here (past rest e) h = through_over rest e h
+    through_here (past z rest is e) h = through_over rest e h
     through_here (before y z rest e is) h = through_under rest is h
 
-    waits_over : (rest : List Section) (w : List ℕ) (at : WantedAt) → sections ≡ all ++ rest → IsUpTo q sections w at → ⊥
-    waits_over rest w at e h = up_to_behind rest w at (subst (λ (s : List Section). IsUpTo q s w at) e h)
+    -- behind the CAR no block is wanted, and the header is whole
+    waits_over : (z : List ℕ) (rest : List Section) (w : List ℕ) → heard ≡ car ++ z → sections ≡ all ++ rest → IsWaiting q limits heard sections w → ⊥
+    waits_over z rest w is e (inl early) = no_header cars limits.block all car z heard is_car is early.goes_on
+    waits_over z rest w is e (inr (at, h)) = up_to_behind rest w at (subst (λ (s : List Section). IsUpTo q s w at) e h)
 
-    nowhere_under : (rest : List Section) → all ≡ sections ++ rest → (miss : Miss) → IsNowhere q sections text miss → ⊥
-    nowhere_under [] e miss h = fitting_nowhere verified q d all answer dups fits text miss (subst (λ (s : List Section). IsNowhere q s text miss) (sym (e ∙ append-nil sections)) h)
-    nowhere_under (next ∷ rest) e miss h =
-        let wants = wants_fitting verified q d all answer dups fits in never_next q miss h.later next (wants.next sections rest next h.given (stop_at miss ∷ h.later) e h.verified)
+    short_over : (z : List ℕ) (rest : List Section) (want : CidParts) (number : ℕ) → heard ≡ car ++ z → sections ≡ all ++ rest → IsEndedShort q limits heard sections text want number → ⊥
+    short_over z rest want number is e (inl (early, _, _)) = waits_over z rest text is e (inl early)
+    short_over z rest want number is e (inr (at, _, cut)) = waits_over z rest text is e (inr (at, cut.up_to))
 
-    nowhere_here : Order → (miss : Miss) → IsNowhere q sections text miss → IsLastWanted q sections → ⊥
-    nowhere_here (past [] e) miss h last = nowhere_under [] (sym (e ∙ append-nil all) ∙ sym (append-nil sections)) miss h
-    nowhere_here (past (next ∷ rest) e) miss h last = last_behind rest next (subst (λ (s : List Section). IsLastWanted q s) e last)
-    nowhere_here (before y z rest e is) miss h last = nowhere_under rest is miss h
+    none_over : (rest : List Section) (next : Section) → sections ≡ all ++ next ∷ rest → (sections ≡ []) ⊎ IsLastWanted q sections → ⊥
+    none_over rest next e (inl none) =
+        let size : 0 ≡ length (all ++ next ∷ rest) = ap length (sym none ∙ e) in absurd (omega (arith, size, length-append all (next ∷ rest)))
+    none_over rest next e (inr last) = last_behind rest next (subst (λ (s : List Section). IsLastWanted q s) e last)
 
-    refused_here : Order → (why : WantedAt → Section → Type 0) (fault : Refusal) → IsRefusedAt q sections text why → HasRefused q limits sections text fault → IsOwnFault fault
-    refused_here (before y z rest e is) why fault h r = refused_at q limits all sections rest text is taken why fault h r
-    refused_here (past [] e) why fault h r = refused_at q limits all sections [] text (sym (e ∙ append-nil all) ∙ sym (append-nil sections)) taken why fault h r
-    refused_here (past (next ∷ rest) e) why fault h r =
-        absurd (last_behind rest next (record { taken = h.taken; section = h.section; sections_are = sym e ∙ h.received; text = text; at = h.at; up_to = h.up_to }))
+    refused_by : Order → (fault : Refusal) → HasRefused q limits sections text fault → IsBehindHeader q limits heard sections → IsOwnFault fault
+    refused_by (before y z rest e is) fault h w = taken sections rest text fault is h
+    refused_by (past z [] is e) fault h w = taken sections [] text fault (sym (e ∙ append-nil all) ∙ sym (append-nil sections)) h
+    refused_by (past z (next ∷ rest) is e) fault h w = absurd (none_over rest next e w.last)
+
+    refused_here : (fault : Refusal) → HasRefused q limits sections text fault → IsBehindHeader q limits heard sections → IsOwnFault fault
+    refused_here = refused_by order
 
     -- a byte of the CAR breaks none
     next_is : (y : ℕ) (z : List ℕ) (last : ℕ) (after : List ℕ) → car ≡ heard ++ y ∷ z → unheard ≡ last ∷ after → last ≡ y
@@ -147,22 +148,17 @@ module _ (laws : AnswerLaws) (verified : VerifiedLaws) (fronts : FitsByFronts) (
     whole_at : (y : ℕ) (z : List ℕ) (last : ℕ) → car ≡ heard ++ y ∷ z → last ≡ y → HasReceived limits.block (heard ++ last ∷ z) all
     whole_at y z last e is = subst (λ (b : List ℕ). HasReceived limits.block b all) (e ∙ ap (λ (b : ℕ). heard ++ b ∷ z) (sym is)) whole
 
-    pub over : (fault : ClientFault) → EndsBy q limits input heard unheard sections text (Err fault) → IsAfterWanted q sections fault
+    pub over : (fault : ClientFault) → EndsBy q limits input heard unheard sections text (Err fault) → IsAfterWanted q limits heard sections fault
         → (fault ≡ faults.Refused (refusals.Extra (count_of all))) ⊎ IsOwnEnd fault
     over (faults.Refused (refusals.Extra number)) h w =
         let same = through_here order h.through in
         let counted : number ≡ count_of all = h.number_is ∙ ap (λ (s : List Section). count_of s) same in
         inl (cc counted)
-    over (faults.Refused (refusals.Truncated want number)) (end, (at, is, cut)) w =
-        let (rest, e) = past_end (all_heard (car ++ more) heard unheard input l end.all end.ended) in absurd (waits_over rest text at e cut.up_to)
+    over (faults.Refused (refusals.Truncated want number)) (end, short) w =
+        let all_is = all_heard (car ++ more) heard unheard input l end.all end.ended in
+        let (rest, e) = past_end all_is in absurd (short_over more rest want number all_is e short)
     over (faults.Refused refusals.SinkFault) h w = inr tt
     over (faults.Refused refusals.OutOfMemory) h w = absurd h
-    over (faults.Refused (refusals.NotFolder segment)) h w = absurd (nowhere_here order (no_directory segment) h w)
-    over (faults.Refused (refusals.NotThere segment)) h w = absurd (nowhere_here order (no_entry segment) h w)
-    over (faults.Refused (refusals.BadDigest cid)) h w = absurd (refused_here order _ (refusals.BadDigest cid) h h)
-    over (faults.Refused (refusals.WrongBlock want got)) h w = absurd (refused_here order _ (refusals.WrongBlock want got) h h)
-    over (faults.Refused (refusals.BadBlock cid fault)) h w = absurd (refused_here order _ (refusals.BadBlock cid fault) h h)
-    over (faults.Refused (refusals.BadSize declared actual)) h w = absurd (refused_here order _ (refusals.BadSize declared actual) h h)
     over (faults.Refused (refusals.Limit kinds.Received number)) h w =
         let size : length (car ++ more) ≡ length (heard ++ (unheard ++ l.left)) = ap length l.whole in
         let there : length heard ≡ limits.received = h.heard_is ∙ h.number_is in
@@ -171,20 +167,26 @@ module _ (laws : AnswerLaws) (verified : VerifiedLaws) (fronts : FitsByFronts) (
     over (faults.Refused (refusals.Limit kinds.Block number)) (is, h) w = absurd (passes order)
       where
         passes : Order → ⊥
-        passes (past rest e) = waits_over rest text h.at e h.up_to
+        passes (past z rest is e) = waits_over z rest text is e h.waits
         passes (before y z rest e is) =
             received.unpassed limits.block heard z h.last h.brings.0 all (whole_at y z h.last e (next_is y z h.last h.more e h.unheard_is)) h.brings.1
-    over (faults.Refused (refusals.Limit kinds.Depth number)) h w = absurd (refused_here order _ (refusals.Limit kinds.Depth number) h h)
-    over (faults.Refused (refusals.Limit kinds.Entries number)) h w = absurd h.cause
-    over (faults.Refused (refusals.Limit kinds.Names number)) h w = absurd h.cause
-    over (faults.Refused (refusals.Limit kinds.Output number)) h w = absurd h.cause
-    over (faults.Refused (refusals.Limit kinds.SeenBlocks number)) h w = absurd h.cause
-    over (faults.Refused (refusals.Limit kinds.SeenBytes number)) h w = absurd h.cause
-    over (faults.Refused (refusals.Limit kinds.Reused number)) h w = absurd h.cause
+    over (faults.Refused (refusals.NotFolder segment)) h w = absurd (refused_here (refusals.NotFolder segment) h w)
+    over (faults.Refused (refusals.NotThere segment)) h w = absurd (refused_here (refusals.NotThere segment) h w)
+    over (faults.Refused (refusals.BadDigest cid)) h w = absurd (refused_here (refusals.BadDigest cid) h w)
+    over (faults.Refused (refusals.WrongBlock want got)) h w = absurd (refused_here (refusals.WrongBlock want got) h w)
+    over (faults.Refused (refusals.BadBlock cid fault)) h w = absurd (refused_here (refusals.BadBlock cid fault) h w)
+    over (faults.Refused (refusals.BadSize declared actual)) h w = absurd (refused_here (refusals.BadSize declared actual) h w)
+    over (faults.Refused (refusals.Limit kinds.Depth number)) h w = absurd (refused_here (refusals.Limit kinds.Depth number) h w)
+    over (faults.Refused (refusals.Limit kinds.Entries number)) h w = absurd (refused_here (refusals.Limit kinds.Entries number) h w)
+    over (faults.Refused (refusals.Limit kinds.Names number)) h w = absurd (refused_here (refusals.Limit kinds.Names number) h w)
+    over (faults.Refused (refusals.Limit kinds.Output number)) h w = absurd (refused_here (refusals.Limit kinds.Output number) h w)
+    over (faults.Refused (refusals.Limit kinds.SeenBlocks number)) h w = absurd (refused_here (refusals.Limit kinds.SeenBlocks number) h w)
+    over (faults.Refused (refusals.Limit kinds.SeenBytes number)) h w = absurd (refused_here (refusals.Limit kinds.SeenBytes number) h w)
+    over (faults.Refused (refusals.Limit kinds.Reused number)) h w = absurd (refused_here (refusals.Limit kinds.Reused number) h w)
     over (faults.BadCar fault) (no_car, h) w = absurd (breaks order)
       where
         breaks : Order → ⊥
-        breaks (past rest e) = waits_over rest text h.at e h.up_to
+        breaks (past z rest is e) = waits_over z rest text is e h.waits
         breaks (before y z rest e is) = received.unbroken limits.block heard z h.last all fault (whole_at y z h.last e (next_is y z h.last h.more e h.unheard_is)) no_car h.brings
     over faults.InputFault h w = inr tt
     over faults.OutOfMemory h w = inr tt
@@ -198,7 +200,7 @@ module _ (laws : AnswerLaws) (verified : VerifiedLaws) (fronts : FitsByFronts) (
 
 -- ---- the answer
 
-module _ (laws : AnswerLaws) (verified : VerifiedLaws) (fronts : FitsByFronts) (progresses : ProgressByFronts) (q : QueryParts) (d : Dag) (all : List Section) (answer : List ℕ) (dups : q.dups ≡ true)
+module _ (laws : AnswerLaws) (verified : VerifiedLaws) (fronts : FitsByFronts) (progresses : ProgressByFronts) (q : QueryParts) (d : Dag) (all : List Section) (answer : List ℕ)
     (either : (sections : List Section) (a b : Dag) (x : List ℕ) (w : Spot) → Fits a q sections x → IsInProgress b q sections w → ⊥) (fits : Fits d q all answer)
     (cars : CarLaws) (received : ReceivedLaws) (limits : LimitNumbers) (within : IsWithinLimits q limits d) (input : Input) (out : Output) (car more : List ℕ) (is_car : IsCarOf car all)
     (whole : HasReceived limits.block car all) (some : 0 < length more) (short : length (car ++ more) ≤ limits.received) (told : input.left_old ≡ Some (car ++ more)) where
@@ -206,10 +208,10 @@ module _ (laws : AnswerLaws) (verified : VerifiedLaws) (fronts : FitsByFronts) (
   goes_over (Ok end) v =
       let h = v.verifies in
       let l = left_of (car ++ more) h.heard h.unheard input told h.took in
-      not_accepted laws verified fronts progresses q d all answer dups either fits cars received limits within input car more is_car whole some short h.heard h.unheard h.sections h.text l h.received
+      not_accepted laws verified fronts progresses q d all answer either fits cars received limits within input car more is_car whole some short h.heard h.unheard h.sections h.text l h.received
       (all_heard (car ++ more) h.heard h.unheard input l h.ends.0.all h.ends.0.ended) h.ends.1.is_car h.ends.1.through
   goes_over (Err fault) v =
       let h = v.verifies in
       let l = left_of (car ++ more) h.heard h.unheard input told h.took in
-      over laws verified fronts progresses q d all answer dups either fits cars received limits within input car more is_car whole some short h.heard h.unheard h.sections h.text l h.received
+      over laws verified fronts progresses q d all answer either fits cars received limits within input car more is_car whole some short h.heard h.unheard h.sections h.text l h.received
       fault h.ends (v.wanted fault refl)

@@ -1,9 +1,11 @@
 -- An input that tells its bytes: those that were heard are a front of them.
-use Rattle.std.proofs.Common.{◌≡◌, ℕ, ◌<◌, ◌≤◌, max, List, [], ◌∷◌, ◌++◌, length, map, All, Option, Some, None, refl, ap, sym, ◌∙◌, append-nil, append_assoc, arith}
+use Rattle.std.proofs.Common.{◌≡◌, ℕ, ◌<◌, ◌≤◌, max, List, [], ◌∷◌, ◌++◌, length, map, All, Option, Some, None, refl, ap, sym, ◌∙◌, inl, inr, append-nil, append_assoc, arith}
 use Rattle.std.proofs.lemmas.List.{length-append}
 use Rattle.std.proofs.lemmas.List.Elements.{All-nil, All-cons}
 use Rattle.tg_bytes.specs.Told.{IsNothing, after_front}
 use Rattle.tg_car.specs.CarText.{SectionsText}
+use Rattle.tg_car.specs.History.{GoesOn}
+use Rattle.tg_car.specs.LawLemmas.{none_in_header}
 use Rattle.tg_car.specs.Laws.{CarLaws}
 use Rattle.tg_car.specs.declared.section.Section.{Section as CarSection}
 use Rattle.tg_model.specs.Counts.{greatest}
@@ -13,7 +15,7 @@ use Rattle.tg_model.specs.Queries.{QueryParts}
 use Rattle.tg_model.specs.Traversal.{block_list}
 use Rattle.tg_streams.specs.Streams.{Ended, Input, Took}
 use Rattle.tg_verify.specs.Laws.{IsWithinLimits}
-use Rattle.tg_client.specs.Received.{IsCarOf, in_car}
+use Rattle.tg_client.specs.Received.{HasHeader, IsCarOf, in_car}
 use Rattle.std.proofs.lemmas.List.{append_cancel_left}
 
 -- what is left
@@ -73,3 +75,22 @@ car_once laws sections bytes car more (roots, a) (others, b) same some =
     let rests : a.rest ≡ b.rest ++ more = append_cancel_left b.header a.rest (b.rest ++ more) (ap (λ (l : List ℕ). l ++ a.rest) (sym one.0) ∙ both) in
     let none : length more ≡ 0 = ap length (texts_same laws (map in_car sections) a.rest b.rest more a.sections_are b.sections_are rests) in
     absurd (omega (arith, none, some))
+
+-- ---- a header that isn't whole
+
+pub no_header : CarLaws → (limit : ℕ) (sections : List Section) (car more bytes : List ℕ) → IsCarOf car sections → bytes ≡ car ++ more → GoesOn limit bytes [] → ⊥
+no_header laws limit sections car more bytes (roots, text) same (inl b) =
+    let whole : text.header ++ (text.rest ++ more) ≡ bytes = sym (same ∙ (ap (λ (l : List ℕ). l ++ more) text.whole ∙ append_assoc text.header text.rest more)) in
+    none_in_header laws roots text.header (text.rest ++ more) bytes text.header_is whole b.inside
+no_header laws limit sections car more bytes is_car same (inr (rest, a)) = let is = a.given_is in absurd (cc is)
+
+pub header_inside : CarLaws → (limit : ℕ) (heard more bytes : List ℕ) → HasHeader limit heard → bytes ≡ heard ++ more → GoesOn limit bytes [] → ⊥
+header_inside laws limit heard more bytes h same (inr (rest, a)) = let is = a.given_is in absurd (cc is)
+header_inside laws limit heard more bytes h same (inl b) = by h.goes_on
+  where
+    by : GoesOn limit heard (h.event ∷ h.given) → ⊥
+    by (inl none) = let e = none.nothing_given in absurd (cc e)
+    by (inr (rest, a)) =
+        let own = a.reaches in
+        let whole : own.header ++ ((own.done ++ rest) ++ more) ≡ bytes = sym (same ∙ (ap (λ (l : List ℕ). l ++ more) own.whole ∙ append_assoc own.header (own.done ++ rest) more)) in
+        none_in_header laws own.roots own.header ((own.done ++ rest) ++ more) bytes own.header_is whole b.inside

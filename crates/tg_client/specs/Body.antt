@@ -1,11 +1,11 @@
 -- What the body of an answer stands for: the bytes that it heard, the sections that it took, and what is written for
 -- them.
-use Rattle.std.specs.Prelude.{Err, List, None, Ok, Result, [], length, ⊤, ℕ, ◌++◌, ◌<◌, ◌∷◌, ◌≡◌, ◌≤◌}
+use Rattle.std.specs.Prelude.{Err, List, None, Ok, Result, [], length, ⊤, ℕ, ◌++◌, ◌∷◌, ◌≡◌, ◌≤◌, ◌⊎◌}
 use Rattle.tg_car.specs.History.{History}
 use Rattle.tg_car.specs.State.{StandsFor}
 use Rattle.tg_car.specs.declared.event.Event.{Event}
-use Rattle.tg_client.specs.Ends.{EndsBy, IsAccepted, IsWithinReceived, SaysFor, Verifies}
-use Rattle.tg_client.specs.Received.{HasReceived, sections_given}
+use Rattle.tg_client.specs.Ends.{EndsBy, IsAccepted, IsEndedShort, IsWithinReceived, SaysFor, Verifies}
+use Rattle.tg_client.specs.Received.{HasHeader, HasReceived, sections_given}
 use Rattle.tg_client.specs.declared.body.Body.{Body}
 use Rattle.tg_client.specs.declared.fault.ClientFault.{ClientFault}
 use Rattle.tg_client.specs.declared.fault.ClientFault.TheVariants as faults
@@ -13,15 +13,20 @@ use Rattle.tg_traversal.specs.Left.{WantedAt}
 use Rattle.tg_model.specs.Dag.{Section}
 use Rattle.tg_model.specs.LimitNumbers.{LimitNumbers}
 use Rattle.tg_model.specs.Queries.{QueryParts}
+use Rattle.tg_model.specs.declared.limits.LimitKind.TheVariants as kinds
 use Rattle.tg_streams.specs.Streams.{Input, Output, OutputQuiet, OutputRose, Put}
-use Rattle.tg_verify.specs.Refusals.{IsCutShort}
 use Rattle.tg_verify.specs.Sound.{ForEachSound}
-use Rattle.tg_verify.specs.Taken.{IsGoing, IsUpTo}
+use Rattle.tg_verify.specs.Taken.{IsFresh, IsGoing, IsUpTo}
 use Rattle.tg_verify.specs.declared.fault.Refusal.TheVariants as refusals
 
 -- a reader's history before a refusal
 abbrev pub going_on : List ℕ → List Event → History
 going_on bytes given = record { fed = bytes; given = given; stop = None }
+
+-- the verifier isn't started before the header is whole
+abbrev pub IsBodyAt : Body → List Event → List Section → List ℕ → Type 0
+IsBodyAt body [] sections written = IsFresh body.verifier × (written ≡ [])
+IsBodyAt body (event ∷ given) sections written = IsGoing body.verifier sections written
 
 -- nothing was refused: these bytes were heard, these sections stand whole in them and were taken, and this is written
 -- for them
@@ -32,10 +37,8 @@ pub record IsBody (body : Body) (heard : List ℕ) (sections : List Section) (wr
   pub limit : body.reader.limit ≡ body.verifier.limits.block
   pub most : body.most ≡ body.verifier.limits.received
   pub fresh : body.verifier.refused ≡ None
-  pub going : IsGoing body.verifier sections written
-  -- the first block is always wanted
-  pub some : body.verifier.left.wanted ≡ None → 0 < length sections
-  -- and no byte is heard behind the last wanted section
+  pub at : IsBodyAt body given sections written
+  -- no byte is heard behind the header and the last wanted section
   pub behind : body.verifier.left.wanted ≡ None → body.reader.came ≡ []
   pub count : body.heard ≡ length heard
   pub within : length heard ≤ body.most
@@ -56,11 +59,21 @@ pub record IsLastWanted (q : QueryParts) (sections : List Section) : Type 0 wher
   pub at : WantedAt
   pub up_to : IsUpTo q taken text at
 
--- nothing is taken behind the last wanted section
-abbrev pub IsAfterWanted : QueryParts → List Section → ClientFault → Type 0
-IsAfterWanted q sections (faults.Refused (refusals.NotFolder segment)) = IsLastWanted q sections
-IsAfterWanted q sections (faults.Refused (refusals.NotThere segment)) = IsLastWanted q sections
-IsAfterWanted q sections other = ⊤
+-- the header is whole, and no section was taken, or the last of them was wanted
+pub record IsBehindHeader (q : QueryParts) (limits : LimitNumbers) (heard : List ℕ) (sections : List Section) : Type 0 where
+  pub header : HasHeader limits.block heard
+  pub last : (sections ≡ []) ⊎ IsLastWanted q sections
+
+-- nothing is taken before the header is whole, nor behind the last wanted section; and where it isn't whole the root is
+-- wanted
+abbrev pub IsAfterWanted : QueryParts → LimitNumbers → List ℕ → List Section → ClientFault → Type 0
+IsAfterWanted q limits heard sections (faults.Refused (refusals.Extra number)) = ⊤
+IsAfterWanted q limits heard sections (faults.Refused (refusals.Limit kinds.Block number)) = ⊤
+IsAfterWanted q limits heard sections (faults.Refused (refusals.Limit kinds.Received number)) = ⊤
+IsAfterWanted q limits heard sections (faults.Refused (refusals.Truncated want number)) =
+    ((want ≡ q.root) × (number ≡ 0)) ⊎ HasHeader limits.block heard
+IsAfterWanted q limits heard sections (faults.Refused fault) = IsBehindHeader q limits heard sections
+IsAfterWanted q limits heard sections other = ⊤
 
 -- an input of which nothing is known
 abbrev pub unknown : Input
@@ -78,24 +91,25 @@ pub record IsStopped (q : QueryParts) (limits : LimitNumbers) (bytes written : L
   pub put : Put text out
   pub ends : EndsBy q limits unknown heard unheard sections (written ++ text) (Err fault)
   pub sound : ForEachSound q (λ d. SaysFor q d sections (written ++ text) (Err fault))
-  pub wanted : IsAfterWanted q sections fault
+  pub wanted : IsAfterWanted q limits heard sections fault
 
 -- how the verification of a CAR ends, and nothing was taken behind the last wanted section
 pub record IsVerified (q : QueryParts) (limits : LimitNumbers) (input : Input) (out : Output) (result : Result ⊤ ClientFault) : Type 0 where
   pub verifies : Verifies q limits input out result
-  pub wanted : (fault : ClientFault) → result ≡ Err fault → IsAfterWanted q verifies.sections fault
+  pub wanted : (fault : ClientFault) → result ≡ Err fault → IsAfterWanted q limits verifies.heard verifies.sections fault
 
 -- how it ends where no more bytes come
 abbrev pub EndsAt : QueryParts → LimitNumbers → List ℕ → List Section → List ℕ → Result ⊤ ClientFault → Type 0
 EndsAt q limits heard sections text (Ok done) = IsAccepted q limits heard sections text
 EndsAt q limits heard sections text (Err (faults.Refused (refusals.Truncated want number))) =
-    (at : WantedAt) × (want ≡ at.cid) × IsCutShort q sections text at number
+    IsEndedShort q limits heard sections text want number
 EndsAt q limits heard sections text (Err other) = ⊥
 
 pub record HasEnded (q : QueryParts) (limits : LimitNumbers) (heard : List ℕ) (sections : List Section) (text : List ℕ) (result : Result ⊤ ClientFault) : Type 0 where
   pub received : HasReceived limits.block heard sections
   pub ends : EndsAt q limits heard sections text result
   pub sound : ForEachSound q (λ d. SaysFor q d sections text result)
+  pub wanted : (fault : ClientFault) → result ≡ Err fault → IsAfterWanted q limits heard sections fault
 
 -- a fault of out comes where one was counted, and nowhere else; and none is of the input
 abbrev pub HasOutCause : Output → ClientFault → Type 0

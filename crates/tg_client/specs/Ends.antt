@@ -1,6 +1,8 @@
 -- How the verification of a CAR on an input ends.
 use Rattle.std.specs.Prelude.{Err, List, Ok, Result, [], length, ⊤, ℕ, ◌++◌, ◌<◌, ◌∷◌, ◌≡◌, ◌≤◌, ◌⊎◌}
 use Rattle.tg_car.specs.Faults.{Brings, PassesLimit}
+use Rattle.tg_car.specs.History.{GoesOn}
+use Rattle.tg_cid.specs.Cid.{CidParts}
 use Rattle.tg_car.specs.declared.fault.CarFault.{CarFault}
 use Rattle.tg_car.specs.declared.fault.CarFault.TheVariants as cars
 use Rattle.tg_client.specs.Received.{HasReceived, IsCarOf}
@@ -22,15 +24,31 @@ use Rattle.tg_verify.specs.declared.fault.Refusal.TheVariants as refusals
 
 -- ---- what was heard
 
--- the sections were taken, and nothing was refused: a block is wanted, or all came
-abbrev pub IsHeld : QueryParts → List Section → List ℕ → Type 0
-IsHeld q sections text = ((at : WantedAt) × IsUpTo q sections text at) ⊎ IsThrough q sections text
+-- the header isn't whole, and nothing was opened
+pub record IsBeforeHeader (limits : LimitNumbers) (heard : List ℕ) (sections : List Section) (text : List ℕ) : Type 0 where
+  pub goes_on : GoesOn limits.block heard []
+  pub no_section : sections ≡ []
+  pub no_text : text ≡ []
 
--- the sections were taken, and nothing was refused: a block is wanted, or all came, and what was heard is the CAR of
--- these sections, with no byte behind the last of them
-abbrev pub IsHeldExactly : QueryParts → List ℕ → List Section → List ℕ → Type 0
-IsHeldExactly q heard sections text =
-    ((at : WantedAt) × IsUpTo q sections text at) ⊎ (IsThrough q sections text × IsCarOf heard sections)
+-- the sections were taken, nothing was refused, and a block is wanted; or the header isn't whole
+abbrev pub IsWaiting : QueryParts → LimitNumbers → List ℕ → List Section → List ℕ → Type 0
+IsWaiting q limits heard sections text =
+    IsBeforeHeader limits heard sections text ⊎ ((at : WantedAt) × IsUpTo q sections text at)
+
+-- or all came
+abbrev pub IsHeld : QueryParts → LimitNumbers → List ℕ → List Section → List ℕ → Type 0
+IsHeld q limits heard sections text = IsWaiting q limits heard sections text ⊎ IsThrough q sections text
+
+-- or all came, and what was heard is the CAR of these sections, with no byte behind the last of them
+abbrev pub IsHeldExactly : QueryParts → LimitNumbers → List ℕ → List Section → List ℕ → Type 0
+IsHeldExactly q limits heard sections text =
+    IsWaiting q limits heard sections text ⊎ (IsThrough q sections text × IsCarOf heard sections)
+
+-- no more bytes come: a block is wanted, or the header isn't whole, where the root is
+abbrev pub IsEndedShort : QueryParts → LimitNumbers → List ℕ → List Section → List ℕ → CidParts → ℕ → Type 0
+IsEndedShort q limits heard sections text want number =
+    (IsBeforeHeader limits heard sections text × (want ≡ q.root) × (number ≡ 0))
+    ⊎ ((at : WantedAt) × (want ≡ at.cid) × IsCutShort q sections text at number)
 
 -- all sections came, and bytes behind them, of which the first may be received
 pub record HasSurplus (q : QueryParts) (limits : LimitNumbers) (bytes : List ℕ) (sections : List Section) (text : List ℕ) (number : ℕ) : Type 0 where
@@ -48,12 +66,12 @@ pub record IsPastReceived (q : QueryParts) (limits : LimitNumbers) (heard unhear
   pub number_is : number ≡ limits.received
   pub heard_is : length heard ≡ number
   pub some : 0 < length unheard
-  pub held : IsHeldExactly q heard sections text
+  pub held : IsHeldExactly q limits heard sections text
 
--- a block is wanted, and with the next byte, which may be received, this holds of what was heard
+-- a block is wanted, or the header isn't whole, and with the next byte, which may be received, this holds of what was
+-- heard
 pub record IsBrokenBy (q : QueryParts) (limits : LimitNumbers) (heard unheard : List ℕ) (sections : List Section) (text : List ℕ) (why : List ℕ → Type 0) : Type 0 where
-  pub at : WantedAt
-  pub up_to : IsUpTo q sections text at
+  pub waits : IsWaiting q limits heard sections text
   pub last : ℕ
   pub more : List ℕ
   pub unheard_is : unheard ≡ last ∷ more
@@ -84,15 +102,16 @@ EndsBy q limits input heard unheard sections text (Err (faults.Refused (refusals
 EndsBy q limits input heard unheard sections text (Err (faults.Refused (refusals.Limit kinds.Block number))) =
     ((number ≡ limits.block) × IsBrokenBy q limits heard unheard sections text (λ bytes. (place : ℕ) × PassesLimit limits.block bytes place))
 EndsBy q limits input heard unheard sections text (Err (faults.Refused (refusals.Truncated want number))) =
-    IsAllHeard unheard input × ((at : WantedAt) × (want ≡ at.cid) × IsCutShort q sections text at number)
+    IsAllHeard unheard input × IsEndedShort q limits heard sections text want number
 EndsBy q limits input heard unheard sections text (Err (faults.Refused refusals.OutOfMemory)) = ⊥
 EndsBy q limits input heard unheard sections text (Err (faults.Refused fault)) =
     (HasRefused q limits sections text fault)
 EndsBy q limits input heard unheard sections text (Err (faults.BadCar fault)) =
     (IsNoCar fault × IsBrokenBy q limits heard unheard sections text (λ bytes. Brings limits.block bytes fault))
-EndsBy q limits input heard unheard sections text (Err faults.InputFault) = ((unheard ≡ []) × IsHeld q sections text)
+EndsBy q limits input heard unheard sections text (Err faults.InputFault) =
+    ((unheard ≡ []) × IsHeld q limits heard sections text)
 EndsBy q limits input heard unheard sections text (Err faults.OutOfMemory) =
-    (HasRefused q limits sections text refusals.OutOfMemory ⊎ IsHeld q sections text)
+    (HasRefused q limits sections text refusals.OutOfMemory ⊎ IsHeld q limits heard sections text)
 
 -- no more was heard than may be received
 abbrev pub IsWithinReceived : LimitNumbers → List ℕ → Type 0

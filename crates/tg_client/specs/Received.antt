@@ -28,6 +28,12 @@ pub record HasReceived (limit : ℕ) (bytes : List ℕ) (sections : List Section
   pub goes_on : GoesOn limit bytes given
   pub sections_are : sections_given given ≡ sections
 
+-- a CAR goes on with these bytes, and its header is whole in them
+pub record HasHeader (limit : ℕ) (bytes : List ℕ) : Type 0 where
+  pub event : Event
+  pub given : List Event
+  pub goes_on : GoesOn limit bytes (event ∷ given)
+
 -- the bytes are a CAR of these sections, whatever roots its header has
 abbrev pub IsCarOf : List ℕ → List Section → Type 0
 IsCarOf bytes sections = (roots : List (List ℕ)) × CarText roots (map in_car sections) bytes

@@ -14,8 +14,8 @@ use tg_model::{LimitKind, Limits, Query};
 use tg_streams::Sink;
 use tg_verify::{Refusal, Verifier};
 
-/// The body of an answer to a query: a CAR, of which each section is verified as soon as its last byte came. No byte of
-/// it is kept but those of the section at hand.
+/// The body of an answer to a query: a CAR, of which each section is verified as soon as its last byte came. The
+/// verifier is started once the header is whole. No byte of the CAR is kept but those of the section at hand.
 #[derive(Drop)]
 pub(crate) struct Body {
     reader: CarReader,
@@ -31,7 +31,7 @@ impl Body {
         ensures limits { IfOk result (λ body. body.verifier.limits ≡ limits) }
         ensures fresh { IfOk result (λ body. body.verifier.refused ≡ None) }
         ensures heard { IfOk result (λ body. body.heard ≡ 0) }
-        ensures stands { IfOk result (λ body. query.now.dups ≡ true → IsBody body [] [] []) }
+        ensures stands { IfOk result (λ body. IsBody body [] [] []) }
     {
         Ok(Body {
             reader: CarReader::new(alloc, limits.number(LimitKind::Block)),
@@ -45,8 +45,8 @@ impl Body {
     ///
     /// Errors, at the first byte where one holds: `Refused` with a `Limit` of kind `Received` where more bytes came
     /// than may; with `Extra` behind the last wanted section; with a `Limit` of kind `Block` where a section declares
-    /// too large a block; with a refusal of the verifier at the last byte of a section; `BadCar` where no CAR goes on
-    /// so; and `OutOfMemory`.
+    /// too large a block; with a refusal of the verifier at the last byte of the header or of a section; `BadCar` where
+    /// no CAR goes on so; and `OutOfMemory`.
     pub(crate) fn feed<S: Sink>(&mut self, piece: &[u8], out: &mut S) -> Result<(), ClientFault>
         ensures query { self.new.verifier.left.query ≡ self.old.verifier.left.query }
         ensures limits { self.new.verifier.limits ≡ self.old.verifier.limits }
@@ -70,7 +70,8 @@ impl Body {
         Ok(())
     }
 
-    /// Says that no more bytes come. Errors: `Refused` with `Truncated` where a block is wanted.
+    /// Says that no more bytes come. Errors: `Refused` with `Truncated` where a block is wanted, or the header isn't
+    /// whole, with the root.
     pub(crate) fn end(&mut self) -> Result<(), ClientFault>
         ensures cause { self.old.verifier.refused ≡ None → IfErr result IsEndFault }
         ensures stands { (heard : Items ℕ) (sections : Items Section) (written : Items ℕ)
@@ -114,8 +115,14 @@ impl Body {
         let room = (self.most - self.heard).min(piece.len() as u64) as usize;
         let (taken, event) = self.reader.feed(&piece[..room])?;
         self.heard += taken as u64;
-        if let Event::Section { section, .. } = event {
-            self.verifier.section(section.cid, section.block, out)?;
+        match event {
+            Event::Need => {}
+            Event::Header(_) => {
+                self.verifier.start(out)?;
+            }
+            Event::Section { section, .. } => {
+                self.verifier.section(section.cid, section.block, out)?;
+            }
         }
         Ok(taken)
     }

@@ -1,4 +1,4 @@
-use Rattle.std.proofs.Common.{ap, subst, ◌∙◌}
+use Rattle.std.proofs.Common.{subst}
 use Rattle.std.proofs.lemmas.Result.{err_from_is_err_and}
 use Rattle.tg_model.specs.LimitNumbers.{LimitNumbers}
 use Rattle.tg_model.specs.Queries.{QueryParts}
@@ -9,25 +9,25 @@ use Rattle.tg_client.proofs.Hearing.{none_heard}
 use Rattle.tg_client.proofs.cars.hear.Goals as goal
 
 pub returns-in_err-room-clause-verifies : goal.returns-in_err-room-clause-verifies
-returns-in_err-room-clause-verifies g c dups =
+returns-in_err-room-clause-verifies g c =
     let p = err_from_is_err_and c.from_residual.result c.from_residual.ensures.1 in
     rw (p.1, p.2)
-    (none_heard c.spelling_laws.ensures c.verified_sections.ensures c.verified_answers.ensures c.args.query.now c.args.limits dups (through g.I.Source.source c.args.input.now c.args.input.now)
+    (none_heard c.spelling_laws.ensures c.verified_answers.ensures c.args.query.now c.args.limits (through g.I.Source.source c.args.input.now c.args.input.now)
     (into g.S.Sink.sink c.args.out.now c.args.out.now) (took_nothing _ g.I.Source.source c.args.input.now (g.met.I.Source.rests c.args.input.now))
     (put_nothing _ g.S.Sink.sink c.args.out.now (g.met.S.Sink.rests c.args.out.now)))
 
 pub returns-in_err-body-clause-verifies : goal.returns-in_err-body-clause-verifies
-returns-in_err-body-clause-verifies g c dups =
+returns-in_err-body-clause-verifies g c =
     let p = err_from_is_err_and c.from_residual-in_err-body.result c.from_residual-in_err-body.ensures.1 in
     rw (p.1, p.2)
-    (none_heard c.spelling_laws.ensures c.verified_sections.ensures c.verified_answers.ensures c.args.query.now c.args.limits dups (through g.I.Source.source c.args.input.now c.args.input.now)
+    (none_heard c.spelling_laws.ensures c.verified_answers.ensures c.args.query.now c.args.limits (through g.I.Source.source c.args.input.now c.args.input.now)
     (into g.S.Sink.sink c.args.out.now c.args.out.now) (took_nothing _ g.I.Source.source c.args.input.now (g.met.I.Source.rests c.args.input.now))
     (put_nothing _ g.S.Sink.sink c.args.out.now (g.met.S.Sink.rests c.args.out.now)))
 
 pub returns-clause-verifies : goal.returns-clause-verifies
-returns-clause-verifies g c dups =
+returns-clause-verifies g c =
     let input = through g.I.Source.source c.args.input.now c.hear_pieces.new.input in
     let out = into g.S.Sink.sink c.args.out.now c.hear_pieces.new.out in
     subst (λ (n : LimitNumbers). IsVerified c.args.query.now n input out c.hear_pieces.result) c.in_ok-body.ensures.limits
     (subst (λ (q : QueryParts). IsVerified q c.in_ok-body.body.verifier.limits input out c.hear_pieces.result) c.in_ok-body.ensures.query
-    (c.hear_pieces.ensures.verifies (ap (λ (q : QueryParts). q.dups) c.in_ok-body.ensures.query ∙ dups)))
+    c.hear_pieces.ensures.verifies)

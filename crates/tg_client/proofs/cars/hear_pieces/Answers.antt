@@ -25,16 +25,16 @@ loop-filled-init g c = record {
   within = c.requires.within;
   heard_quiet = refl;
   put_quiet = refl;
-  come = λ dups. come_first g.I.Source.source g.met.I.Source.joins g.S.Sink.sink g.met.S.Sink.joins c.args.input.now c.args.out.now c.args.body.now (g.met.I.Source.rests c.args.input.now)
-      (g.met.S.Sink.rests c.args.out.now) (c.requires.stands dups);
+  come = come_first g.I.Source.source g.met.I.Source.joins g.S.Sink.sink g.met.S.Sink.joins c.args.input.now c.args.out.now c.args.body.now (g.met.I.Source.rests c.args.input.now)
+      (g.met.S.Sink.rests c.args.out.now) c.requires.stands;
 }
 
 pub returns-in_default-clause-verifies : goal.returns-in_default-clause-verifies
-returns-in_default-clause-verifies g c dups =
+returns-in_default-clause-verifies g c =
     let inv = c.loop-filled.invariant in
     fault_heard c.verified_answers.ensures c.args.body.now.verifier.limits c.args.body.now.verifier.left.query c.loop-filled.body (through g.I.Source.source c.args.input.now c.take_piece.new.source) (into g.S.Sink.sink c.args.out.now c.loop-filled.out)
     inv.query inv.limits
-    (come_none g.I.Source.source g.met.I.Source.joins g.S.Sink.sink g.met.S.Sink.joins c.args.input.now c.loop-filled.input c.take_piece.new.source c.args.out.now c.loop-filled.out c.loop-filled.body (inv.come dups)
+    (come_none g.I.Source.source g.met.I.Source.joins g.S.Sink.sink g.met.S.Sink.joins c.args.input.now c.loop-filled.input c.take_piece.new.source c.args.out.now c.loop-filled.out c.loop-filled.body inv.come
     c.in_default.ensures.err_untaken)
 
 pub returns-in_default-clause-cause : goal.returns-in_default-clause-cause
@@ -43,9 +43,9 @@ returns-in_default-clause-cause g c =
     (subst (λ (n : ℕ). Rose n (g.I.Source.source.faults c.take_piece.new.source)) inv.heard_quiet c.in_default.ensures.err_rose, inv.put_quiet)
 
 pub returns-then-filled-eq0-clause-verifies : goal.returns-then-filled-eq0-clause-verifies
-returns-then-filled-eq0-clause-verifies g c dups =
+returns-then-filled-eq0-clause-verifies g c =
     let inv = c.loop-filled.invariant in
-    let come = inv.come dups in
+    let come = inv.come in
     let w = come.went in
     let old = c.loop-filled.body in
     let input = through g.I.Source.source c.args.input.now c.take_piece.new.source in
@@ -84,8 +84,8 @@ loop-filled-preserved g c =
       within = (c.in_ok-feed.ensures.heard inv.within).1;
       heard_quiet = c.in-Ok.ensures.quiet ∙ inv.heard_quiet;
       put_quiet = out.1 ∙ inv.put_quiet;
-      come = λ dups.
-          let come = inv.come dups in
+      come =
+          let come = inv.come in
           come_more g.I.Source.source g.met.I.Source.joins g.S.Sink.sink g.met.S.Sink.joins c.args.input.now c.loop-filled.input c.take_piece.new.source c.args.out.now c.loop-filled.out c.feed.new.out
           c.loop-filled.body c.feed.new.self (take c.in-Ok.filled c.take_piece.new.buf) come c.in-Ok.ensures.took (c.in_ok-feed.ensures.stands come.heard come.went.sections come.went.text come.went.is_body);
     }
@@ -99,9 +99,9 @@ returns-in_err-feed-clause-cause g c =
     (out_cause_from g.S.Sink.sink c.args.out.now c.loop-filled.out c.feed.new.out inv.put_quiet c.in_err-feed.field-0.0 (c.in_err-feed.ensures.cause inv.fresh)))
 
 pub returns-in_err-feed-clause-verifies : goal.returns-in_err-feed-clause-verifies
-returns-in_err-feed-clause-verifies g c dups =
+returns-in_err-feed-clause-verifies g c =
     let inv = c.loop-filled.invariant in
-    let come = inv.come dups in
+    let come = inv.come in
     let w = come.went in
     let p = err_from_is_err_and c.from_residual.result c.from_residual.ensures.1 in
     let bytes : List ℕ = come.heard ++ take c.in-Ok.filled c.take_piece.new.buf in

@@ -1,5 +1,5 @@
 -- what came so far
-use Rattle.std.proofs.Common.{◌≡◌, ◌≤◌, ◌<◌, ◌-◌, None, length, true}
+use Rattle.std.proofs.Common.{◌≡◌, ◌≤◌, ◌<◌, ◌-◌, None, length}
 use Rattle.tg_client.proofs.Coming.{HasCome}
 use Rattle.tg_streams.specs.Streams.{InputQuiet, OutputQuiet, into, through}
 use Rattle.tg_client.proofs.cars.hear_pieces.Given as goal
@@ -13,7 +13,7 @@ invariant-loop-filled g l = record {
   within : l.body.heard ≤ l.body.most;
   heard_quiet : InputQuiet (through g.I.Source.source l.fn.input l.input);
   put_quiet : OutputQuiet (into g.S.Sink.sink l.fn.out l.out);
-  come : l.fn.body.verifier.left.query.dups ≡ true → HasCome l.body (through g.I.Source.source l.fn.input l.input) (into g.S.Sink.sink l.fn.out l.out);
+  come : HasCome l.body (through g.I.Source.source l.fn.input l.input) (into g.S.Sink.sink l.fn.out l.out);
 }
 
 abbrev pub decreases-loop-filled : goal.decreases-loop-filled

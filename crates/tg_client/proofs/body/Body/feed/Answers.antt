@@ -1,4 +1,4 @@
-use Rattle.std.proofs.Common.{◌≡◌, ◌+◌, ◌-◌, ◌++◌, ℕ, List, ap, sym, subst, ◌∙◌, take, drop, length, append_assoc, arith}
+use Rattle.std.proofs.Common.{◌≡◌, ◌+◌, ◌-◌, ◌++◌, ℕ, List, refl, ap, sym, subst, ◌∙◌, take, drop, length, append_assoc, arith}
 use Rattle.std.proofs.lemmas.List.{length-drop, length-take, take_rest, take-append-drop, take_all}
 use Rattle.std.proofs.lemmas.Result.{err_from_is_err_and}
 use Rattle.std.proofs.Math.Seq.{take-add}
@@ -6,8 +6,19 @@ use Rattle.tg_model.specs.LimitNumbers.{LimitNumbers}
 use Rattle.tg_model.specs.Queries.{QueryParts}
 use Rattle.tg_streams.specs.Streams.{into}
 use Rattle.tg_client.specs.Body.{IsStopped, WentOn}
-use Rattle.tg_client.proofs.Feeding.{stopped_on, went_further}
+use Rattle.tg_client.proofs.Feeding.{stopped_on, went_further, went_nothing}
 use Rattle.tg_client.proofs.body.Body.feed.Goals as goal
+
+pub loop-at-init : goal.loop-at-init
+loop-at-init g c = record {
+  query = refl;
+  limits = refl;
+  most = refl;
+  within = omega arith;
+  heard = λ e. (omega arith, e);
+  cause = λ e. (e, refl);
+  stands = λ heard sections written h. went_nothing g.S.Sink.sink c.args.out.now (g.met.S.Sink.rests c.args.out.now) c.args.self.now heard sections written h;
+}
 
 pub returns-in_err-at-clause-stands : goal.returns-in_err-at-clause-stands
 returns-in_err-at-clause-stands g c heard sections written h =
