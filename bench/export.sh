@@ -1,6 +1,7 @@
 #!/usr/bin/env bash
-# `tgate export` from a pack of a file of 400 MB, and from one of a folder with 20,000 files of 64 bytes, beside sha256sum of the pack
-# and cp of it in the same run, as ratios of the times, with the most memory that the program holds. The best of three rounds counts.
+# `tgate export` from a pack of a file of 400 MB, and from one of a folder with 20,000 files of 64 bytes, with repeats and with each
+# block once, beside sha256sum of the pack and cp of it in the same run, as ratios of the times, with the most memory that the program
+# holds. The best of three rounds counts.
 set -u
 cd "$(dirname "$0")/.." || exit 1
 for tool in rt sha256sum cp awk /usr/bin/time; do
@@ -27,17 +28,19 @@ best() {
 }
 
 echo "load before: $(cut -d' ' -f1-3 /proc/loadavg)"
-for kind in large many; do
+for row in "large y" "many y" "large n" "many n"; do
+    kind=${row% *} dups=${row#* }
+    rm -f "$made/pack"
     root=$("$program" import "$made/$kind" "$made/pack" | head -n 1)
-    best export "$program" export "$made/pack" "$root" --scope all
-    echo "bytes $(wc -c <"$made/out") $(wc -c <"$made/pack")"
+    best export "$program" export "$made/pack" "$root" --scope all --dups "$dups"
+    echo "bytes $(wc -c <"$made/out") $(wc -c <"$made/pack") $kind $dups"
     best sha256sum sha256sum "$made/pack"
     best cp cp "$made/pack" "$made/copy"
 done | awk '
     $1 == "export" { time = $2; held = $3; next }
-    $1 == "bytes" { out = $2; pack = $3; next }
+    $1 == "bytes" { out = $2; pack = $3; kind = $4; dups = $5; next }
     $1 == "sha256sum" { hash = $2; next }
-    { name = n++ ? "20,000 files of 64 bytes" : "one file of 400 MB"
+    { name = (kind == "large" ? "one file of 400 MB" : "20,000 files of 64 bytes") ", dups " dups
       printf "%s: pack %d bytes, CAR %d bytes, export %d ms, sha256sum %d ms, cp %d ms\n", name, pack, out, time, hash, $2
       printf "%s: export / sha256sum %.2f, export / cp %.2f, most memory %d KB\n", name, time / hash, time / ($2 ? $2 : 1), held }'
 echo "load after: $(cut -d' ' -f1-3 /proc/loadavg)"

@@ -42,7 +42,6 @@ use Rattle.tg_app.specs.declared.fault.CommandFault.{CommandFault}
 use Rattle.tg_app.specs.declared.fault.CommandFault.TheVariants.{Usage, BadDigest, BadBlock, BlockLimit, InputFault, SinkFault, OutOfMemory}
 use Rattle.tg_app.proofs.Statuses.{not_zero}
 use Rattle.tg_app.proofs.VerifyEndings.{no_verify_usage, unverified, verify_fault, verify_quiet}
-use Rattle.tg_traversal_laws.specs.Verified.{VerifiedStarts}
 
 -- ---- the command that the words spell
 
@@ -53,23 +52,23 @@ not_imported : (parts : ImportParts) (files : Files) (out : Output) → SameFile
 not_imported parts files out same unput =
     inr (inr (record { same_folder = same.folder; same_pack = same.pack; unput = unput; is = refl }))
 
-memory_ends : (words : List (List ℕ)) (command : Command) (objects : Objects) → VerifiedStarts → CommandLine words command → AllUntouched objects
+memory_ends : (words : List (List ℕ)) (command : Command) (objects : Objects) → CommandLine words command → AllUntouched objects
     → CommandEnds command objects (Some OutOfMemory)
-memory_ends words (Check cid) objects starts line all = (all.files, all.streams)
-memory_ends words (Node cid) objects starts line all = (all.files, inl all.streams)
-memory_ends words (CidToHex cid) objects starts line all = (all.files, all.streams.untaken, all.streams.unput)
-memory_ends words (CidToText cid) objects starts line all = (all.files, all.streams.untaken, all.streams.unput)
-memory_ends words (Export parts) objects starts line all =
+memory_ends words (Check cid) objects line all = (all.files, all.streams)
+memory_ends words (Node cid) objects line all = (all.files, inl all.streams)
+memory_ends words (CidToHex cid) objects line all = (all.files, all.streams.untaken, all.streams.unput)
+memory_ends words (CidToText cid) objects line all = (all.files, all.streams.untaken, all.streams.unput)
+memory_ends words (Export parts) objects line all =
     (all.files.folder, all.streams.untaken, unbegun objects.files.pack objects.files.same_pack objects.out parts.pack parts.query all.files.pack all.streams.unput)
-memory_ends words (Import parts) objects starts line all = (all.streams.untaken, not_imported parts objects.files objects.out all.files all.streams.unput)
-memory_ends words (Verify q) objects starts line all = (all.files, unverified q objects.input objects.out starts line.asked.dups all.streams)
+memory_ends words (Import parts) objects line all = (all.streams.untaken, not_imported parts objects.files objects.out all.files all.streams.unput)
+memory_ends words (Verify q) objects line all = (all.files, unverified q objects.input objects.out all.streams)
 
-pub ends_of : VerifiedStarts → (words : List (List ℕ)) (command : Command) (objects : Objects) (end : Option CommandFault) → CommandLine words command
+pub ends_of : (words : List (List ℕ)) (command : Command) (objects : Objects) (end : Option CommandFault) → CommandLine words command
     → Ends words objects end → CommandEnds command objects end
-ends_of starts words command objects end line (inl none) = absurd (none.none command line)
-ends_of starts words command objects end line (inr (inl memory)) =
-    subst (CommandEnds command objects) (sym memory.end_is) (memory_ends words command objects starts line memory.untouched)
-ends_of starts words command objects end line (inr (inr did)) = subst (λ (k : Command). CommandEnds k objects end) (did.the.only command line) did.ends
+ends_of words command objects end line (inl none) = absurd (none.none command line)
+ends_of words command objects end line (inr (inl memory)) =
+    subst (CommandEnds command objects) (sym memory.end_is) (memory_ends words command objects line memory.untouched)
+ends_of words command objects end line (inr (inr did)) = subst (λ (k : Command). CommandEnds k objects end) (did.the.only command line) did.ends
 
 -- ---- statuses that differ
 

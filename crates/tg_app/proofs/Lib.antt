@@ -4,6 +4,7 @@ mod ExportSteps
 mod ImportSteps
 mod VerifyEndings
 mod VerifySteps
+mod OwnBlocks
 mod OwnCars
 mod OwnAnswers
 mod OwnDone

@@ -49,14 +49,14 @@ greatest_has [] ys p most few = omega (arith, few)
 greatest_has (x ∷ xs) ys p most few = greatest_has xs ys p most (omega (arith, few))
 
 -- no text and no entry comes first
-abbrev HasNext : List (Task CidParts) → Type 0
+abbrev pub HasNext : List (Task CidParts) → Type 0
 HasNext [] = ⊤
 HasNext (open_block w cid ∷ tasks) = ⊤
 HasNext (give_text text ∷ tasks) = ⊥
 HasNext (give_entries met ∷ tasks) = ⊥
 HasNext (stop_at miss ∷ tasks) = ⊤
 
-next_then : (tasks : List (Task CidParts)) → HasNext (tasks_then tasks)
+pub next_then : (tasks : List (Task CidParts)) → HasNext (tasks_then tasks)
 next_then [] = tt
 next_then (open_block w cid ∷ tasks) = tt
 next_then (give_text text ∷ tasks) = next_then tasks

@@ -15,7 +15,6 @@ use Rattle.tg_app.specs.declared.fault.CommandFault.{CommandFault}
 use Rattle.tg_cid.specs.Cid.{CidParts}
 use Rattle.tg_model.specs.Queries.{QueryParts}
 use Rattle.tg_model_laws.specs.Depths.{CutsAtDepths, ShowsDownTo}
-use Rattle.tg_traversal_laws.specs.Verified.{VerifiedStarts}
 use Rattle.tg_verify.specs.Laws.{AnswerIsFront, ThroughFits}
 use Rattle.tg_words.specs.ExportLines.{ExportParts}
 use Rattle.tg_words.specs.ImportLines.{ImportParts}
@@ -23,11 +22,11 @@ use Rattle.tg_words.specs.declared.Command.{Command}
 use Rattle.tg_words.specs.declared.Command.TheVariants.{Check, CidToHex, CidToText, Export, Import, Node, Verify}
 
 -- how the words of a run end, its status and its line
-module _ (run : Run) (end : Option CommandFault) (starts : VerifiedStarts) (through : ThroughFits) (front : AnswerIsFront)
+module _ (run : Run) (end : Option CommandFault) (through : ThroughFits) (front : AnswerIsFront)
     (cuts : CutsAtDepths) (shows : ShowsDownTo) (alike : AttachAlike) (texts : AnswerTexts) (dones : DoneLaws)
     (status : run.status ≡ exit_status end) (line : Says end run.err) (ends : Ends run.words run.objects end) where
   by : (command : Command) → Asks run command → CommandEnds command run.objects end
-  by command asked = ends_of starts run.words command run.objects end asked ends
+  by command asked = ends_of run.words command run.objects end asked ends
 
   has : {n : ℕ} → run.status ≡ n → exit_status end ≡ n
   has e = sym status ∙ e
@@ -91,7 +90,7 @@ module _ (run : Run) (end : Option CommandFault) (starts : VerifiedStarts) (thro
         nowhere = λ nine. nowhere_of parts.pack parts.query pack same run.objects.out end (has nine) did.2;
         answered = λ answer no_pack no_out. subst (λ (n : ℕ). (n ≡ 8) ⊎ (n ≡ 0)) (sym status)
             (export_answered_of parts.pack parts.query pack same run.objects.out end answer no_pack no_out did.2);
-        own_car = λ d text held sound root answers zero. own_car_of cuts shows parts.query d sound root alike text answers run.objects.out parts.pack pack held
+        own_car = λ d text held sound root answers few zero. own_car_of dones.beside cuts shows parts.query d sound root alike text answers few run.objects.out parts.pack pack held
             (exported_of parts.pack parts.query pack same run.objects.out end (has zero) did.2);
         own_done = λ d text held sound root answers shallow no_pack no_out. subst (λ (n : ℕ). (n ≡ 8) ⊎ (n ≡ 0)) (sym status)
             (export_answered_of parts.pack parts.query pack same run.objects.out end (has_answer dones parts.query d text pack.content_old held sound root answers shallow) no_pack no_out did.2);

@@ -1,6 +1,6 @@
 -- What each exit status says of `verify`.
 use Rattle.std.proofs.Common.{◌≡◌, ◌≢◌, ℕ, ◌⊎◌, inl, inr, List, [], ◌∷◌, ◌++◌, Option, Some, None, Err, refl, sym, ap, ◌∙◌, subst, append-nil, arith, rules}
-use Rattle.std.specs.Prelude.{Ok, Result, true, ⊤}
+use Rattle.std.specs.Prelude.{Ok, Result, ⊤}
 use Rattle.tg_app.specs.Blocks.{Untouched}
 use Rattle.tg_app.specs.Lines.{Says, exit_status, status_of}
 use Rattle.tg_app.specs.Verify.{IsGoodCar, IsNoAnswer, IsVerifyRefusal, NotAccepted, SaysLine, ShowsSome, TellsVerify, VerifiedInput, VerifyEnds, Vouched}
@@ -13,7 +13,6 @@ use Rattle.tg_car.specs.Fronts.{IsInHeader}
 use Rattle.tg_client.specs.Ends.{HasStreamCause, IsOwnEnd, SaysFor, Verifies}
 use Rattle.tg_client.specs.declared.fault.ClientFault.{ClientFault}
 use Rattle.tg_client.specs.declared.fault.ClientFault.TheVariants as clients
-use Rattle.tg_traversal.specs.Left.{WantedAt}
 use Rattle.tg_model.specs.Answer.{answer}
 use Rattle.tg_model.specs.Dag.{Dag, Section, root_cid}
 use Rattle.tg_model.specs.Fits.{CollisionPair, IsFrontOfAnswer}
@@ -22,12 +21,8 @@ use Rattle.tg_model.specs.Queries.{QueryParts}
 use Rattle.tg_model.specs.Sound.{IsSound}
 use Rattle.tg_model.specs.declared.limits.LimitKind.TheVariants as kinds
 use Rattle.tg_streams.specs.Streams.{Input, InputQuiet, InputRose, Output, OutputQuiet, OutputRose, Took}
-use Rattle.tg_traversal_laws.specs.Stages.{nothing_given}
-use Rattle.tg_traversal_laws.specs.Tasks.{path_want}
-use Rattle.tg_traversal_laws.specs.Verified.{VerifiedStarts}
 use Rattle.tg_verify.specs.Laws.{AnswerIsFront, ThroughFits}
 use Rattle.tg_verify.specs.Sound.{IsItsAnswer, IsItsFront}
-use Rattle.tg_verify.specs.Taken.{IsUpTo}
 use Rattle.tg_verify.specs.declared.fault.Refusal.TheVariants as verifiers
 
 -- ---- the status of each fault
@@ -182,8 +177,9 @@ nowhere_for q d sections text fault refusal e (inr h) says = let k = sym h.1 ∙
 says_line : (q : QueryParts) (d : Dag) (sections : List Section) (text : List ℕ) (fault : ClientFault) (refusal : CommandFault) → TellsVerify fault refusal → SaysFor q d sections text (Err fault)
     → SaysLine q d sections (Some refusal)
 says_line q d sections text (clients.Refused (verifiers.Extra number)) refusal h says = rw h tt
-says_line q d sections text (clients.Refused (verifiers.Limit kinds.Depth number)) refusal h says = rw h says.1
-says_line q d sections text (clients.Refused (verifiers.Limit kind number)) refusal h says = rw h tt
+says_line q d sections text (clients.Refused (verifiers.Limit kinds.Block number)) refusal h says = rw h tt
+says_line q d sections text (clients.Refused (verifiers.Limit kinds.Received number)) refusal h says = rw h tt
+says_line q d sections text (clients.Refused (verifiers.Limit kind number)) refusal h says = rw h says.1
 says_line q d sections text (clients.Refused (verifiers.BadDigest cid)) refusal (shown, is_text, h) says = rw h tt
 says_line q d sections text (clients.Refused (verifiers.WrongBlock want got)) refusal (a, b, is_a, is_b, h) says = rw h tt
 says_line q d sections text (clients.Refused (verifiers.BadBlock cid fault)) refusal (shown, is_text, h) says = rw h says.1
@@ -270,19 +266,12 @@ before_header = record {
   };
 }
 
--- the root is wanted first
-abbrev first_wanted : QueryParts → WantedAt
-first_wanted q = record { want = path_want 0 q.path 1; cid = q.root }
-
-wants_root : (q : QueryParts) → VerifiedStarts → q.dups ≡ true → IsUpTo q [] [] (first_wanted q)
-wants_root q starts repeats = record { repeats = repeats; given = nothing_given; later = []; verified = starts q; text = refl }
-
 front_of_any : (found : Option (List ℕ)) → IsFrontOfAnswer [] found
 front_of_any None = refl
 front_of_any (Some text) = (text, refl)
 
-pub unverified : (q : QueryParts) (input : Input) (out : Output) → VerifiedStarts → q.dups ≡ true → Untouched input out → NotAccepted q input out OutOfMemory
-unverified q input out starts repeats none = record {
+pub unverified : (q : QueryParts) (input : Input) (out : Output) → Untouched input out → NotAccepted q input out OutOfMemory
+unverified q input out none = record {
   fault = clients.OutOfMemory;
   tells = inl refl;
   verifies = record {
@@ -294,7 +283,7 @@ unverified q input out starts repeats none = record {
     received = record { given = []; goes_on = inl (record { nothing_given = refl; inside = before_header }); sections_are = refl };
     text = [];
     put = record { moved = none.unput.unput.moved; held = unput_is out.held_old out.held_new none.unput.unput.held };
-    ends = inr (inl (first_wanted q, wants_root q starts repeats));
+    ends = inr (inl (inl (record { goes_on = inl (record { nothing_given = refl; inside = before_header }); no_section = refl; no_text = refl })));
     sound = λ d sound root. inl (front_of_any (answer q d));
   };
   cause = (none.untaken.quiet, none.unput.quiet);

@@ -8,11 +8,11 @@ use Rattle.tg_client.specs.Received.{IsCarOf}
 use Rattle.tg_client.specs.declared.fault.ClientFault.{ClientFault}
 use Rattle.tg_model.specs.Answer.{answer}
 use Rattle.tg_model.specs.Dag.{Dag, Section, root_cid}
-use Rattle.tg_model.specs.Fits.{Fits}
+use Rattle.tg_model.specs.Fits.{Fits, HasOneBlockEach, IfOnce}
 use Rattle.tg_model.specs.LimitNumbers.{LimitNumbers, standard}
 use Rattle.tg_model.specs.Queries.{QueryParts}
 use Rattle.tg_model.specs.Sound.{IsSound}
-use Rattle.tg_model.specs.Traversal.{block_list}
+use Rattle.tg_model.specs.Traversal.{block_list, opened_list}
 use Rattle.tg_streams.specs.Streams.{Input, Output}
 use Rattle.tg_verify.specs.Laws.{IsWithinLimits}
 
@@ -30,20 +30,20 @@ module _ (q : QueryParts) (limits : LimitNumbers) (input : Input) (out : Output)
 
   good_is_taken : (bytes : List ℕ)
       → ((d : Dag) (bytes text : List ℕ) → input.left_old ≡ Some bytes → IsSound d → root_cid d ≡ q.root → answer q d ≡ Some text
-      → IsCarOf bytes (block_list q d) → IsWithinLimits q limits d → length bytes ≤ limits.received → IsAcceptedElse result)
+      → IfOnce q.dups (HasOneBlockEach (opened_list q d)) → IsCarOf bytes (block_list q d) → IsWithinLimits q limits d → length bytes ≤ limits.received → IsAcceptedElse result)
       → ((d : Dag) (sections : List Section) (bytes text : List ℕ) → input.left_old ≡ Some bytes → Fits d q sections text
       → IsCarOf bytes sections → IsWithinLimits q limits d → length bytes ≤ limits.received → IsAcceptedElse result)
       → input.left_old ≡ Some bytes → IsGoodCar q bytes → IsAcceptedElse result
   good_is_taken bytes own fitting told good =
       let few : length bytes ≤ limits.received = subst (λ (l : LimitNumbers). length bytes ≤ l.received) (sym are) good.1 in
       elim good.0 [
-        | inl (d, text, car) ↦ own d bytes text told car.sound car.root car.answers car.is_car (within d car.within) few
+        | inl (d, text, car) ↦ own d bytes text told car.sound car.root car.answers car.one_each car.is_car (within d car.within) few
         | inr car ↦ fitting car.d car.sections bytes car.text told car.fits car.is_car (within car.d car.within) few
       ]
 
   pub not_accepted : (fault : ClientFault) (refusal : CommandFault) → result ≡ Err fault → IsVerifyRefusal fault refusal
       → ((d : Dag) (bytes text : List ℕ) → input.left_old ≡ Some bytes → IsSound d → root_cid d ≡ q.root → answer q d ≡ Some text
-      → IsCarOf bytes (block_list q d) → IsWithinLimits q limits d → length bytes ≤ limits.received → IsAcceptedElse result)
+      → IfOnce q.dups (HasOneBlockEach (opened_list q d)) → IsCarOf bytes (block_list q d) → IsWithinLimits q limits d → length bytes ≤ limits.received → IsAcceptedElse result)
       → ((d : Dag) (sections : List Section) (bytes text : List ℕ) → input.left_old ≡ Some bytes → Fits d q sections text
       → IsCarOf bytes sections → IsWithinLimits q limits d → length bytes ≤ limits.received → IsAcceptedElse result)
       → NotAccepted q input out refusal

@@ -17,9 +17,11 @@ use Rattle.tg_files.specs.Packs.{PackRose}
 use Rattle.tg_model.specs.Answer.{answer}
 use Rattle.tg_model.specs.Counts.{counts}
 use Rattle.tg_model.specs.Dag.{Dag, root_cid}
+use Rattle.tg_model.specs.LimitNumbers.{standard}
 use Rattle.tg_model.specs.Queries.{QueryParts}
 use Rattle.tg_model.specs.Sound.{IsSound}
 use Rattle.tg_streams.specs.Streams.{InputQuiet, InputRose, Output, OutputQuiet, OutputRose, Put}
+use Rattle.tg_verify.specs.Laws.{IsWithinLimits}
 use Rattle.tg_walk.specs.Walks.{max_depth}
 use Rattle.tg_words.specs.CommandLine.{CommandLine}
 use Rattle.tg_words.specs.ExportLines.{ExportParts}
@@ -105,9 +107,11 @@ pub record ExportRun (parts : ExportParts) (run : Run) : Type 0 where
   -- where the content has all of it, none too deep, no fault is counted and memory is found, it is 0
   pub answered : HasAnswer parts.query run.objects.files.pack.content_old → (IsRisen run.objects.files.pack → ⊥)
       → (OutputRose run.objects.out → ⊥) → (run.status ≡ 8) ⊎ (run.status ≡ 0)
-  -- of a pack that holds a sound DAG the CAR is that of its own traversal, which `verify` of the same query accepts
+  -- of a pack that holds a sound DAG the CAR is that of its own traversal, which `verify` of the same query accepts, where
+  -- the DAG passes none of its limits
   pub own_car : (d : Dag) (text : List ℕ) → HoldsDag run.objects.files.pack.content_old d → IsSound d
-      → root_cid d ≡ parts.query.root → answer parts.query d ≡ Some text → run.status ≡ 0
+      → root_cid d ≡ parts.query.root → answer parts.query d ≡ Some text
+      → IsWithinLimits parts.query standard d → run.status ≡ 0
       → (bytes : List ℕ) × Put bytes run.objects.out × IsItsCar parts.query d text bytes
   -- and it is done, where none of what is asked lies deeper than 512 blocks, no fault is counted and memory is found
   pub own_done : (d : Dag) (text : List ℕ) → HoldsDag run.objects.files.pack.content_old d → IsSound d

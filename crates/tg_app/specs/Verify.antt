@@ -13,13 +13,13 @@ use Rattle.tg_client.specs.declared.fault.ClientFault.TheVariants as clients
 use Rattle.tg_model.specs.Answer.{answer}
 use Rattle.tg_model.specs.Counts.{counts}
 use Rattle.tg_model.specs.Dag.{Dag, Section, root_cid}
-use Rattle.tg_model.specs.Fits.{CollisionPair, Fits}
-use Rattle.tg_model.specs.LimitNumbers.{standard}
+use Rattle.tg_model.specs.Fits.{CollisionPair, Fits, HasOneBlockEach, IfOnce}
+use Rattle.tg_model.specs.LimitNumbers.{number_of, standard}
 use Rattle.tg_model.specs.Lookup.{lookup_path}
 use Rattle.tg_model.specs.Lookup as lookups
 use Rattle.tg_model.specs.Queries.{QueryParts}
 use Rattle.tg_model.specs.Sound.{IsSound}
-use Rattle.tg_model.specs.Traversal.{block_list}
+use Rattle.tg_model.specs.Traversal.{block_list, opened_list}
 use Rattle.tg_model.specs.declared.limits.LimitKind.TheVariants as kinds
 use Rattle.tg_streams.specs.Streams.{Input, InputQuiet, Output, OutputQuiet, Put, Took, TookAll}
 use Rattle.tg_verify.specs.Laws.{IsFitOf, IsWithinLimits}
@@ -68,12 +68,13 @@ pub record Accepted (q : QueryParts) (input : Input) (out : Output) : Type 0 whe
   pub verifies : Verifies q standard input out (Ok done)
   pub cause : HasStreamCause input out (Ok done)
 
--- a CAR of the sections of a sound DAG's own traversal, whose answer is this text; or of sections that fit; none of its
--- limits passed
+-- a CAR of the sections of a sound DAG's own traversal, whose answer is this text, with one block under each CID where
+-- each is sent once; or of sections that fit; none of its limits passed
 pub record IsItsCar (q : QueryParts) (d : Dag) (text bytes : List ℕ) : Type 0 where
   pub sound : IsSound d
   pub root : root_cid d ≡ q.root
   pub answers : answer q d ≡ Some text
+  pub one_each : IfOnce q.dups (HasOneBlockEach (opened_list q d))
   pub is_car : IsCarOf bytes (block_list q d)
   pub within : IsWithinLimits q standard d
 
@@ -125,15 +126,17 @@ abbrev pub IsNoAnswer : QueryParts → Dag → Type 0
 IsNoAnswer q d =
     ((i : ℕ) × (lookup_path q.path d ≡ lookups.not_there i)) ⊎ ((i : ℕ) × (lookup_path q.path d ≡ lookups.not_folder i))
 
--- what the line on err says of the DAG: its path leads nowhere at this segment; it is deeper than this; a block of it is
--- never bad, nor is a size of it, but for a pair
+-- what the line on err says of the DAG: its path leads nowhere at this segment; it counts more than this limit, but for
+-- limits of what was received; a block of it is never bad, nor is a size of it, but for a pair
 abbrev pub SaysLine : QueryParts → Dag → List Section → Option CommandFault → Type 0
 SaysLine q d sections (Some (refusals.NotThere segment)) =
     (lookup_path q.path d ≡ lookups.not_there segment) ⊎ CollisionPair sections d
 SaysLine q d sections (Some (refusals.NotFolder segment)) =
     (lookup_path q.path d ≡ lookups.not_folder segment) ⊎ CollisionPair sections d
-SaysLine q d sections (Some (refusals.Limit kinds.Depth number)) =
-    (number < (counts q d).depth) ⊎ CollisionPair sections d
+SaysLine q d sections (Some (refusals.Limit kinds.Block number)) = ⊤
+SaysLine q d sections (Some (refusals.Limit kinds.Received number)) = ⊤
+SaysLine q d sections (Some (refusals.Limit kind number)) =
+    (number < number_of kind (counts q d)) ⊎ CollisionPair sections d
 SaysLine q d sections (Some (refusals.BadReceived cid fault)) = CollisionPair sections d
 SaysLine q d sections (Some (refusals.BadSize declared actual)) = CollisionPair sections d
 SaysLine q d sections other = ⊤

@@ -24,10 +24,10 @@ use tg_words::Command;
 /// 0 the command is done; 2 the words are no command; 3 the block on input isn't the CID's, or `node` finds a fault in
 /// it, or the CAR on input isn't what `verify` asks for; 6 a fault of the folder, of the pack, of the input or of out
 /// was counted, or the pack's or the folder's content is refused; 7 a limit is passed: a block of more than 2,097,152
-/// bytes, a block more than 512 deep, an input of more than 2^40 bytes, a folder on level 33, a name of more than 255
-/// bytes, a file or a folder that is too large; 8 want of memory; 9 the path of an `export` or of a `verify` leads
-/// nowhere. A status other than 6 says that no fault of the input or of out was counted. A status other than 0 puts one
-/// line on err, and a fault of err changes nothing else.
+/// bytes, a block more than 512 deep, an input of more than 2^40 bytes, one of `verify`'s other limits, a folder on
+/// level 33, a name of more than 255 bytes, a file or a folder that is too large; 8 want of memory; 9 the path of an
+/// `export` or of a `verify` leads nowhere. A status other than 6 says that no fault of the input or of out was
+/// counted. A status other than 0 puts one line on err, and a fault of err changes nothing else.
 ///
 /// What each status says stands in `Runs`: a record for the words, and one for each command, whose last field for
 /// `verify` is the answer that every sound DAG vouches for.
@@ -62,7 +62,6 @@ pub fn run<F: Folder, P: Pack, I: Source, O: Sink, E: Sink>(
     tg_store::laws::finished_packs::<P>();
     tg_traversal_laws::beside_dags();
     tg_traversal_laws::store_walks();
-    tg_traversal_laws::verified_sections();
     tg_verify::laws::verified_answers();
     let end = command(alloc, words, folder, pack, input, out);
     tell(&end, err)

@@ -1,5 +1,5 @@
 //! `verify`.
-ghost use Rattle.std.specs.Prelude.{◌≡◌, ◌⊎◌, true, IfOk};
+ghost use Rattle.std.specs.Prelude.{◌≡◌, ◌⊎◌, IfOk};
 ghost use Rattle.tg_app.specs.Blocks.{IsTextOf};
 ghost use Rattle.tg_app.specs.Exports.{ShowsOrWants};
 ghost use Rattle.tg_app.specs.Lines.{end_of};
@@ -16,14 +16,13 @@ use tg_model::{BlockFault, Limits, Query};
 use tg_streams::{Sink, Source};
 use tg_verify::Refusal as VerifierRefusal;
 
-/// `verify`: the input is verified to be a CAR of what a query with repeats asks for, and what it says goes to out.
+/// `verify`: the input is verified to be a CAR of what a query asks for, and what it says goes to out.
 pub fn verify<I: Source, O: Sink>(
     alloc: Global,
     query: &Query,
     input: &mut I,
     out: &mut O,
 ) -> Result<(), CommandFault>
-    requires { query.now.dups ≡ true }
     ensures { VerifyEnds query.now (through I.source input.old input.new) (into O.sink out.old out.new)
         (end_of result) }
 {

@@ -78,6 +78,14 @@ const ANSWERS: &[Row] = &[
     ),
     (Shape::Twins, &[1, 0, 0], FILE, 0, b"aaaaaaaa", ""),
     (
+        Shape::Twins,
+        &[1, 0],
+        ("", &["--dups", "n"]),
+        0,
+        b"aaaaaaaa",
+        "",
+    ),
+    (
         Shape::SmallFolder,
         &[1, 0],
         ("", &["--scope", "all"]),
@@ -124,6 +132,15 @@ const ANSWERS: &[Row] = &[
 ];
 
 const REFUSALS: &[Row] = &[
+    // A repeat where each block is sent once.
+    (
+        Shape::Twins,
+        &[1, 0, 0],
+        ("", &["--dups=n"]),
+        3,
+        b"aaaaaaaa",
+        "Extra 2\n",
+    ),
     // Two leaves change places, a section comes behind the last, and the first comes twice.
     (
         Shape::Hello,

@@ -158,7 +158,7 @@ fn run_with(
 }
 
 /// Runs the words over an empty folder and a pack.
-fn run_over_pack(alloc: Global, words: &[&str], pack: &[u8]) -> Option<Outcome> {
+pub fn run_over_pack(alloc: Global, words: &[&str], pack: &[u8]) -> Option<Outcome> {
     run_with(alloc, words, Shape::Nothing, pack, NONE)
 }
 
@@ -409,6 +409,10 @@ const ASKED: &[Asked] = &[
     (&["export", "p", FOLDER], 0, 146, ""),
     (&["export", "p", FOLDER, "--scope=all"], 0, 450, ""),
     (&["export", "p", FOLDER_H], 0, 450, ""),
+    (&["export", "p", F, "--dups", "n"], 0, 363, ""),
+    (&["export", "p", F, "--dups", "x"], 2, 0, USAGE),
+    (&["export", "p", F, "--dups"], 2, 0, USAGE),
+    (&["export", "p", F, "--dups=y", "--dups=y"], 2, 0, USAGE),
     (&["export", "p", F, "--bytes", "5:3"], 2, 0, USAGE),
     (&["export", "p", Z], 9, 0, "tgate: NoRoot\n"),
     (&["export", "p", FOLDER_X], 9, 0, "tgate: NotThere 0\n"),

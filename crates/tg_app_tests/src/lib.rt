@@ -13,3 +13,5 @@ mod cars;
 mod files;
 #[cfg(test)]
 mod known;
+#[cfg(test)]
+mod once;

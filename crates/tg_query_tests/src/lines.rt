@@ -201,7 +201,23 @@ const EXPORTS: &[(&[&str], Option<Export>)] = &[
     (&["export", "p", "@", "--bytes="], None),
     (&["export", "p", "@", "--scope=all", "--scope=all"], None),
     (&["export", "p", "@", "--bytes=3:8", "--bytes", "3:8"], None),
-    (&["export", "p", "@", "--dups", "y"], None),
+    (
+        &["export", "p", "@", "--dups", "y"],
+        Some(("p", Query::Car(Scope::Entity, &[]))),
+    ),
+    (
+        &["export", "p", "@", "--scope=all", "--dups=n"],
+        Some(("p", Query::EachOnce)),
+    ),
+    (
+        &["export", "--dups", "n", "p", "--scope", "all", "@"],
+        Some(("p", Query::EachOnce)),
+    ),
+    (&["export", "p", "@", "--dups"], None),
+    (&["export", "p", "@", "--dups="], None),
+    (&["export", "p", "@", "--dups=N"], None),
+    (&["export", "p", "@", "--dups", "yes"], None),
+    (&["export", "p", "@", "--dups=n", "--dups=n"], None),
     (&["export", "p", "@", "--chunk", "1"], None),
 ];
 
@@ -377,8 +393,17 @@ const VERIFIES: &[(&[&str], Option<Query>)] = &[
     (&["verify", "@", "--bytes=3:8", "--bytes=3:8"], None),
     (&["verify", "@", "--bytes", "5:3"], None),
     (&["verify", "@", "--bytes", "-3:*"], None),
-    (&["verify", "@", "--dups", "y"], None),
-    (&["verify", "@", "--dups=n"], None),
+    (
+        &["verify", "@", "--dups", "y"],
+        Some(Query::Car(Scope::Entity, &[])),
+    ),
+    (
+        &["verify", "--dups=n", "@", "--scope=all"],
+        Some(Query::EachOnce),
+    ),
+    (&["verify", "@", "--dups"], None),
+    (&["verify", "@", "--dups", "x"], None),
+    (&["verify", "@", "--dups=y", "--dups=n"], None),
     (&["verifies", "@"], None),
 ];
 

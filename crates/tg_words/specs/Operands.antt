@@ -1,5 +1,5 @@
 -- What the reader of a command's operands keeps and answers, and how faults of the crates below are faults of words.
-use Rattle.std.specs.Prelude.{◌≡◌, ◌≢◌, ℕ, ◌≤◌, List, [], ◌∷◌, true, map, find, codes, Option, Some, None, option_map}
+use Rattle.std.specs.Prelude.{◌≡◌, ◌≢◌, ℕ, ◌≤◌, Bool, List, [], ◌∷◌, map, find, codes, Option, Some, None, option_map}
 use Rattle.std.specs.Prelude.{option_and_then, Result, MatchResult, IfOk}
 use Rattle.std.specs.Option.{unwrap_or}
 use Rattle.std.specs.Str.{bytes_eq}
@@ -25,7 +25,7 @@ use Rattle.tg_path.specs.declared.fault.QueryFault.{QueryFault}
 use Rattle.tg_path.specs.declared.fault.QueryFault.TheVariants as queries
 use Rattle.tg_words.specs.ExportLines.{ExportParts}
 use Rattle.tg_words.specs.ImportLines.{ImportParts, NumberText}
-use Rattle.tg_words.specs.QueryWords.{ScopeText, scope_for}
+use Rattle.tg_words.specs.QueryWords.{DupsText, ScopeText, dups_for, scope_for}
 use Rattle.tg_words.specs.Words.{Names, Given, WordsSpelling}
 use denote.Ref.{Bor}
 
@@ -56,19 +56,22 @@ pub record Exact {A : Type 0} (Is : A → Type 0) (answer : Result A WordsFault)
   pub found : IfOk answer Is
   pub only : (x : A) → Is x → MatchResult answer (λ found. found ≡ x) (λ e. e ≡ OutOfMemory)
 
--- the query that a word ROOT/PATH and the values of `--scope` and `--bytes` ask
-pub record QueryGiven (target : List ℕ) (scope bytes : Option (List ℕ)) (query : QueryParts) : Type 0 where
+-- the query that a word ROOT/PATH and the values of `--scope`, `--bytes` and `--dups` ask
+pub record QueryGiven (target : List ℕ) (scope bytes dups_word : Option (List ℕ)) (query : QueryParts) : Type 0 where
   pub word : WordText target query.root query.path
   pub asked : Option Scope
   pub asked_is : ValueGives ScopeText scope asked
   pub span_is : ValueGives SpanText bytes query.span
   pub scope_is : query.scope ≡ scope_for asked query.span
   pub form : query.form ≡ Car
-  pub dups : query.dups ≡ true
+  pub repeats : Option Bool
+  pub repeats_are : ValueGives DupsText dups_word repeats
+  pub dups : query.dups ≡ dups_for repeats
 
 -- the query that a word ROOT/PATH and these options ask
 abbrev pub QueryBy : List ℕ → List Given → QueryParts → Type 0
-QueryBy target options = QueryGiven target (value_at options (codes "scope")) (value_at options (codes "bytes"))
+QueryBy target options =
+    QueryGiven target (value_at options (codes "scope")) (value_at options (codes "bytes")) (value_at options (codes "dups"))
 
 -- an export from this pack of what a word ROOT/PATH and these options ask
 pub record ExportGiven (pack target : List ℕ) (options : List Given) (parts : ExportParts) : Type 0 where

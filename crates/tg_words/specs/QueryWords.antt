@@ -1,5 +1,6 @@
--- What a word ROOT/PATH and the options `--scope` and `--bytes` ask, in the lines of the commands that have them.
-use Rattle.std.specs.Prelude.{◌≡◌, ℕ, List, [], ◌∷◌, Option, Some, None, true, codes}
+-- What a word ROOT/PATH and the options `--scope`, `--bytes` and `--dups` ask, in the lines of the commands that have
+-- them.
+use Rattle.std.specs.Prelude.{◌≡◌, ℕ, List, [], ◌∷◌, Bool, Option, Some, None, false, true, codes}
 use Rattle.tg_model.specs.Queries.{QueryParts, SpanParts}
 use Rattle.tg_model.specs.declared.queries.Form.TheVariants.{Car}
 use Rattle.tg_model.specs.declared.queries.Scope.{Scope}
@@ -9,7 +10,7 @@ use Rattle.tg_path.specs.WordTexts.{WordText}
 use Rattle.tg_words.specs.Words.{Names, Given, OptionGives}
 
 abbrev pub query_names : Names
-query_names = record { valued = codes "scope" ∷ codes "bytes" ∷ []; flags = [] }
+query_names = record { valued = codes "scope" ∷ codes "bytes" ∷ codes "dups" ∷ []; flags = [] }
 
 -- the word of a scope (Trustless Gateway specification, dag-scope)
 abbrev pub ScopeText : List ℕ → Scope → Type 0
@@ -24,6 +25,16 @@ scope_for asked (Some span) = scopes.Entity
 scope_for (Some scope) None = scope
 scope_for None None = scopes.Entity
 
+-- the word that tells whether repeats are sent (Trustless Gateway specification, dups)
+abbrev pub DupsText : List ℕ → Bool → Type 0
+DupsText text true = text ≡ codes "y"
+DupsText text false = text ≡ codes "n"
+
+-- repeats are sent where nothing is asked
+abbrev pub dups_for : Option Bool → Bool
+dups_for None = true
+dups_for (Some dups) = dups
+
 -- the word and the options ask this query
 pub record QueryAsked (target : List ℕ) (options : List Given) (query : QueryParts) : Type 0 where
   pub word : WordText target query.root query.path
@@ -32,4 +43,6 @@ pub record QueryAsked (target : List ℕ) (options : List Given) (query : QueryP
   pub span_is : OptionGives SpanText options (codes "bytes") query.span
   pub scope_is : query.scope ≡ scope_for asked query.span
   pub form : query.form ≡ Car
-  pub dups : query.dups ≡ true
+  pub repeats : Option Bool
+  pub repeats_are : OptionGives DupsText options (codes "dups") repeats
+  pub dups : query.dups ≡ dups_for repeats

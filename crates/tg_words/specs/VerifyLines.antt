@@ -1,4 +1,4 @@
--- The line `verify ROOT/PATH [--scope S] [--bytes R]`.
+-- The line `verify ROOT/PATH [--scope S] [--bytes R] [--dups D]`.
 use Rattle.std.specs.Prelude.{ℕ, List, [], ◌∷◌, codes}
 use Rattle.tg_model.specs.Queries.{QueryParts}
 use Rattle.tg_words.specs.QueryWords.{QueryAsked, query_names}

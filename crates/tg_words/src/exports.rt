@@ -15,7 +15,7 @@ use tg_model::Query;
 pub struct Export {
     /// The path of the pack, which isn't empty.
     pub pack: String,
-    /// The query, for a CAR in which a block that stands at several places is sent at each of them.
+    /// The query, for a CAR.
     pub query: Query,
 }
 
@@ -28,7 +28,7 @@ impl Model for Export {
     ghost view = { λ e. record { pack = string_bytes e.pack; query = e.query } };
 }
 
-/// `export PACK ROOT/PATH [--scope S] [--bytes R]`.
+/// `export PACK ROOT/PATH [--scope S] [--bytes R] [--dups D]`.
 pub fn export_of(alloc: Global, words: &[String]) -> Result<Command, WordsFault>
     ensures { Answers (codes "export" ∷ map string_bytes words.now) result }
 {

@@ -46,10 +46,11 @@ pub enum Command {
     CidToHex(Cid),
     /// `cid --hex HEX`: the text of the CID with these bytes.
     CidToText(Cid),
-    /// `export PACK ROOT/PATH [--scope S] [--bytes R]`: a CAR of what is asked below a root of a pack.
+    /// `export PACK ROOT/PATH [--scope S] [--bytes R] [--dups D]`: a CAR of what is asked below a root of a pack.
     ///
     /// PACK isn't empty. S is `block`, `entity` or `all`; R is a range FROM:TO of a file's bytes, beside which the
-    /// scope is entity. Without either the scope is entity.
+    /// scope is entity. Without either the scope is entity. D is `y`, or `n` where each block is sent once; without it
+    /// a block is sent at each place where it stands.
     Export(Export),
     /// `import FOLDER PACK [--chunk N] [--width N] [--shard N]`: a folder is written into a pack.
     ///
@@ -57,10 +58,10 @@ pub enum Command {
     /// 1,048,576; a node of a file 2 to 4,096 links, or else 1,024; a directory is sharded above a weight of 0 to
     /// 1,048,576, or else 262,144.
     Import(Import),
-    /// `verify ROOT/PATH [--scope S] [--bytes R]`: a CAR on input is checked, block by block, to be what is asked below
-    /// a root, and what it says is written to out.
+    /// `verify ROOT/PATH [--scope S] [--bytes R] [--dups D]`: a CAR on input is checked, block by block, to be what is
+    /// asked below a root, and what it says is written to out.
     ///
-    /// S, R and the scope are as in `export`.
+    /// S, R, D and the scope are as in `export`.
     Verify(Query),
 }
 

@@ -8,7 +8,7 @@ use crate::queries::{QUERY_NAMES, query_with};
 use crate::{Command, WordsFault};
 use std::alloc::Global;
 
-/// `verify ROOT/PATH [--scope S] [--bytes R]`.
+/// `verify ROOT/PATH [--scope S] [--bytes R] [--dups D]`.
 pub fn verify_of(alloc: Global, words: &[String]) -> Result<Command, WordsFault>
     ensures { Answers (codes "verify" ∷ map string_bytes words.now) result }
 {

@@ -1,5 +1,4 @@
-use Rattle.std.proofs.Common.{◌≡◌, Option, List, ℕ, map, inr, subst, refl}
-use Rattle.std.specs.Prelude.{string_bytes}
+use Rattle.std.proofs.Common.{◌≡◌, Option, List, ℕ, inr, subst, refl}
 use Rattle.tg_app.specs.Commands.{CommandEnds, Ends, TheCommand}
 use Rattle.tg_app.specs.Objects.{Objects}
 use Rattle.tg_app.specs.declared.fault.CommandFault.{CommandFault}
@@ -27,9 +26,6 @@ pub returns-in-Import-clause-ends : goal.returns-in-Import-clause-ends
 returns-in-Import-clause-ends g c =
     the_ends c.in_ok-cid.ensures.found c.in_ok-cid.ensures.only c.in-Import.is
     (record { untaken = record { moved = g.met.I.Source.rests _; left = refl }; quiet = refl }, c.import.ensures.ends)
-
-pub verify-requires : goal.verify-requires
-verify-requires g c = (subst (CommandLine (map string_bytes c.args.words.now)) c.in-Verify.is c.in_ok-cid.ensures.found).asked.dups
 
 pub returns-in-Verify-clause-ends : goal.returns-in-Verify-clause-ends
 returns-in-Verify-clause-ends g c =
