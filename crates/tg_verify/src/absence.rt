@@ -1,14 +1,16 @@
 //! Where a query's path leads, shown by sections.
-ghost use Rattle.std.specs.Prelude.{◌≡◌, ◌≢◌, ◌++◌, ◌∷◌, [], List as Items, Err, IfErr, IfOk, MatchResult, None, OnOk, Some};
+ghost use Rattle.std.specs.Prelude.{◌≡◌, ◌≢◌, ◌++◌, ◌∷◌, [], ℕ, List as Items, Err, IfErr, IfOk, MatchResult, None, Ok};
+ghost use Rattle.std.specs.Prelude.{OnOk, Some};
 ghost use Rattle.tg_model.specs.Dag.{Dag, Section};
-ghost use Rattle.tg_model.specs.Fits.{IsOpenedFor};
-ghost use Rattle.tg_model.specs.PathWalk.{stopped};
+ghost use Rattle.tg_model.specs.Fits.{Fits, IsInProgress, IsOpenedFor};
+ghost use Rattle.tg_model.specs.PathWalk.{Spot, stopped};
 ghost use Rattle.tg_model.specs.Traversal.{block_list, traversal};
+ghost use Rattle.tg_traversal.specs.Left.{WantedAt};
 ghost use Rattle.tg_traversal_laws.specs.Tasks.{Miss, stop_of};
 ghost use Rattle.tg_verify.specs.Absences.{HasShown, IsMissOrOwn, IsShownBy, ShowsPath, path_limits, path_query};
 ghost use Rattle.tg_verify.specs.Absences.{refusal_in};
-ghost use Rattle.tg_verify.specs.History.{IsProgress};
-ghost use Rattle.tg_verify.specs.Laws.{IsWithinLimits};
+ghost use Rattle.tg_verify.specs.History.{IsCounted, IsProgress};
+ghost use Rattle.tg_verify.specs.Laws.{IsOwnFault, IsWithinLimits};
 ghost use Rattle.tg_verify.specs.Sound.{ForEachSound};
 ghost use Rattle.tg_verify.specs.State.{next_cid};
 ghost use Rattle.tg_verify.specs.Steps.{section_with};
@@ -87,6 +89,13 @@ impl Absence {
         ensures shows { IsFresh self.old → IsShownBy self.new [] result }
         ensures progress { IfOk result (λ progress. IsProgress progress self.new) }
         ensures silent { self.old.refused ≡ None → result ≢ Err Refusal.SinkFault }
+        // Before sections that fit, or that are in progress, it starts, but for want of memory.
+        ensures fitting { (d : Dag) (sections : Items Section) (text : Items ℕ) → IsFresh self.old
+            → Fits d self.old.left.query sections text → IsWithinLimits self.old.left.query self.old.limits d
+            → IfErr result IsOwnFault }
+        ensures in_progress { (d : Dag) (sections : Items Section) (wanted : Spot) → IsFresh self.old
+            → IsInProgress d self.old.left.query sections wanted
+            → IsWithinLimits self.old.left.query self.old.limits d → IfErr result IsOwnFault }
         // Before sections that open a DAG in which a segment leads nowhere it starts, or says so.
         ensures nowhere { (d : Dag) (sections : Items Section) (miss : Miss) → IsFresh self.old
             → IsOpenedFor d self.old.left.query → block_list self.old.left.query d ≡ sections
@@ -123,6 +132,18 @@ impl Absence {
             → IsShownBy self.new (sections ++ section_with cid block ∷ []) result }
         ensures progress { IfOk result (λ progress. IsProgress progress self.new) }
         ensures silent { self.old.refused ≡ None → result ≢ Err Refusal.SinkFault }
+        // What `sections` tells then.
+        ensures counted { self.old.refused ≡ None → IsCounted self.old.taken self.new.taken result }
+        // The next of sections that fit, or that are in progress, is taken, but for want of memory.
+        ensures fitting { (d : Dag) (sections rest : Items Section) (text : Items ℕ) → self.old.refused ≡ None
+            → HasShown self.old sections
+            → Fits d self.old.left.query (sections ++ section_with cid block ∷ rest) text
+            → IsWithinLimits self.old.left.query self.old.limits d
+            → IfErr result IsOwnFault }
+        ensures in_progress { (d : Dag) (sections rest : Items Section) (wanted : Spot) → self.old.refused ≡ None
+            → HasShown self.old sections
+            → IsInProgress d self.old.left.query (sections ++ section_with cid block ∷ rest) wanted
+            → IsWithinLimits self.old.left.query self.old.limits d → IfErr result IsOwnFault }
         // The next of sections that open a DAG in which a segment leads nowhere is taken, or shows that.
         ensures nowhere { (d : Dag) (sections rest : Items Section) (miss : Miss) → self.old.refused ≡ None
             → HasShown self.old sections → IsOpenedFor d self.old.left.query
@@ -144,7 +165,13 @@ impl Absence {
         ensures shows { (sections : Items Section) → HasShown self.old sections
             → HasShown self.new sections × ForEachSound self.new.left.query
             (λ d. ShowsPath self.new.left.query d sections (refusal_in result)) }
+        // Ok exactly where nothing was refused and no block is wanted.
         ensures done { OnOk result ((self.old.refused ≡ None) × (self.old.left.wanted ≡ None)) }
+        ensures through { self.old.refused ≡ None → self.old.left.wanted ≡ None → result ≡ Ok tt }
+        ensures cut { (at : WantedAt) → self.old.refused ≡ None → self.old.left.wanted ≡ Some at
+            → result ≡ Err (Refusal.Truncated at.cid self.old.taken) }
+        ensures again { (fault : Refusal) → self.old.refused ≡ Some fault → (result ≡ Err fault)
+            × (self.new ≡ self.old) }
         ensures refused { MatchResult result (λ _. self.new.refused ≡ None) (λ fault. self.new.refused ≡ Some fault) }
     {
         self.verifier.finish()
