@@ -1,13 +1,12 @@
 //! Walks over a store, beside the evaluator.
 use std::alloc::Global;
 use std::rt::HostRuntime;
-use tg_bytes::Bytes;
 use tg_cid::{Cid, HashKind, MAX_BLOCK_LEN};
 use tg_model::{Keep, Query, Scope};
 use tg_oracle::{End, Evaluation, Sent, StoredBlock, evaluate, scoped_query};
 use tg_store::MemStore;
 use tg_test_dags::{Case, Stored, chain};
-use tg_traversal::copied_path;
+use tg_traversal::{SharedBlock, copied_path};
 use tg_walk::{ResolveFault, Walk, WalkFault, resolve};
 
 /// A store that holds the blocks, or none where a CID doesn't name its block.
@@ -99,7 +98,7 @@ fn gives_named(walk: &mut Walk, store: &mut MemStore, wanted: Cid) -> bool {
 }
 
 /// What a walk gives next.
-fn next(walk: &mut Walk, store: &mut MemStore) -> Result<Option<(Cid, Bytes)>, WalkFault> {
+fn next(walk: &mut Walk, store: &mut MemStore) -> Result<Option<(Cid, SharedBlock)>, WalkFault> {
     walk.next(store)
 }
 

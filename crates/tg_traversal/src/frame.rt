@@ -7,6 +7,7 @@ ghost use Rattle.tg_model.specs.Sound.{child};
 ghost use Rattle.tg_model.specs.Texts.{joined};
 ghost use Rattle.tg_model.specs.Traversal.{child_visit, entry_visit, slot_visit};
 
+use crate::block::SharedBlock;
 use crate::position::{Ask, Passed, Place, Position, Reach};
 use std::alloc::{AllocError, Global};
 use tg_bytes::Bytes;
@@ -18,7 +19,7 @@ use tg_model::{Entry, PartCursor, Slot, part_at};
 /// content; and the bytes that are asked for, or all where no range is given.
 #[derive(Drop)]
 pub(crate) struct PartsLeft {
-    pub(crate) block: Bytes,
+    pub(crate) block: SharedBlock,
     pub(crate) cursor: PartCursor,
     pub(crate) count: u64,
     pub(crate) from: u64,

@@ -33,7 +33,7 @@ pub enum Next {
 /// outer ones first, and the place whose block is wanted now. Contracts see the query, that place, and the tasks behind
 /// it.
 ///
-/// A frame holds a copy of a file's block with a cursor over its links, or what is left of a directory's entries; one
+/// A frame shares a file's block, with a cursor over its links, or what is left of a directory's entries; one
 /// of which nothing is left is dropped before its last child is gone into. Trustless Gateway specification, dag-scope,
 /// entity-bytes and order dfs.
 #[derive(Drop)]

@@ -2,6 +2,7 @@
 //! block at that place is read as, what it says itself, and what it leaves. It speaks of no store and of no peer.
 #![tactic(auto)]
 
+mod block;
 mod frame;
 mod frames;
 mod opening;
@@ -10,6 +11,7 @@ mod reading;
 mod stack;
 mod text;
 
+pub use block::SharedBlock;
 pub use frames::{Frames, Next, copied_path};
 pub use position::{Miss, Wanted};
 pub use text::{PlaceText, SizeFault};

@@ -18,6 +18,7 @@ ghost use Rattle.tg_model.specs.declared.kinds.Kind.{Kind};
 ghost use Rattle.tg_model.specs.declared.placed.PlacedKind.{PlacedKind};
 ghost use Rattle.tg_traversal_laws.specs.Tasks.{children_tasks, depth_of, node_tasks, tasks_of, terminal_tasks};
 
+use crate::block::SharedBlock;
 use crate::frame::{ChildrenLeft, EntriesLeft, Frame, PartsLeft, SlotsLeft};
 use crate::frames::{Frames, ask_behind};
 use crate::position::{Ask, Miss, Passed, Place, Position, Reach};
@@ -31,11 +32,11 @@ use tg_murmur::{hash64, slot};
 
 impl Frames {
     /// Opens the block at the place that is wanted now, as what `read` gave for it: what it leaves comes before what
-    /// was left behind it. Of a file whose parts are to come the block is copied, and of other blocks nothing is.
+    /// was left behind it. A file's block whose parts are to come is held until they came, and other blocks aren't.
     ///
     /// Path Gateway specification, Path Resolution; Trustless Gateway specification, dag-scope and entity-bytes. The
     /// error is want of memory, with which the place is given up, and what was left behind it stays.
-    pub fn open(&mut self, found: PlacedKind, block: &[u8]) -> Result<(), AllocError>
+    pub fn open(&mut self, found: PlacedKind, block: &SharedBlock) -> Result<(), AllocError>
         requires here { (at : WantedAt) × (section : Section) × (kind : Kind)
             × IsReadHere self.old at section kind found × (section.block ≡ block.now)
             × (depth_of at.want + 1 < 2 ^ 64) }
@@ -64,11 +65,11 @@ impl Frames {
                     return Ok(());
                 }
                 let reach = terminal_reach(self.alloc, &self.query, &found)?;
-                let frame = node_frame(self.alloc, reach, Position::Top, depth, found, block)?;
+                let frame = node_frame(reach, Position::Top, depth, found, block)?;
                 self.stack.push(frame)
             }
             Ask::Node(reach, position) => {
-                let frame = node_frame(self.alloc, reach, position, depth, found, block)?;
+                let frame = node_frame(reach, position, depth, found, block)?;
                 self.stack.push(frame)
             }
         }
@@ -222,12 +223,11 @@ fn file_asked(span: Option<Span>, found: &PlacedKind) -> Reach
 
 /// The frame of a node of this depth, of which so much is asked. The error is want of memory.
 fn node_frame(
-    alloc: Global,
     reach: Reach,
     position: Position,
     depth: u64,
     found: PlacedKind,
-    block: &[u8],
+    block: &SharedBlock,
 ) -> Result<Frame, AllocError>
     requires depth { depth + 1 < 2 ^ 64 }
     requires read { (section : Section) × (kind : Kind) × IsReadBy position section kind found
@@ -247,7 +247,7 @@ fn node_frame(
             line,
         }),
         PlacedKind::File(places) => {
-            let children = parts_left(alloc, reach, places, block)?;
+            let children = parts_left(reach, places, block)?;
             Ok(Frame {
                 children,
                 depth,
@@ -277,12 +277,11 @@ fn is_bundled(reach: &Reach) -> bool
     }
 }
 
-/// What is left of the parts of a file, with a copy of its block where it has parts. The error is want of memory.
+/// What is left of the parts of a file, with its block where it has parts. The error is want of memory.
 fn parts_left(
-    alloc: Global,
     reach: Reach,
     places: FilePlaces,
-    block: &[u8],
+    block: &SharedBlock,
 ) -> Result<ChildrenLeft, AllocError>
     requires { (inline : Items ℕ) × (filesize : Option ℕ) × (parts : Items Part)
         × IsFileHere places block.now inline filesize parts }
@@ -300,7 +299,7 @@ fn parts_left(
     if places.count == 0 {
         return Ok(ChildrenLeft::Nothing);
     }
-    let block = Bytes::of(alloc, block)?;
+    let block = block.clone()?;
     Ok(ChildrenLeft::Parts(PartsLeft {
         block,
         cursor: places.parts,

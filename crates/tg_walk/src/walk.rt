@@ -14,10 +14,9 @@ use crate::fault::WalkFault;
 use indexmap::IndexMap;
 use std::alloc::{AllocError, Global};
 use std::marker::Model;
-use tg_bytes::Bytes;
 use tg_cid::{Cid, HashKind};
 use tg_model::{BlockFault, Blocks, BlocksFault, Query};
-use tg_traversal::{Frames, Miss, Next, Wanted};
+use tg_traversal::{Frames, Miss, Next, SharedBlock, Wanted};
 
 /// How many blocks there are at most from the root to a block that a walk gives, both counted.
 pub const MAX_DEPTH: u64 = 512;
@@ -68,7 +67,10 @@ impl Walk {
     /// it lies more than 512 blocks deep, stored or not; `Store` where the store gave no answer; `Gone` where it isn't
     /// stored; `BadBlock` where its block has no kind or can't stand there; and `OutOfMemory`. Each further call gives
     /// the same error and changes nothing.
-    pub fn next<B: Blocks>(&mut self, blocks: &mut B) -> Result<Option<(Cid, Bytes)>, WalkFault>
+    pub fn next<B: Blocks>(
+        &mut self,
+        blocks: &mut B,
+    ) -> Result<Option<(Cid, SharedBlock)>, WalkFault>
         ensures query { self.new.left.query ≡ self.old.left.query }
         ensures stands { (store : Store) (sections : List Section) → B.blocks.stored blocks.old ≡ Some store
             → StandsFor self.old store sections
@@ -99,7 +101,7 @@ fn next_given<B: Blocks>(
     frames: &mut Frames,
     known: &mut IndexMap<Cid, ()>,
     blocks: &mut B,
-) -> Result<Option<(Cid, Bytes)>, WalkFault>
+) -> Result<Option<(Cid, SharedBlock)>, WalkFault>
     ensures query { frames.new.query ≡ frames.old.query }
     ensures stands { (store : Store) (sections : List Section) → B.blocks.stored blocks.old ≡ Some store
         → IsOnWalk max_depth frames.old (keys_of known.old.entries) store sections
@@ -138,7 +140,7 @@ fn step<B: Blocks>(
     most: u64,
     frames: &mut Frames,
     blocks: &mut B,
-) -> Result<Option<(Cid, Bytes)>, WalkFault>
+) -> Result<Option<(Cid, SharedBlock)>, WalkFault>
     requires { most ≤ 1100 }
     ensures query { frames.new.query ≡ frames.old.query }
     ensures stands { (store : Store) (opened : List Section) → B.blocks.stored blocks.old ≡ Some store
@@ -170,18 +172,22 @@ pub(crate) fn fetch<B: Blocks>(
     alloc: Global,
     blocks: &mut B,
     cid: &Cid,
-) -> Result<Option<Bytes>, BlocksFault>
+) -> Result<Option<SharedBlock>, BlocksFault>
     ensures found { IfOk result (λ found. IsBlockOf (B.blocks.stored blocks.old) cid.now found) }
     ensures looked { HasFetched cid.now result (looked_in B.blocks blocks.old blocks.new) }
     ensures cause { IfErr result (λ fault. IsCauseOf (B.blocks.stored blocks.old) cid.now (B.blocks.faults blocks.old)
         (B.blocks.faults blocks.new) fault) }
 {
-    match cid.hash_kind() {
-        HashKind::Sha256 => blocks.get(cid),
-        HashKind::Identity => match Bytes::of(alloc, cid.digest()) {
-            Ok(block) => Ok(Some(block)),
-            Err(_) => Err(BlocksFault::OutOfMemory),
+    let block = match cid.hash_kind() {
+        HashKind::Sha256 => match blocks.get(cid)? {
+            Some(block) => SharedBlock::new(alloc, block),
+            None => return Ok(None),
         },
+        HashKind::Identity => SharedBlock::of(alloc, cid.digest()),
+    };
+    match block {
+        Ok(block) => Ok(Some(block)),
+        Err(_) => Err(BlocksFault::OutOfMemory),
     }
 }
 
@@ -215,7 +221,7 @@ pub(crate) fn open(
     alloc: Global,
     frames: &mut Frames,
     cid: Cid,
-    block: &Bytes,
+    block: &SharedBlock,
 ) -> Result<(), WalkFault>
     requires { IsWantedHere frames.old cid }
     ensures query { frames.new.query ≡ frames.old.query }
@@ -231,7 +237,7 @@ pub(crate) fn open(
         Ok(found) => found,
         Err(fault) => return Err(fault_of_block(cid, fault)),
     };
-    frames.open(found, block.as_slice())?;
+    frames.open(found, block)?;
     Ok(())
 }
 

@@ -7,4 +7,4 @@ returns-in-Listed-clause-tasks c = λ depth inline filesize parts h. parts_liste
 
 pub returns-clause-left : goal.returns-clause-left
 returns-clause-left c =
-    parts_are_left c.args.places c.args.block.now c.in_ok-block.block c.requires.0 c.requires.1 c.requires.2 c.match-reach.range (omega arith) c.in_ok-block.ensures c.requires.3
+    parts_are_left c.args.places c.args.block.now c.in_ok-block.block c.requires.0 c.requires.1 c.requires.2 c.match-reach.range (omega arith) c.in_ok-block.ensures.cases c.requires.3

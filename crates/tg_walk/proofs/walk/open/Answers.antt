@@ -1,5 +1,5 @@
 use Rattle.std.proofs.Common.{List, subst, sym, ℕ, ◌∙◌}
-use Rattle.tg_walk.proofs.OpenedHere.{MayOpen, Reading, bad_here, may_open}
+use Rattle.tg_walk.proofs.OpenedHere.{Reading, bad_here, may_open}
 use Rattle.tg_walk.proofs.walk.open.Goals as goal
 
 pub returns-in-Err-clause-opened : goal.returns-in-Err-clause-opened
@@ -10,8 +10,7 @@ returns-in-Err-clause-opened c =
 
 pub open-requires : goal.open-requires
 open-requires c = record {
-  here = subst (MayOpen c.args.frames.now c.in-Ok.found) (sym c.as_slice-2.ensures)
-      (may_open c.args.frames.now c.args.cid c.args.block.now c.in-Ok.found c.read.result c.requires
+  here = may_open c.args.frames.now c.args.cid c.args.block.now c.in-Ok.found c.read.result c.requires
       (subst (λ (b : List ℕ). Reading c.args.frames.now b c.read.result) c.as_slice.ensures c.read.ensures)
-      (λ at w. sym (c.is_read.ensures at w) ∙ c.if-not-is_read.false) c.in-Ok.is);
+      (λ at w. sym (c.is_read.ensures at w) ∙ c.if-not-is_read.false) c.in-Ok.is;
 }
