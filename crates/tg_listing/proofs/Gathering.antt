@@ -1,8 +1,6 @@
 -- Lines that are gathered and put, one after another.
 use Rattle.std.proofs.Common.{◌≡◌, List, ℕ, ◌++◌, append_assoc, ap, subst, sym, ◌∙◌}
-use Rattle.tg_listing.specs.Listings.{PutBut, PutSome, StopsListing}
-use Rattle.tg_listing.specs.declared.fault.ListingFault.{ListingFault}
-use Rattle.tg_listing.specs.declared.fault.ListingFault.TheVariants.{OutOfMemory, SinkFault}
+use Rattle.tg_listing.specs.Listings.{PutBut}
 use Rattle.tg_streams.specs.Joining.{SinkJoins, put_front_more, put_put, put_put_front}
 use Rattle.tg_streams.specs.Streams.{PutFront, SinkMeaning, into}
 
@@ -25,22 +23,9 @@ module _ {S : Type 0} (m : SinkMeaning S) (a b c : S) (joins : SinkJoins S m) wh
       subst (λ (bytes : List ℕ). PutFront bytes (into m a c)) (sym (whole_on p.front old line text p.whole))
       (put_put_front S m a b c p.front (old ++ line) joins p.put p.quiet q)
 
-  -- or some of it
-  some_on : (old line text more : List ℕ) → PutBut old text (into m a b) → PutSome (old ++ line) (into m b c) → PutSome ((text ++ line) ++ more) (into m a c)
-  some_on old line text more p q = record {
-    front = p.front ++ q.front;
-    rest = q.rest ++ more;
-    whole = ap (λ (l : List ℕ). l ++ more) (whole_on p.front old line text p.whole ∙ ap (λ (l : List ℕ). p.front ++ l) q.whole ∙ sym (append_assoc p.front q.front q.rest))
-        ∙ append_assoc (p.front ++ q.front) q.rest more;
-    put = put_put S m a b c p.front q.front joins p.put q.put;
-    quiet = q.quiet ∙ p.quiet;
-  }
-
   -- then no more of the text with the line, and of what comes behind them, is put
-  pub stops_on : (fault : ListingFault) (old line text more : List ℕ) → PutBut old text (into m a b) → StopsListing fault (old ++ line) (into m b c)
-      → StopsListing fault ((text ++ line) ++ more) (into m a c)
-  stops_on SinkFault old line text more p q = put_front_more S m a c (text ++ line) more (front_on old line text p q)
-  stops_on OutOfMemory old line text more p q = some_on old line text more p q
+  pub stops_on : (old line text more : List ℕ) → PutBut old text (into m a b) → PutFront (old ++ line) (into m b c) → PutFront ((text ++ line) ++ more) (into m a c)
+  stops_on old line text more p q = put_front_more S m a c (text ++ line) more (front_on old line text p q)
 
   -- a text was put but for a rest, and then a front of the rest was put
   pub front_rest : (rest text : List ℕ) → PutBut rest text (into m a b) → PutFront rest (into m b c) → PutFront text (into m a c)

@@ -8,9 +8,9 @@ use Rattle.std.specs.Prelude.{⊤, if◌then◌else◌, map, not, ◌&&◌}
 use Rattle.std.proofs.lemmas.List.Sorted.{sorted_far}
 use Rattle.tg_bytes.specs.Order.{bytes_cmp}
 use Rattle.tg_model.specs.NameOrder.{before_is_less}
-use Rattle.tg_listing.specs.Listings.{named_entry}
+use Rattle.tg_listing.specs.Listings.{line_of}
+use Rattle.tg_listing.specs.declared.line.ListingLine.{ListingLine}
 use Rattle.tg_model.specs.Texts.{Named, inserted, is_before, sorted}
-use Rattle.tg_model.specs.declared.kinds.Entry.{Entry}
 
 -- ---- sorts by a test
 
@@ -146,27 +146,26 @@ module _ {X : Type 0} (lt : X → X → Bool) where
     stably_sorted xs ys rises stable =
         one_order ys (sort_by xs) (up_of ys (sorted_far lt o ys rises)) (up_sort xs) (λ x. stable x ∙ sym (stable_sort x xs))
 
--- ---- entries
+-- ---- lines
 
-abbrev pub less_name : Entry → Entry → Bool
+abbrev pub less_name : ListingLine → ListingLine → Bool
 less_name a b = is_lt (bytes_cmp a.name b.name)
 
-map_if : (b : Bool) (x y : Entry) (ys r : List Entry) → map named_entry r ≡ inserted (named_entry x) (map named_entry ys)
-    → map named_entry (if b then y ∷ r else x ∷ y ∷ ys)
-    ≡ (if b then named_entry y ∷ inserted (named_entry x) (map named_entry ys) else named_entry x ∷ named_entry y ∷ map named_entry ys)
-map_if true x y ys r same = ap (λ (l : List Named). named_entry y ∷ l) same
-map_if false x y ys r same = refl
+map_if : (b : Bool) (x y : Named) (ys r : List Named) (lines : List ListingLine) → lines ≡ map line_of r
+    → (if b then line_of y ∷ lines else line_of x ∷ line_of y ∷ map line_of ys) ≡ map line_of (if b then y ∷ r else x ∷ y ∷ ys)
+map_if true x y ys r lines same = ap (λ (l : List ListingLine). line_of y ∷ l) same
+map_if false x y ys r lines same = refl
 
-map_insert : (x : Entry) (ys : List Entry) → map named_entry (insert_by less_name x ys) ≡ inserted (named_entry x) (map named_entry ys)
+map_insert : (x : Named) (ys : List Named) → insert_by less_name (line_of x) (map line_of ys) ≡ map line_of (inserted x ys)
 map_insert x [] = refl
 map_insert x (y ∷ ys) =
-    ap (λ (b : Bool). map named_entry (if b then y ∷ insert_by less_name x ys else x ∷ y ∷ ys)) (before_is_less y.name x.name)
-    ∙ map_if (is_before y.name x.name) x y ys (insert_by less_name x ys) (map_insert x ys)
+    ap (λ (b : Bool). if b then line_of y ∷ insert_by less_name (line_of x) (map line_of ys) else line_of x ∷ line_of y ∷ map line_of ys) (before_is_less y.name x.name)
+    ∙ map_if (is_before y.name x.name) x y ys (inserted x ys) (insert_by less_name (line_of x) (map line_of ys)) (map_insert x ys)
 
-map_sort : (xs : List Entry) → map named_entry (sort_by less_name xs) ≡ sorted (map named_entry xs)
+map_sort : (xs : List Named) → sort_by less_name (map line_of xs) ≡ map line_of (sorted xs)
 map_sort [] = refl
-map_sort (x ∷ xs) = map_insert x (sort_by less_name xs) ∙ ap (inserted (named_entry x)) (map_sort xs)
+map_sort (x ∷ xs) = ap (insert_by less_name (line_of x)) (map_sort xs) ∙ map_insert x (sorted xs)
 
-pub names_sorted : (xs ys : List Entry) → IsStrictWeakOrder less_name → IsSortedBy less_name ys → IsStableBy less_name xs ys
-    → map named_entry ys ≡ sorted (map named_entry xs)
-names_sorted xs ys o rises stable = ap (map named_entry) (stably_sorted less_name o xs ys rises stable) ∙ map_sort xs
+pub names_sorted : (entries : List Named) (xs ys : List ListingLine) → IsStrictWeakOrder less_name → IsSortedBy less_name ys → IsStableBy less_name xs ys
+    → xs ≡ map line_of entries → ys ≡ map line_of (sorted entries)
+names_sorted entries xs ys o rises stable same = stably_sorted less_name o xs ys rises stable ∙ ap (sort_by less_name) same ∙ map_sort entries

@@ -9,7 +9,7 @@ pub enum ListingFault {
     /// A fault of out was counted. A front of the listing was put.
     #[error("SinkFault")]
     SinkFault,
-    /// No memory was found.
+    /// No memory was found. Nothing was put.
     #[error("OutOfMemory")]
     OutOfMemory,
 }

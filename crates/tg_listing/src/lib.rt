@@ -2,7 +2,9 @@
 #![tactic(auto)]
 
 mod fault;
+mod line;
 mod listing;
 
 pub use fault::ListingFault;
-pub use listing::{line_len, put_listing};
+pub use line::ListingLine;
+pub use listing::put_listing;

@@ -5,16 +5,22 @@ use std::alloc::{AllocError, Global};
 use tg_bytes::{Bytes, List};
 use tg_cid::{Cid, Codec};
 use tg_known_bytes::{DIRECTORY, HELLO, HELLO_TEXT};
-use tg_listing::{ListingFault, put_listing};
+use tg_listing::{ListingFault, ListingLine, put_listing};
 use tg_model::Entry;
 use tg_streams::MemSink;
 
-/// The entry of a name for a block.
-fn entry_of(alloc: Global, name: &[u8], codec: Codec, block: &[u8]) -> Result<Entry, AllocError> {
-    Ok(Entry {
+/// The line of a name for a block.
+fn line_of(
+    alloc: Global,
+    name: &[u8],
+    codec: Codec,
+    block: &[u8],
+) -> Result<ListingLine, AllocError> {
+    let entry = Entry {
         name: Bytes::of(alloc, name)?,
         cid: Cid::of_block(codec, block),
-    })
+    };
+    ListingLine::of(alloc, entry)
 }
 
 /// A sink that takes so many bytes in a call and fails at these calls.
@@ -60,20 +66,20 @@ const LISTINGS: &[Row] = &[
     (FOUR, &[1], SINK_FAULT, FIRST),
 ];
 
-fn entries_of(alloc: Global, rows: &[Named]) -> Result<List<Entry>, AllocError> {
-    let mut entries = List::new(alloc);
+fn lines_of(alloc: Global, rows: &[Named]) -> Result<List<ListingLine>, AllocError> {
+    let mut lines = List::new(alloc);
     for (name, codec, block) in rows {
-        entries.push(entry_of(alloc, name, *codec, block)?)?;
+        lines.push(line_of(alloc, name, *codec, block)?)?;
     }
-    Ok(entries)
+    Ok(lines)
 }
 
 /// Whether the listing of the entries ends so and leaves this text.
 fn is_listed(alloc: Global, row: &Row) -> bool {
     let (rows, fails, end, held) = *row;
-    match (entries_of(alloc, rows), sink_of(alloc, 100, fails)) {
-        (Ok(entries), Ok(mut out)) => {
-            put_listing(alloc, entries, &mut out) == end && out.held() == held.as_bytes()
+    match (lines_of(alloc, rows), sink_of(alloc, 100, fails)) {
+        (Ok(lines), Ok(mut out)) => {
+            put_listing(alloc, lines, &mut out) == end && out.held() == held.as_bytes()
         }
         _ => false,
     }
@@ -103,13 +109,13 @@ fn tail(number: usize) -> [u8; 6] {
     ]
 }
 
-/// 2,000 entries in falling order of their names.
-fn many_entries(alloc: Global) -> Result<List<Entry>, AllocError> {
-    let mut entries = List::new(alloc);
+/// 2,000 lines in falling order of their names.
+fn many_lines(alloc: Global) -> Result<List<ListingLine>, AllocError> {
+    let mut lines = List::new(alloc);
     for number in (0..2000).rev() {
-        entries.push(entry_of(alloc, &tail(number)[1..5], Codec::Raw, HELLO)?)?;
+        lines.push(line_of(alloc, &tail(number)[1..5], Codec::Raw, HELLO)?)?;
     }
-    Ok(entries)
+    Ok(lines)
 }
 
 /// Whether the text is so many lines of those entries, of 65 bytes each.
@@ -138,9 +144,9 @@ const CALLS: &[Many] = &[
 /// Whether the listing of the many entries ends so and leaves the lines of so many.
 fn are_listed(alloc: Global, row: &Many) -> bool {
     let (fails, end, count) = *row;
-    match (many_entries(alloc), sink_of(alloc, 1 << 30, &[fails])) {
-        (Ok(entries), Ok(mut out)) => {
-            put_listing(alloc, entries, &mut out) == end && are_lines(out.held(), count)
+    match (many_lines(alloc), sink_of(alloc, 1 << 30, &[fails])) {
+        (Ok(lines), Ok(mut out)) => {
+            put_listing(alloc, lines, &mut out) == end && are_lines(out.held(), count)
         }
         _ => false,
     }

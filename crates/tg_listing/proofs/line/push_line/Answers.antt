@@ -1,7 +1,7 @@
 use Rattle.std.proofs.Common.{List, ap, ℕ, ◌++◌, ◌∙◌, [], ◌∷◌}
 use Rattle.tg_cid.specs.TextLaws.{text_is}
 use Rattle.tg_listing.proofs.Lines.{line_is}
-use Rattle.tg_listing.proofs.listing.push_line.Goals as goal
+use Rattle.tg_listing.proofs.line.push_line.Goals as goal
 use Rattle.tg_model.specs.Texts.{escaped}
 
 pub returns : goal.returns
