@@ -6,7 +6,8 @@ use Rattle.std.specs.List.{flat_map}
 use Rattle.std.specs.Prelude.{Result, ⊤}
 use Rattle.tg_bytes.specs.Ascii.{line_feed}
 use Rattle.tg_cid.specs.Cid.{CidParts}
-use Rattle.tg_listing.specs.Listings.{named_entry}
+use Rattle.tg_listing.specs.Listings.{line_of, named_entry}
+use Rattle.tg_listing.specs.declared.line.ListingLine.{ListingLine}
 use Rattle.tg_model.specs.Counts.{met_line}
 use Rattle.tg_model.specs.Queries.{QueryParts}
 use Rattle.tg_model.specs.Texts.{Named}
@@ -18,7 +19,7 @@ use Rattle.tg_traversal.specs.Frames.{listed_at}
 use Rattle.tg_traversal.specs.Left.{LeftState, tasks_left}
 use Rattle.tg_traversal_laws.specs.Tasks.{Miss, Task, entries_now, give_entries, give_text, tasks_then, text_now}
 use Rattle.tg_verify.specs.Counting.{HasMet}
-use Rattle.tg_verify.specs.State.{OpenerState, listed_of, told}
+use Rattle.tg_verify.specs.State.{OpenerState, listed_lines, listed_of, told}
 use Rattle.tg_verify.specs.Steps.{IsAdvanced, IsGathered, IsGatheredBy, IsMetAt, IsNearer, IsSameOpener, StopsThere, kept_now, left_of, listed_entry}
 use Rattle.tg_verify.specs.declared.fault.Refusal.TheVariants as refusals
 use Rattle.tg_verify.specs.declared.fault.Refusal.{Refusal}
@@ -30,7 +31,7 @@ listed_none scopes.Block = refl
 listed_none scopes.Entity = refl
 listed_none scopes.All = refl
 
-listed_one : (scope : Scope) (directory : List ℕ) (entry : Entry) → listed_entry scope entry ≡ listed_of scope (listed_at directory entry ∷ [])
+listed_one : (scope : Scope) (directory : List ℕ) (entry : Entry) → listed_entry scope entry ≡ listed_lines scope (listed_at directory entry ∷ [])
 listed_one scopes.Block directory entry = refl
 listed_one scopes.Entity directory entry = refl
 listed_one scopes.All directory entry = refl
@@ -40,6 +41,9 @@ listed_both scopes.Block met more = refl
 listed_both scopes.Entity met more = map-append named_met met more
 listed_both scopes.All met more = refl
 
+lines_both : (scope : Scope) (met more : List ListedEntry) → listed_lines scope (met ++ more) ≡ listed_lines scope met ++ listed_lines scope more
+lines_both scope met more = ap (map line_of) (listed_both scope met more) ∙ map-append line_of (listed_of scope met) (listed_of scope more)
+
 -- ---- one comes
 
 shorter : (old new : List (Task CidParts)) (task : Task CidParts) → old ≡ task ∷ new → length new < length old
@@ -47,17 +51,17 @@ shorter old new task e = subst (λ (tasks : List (Task CidParts)). length new < 
 
 -- the end of a line
 pub line_came : (old new : OpenerState) (before ends : List ℕ) → left_of old ≡ give_text (line_feed ∷ []) ∷ left_of new → ends ≡ before ++ line_feed ∷ []
-    → new.entries ≡ old.entries → new.counts ≡ old.counts → old.counts.output ≤ 2 ^ 64 - 1
+    → new.lines ≡ old.lines → new.counts ≡ old.counts → old.counts.output ≤ 2 ^ 64 - 1
     → IsNearer old before new ends × (length (left_of new) < length (left_of old))
-line_came old new before ends left ends_are entries counts small = (
+line_came old new before ends left ends_are lines counts small = (
   record {
     text = line_feed ∷ [];
     ends_are = ends_are;
     text_is = ap text_now left;
     met_entries = [];
     entries_are = ap entries_now left;
-    names = ap (map named_entry) entries ∙ sym (append-nil (map named_entry old.entries))
-        ∙ ap (λ (more : List Named). map named_entry old.entries ++ more) (sym (listed_none old.left.query.scope));
+    lines = lines ∙ sym (append-nil old.lines)
+        ∙ ap (λ (more : List Named). old.lines ++ map line_of more) (sym (listed_none old.left.query.scope));
     met = λ met h. subst (λ (some : List ListedEntry). HasMet new.counts some) (sym (append-nil met)) (subst (λ counts. HasMet counts met) (sym counts) h);
     output = ap (λ counts. counts.output) counts ∙ same old.counts.output small;
     seen_blocks = ap (λ counts. counts.seen_blocks) counts;
@@ -73,9 +77,9 @@ line_came old new before ends left ends_are entries counts small = (
 
 -- an entry
 pub entry_came : (old mid new : OpenerState) (before : List ℕ) (directory : List ℕ) (entry : Entry) → left_of old ≡ give_entries (listed_at directory entry ∷ []) ∷ left_of mid
-    → mid.entries ≡ old.entries → mid.counts ≡ old.counts → mid.left.query ≡ old.left.query → IsMetAt mid (listed_at directory entry) entry new
+    → mid.lines ≡ old.lines → mid.counts ≡ old.counts → mid.left.query ≡ old.left.query → IsMetAt mid (listed_at directory entry) entry new
     → IsNearer old before new before × (length (left_of new) < length (left_of old))
-entry_came old mid new before directory entry left entries counts query h =
+entry_came old mid new before directory entry left lines counts query h =
     let m = listed_at directory entry in
     let left_now : left_of old ≡ give_entries (m ∷ []) ∷ left_of new = left ∙ ap (λ (state : LeftState). give_entries (m ∷ []) ∷ tasks_left state) (sym h.left) in (
       record {
@@ -84,9 +88,9 @@ entry_came old mid new before directory entry left entries counts query h =
         text_is = ap text_now left_now;
         met_entries = m ∷ [];
         entries_are = ap entries_now left_now;
-        names = h.names ∙ ap (λ (some : List Entry). map named_entry some ++ listed_entry mid.left.query.scope entry) entries
-            ∙ ap (λ (more : List Named). map named_entry old.entries ++ more) (listed_one mid.left.query.scope directory entry)
-            ∙ ap (λ (q : QueryParts). map named_entry old.entries ++ listed_of q.scope (m ∷ [])) query;
+        lines = h.lines ∙ ap (λ (some : List ListingLine). some ++ listed_entry mid.left.query.scope entry) lines
+            ∙ ap (λ (more : List ListingLine). old.lines ++ more) (listed_one mid.left.query.scope directory entry)
+            ∙ ap (λ (q : QueryParts). old.lines ++ listed_lines q.scope (m ∷ [])) query;
         met = λ met was. h.met met (subst (λ counts. HasMet counts met) (sym counts) was);
         output = h.output ∙ ap (λ counts. told (counts.output + length (met_line m))) counts
             ∙ ap (λ (line : List ℕ). told (old.counts.output + length line)) (sym (append-nil (met_line m)));
@@ -108,12 +112,12 @@ gathered_then : (old mid new : OpenerState) (before ends later : List ℕ) → I
 gathered_then old mid new before ends later p same q = record {
   ends_are = q.ends_are ∙ ap (λ (t : List ℕ). t ++ text_now (left_of mid)) p.ends_are ∙ append_assoc before p.text (text_now (left_of mid))
       ∙ ap (λ (t : List ℕ). before ++ t) (sym p.text_is);
-  names = q.names ∙ ap (λ (names : List Named). names ++ kept_now mid (left_of mid)) p.names
-      ∙ append_assoc (map named_entry old.entries) (listed_of old.left.query.scope p.met_entries) (kept_now mid (left_of mid))
-      ∙ ap (λ (names : List Named). map named_entry old.entries ++ names)
-      (ap (λ (q : QueryParts). listed_of old.left.query.scope p.met_entries ++ listed_of q.scope (entries_now (left_of mid))) same.query
-      ∙ sym (listed_both old.left.query.scope p.met_entries (entries_now (left_of mid)))
-      ∙ ap (listed_of old.left.query.scope) (sym p.entries_are));
+  lines = q.lines ∙ ap (λ (lines : List ListingLine). lines ++ kept_now mid (left_of mid)) p.lines
+      ∙ append_assoc old.lines (listed_lines old.left.query.scope p.met_entries) (kept_now mid (left_of mid))
+      ∙ ap (λ (lines : List ListingLine). old.lines ++ lines)
+      (ap (λ (q : QueryParts). listed_lines old.left.query.scope p.met_entries ++ listed_lines q.scope (entries_now (left_of mid))) same.query
+      ∙ sym (lines_both old.left.query.scope p.met_entries (entries_now (left_of mid)))
+      ∙ ap (listed_lines old.left.query.scope) (sym p.entries_are));
   met = λ met h.
       subst (HasMet new.counts) (append_assoc met p.met_entries (entries_now (left_of mid)) ∙ ap (λ (more : List ListedEntry). met ++ more) (sym p.entries_are))
       (q.met (met ++ p.met_entries) (p.met met h));

@@ -1,5 +1,5 @@
 -- The sections of a list, one by one.
-use Rattle.std.proofs.Common.{[], Err, List, None, Ok, Option, Some, ap, append-nil, drop, get_or, inr, length, map, refl, subst, sym, take, ℕ, ◌+◌, ◌++◌, ◌<◌, ◌∙◌, ◌∷◌, ◌≡◌}
+use Rattle.std.proofs.Common.{inl, [], Err, List, None, Ok, Option, Some, ap, append-nil, drop, get_or, inr, length, map, refl, subst, sym, take, ℕ, ◌+◌, ◌++◌, ◌<◌, ◌∙◌, ◌∷◌, ◌≡◌}
 use Rattle.std.proofs.lemmas.List.{map-append, take-append-drop, take_more}
 use Rattle.std.specs.Prelude.{MatchResult, Result}
 use Rattle.tg_cid.specs.Cid.{CidParts}
@@ -19,7 +19,7 @@ use Rattle.tg_verify.specs.History.{AllEnd, HasPut, HasPutCause, HasWritten, Sta
 use Rattle.tg_verify.specs.Refusals.{HasRefused}
 use Rattle.tg_verify.specs.State.{VerifierState, cid_wanted, next_cid}
 use Rattle.tg_verify.specs.Steps.{section_with}
-use Rattle.tg_verify.specs.Taken.{IsFrontWritten, IsGoing, IsThrough, IsUpTo, IsWrittenAt, most_text}
+use Rattle.tg_verify.specs.Taken.{IsGoing, IsThrough, IsUpTo, IsWritten, IsWrittenAt, most_text}
 use Rattle.tg_verify.specs.declared.fault.Refusal.{Refusal}
 use Rattle.tg_verify.specs.declared.fault.Refusal.TheVariants as refusals
 use Rattle.tg_verify.specs.declared.verifier.Progress.{Progress}
@@ -51,13 +51,12 @@ going_front_by state sections written h (Some at) (text, names) = sym text
 going_front_by state sections written h None (later, text) =
     ap (λ (tasks : List (Task CidParts)). most_text state.left.query h.given tasks) later ∙ sym text
 
-going_front : (state : VerifierState) (sections : List Section) (written : List ℕ) → IsGoing state sections written → IsFrontWritten state.left.query sections written
-going_front state sections written h = record {
+going_written : (state : VerifierState) (sections : List Section) (written : List ℕ) → IsGoing state sections written → IsWritten state.left.query sections written
+going_written state sections written h = record {
   given = h.given;
   tasks = tasks_left state.left;
   verified = h.verified;
-  rest = [];
-  text = going_front_by state sections written h state.left.wanted h.writes ∙ sym (append-nil written);
+  text = sym (going_front_by state sections written h state.left.wanted h.writes);
 }
 
 -- before the first
@@ -71,7 +70,7 @@ wants_at_start v {S} m a q limits all rests = (
       front = [];
       rest = all;
       whole = refl;
-      refused = inr (record { given = nothing_given; tasks = start q q.root; verified = v.start q; rest = []; text = refl });
+      refused = inr (record { given = nothing_given; tasks = start q q.root; verified = v.start q; text = refl });
     };
   },
   refl,
@@ -85,7 +84,7 @@ module _ (q : QueryParts) (limits : LimitNumbers) where
         record {
           text = p.text;
           put = p.put;
-          is_so = record { front = front; rest = rest; whole = whole; refused = inr (subst (λ (q : QueryParts). IsFrontWritten q front p.text) h.query (going_front state front p.text p.is_so)) };
+          is_so = record { front = front; rest = rest; whole = whole; refused = inr (subst (λ (q : QueryParts). IsWritten q front p.text) h.query (going_written state front p.text p.is_so)) };
         },
         h.quiet,
       )
@@ -141,8 +140,8 @@ module _ (q : QueryParts) (limits : LimitNumbers) where
               front = front ++ section ∷ [];
               rest = rest;
               whole = whole;
-              refused = subst (λ (q : QueryParts). HasRefused q limits (front ++ section ∷ []) text fault) (says.query ∙ h.query)
-                  (subst (λ (l : LimitNumbers). HasRefused new.left.query l (front ++ section ∷ []) text fault) (says.limits_are ∙ h.limits_are) refused);
+              refused = inl (subst (λ (q : QueryParts). HasRefused q limits (front ++ section ∷ []) text fault) (says.query ∙ h.query)
+                  (subst (λ (l : LimitNumbers). HasRefused new.left.query l (front ++ section ∷ []) text fault) (says.limits_are ∙ h.limits_are) refused));
             };
           },
           cause_later m a b c (Err fault) h.quiet (says.cause h.fresh),
@@ -180,8 +179,8 @@ stops_first old new out fault all says =
           front = [];
           rest = all;
           whole = refl;
-          refused = subst (λ (q : QueryParts). HasRefused q old.limits [] w.text fault) says.query
-              (subst (λ (l : LimitNumbers). HasRefused new.left.query l [] w.text fault) says.limits_are refused);
+          refused = inl (subst (λ (q : QueryParts). HasRefused q old.limits [] w.text fault) says.query
+              (subst (λ (l : LimitNumbers). HasRefused new.left.query l [] w.text fault) says.limits_are refused));
         };
       },
       says.cause,

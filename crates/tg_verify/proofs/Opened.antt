@@ -3,7 +3,8 @@ use Rattle.std.proofs.Common.{[], Err, List, None, Option, Some, ap, append-nil,
 use Rattle.std.proofs.lemmas.List.{map-append}
 use Rattle.std.specs.Bool.{⊤}
 use Rattle.tg_cid.specs.Cid.{CidParts}
-use Rattle.tg_listing.specs.Listings.{named_entry}
+use Rattle.tg_listing.specs.Listings.{line_of, named_entry}
+use Rattle.tg_listing.specs.declared.line.ListingLine.{ListingLine}
 use Rattle.tg_model.specs.Dag.{Section}
 use Rattle.tg_model.specs.LimitNumbers.{LimitNumbers}
 use Rattle.tg_model.specs.Queries.{QueryParts}
@@ -27,7 +28,7 @@ use Rattle.tg_verify.proofs.Misread.{Computes}
 use Rattle.tg_verify.specs.Counting.{AreUnpassed, HasCounted, counts_given}
 use Rattle.tg_verify.specs.History.{HasPutCause, IsPlaceFault}
 use Rattle.tg_verify.specs.Refusals.{HasPlaceCause, IsOver, PassesAs, given_with, tasks_behind, text_of}
-use Rattle.tg_verify.specs.State.{OpenerState, listed_of}
+use Rattle.tg_verify.specs.State.{OpenerState, listed_lines, listed_of}
 use Rattle.tg_verify.specs.Steps.{HasOpenCause, IsMissedBehind, IsOverBehind, IsPlaced, IsPlacedAt, IsUnopened, behind}
 use Rattle.tg_verify.specs.Taken.{IsFrontWritten, IsNamed, IsNowhere, most_text}
 use Rattle.tg_verify.specs.declared.counts.Source.{Source}
@@ -40,6 +41,9 @@ listed_both : (scope : Scope) (u w : List ListedEntry) → listed_of scope (u ++
 listed_both scopes.Block u w = refl
 listed_both scopes.Entity u w = map-append named_met u w
 listed_both scopes.All u w = refl
+
+lines_both : (scope : Scope) (u w : List ListedEntry) → listed_lines scope (u ++ w) ≡ listed_lines scope u ++ listed_lines scope w
+lines_both scope u w = ap (map line_of) (listed_both scope u w) ∙ map-append line_of (listed_of scope u) (listed_of scope w)
 
 -- what is at most written begins with the text that was given
 pub most_more : (q : QueryParts) (given : Given) (tasks : List (Task CidParts)) → (more : List ℕ) × (most_text q given tasks ≡ given.text ++ more)
@@ -69,7 +73,7 @@ pub record IsAtPlace (state : OpenerState) (sections : List Section) (given : Gi
   pub from : IsFrom state.left.query sections section source
   pub known : IsKnown state.left.query sections section
   pub counted : HasCounted state.left.query state.counts given
-  pub names : map named_entry state.entries ≡ listed_of state.left.query.scope given.met
+  pub lines : state.lines ≡ listed_lines state.left.query.scope given.met
 
 -- the block was opened there: these tasks are left
 pub record IsOpenedUpTo (old : OpenerState) (sections : List Section) (given : Given) (said : List ℕ) (new : OpenerState) : Type 0 where
@@ -78,7 +82,7 @@ pub record IsOpenedUpTo (old : OpenerState) (sections : List Section) (given : G
   pub counted : HasCounted old.left.query new.counts next
   pub within : AreUnpassed old.limits (counts_given old.left.query next)
   pub text : next.text ≡ given.text ++ said
-  pub names : map named_entry new.entries ≡ listed_of old.left.query.scope next.met
+  pub lines : new.lines ≡ listed_lines old.left.query.scope next.met
 
 -- but where out failed nothing is put
 abbrev pub IsNothing : Refusal → List ℕ → Type 0
@@ -149,8 +153,8 @@ module _ (v : VerifiedLaws) (computes : Computes) where
           counted = counted;
           within = is_unpassed q old.limits p.small new.counts next counted p.within;
           text = append_assoc given.text (text_of q at section p.kind) (text_now (behind old at section p.kind)) ∙ ap (λ (t : List ℕ). given.text ++ t) (sym p.said_is);
-          names = p.names ∙ ap (λ (ns : List Named). ns ++ listed_of q.scope (entries_now (behind old at section p.kind))) h.names
-              ∙ sym (listed_both q.scope given.met (entries_now (behind old at section p.kind)));
+          lines = p.lines ∙ ap (λ (ls : List ListingLine). ls ++ listed_lines q.scope (entries_now (behind old at section p.kind))) h.lines
+              ∙ sym (lines_both q.scope given.met (entries_now (behind old at section p.kind)));
         }
 
     -- ---- or it isn't

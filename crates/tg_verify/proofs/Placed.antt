@@ -30,7 +30,7 @@ told_twice a b c = omega arith
 pub record IsBlockCounted (old : OpenerState) (source : Source) (block text : List ℕ) (new : OpenerState) : Type 0 where
   pub left : new.left ≡ old.left
   pub limits : new.limits ≡ old.limits
-  pub entries : new.entries ≡ old.entries
+  pub lines : new.lines ≡ old.lines
   pub output : new.counts.output ≡ told (old.counts.output + length text)
   pub seen_blocks : new.counts.seen_blocks ≡ told (old.counts.seen_blocks + blocks_added old.left.query.dups source)
   pub seen_bytes : new.counts.seen_bytes ≡ told (old.counts.seen_bytes + bytes_added old.left.query.dups source block)
@@ -40,7 +40,7 @@ pub record IsBlockCounted (old : OpenerState) (source : Source) (block text : Li
 -- a block was opened, and no more
 pub record IsBlockOpened (old : OpenerState) (at : WantedAt) (section : Section) (kind : Option Kind) (said : List ℕ) (new : OpenerState) : Type 0 where
   pub same : IsSameOpener old new
-  pub entries : new.entries ≡ old.entries
+  pub lines : new.lines ≡ old.lines
   pub counts : new.counts ≡ old.counts
   pub opened : IsOpenedHere old at section kind said new
 

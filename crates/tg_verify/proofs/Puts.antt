@@ -1,13 +1,14 @@
 -- Fronts of texts that were put.
 use Rattle.std.proofs.Common.{List, Ok, Result, drop, subst, sym, take, ℕ}
 use Rattle.std.proofs.lemmas.List.{take-append-drop}
-use Rattle.tg_listing.specs.Listings.{StopsListing}
+use Rattle.tg_listing.specs.Listings.{HasListingCause, StopsListing}
 use Rattle.tg_listing.specs.declared.fault.ListingFault.{ListingFault}
 use Rattle.tg_listing.specs.declared.fault.ListingFault.TheVariants as listings
 use Rattle.std.specs.Prelude.{Err, ⊤}
 use Rattle.tg_streams.specs.Streams.{Output, PutFront}
 use Rattle.tg_model.specs.Dag.{Section}
 use Rattle.tg_traversal.specs.Left.{WantedAt}
+use Rattle.tg_verify.specs.History.{HasPutCause, IsPlaceFault}
 use Rattle.tg_verify.specs.State.{OpenerState}
 use Rattle.tg_verify.specs.Steps.{IsPlaced, IsPlacedAt, PutEnds, PutFrontOf, PutOrWants, refusal_of_listing}
 use Rattle.tg_verify.specs.declared.counts.Source.{Source}
@@ -26,4 +27,12 @@ put_placed old new at section source said out (Err fault) placed (e, front) =
 
 pub listing_stops : (fault : ListingFault) (text : List ℕ) (out : Output) → StopsListing fault text out → PutOrWants text out (Err (refusal_of_listing fault))
 listing_stops listings.SinkFault text out p = (front_of text out p, p.rose)
-listing_stops listings.OutOfMemory text out p = (record { front = p.front; rest = p.rest; whole = p.whole; put = p.put }, p.quiet)
+listing_stops listings.OutOfMemory text out p = p
+
+pub listing_cause : (fault : ListingFault) (out : Output) → HasListingCause fault out → HasPutCause (Err (refusal_of_listing fault)) out
+listing_cause listings.SinkFault out h = h
+listing_cause listings.OutOfMemory out h = h
+
+pub listing_place : (fault : ListingFault) → IsPlaceFault (refusal_of_listing fault)
+listing_place listings.SinkFault = tt
+listing_place listings.OutOfMemory = tt

@@ -25,7 +25,7 @@ use Rattle.tg_traversal_laws.specs.Verified.{IsHad, IsKnown, IsKnownIf, Verified
 use Rattle.tg_verify.proofs.Fronts.{greatest_at, only_one, or_pair_more, pair_more}
 use Rattle.tg_verify.proofs.Limits.{is_above, number_within}
 use Rattle.tg_verify.proofs.Misread.{Computes, bad_isnt_read, missized_isnt_read}
-use Rattle.tg_verify.proofs.Shown.{PeerLaws, answer_front, given_front, no_directory_says, no_entry_says, nowhere_front, through_sound, up_to_sound, written_front}
+use Rattle.tg_verify.proofs.Shown.{PeerLaws, answer_front, given_front, no_directory_says, no_entry_says, nowhere_front, through_sound, unlisted_front, up_to_sound, written_front}
 use Rattle.tg_verify.specs.Counting.{counts_given}
 use Rattle.tg_verify.specs.Refusals.{HasPlaceCause, HasReceiptCause, HasRefused, HasSectionCause, IsOver, IsRefusedAt, IsRefusedBehind, PassesAs, given_with}
 use Rattle.tg_verify.specs.Sound.{IsItsFront, SaysOfDag}
@@ -211,4 +211,5 @@ module _ (v : VerifiedLaws) (p : PeerLaws) (b : BesideLaws) (computes : Computes
     refused_sound refusals.SinkFault h = (written_front v p q d sound root sections written h, tt)
     refused_sound (refusals.Truncated want number) (at, e, h) = (up_to_sound v p q d sound root sections written at h.up_to, tt)
     refused_sound refusals.OutOfMemory (inl h) = (at_front _ h, tt)
-    refused_sound refusals.OutOfMemory (inr h) = (written_front v p q d sound root sections written h, tt)
+    refused_sound refusals.OutOfMemory (inr (inl h)) = (behind_front refusals.OutOfMemory h, tt)
+    refused_sound refusals.OutOfMemory (inr (inr h)) = (unlisted_front v p q d sound root sections written h, tt)

@@ -21,7 +21,7 @@ use Rattle.tg_verify.proofs.EachAsked.{each_asked, each_verified}
 use Rattle.tg_verify.proofs.Fronts.{front_of_front, whole_is_front}
 use Rattle.tg_verify.specs.Laws.{IsFitOf, IsNowhereOf, IsProgressOf}
 use Rattle.tg_verify.specs.Sound.{IsItsAnswer, IsItsFront}
-use Rattle.tg_verify.specs.Taken.{IsFrontWritten, IsNowhere, IsThrough, IsUpTo, most_text}
+use Rattle.tg_verify.specs.Taken.{IsFrontWritten, IsNowhere, IsThrough, IsUnlisted, IsUpTo, most_text}
 
 -- of sections against every peer
 pub record PeerLaws : Type 0 where
@@ -163,6 +163,10 @@ module _ (v : VerifiedLaws) where
     most_by given (task ∷ tasks) verified =
         let all = task ∷ tasks in
         shorter (given.text ++ text_now all) given.text (text_now all) refl (front_by given all (v.up_to_next q sections given all verified) (v.how_then all))
+
+    pub unlisted_front : (written : List ℕ) → IsUnlisted q sections written → IsItsFront q d sections written
+    unlisted_front written h =
+        shorter (written_whole q h.given) written (listing_at_end q.scope h.given.met) (ap (λ (t : List ℕ). t ++ listing_at_end q.scope h.given.met) (sym h.text)) (most_by h.given [] h.verified)
 
     pub written_front : (written : List ℕ) → IsFrontWritten q sections written → IsItsFront q d sections written
     written_front written h = shorter (most_text q h.given h.tasks) written h.rest h.text (most_by h.given h.tasks h.verified)

@@ -2,7 +2,8 @@
 use Rattle.std.proofs.Common.{[], List, ap, map, refl, subst, sym, ◌∙◌, ◌≡◌, arith, false, true, Bool, ℕ, length, ◌-◌}
 use Rattle.std.specs.Prelude.{sum}
 use Rattle.tg_cid.specs.Cid.{CidParts}
-use Rattle.tg_listing.specs.Listings.{named_entry}
+use Rattle.tg_listing.specs.Listings.{line_of, named_entry}
+use Rattle.tg_listing.specs.declared.line.ListingLine.{ListingLine}
 use Rattle.tg_model.specs.Counts.{if_once}
 use Rattle.tg_model.specs.Dag.{Section}
 use Rattle.tg_model.specs.LimitNumbers.{LimitNumbers}
@@ -15,7 +16,7 @@ use Rattle.tg_traversal_laws.specs.Stages.{nothing_given}
 use Rattle.tg_traversal_laws.specs.Tasks.{Task}
 use Rattle.tg_traversal_laws.specs.Verified.{Verified, VerifiedLaws}
 use Rattle.tg_verify.specs.Counting.{AreUnpassed, counts_given}
-use Rattle.tg_verify.specs.State.{VerifierState, listed_of}
+use Rattle.tg_verify.specs.State.{VerifierState, listed_lines, listed_of}
 use Rattle.tg_verify.specs.Taken.{IsFresh, IsOn, Remembers}
 
 none_listed : (scope : Scope) → [] ≡ listed_of scope []
@@ -62,5 +63,5 @@ starts v state fresh = record {
   };
   counted = record { counted = fresh.counted; within = none_passed state.left.query state.limits };
   text = refl;
-  names = ap (λ (es : List Entry). map named_entry es) fresh.entries ∙ none_listed state.left.query.scope;
+  lines = fresh.lines ∙ ap (map line_of) (none_listed state.left.query.scope);
 }

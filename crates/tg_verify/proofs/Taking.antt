@@ -5,7 +5,8 @@ use Rattle.std.proofs.lemmas.List.Elements.{Contains-push_cases}
 use Rattle.std.proofs.lemmas.List.{map-append}
 use Rattle.std.specs.Prelude.{Result, ⊤}
 use Rattle.tg_cid.specs.Cid.{CidParts}
-use Rattle.tg_listing.specs.Listings.{named_entry}
+use Rattle.tg_listing.specs.Listings.{line_of, named_entry}
+use Rattle.tg_listing.specs.declared.line.ListingLine.{ListingLine}
 use Rattle.tg_model.specs.Dag.{Section}
 use Rattle.tg_model.specs.LimitNumbers.{LimitNumbers}
 use Rattle.tg_model.specs.Queries.{QueryParts}
@@ -24,7 +25,7 @@ use Rattle.tg_verify.proofs.Turning.{kept_section, known_if, pair_of}
 use Rattle.tg_verify.specs.Counting.{AreUnpassed, HasCounted, counts_given}
 use Rattle.tg_verify.specs.History.{HasOn, HasTaken, PutsFor, one_more}
 use Rattle.tg_verify.specs.Refusals.{HasRefused, HasSectionCause, IsRefusedAt, IsWantedBlock}
-use Rattle.tg_verify.specs.State.{OpenerState, VerifierState, count_of, listed_of}
+use Rattle.tg_verify.specs.State.{OpenerState, VerifierState, count_of, listed_lines, listed_of}
 use Rattle.tg_verify.specs.Steps.{IsPlacedAt, IsReceivedAt, IsSameOpener, section_with}
 use Rattle.tg_verify.specs.Taken.{AreNamed, IsFrontWritten, IsGoing, IsNamed, IsNowhere, IsOn, IsSentFor, IsWrittenAt, Remembers}
 use Rattle.tg_verify.specs.declared.counts.Source.TheVariants as sources
@@ -88,12 +89,12 @@ puts_none q limits sections written text (refusals.NotFolder segment) e = inl e
 puts_none q limits sections written text (refusals.NotThere segment) e = inl e
 puts_none q limits sections written text refusals.SinkFault e = tt
 puts_none q limits sections written text (refusals.Truncated want number) e = inl e
-puts_none q limits sections written text refusals.OutOfMemory e = tt
+puts_none q limits sections written text refusals.OutOfMemory e = inl e
 
 module _ (state : VerifierState) (sections : List Section) (written : List ℕ) (h : IsGoing state sections written) (section : Section) (bytes : All (λ b. b < 256) section.block) where
   -- as an opener sees it
   abbrev opener : OpenerState
-  opener = record { left = state.left; limits = state.limits; entries = state.entries; counts = state.counts }
+  opener = record { left = state.left; limits = state.limits; lines = state.lines; counts = state.counts }
 
   module _ (at : WantedAt) (wanted : state.left.wanted ≡ Some at) where
     writes_at : IsWrittenAt state h.given written (Some at)
@@ -176,7 +177,7 @@ module _ (state : VerifierState) (sections : List Section) (written : List ℕ) 
       from = sends_it;
       known = known_if state.left.query sections section true sends_it tt;
       counted = h.counted.counted;
-      names = (writes_at there.at there.wanted).1;
+      lines = (writes_at there.at there.wanted).1;
     }
 
     all_sections : taken_as state.left.query sections section ≡ sections ++ section ∷ []
@@ -203,23 +204,23 @@ module _ (state : VerifierState) (sections : List Section) (written : List ℕ) 
               (subst (λ (l : LimitNumbers). HasRefused q l all (written ++ e.text) fault) (sym limits) e.is);
         }
 
-    pub place_taken : (out : Output) (new : OpenerState) (after : VerifierState) → IsSameOpener opener new → after.left ≡ new.left → after.limits ≡ new.limits → after.entries ≡ new.entries
+    pub place_taken : (out : Output) (new : OpenerState) (after : VerifierState) → IsSameOpener opener new → after.left ≡ new.left → after.limits ≡ new.limits → after.lines ≡ new.lines
         → after.counts ≡ new.counts → HasKept state after section → IsPlacedAt opener there.at section sources.Section out new (Ok tt) → HasOn after (sections ++ section ∷ []) written out
-    place_taken out new after same_opener left limits entries counts kept placed =
+    place_taken out new after same_opener left limits lines counts kept placed =
         let q = state.left.query in
         let o = opens_up_to v computes opener sections h.given there.at section sources.Section at_place placed.said new placed.placed in
         record {
           text = placed.said;
           put = placed.put;
           quiet = placed.quiet;
-          on = on_with new after (taken_as q sections section) (written ++ placed.said) o same_opener left limits entries counts kept
+          on = on_with new after (taken_as q sections section) (written ++ placed.said) o same_opener left limits lines counts kept
               (o.text ∙ ap (λ (t : List ℕ). t ++ placed.said) (sym (writes_at there.at there.wanted).0)) placed.placed.last all_sections;
         }
       where
         on_with : (new : OpenerState) (after : VerifierState) (all : List Section) (text : List ℕ) {said : List ℕ} (o : IsOpenedUpTo opener all h.given said new) → IsSameOpener opener new
-            → after.left ≡ new.left → after.limits ≡ new.limits → after.entries ≡ new.entries → after.counts ≡ new.counts → HasKept state after section → o.next.text ≡ text
+            → after.left ≡ new.left → after.limits ≡ new.limits → after.lines ≡ new.lines → after.counts ≡ new.counts → HasKept state after section → o.next.text ≡ text
             → (new.left.wanted ≡ None → new.left.later ≡ []) → all ≡ sections ++ section ∷ [] → IsOn after (sections ++ section ∷ []) text
-        on_with new after all text o same_opener left limits entries counts kept text_is last e =
+        on_with new after all text o same_opener left limits lines counts kept text_is last e =
             let query : after.left.query ≡ state.left.query = ap (λ l. l.query) left ∙ same_opener.query in
             let limits_are : after.limits ≡ state.limits = limits ∙ same_opener.limits in
             record {
@@ -241,6 +242,5 @@ module _ (state : VerifierState) (sections : List Section) (written : List ℕ) 
                     (subst (λ (l : LimitNumbers). AreUnpassed l (counts_given state.left.query o.next)) (sym limits_are) o.within);
               };
               text = sym text_is;
-              names = subst (λ (p : QueryParts). map named_entry after.entries ≡ listed_of p.scope o.next.met) (sym query)
-                  (ap (λ es. map named_entry es) entries ∙ o.names);
+              lines = subst (λ (p : QueryParts). after.lines ≡ listed_lines p.scope o.next.met) (sym query) (lines ∙ o.lines);
             }

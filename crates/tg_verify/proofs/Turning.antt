@@ -7,7 +7,8 @@ use Rattle.tg_cid.specs.Names.{IsDigestOf, Names}
 use Rattle.tg_cid.specs.declared.cid.HashKind.{HashKind}
 use Rattle.tg_model.specs.LimitNumbers.{LimitNumbers}
 use Rattle.tg_verify.specs.Counting.{AreUnpassed, HasCounted, counts_given}
-use Rattle.tg_listing.specs.Listings.{named_entry}
+use Rattle.tg_listing.specs.Listings.{line_of, named_entry}
+use Rattle.tg_listing.specs.declared.line.ListingLine.{ListingLine}
 use Rattle.tg_model.specs.Dag.{Section}
 use Rattle.tg_model.specs.Fits.{IfOnce}
 use Rattle.tg_model.specs.Queries.{QueryParts}
@@ -27,9 +28,9 @@ use Rattle.tg_verify.proofs.Misread.{Computes}
 use Rattle.tg_verify.proofs.Opened.{Ends, IsAtPlace, IsOpenedUpTo, front_of, opens_up_to, placed_ends}
 use Rattle.tg_verify.specs.History.{HasGone, HasOn, HasStopped}
 use Rattle.tg_verify.specs.Refusals.{HasPlaceCause, IsRefusedBehind}
-use Rattle.tg_verify.specs.State.{OpenerState, VerifierState, listed_of}
-use Rattle.tg_verify.specs.Steps.{IsKnownBlock, IsPlacedAt, IsSameOpener, PutOrWants, section_with}
-use Rattle.tg_verify.specs.Taken.{IsFrontWritten, IsNamed, IsNowhere, IsOn, IsSentFor, IsWrittenAt, Remembers}
+use Rattle.tg_verify.specs.State.{OpenerState, VerifierState, listed_lines, listed_of}
+use Rattle.tg_verify.specs.Steps.{IsKnownBlock, IsPlacedAt, IsSameOpener, PutOrWants, section_with, source_of}
+use Rattle.tg_verify.specs.Taken.{IsFrontWritten, IsNamed, IsNowhere, IsOn, IsSentFor, IsUnlisted, IsWrittenAt, Remembers}
 use Rattle.tg_verify.specs.declared.counts.Source.{Source}
 use Rattle.tg_verify.specs.declared.counts.Source.TheVariants as sources
 use Rattle.tg_verify.specs.declared.fault.Refusal.{Refusal}
@@ -116,12 +117,8 @@ digest_here : (q : QueryParts) (sections : List Section) (cid : CidParts) (block
     → IsKnownHere q sections (section_with cid block) sources.Digest
 digest_here q sections cid block asks is = record { had = inr (unasked_identity q cid asks, is); from = asks; unsent = unasked_unsent q sections cid asks }
 
-abbrev pub source_by : Bool → Source
-source_by true = sources.Remembered
-source_by false = sources.Digest
-
 pub known_here : (asks : Bool) (q : QueryParts) (seen : List (CidParts × List ℕ)) (sections : List Section) (cid : CidParts) (block : List ℕ) → is_asked q cid ≡ asks
-    → Remembers q.dups seen sections → IsKnownBlock asks seen cid (Some block) → IsKnownHere q sections (section_with cid block) (source_by asks)
+    → Remembers q.dups seen sections → IsKnownBlock asks seen cid (Some block) → IsKnownHere q sections (section_with cid block) (source_of asks)
 known_here true q seen sections cid block asks keeps h = remembered_here q.dups q seen sections cid block refl asks keeps h
 known_here false q seen sections cid block asks keeps h = let is : block ≡ cid.digest = cc in digest_here q sections cid block asks is
 
@@ -154,15 +151,19 @@ is_named q sections section source h named bytes = elim h.had [
 module _ (v : VerifiedLaws) (computes : Computes) (state : VerifierState) (sections : List Section) (written : List ℕ) (h : IsOn state sections written) where
   -- as an opener sees it
   abbrev opener : OpenerState
-  opener = record { left = state.left; limits = state.limits; entries = state.entries; counts = state.counts }
+  opener = record { left = state.left; limits = state.limits; lines = state.lines; counts = state.counts }
 
   -- no place is next: all is written
   left_none : state.left.wanted ≡ None → tasks_left state.left ≡ []
   left_none none = ap (λ (w : Option WantedAt). wanted_tasks w ++ state.left.later) none ∙ h.ends none
 
-  whole_is : written ++ listing (map named_entry state.entries) ≡ written_whole state.left.query h.given
+  -- the entries whose lines are kept
+  abbrev kept : List Named
+  kept = listed_of state.left.query.scope h.given.met
+
+  whole_is : written ++ listing kept ≡ written_whole state.left.query h.given
   whole_is =
-      ap (λ (ns : List Named). written ++ listing ns) h.names ∙ ap (λ (t : List ℕ). t ++ listing (listed_of state.left.query.scope h.given.met)) h.text
+      ap (λ (t : List ℕ). t ++ listing (listed_of state.left.query.scope h.given.met)) h.text
       ∙ ap (λ (t : List ℕ). h.given.text ++ t) (at_end state.left.query.scope h.given.met)
     where
       at_end : (scope : Scope) (met : List ListedEntry) → listing (listed_of scope met) ≡ listing_at_end scope met
@@ -170,7 +171,7 @@ module _ (v : VerifiedLaws) (computes : Computes) (state : VerifierState) (secti
       at_end scopes.Entity met = refl
       at_end scopes.All met = refl
 
-  whole_front : (front rest : List ℕ) → state.left.wanted ≡ None → listing (map named_entry state.entries) ≡ front ++ rest → IsFrontWritten state.left.query sections (written ++ front)
+  whole_front : (front rest : List ℕ) → state.left.wanted ≡ None → listing kept ≡ front ++ rest → IsFrontWritten state.left.query sections (written ++ front)
   whole_front front rest none e = record {
     given = h.given;
     tasks = [];
@@ -179,12 +180,20 @@ module _ (v : VerifiedLaws) (computes : Computes) (state : VerifierState) (secti
     text = sym whole_is ∙ ap (λ (t : List ℕ). written ++ t) e ∙ sym (append_assoc written front rest);
   }
 
-  abbrev listed : VerifierState
-  listed = record state { entries = [] }
+  -- all is written but for the listing
+  unlisted : state.left.wanted ≡ None → IsUnlisted state.left.query sections (written ++ [])
+  unlisted none = record {
+    given = h.given;
+    verified = subst (λ (tasks : List (Task CidParts)). Verified state.left.query sections h.given tasks) (left_none none) h.verified;
+    text = append-nil written ∙ h.text;
+  }
 
-  pub lists_all : (out : Output) → state.left.wanted ≡ None → Put (listing (map named_entry state.entries)) out → HasGone listed sections written out (Ok progresses.Done)
+  abbrev listed : VerifierState
+  listed = record state { lines = [] }
+
+  pub lists_all : (out : Output) → state.left.wanted ≡ None → Put (listing kept) out → HasGone listed sections written out (Ok progresses.Done)
   lists_all out none put = record {
-    text = listing (map named_entry state.entries);
+    text = listing kept;
     put = put;
     stands = record {
       given = h.given;
@@ -192,14 +201,14 @@ module _ (v : VerifiedLaws) (computes : Computes) (state : VerifierState) (secti
       sends = subst (λ (w : Option WantedAt). IsSentFor state.left.query sections w) (sym none) tt;
       keeps = record { named = h.keeps.named; remembers = h.keeps.remembers; count = h.keeps.count };
       counted = record { counted = h.counted.counted; within = h.counted.within };
-      writes = subst (λ (w : Option WantedAt). IsWrittenAt listed h.given (written ++ listing (map named_entry state.entries)) w) (sym none) (h.ends none, whole_is);
+      writes = subst (λ (w : Option WantedAt). IsWrittenAt listed h.given (written ++ listing kept) w) (sym none) (h.ends none, whole_is);
     };
   }
 
-  pub lists_front : (out : Output) (fault : Refusal) → state.left.wanted ≡ None → PutOrWants (listing (map named_entry state.entries)) out (Err fault)
+  pub lists_front : (out : Output) (fault : Refusal) → state.left.wanted ≡ None → PutOrWants (listing kept) out (Err fault)
       → HasGone listed sections written out (Err fault)
   lists_front out refusals.SinkFault none (p, rose) = record { text = p.front; put = p.put; stands = whole_front p.front p.rest none p.whole }
-  lists_front out refusals.OutOfMemory none (p, quiet) = record { text = p.front; put = p.put; stands = whole_front p.front p.rest none p.whole }
+  lists_front out refusals.OutOfMemory none (put, quiet) = record { text = []; put = put; stands = inr (unlisted none) }
   lists_front out (refusals.Extra number) none p = absurd p
   lists_front out (refusals.Limit kind number) none p = absurd p
   lists_front out (refusals.BadDigest cid) none p = absurd p
@@ -222,7 +231,7 @@ module _ (v : VerifiedLaws) (computes : Computes) (state : VerifierState) (secti
       sends = subst (λ (w : Option WantedAt). IsSentFor state.left.query sections w) (sym wanted) sends;
       keeps = h.keeps;
       counted = h.counted;
-      writes = subst (λ (w : Option WantedAt). IsWrittenAt state h.given (written ++ []) w) (sym wanted) (append-nil written ∙ h.text, h.names);
+      writes = subst (λ (w : Option WantedAt). IsWrittenAt state h.given (written ++ []) w) (sym wanted) (append-nil written ∙ h.text, h.lines);
     };
   }
 
@@ -244,7 +253,7 @@ module _ (v : VerifiedLaws) (computes : Computes) (state : VerifierState) (secti
       from = known.from;
       known = known_if state.left.query sections section false known.unsent known.had;
       counted = h.counted.counted;
-      names = h.names;
+      lines = h.lines;
     }
 
     same_sections : taken_as state.left.query sections section ≡ sections
@@ -273,8 +282,7 @@ module _ (v : VerifiedLaws) (computes : Computes) (state : VerifierState) (secti
     refuses (refusals.NotThere segment) cause = absurd cause
     refuses (refusals.NotFolder segment) cause = absurd cause
     refuses refusals.SinkFault cause = absurd cause
-    refuses refusals.OutOfMemory cause =
-        front_of state.left.query sections h.given (tasks_left state.left) written [] h.verified (sym h.text ∙ sym (append-nil written))
+    refuses refusals.OutOfMemory cause = inl (refused_behind refusals.OutOfMemory cause)
     refuses (refusals.Extra number) cause = absurd cause
     refuses (refusals.Limit kind number) cause = refused_behind (refusals.Limit kind number) cause
     refuses (refusals.BadDigest cid) cause = absurd cause
@@ -283,9 +291,17 @@ module _ (v : VerifiedLaws) (computes : Computes) (state : VerifierState) (secti
     refuses (refusals.BadSize declared actual) cause = refused_behind (refusals.BadSize declared actual) cause
     refuses (refusals.Truncated want number) cause = absurd cause
 
+    -- memory is wanted before it is opened
+    pub wants_memory : {S : Type 0} (m : SinkMeaning S) (a : S) → m.wrote a a [] → HasGone state sections written (into m a a) (Err refusals.OutOfMemory)
+    wants_memory {S} m a rests = record {
+      text = [];
+      put = put_nothing S m a rests;
+      stands = inl (subst (λ (text : List ℕ). IsRefusedBehind state.left.query state.limits sections text refusals.OutOfMemory) (sym (append-nil written)) (refused_behind refusals.OutOfMemory tt));
+    }
+
     -- it is refused
     pub place_refused : (out : Output) (new : OpenerState) (fault : Refusal) → IsSameOpener opener new → IsPlacedAt opener at section source out new (Err fault)
-        → HasGone (record state { left = new.left; limits = new.limits; entries = new.entries; counts = new.counts }) sections written out (Err fault)
+        → HasGone (record state { left = new.left; limits = new.limits; lines = new.lines; counts = new.counts }) sections written out (Err fault)
     place_refused out new fault same_opener placed =
         let q = state.left.query in
         let ends : Ends v computes opener sections h.given at section source at_place (taken_as q sections section) written (λ text fault. HasStopped q state.limits sections text fault) = record {
@@ -304,7 +320,7 @@ module _ (v : VerifiedLaws) (computes : Computes) (state : VerifierState) (secti
 
     -- it is opened
     pub place_opened : (out : Output) (new : OpenerState) → IsSameOpener opener new → IsPlacedAt opener at section source out new (Ok tt)
-        → HasOn (record state { left = new.left; limits = new.limits; entries = new.entries; counts = new.counts }) sections written out
+        → HasOn (record state { left = new.left; limits = new.limits; lines = new.lines; counts = new.counts }) sections written out
     place_opened out new same_opener placed =
         let q = state.left.query in
         let o = opens_up_to v computes opener sections h.given at section source at_place placed.said new placed.placed in
@@ -317,7 +333,7 @@ module _ (v : VerifiedLaws) (computes : Computes) (state : VerifierState) (secti
       where
         on_with : (new : OpenerState) (all : List Section) (text : List ℕ) {said : List ℕ} (o : IsOpenedUpTo opener all h.given said new) → IsSameOpener opener new → o.next.text ≡ text
             → (new.left.wanted ≡ None → new.left.later ≡ []) → all ≡ sections
-            → IsOn (record state { left = new.left; limits = new.limits; entries = new.entries; counts = new.counts }) sections text
+            → IsOn (record state { left = new.left; limits = new.limits; lines = new.lines; counts = new.counts }) sections text
         on_with new all text o same_opener text_is last e = record {
           given = o.next;
           verified = subst (λ (p : QueryParts). Verified p sections o.next (tasks_left new.left)) (sym same_opener.query)
@@ -334,5 +350,5 @@ module _ (v : VerifiedLaws) (computes : Computes) (state : VerifierState) (secti
                 (subst (λ (l : LimitNumbers). AreUnpassed l (counts_given state.left.query o.next)) (sym same_opener.limits) o.within);
           };
           text = sym text_is;
-          names = subst (λ (p : QueryParts). map named_entry new.entries ≡ listed_of p.scope o.next.met) (sym same_opener.query) o.names;
+          lines = subst (λ (p : QueryParts). new.lines ≡ listed_lines p.scope o.next.met) (sym same_opener.query) o.lines;
         }

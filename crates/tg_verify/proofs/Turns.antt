@@ -122,7 +122,7 @@ module _ (v : VerifiedLaws) (q : QueryParts) (limits : LimitNumbers) (sections :
   stopped_puts written text (refusals.NotFolder segment) h = inl (nothing_before written text (no_directory segment) h)
   stopped_puts written text (refusals.NotThere segment) h = inl (nothing_before written text (no_entry segment) h)
   stopped_puts written text refusals.SinkFault h = tt
-  stopped_puts written text refusals.OutOfMemory h = tt
+  stopped_puts written text refusals.OutOfMemory h = inr h
   stopped_puts written text (refusals.Extra number) h = inr h
   stopped_puts written text (refusals.Truncated want number) h = inr h
   stopped_puts written text (refusals.Limit kind number) h = inr h

@@ -9,10 +9,10 @@ use Rattle.tg_model.specs.Queries.{QueryParts}
 use Rattle.tg_streams.specs.Streams.{Output, OutputQuiet, OutputRose, Put}
 use Rattle.tg_traversal_laws.specs.Tasks.{no_directory, no_entry, spot_of}
 use Rattle.tg_verify.specs.Laws.{IsFitOf, IsNowhereOf, IsProgressOf}
-use Rattle.tg_verify.specs.Refusals.{HasRefused, IsRefusedBehind}
+use Rattle.tg_verify.specs.Refusals.{HasRefused, HasWantedBehind, IsRefusedBehind}
 use Rattle.tg_verify.specs.Sound.{AnswersFor, ForEachSound}
 use Rattle.tg_verify.specs.State.{VerifierState, told}
-use Rattle.tg_verify.specs.Taken.{IsFrontWritten, IsGoing, IsNowhere, IsOn, IsThrough, IsUpTo}
+use Rattle.tg_verify.specs.Taken.{IsFrontWritten, IsGoing, IsNowhere, IsOn, IsThrough, IsUpTo, IsWritten}
 use Rattle.tg_verify.specs.declared.fault.Refusal.{Refusal}
 use Rattle.tg_verify.specs.declared.fault.Refusal.TheVariants as refusals
 use Rattle.tg_verify.specs.declared.verifier.Progress.{Progress}
@@ -51,12 +51,13 @@ IsCounted before now (Err (refusals.BadDigest cid)) = now ≡ before
 IsCounted before now (Err (refusals.WrongBlock want got)) = now ≡ before
 IsCounted before now (Err other) = (now ≡ before) ⊎ (now ≡ one_more before)
 
--- a refusal puts nothing, but that out may fail in what the section says and what places behind it say; and that memory
--- may be wanted, or such a place be refused, behind what was put
+-- a refusal puts nothing, but that out may fail in what the section says and what places behind it say; and that such a
+-- place may be refused, or memory be wanted there or for a listing, behind what was put, of which nothing is put then
 abbrev pub PutsFor : QueryParts → LimitNumbers → List Section → List ℕ → Result Progress Refusal → List ℕ → Type 0
 PutsFor q limits sections written (Ok progress) text = ⊤
 PutsFor q limits sections written (Err refusals.SinkFault) text = ⊤
-PutsFor q limits sections written (Err refusals.OutOfMemory) text = ⊤
+PutsFor q limits sections written (Err refusals.OutOfMemory) text =
+    (text ≡ []) ⊎ HasWantedBehind q limits sections (written ++ text)
 PutsFor q limits sections written (Err fault) text =
     (text ≡ []) ⊎ IsRefusedBehind q limits sections (written ++ text) fault
 
@@ -91,13 +92,13 @@ pub record HasTaken (state : VerifierState) (sections : List Section) (written :
   pub puts : PutsFor state.left.query state.limits sections written result text
   pub stands : StandsAfter result state sections (written ++ text)
 
--- why it stops behind these sections: at a place whose block no section brings, or of a segment that leads nowhere; or out
--- failed, or memory was wanted, behind a front of what they say
+-- why it stops behind these sections: at a place whose block no section brings, or of a segment that leads nowhere; or
+-- memory was wanted there or for a listing; or out failed behind a front of what they say
 abbrev pub HasStopped : QueryParts → LimitNumbers → List Section → List ℕ → Refusal → Type 0
 HasStopped q limits sections written (refusals.NotFolder segment) = IsNowhere q sections written (no_directory segment)
 HasStopped q limits sections written (refusals.NotThere segment) = IsNowhere q sections written (no_entry segment)
 HasStopped q limits sections written refusals.SinkFault = IsFrontWritten q sections written
-HasStopped q limits sections written refusals.OutOfMemory = IsFrontWritten q sections written
+HasStopped q limits sections written refusals.OutOfMemory = HasWantedBehind q limits sections written
 HasStopped q limits sections written fault = IsRefusedBehind q limits sections written fault
 
 abbrev pub StandsBehind : Result Progress Refusal → VerifierState → List Section → List ℕ → Type 0
@@ -155,12 +156,17 @@ pub record HasPut (out : Output) (holds : List ℕ → Type 0) : Type 0 where
   pub put : Put text out
   pub is_so : holds text
 
--- of the sections these were received
+-- memory was wanted for the next section, or for a verifier before the first, of which nothing is put
+abbrev pub HasWantedNext : QueryParts → List Section → List ℕ → Refusal → Type 0
+HasWantedNext q sections written refusals.OutOfMemory = IsWritten q sections written
+HasWantedNext q sections written other = ⊥
+
+-- of the sections these were received, and the refusal came at or behind the last of them, or before the next one
 pub record HasRefusedFront (q : QueryParts) (limits : LimitNumbers) (sections : List Section) (written : List ℕ) (fault : Refusal) : Type 0 where
   pub front : List Section
   pub rest : List Section
   pub whole : sections ≡ front ++ rest
-  pub refused : HasRefused q limits front written fault
+  pub refused : HasRefused q limits front written fault ⊎ HasWantedNext q front written fault
 
 -- how a list of sections ends: all came; or a block is wanted behind them; or one of them was refused
 abbrev pub AllEnd : QueryParts → LimitNumbers → List Section → Output → Result (Option CidParts) Refusal → Type 0

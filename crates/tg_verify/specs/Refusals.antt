@@ -22,7 +22,7 @@ use Rattle.tg_traversal_laws.specs.Tasks.{position_of, tasks_of, text_at}
 use Rattle.tg_traversal_laws.specs.Verified.{IsHad, Verified}
 use Rattle.tg_verify.specs.Counting.{IsFirstPassed, counts_given}
 use Rattle.tg_verify.specs.State.{count_of}
-use Rattle.tg_verify.specs.Taken.{IsFrontWritten, IsNamed, IsNowhere, IsThrough, IsUpTo}
+use Rattle.tg_verify.specs.Taken.{IsFrontWritten, IsNamed, IsNowhere, IsThrough, IsUnlisted, IsUpTo}
 use Rattle.tg_verify.specs.declared.fault.Refusal.{Refusal}
 use Rattle.tg_verify.specs.declared.fault.Refusal.TheVariants as refusals
 
@@ -174,6 +174,12 @@ pub record IsRefusedBehind (q : QueryParts) (limits : LimitNumbers) (sections : 
   pub is_named : IsNamed section
   pub cause : HasPlaceCause q limits given later at section fault
 
+-- memory was wanted behind these sections: at a place whose block no section brings, of which nothing is written; or for
+-- the listing at the end, of which nothing is written
+abbrev pub HasWantedBehind : QueryParts → LimitNumbers → List Section → List ℕ → Type 0
+HasWantedBehind q limits sections written =
+    IsRefusedBehind q limits sections written refusals.OutOfMemory ⊎ IsUnlisted q sections written
+
 -- each refusal, by the sections that were received and what is written
 abbrev pub HasRefused : QueryParts → LimitNumbers → List Section → List ℕ → Refusal → Type 0
 HasRefused q limits sections written (refusals.Extra number) = IsSurplus q sections written number
@@ -184,7 +190,7 @@ HasRefused q limits sections written (refusals.Truncated want number) =
 HasRefused q limits sections written refusals.SinkFault = IsFrontWritten q sections written
 HasRefused q limits sections written refusals.OutOfMemory =
     IsRefusedAt q sections written (λ given later at section. HasSectionCause q limits given later at section refusals.OutOfMemory)
-    ⊎ IsFrontWritten q sections written
+    ⊎ HasWantedBehind q limits sections written
 HasRefused q limits sections written fault =
     IsRefusedAt q sections written (λ given later at section. HasSectionCause q limits given later at section fault)
     ⊎ IsRefusedBehind q limits sections written fault

@@ -2,22 +2,23 @@
 use Rattle.std.specs.Prelude.{List, None, Option, Some, [], length, map, min, ℕ, ◌-◌, ◌^◌}
 use Rattle.tg_cid.specs.Cid.{CidParts}
 use Rattle.tg_traversal.specs.Left.{LeftState, WantedAt}
+use Rattle.tg_listing.specs.Listings.{line_of}
+use Rattle.tg_listing.specs.declared.line.ListingLine.{ListingLine}
 use Rattle.tg_model.specs.Dag.{Section}
 use Rattle.tg_model.specs.LimitNumbers.{LimitNumbers}
 use Rattle.tg_model.specs.Texts.{Named}
 use Rattle.tg_model.specs.Traversal.{ListedEntry, named_met}
-use Rattle.tg_model.specs.declared.kinds.Entry.{Entry}
 use Rattle.tg_model.specs.declared.queries.Scope.TheVariants as scopes
 use Rattle.tg_model.specs.declared.queries.Scope.{Scope}
 use Rattle.tg_verify.specs.declared.counts.Counts.{Counts}
 use Rattle.tg_verify.specs.declared.fault.Refusal.{Refusal}
 
--- what is left of the query's traversal; the limits; the entries of the directory that is listed, so far; and what is
--- counted
+-- what is left of the query's traversal; the limits; the lines of the entries of the directory that is listed, so far;
+-- and what is counted
 pub record OpenerState : Type 0 where
   pub left : LeftState
   pub limits : LimitNumbers
-  pub entries : List Entry
+  pub lines : List ListingLine
   pub counts : Counts
 
 -- with it the blocks that are remembered, each under its CID; how many sections were taken; and the refusal after which
@@ -25,7 +26,7 @@ pub record OpenerState : Type 0 where
 pub record VerifierState : Type 0 where
   pub left : LeftState
   pub limits : LimitNumbers
-  pub entries : List Entry
+  pub lines : List ListingLine
   pub counts : Counts
   pub seen : List (CidParts × List ℕ)
   pub taken : ℕ
@@ -48,8 +49,11 @@ abbrev pub next_cid : Option Refusal → Option WantedAt → Option CidParts
 next_cid None wanted = cid_wanted wanted
 next_cid (Some refusal) wanted = None
 
--- of the entries that were met a verifier keeps those of a listing
+-- of the entries that were met those of a listing, of which a verifier keeps the lines
 abbrev pub listed_of : Scope → List ListedEntry → List Named
 listed_of scopes.Block met = []
 listed_of scopes.Entity met = map named_met met
 listed_of scopes.All met = []
+
+abbrev pub listed_lines : Scope → List ListedEntry → List ListingLine
+listed_lines scope met = map line_of (listed_of scope met)

@@ -4,15 +4,15 @@ use Rattle.std.specs.List.{flat_map}
 use Rattle.std.specs.Prelude.{Bool, Contains, Err, List, None, Ok, Option, Result, Some, [], false, length, map, true, ⊤, ℕ}
 use Rattle.std.specs.Prelude.{◌++◌, ◌+◌, ◌<◌, ◌∷◌, ◌≡◌}
 use Rattle.tg_cid.specs.Cid.{CidParts}
-use Rattle.tg_listing.specs.Listings.{named_entry}
+use Rattle.tg_listing.specs.Listings.{line_of, named_entry}
 use Rattle.tg_listing.specs.declared.fault.ListingFault.TheVariants as listings
 use Rattle.tg_listing.specs.declared.fault.ListingFault.{ListingFault}
+use Rattle.tg_listing.specs.declared.line.ListingLine.{ListingLine}
 use Rattle.tg_model.specs.Counts.{met_line}
 use Rattle.tg_model.specs.Dag.{Section}
 use Rattle.tg_model.specs.LimitNumbers.{AreWithin, LimitNumbers, number_of, standard}
 use Rattle.tg_model.specs.Placed.{StandsForKind}
 use Rattle.tg_model.specs.Queries.{QueryParts}
-use Rattle.tg_model.specs.Texts.{Named}
 use Rattle.tg_model.specs.Traversal.{ListedEntry}
 use Rattle.tg_model.specs.declared.kinds.Entry.{Entry}
 use Rattle.tg_model.specs.declared.kinds.Kind.{Kind}
@@ -29,8 +29,9 @@ use Rattle.tg_traversal_laws.specs.Tasks.{Miss, Task, entries_now, no_directory,
 use Rattle.tg_verify.specs.Counting.{AreUnpassed, HasMet, IsCountedOn, IsFirstPassed, numbers_of}
 use Rattle.tg_verify.specs.Refusals.{HasReceiptCause, IsBadBlock, IsMissized, IsTooDeep, IsWantedBlock, PassesAs}
 use Rattle.tg_verify.specs.Refusals.{tasks_behind, text_of}
-use Rattle.tg_verify.specs.State.{OpenerState, listed_of, told}
+use Rattle.tg_verify.specs.State.{OpenerState, listed_lines, told}
 use Rattle.tg_verify.specs.declared.counts.Counts.{Counts}
+use Rattle.tg_verify.specs.declared.counts.Source.TheVariants as sources
 use Rattle.tg_verify.specs.declared.counts.Source.{Source}
 use Rattle.tg_verify.specs.declared.fault.Refusal.TheVariants as refusals
 use Rattle.tg_verify.specs.declared.fault.Refusal.{Refusal}
@@ -93,15 +94,15 @@ pub record IsOpenedHere (old : OpenerState) (at : WantedAt) (section : Section) 
 abbrev pub left_of : OpenerState → List (Task CidParts)
 left_of state = tasks_left state.left
 
--- of the entries that are met before the next place these are kept
-abbrev pub kept_now : OpenerState → List (Task CidParts) → List Named
-kept_now state tasks = listed_of state.left.query.scope (entries_now tasks)
+-- the lines of the entries that are met before the next place, of those that are kept
+abbrev pub kept_now : OpenerState → List (Task CidParts) → List ListingLine
+kept_now state tasks = listed_lines state.left.query.scope (entries_now tasks)
 
 -- what comes before the next place was gathered: its text, and its entries, which are counted, and kept where they are of
 -- a listing
 pub record IsGathered (old : OpenerState) (before : List ℕ) (new : OpenerState) (ends : List ℕ) : Type 0 where
   pub ends_are : ends ≡ before ++ text_now (left_of old)
-  pub names : map named_entry new.entries ≡ map named_entry old.entries ++ kept_now old (left_of old)
+  pub lines : new.lines ≡ old.lines ++ kept_now old (left_of old)
   pub met : (met : List ListedEntry) → HasMet old.counts met → HasMet new.counts (met ++ entries_now (left_of old))
   pub output : new.counts.output ≡ told (old.counts.output + length (flat_map met_line (entries_now (left_of old))))
   pub seen_blocks : new.counts.seen_blocks ≡ old.counts.seen_blocks
@@ -128,7 +129,7 @@ pub record IsNearer (old : OpenerState) (before : List ℕ) (new : OpenerState) 
   pub text_is : text_now (left_of old) ≡ text ++ text_now (left_of new)
   pub met_entries : List ListedEntry
   pub entries_are : entries_now (left_of old) ≡ met_entries ++ entries_now (left_of new)
-  pub names : map named_entry new.entries ≡ map named_entry old.entries ++ listed_of old.left.query.scope met_entries
+  pub lines : new.lines ≡ old.lines ++ listed_lines old.left.query.scope met_entries
   pub met : (met : List ListedEntry) → HasMet old.counts met → HasMet new.counts (met ++ met_entries)
   pub output : new.counts.output ≡ told (old.counts.output + length (flat_map met_line met_entries))
   pub seen_blocks : new.counts.seen_blocks ≡ old.counts.seen_blocks
@@ -143,16 +144,16 @@ IsAdvanced old before new ends (Ok true) =
 IsAdvanced old before new ends (Ok false) = IsGathered old before new ends
 IsAdvanced old before new ends (Err fault) = IsGatheredBy old before new ends (Err fault)
 
--- an entry that comes is kept where it is of a listing
-abbrev pub listed_entry : Scope → Entry → List Named
+-- the line of an entry that comes is kept where it is of a listing
+abbrev pub listed_entry : Scope → Entry → List ListingLine
 listed_entry scopes.Block entry = []
-listed_entry scopes.Entity entry = named_entry entry ∷ []
+listed_entry scopes.Entity entry = line_of (named_entry entry) ∷ []
 listed_entry scopes.All entry = []
 
 -- the entry was counted, and kept where it is of a listing
 pub record IsMetAt (old : OpenerState) (m : ListedEntry) (entry : Entry) (new : OpenerState) : Type 0 where
   pub left : new.left ≡ old.left
-  pub names : map named_entry new.entries ≡ map named_entry old.entries ++ listed_entry old.left.query.scope entry
+  pub lines : new.lines ≡ old.lines ++ listed_entry old.left.query.scope entry
   pub met : (met : List ListedEntry) → HasMet old.counts met → HasMet new.counts (met ++ m ∷ [])
   pub output : new.counts.output ≡ told (old.counts.output + length (met_line m))
   pub seen_blocks : new.counts.seen_blocks ≡ old.counts.seen_blocks
@@ -166,7 +167,7 @@ pub record IsPlaced (old : OpenerState) (at : WantedAt) (section : Section) (sou
   pub kind : Option Kind
   pub passes : PassesAs old.left.query old.limits at section kind
   pub said_is : said ≡ text_of old.left.query at section kind ++ text_now (behind old at section kind)
-  pub names : map named_entry new.entries ≡ map named_entry old.entries ++ kept_now old (behind old at section kind)
+  pub lines : new.lines ≡ old.lines ++ kept_now old (behind old at section kind)
   pub counted : IsCountedOn old.left.query.dups source section.block said (entries_now (behind old at section kind)) old.counts new.counts
   pub small : AreWithin standard old.limits
   pub within : AreUnpassed old.limits (numbers_of new.counts)
@@ -240,11 +241,11 @@ abbrev pub PutEnds : List ℕ → Output → Result ⊤ Refusal → Type 0
 PutEnds text out (Ok done) = Put text out × OutputQuiet out
 PutEnds text out (Err fault) = (fault ≡ refusals.SinkFault) × PutFront text out
 
--- the text was put, or out failed in it, or memory was wanted
+-- the text was put, or out failed in it; or memory was wanted, and nothing was put
 abbrev pub PutOrWants : List ℕ → Output → Result ⊤ Refusal → Type 0
 PutOrWants text out (Ok done) = Put text out × OutputQuiet out
 PutOrWants text out (Err refusals.SinkFault) = PutFrontOf text out × OutputRose out
-PutOrWants text out (Err refusals.OutOfMemory) = PutFrontOf text out × OutputQuiet out
+PutOrWants text out (Err refusals.OutOfMemory) = Put [] out × OutputQuiet out
 PutOrWants text out (Err other) = ⊥
 
 -- the refusal for a listing that isn't put to its end
@@ -258,6 +259,11 @@ refusal_of_miss (misses.NoEntry segment) = refusals.NotThere segment
 refusal_of_miss (misses.NoDirectory segment) = refusals.NotFolder segment
 
 -- ---- blocks that no section brings
+
+-- where the block comes from, by whether the CID is asked for
+abbrev pub source_of : Bool → Source
+source_of true = sources.Remembered
+source_of false = sources.Digest
 
 -- the block that is known for a CID: where the CID isn't asked for its digest, and else what is remembered under it; or
 -- none, and a section is to bring it

@@ -4,7 +4,6 @@ use Rattle.std.specs.Prelude.{◌≡◌, ◌≢◌}
 use Rattle.tg_cid.specs.Cid.{CidParts}
 use Rattle.tg_cid.specs.Names.{Names}
 use Rattle.tg_traversal.specs.Left.{WantedAt, tasks_left}
-use Rattle.tg_listing.specs.Listings.{named_entry}
 use Rattle.tg_model.specs.Dag.{Section}
 use Rattle.tg_model.specs.Queries.{QueryParts}
 use Rattle.tg_model.specs.Traversal.{is_sent_behind}
@@ -12,7 +11,7 @@ use Rattle.tg_traversal_laws.specs.Stages.{Given, nothing_given}
 use Rattle.tg_traversal_laws.specs.Tasks.{Miss, Task, open_block, start, stop_at}
 use Rattle.tg_traversal_laws.specs.Verified.{Verified, written_whole}
 use Rattle.tg_verify.specs.Counting.{AreUnpassed, HasCounted, counts_given}
-use Rattle.tg_verify.specs.State.{VerifierState, count_of, listed_of}
+use Rattle.tg_verify.specs.State.{VerifierState, count_of, listed_lines}
 
 -- these sections were taken, this is written for them, and a block that is sent behind them is wanted here
 pub record IsUpTo (q : QueryParts) (sections : List Section) (written : List ℕ) (at : WantedAt) : Type 0 where
@@ -35,6 +34,12 @@ pub record IsNowhere (q : QueryParts) (sections : List Section) (written : List 
   pub verified : Verified q sections given (stop_at miss ∷ later)
   pub text : written ≡ given.text
 
+-- these are all sections of the query, and all is written but for the listing at the end, of which nothing is
+pub record IsUnlisted (q : QueryParts) (sections : List Section) (written : List ℕ) : Type 0 where
+  pub given : Given
+  pub verified : Verified q sections given []
+  pub text : written ≡ given.text
+
 -- these sections were taken, and a front is written of what they say
 abbrev pub most_text : QueryParts → Given → List (Task CidParts) → List ℕ
 most_text q given [] = written_whole q given
@@ -47,23 +52,30 @@ pub record IsFrontWritten (q : QueryParts) (sections : List Section) (written : 
   pub rest : List ℕ
   pub text : most_text q given tasks ≡ written ++ rest
 
+-- these sections were taken, and all is written that they say
+pub record IsWritten (q : QueryParts) (sections : List Section) (written : List ℕ) : Type 0 where
+  pub given : Given
+  pub tasks : List (Task CidParts)
+  pub verified : Verified q sections given tasks
+  pub text : written ≡ most_text q given tasks
+
 -- ---- a verifier that refused nothing
 
 -- before it opened anything
 pub record IsFresh (state : VerifierState) : Type 0 where
   pub left : tasks_left state.left ≡ start state.left.query state.left.query.root
   pub wanted : state.left.wanted ≢ None
-  pub entries : state.entries ≡ []
+  pub lines : state.lines ≡ []
   pub counted : HasCounted state.left.query state.counts nothing_given
   pub seen : state.seen ≡ []
   pub taken : state.taken ≡ 0
   pub refused : state.refused ≡ None
 
--- as long as a block is wanted, the text that was given is written, and the entries of a listing are kept; and then all
+-- as long as a block is wanted, the text that was given is written, and the lines of a listing are kept; and then all
 -- is written
 abbrev pub IsWrittenAt : VerifierState → Given → List ℕ → Option WantedAt → Type 0
 IsWrittenAt state given written (Some at) =
-    (written ≡ given.text) × (map named_entry state.entries ≡ listed_of state.left.query.scope given.met)
+    (written ≡ given.text) × (state.lines ≡ listed_lines state.left.query.scope given.met)
 IsWrittenAt state given written None = (state.left.later ≡ []) × (written ≡ written_whole state.left.query given)
 
 -- a section of bytes, which its CID names
@@ -112,4 +124,4 @@ pub record IsOn (state : VerifierState) (sections : List Section) (written : Lis
   pub keeps : Keeps state sections
   pub counted : IsCountedWithin state given
   pub text : written ≡ given.text
-  pub names : map named_entry state.entries ≡ listed_of state.left.query.scope given.met
+  pub lines : state.lines ≡ listed_lines state.left.query.scope given.met

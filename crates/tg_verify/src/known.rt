@@ -1,13 +1,12 @@
 //! Places whose blocks no section brings.
-ghost use Rattle.std.specs.Prelude.{◌≡◌, ◌<◌, ℕ, List as Items, Err, IfErr, IfOk, MatchResult, None, Ok, Some};
-ghost use Rattle.std.specs.Prelude.{option_copied};
+ghost use Rattle.std.specs.Prelude.{◌≡◌, ◌<◌, ℕ, All, List as Items, Err, IfErr, IfOk, MatchResult, None, Ok, Some};
 ghost use Rattle.tg_model.specs.Dag.{Section};
 ghost use Rattle.tg_streams.specs.Streams.{OutputQuiet, into};
 ghost use Rattle.tg_traversal.specs.BlocksLeft.{blocks_over};
 ghost use Rattle.tg_traversal.specs.Left.{tasks_left};
 ghost use Rattle.tg_verify.specs.History.{HasGone, HasPutCause, HasTurned, IsPlaceFault, IsProgress};
 ghost use Rattle.tg_verify.specs.History.{IsSameVerifier};
-ghost use Rattle.tg_verify.specs.Steps.{IsKnownBlock};
+ghost use Rattle.tg_verify.specs.Steps.{IsKnownBlock, source_of};
 ghost use Rattle.tg_verify.specs.Taken.{IsOn};
 
 use crate::checking::are_bytes;
@@ -15,9 +14,10 @@ use crate::counts::Source;
 use crate::fault::Refusal;
 use crate::verifier::{Progress, Verifier};
 use indexmap::IndexMap;
-use tg_bytes::Bytes;
+use std::alloc::{AllocError, Global};
 use tg_cid::Cid;
 use tg_streams::Sink;
+use tg_traversal::SharedBlock;
 
 impl Verifier {
     /// Opens each place whose block no section brings, up to the next one that does or to the end: of an identity CID
@@ -62,35 +62,52 @@ impl Verifier {
         tg_traversal_laws::verified_sections();
         tg_cid::laws::equality();
         let Some(wanted) = self.opener.wanted() else {
-            self.opener.put_entries(out)?;
+            self.opener.put_kept_lines(out)?;
             return Ok(Some(Progress::Done));
         };
         let asked = self.opener.asks(&wanted.cid);
-        let source = if asked {
-            Source::Remembered
-        } else {
-            Source::Digest
+        let Some(block) = known_block(self.alloc, &self.seen, asked, &wanted.cid)? else {
+            return Ok(Some(Progress::More));
         };
-        match known_block(&self.seen, asked, &wanted.cid) {
-            None => Ok(Some(Progress::More)),
-            Some(block) => {
-                are_bytes(block);
-                self.opener.place(&wanted.cid, block, source, out)?;
-                Ok(None)
-            }
-        }
+        are_bytes(block.as_slice());
+        self.opener
+            .place(&wanted.cid, &block, source_of(asked), out)?;
+        Ok(None)
+    }
+}
+
+/// Where the block that is known for a CID comes from, by whether the CID is asked for.
+fn source_of(asked: bool) -> Source
+    ensures { result ≡ source_of asked }
+{
+    if asked {
+        Source::Remembered
+    } else {
+        Source::Digest
     }
 }
 
 /// The block that is known for a CID: where it isn't asked for its digest, and else the one that is remembered under
-/// it.
-fn known_block<'a>(seen: &'a IndexMap<Cid, Bytes>, asked: bool, cid: &'a Cid) -> Option<&'a [u8]>
-    ensures { IsKnownBlock asked seen.now.entries cid.now (option_copied result) }
+/// it. The error is want of memory for a known one.
+fn known_block(
+    alloc: Global,
+    seen: &IndexMap<Cid, SharedBlock>,
+    asked: bool,
+    cid: &Cid,
+) -> Result<Option<SharedBlock>, AllocError>
+    ensures { MatchResult result (IsKnownBlock asked seen.now.entries cid.now)
+        (λ _. (block : Items ℕ) × IsKnownBlock asked seen.now.entries cid.now (Some block) × All (λ b. b < 256) block) }
 {
     tg_cid::laws::equality();
     if !asked {
-        return Some(cid.digest());
+        are_bytes(cid.digest());
+        let digest = SharedBlock::of(alloc, cid.digest())?;
+        return Ok(Some(digest));
     }
-    let block = seen.get(cid)?;
-    Some(block.as_slice())
+    let Some(block) = seen.get(cid) else {
+        return Ok(None);
+    };
+    are_bytes(block.as_slice());
+    let block = block.clone()?;
+    Ok(Some(block))
 }

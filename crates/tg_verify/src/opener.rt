@@ -21,19 +21,20 @@ use std::alloc::{AllocError, Global};
 use std::marker::Model;
 use tg_bytes::{Bytes, List};
 use tg_cid::Cid;
-use tg_model::{Entry, LimitKind, Limits, PlacedKind, Query, Scope};
+use tg_listing::ListingLine;
+use tg_model::{LimitKind, Limits, PlacedKind, Query, Scope};
 use tg_streams::{Sink, put_pieces};
-use tg_traversal::{Frames, PlaceText, Wanted};
+use tg_traversal::{Frames, PlaceText, SharedBlock, Wanted};
 
 /// Opens the blocks that a query asks for at their places, one after another, and puts what they say. It holds of a
-/// listing the entries, and counts what the limits count.
+/// listing the lines, and counts what the limits count.
 #[derive(Drop)]
 pub(crate) struct Opener {
     pub(crate) alloc: Global,
     pub(crate) frames: Frames,
     pub(crate) scope: Scope,
     pub(crate) limits: Limits,
-    pub(crate) entries: List<Entry>,
+    pub(crate) lines: List<ListingLine>,
     pub(crate) counts: Counts,
 }
 
@@ -50,7 +51,7 @@ impl Model for Opener {
 
     ghost Value = { OpenerState };
 
-    ghost view = { λ o. record { left = o.frames; limits = o.limits; entries = o.entries; counts = o.counts } };
+    ghost view = { λ o. record { left = o.frames; limits = o.limits; lines = o.lines; counts = o.counts } };
 
     ghost invariant = { λ o. o.scope ≡ o.frames.query.scope };
 }
@@ -62,7 +63,7 @@ impl Opener {
         ensures limits { IfOk result (λ o. o.limits ≡ limits) }
         ensures start { IfOk result (λ o. tasks_left o.left ≡ start query.now query.now.root) }
         ensures wanted { IfOk result (λ o. o.left.wanted ≢ None) }
-        ensures entries { IfOk result (λ o. o.entries ≡ []) }
+        ensures lines { IfOk result (λ o. o.lines ≡ []) }
         ensures counted { IfOk result (λ o. HasCounted query.now o.counts nothing_given) }
     {
         Ok(Opener {
@@ -70,7 +71,7 @@ impl Opener {
             frames: Frames::new(alloc, query)?,
             scope: query.scope(),
             limits,
-            entries: List::new(alloc),
+            lines: List::new(alloc),
             counts: Counts::new(alloc),
         })
     }
@@ -98,7 +99,7 @@ impl Opener {
     pub(crate) fn place<S: Sink>(
         &mut self,
         cid: &Cid,
-        block: &[u8],
+        block: &SharedBlock,
         source: Source,
         out: &mut S,
     ) -> Result<(), Refusal>
@@ -121,7 +122,7 @@ impl Opener {
     fn prepare<'a>(
         &mut self,
         cid: &Cid,
-        block: &'a [u8],
+        block: &'a SharedBlock,
         source: Source,
     ) -> Result<Said<'a>, Refusal>
         requires here { (at : WantedAt) × (self.old.left.wanted ≡ Some at) × (at.cid ≡ cid.now) }
@@ -132,12 +133,12 @@ impl Opener {
             (λ fault. HasOpenCause self.old at (section_with cid.now block.now) source fault) }
         ensures fewer { OnOk result (HasFewer self.old.left self.new.left) }
     {
-        let found = self.checked(cid, block)?;
+        let found = self.checked(cid, block.as_slice())?;
         let text = self.open(found, block)?;
         let mut ends = Bytes::new(self.alloc);
         self.gather(&mut ends)?;
         let said = Said { text, ends };
-        self.count(&said, block, source);
+        self.count(&said, block.as_slice(), source);
         match self.counts.passed(&self.limits) {
             None => Ok(said),
             Some(kind) => Err(limit(kind, self.limits.number(kind))),
@@ -148,12 +149,12 @@ impl Opener {
     fn open<'a>(
         &mut self,
         found: Option<PlacedKind>,
-        block: &'a [u8],
+        block: &'a SharedBlock,
     ) -> Result<PlaceText<'a>, AllocError>
         requires here { (at : WantedAt) × (section : Section) × (kind : Option Kind)
             × IsPassingHere self.old at section kind found × (section.block ≡ block.now) }
         ensures same { IsSameOpener self.old self.new }
-        ensures entries { self.new.entries ≡ self.old.entries }
+        ensures lines { self.new.lines ≡ self.old.lines }
         ensures counts { self.new.counts ≡ self.old.counts }
         ensures opened { (at : WantedAt) (section : Section) (kind : Option Kind)
             → IsPassingHere self.old at section kind found → section.block ≡ block.now
@@ -164,10 +165,10 @@ impl Opener {
             self.frames.pass();
             return Ok(PlaceText {
                 line: Bytes::new(self.alloc),
-                bytes: block,
+                bytes: block.as_slice(),
             });
         };
-        let text = self.frames.text(self.alloc, &found, block)?;
+        let text = self.frames.text(self.alloc, &found, block.as_slice())?;
         // The limit is at most the standard one, so that what lies below has a depth, too.
         let _deepest = self.limits.number(LimitKind::Depth);
         self.frames.open(found, block)?;
@@ -178,7 +179,7 @@ impl Opener {
     fn count(&mut self, said: &Said<'_>, block: &[u8], source: Source)
         ensures left { self.new.left ≡ self.old.left }
         ensures limits { self.new.limits ≡ self.old.limits }
-        ensures entries { self.new.entries ≡ self.old.entries }
+        ensures lines { self.new.lines ≡ self.old.lines }
         ensures output { self.new.counts.output ≡ told (self.old.counts.output
             + length (said.now.text.line ++ (said.now.text.bytes.now ++ said.now.ends))) }
         ensures seen_blocks { self.new.counts.seen_blocks ≡ told (self.old.counts.seen_blocks

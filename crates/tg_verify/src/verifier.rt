@@ -27,6 +27,7 @@ use tg_bytes::Bytes;
 use tg_cid::Cid;
 use tg_model::{Limits, Query};
 use tg_streams::Sink;
+use tg_traversal::SharedBlock;
 
 /// Whether a verifier wants more sections.
 #[derive(Clone, Copy, Debug, PartialEq, Eq)]
@@ -42,15 +43,16 @@ pub enum Progress {
 /// listing of a directory, which is written at the end. It trusts the query's root alone.
 ///
 /// Of an identity CID no section is wanted, since its block is its digest. Where each block is sent once, a further
-/// place of its CID takes the block that was received. It holds copies of the blocks of files on the way to the wanted
-/// place of which links are to come, of directories on it the names and CIDs that are to come, of a listing all of
-/// them, and, where each block is sent once, each block that was received. Trustless Gateway specification, CAR
+/// place of its CID takes the block that was received. It holds the blocks of files on the way to the wanted place of
+/// which links are to come, of directories on it the names and CIDs that are to come, of a listing its lines, and, where
+/// each block is sent once, each block that was received, of which a file on the way has no second copy. Trustless Gateway specification, CAR
 /// responses, dag-scope, entity-bytes, order dfs and dups.
 #[derive(Drop)]
 pub struct Verifier {
+    pub(crate) alloc: Global,
     pub(crate) opener: Opener,
     pub(crate) dups: bool,
-    pub(crate) seen: IndexMap<Cid, Bytes>,
+    pub(crate) seen: IndexMap<Cid, SharedBlock>,
     pub(crate) taken: u64,
     refused: Option<Refusal>,
 }
@@ -64,7 +66,7 @@ impl Model for Verifier {
     ghost view = { λ v. record {
       left = v.opener.left;
       limits = v.opener.limits;
-      entries = v.opener.entries;
+      lines = v.opener.lines;
       counts = v.opener.counts;
       seen = v.seen.entries;
       taken = v.taken;
@@ -82,6 +84,7 @@ impl Verifier {
         ensures fresh { IfOk result IsFresh }
     {
         Ok(Verifier {
+            alloc,
             opener: Opener::new(alloc, query, limits)?,
             dups: query.dups(),
             seen: IndexMap::new(alloc),
@@ -273,8 +276,8 @@ impl Verifier {
         are_bytes(block.as_slice());
         self.receive(&cid, block.as_slice())?;
         make_room(self.dups, &mut self.seen)?;
-        self.opener
-            .place(&cid, block.as_slice(), Source::Section, out)?;
+        let block = SharedBlock::new(self.alloc, block)?;
+        self.opener.place(&cid, &block, Source::Section, out)?;
         self.taken = self.taken.saturating_add(1);
         remember(self.dups, &mut self.seen, cid, block);
         Ok(())
@@ -282,7 +285,7 @@ impl Verifier {
 }
 
 /// Makes room for one more block, where blocks are remembered. The error is want of memory.
-fn make_room(dups: bool, seen: &mut IndexMap<Cid, Bytes>) -> Result<(), AllocError>
+fn make_room(dups: bool, seen: &mut IndexMap<Cid, SharedBlock>) -> Result<(), AllocError>
     ensures unchanged { seen.new.entries ≡ seen.old.entries }
     ensures room { OnOk result (dups ≡ false → 0 < spare seen.new) }
 {
@@ -293,7 +296,7 @@ fn make_room(dups: bool, seen: &mut IndexMap<Cid, Bytes>) -> Result<(), AllocErr
 }
 
 /// Keeps a block under its CID, where blocks are remembered and none is yet that has it.
-fn remember(dups: bool, seen: &mut IndexMap<Cid, Bytes>, cid: Cid, block: Bytes)
+fn remember(dups: bool, seen: &mut IndexMap<Cid, SharedBlock>, cid: Cid, block: SharedBlock)
     requires room { dups ≡ false → 0 < spare seen.old }
     ensures all { dups ≡ true → seen.new.entries ≡ seen.old.entries }
     ensures once { dups ≡ false → ((other : Items ℕ) → Contains seen.old.entries (cid, other) → ⊥)

@@ -1,11 +1,11 @@
-use Rattle.std.proofs.Common.{List, [], ap, refl, subst, sym, ℕ, ◌++◌, ◌∙◌, ◌≡◌}
+use Rattle.std.proofs.Common.{List, Ok, [], ap, refl, subst, sym, ℕ, ◌+◌, ◌++◌, ◌∙◌, ◌≡◌}
 use Rattle.tg_model.specs.LimitNumbers.{AreWithin, number_of, standard}
 use Rattle.tg_traversal.specs.Left.{LeftState, tasks_left}
 use Rattle.tg_verify.proofs.Checks.{wanted_cid}
 use Rattle.tg_verify.proofs.Placed.{IsBlockCounted, IsBlockOpened, fewer_then, passed}
-use Rattle.tg_verify.specs.Counting.{IsFirstPassed, numbers_of}
-use Rattle.tg_verify.specs.State.{OpenerState}
-use Rattle.tg_verify.specs.Steps.{HasOpenCause, IsGathered, IsPassingHere, section_with}
+use Rattle.tg_verify.specs.Counting.{IsFirstPassed, bytes_added, numbers_of}
+use Rattle.tg_verify.specs.State.{OpenerState, told}
+use Rattle.tg_verify.specs.Steps.{HasOpenCause, IsCheckedAt, IsGathered, IsPassingHere, section_with}
 use Rattle.tg_verify.specs.declared.fault.Refusal.{Refusal}
 use Rattle.tg_verify.specs.declared.fault.Refusal.TheVariants as refusals
 use Rattle.tg_verify.proofs.opener.Opener.prepare.Goals as goal
@@ -18,7 +18,8 @@ returns-in-None-clause-fewer c =
 pub returns-clause-placed : goal.returns-clause-placed
 returns-clause-placed c at wanted =
     let section = section_with c.args.cid.now c.args.block.now in
-    let checked = c.in_ok-found.ensures.checked at wanted in
+    let checked = subst (λ (b : List ℕ). IsCheckedAt c.args.self.now.left.query c.args.self.now.limits at (section_with c.args.cid.now b) (Ok c.in_ok-found.found)) c.as_slice.ensures
+    (c.in_ok-found.ensures.checked at wanted) in
     let here : IsPassingHere c.args.self.now at section checked.0 c.in_ok-found.found = record {
       wanted = wanted;
       same = wanted_cid c.args.self.now.left.wanted c.args.cid.now at c.requires.here wanted;
@@ -28,7 +29,7 @@ returns-clause-placed c at wanted =
     let bytes = c.in_ok-text.text.bytes.now in
     let opened : IsBlockOpened c.args.self.now at section checked.0 (line ++ bytes) c.open.new.self = record {
       same = c.in_ok-text.ensures.same;
-      entries = c.in_ok-text.ensures.entries;
+      lines = c.in_ok-text.ensures.lines;
       counts = c.in_ok-text.ensures.counts;
       opened = c.in_ok-text.ensures.opened at section checked.0 here refl;
     } in
@@ -37,10 +38,11 @@ returns-clause-placed c at wanted =
     let counted : IsBlockCounted c.gather.new.self c.args.source c.args.block.now (line ++ (bytes ++ c.gather.new.ends)) c.count.new.self = record {
       left = c.count.ensures.left;
       limits = c.count.ensures.limits;
-      entries = c.count.ensures.entries;
+      lines = c.count.ensures.lines;
       output = c.count.ensures.output;
       seen_blocks = c.count.ensures.seen_blocks;
-      seen_bytes = c.count.ensures.seen_bytes;
+      seen_bytes = c.count.ensures.seen_bytes
+          ∙ ap (λ (b : List ℕ). told (c.gather.new.self.counts.seen_bytes + bytes_added c.gather.new.self.left.query.dups c.args.source b)) c.as_slice-2.ensures;
       reused = c.count.ensures.reused;
       met = c.count.ensures.met;
     } in

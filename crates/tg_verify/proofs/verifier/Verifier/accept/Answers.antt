@@ -31,6 +31,18 @@ returns-in_err-make_room-clause-stands g c sections written h =
     let refused = room_refused _ sections written going (section_with c.args.cid c.args.block) bytes g.S.Sink.sink c.args.out.now (g.met.S.Sink.rests c.args.out.now) there in
     rw (p.1, p.2) (record { text = refused.text; put = refused.put; puts = refused.puts; stands = refused.stands })
 
+pub returns-in_err-block-clause-stands : goal.returns-in_err-block-clause-stands
+returns-in_err-block-clause-stands g c sections written h =
+    let p = err_from_is_err_and c.from_residual-in_err-block.result c.from_residual-in_err-block.ensures.1 in
+    let bytes = subst (λ (block : List ℕ). All (λ b. b < 256) block) c.as_slice.ensures c.are_bytes.ensures in
+    let received = subst (λ (block : List ℕ). HasReceived c.args.self.now (section_with c.args.cid block) (Ok c.in_ok-receive.field-0)) c.as_slice-2.ensures
+    (record { surplus = c.in_ok-receive.ensures.surplus; received = c.in_ok-receive.ensures.received }) in
+    let going = subst (λ (state : VerifierState). IsGoing state sections written) (sym c.self.view_is) h in
+    let there = wanted_there _ (section_with c.args.cid c.args.block)
+    (subst (λ (state : VerifierState). HasReceived state (section_with c.args.cid c.args.block) (Ok tt)) (sym c.self.view_is) received) in
+    let refused = room_refused _ sections written going (section_with c.args.cid c.args.block) bytes g.S.Sink.sink c.args.out.now (g.met.S.Sink.rests c.args.out.now) there in
+    rw (p.1, p.2) (record { text = refused.text; put = refused.put; puts = refused.puts; stands = refused.stands })
+
 pub returns-in_err-place-clause-stands : goal.returns-in_err-place-clause-stands
 returns-in_err-place-clause-stands g c sections written h =
     let p = err_from_is_err_and c.from_residual-in_err-place.result c.from_residual-in_err-place.ensures.1 in
@@ -43,7 +55,7 @@ returns-in_err-place-clause-stands g c sections written h =
     let out = into g.S.Sink.sink c.args.out.now c.place.new.out in
     rw (p.1, p.2) (place_refused _ sections written going (section_with c.args.cid c.args.block) bytes c.verified_sections.ensures c.readings.ensures.computed there out c.place.new.self _
     c.in_err-place.field-0.0 c.in_err-place.ensures.same.query c.in_err-place.ensures.same.limits
-    (subst (λ (block : List ℕ). IsPlacedAt c.self.inside.opener there.at (section_with c.args.cid block) sources.Section out c.place.new.self (Err c.in_err-place.field-0.0)) c.as_slice-3.ensures
+    (subst (λ (block : List ℕ). IsPlacedAt c.self.inside.opener there.at (section_with c.args.cid block) sources.Section out c.place.new.self (Err c.in_err-place.field-0.0)) c.in_ok-block.ensures
     (c.in_err-place.ensures.placed there.at there.wanted)))
 
 pub returns-in_err-place-clause-cause : goal.returns-in_err-place-clause-cause
@@ -53,7 +65,7 @@ returns-in_err-place-clause-cause g c =
     (record { surplus = c.in_ok-receive.ensures.surplus; received = c.in_ok-receive.ensures.received }) in
     let there = wanted_there _ (section_with c.args.cid c.args.block)
     (subst (λ (state : VerifierState). HasReceived state (section_with c.args.cid c.args.block) (Ok tt)) (sym c.self.view_is) received) in
-    rw (p.1, p.2) (placed_cause c.self.inside.opener there.at (section_with c.args.cid c.as_slice-3.result.now) sources.Section (into g.S.Sink.sink c.args.out.now c.place.new.out) c.place.new.self
+    rw (p.1, p.2) (placed_cause c.self.inside.opener there.at (section_with c.args.cid c.in_ok-block.block) sources.Section (into g.S.Sink.sink c.args.out.now c.place.new.out) c.place.new.self
     c.in_err-place.field-0.0 (c.in_err-place.ensures.placed there.at there.wanted))
 
 pub returns-clause-stands : goal.returns-clause-stands
@@ -70,8 +82,9 @@ returns-clause-stands g c sections written h =
       all = λ dups. c.remember.ensures.all (c.self.invariant ∙ dups) ∙ c.make_room.ensures.unchanged;
       each = λ dups none. c.remember.ensures.once (c.self.invariant ∙ dups)
           (λ other there. none other (subst (λ (seen : List (CidParts × List ℕ)). Contains seen (c.args.cid, other)) c.make_room.ensures.unchanged there))
-          ∙ ap (λ (seen : List (CidParts × List ℕ)). seen ++ (c.args.cid, c.args.block) ∷ []) c.make_room.ensures.unchanged;
+          ∙ ap (λ (seen : List (CidParts × List ℕ)). seen ++ (c.args.cid, c.in_ok-block.block) ∷ []) c.make_room.ensures.unchanged
+          ∙ ap (λ (block : List ℕ). c.self.inside.seen.entries ++ (c.args.cid, block) ∷ []) c.in_ok-block.ensures;
       taken = c.saturating_add-self-inside.ensures;
     })
-    (subst (λ (block : List ℕ). IsPlacedAt c.self.inside.opener there.at (section_with c.args.cid block) sources.Section out c.place.new.self (Ok tt)) c.as_slice-3.ensures
+    (subst (λ (block : List ℕ). IsPlacedAt c.self.inside.opener there.at (section_with c.args.cid block) sources.Section out c.place.new.self (Ok tt)) c.in_ok-block.ensures
     (c.in_ok-place.ensures.placed there.at there.wanted))
