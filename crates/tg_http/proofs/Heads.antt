@@ -1,7 +1,7 @@
 -- A head text, line by line.
 use Rattle.std.proofs.Common.{◌≡◌, ℕ, zero, suc, ◌+◌, List, [], ◌∷◌, ◌++◌, length, refl, sym, ap, ◌∙◌, subst, arith, append_assoc}
 use Rattle.std.specs.Prelude.{All}
-use Rattle.std.proofs.lemmas.List.Elements.{All-head, All-tail, All-nil, All-cons}
+use Rattle.std.proofs.lemmas.List.Elements.{All-head, All-tail}
 use Rattle.httparse.specs.Grammar.{LineEnd, print_end, print_blank}
 use Rattle.tg_bytes.specs.Lists.{joined}
 use Rattle.tg_http.specs.HeadText.{HasNoFeed, HasNoHead, IsLine, IsEmptyLine, IsFullLine, HeadText}
@@ -19,56 +19,6 @@ pub record FieldsTail (more : List ℕ) (count : ℕ) : Type 0 where
 abbrev pub Tail : ℕ → List ℕ → ℕ → Type 0
 Tail zero more count = HeadText more count
 Tail (suc done) more count = (left : ℕ) × (count ≡ done + left) × FieldsTail more left
-
-pub blank_first : (line more : List ℕ) (count : ℕ) → IsEmptyLine line → Tail 0 more count → Tail 0 (line ++ more) count
-blank_first line more count e t = record {
-  blank = e.0 ∷ t.blank;
-  start = t.start;
-  fields = t.fields;
-  last = t.last;
-  start_is = t.start_is;
-  fields_are = t.fields_are;
-  count_is = t.count_is;
-  whole = rw (e.1, t.whole) (sym (append_assoc (print_end e.0) (print_blank t.blank) _));
-}
-
-pub start_first : (line more : List ℕ) (count : ℕ) → IsFullLine line → Tail 1 more count → Tail 0 (line ++ more) count
-start_first line more count l t = record {
-  blank = [];
-  start = line;
-  fields = t.2.fields;
-  last = t.2.last;
-  start_is = l;
-  fields_are = t.2.fields_are;
-  count_is = omega (arith, t.1, t.2.count_is);
-  whole = ap (λ (s : List ℕ). line ++ s) t.2.whole;
-}
-
-pub field_first : (line more : List ℕ) (done count : ℕ) → IsFullLine line → Tail (suc (suc done)) more count → Tail (suc done) (line ++ more) count
-field_first line more done count l t = (
-  suc t.0,
-  omega (arith, t.1),
-  record {
-    fields = line ∷ t.2.fields;
-    last = t.2.last;
-    fields_are = All-cons IsFullLine line t.2.fields l t.2.fields_are;
-    count_is = omega (arith, t.2.count_is);
-    whole = rw t.2.whole (sym (append_assoc line (joined t.2.fields) _));
-  },
-)
-
-pub last_line : (line : List ℕ) (done : ℕ) → IsEmptyLine line → Tail (suc done) line done
-last_line line done e = (
-  0,
-  omega arith,
-  record {
-    fields = [];
-    last = e.0;
-    fields_are = All-nil IsFullLine;
-    count_is = refl;
-    whole = e.1;
-  },
-)
 
 -- the first line of what is left, and what is left behind it
 pub blank_taken : (line more rest after : List ℕ) (count : ℕ) → IsEmptyLine line → Tail 0 more count → more ++ rest ≡ line ++ after
@@ -151,26 +101,6 @@ field_taken line more rest after done count l t same = by_fields t.2.fields t.2.
           (length fields, omega (arith, number), record { fields = fields; last = t.2.last; fields_are = All-tail IsFullLine field fields full; count_is = refl; whole = refl }),
           split ∙ ap (λ (s : List ℕ). s ++ next) one.0,
         )
-
-pub last_taken : (line more rest after : List ℕ) (done count : ℕ) → IsEmptyLine line → Tail (suc done) more count → more ++ rest ≡ line ++ after
-    → (count ≡ done) × (more ≡ line)
-last_taken line more rest after done count e t same = by_fields t.2.fields t.2.fields_are (t.1 ∙ ap (λ n. done + n) t.2.count_is) t.2.whole
-  where
-    by_fields : (fields : List (List ℕ)) → All IsFullLine fields → count ≡ done + length fields → more ≡ joined fields ++ print_end t.2.last
-        → (count ≡ done) × (more ≡ line)
-    by_fields [] full number whole =
-        let ends : IsLine line = subst IsLine (sym e.1) (end_line e.0) in
-        let fronts : print_end t.2.last ++ rest ≡ line ++ after = ap (λ (s : List ℕ). s ++ rest) (sym whole) ∙ same in
-        let one = one_line (print_end t.2.last) line _ after (end_line t.2.last) ends fronts in
-        (omega (arith, number), whole ∙ one.0)
-    by_fields (field ∷ fields) full number whole =
-        let ends : IsLine line = subst IsLine (sym e.1) (end_line e.0) in
-        let split : more ≡ field ++ (joined fields ++ print_end t.2.last) = whole ∙ append_assoc field (joined fields) _ in
-        let fronts : field ++ ((joined fields ++ print_end t.2.last) ++ rest) ≡ line ++ after =
-        sym (append_assoc field _ rest) ∙ ap (λ (s : List ℕ). s ++ rest) (sym split) ∙ same in
-        let first = All-head IsFullLine field fields full in
-        let one = one_line field line _ after first.line_is ends fronts in
-        absurd (first.not_empty (e.0, one.0 ∙ e.1))
 
 -- what is left has a line feed
 pub tail_has_feed : (lines : ℕ) (more rest : List ℕ) (count : ℕ) → Tail lines more count → HasNoFeed (more ++ rest) → ⊥

@@ -5,3 +5,5 @@ mod Values
 mod Answering
 mod Hex
 mod Longer
+mod FirstLines
+mod Seeking

@@ -1,6 +1,7 @@
 pub mod HeadText
 pub mod Fields
 pub mod Framing
+pub mod Sought
 pub mod Heads
 pub mod Chunks
 pub mod Laws

@@ -1,11 +1,13 @@
 //! The text of a head, found before it is read.
 ghost use Rattle.std.specs.Prelude.{◌≡◌, ◌≢◌, ℕ, ◌+◌, ◌<◌, ◌≤◌, ◌⊎◌, ◌↔◌, List, ◌++◌, length, take, All, Some, IsTrue};
-ghost use Rattle.std.specs.Prelude.{IfSome, MatchOption, MatchResult};
+ghost use Rattle.std.specs.Prelude.{IfSome, IfNone, IfOk, OnSome, MatchOption, MatchResult};
 ghost use Rattle.tg_http.specs.HeadText.{IsLine, IsEmptyLine, HeadText, BeginsHead};
 ghost use Rattle.tg_http.specs.Heads.{IsWaiting, PassesLimit};
+ghost use Rattle.tg_http.specs.Sought.{IsSought};
 ghost use Rattle.tg_http.specs.declared.fault.HttpFault.{HttpFault};
 ghost use Rattle.tg_http.specs.declared.head_text.Extent.{Extent};
 
+use crate::cursor::HeadCursor;
 use crate::fault::HttpFault;
 
 /// How many bytes a head text, a chunk line and a trailer have at most.
@@ -41,43 +43,60 @@ pub fn is_empty_line(line: &[u8]) -> bool
     matches!(line, b"\n" | b"\r\n")
 }
 
-/// Where the head text at the front ends.
-fn find_extent(bytes: &[u8]) -> Option<Extent>
+/// Where the head text at the front ends, sought from where the cursor stands. Where it ends nowhere the cursor stands
+/// behind the bytes.
+fn find_extent(bytes: &[u8], cursor: &mut HeadCursor) -> Option<Extent>
+    requires sought { IsSought cursor.old bytes.now }
+    requires short { length bytes.now ≤ 16384 }
     ensures found { IfSome result (λ told. (told.bytes ≤ length bytes.now)
         × HeadText (take told.bytes bytes.now) told.fields) }
     ensures only { (text rest : List ℕ) (count : ℕ) → HeadText text count → bytes.now ≡ text ++ rest
         → result ≡ Some (record { bytes = length text; fields = count }) }
+    ensures sought { IfNone result (IsSought cursor.new bytes.now) }
+    ensures seen { IfNone result (cursor.new.seen ≡ length bytes.now) }
 {
-    let mut at = 0;
-    let mut lines = 0;
-    while let Some(size) = line_length(&bytes[at..]) {
-        let line = &bytes[at..at + size];
-        at += size;
-        if !is_empty_line(line) {
-            lines += 1;
-        } else if lines > 0 {
+    while let Some(size) = line_length(&bytes[cursor.seen..]) {
+        let end = cursor.seen + size;
+        if !is_empty_line(&bytes[cursor.line..end]) {
+            cursor.lines += 1;
+        } else if cursor.lines > 0 {
             return Some(Extent {
-                bytes: at,
-                fields: lines - 1,
+                bytes: end,
+                fields: cursor.lines - 1,
             });
         }
+        cursor.line = end;
+        cursor.seen = end;
     }
+    cursor.seen = bytes.len();
     None
 }
 
-/// The head text at the front, or none where it isn't whole yet.
+/// The head text at the front, or none where it isn't whole yet, sought from where the cursor stands. The cursor moves
+/// only where it isn't whole.
 ///
 /// RFC 9112, section 2.2. Errors: `HeadLimit` where the first 16,384 bytes hold none or it has more than 64 fields.
-pub(crate) fn head_text(bytes: &[u8]) -> Result<Option<&[u8]>, HttpFault>
-    ensures { MatchResult result
+pub(crate) fn head_text<'a>(
+    bytes: &'a [u8],
+    cursor: &mut HeadCursor,
+) -> Result<Option<&'a [u8]>, HttpFault>
+    requires { IsSought cursor.old bytes.now }
+    ensures told { MatchResult result
         (λ told. MatchOption told (IsWaiting bytes.now) (λ text. (count : ℕ) × BeginsHead bytes.now text.now count
         × (count ≤ 64)))
         (λ fault. (fault ≡ HttpFault.HeadLimit) × PassesLimit bytes.now) }
+    ensures sought { IfOk result (λ told. IfNone told (IsSought cursor.new bytes.now)) }
+    ensures seen { IfOk result (λ told. IfNone told (cursor.new.seen ≡ length bytes.now)) }
+    ensures kept { MatchResult result (λ told. OnSome told (cursor.new ≡ cursor.old)) (λ _. cursor.new ≡ cursor.old) }
 {
     let front = &bytes[..bytes.len().min(MAX_TEXT)];
-    match find_extent(front) {
+    let mut next = *cursor;
+    match find_extent(front, &mut next) {
         Some(told) if told.fields <= MAX_FIELDS => Ok(Some(&bytes[..told.bytes])),
-        None if bytes.len() < MAX_TEXT => Ok(None),
+        None if bytes.len() < MAX_TEXT => {
+            *cursor = next;
+            Ok(None)
+        }
         _ => Err(HttpFault::HeadLimit),
     }
 }

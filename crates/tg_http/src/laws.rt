@@ -4,6 +4,7 @@ ghost use Rattle.httparse.specs.Grammar.{IsRequestHead, RequestHead as RequestTr
 ghost use Rattle.tg_http.specs.HeadText.{HeadText};
 ghost use Rattle.tg_http.specs.Heads.{RequestStays, ReplyStays};
 ghost use Rattle.tg_http.specs.Laws.{LineLaws};
+ghost use Rattle.tg_http.specs.Sought.{SoughtStays};
 
 /// Bytes that were answered with a head or a refusal get the same answer whatever comes behind them.
 ///
@@ -25,4 +26,11 @@ pub fn line_laws()
 /// RFC 9112, sections 2.1 and 3.
 pub fn request_heads()
     ensures { (tree : RequestTree) → IsRequestHead tree → HeadText (print_request tree) (length tree.fields) }
+{}
+
+/// A cursor that was sought in bytes was sought in them whatever comes behind them.
+///
+/// RFC 9112, section 2.2.
+pub fn sought_heads()
+    ensures { SoughtStays }
 {}

@@ -2,6 +2,7 @@
 #![tactic(auto)]
 
 mod chunk;
+mod cursor;
 mod examples;
 mod fault;
 mod fields;
@@ -12,6 +13,7 @@ mod reply;
 mod request;
 
 pub use chunk::chunk_head;
+pub use cursor::{HeadCursor, next_reply, next_request};
 pub use examples::endless_line;
 pub use fault::HttpFault;
 pub use fields::without_spaces;

@@ -8,10 +8,11 @@ ghost use Rattle.tg_http.specs.Heads.{IsWaiting, IsReply, IsNoReply, TellsReplyP
 ghost use Rattle.tg_http.specs.Heads.{HasHeadCause};
 ghost use Rattle.tg_http.specs.declared.fault.HttpFault.{HttpFault};
 
+use crate::cursor::{HeadCursor, next_reply};
 use crate::fault::HttpFault;
 use crate::fields::{coding, first_value};
 use crate::framing::{Framing, framing_of};
-use crate::head_text::{MAX_FIELDS, head_text};
+use crate::head_text::MAX_FIELDS;
 use httparse::Status;
 use httparse::spans::{EMPTY_HEADER_SPAN, HeaderSpan, parse_response};
 use std::alloc::{AllocError, Global};
@@ -45,14 +46,11 @@ pub fn read_reply(alloc: Global, bytes: &[u8]) -> Result<Option<ReplyHead>, Http
     ensures cause { IfErr result (λ fault. (fault ≡ HttpFault.OutOfMemory) ⊎ HasHeadCause IsNoReply bytes.now fault) }
     ensures given { (fault : HttpFault) → HasHeadCause IsNoReply bytes.now fault → result ≡ Err fault }
 {
-    let Some(text) = head_text(bytes)? else {
-        return Ok(None);
-    };
-    Ok(Some(whole_reply(alloc, text)?))
+    next_reply(alloc, bytes, &mut HeadCursor::new())
 }
 
 /// The head of a reply that the whole text is.
-fn whole_reply(alloc: Global, text: &[u8]) -> Result<ReplyHead, HttpFault>
+pub(crate) fn whole_reply(alloc: Global, text: &[u8]) -> Result<ReplyHead, HttpFault>
     requires { (count : ℕ) × HeadText text.now count × (count ≤ 64) }
     ensures { MatchResult result
         (λ head. (tree : ReplyTree) × ReadsResponse text.now tree [] × TellsReply tree (length text.now) head)

@@ -8,10 +8,11 @@ ghost use Rattle.tg_http.specs.Heads.{IsWaiting, IsRequest, IsNoRequest, TellsPa
 ghost use Rattle.tg_http.specs.Heads.{HasHeadCause};
 ghost use Rattle.tg_http.specs.declared.fault.HttpFault.{HttpFault};
 
+use crate::cursor::{HeadCursor, next_request};
 use crate::fault::HttpFault;
 use crate::fields::{accepted, has_close};
 use crate::framing::announces_body;
-use crate::head_text::{MAX_FIELDS, head_text};
+use crate::head_text::MAX_FIELDS;
 use httparse::Status;
 use httparse::spans::{EMPTY_HEADER_SPAN, HeaderSpan, RequestSpans, parse_request};
 use std::alloc::{AllocError, Global};
@@ -50,14 +51,11 @@ pub fn read_request(alloc: Global, bytes: &[u8]) -> Result<Option<RequestHead>, 
     ensures cause { IfErr result (λ fault. (fault ≡ HttpFault.OutOfMemory) ⊎ HasHeadCause IsNoRequest bytes.now fault) }
     ensures given { (fault : HttpFault) → HasHeadCause IsNoRequest bytes.now fault → result ≡ Err fault }
 {
-    let Some(text) = head_text(bytes)? else {
-        return Ok(None);
-    };
-    Ok(Some(whole_request(alloc, text)?))
+    next_request(alloc, bytes, &mut HeadCursor::new())
 }
 
 /// The head of a request that the whole text is.
-fn whole_request(alloc: Global, text: &[u8]) -> Result<RequestHead, HttpFault>
+pub(crate) fn whole_request(alloc: Global, text: &[u8]) -> Result<RequestHead, HttpFault>
     requires { (count : ℕ) × HeadText text.now count × (count ≤ 64) }
     ensures { MatchResult result
         (λ head. (tree : RequestTree) × ReadsRequest text.now tree [] × TellsRequest tree (length text.now) head)

@@ -6,6 +6,8 @@ mod bodies;
 #[cfg(test)]
 mod lines;
 #[cfg(test)]
+mod pieces;
+#[cfg(test)]
 mod replies;
 #[cfg(test)]
 mod requests;

@@ -3,13 +3,13 @@ use Rattle.tg_http.proofs.Cuts.{front_begins, begins_front}
 use Rattle.tg_http.proofs.head_text.head_text.Goals as goal
 use Rattle.tg_http.proofs.head_text.head_text.Goals.{in_default-via-in-Some+else-told-le-MAX_FIELDS, in_default-via-in-None+else-bytes-lt-MAX_TEXT}
 
-pub returns-in-Some : goal.returns-in-Some
-returns-in-Some c =
+pub returns-in-Some-clause-told : goal.returns-in-Some-clause-told
+returns-in-Some-clause-told c =
     let found = c.in-Some.ensures.found in
     (c.in-Some.told.fields, front_begins c.args.bytes.now c.in-Some.told.bytes c.min.result c.in-Some.told.fields c.min.ensures found.0 found.1, c.if-told-le-MAX_FIELDS.true)
 
-pub returns-in-None : goal.returns-in-None
-returns-in-None c = record {
+pub returns-in-None-clause-told : goal.returns-in-None-clause-told
+returns-in-None-clause-told c = record {
   none = λ text count b.
       let front = begins_front c.args.bytes.now text c.min.result count c.min.ensures b in
       let same = c.in-None.ensures.only text front.0 count b.text_is front.1 in
@@ -17,8 +17,8 @@ returns-in-None c = record {
   short = c.if-bytes-lt-MAX_TEXT.true;
 }
 
-pub returns-in_default : goal.returns-in_default
-returns-in_default c =
+pub returns-in_default-clause-told : goal.returns-in_default-clause-told
+returns-in_default-clause-told c =
     elim c.in_default.branch [
       | in_default-via-in-Some+else-told-le-MAX_FIELDS w ↦
           let found = w.in-Some.ensures.found in
