@@ -5,7 +5,7 @@ use Rattle.std.proofs.lemmas.List.{append-nil, length-append, take_all, take_at}
 use Rattle.std.proofs.lemmas.List.Elements.{All-head, All-tail}
 use Rattle.httparse.specs.Grammar.{LineEnd, print_end, print_chunk_line, chunk_size}
 use Rattle.httparse.proofs.ChunkLemmas.{chunk_line_unique}
-use Rattle.tg_bytes.specs.Lists.{joined, same_front}
+use Rattle.tg_bytes.specs.Lists.{behind_parts, joined, same_front}
 use Rattle.tg_http.specs.Laws.{LineLaws}
 use Rattle.tg_http.specs.HeadText.{HasNoFeed, IsLine, IsFullLine}
 use Rattle.tg_body.specs.Bodies.{SizeLine, ChunkText, ChunksText, TrailerText, ChunkedText, IsOpenLine, IsOpenBlock, InChunk, ChunkedFront}
@@ -164,8 +164,12 @@ text_place laws body bytes t = record {
 pub front_no_chunk : LineLaws → (body bytes : List ℕ) (f : ChunkedFront body bytes) → NoChunk f.rest
 front_no_chunk laws body bytes f = no_chunk_view laws f.part f.rest (view f.part f.rest f.inside)
 
+-- no whole chunk is at the line of size 0
+pub no_chunk_at_last : LineLaws → (line q : List ℕ) → SizeLine 0 line → NoChunk (line ++ q)
+no_chunk_at_last laws line q s = no_chunk_last laws q (line ++ q) (text_first line q s)
+
 pub text_no_chunk : LineLaws → (body bytes : List ℕ) (t : ChunkedText body bytes) → NoChunk (t.line ++ t.trailer)
-text_no_chunk laws body bytes t = no_chunk_last laws t.trailer (t.line ++ t.trailer) (text_first t.line t.trailer t.line_is)
+text_no_chunk laws body bytes t = no_chunk_at_last laws t.line t.trailer t.line_is
 
 pub one_body : LineLaws → (body other bytes : List ℕ) → Place body bytes → Place other bytes → body ≡ other
 one_body laws body other bytes a b =
@@ -182,7 +186,7 @@ one_body laws body other bytes a b =
         let same = first_same laws x.0 y.0 x.1 y.1 b.rest f y.2 in
         x.3 ∙ ap₂ (λ (n : ℕ) (q : List ℕ). take n q) same.0 same.1 ∙ sym y.3
 
-regroup : (m j p x : List ℕ) → ((m ++ j) ++ p) ++ x ≡ m ++ ((j ++ p) ++ x)
+pub regroup : (m j p x : List ℕ) → ((m ++ j) ++ p) ++ x ≡ m ++ ((j ++ p) ++ x)
 regroup m j p x = ap (λ (s : List ℕ). s ++ x) (append_assoc m j p) ∙ append_assoc m (j ++ p) x
 
 -- lines that aren't empty, and bytes of a line, hold no empty line
@@ -201,25 +205,35 @@ open_not_whole laws (l ∷ ls) (m ∷ ms) rest x e a b none same =
     (sym (append_assoc l (joined ls) rest) ∙ same ∙ regroup m (joined ms) (print_end e) x) in
     open_not_whole laws ls ms rest x e (All-tail IsFullLine l ls a) (All-tail IsFullLine m ms b) none here.1
 
--- bytes of a body that isn't whole are no whole body
-pub front_not_text : LineLaws → (body other bytes : List ℕ) → ChunkedFront body bytes → ChunkedText other bytes → ⊥
-front_not_text laws body other bytes f t =
-    let same = sync laws f.chunks t.chunks f.front t.front f.rest (t.line ++ t.trailer) f.chunks_are t.chunks_are (front_no_chunk laws body bytes f) (text_no_chunk laws other bytes t) (sym f.whole ∙ t.whole) in
-    by_view (view f.part f.rest f.inside) (subst (FirstLine 0 t.trailer) (sym same.1) (text_first t.line t.trailer t.line_is))
+-- what follows a whole body in chunks follows its trailer
+pub text_more : (body bytes more : List ℕ) (t : ChunkedText body bytes) → bytes ++ more ≡ t.front ++ (t.line ++ (t.trailer ++ more))
+text_more body bytes more t =
+    behind_parts t.front (t.line ++ t.trailer) more bytes t.whole ∙ ap (λ (s : List ℕ). t.front ++ s) (append_assoc t.line t.trailer more)
+
+-- no whole body is at the front of bytes of a body that isn't whole
+pub cut_not_whole : LineLaws → (body other bytes whole more : List ℕ) → ChunkedFront body bytes → ChunkedText other whole → bytes ≡ whole ++ more → ⊥
+cut_not_whole laws body other bytes whole more f t is =
+    let same = sync laws f.chunks t.chunks f.front t.front f.rest (t.line ++ (t.trailer ++ more)) f.chunks_are t.chunks_are (front_no_chunk laws body bytes f)
+    (no_chunk_at_last laws t.line (t.trailer ++ more) t.line_is) (sym f.whole ∙ is ∙ text_more other whole more t) in
+    by_view (view f.part f.rest f.inside) (subst (FirstLine 0 (t.trailer ++ more)) (sym same.1) (text_first t.line (t.trailer ++ more) t.line_is))
   where
     trailer : TrailerText t.trailer
     trailer = t.trailer_is
 
-    by_inside : (n : ℕ) (q : List ℕ) → Inside n f.part q → n ≡ 0 → q ≡ t.trailer → ⊥
-    by_inside n q (inl d) none is = omega (arith, d.0, none)
-    by_inside n q (inr (inl d)) none is = omega (arith, d.0, none)
-    by_inside n q (inr (inr z)) none is =
+    by_inside : (n : ℕ) (q : List ℕ) → Inside n f.part q → n ≡ 0 → q ≡ t.trailer ++ more → ⊥
+    by_inside n q (inl d) none here = omega (arith, d.0, none)
+    by_inside n q (inr (inl d)) none here = omega (arith, d.0, none)
+    by_inside n q (inr (inr z)) none here =
         let block = z.2 in
-        open_not_whole laws block.lines trailer.lines block.rest [] trailer.empty block.lines_are trailer.lines_are block.no_feed
-        (sym block.whole ∙ is ∙ trailer.up_to_empty ∙ sym (append-nil (joined trailer.lines ++ print_end trailer.empty)))
+        open_not_whole laws block.lines trailer.lines block.rest more trailer.empty block.lines_are trailer.lines_are block.no_feed
+        (sym block.whole ∙ here ∙ ap (λ (s : List ℕ). s ++ more) trailer.up_to_empty)
 
-    by_view : View f.part f.rest → FirstLine 0 t.trailer f.rest → ⊥
-    by_view (inl o) last = no_first laws 0 t.trailer f.rest o.1.no_feed last
+    by_view : View f.part f.rest → FirstLine 0 (t.trailer ++ more) f.rest → ⊥
+    by_view (inl o) last = no_first laws 0 (t.trailer ++ more) f.rest o.1.no_feed last
     by_view (inr v) last =
-        let here = first_same laws v.0 0 v.1 t.trailer f.rest v.2 last in
+        let here = first_same laws v.0 0 v.1 (t.trailer ++ more) f.rest v.2 last in
         by_inside v.0 v.1 v.3 here.0 here.1
+
+-- bytes of a body that isn't whole are no whole body
+pub front_not_text : LineLaws → (body other bytes : List ℕ) → ChunkedFront body bytes → ChunkedText other bytes → ⊥
+front_not_text laws body other bytes f t = cut_not_whole laws body other bytes bytes [] f t (sym (append-nil bytes))

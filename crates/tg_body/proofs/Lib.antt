@@ -6,5 +6,6 @@ mod ChunkLines
 mod Standing
 mod Advancing
 mod Divisions
+mod Wholes
 mod Breaks
 mod Determined

@@ -3,9 +3,22 @@ use Rattle.std.specs.Prelude.{◌≡◌, ◌≢◌, ℕ, true, Some, List, ◌++
 use Rattle.tg_http.specs.declared.fault.HttpFault.{HttpFault}
 use Rattle.tg_http.specs.declared.fault.HttpFault.TheVariants.{OutOfMemory}
 use Rattle.tg_http.specs.declared.framing.Framing.{Framing}
-use Rattle.tg_http.specs.declared.framing.Framing.TheVariants.{Chunked}
-use Rattle.tg_body.specs.Bodies.{ChunkedText}
+use Rattle.tg_http.specs.declared.framing.Framing.TheVariants.{Chunked, UntilClose}
+use Rattle.tg_body.specs.Bodies.{ChunkedText, BodyFront, BodyText}
 use Rattle.tg_body.specs.History.{History, at_piece, BreaksChunked, IsExact}
+
+-- At the front of bytes stands one whole body at most, where the framing says how a body ends: two of them have the same
+-- content, and they are the same bytes.
+abbrev pub OneWholeBody : Type 0
+OneWholeBody =
+    (framing : Framing) (body other bytes text more rest : List ℕ) → framing ≢ UntilClose → BodyText framing body bytes
+    → BodyText framing other text → bytes ++ more ≡ text ++ rest → (body ≡ other) × (bytes ≡ text)
+
+-- A body in chunks that was cut holds no whole one: bytes with which it goes on aren't one, and no front of them is.
+abbrev pub CutIsNotWhole : Type 0
+CutIsNotWhole =
+    (body other bytes whole more : List ℕ) → BodyFront Chunked body bytes → BodyText Chunked other whole
+    → bytes ≡ whole ++ more → ⊥
 
 pub record BodyLaws : Type 0 where
   -- a reader missed no refusal: no byte that it took is one with which no body goes on
@@ -22,3 +35,7 @@ pub record BodyLaws : Type 0 where
   pub one_refusal : (g h : History) (p q x y : List ℕ) (e f : HttpFault) → IsExact Chunked g → IsExact Chunked h
       → g.stop ≡ Some (at_piece p e) → h.stop ≡ Some (at_piece q f) → e ≢ OutOfMemory → f ≢ OutOfMemory
       → (g.fed ++ p) ++ x ≡ (h.fed ++ q) ++ y → (e ≡ f) × (g.given ≡ h.given)
+  -- one whole body is at the front of bytes
+  pub one_whole : OneWholeBody
+  -- bytes of a body in chunks that isn't ended hold no whole one
+  pub cut_not_whole : CutIsNotWhole
