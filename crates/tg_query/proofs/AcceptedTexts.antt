@@ -14,7 +14,9 @@ use Rattle.tg_model.specs.declared.queries.Form.TheVariants.{Car, Raw}
 use Rattle.tg_path.specs.Cuts.{IsCut, cut_first}
 use Rattle.tg_query.specs.Accepts.{accepted_of, car_type, choice_of, first_car, first_form, first_param, form_of_range, form_of_type, is_car_form, param_in, param_of, param_value, params_in, ranges_of, raw_type}
 use Rattle.tg_query.specs.AcceptTexts.{AcceptText, AsksFor, CarText, FirstSaid, ParamOr, ParamText, RangeText, SaysNothing, type_of}
+use Rattle.tg_query.specs.Requests.{dups_word}
 use Rattle.tg_query.specs.Targets.{or_empty}
+use Rattle.tg_query.specs.Types.{HasType, TypeText}
 use Rattle.tg_query.specs.declared.accepts.Accepted.{Accepted}
 use Rattle.tg_query.specs.declared.accepts.CarChoice.{CarChoice}
 
@@ -175,14 +177,35 @@ module _ (cuts : CutLaw) where
       let t = subst (λ o. a ≡ record a { version = b.version; order = o }) order s in
       subst (λ d. a ≡ record { version = b.version; order = b.order; dups = d }) dups t
 
-  car_told : (range : List ℕ) (choice : CarChoice) → CarText choice range → car_in range ≡ Some choice
-  car_told range choice car =
+  -- the parameters are those that the text has
+  by_choice : (range : List ℕ) (choice : CarChoice) → CarText choice range → choice_of range ≡ choice
+  by_choice range choice car =
       let is = range_told range Car car.params car.is_car in
       let at : (name default value : List ℕ) → ParamOr name default (params_in car.params) value → param_of range name default ≡ value =
       λ name default value p. param_is range name default value (subst (λ (o : Option (List ℕ)). ParamOr name default (params_in o) value) (sym is.1) p) in
-      cond-true (is_car_form (form_of_range range)) (Some (choice_of range)) None (ap is_car_form is.0)
-      ∙ ap Some (same_choice (choice_of range) choice (at (codes "version") (codes "1") choice.version car.version)
-      (at (codes "order") (codes "dfs") choice.order car.order) (at (codes "dups") (codes "y") choice.dups car.dups))
+      same_choice (choice_of range) choice (at (codes "version") (codes "1") choice.version car.version)
+      (at (codes "order") (codes "dfs") choice.order car.order) (at (codes "dups") (codes "y") choice.dups car.dups)
+
+  car_told : (range : List ℕ) (choice : CarChoice) → CarText choice range → car_in range ≡ Some choice
+  car_told range choice car =
+      cond-true (is_car_form (form_of_range range)) (Some (choice_of range)) None (ap is_car_form (range_told range Car car.params car.is_car).0)
+      ∙ ap Some (by_choice range choice car)
+
+  -- the type of an answer
+  pub type_law : (form : Form) (repeats : Bool) (kind : List ℕ) → HasType form repeats kind ↔ TypeText form repeats kind
+  type_law Raw repeats kind = (λ e. ((cut_first 59 kind).1, range_tells kind Raw e), λ text. (range_told kind Raw text.0 text.1).0)
+  type_law Car repeats kind =
+      let asked : CarChoice = record { version = codes "1"; order = codes "dfs"; dups = dups_word repeats } in (
+        λ is. subst (λ (choice : CarChoice). CarText choice kind) (same_choice (choice_of kind) asked is.version is.order is.dups) (car_text kind is.form),
+        λ text.
+            let same = by_choice kind asked text in
+            record {
+              form = (range_told kind Car text.params text.is_car).0;
+              version = ap (λ (choice : CarChoice). choice.version) same;
+              order = ap (λ (choice : CarChoice). choice.order) same;
+              dups = ap (λ (choice : CarChoice). choice.dups) same;
+            },
+      )
 
   -- the first CAR and its parameters are found in one step
   found_at_once : (ranges : List (List ℕ)) → option_map choice_of (first_car ranges) ≡ first_of (filter_map car_in ranges)

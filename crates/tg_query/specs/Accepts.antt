@@ -4,7 +4,7 @@ use Rattle.httparse.specs.Grammar.{trim_ows}
 use Rattle.std.specs.List.{filter_map, flat_map}
 use Rattle.std.specs.Option.{unwrap_or}
 use Rattle.std.specs.Prelude.{Bool, List, None, Option, Some, [], codes, false, find, if◌then◌else◌, option_map, true}
-use Rattle.std.specs.Prelude.{ℕ, ◌∷◌}
+use Rattle.std.specs.Prelude.{ℕ}
 use Rattle.std.specs.Str.{str_eq_ignore_ascii_case}
 use Rattle.tg_http.specs.Fields.{first as first_of}
 use Rattle.tg_model.specs.declared.queries.Form.{Form}

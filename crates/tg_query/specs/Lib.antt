@@ -4,3 +4,4 @@ pub mod AcceptTexts
 pub mod Joins
 pub mod Requests
 pub mod Laws
+pub mod Types

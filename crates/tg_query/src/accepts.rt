@@ -100,14 +100,14 @@ fn car_in(value: &[u8]) -> Option<&[u8]>
 }
 
 /// Whether a media range is of the CAR type.
-fn is_car(range: &[u8]) -> bool
+pub(crate) fn is_car(range: &[u8]) -> bool
     ensures { result ≡ is_car_form (form_of_range range.now) }
 {
     matches!(form_of_range(range), Some(Form::Car))
 }
 
 /// The format of a media range of a known type.
-fn form_of_range(range: &[u8]) -> Option<Form>
+pub(crate) fn form_of_range(range: &[u8]) -> Option<Form>
     ensures { result ≡ form_of_range range.now }
 {
     let (name, _) = cut_first(range, b';');
@@ -139,7 +139,7 @@ fn choice_of(alloc: Global, range: &[u8]) -> Result<CarChoice, AllocError>
 }
 
 /// The value of the first parameter of this name, or the default.
-fn param_of<'a>(range: &'a [u8], name: &[u8], default: &'a [u8]) -> &'a [u8]
+pub(crate) fn param_of<'a>(range: &'a [u8], name: &[u8], default: &'a [u8]) -> &'a [u8]
     ensures { result.now ≡ param_of range.now name.now default.now }
 {
     let (_, params) = cut_first(range, b';');

@@ -6,6 +6,7 @@ ghost use Rattle.tg_query.specs.Accepts.{accepted_of};
 ghost use Rattle.tg_query.specs.Laws.{IsOneHead, IsPrintable};
 ghost use Rattle.tg_query.specs.Requests.{request_text};
 ghost use Rattle.tg_query.specs.Targets.{TargetText, target_of};
+ghost use Rattle.tg_query.specs.Types.{IsTypeOf, TypeText};
 ghost use Rattle.tg_query.specs.declared.accepts.Accepted.{Accepted};
 ghost use Rattle.tg_query.specs.declared.targets.Target.{Target};
 
@@ -40,6 +41,15 @@ pub fn targets_read()
 pub fn accepts_read()
     ensures { (values : List (List ℕ)) (accepted : Accepted)
         → (accepted_of values ≡ accepted) ↔ AcceptText values accepted }
+{
+    tg_path::laws::cuts_read();
+}
+
+/// What is computed of the type of a query's answer is what its grammar says.
+///
+/// RFC 9110, section 8.3; Trustless Gateway specification, response types and CAR parameters.
+pub fn types_read()
+    ensures { (q : QueryParts) (kind : List ℕ) → IsTypeOf q kind ↔ TypeText q.form q.dups kind }
 {
     tg_path::laws::cuts_read();
 }

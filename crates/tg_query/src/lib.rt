@@ -6,9 +6,11 @@ mod joins;
 pub mod laws;
 mod requests;
 mod targets;
+mod types;
 
 pub use accepts::{Accepted, CarChoice, parse_accept};
 pub use joins::join;
 pub use requests::print_request;
 pub use targets::{Target, parse_target};
 pub use tg_path::{QueryFault, parse_span, parse_word};
+pub use types::is_type_of;

@@ -156,7 +156,7 @@ fn push_car_type(text: &mut Bytes, dups: bool) -> Result<(), AllocError>
 }
 
 /// The word for repeats.
-fn dups_word(dups: bool) -> &'static [u8]
+pub(crate) fn dups_word(dups: bool) -> &'static [u8]
     ensures { result.now ≡ dups_word dups }
 {
     if dups { b"y" } else { b"n" }
