@@ -1,5 +1,5 @@
-//! The tests of `tg_path`, `tg_query` and `tg_words`: words, targets, `Accept` fields, printed requests and command
-//! lines, each with what it asks or why it is refused.
+//! The tests of `tg_path`, `tg_query` and `tg_words`: words, targets, `Accept` fields, media types, printed requests
+//! and command lines, each with what it asks or why it is refused.
 #![tactic(auto)]
 
 #[cfg(test)]
@@ -14,3 +14,5 @@ mod paths;
 mod requests;
 #[cfg(test)]
 mod targets;
+#[cfg(test)]
+mod types;
