@@ -13,8 +13,8 @@ use Rattle.tg_query.specs.Requests.{car_with_dups}
 use Rattle.tg_reply.specs.Asked.{is_head}
 use Rattle.tg_reply.specs.Bodies.{CarsInParts}
 use Rattle.tg_reply.specs.CarBytes.{car_parts}
-use Rattle.tg_reply.specs.Heads.{asked_path, car_fields, head_text, text_of}
-use Rattle.tg_reply.specs.Laws.{ReadsBack}
+use Rattle.tg_reply.specs.Heads.{asked_path, car_fields, car_status, head_text, text_of}
+use Rattle.tg_reply.specs.Laws.{ReadsBack, number_of}
 use Rattle.tg_reply.specs.Readings.{CarReads, RawReads, RefusalsRead, RefusedBytesRead}
 use Rattle.tg_reply.specs.Refusals.{ends_connection}
 use Rattle.tg_reply.specs.Replies.{asks_close, framed_body, unless_head}
@@ -47,17 +47,17 @@ module _ (paths : (q : QueryParts) (name : List ℕ) → CidBytes q.root name �
   }
 
   pub car_reads : CarReads
-  car_reads head q sections g spelled fits =
+  car_reads head found q sections g spelled fits =
       let parts = car_parts q.root sections in
       let pass = paths q g.name g.root g.names in
-      let back = car_back q.dups (asked_path q) (asks_close head) pass in
+      let back = car_back found q.dups (asked_path q) (asks_close head) pass in
       let car = cars q.root g.name sections g.root spelled in
       let body = sent head (framed_body head.minor false parts) g.method in (
         λ e. record {
           reads = record {
             head =
-                subst (λ (m : ℕ). ReadsBack (head_text statuses.Ok (car_fields q.dups (asked_path q) m (asks_close head))) 200 (car_with_dups q.dups) Chunked) (sym e)
-                (back.0 (subst (λ (m : ℕ). length (head_text statuses.Ok (car_fields q.dups (asked_path q) m (asks_close head))) ≤ 16384) e fits));
+                subst (λ (m : ℕ). ReadsBack (head_text (car_status found) (car_fields found q.dups (asked_path q) m (asks_close head))) (number_of (car_status found)) (car_with_dups q.dups) Chunked) (sym e)
+                (back.0 (subst (λ (m : ℕ). length (head_text (car_status found) (car_fields found q.dups (asked_path q) m (asks_close head))) ≤ 16384) e fits));
             body = subst (BodyText Chunked (joined parts)) (sym (body ∙ ap (λ (m : ℕ). framed_body m false parts) e)) (whole_chunks parts car.parts);
           };
           car = car;
@@ -65,8 +65,8 @@ module _ (paths : (q : QueryParts) (name : List ℕ) → CidBytes q.root name �
         λ e. record {
           reads = record {
             head =
-                subst (λ (m : ℕ). ReadsBack (head_text statuses.Ok (car_fields q.dups (asked_path q) m (asks_close head))) 200 (car_with_dups q.dups) UntilClose) (sym e)
-                (back.1 (subst (λ (m : ℕ). length (head_text statuses.Ok (car_fields q.dups (asked_path q) m (asks_close head))) ≤ 16384) e fits));
+                subst (λ (m : ℕ). ReadsBack (head_text (car_status found) (car_fields found q.dups (asked_path q) m (asks_close head))) (number_of (car_status found)) (car_with_dups q.dups) UntilClose) (sym e)
+                (back.1 (subst (λ (m : ℕ). length (head_text (car_status found) (car_fields found q.dups (asked_path q) m (asks_close head))) ≤ 16384) e fits));
             body = subst (BodyText UntilClose (joined parts)) (sym (body ∙ ap (λ (m : ℕ). framed_body m false parts) e)) refl;
           };
           car = car;

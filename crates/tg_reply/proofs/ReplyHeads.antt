@@ -16,7 +16,7 @@ use Rattle.tg_path.specs.declared.fault.QueryFault.{QueryFault}
 use Rattle.tg_path.specs.declared.fault.QueryFault.TheVariants as faults
 use Rattle.tg_query.specs.Accepts.{raw_type}
 use Rattle.tg_query.specs.Requests.{car_with_dups}
-use Rattle.tg_reply.specs.Heads.{NamedValue, allow, attachment, car_fields, chunked_coding, close, content_length, content_type, data_fields, digits_of, field_line, head_text, if_closing, if_method, immutable, ipfs_path, no_sniffing, phrase_of, raw_fields, text_of, text_type}
+use Rattle.tg_reply.specs.Heads.{NamedValue, allow, attachment, car_fields, car_status, chunked_coding, close, content_length, content_type, data_fields, digits_of, field_line, head_text, if_closing, if_found, if_method, immutable, ipfs_path, no_sniffing, phrase_of, raw_fields, text_of, text_type}
 use Rattle.tg_reply.specs.Laws.{CarReadsBack, RawReadsBack, ReadsBack, RefusalsReadBack, number_of}
 use Rattle.tg_reply.specs.Refusals.{query_word, status_of, word_of}
 use Rattle.tg_reply.specs.declared.refusal.Refusal.{Refusal}
@@ -192,8 +192,6 @@ word_short refusals.BadFraming = omega arith
 word_short refusals.BadMethod = omega arith
 word_short (refusals.Query fault) = query_word_short fault
 word_short refusals.NoRoot = omega arith
-word_short refusals.NotThere = omega arith
-word_short refusals.NotFolder = omega arith
 word_short refusals.Store = omega arith
 word_short refusals.Gone = omega arith
 word_short refusals.BadBlock = omega arith
@@ -218,13 +216,18 @@ car_passes : (dups : Bool) → list_all is_value_byte (car_with_dups dups) ≡ t
 car_passes true = refl
 car_passes false = refl
 
-data_good : (kind path : List ℕ) (rest : List NamedValue) → AllPass is_value_byte kind → AllPass is_value_byte path → All Good rest → All Good (data_fields kind path rest)
-data_good kind path rest pass shown good =
-    All-cons Good (content_type kind) (attachment ∷ no_sniffing ∷ immutable ∷ ipfs_path path ∷ rest) (type_good kind pass)
-    (All-cons Good attachment (no_sniffing ∷ immutable ∷ ipfs_path path ∷ rest) attachment_good
-    (All-cons Good no_sniffing (immutable ∷ ipfs_path path ∷ rest) no_sniffing_good
-    (All-cons Good immutable (ipfs_path path ∷ rest) immutable_good
-    (All-cons Good (ipfs_path path) rest (path_good path shown) good))))
+data_good : (found : Bool) (kind path : List ℕ) (rest : List NamedValue) → AllPass is_value_byte kind → AllPass is_value_byte path → All Good rest → All Good (data_fields found kind path rest)
+data_good found kind path rest pass shown good =
+    All-cons Good (content_type kind) (attachment ∷ no_sniffing ∷ (if_found found ++ ipfs_path path ∷ rest)) (type_good kind pass)
+    (All-cons Good attachment (no_sniffing ∷ (if_found found ++ ipfs_path path ∷ rest)) attachment_good
+    (All-cons Good no_sniffing (if_found found ++ ipfs_path path ∷ rest) no_sniffing_good (found_good found)))
+  where
+    behind : All Good (ipfs_path path ∷ rest)
+    behind = All-cons Good (ipfs_path path) rest (path_good path shown) good
+
+    found_good : (found : Bool) → All Good (if_found found ++ ipfs_path path ∷ rest)
+    found_good true = All-cons Good immutable (ipfs_path path ∷ rest) immutable_good behind
+    found_good false = behind
 
 raw_framing : (path : List ℕ) (size : ℕ) (closes : Bool) → size < 2 ^ 63 → HasFraming (told_fields (raw_fields path size closes)) (framings.Length size)
 raw_framing path size true h = (refl, trim_ows (32 ∷ decimal size), refl, length_value size h, h)
@@ -238,34 +241,49 @@ pub raw_back : RawReadsBack
 raw_back path size closes pass small fits =
     let rest = content_length size ∷ if_closing closes in
     reads_back statuses.Ok (raw_fields path size closes) raw_type (framings.Length size)
-    (data_good raw_type path rest (AllPass-from_list_all is_value_byte raw_type refl) pass
+    (data_good true raw_type path rest (AllPass-from_list_all is_value_byte raw_type refl) pass
     (All-cons Good (content_length size) (if_closing closes) (length_good size small) (closing_good closes)))
     (omega (arith, few_closing closes)) fits (ap Some raw_kind) (raw_coding path size closes) (raw_framing path size closes small)
 
-chunked_framing : (dups : Bool) (path : List ℕ) (closes : Bool) → HasFraming (told_fields (car_fields dups path 1 closes)) framings.Chunked
+chunked_framing : (found dups : Bool) (path : List ℕ) (closes : Bool) → HasFraming (told_fields (car_fields found dups path 1 closes)) framings.Chunked
 unfolding trim_ows
-chunked_framing dups path true = (refl, codes "chunked", refl, refl)
-chunked_framing dups path false = (refl, codes "chunked", refl, refl)
+chunked_framing true dups path true = (refl, codes "chunked", refl, refl)
+chunked_framing true dups path false = (refl, codes "chunked", refl, refl)
+chunked_framing false dups path true = (refl, codes "chunked", refl, refl)
+chunked_framing false dups path false = (refl, codes "chunked", refl, refl)
 
-plain_framing : (dups : Bool) (path : List ℕ) (closes : Bool) → HasFraming (told_fields (car_fields dups path 0 closes)) framings.UntilClose
-plain_framing dups path true = (refl, refl)
-plain_framing dups path false = (refl, refl)
+plain_framing : (found dups : Bool) (path : List ℕ) (closes : Bool) → HasFraming (told_fields (car_fields found dups path 0 closes)) framings.UntilClose
+plain_framing true dups path true = (refl, refl)
+plain_framing true dups path false = (refl, refl)
+plain_framing false dups path true = (refl, refl)
+plain_framing false dups path false = (refl, refl)
 
-chunked_coding_none : (dups : Bool) (path : List ℕ) (closes : Bool) → values (codes "content-encoding") (told_fields (car_fields dups path 1 closes)) ≡ []
-chunked_coding_none dups path true = refl
-chunked_coding_none dups path false = refl
+chunked_coding_none : (found dups : Bool) (path : List ℕ) (closes : Bool) → values (codes "content-encoding") (told_fields (car_fields found dups path 1 closes)) ≡ []
+chunked_coding_none true dups path true = refl
+chunked_coding_none true dups path false = refl
+chunked_coding_none false dups path true = refl
+chunked_coding_none false dups path false = refl
 
-plain_coding_none : (dups : Bool) (path : List ℕ) (closes : Bool) → values (codes "content-encoding") (told_fields (car_fields dups path 0 closes)) ≡ []
-plain_coding_none dups path true = refl
-plain_coding_none dups path false = refl
+plain_coding_none : (found dups : Bool) (path : List ℕ) (closes : Bool) → values (codes "content-encoding") (told_fields (car_fields found dups path 0 closes)) ≡ []
+plain_coding_none true dups path true = refl
+plain_coding_none true dups path false = refl
+plain_coding_none false dups path true = refl
+plain_coding_none false dups path false = refl
+
+few_found : (found : Bool) → length (if_found found) ≤ 1
+few_found true = omega arith
+few_found false = omega arith
+
+car_few : (found dups : Bool) (path : List ℕ) (rest : List NamedValue) → length rest ≤ 2 → length (data_fields found (car_with_dups dups) path rest) ≤ 64
+car_few found dups path rest few = omega (arith, few, few_found found, length-append (if_found found) (ipfs_path path ∷ rest))
 
 pub car_back : CarReadsBack
-car_back dups path closes pass =
+car_back found dups path closes pass =
     let kind = AllPass-from_list_all is_value_byte (car_with_dups dups) (car_passes dups) in (
-      λ fits. reads_back statuses.Ok (car_fields dups path 1 closes) (car_with_dups dups) framings.Chunked
-          (data_good (car_with_dups dups) path (chunked_coding ∷ if_closing closes) kind pass (All-cons Good chunked_coding (if_closing closes) chunked_good (closing_good closes)))
-          (omega (arith, few_closing closes)) fits (ap Some (car_kind dups)) (chunked_coding_none dups path closes) (chunked_framing dups path closes),
-      λ fits. reads_back statuses.Ok (car_fields dups path 0 closes) (car_with_dups dups) framings.UntilClose
-          (data_good (car_with_dups dups) path (if_closing closes) kind pass (closing_good closes))
-          (omega (arith, few_closing closes)) fits (ap Some (car_kind dups)) (plain_coding_none dups path closes) (plain_framing dups path closes),
+      λ fits. reads_back (car_status found) (car_fields found dups path 1 closes) (car_with_dups dups) framings.Chunked
+          (data_good found (car_with_dups dups) path (chunked_coding ∷ if_closing closes) kind pass (All-cons Good chunked_coding (if_closing closes) chunked_good (closing_good closes)))
+          (car_few found dups path (chunked_coding ∷ if_closing closes) (omega (arith, few_closing closes))) fits (ap Some (car_kind dups)) (chunked_coding_none found dups path closes) (chunked_framing found dups path closes),
+      λ fits. reads_back (car_status found) (car_fields found dups path 0 closes) (car_with_dups dups) framings.UntilClose
+          (data_good found (car_with_dups dups) path (if_closing closes) kind pass (closing_good closes))
+          (car_few found dups path (if_closing closes) (omega (arith, few_closing closes))) fits (ap Some (car_kind dups)) (plain_coding_none found dups path closes) (plain_framing found dups path closes),
     )

@@ -5,7 +5,6 @@ use Rattle.percent_encoding.specs.Percent.{percent_decode}
 use Rattle.std.specs.List.{list_all}
 use Rattle.std.specs.Prelude.{IsTrue, nat_lt}
 use Rattle.std.proofs.lemmas.Bool.{ltb-true}
-use Rattle.std.proofs.lemmas.Fmt.{decimal_digit}
 use Rattle.std.proofs.lemmas.List.{append-nil, length-append}
 use Rattle.std.proofs.lemmas.List.Elements.{All-cons, All-nil, All-weaker}
 use Rattle.std.proofs.lemmas.List.Sums.{AllPass-from_list_all}
@@ -24,7 +23,7 @@ use Rattle.tg_path.specs.Spans.{number_of, span_of}
 use Rattle.tg_pbtable.specs.Computed.{fields_of}
 use Rattle.tg_query.specs.Accepts.{form_of_range, param_of}
 use Rattle.tg_unixfs.specs.Computed.{unix_of}
-use Rattle.tg_reply.specs.Examples.{empty_chunks, empty_head, first_bytes, first_target, get, not_found, open_reply, request_lines, second_bytes, second_target, three_roots}
+use Rattle.tg_reply.specs.Examples.{empty_chunks, empty_head, first_bytes, first_target, get, absence_head, open_reply, request_lines, second_bytes, second_target, three_roots}
 use Rattle.tg_reply.specs.Replies.{Reply, reply, reply_bytes}
 use Rattle.tg_reply.specs.Streams.{BeginsRequest, Replies, goes_on, waits}
 use Rattle.tg_reply.specs.declared.status.Status.TheVariants as statuses
@@ -111,9 +110,9 @@ first_reply : (size : ℕ) → reply three_roots (told_of first_target size) ≡
 unfolding trim_ows percent_decode bits base32 bytes_of_letters cid_answer names_of form_of_range param_of cid_text cid_of link_in node_of unix_of fields_of number_of span_of
 first_reply size = refl
 
-second_reply : (size : ℕ) → reply three_roots (told_of second_target size) ≡ not_found (codes "9") (codes "NotThere")
+second_reply : (size : ℕ) → reply three_roots (told_of second_target size) ≡ open_reply statuses.NotFound absence_head empty_chunks
 unfolding trim_ows percent_decode bits base32 bytes_of_letters cid_answer names_of form_of_range param_of cid_text cid_of link_in node_of unix_of fields_of number_of span_of
-second_reply size = ap (λ (d : List ℕ). not_found d (codes "NotThere")) (decimal_digit 9 (omega arith))
+second_reply size = refl
 
 no_bytes : Replies three_roots [] []
 no_bytes = waits [] (record { none = λ text count b. omega (arith, some_text text count b.text_is, ap length b.whole, length-append text b.rest); short = omega arith })

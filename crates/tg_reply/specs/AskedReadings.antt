@@ -8,7 +8,7 @@ use Rattle.tg_http.specs.declared.framing.Framing.TheVariants.{Chunked, Length, 
 use Rattle.tg_http.specs.declared.request.RequestHead.{RequestHead}
 use Rattle.tg_model.specs.Answer.{block_of}
 use Rattle.tg_model.specs.Dag.{Dag, Section}
-use Rattle.tg_model.specs.PathWalk.{PathEnd, not_reached, path_walk, terminal}
+use Rattle.tg_model.specs.PathWalk.{PathEnd, Stop, bad_block, gone, not_folder, not_reached, not_there, path_walk, terminal}
 use Rattle.tg_model.specs.Queries.{QueryParts}
 use Rattle.tg_model.specs.StoreView.{block_at, store_view}
 use Rattle.tg_model.specs.Stores.{IsStore, Store}
@@ -22,9 +22,10 @@ use Rattle.tg_reply.specs.Bodies.{IsCar, IsSpelled}
 use Rattle.tg_reply.specs.CarBytes.{car_parts}
 use Rattle.tg_reply.specs.Heads.{text_of, text_type}
 use Rattle.tg_reply.specs.Readings.{Reads}
-use Rattle.tg_reply.specs.Replies.{Reply, path_refusal, reply, sent_dag}
+use Rattle.tg_reply.specs.Replies.{Reply, gone_refusal, reply, sent_dag}
 use Rattle.tg_reply.specs.Streams.{BeginsRequest}
 use Rattle.tg_reply.specs.declared.refusal.Refusal.{Refusal}
+use Rattle.tg_reply.specs.declared.refusal.Refusal.TheVariants.{BadBlock}
 
 -- ---- what stands of what is asked
 
@@ -75,10 +76,22 @@ FoundIsRead store head q d forms.Raw = Reads (reply store head) raw_type (Length
 FoundIsRead store head q d forms.Car =
     (reply store head).cut ≡ false → CarIsRead (reply store head) q (block_list q (sent_dag store q.root)) (car_framing head.minor)
 
+-- the reply where the path leads to none: the CAR of the blocks on it where it leads nowhere and isn't cut, and else the
+-- text of the refusal
+abbrev pub AbsenceIsRead : Store → RequestHead → QueryParts → Type 0
+AbsenceIsRead store head q =
+    (reply store head).cut ≡ false → CarIsRead (reply store head) q (block_list q (sent_dag store q.root)) (car_framing head.minor)
+
+abbrev pub MissIsRead : Store → RequestHead → QueryParts → Stop → Type 0
+MissIsRead store head q (not_there i) = AbsenceIsRead store head q
+MissIsRead store head q (not_folder i) = AbsenceIsRead store head q
+MissIsRead store head q (gone spot) = TextIsRead (reply store head) (gone_refusal (block_at store q.root))
+MissIsRead store head q (bad_block spot fault) = TextIsRead (reply store head) BadBlock
+
 -- by the end of the path
 abbrev pub EndIsRead : Store → RequestHead → QueryParts → PathEnd → Type 0
 EndIsRead store head q (terminal d) = FoundIsRead store head q d q.form
-EndIsRead store head q (not_reached stop) = TextIsRead (reply store head) (path_refusal (block_at store q.root) stop)
+EndIsRead store head q (not_reached stop) = MissIsRead store head q stop
 
 -- a request at the front of bytes asks for a query by GET, and the head of the reply fits a head
 pub record IsAskedByGet (store : Store) (head : RequestHead) (q : QueryParts) : Type 0 where

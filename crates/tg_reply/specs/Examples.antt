@@ -106,6 +106,36 @@ empty_head_plain = lines (
     ∷ codes "X-Ipfs-Path: /ipfs/bafybeiczsscdsbs7ffqz55asqdf3smv6klcw3gofszvwlyarci47bgf354"
     ∷ codes "Connection: close" ∷ [])
 
+-- where an entry of it isn't there
+abbrev pub absence_head : List ℕ
+absence_head = lines (
+    codes "HTTP/1.1 404 Not Found"
+    ∷ codes "Content-Type: application/vnd.ipld.car; version=1; order=dfs; dups=y"
+    ∷ codes "Content-Disposition: attachment"
+    ∷ codes "X-Content-Type-Options: nosniff"
+    ∷ codes "X-Ipfs-Path: /ipfs/bafybeiczsscdsbs7ffqz55asqdf3smv6klcw3gofszvwlyarci47bgf354/x"
+    ∷ codes "Transfer-Encoding: chunked" ∷ [])
+
+-- to HTTP/1.0
+abbrev pub absence_head_plain : List ℕ
+absence_head_plain = lines (
+    codes "HTTP/1.1 404 Not Found"
+    ∷ codes "Content-Type: application/vnd.ipld.car; version=1; order=dfs; dups=y"
+    ∷ codes "Content-Disposition: attachment"
+    ∷ codes "X-Content-Type-Options: nosniff"
+    ∷ codes "X-Ipfs-Path: /ipfs/bafybeiczsscdsbs7ffqz55asqdf3smv6klcw3gofszvwlyarci47bgf354/x"
+    ∷ codes "Connection: close" ∷ [])
+
+-- where a raw block is no directory
+abbrev pub hello_absence_head : List ℕ
+hello_absence_head = lines (
+    codes "HTTP/1.1 404 Not Found"
+    ∷ codes "Content-Type: application/vnd.ipld.car; version=1; order=dfs; dups=y"
+    ∷ codes "Content-Disposition: attachment"
+    ∷ codes "X-Content-Type-Options: nosniff"
+    ∷ codes "X-Ipfs-Path: /ipfs/bafkreifzjut3te2nhyekklss27nh3k72ysco7y32koao5eei66wof36n5e/x"
+    ∷ codes "Transfer-Encoding: chunked" ∷ [])
+
 -- with the raw block of the empty directory
 abbrev pub empty_head_raw : List ℕ
 empty_head_raw = lines (
@@ -131,6 +161,21 @@ abbrev pub empty_chunks : List ℕ
 empty_chunks =
     codes "3b" ++ (crlf_bytes ++ (empty_car_header ++ (crlf_bytes
     ++ (codes "29" ++ (crlf_bytes ++ (empty_car_section ++ (crlf_bytes
+    ++ (codes "0" ++ (crlf_bytes ++ crlf_bytes)))))))))
+
+-- the CAR of a raw block, of 59 and 48 bytes, and its chunks
+abbrev pub hello_car_header : List ℕ
+hello_car_header =
+    0x3a ∷ 0xa2 ∷ 0x65 ∷ 0x72 ∷ 0x6f ∷ 0x6f ∷ 0x74 ∷ 0x73 ∷ 0x81 ∷ 0xd8 ∷ 0x2a ∷ 0x58 ∷ 0x25 ∷ 0x00 ∷ 0x01 ∷ 0x55 ∷ 0x12 ∷ 0x20 ∷ 0xb9 ∷ 0x4d ∷ 0x27 ∷ 0xb9 ∷ 0x93 ∷ 0x4d ∷ 0x3e ∷ 0x08 ∷ 0xa5 ∷ 0x2e ∷ 0x52 ∷ 0xd7 ∷ 0xda ∷ 0x7d ∷ 0xab ∷ 0xfa ∷ 0xc4 ∷ 0x84 ∷ 0xef ∷ 0xe3 ∷ 0x7a ∷ 0x53 ∷ 0x80 ∷ 0xee ∷ 0x90 ∷ 0x88 ∷ 0xf7 ∷ 0xac ∷ 0xe2 ∷ 0xef ∷ 0xcd ∷ 0xe9 ∷ 0x67 ∷ 0x76 ∷ 0x65 ∷ 0x72 ∷ 0x73 ∷ 0x69 ∷ 0x6f ∷ 0x6e ∷ 0x01 ∷ []
+
+abbrev pub hello_car_section : List ℕ
+hello_car_section =
+    0x2f ∷ 0x01 ∷ 0x55 ∷ 0x12 ∷ 0x20 ∷ 0xb9 ∷ 0x4d ∷ 0x27 ∷ 0xb9 ∷ 0x93 ∷ 0x4d ∷ 0x3e ∷ 0x08 ∷ 0xa5 ∷ 0x2e ∷ 0x52 ∷ 0xd7 ∷ 0xda ∷ 0x7d ∷ 0xab ∷ 0xfa ∷ 0xc4 ∷ 0x84 ∷ 0xef ∷ 0xe3 ∷ 0x7a ∷ 0x53 ∷ 0x80 ∷ 0xee ∷ 0x90 ∷ 0x88 ∷ 0xf7 ∷ 0xac ∷ 0xe2 ∷ 0xef ∷ 0xcd ∷ 0xe9 ∷ 0x68 ∷ 0x65 ∷ 0x6c ∷ 0x6c ∷ 0x6f ∷ 0x20 ∷ 0x77 ∷ 0x6f ∷ 0x72 ∷ 0x6c ∷ 0x64 ∷ []
+
+abbrev pub hello_chunks : List ℕ
+hello_chunks =
+    codes "3b" ++ (crlf_bytes ++ (hello_car_header ++ (crlf_bytes
+    ++ (codes "30" ++ (crlf_bytes ++ (hello_car_section ++ (crlf_bytes
     ++ (codes "0" ++ (crlf_bytes ++ crlf_bytes)))))))))
 
 -- the head with the CAR of the directory, and its chunks up to where its entry is missing
@@ -234,4 +279,4 @@ abbrev pub first_bytes : List ℕ
 first_bytes = empty_head ++ empty_chunks
 
 abbrev pub second_bytes : List ℕ
-second_bytes = text_head (codes "HTTP/1.1 404 Not Found") (codes "9") ++ (codes "NotThere" ++ line_feed ∷ [])
+second_bytes = absence_head ++ empty_chunks

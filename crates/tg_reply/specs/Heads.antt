@@ -1,7 +1,7 @@
 -- The heads of replies (RFC 9112, sections 4 to 6; Trustless Gateway specification, response headers).
 use Rattle.httparse.specs.Ascii.{crlf_bytes}
 use Rattle.std.specs.List.{flat_map}
-use Rattle.std.specs.Prelude.{Bool, List, [], codes, decimal, if◌then◌else◌, length, ℕ, ◌++◌, ◌==◌, ◌∷◌}
+use Rattle.std.specs.Prelude.{Bool, List, [], codes, decimal, if◌then◌else◌, length, true, ℕ, ◌++◌, ◌==◌, ◌∷◌}
 use Rattle.tg_bytes.specs.Ascii.{line_feed, space}
 use Rattle.tg_cid.specs.Computed.{cid_text}
 use Rattle.tg_model.specs.Queries.{QueryParts}
@@ -99,23 +99,33 @@ abbrev pub head_text : Status → List NamedValue → List ℕ
 head_text status fields =
     codes "HTTP/1.1 " ++ (digits_of status ++ (space ∷ (phrase_of status ++ (crlf_bytes ++ (flat_map field_line fields ++ crlf_bytes)))))
 
--- the fields of a reply with blocks
-abbrev pub data_fields : List ℕ → List ℕ → List NamedValue → List NamedValue
-data_fields kind path rest = content_type kind ∷ attachment ∷ no_sniffing ∷ immutable ∷ ipfs_path path ∷ rest
+-- the fields of a reply with blocks, by whether its path leads to a terminal
+abbrev pub if_found : Bool → List NamedValue
+if_found found = if found then immutable ∷ [] else []
+
+abbrev pub data_fields : Bool → List ℕ → List ℕ → List NamedValue → List NamedValue
+data_fields found kind path rest =
+    content_type kind ∷ attachment ∷ no_sniffing ∷ (if_found found ++ ipfs_path path ∷ rest)
 
 -- 200 with a raw block of this size; whether the connection closes behind it
 abbrev pub raw_fields : List ℕ → ℕ → Bool → List NamedValue
-raw_fields path size closes = data_fields raw_type path (content_length size ∷ if_closing closes)
+raw_fields path size closes = data_fields true raw_type path (content_length size ∷ if_closing closes)
 
 abbrev pub raw_head : QueryParts → ℕ → Bool → List ℕ
 raw_head q size closes = head_text statuses.Ok (raw_fields (asked_path q) size closes)
 
--- 200 with a CAR to a request of this minor version
-abbrev pub car_fields : Bool → List ℕ → ℕ → Bool → List NamedValue
-car_fields dups path minor closes = data_fields (car_with_dups dups) path (if_chunked minor ++ if_closing closes)
+-- a CAR to a request of this minor version: 200 where the path leads to a terminal, and 404 where it leads nowhere, which
+-- the CAR shows (this project's own extension)
+abbrev pub car_status : Bool → Status
+car_status found = if found then statuses.Ok else statuses.NotFound
 
-abbrev pub car_head : QueryParts → ℕ → Bool → List ℕ
-car_head q minor closes = head_text statuses.Ok (car_fields q.dups (asked_path q) minor closes)
+abbrev pub car_fields : Bool → Bool → List ℕ → ℕ → Bool → List NamedValue
+car_fields found dups path minor closes =
+    data_fields found (car_with_dups dups) path (if_chunked minor ++ if_closing closes)
+
+abbrev pub car_head : Bool → QueryParts → ℕ → Bool → List ℕ
+car_head found q minor closes =
+    head_text (car_status found) (car_fields found q.dups (asked_path q) minor closes)
 
 -- all other replies: a text, which is the word of the refusal and a line feed
 abbrev pub text_of : Refusal → List ℕ

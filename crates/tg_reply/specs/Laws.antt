@@ -7,7 +7,7 @@ use Rattle.tg_http.specs.declared.framing.Framing.TheVariants.{Chunked, Length, 
 use Rattle.tg_http.specs.declared.reply.ReplyHead.{ReplyHead}
 use Rattle.tg_query.specs.Accepts.{raw_type}
 use Rattle.tg_query.specs.Requests.{car_with_dups}
-use Rattle.tg_reply.specs.Heads.{car_fields, head_text, raw_fields, refusal_head, text_of, text_type}
+use Rattle.tg_reply.specs.Heads.{car_fields, car_status, head_text, raw_fields, refusal_head, text_of, text_type}
 use Rattle.tg_reply.specs.Refusals.{status_of}
 use Rattle.tg_reply.specs.declared.refusal.Refusal.{Refusal}
 use Rattle.tg_reply.specs.declared.status.Status.{Status}
@@ -50,8 +50,8 @@ RawReadsBack = (path : List ℕ) (size : ℕ) (closes : Bool) → AllPass is_val
 
 -- in chunks, or to HTTP/1.0 until the connection closes
 abbrev pub CarReadsBack : Type 0
-CarReadsBack = (dups : Bool) (path : List ℕ) (closes : Bool) → AllPass is_value_byte path
-    → (length (head_text statuses.Ok (car_fields dups path 1 closes)) ≤ 16384
-    → ReadsBack (head_text statuses.Ok (car_fields dups path 1 closes)) 200 (car_with_dups dups) Chunked)
-    × (length (head_text statuses.Ok (car_fields dups path 0 closes)) ≤ 16384
-    → ReadsBack (head_text statuses.Ok (car_fields dups path 0 closes)) 200 (car_with_dups dups) UntilClose)
+CarReadsBack = (found dups : Bool) (path : List ℕ) (closes : Bool) → AllPass is_value_byte path
+    → (length (head_text (car_status found) (car_fields found dups path 1 closes)) ≤ 16384
+    → ReadsBack (head_text (car_status found) (car_fields found dups path 1 closes)) (number_of (car_status found)) (car_with_dups dups) Chunked)
+    × (length (head_text (car_status found) (car_fields found dups path 0 closes)) ≤ 16384
+    → ReadsBack (head_text (car_status found) (car_fields found dups path 0 closes)) (number_of (car_status found)) (car_with_dups dups) UntilClose)

@@ -1,5 +1,5 @@
 -- What a reader makes of the replies to GET: the head and the body that they were given.
-use Rattle.std.specs.Prelude.{All, List, false, length, ℕ, ◌<◌, ◌^◌, ◌≡◌, ◌≤◌}
+use Rattle.std.specs.Prelude.{All, Bool, List, false, length, ℕ, ◌<◌, ◌^◌, ◌≡◌, ◌≤◌}
 use Rattle.tg_body.specs.Bodies.{BodyText}
 use Rattle.tg_bytes.specs.Lists.{joined}
 use Rattle.tg_cid.specs.Spelling.{CidBytes}
@@ -45,11 +45,11 @@ RawReads = (head : RequestHead) (q : QueryParts) (block : List ℕ) → IsGet he
     → Reads (raw_reply head q block) raw_type (Length (length block)) block
 
 -- the reply with a CAR that isn't cut is the CAR, in chunks or to HTTP/1.0 until the connection closes
-pub record IsCarRead (head : RequestHead) (q : QueryParts) (sections : List Section) (framing : Framing) : Type 0 where
-  pub reads : Reads (car_reply head q sections false) (car_with_dups q.dups) framing (joined (car_parts q.root sections))
+pub record IsCarRead (head : RequestHead) (found : Bool) (q : QueryParts) (sections : List Section) (framing : Framing) : Type 0 where
+  pub reads : Reads (car_reply head found q sections false) (car_with_dups q.dups) framing (joined (car_parts q.root sections))
   pub car : IsCar q.root sections
 
 abbrev pub CarReads : Type 0
-CarReads = (head : RequestHead) (q : QueryParts) (sections : List Section) → IsGet head q → All IsSpelled sections
-    → length (car_reply head q sections false).head ≤ 16384
-    → (head.minor ≡ 1 → IsCarRead head q sections Chunked) × (head.minor ≡ 0 → IsCarRead head q sections UntilClose)
+CarReads = (head : RequestHead) (found : Bool) (q : QueryParts) (sections : List Section) → IsGet head q → All IsSpelled sections
+    → length (car_reply head found q sections false).head ≤ 16384
+    → (head.minor ≡ 1 → IsCarRead head found q sections Chunked) × (head.minor ≡ 0 → IsCarRead head found q sections UntilClose)

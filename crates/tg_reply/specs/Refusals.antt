@@ -5,7 +5,7 @@ use Rattle.tg_path.specs.declared.fault.QueryFault.{QueryFault}
 use Rattle.tg_path.specs.declared.fault.QueryFault.TheVariants as faults
 use Rattle.tg_reply.specs.declared.refusal.Refusal.{Refusal}
 use Rattle.tg_reply.specs.declared.refusal.Refusal.TheVariants.{BadBlock, BadFraming, BadHead, BadMethod, Gone}
-use Rattle.tg_reply.specs.declared.refusal.Refusal.TheVariants.{HeadLimit, NoRoot, NotFolder, NotThere, Query, Store}
+use Rattle.tg_reply.specs.declared.refusal.Refusal.TheVariants.{HeadLimit, NoRoot, Query, Store}
 use Rattle.tg_reply.specs.declared.status.Status.{Status}
 use Rattle.tg_reply.specs.declared.status.Status.TheVariants as statuses
 
@@ -30,8 +30,6 @@ status_of BadFraming = statuses.BadRequest
 status_of BadMethod = statuses.MethodNotAllowed
 status_of (Query fault) = query_status fault
 status_of NoRoot = statuses.NotFound
-status_of NotThere = statuses.NotFound
-status_of NotFolder = statuses.NotFound
 status_of Store = statuses.ServerError
 status_of Gone = statuses.ServerError
 status_of BadBlock = statuses.ServerError
@@ -56,8 +54,6 @@ word_of BadFraming = codes "BadFraming"
 word_of BadMethod = codes "BadMethod"
 word_of (Query fault) = query_word fault
 word_of NoRoot = codes "NoRoot"
-word_of NotThere = codes "NotThere"
-word_of NotFolder = codes "NotFolder"
 word_of Store = codes "Store"
 word_of Gone = codes "Gone"
 word_of BadBlock = codes "BadBlock"
@@ -70,8 +66,6 @@ ends_connection BadFraming = true
 ends_connection BadMethod = false
 ends_connection (Query fault) = false
 ends_connection NoRoot = false
-ends_connection NotThere = false
-ends_connection NotFolder = false
 ends_connection Store = false
 ends_connection Gone = false
 ends_connection BadBlock = false

@@ -18,10 +18,10 @@ use Rattle.tg_model.specs.declared.queries.Form.{Form}
 use Rattle.tg_model.specs.declared.queries.Form.TheVariants as forms
 use Rattle.tg_reply.specs.Asked.{asked, is_head}
 use Rattle.tg_reply.specs.CarBytes.{car_parts, chunked}
-use Rattle.tg_reply.specs.Heads.{car_head, raw_head, refusal_head, text_of}
+use Rattle.tg_reply.specs.Heads.{car_head, car_status, raw_head, refusal_head, text_of}
 use Rattle.tg_reply.specs.Refusals.{ends_connection, status_of}
 use Rattle.tg_reply.specs.declared.refusal.Refusal.{Refusal}
-use Rattle.tg_reply.specs.declared.refusal.Refusal.TheVariants.{BadBlock, Gone, NoRoot, NotFolder, NotThere}
+use Rattle.tg_reply.specs.declared.refusal.Refusal.TheVariants.{BadBlock, Gone, NoRoot}
 use Rattle.tg_reply.specs.declared.status.Status.{Status}
 use Rattle.tg_reply.specs.declared.status.Status.TheVariants as statuses
 
@@ -61,13 +61,10 @@ refused_request head refusal =
 abbrev pub refused_bytes : Refusal → Reply
 refused_bytes refusal = refused refusal (ends_connection refusal) (text_of refusal)
 
--- why a path leads to no terminal; the root is stored, or it isn't
-abbrev pub path_refusal : Option (List ℕ) → Stop → Refusal
-path_refusal root (not_there i) = NotThere
-path_refusal root (not_folder i) = NotFolder
-path_refusal None (gone spot) = NoRoot
-path_refusal (Some block) (gone spot) = Gone
-path_refusal root (bad_block spot fault) = BadBlock
+-- a block of the path isn't stored: the root, or another one
+abbrev pub gone_refusal : Option (List ℕ) → Refusal
+gone_refusal None = NoRoot
+gone_refusal (Some block) = Gone
 
 -- ---- a raw block
 
@@ -90,13 +87,13 @@ is_cut (stopped stop) = true
 abbrev pub framed_body : ℕ → Bool → List (List ℕ) → List ℕ
 framed_body minor cut parts = if minor == 0 then joined parts else chunked cut parts
 
--- the sections in order, cut or not; to HEAD neither is looked at
-abbrev pub car_reply : RequestHead → QueryParts → List Section → Bool → Reply
-car_reply head q sections cut =
+-- the sections in order, cut or not, by whether the path leads to a terminal; to HEAD the sections aren't looked at
+abbrev pub car_reply : RequestHead → Bool → QueryParts → List Section → Bool → Reply
+car_reply head found q sections cut =
     let is_sent = not (is_head head.method) in
     record {
-      status = statuses.Ok;
-      head = car_head q head.minor (asks_close head);
+      status = car_status found;
+      head = car_head found q head.minor (asks_close head);
       body = unless_head head (framed_body head.minor cut (car_parts q.root sections));
       cut = is_sent && cut;
       closes = asks_close head || is_sent && cut;
@@ -108,12 +105,31 @@ car_reply head q sections cut =
 abbrev pub found_reply : Store → RequestHead → QueryParts → Dag → Form → Reply
 found_reply store head q d forms.Raw = raw_reply head q (block_of d)
 found_reply store head q d forms.Car =
-    car_reply head q (block_list q (sent_dag store q.root)) (is_cut (traversal q (sent_dag store q.root)).end)
+    car_reply head true q (block_list q (sent_dag store q.root)) (is_cut (traversal q (sent_dag store q.root)).end)
+
+-- to a query whose path leads nowhere: the blocks on the path, which show it, cut where they lie deeper than is sent
+abbrev pub is_cut_on_path : TraversalEnd → Bool
+is_cut_on_path whole = false
+is_cut_on_path (stopped (not_there i)) = false
+is_cut_on_path (stopped (not_folder i)) = false
+is_cut_on_path (stopped (gone spot)) = true
+is_cut_on_path (stopped (bad_block spot fault)) = true
+
+abbrev pub absence_reply : Store → RequestHead → QueryParts → Reply
+absence_reply store head q =
+    car_reply head false q (block_list q (sent_dag store q.root)) (is_cut_on_path (traversal q (sent_dag store q.root)).end)
+
+-- to a query whose path leads to no terminal; a raw query has no path, so that of it the root alone may be missing
+abbrev pub missed_reply : Store → RequestHead → QueryParts → Stop → Reply
+missed_reply store head q (not_there i) = absence_reply store head q
+missed_reply store head q (not_folder i) = absence_reply store head q
+missed_reply store head q (gone spot) = refused_request head (gone_refusal (block_at store q.root))
+missed_reply store head q (bad_block spot fault) = refused_request head BadBlock
 
 -- to a query, by the end of its path
 abbrev pub reply_at : Store → RequestHead → QueryParts → PathEnd → Reply
 reply_at store head q (terminal d) = found_reply store head q d q.form
-reply_at store head q (not_reached stop) = refused_request head (path_refusal (block_at store q.root) stop)
+reply_at store head q (not_reached stop) = missed_reply store head q stop
 
 -- to what is asked
 abbrev pub reply_to : Store → RequestHead → Result QueryParts Refusal → Reply

@@ -1,7 +1,8 @@
 //! Worked examples of replies.
 ghost use Rattle.std.specs.Prelude.{◌≡◌, ◌++◌, ◌∷◌, [], codes, length, take, true};
 ghost use Rattle.tg_reply.specs.Asked.{asked};
-ghost use Rattle.tg_reply.specs.Examples.{bad_framing, bad_head, bad_method, bad_request, empty_car_header};
+ghost use Rattle.tg_reply.specs.Examples.{absence_head, absence_head_plain, bad_framing, bad_head, bad_method, bad_request};
+ghost use Rattle.tg_reply.specs.Examples.{empty_car_header, hello_absence_head, hello_car_header, hello_car_section, hello_chunks};
 ghost use Rattle.tg_reply.specs.Examples.{empty_car_section, empty_chunks, empty_head, empty_head_plain};
 ghost use Rattle.tg_reply.specs.Examples.{empty_head_raw, empty_root, first_bytes, first_target, folder_chunks};
 ghost use Rattle.tg_reply.specs.Examples.{folder_head, folder_root, get, head_limit, hello_root, folder_alone};
@@ -54,9 +55,6 @@ pub fn text_replies()
     ensures raw_path { reply three_roots (get (empty_root
         ++ codes "/x?format=raw")) ≡ bad_request (codes "8") (codes "RawPath") }
     ensures no_root { reply three_roots (get folder_root) ≡ not_found (codes "7") (codes "NoRoot") }
-    ensures not_there { reply three_roots (get (empty_root ++ codes "/x")) ≡ not_found (codes "9") (codes "NotThere") }
-    ensures not_folder { reply three_roots (get (hello_root
-        ++ codes "/x")) ≡ not_found (codes "10") (codes "NotFolder") }
     ensures gone { reply folder_alone (get (folder_root ++ codes "/a")) ≡ server_error (codes "5") (codes "Gone") }
     ensures bad_block { reply three_roots (get (unreadable_root
         ++ codes "/x")) ≡ server_error (codes "9") (codes "BadBlock") }
@@ -66,6 +64,24 @@ pub fn text_replies()
     // To HEAD the same head without the body.
     ensures to_head { reply three_roots (request (codes "HEAD") 1 empty_root [])
         ≡ record (bad_request (codes "9") (codes "NoFormat")) { body = [] } }
+{}
+
+/// Replies to paths that lead nowhere: the CAR of the blocks on them. An entry of the empty directory isn't there, in
+/// chunks of 117 bytes, to `HEAD` and to HTTP/1.0; and a raw block is no directory, whose CAR has 107 bytes.
+///
+/// RFC 9110, section 15.5.5; Trustless Gateway specification, CAR responses; that the blocks are sent with a 404 is this
+/// project's own.
+pub fn absence_replies()
+    ensures not_there { reply three_roots (get (empty_root
+        ++ codes "/x")) ≡ open_reply Status.NotFound absence_head empty_chunks }
+    ensures head { reply three_roots (request (codes "HEAD") 1 (empty_root
+        ++ codes "/x") (codes "application/vnd.ipld.car" ∷ [])) ≡ open_reply Status.NotFound absence_head [] }
+    ensures plain { reply three_roots (request (codes "GET") 0 (empty_root
+        ++ codes "/x") (codes "application/vnd.ipld.car" ∷ [])) ≡ record (open_reply Status.NotFound absence_head_plain
+        (empty_car_header ++ empty_car_section)) { closes = true } }
+    ensures not_folder { reply three_roots (get (hello_root
+        ++ codes "/x")) ≡ open_reply Status.NotFound hello_absence_head hello_chunks }
+    ensures size { length (hello_car_header ++ hello_car_section) ≡ 107 }
 {}
 
 /// Two requests on one link: the CAR of the empty directory, and that an entry of it isn't there.

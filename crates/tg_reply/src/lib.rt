@@ -8,7 +8,7 @@ mod refusal;
 mod status;
 mod streams;
 
-pub use examples::{block_replies, computed_replies, text_replies, two_replies};
+pub use examples::{absence_replies, block_replies, computed_replies, text_replies, two_replies};
 pub use laws::{
     asked_queries, asked_replies_read, car_bytes, cut_places, no_memory, replies_read,
     reply_bodies, reply_heads, request_targets, sent_sections, told_paths,

@@ -1,7 +1,7 @@
 //! Why a request gets no block.
 use tg_path::QueryFault;
 
-/// Why a request gets a reply other than 200.
+/// Why a request gets a reply of one word, and no block.
 ///
 /// Path Gateway and Trustless Gateway specifications, response status codes.
 #[derive(Clone, Copy, PartialEq, Eq)]
@@ -18,10 +18,6 @@ pub enum Refusal {
     Query(QueryFault),
     /// The root isn't stored.
     NoRoot,
-    /// A directory on the path has no entry of the next name.
-    NotThere,
-    /// The path goes on behind a block that is no directory.
-    NotFolder,
     /// The store failed, or a stored block has changed.
     Store,
     /// A block on the path isn't stored.

@@ -9,7 +9,7 @@ pub enum Status {
     Ok,
     /// 400: the request asks for nothing that can be read.
     BadRequest,
-    /// 404: the root isn't stored, or the path leads to nothing.
+    /// 404: the root isn't stored, or the path leads nowhere.
     NotFound,
     /// 405: the method is neither `GET` nor `HEAD`.
     MethodNotAllowed,

@@ -66,14 +66,6 @@ pub returns-clause-no_root : goal.returns-clause-no_root
 unfolding trim_ows percent_decode bits base32 bytes_of_letters cid_answer names_of form_of_range param_of cid_text cid_of link_in node_of unix_of fields_of number_of span_of
 returns-clause-no_root c = ap (λ (d : List ℕ). not_found d (codes "NoRoot")) (decimal_digit 7 (omega arith))
 
-pub returns-clause-not_there : goal.returns-clause-not_there
-unfolding trim_ows percent_decode bits base32 bytes_of_letters cid_answer names_of form_of_range param_of cid_text cid_of link_in node_of unix_of fields_of number_of span_of
-returns-clause-not_there c = ap (λ (d : List ℕ). not_found d (codes "NotThere")) (decimal_digit 9 (omega arith))
-
-pub returns-clause-not_folder : goal.returns-clause-not_folder
-unfolding trim_ows percent_decode bits base32 bytes_of_letters cid_answer names_of form_of_range param_of cid_text cid_of link_in node_of unix_of fields_of number_of span_of
-returns-clause-not_folder c = ap (λ (d : List ℕ). not_found d (codes "NotFolder")) ten
-
 pub returns-clause-gone : goal.returns-clause-gone
 unfolding trim_ows percent_decode bits base32 bytes_of_letters cid_answer names_of form_of_range param_of cid_text cid_of link_in node_of unix_of fields_of number_of span_of
 returns-clause-gone c = ap (λ (d : List ℕ). server_error d (codes "Gone")) (decimal_digit 5 (omega arith))
