@@ -14,7 +14,7 @@ use Rattle.tg_model.specs.Traversal.{Place, Reach, Traversal, Visit, after_end, 
 use Rattle.tg_model.specs.declared.fault.BlockFault.{BlockFault}
 use Rattle.tg_model.specs.declared.kinds.Kind.{Kind}
 use Rattle.tg_murmur.specs.NameHash.{slot_of}
-use Rattle.tg_reply.specs.Cutting.{CutsBeforeDeeper, IsCutBefore, before_deeper}
+use Rattle.tg_reply.specs.Cutting.{CutsBeforeDeeper, IsCutBefore, IsGoneDeeper, before_deeper}
 
 module _ (most : ℕ) where
   abbrev Within : List Place → Type 0
@@ -25,7 +25,8 @@ module _ (most : ℕ) where
   Deeper [] = ⊥
   Deeper (p ∷ places) = (most < p.depth) ⊎ Deeper places
 
-  -- both come through, with the same places; or the cut one stops, and the other does or has a deeper place
+  -- both come through, with the same places; or the cut one stops, and the other does or has a deeper place: it stops alike,
+  -- or the cut one stops where a deeper block is wanted
   record Through (t u : Traversal) : Type 0 where
     cut : t.end ≡ whole
     full : u.end ≡ whole
@@ -37,6 +38,7 @@ module _ (most : ℕ) where
     cut : t.end ≡ stopped stop
     places : t.places ≡ before_deeper most u.places
     full : ((s : Stop) × (u.end ≡ stopped s)) ⊎ Deeper u.places
+    ends : (u.end ≡ stopped stop) ⊎ IsGoneDeeper most (stopped stop)
 
   abbrev Beside : Traversal → Traversal → Type 0
   Beside t u = Through t u ⊎ Stops t u
@@ -100,8 +102,13 @@ module _ (most : ℕ) where
         then_through a b h.cut ∙ ap₂ (λ (x y : List Place). x ++ y) h.places k.places ∙ sym (within_all u.places v.places h.within)
         ∙ ap (before_deeper most) (sym (then_through u v h.full));
     full = by_full k.full;
+    ends = by_ends k.ends;
   })
     where
+      by_ends : (v.end ≡ stopped k.stop) ⊎ IsGoneDeeper most (stopped k.stop) → ((and_then u v).end ≡ stopped k.stop) ⊎ IsGoneDeeper most (stopped k.stop)
+      by_ends (inl e) = inl (then_end u v h.full ∙ e)
+      by_ends (inr g) = inr g
+
       by_full : ((s : Stop) × (v.end ≡ stopped s)) ⊎ Deeper v.places → ((s : Stop) × ((and_then u v).end ≡ stopped s)) ⊎ Deeper (and_then u v).places
       by_full (inl e) = inl (e.0, then_end u v h.full ∙ e.1)
       by_full (inr d) = inr (subst Deeper (sym (then_through u v h.full)) (deeper_behind u.places v.places d))
@@ -109,6 +116,11 @@ module _ (most : ℕ) where
     where
       still : and_then a b ≡ a
       still = then_stops a b h.stop h.cut
+
+      -- the whole one that stops alike stops so whatever follows
+      by_ends : (u.end ≡ stopped h.stop) ⊎ IsGoneDeeper most (stopped h.stop) → ((and_then u v).end ≡ stopped h.stop) ⊎ IsGoneDeeper most (stopped h.stop)
+      by_ends (inl e) = inl (ap (λ (t : Traversal). t.end) (then_stops u v h.stop e) ∙ e)
+      by_ends (inr g) = inr g
 
       by_end : (e : TraversalEnd) → u.end ≡ e → Deeper u.places → Stops (and_then a b) (and_then u v)
       by_end whole e d = record {
@@ -118,12 +130,14 @@ module _ (most : ℕ) where
             ap (λ (t : Traversal). t.places) still ∙ h.places ∙ sym (deeper_stays u.places v.places d)
             ∙ ap (before_deeper most) (sym (then_through u v e));
         full = inr (subst Deeper (sym (then_through u v e)) (deeper_append u.places v.places d));
+        ends = by_ends h.ends;
       }
       by_end (stopped s) e d = record {
         stop = h.stop;
         cut = ap (λ (t : Traversal). t.end) still ∙ h.cut;
         places = ap (λ (t : Traversal). t.places) still ∙ h.places ∙ ap (λ (t : Traversal). before_deeper most t.places) (sym (then_stops u v s e));
         full = inl (s, ap (λ (t : Traversal). t.end) (then_stops u v s e) ∙ e);
+        ends = by_ends h.ends;
       }
 
       by_full : ((s : Stop) × (u.end ≡ stopped s)) ⊎ Deeper u.places → Stops (and_then a b) (and_then u v)
@@ -132,6 +146,7 @@ module _ (most : ℕ) where
         cut = ap (λ (t : Traversal). t.end) still ∙ h.cut;
         places = ap (λ (t : Traversal). t.places) still ∙ h.places ∙ ap (λ (t : Traversal). before_deeper most t.places) (sym (then_stops u v e.0 e.1));
         full = inl (e.0, ap (λ (t : Traversal). t.end) (then_stops u v e.0 e.1) ∙ e.1);
+        ends = by_ends h.ends;
       }
       by_full (inr d) = by_end u.end refl d
 
@@ -140,25 +155,31 @@ module _ (most : ℕ) where
   text_through : (text : List ℕ) → Beside (giving_text text) (giving_text text)
   text_through text = inl (record { cut = refl; full = refl; places = refl; within = All-nil (λ (p : Place). p.depth ≤ most) })
 
-  at_once : (s t : Stop) → Beside (ended s) (ended t)
-  at_once s t = inr (record { stop = s; cut = refl; places = refl; full = inl (t, refl) })
+  -- both stop at once, alike; or the cut one where a deeper block is wanted
+  at_once : (s : Stop) → Beside (ended s) (ended s)
+  at_once s = inr (record { stop = s; cut = refl; places = refl; full = inl (s, refl); ends = inl refl })
+
+  at_deeper : (s t : Stop) → IsGoneDeeper most (stopped s) → Beside (ended s) (ended t)
+  at_deeper s t g = inr (record { stop = s; cut = refl; places = refl; full = inl (t, refl); ends = inr g })
 
   place_within : (p : Place) (text : List ℕ) → p.depth ≤ most → Beside (giving_place p text) (giving_place p text)
   place_within p text h =
       inl (record { cut = refl; full = refl; places = refl; within = All-cons (λ (p : Place). p.depth ≤ most) p [] h (All-nil (λ (p : Place). p.depth ≤ most)) })
 
   -- a deeper place, and whatever follows it
-  place_deeper : (s : Stop) (p : Place) (text : List ℕ) (more : Traversal) → most < p.depth → Beside (ended s) (and_then (giving_place p text) more)
-  place_deeper s p text more h = inr (record { stop = s; cut = refl; places = sym (deeper_first p more.places h); full = inr (inl h) })
+  place_deeper : (s : Stop) (p : Place) (text : List ℕ) (more : Traversal) → IsGoneDeeper most (stopped s) → most < p.depth
+      → Beside (ended s) (and_then (giving_place p text) more)
+  place_deeper s p text more g h =
+      inr (record { stop = s; cut = refl; places = sym (deeper_first p more.places h); full = inr (inl h); ends = inr g })
 
   unless_both : (spot : Spot) (fault : Option BlockFault) (t u : Traversal) → Beside t u → Beside (unless_bad spot fault t) (unless_bad spot fault u)
   unless_both spot None t u h = h
-  unless_both spot (Some fault) t u h = at_once (bad_block spot fault) (bad_block spot fault)
+  unless_both spot (Some fault) t u h = at_once (bad_block spot fault)
 
-  unless_deeper : (s : Stop) (spot : Spot) (fault : Option BlockFault) (p : Place) (text : List ℕ) (more : Traversal) → most < p.depth
+  unless_deeper : (s : Stop) (spot : Spot) (fault : Option BlockFault) (p : Place) (text : List ℕ) (more : Traversal) → IsGoneDeeper most (stopped s) → most < p.depth
       → Beside (ended s) (unless_bad spot fault (and_then (giving_place p text) more))
-  unless_deeper s spot None p text more h = place_deeper s p text more h
-  unless_deeper s spot (Some fault) p text more h = at_once s (bad_block spot fault)
+  unless_deeper s spot None p text more g h = place_deeper s p text more g h
+  unless_deeper s spot (Some fault) p text more g h = at_deeper s (bad_block spot fault) g
 
   entries_through : (visit : Visit) → Beside (giving_entries visit.met) (giving_entries visit.met)
   entries_through visit = inl (record { cut = refl; full = refl; places = refl; within = All-nil (λ (p : Place). p.depth ≤ most) })
@@ -181,27 +202,27 @@ module _ (most : ℕ) where
 
   -- a bare block stops, opened or not
   bare_traversed : (reach : Reach) (position : Position) (depth : ℕ) (section : Section) (fault : Option BlockFault) (d : Dag)
-      → (d ≡ unopened section.cid) ⊎ (d ≡ bare section fault) → Beside (traverse reach position depth d) (traverse reach position depth (bare section fault))
-  bare_traversed reach position depth section None d (inl e) =
+      → ((most < depth) × (d ≡ unopened section.cid)) ⊎ (d ≡ bare section fault) → Beside (traverse reach position depth d) (traverse reach position depth (bare section fault))
+  bare_traversed reach position depth section None d (inl (h, e)) =
       subst (λ (x : Dag). Beside (traverse reach position depth x) (traverse reach position depth (bare section None))) (sym e)
-      (at_once (gone (spot_at section.cid depth position)) (gone (spot_at section.cid depth position)))
+      (at_once (gone (spot_at section.cid depth position)))
   bare_traversed reach position depth section None d (inr e) =
       subst (λ (x : Dag). Beside (traverse reach position depth x) (traverse reach position depth (bare section None))) (sym e)
-      (at_once (gone (spot_at section.cid depth position)) (gone (spot_at section.cid depth position)))
-  bare_traversed reach position depth section (Some fault) d (inl e) =
+      (at_once (gone (spot_at section.cid depth position)))
+  bare_traversed reach position depth section (Some fault) d (inl (h, e)) =
       subst (λ (x : Dag). Beside (traverse reach position depth x) (traverse reach position depth (bare section (Some fault)))) (sym e)
-      (at_once (gone (spot_at section.cid depth position)) (bad_block (spot_at section.cid depth position) fault))
+      (at_deeper (gone (spot_at section.cid depth position)) (bad_block (spot_at section.cid depth position) fault) h)
   bare_traversed reach position depth section (Some fault) d (inr e) =
       subst (λ (x : Dag). Beside (traverse reach position depth x) (traverse reach position depth (bare section (Some fault)))) (sym e)
-      (at_once (bad_block (spot_at section.cid depth position) fault) (bad_block (spot_at section.cid depth position) fault))
+      (at_once (bad_block (spot_at section.cid depth position) fault))
 
   told_bare : (depth : ℕ) (section : Section) (fault : Option BlockFault)
-      → (down_to most depth (bare section fault) ≡ unopened section.cid) ⊎ (down_to most depth (bare section fault) ≡ bare section fault)
+      → ((most < depth) × (down_to most depth (bare section fault) ≡ unopened section.cid)) ⊎ (down_to most depth (bare section fault) ≡ bare section fault)
   told_bare depth section fault = by_depth (cases_lt most depth)
     where
       by_depth : (most < depth) ⊎ (depth ≤ most)
-          → (down_to most depth (bare section fault) ≡ unopened section.cid) ⊎ (down_to most depth (bare section fault) ≡ bare section fault)
-      by_depth (inl h) = inl (deeper_bare depth section fault h)
+          → ((most < depth) × (down_to most depth (bare section fault) ≡ unopened section.cid)) ⊎ (down_to most depth (bare section fault) ≡ bare section fault)
+      by_depth (inl h) = inl (h, deeper_bare depth section fault h)
       by_depth (inr h) = inr (within_bare depth section fault h)
 
   visited_both : (depth : ℕ) (d : Dag) (into : Option (Reach × Position))
@@ -216,7 +237,7 @@ module _ (most : ℕ) where
   by_depth reach position depth section kind children (inl h) below =
       subst (λ (x : Dag). Beside (traverse reach position depth x) (traverse reach position depth (node section kind children))) (sym (deeper_node depth section kind children h))
       (unless_deeper (gone (spot_at section.cid depth position)) (spot_at section.cid depth position) (position_fault position kind) (record { section = section; depth = depth })
-      (text_before reach position section kind) (and_then (traverse_children (visits reach position kind) (depth + 1) children) (giving_text (text_behind reach kind))) h)
+      (text_before reach position section kind) (and_then (traverse_children (visits reach position kind) (depth + 1) children) (giving_text (text_behind reach kind))) h h)
   by_depth reach position depth section kind children (inr h) below =
       let first = giving_place (record { section = section; depth = depth }) (text_before reach position section kind) in
       let cut = traverse_children (visits reach position kind) (depth + 1) (children_down_to most (depth + 1) children) in
@@ -229,7 +250,7 @@ module _ (most : ℕ) where
 
   mutual
     traversed : (reach : Reach) (position : Position) (depth : ℕ) (d : Dag) → Beside (traverse reach position depth (down_to most depth d)) (traverse reach position depth d)
-    traversed reach position depth (unopened cid) = at_once (gone (spot_at cid depth position)) (gone (spot_at cid depth position))
+    traversed reach position depth (unopened cid) = at_once (gone (spot_at cid depth position))
     traversed reach position depth (bare section fault) =
         bare_traversed reach position depth section fault (down_to most depth (bare section fault)) (told_bare depth section fault)
     traversed reach position depth (node section kind children) =
@@ -251,12 +272,14 @@ module _ (most : ℕ) where
 
   -- ---- the terminal
 
-  any_stop : (s t : Stop) (u : Traversal) → Beside (ended s) u → Beside (ended t) u
-  any_stop s t u (inl h) = let none : stopped s ≡ whole = h.cut in absurd cc
-  any_stop s t u (inr h) = inr (record { stop = t; cut = refl; places = h.places; full = h.full })
+  -- beside what stops at once another may stand that stops where a deeper block is wanted
+  any_stop : (s t : Stop) (u : Traversal) → IsGoneDeeper most (stopped t) → Beside (ended s) u → Beside (ended t) u
+  any_stop s t u g (inl h) = let none : stopped s ≡ whole = h.cut in absurd cc
+  any_stop s t u g (inr h) = inr (record { stop = t; cut = refl; places = h.places; full = h.full; ends = inr g })
 
-  alone_deeper : (s : Stop) (p : Place) (text : List ℕ) → most < p.depth → Beside (ended s) (giving_place p text)
-  alone_deeper s p text h = inr (record { stop = s; cut = refl; places = sym (deeper_first p [] h); full = inr (inl h) })
+  alone_deeper : (s : Stop) (p : Place) (text : List ℕ) → IsGoneDeeper most (stopped s) → most < p.depth → Beside (ended s) (giving_place p text)
+  alone_deeper s p text g h =
+      inr (record { stop = s; cut = refl; places = sym (deeper_first p [] h); full = inr (inl h); ends = inr g })
 
   bare_terminal : (scope : Scope) (span : Option SpanParts) (depth : ℕ) (section : Section) (fault : Option BlockFault) → depth ≤ most
       → Beside (at_terminal scope span depth (bare section fault)) (at_terminal scope span depth (bare section fault))
@@ -264,13 +287,13 @@ module _ (most : ℕ) where
   bare_terminal scopes.Entity span depth section fault h = bare_traversed entire top depth section fault (bare section fault) (inr refl)
   bare_terminal scopes.All span depth section fault h = bare_traversed entire top depth section fault (bare section fault) (inr refl)
 
-  bare_terminal_deeper : (scope : Scope) (span : Option SpanParts) (depth : ℕ) (section : Section) (fault : Option BlockFault) (s : Stop) → most < depth
+  bare_terminal_deeper : (scope : Scope) (span : Option SpanParts) (depth : ℕ) (section : Section) (fault : Option BlockFault) (s : Stop) → IsGoneDeeper most (stopped s) → most < depth
       → Beside (ended s) (at_terminal scope span depth (bare section fault))
-  bare_terminal_deeper scopes.Block span depth section fault s h = alone_deeper s (record { section = section; depth = depth }) section.block h
-  bare_terminal_deeper scopes.Entity span depth section fault s h =
-      any_stop (gone (spot_at section.cid depth top)) s (traverse entire top depth (bare section fault)) (bare_traversed entire top depth section fault (unopened section.cid) (inl refl))
-  bare_terminal_deeper scopes.All span depth section fault s h =
-      any_stop (gone (spot_at section.cid depth top)) s (traverse entire top depth (bare section fault)) (bare_traversed entire top depth section fault (unopened section.cid) (inl refl))
+  bare_terminal_deeper scopes.Block span depth section fault s g h = alone_deeper s (record { section = section; depth = depth }) section.block g h
+  bare_terminal_deeper scopes.Entity span depth section fault s g h =
+      any_stop (gone (spot_at section.cid depth top)) s (traverse entire top depth (bare section fault)) g (bare_traversed entire top depth section fault (unopened section.cid) (inl (h, refl)))
+  bare_terminal_deeper scopes.All span depth section fault s g h =
+      any_stop (gone (spot_at section.cid depth top)) s (traverse entire top depth (bare section fault)) g (bare_traversed entire top depth section fault (unopened section.cid) (inl (h, refl)))
 
   node_reached : (reach : Reach) (depth : ℕ) (section : Section) (kind : Kind) (children : Children) → depth ≤ most
       → Beside (traverse reach top depth (node section kind (children_down_to most (depth + 1) children))) (traverse reach top depth (node section kind children))
@@ -284,18 +307,18 @@ module _ (most : ℕ) where
   node_terminal scopes.Entity span depth section kind children h = node_reached (entity_reach span section kind) depth section kind children h
   node_terminal scopes.All span depth section kind children h = node_reached (all_reach kind) depth section kind children h
 
-  node_missed : (reach : Reach) (depth : ℕ) (section : Section) (kind : Kind) (children : Children) (s : Stop) → most < depth
+  node_missed : (reach : Reach) (depth : ℕ) (section : Section) (kind : Kind) (children : Children) (s : Stop) → IsGoneDeeper most (stopped s) → most < depth
       → Beside (ended s) (traverse reach top depth (node section kind children))
-  node_missed reach depth section kind children s h =
-      any_stop (gone (spot_at section.cid depth top)) s (traverse reach top depth (node section kind children))
+  node_missed reach depth section kind children s g h =
+      any_stop (gone (spot_at section.cid depth top)) s (traverse reach top depth (node section kind children)) g
       (subst (λ (x : Dag). Beside (traverse reach top depth x) (traverse reach top depth (node section kind children))) (deeper_node depth section kind children h)
       (traversed reach top depth (node section kind children)))
 
-  node_terminal_deeper : (scope : Scope) (span : Option SpanParts) (depth : ℕ) (section : Section) (kind : Kind) (children : Children) (s : Stop) → most < depth
+  node_terminal_deeper : (scope : Scope) (span : Option SpanParts) (depth : ℕ) (section : Section) (kind : Kind) (children : Children) (s : Stop) → IsGoneDeeper most (stopped s) → most < depth
       → Beside (ended s) (at_terminal scope span depth (node section kind children))
-  node_terminal_deeper scopes.Block span depth section kind children s h = alone_deeper s (record { section = section; depth = depth }) section.block h
-  node_terminal_deeper scopes.Entity span depth section kind children s h = node_missed (entity_reach span section kind) depth section kind children s h
-  node_terminal_deeper scopes.All span depth section kind children s h = node_missed (all_reach kind) depth section kind children s h
+  node_terminal_deeper scopes.Block span depth section kind children s g h = alone_deeper s (record { section = section; depth = depth }) section.block g h
+  node_terminal_deeper scopes.Entity span depth section kind children s g h = node_missed (entity_reach span section kind) depth section kind children s g h
+  node_terminal_deeper scopes.All span depth section kind children s g h = node_missed (all_reach kind) depth section kind children s g h
 
   -- ---- the path
 
@@ -309,15 +332,22 @@ module _ (most : ℕ) where
   alike t t' u u' tp te up ue (inl h) =
       inl (record { cut = sym te ∙ h.cut; full = sym ue ∙ h.full; places = sym tp ∙ h.places ∙ up; within = subst Within up h.within })
   alike t t' u u' tp te up ue (inr h) =
-      inr (record { stop = h.stop; cut = sym te ∙ h.cut; places = sym tp ∙ h.places ∙ ap (before_deeper most) up; full = by_full h.full })
+      inr (record { stop = h.stop; cut = sym te ∙ h.cut; places = sym tp ∙ h.places ∙ ap (before_deeper most) up; full = by_full h.full; ends = by_ends h.ends })
     where
+      by_ends : (u.end ≡ stopped h.stop) ⊎ IsGoneDeeper most (stopped h.stop) → (u'.end ≡ stopped h.stop) ⊎ IsGoneDeeper most (stopped h.stop)
+      by_ends (inl e) = inl (sym ue ∙ e)
+      by_ends (inr g) = inr g
+
       by_full : ((s : Stop) × (u.end ≡ stopped s)) ⊎ Deeper u.places → ((s : Stop) × (u'.end ≡ stopped s)) ⊎ Deeper u'.places
       by_full (inl e) = inl (e.0, sym ue ∙ e.1)
       by_full (inr d) = inr (subst Deeper up d)
 
   module _ (scope : Scope) (span : Option SpanParts) where
-    both_stop : (depth : ℕ) (s t : Stop) → Beside (walked scope span depth (stopped_at s)) (walked scope span depth (stopped_at t))
-    both_stop depth s t = inr (record { stop = s; cut = refl; places = refl; full = inl (t, refl) })
+    both_stop : (depth : ℕ) (s : Stop) → Beside (walked scope span depth (stopped_at s)) (walked scope span depth (stopped_at s))
+    both_stop depth s = inr (record { stop = s; cut = refl; places = refl; full = inl (s, refl); ends = inl refl })
+
+    stop_deeper : (depth : ℕ) (s t : Stop) → IsGoneDeeper most (stopped s) → Beside (walked scope span depth (stopped_at s)) (walked scope span depth (stopped_at t))
+    stop_deeper depth s t g = inr (record { stop = s; cut = refl; places = refl; full = inl (t, refl); ends = inr g })
 
     -- a section before a walk is a place before it
     behind_places : (depth : ℕ) (section : Section) (walk : PathWalk)
@@ -344,18 +374,19 @@ module _ (most : ℕ) where
         → Beside (walked scope span (depth + 1) cut) (walked scope span (depth + 1) full)
         → Beside (walked scope span depth (unless_misfit section spot fault cut)) (walked scope span depth (unless_misfit section spot fault full))
     misfit_both depth section spot None cut full h below = behind_both depth section cut full h below
-    misfit_both depth section spot (Some fault) cut full h below = both_stop depth (bad_block spot fault) (bad_block spot fault)
+    misfit_both depth section spot (Some fault) cut full h below = both_stop depth (bad_block spot fault)
 
-    misfit_deeper : (depth : ℕ) (s : Stop) (section : Section) (spot : Spot) (fault : Option BlockFault) (full : PathWalk) → most < depth
+    misfit_deeper : (depth : ℕ) (s : Stop) (section : Section) (spot : Spot) (fault : Option BlockFault) (full : PathWalk) → IsGoneDeeper most (stopped s) → most < depth
         → Beside (walked scope span depth (stopped_at s)) (walked scope span depth (unless_misfit section spot fault full))
-    misfit_deeper depth s section spot (Some fault) full h = both_stop depth s (bad_block spot fault)
-    misfit_deeper depth s section spot None full h = inr (record {
+    misfit_deeper depth s section spot (Some fault) full g h = stop_deeper depth s (bad_block spot fault) g
+    misfit_deeper depth s section spot None full g h = inr (record {
       stop = s;
       cut = refl;
       places =
           sym (deeper_first (record { section = section; depth = depth }) (walked scope span (depth + 1) full).places h)
           ∙ ap (before_deeper most) (sym (behind_places depth section full));
       full = inr (subst Deeper (sym (behind_places depth section full)) (inl h));
+      ends = inr g;
     })
 
     -- a walk that is at its end
@@ -388,32 +419,32 @@ module _ (most : ℕ) where
     bare_at_end i position depth section fault (inl h) =
         subst (λ (x : Dag). BothWalks i position depth [] x (bare section fault)) (sym (deeper_bare depth section fault h))
         (stop_before depth (gone (spot_at section.cid depth position)) (bare section fault)
-        (bare_terminal_deeper scope span depth section fault (gone (spot_at section.cid depth position)) h))
+        (bare_terminal_deeper scope span depth section fault (gone (spot_at section.cid depth position)) h h))
     bare_at_end i position depth section fault (inr h) =
         subst (λ (x : Dag). BothWalks i position depth [] x (bare section fault)) (sym (within_bare depth section fault h))
         (both_end depth (bare section fault) (bare section fault) (bare_terminal scope span depth section fault h))
 
     bare_on_path : (i : ℕ) (position : Position) (depth : ℕ) (name : List ℕ) (path : List (List ℕ)) (section : Section) (fault : Option BlockFault) (d : Dag)
-        → (d ≡ unopened section.cid) ⊎ (d ≡ bare section fault) → BothWalks i position depth (name ∷ path) d (bare section fault)
-    bare_on_path i position depth name path section None d (inl e) =
+        → ((most < depth) × (d ≡ unopened section.cid)) ⊎ (d ≡ bare section fault) → BothWalks i position depth (name ∷ path) d (bare section fault)
+    bare_on_path i position depth name path section None d (inl (h, e)) =
         subst (λ (x : Dag). BothWalks i position depth (name ∷ path) x (bare section None)) (sym e)
-        (both_stop depth (gone (spot_at section.cid depth position)) (gone (spot_at section.cid depth position)))
+        (both_stop depth (gone (spot_at section.cid depth position)))
     bare_on_path i position depth name path section None d (inr e) =
         subst (λ (x : Dag). BothWalks i position depth (name ∷ path) x (bare section None)) (sym e)
-        (both_stop depth (gone (spot_at section.cid depth position)) (gone (spot_at section.cid depth position)))
-    bare_on_path i position depth name path section (Some fault) d (inl e) =
+        (both_stop depth (gone (spot_at section.cid depth position)))
+    bare_on_path i position depth name path section (Some fault) d (inl (h, e)) =
         subst (λ (x : Dag). BothWalks i position depth (name ∷ path) x (bare section (Some fault))) (sym e)
-        (both_stop depth (gone (spot_at section.cid depth position)) (bad_block (spot_at section.cid depth position) fault))
+        (stop_deeper depth (gone (spot_at section.cid depth position)) (bad_block (spot_at section.cid depth position) fault) h)
     bare_on_path i position depth name path section (Some fault) d (inr e) =
         subst (λ (x : Dag). BothWalks i position depth (name ∷ path) x (bare section (Some fault))) (sym e)
-        (both_stop depth (bad_block (spot_at section.cid depth position) fault) (bad_block (spot_at section.cid depth position) fault))
+        (both_stop depth (bad_block (spot_at section.cid depth position) fault))
 
     node_at_end : (i : ℕ) (position : Position) (depth : ℕ) (section : Section) (kind : Kind) (children : Children) → (most < depth) ⊎ (depth ≤ most)
         → BothWalks i position depth [] (down_to most depth (node section kind children)) (node section kind children)
     node_at_end i position depth section kind children (inl h) =
         subst (λ (x : Dag). BothWalks i position depth [] x (node section kind children)) (sym (deeper_node depth section kind children h))
         (stop_before depth (gone (spot_at section.cid depth position)) (node section kind children)
-        (node_terminal_deeper scope span depth section kind children (gone (spot_at section.cid depth position)) h))
+        (node_terminal_deeper scope span depth section kind children (gone (spot_at section.cid depth position)) h h))
     node_at_end i position depth section kind children (inr h) =
         subst (λ (x : Dag). BothWalks i position depth [] x (node section kind children)) (sym (within_node depth section kind children h))
         (both_end depth (node section kind (children_down_to most (depth + 1) children)) (node section kind children) (node_terminal scope span depth section kind children h))
@@ -433,8 +464,8 @@ module _ (most : ℕ) where
         (λ k. walk_child k i below (depth + 1) (name ∷ path) children) step))
     by_step i depth name path below children (to_entry k) inside = inside k (i + 1) top path
     by_step i depth name path below children (to_child k) inside = inside k i below (name ∷ path)
-    by_step i depth name path below children absent inside = both_stop (depth + 1) (not_there i) (not_there i)
-    by_step i depth name path below children not_folder_here inside = both_stop (depth + 1) (not_folder i) (not_folder i)
+    by_step i depth name path below children absent inside = both_stop (depth + 1) (not_there i)
+    by_step i depth name path below children not_folder_here inside = both_stop (depth + 1) (not_folder i)
 
     node_on_path : (i : ℕ) (position : Position) (depth : ℕ) (name : List ℕ) (path : List (List ℕ)) (section : Section) (kind : Kind) (children : Children)
         → (most < depth) ⊎ (depth ≤ most) → ((k j : ℕ) (position : Position) (rest : List (List ℕ)) → BothChildren k j position (depth + 1) rest children)
@@ -444,7 +475,7 @@ module _ (most : ℕ) where
         (misfit_deeper depth (gone (spot_at section.cid depth position)) section (spot_at section.cid depth position) (position_fault position kind)
         (walk_step i
         (λ k. walk_child k (i + 1) top (depth + 1) path children)
-        (λ k. walk_child k i (child_below position (slot_of name (length (passed position)))) (depth + 1) (name ∷ path) children) (step_of kind (length (passed position)) name)) h)
+        (λ k. walk_child k i (child_below position (slot_of name (length (passed position)))) (depth + 1) (name ∷ path) children) (step_of kind (length (passed position)) name)) h h)
     node_on_path i position depth name path section kind children (inr h) inside =
         let below = child_below position (slot_of name (length (passed position))) in
         let step = step_of kind (length (passed position)) name in
@@ -458,8 +489,8 @@ module _ (most : ℕ) where
 
     mutual
       walks : (i : ℕ) (position : Position) (depth : ℕ) (path : List (List ℕ)) (d : Dag) → BothWalks i position depth path (down_to most depth d) d
-      walks i position depth [] (unopened cid) = both_stop depth (gone (spot_at cid depth position)) (gone (spot_at cid depth position))
-      walks i position depth (name ∷ path) (unopened cid) = both_stop depth (gone (spot_at cid depth position)) (gone (spot_at cid depth position))
+      walks i position depth [] (unopened cid) = both_stop depth (gone (spot_at cid depth position))
+      walks i position depth (name ∷ path) (unopened cid) = both_stop depth (gone (spot_at cid depth position))
       walks i position depth [] (bare section fault) = bare_at_end i position depth section fault (cases_lt most depth)
       walks i position depth (name ∷ path) (bare section fault) =
           bare_on_path i position depth name path section fault (down_to most depth (bare section fault)) (told_bare depth section fault)
@@ -468,7 +499,7 @@ module _ (most : ℕ) where
           node_on_path i position depth name path section kind children (cases_lt most depth) (λ k j position rest. children_walks k j position (depth + 1) rest children)
 
       children_walks : (k i : ℕ) (position : Position) (depth : ℕ) (path : List (List ℕ)) (children : Children) → BothChildren k i position depth path children
-      children_walks k i position depth path no_child = both_stop depth (not_there i) (not_there i)
+      children_walks k i position depth path no_child = both_stop depth (not_there i)
       children_walks zero i position depth path (with_child d children) = walks i position depth path d
       children_walks (suc k) i position depth path (with_child d children) = children_walks k i position depth path children
 
@@ -484,12 +515,17 @@ module _ (most : ℕ) where
   no_stop s e = cc
 
   is_cut_before : (t u : Traversal) → Beside t u → IsCutBefore most t u
-  is_cut_before t u (inl h) = record { places = h.places ∙ sym (within_same u.places h.within); through = (λ e. (h.full, h.within), λ e. h.cut) }
+  is_cut_before t u (inl h) = record { places = h.places ∙ sym (within_same u.places h.within); through = (λ e. (h.full, h.within), λ e. h.cut); ends = inl (h.cut ∙ sym h.full) }
   is_cut_before t u (inr h) = record {
     places = h.places;
     through = (λ e. absurd (no_stop h.stop (sym h.cut ∙ e)), λ e. absurd (by_full h.full e.0 e.1));
+    ends = by_ends h.ends;
   }
     where
+      by_ends : (u.end ≡ stopped h.stop) ⊎ IsGoneDeeper most (stopped h.stop) → (t.end ≡ u.end) ⊎ IsGoneDeeper most t.end
+      by_ends (inl e) = inl (h.cut ∙ sym e)
+      by_ends (inr g) = inr (subst (IsGoneDeeper most) (sym h.cut) g)
+
       by_full : ((s : Stop) × (u.end ≡ stopped s)) ⊎ Deeper u.places → u.end ≡ whole → Within u.places → ⊥
       by_full (inl s) e w = no_stop s.0 (sym s.1 ∙ e)
       by_full (inr d) e w = deeper_not_within u.places d w

@@ -85,7 +85,8 @@ pub fn replies_read()
 }
 
 /// Of any DAG whose blocks below a depth are unopened the traversal gives the places of the whole one before the first
-/// that is deeper, and comes through exactly where the whole one does and no place is deeper.
+/// that is deeper, and comes through exactly where the whole one does and no place is deeper. It ends as the whole one
+/// does, or where a deeper block is wanted.
 ///
 /// Trustless Gateway specification, dag-scope.
 pub fn cut_places()
