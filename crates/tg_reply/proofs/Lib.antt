@@ -18,3 +18,4 @@ mod AskedQueries
 mod AskedReplies
 mod Readings
 mod Cutting
+mod RawQueries

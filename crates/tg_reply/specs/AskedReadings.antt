@@ -1,5 +1,5 @@
 -- What a reader makes of the replies to GET for what is asked, over a store of bytes.
-use Rattle.std.specs.Prelude.{All, List, Ok, Some, codes, false, if◌then◌else◌, length, ℕ, ◌<◌, ◌==◌, ◌≡◌, ◌≤◌}
+use Rattle.std.specs.Prelude.{All, List, Ok, Some, [], codes, false, if◌then◌else◌, length, ℕ, ◌<◌, ◌==◌, ◌≡◌, ◌≤◌}
 use Rattle.tg_bytes.specs.Lists.{joined}
 use Rattle.tg_cid.specs.Cid.{CidParts}
 use Rattle.tg_cid.specs.Spelling.{CidBytes}
@@ -39,6 +39,10 @@ pub record IsSpelledQuery (q : QueryParts) : Type 0 where
 abbrev pub AskedSpells : Type 0
 AskedSpells =
     (head : RequestHead) (q : QueryParts) → All (λ b. b < 256) head.target → asked head ≡ Ok q → IsSpelledQuery q
+
+-- and one for a raw block has no path
+abbrev pub AskedRawHasNoPath : Type 0
+AskedRawHasNoPath = (head : RequestHead) (q : QueryParts) → asked head ≡ Ok q → q.form ≡ forms.Raw → q.path ≡ []
 
 -- the target of a request is bytes
 abbrev pub TargetsAreBytes : Type 0

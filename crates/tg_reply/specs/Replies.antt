@@ -1,7 +1,7 @@
 -- The reply of a gateway over a store to the head of a request (Path Gateway and Trustless Gateway specifications; RFC
 -- 9110, sections 9 and 15; RFC 9112, sections 6, 7 and 9).
 use Rattle.std.specs.Prelude.{Bool, Err, List, None, Ok, Option, Result, Some, [], false, if◌then◌else◌, length, not}
-use Rattle.std.specs.Prelude.{true, ℕ, ◌&&◌, ◌++◌, ◌==◌, ◌||◌}
+use Rattle.std.specs.Prelude.{true, ℕ, ◌&&◌, ◌++◌, ◌==◌, ◌||◌, ◌≡◌, ◌⊎◌}
 use Rattle.tg_bytes.specs.Lists.{joined}
 use Rattle.tg_cid.specs.Cid.{CidParts}
 use Rattle.tg_http.specs.declared.request.RequestHead.{RequestHead}
@@ -100,6 +100,10 @@ car_reply head found q sections cut =
     }
 
 -- ---- the reply
+
+-- a path that stopped so leads nowhere
+abbrev pub LeadsNowhere : Stop → Type 0
+LeadsNowhere stop = ((i : ℕ) × (stop ≡ not_there i)) ⊎ ((i : ℕ) × (stop ≡ not_folder i))
 
 -- to a query whose path leads to a terminal
 abbrev pub found_reply : Store → RequestHead → QueryParts → Dag → Form → Reply

@@ -15,6 +15,11 @@ pub record BeginsRequest (bytes : List ℕ) (head : RequestHead) (rest : List �
   pub told : TellsRequest tree (length text) head
   pub whole : bytes ≡ text ++ rest
 
+-- at most one request stands at the front of bytes
+abbrev pub OneRequest : Type 0
+OneRequest = (bytes rest behind : List ℕ) (head other : RequestHead) → BeginsRequest bytes head rest → BeginsRequest bytes other behind
+    → (head ≡ other) × (rest ≡ behind)
+
 -- What is written for the bytes: the replies to their heads in order, up to the first that closes, or to bytes that are
 -- no head.
 pub data Replies (store : Store) : List ℕ → List ℕ → Type 0 where

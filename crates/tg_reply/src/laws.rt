@@ -6,7 +6,7 @@ ghost use Rattle.tg_http.specs.declared.request.RequestHead.{RequestHead};
 ghost use Rattle.tg_model.specs.Queries.{QueryParts};
 ghost use Rattle.tg_path.specs.declared.fault.QueryFault.{QueryFault};
 ghost use Rattle.tg_reply.specs.Asked.{asked};
-ghost use Rattle.tg_reply.specs.AskedReadings.{AskedRepliesRead, AskedSpells, SentSpelled, TargetsAreBytes};
+ghost use Rattle.tg_reply.specs.AskedReadings.{AskedRawHasNoPath, AskedRepliesRead, AskedSpells, SentSpelled, TargetsAreBytes};
 ghost use Rattle.tg_reply.specs.Bodies.{CarsInParts, CutGoesOn, WholeInChunks, WholeInLength, WholeUntilClose};
 ghost use Rattle.tg_reply.specs.Cutting.{CutsBeforeDeeper};
 ghost use Rattle.tg_reply.specs.Heads.{asked_path};
@@ -108,6 +108,13 @@ pub fn asked_queries()
 {
     tg_query::laws::targets_read();
 }
+
+/// A query for a raw block that is asked has no path.
+///
+/// Trustless Gateway specification, response types.
+pub fn raw_queries()
+    ensures { AskedRawHasNoPath }
+{}
 
 /// The sections that a store of bytes gives for a query whose root is spelled are spelled: each is the root's, or its
 /// CID was read from a link, and its block is stored under it.
