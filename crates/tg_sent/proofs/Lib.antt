@@ -1,0 +1,10 @@
+mod OneHead
+mod Joins
+mod OneReply
+mod Begins
+mod AsReplies
+mod Sessions
+mod Numbers
+mod OpenedSections
+mod Shaped
+mod Worked

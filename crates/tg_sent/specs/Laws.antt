@@ -1,0 +1,94 @@
+-- Laws of what a session has sent.
+use Rattle.std.specs.Prelude.{List, false, length, map, take, true, ℕ, ◌+◌, ◌++◌, ◌≡◌, ◌≤◌, ◌⊎◌}
+use Rattle.tg_faults.specs.Faults.{Rose}
+use Rattle.tg_model.specs.Stores.{IsStore, Store}
+use Rattle.tg_reply.specs.Streams.{Replies}
+use Rattle.tg_reply.specs.Written.{replies_for}
+use Rattle.tg_sent.specs.Sent.{CountsBetween, Sent, SentAll, SentInFull, broken_in, closed_by, failed_in, happening_of, sent_bytes}
+use Rattle.tg_sent.specs.Sessions.{IsFrontOfSent, SessionState, StandsFor, WentOn}
+use Rattle.tg_sent.specs.Shapes.{ShapedAll}
+
+-- ---- what is sent is one
+
+-- it is determined by the bytes and by what happened at each request
+abbrev pub SentIsDetermined : Type 0
+SentIsDetermined = (store : Store) (bytes rest behind : List ℕ) (sent other : List Sent) → SentAll store bytes sent rest
+    → SentAll store bytes other behind → map happening_of sent ≡ map happening_of other
+    → (sent ≡ other) × (rest ≡ behind)
+
+-- where the store doesn't break off the replies are those of the definition of replies, and one writing
+abbrev pub SentAsReplies : Type 0
+SentAsReplies = (store : Store) (bytes rest : List ℕ) (sent : List Sent) → SentInFull store bytes sent rest → failed_in sent ≡ 0
+    → Replies store bytes (sent_bytes sent) × (sent_bytes sent ≡ replies_for store bytes)
+
+-- and there are such, whatever the store's count is
+abbrev pub SomeSent : Type 0
+SomeSent = (store : Store) (bytes : List ℕ) (before : ℕ) → (sent : List Sent) × (rest : List ℕ)
+    × SentInFull store bytes sent rest × (failed_in sent ≡ 0) × CountsBetween before sent before
+
+-- ---- bytes that go on
+
+-- what was sent for a front, and for the bytes behind it with a piece, is sent for both
+abbrev pub SentJoins : Type 0
+SentJoins = (store : Store) (fed piece rest behind : List ℕ) (sent more : List Sent) → SentAll store fed sent rest
+    → closed_by sent ≡ false → SentAll store (rest ++ piece) more behind → SentAll store (fed ++ piece) (sent ++ more) behind
+
+-- behind a close nothing more is sent
+abbrev pub SentStays : Type 0
+SentStays = (store : Store) (fed piece rest : List ℕ) (sent : List Sent) → SentAll store fed sent rest → closed_by sent ≡ true
+    → SentAll store (fed ++ piece) sent rest
+
+-- what was sent for bytes, whatever happened, can be gone on with
+abbrev pub SentExtends : Type 0
+SentExtends = (store : Store) (fed piece rest : List ℕ) (sent : List Sent) → SentAll store fed sent rest
+    → (more : List Sent) × (behind : List ℕ) × SentInFull store (fed ++ piece) (sent ++ more) behind
+
+-- what is sent for bytes that go on begins with what was sent for these, where the same happened at the requests in these;
+-- and what more is sent is sent for the bytes behind these and the piece, where the connection is open
+abbrev pub SentBegins : Type 0
+SentBegins = (store : Store) (fed piece rest behind : List ℕ) (sent other : List Sent) → SentAll store fed sent rest
+    → SentAll store (fed ++ piece) other behind
+    → map happening_of sent ≡ map happening_of (take (length sent) other)
+    → (more : List Sent) × (other ≡ sent ++ more) × (sent_bytes other ≡ sent_bytes sent ++ sent_bytes more)
+    × (closed_by sent ≡ false → SentAll store (rest ++ piece) more behind)
+
+-- ---- numbers
+
+-- each reply is to at least one byte
+abbrev pub SentAreFew : Type 0
+SentAreFew = (store : Store) (fed rest : List ℕ) (sent : List Sent) → SentAll store fed sent rest → length sent + length rest ≤ length fed
+
+-- a reply at which the store broke off has status 500 or a body that was cut
+abbrev pub FailedAreBroken : Type 0
+FailedAreBroken = (store : Store) (fed rest : List ℕ) (sent : List Sent) → SentAll store fed sent rest → failed_in sent ≤ broken_in sent
+
+-- there are no more such replies than replies
+abbrev pub BrokenAreFew : Type 0
+BrokenAreFew = (sent : List Sent) → broken_in sent ≤ length sent
+
+-- the store broke off only where its count rose
+abbrev pub FailedAreCounted : Type 0
+FailedAreCounted = (store : Store) (fed rest : List ℕ) (sent : List Sent) (before now : ℕ) → SentAll store fed sent rest
+    → CountsBetween before sent now → (failed_in sent ≡ 0) ⊎ Rose before now
+
+-- ---- sessions
+
+abbrev pub SessionsGoOn : Type 0
+SessionsGoOn = (old new : SessionState) (store : Store) (fed piece : List ℕ) (sent more : List Sent) → StandsFor old store fed sent
+    → WentOn old new store piece more → StandsFor new store (fed ++ piece) (sent ++ more)
+
+abbrev pub SessionsStayClosed : Type 0
+SessionsStayClosed = (session : SessionState) (store : Store) (fed piece : List ℕ) (sent : List Sent) → StandsFor session store fed sent
+    → session.closed ≡ true → StandsFor session store (fed ++ piece) sent
+
+-- where an open session was broken off, a front of what is sent was written
+abbrev pub BrokenIsFront : Type 0
+BrokenIsFront = (session : SessionState) (store : Store) (fed piece behind : List ℕ) (sent more : List Sent) (count : ℕ)
+    → StandsFor session store fed sent → session.closed ≡ false → SentAll store (session.kept ++ piece) more behind
+    → IsFrontOfSent store (fed ++ piece) (sent_bytes sent ++ take count (sent_bytes more))
+
+-- ---- stores that tell nothing
+
+-- what is sent over a store that tells its blocks has the shape of what is sent over one that tells nothing
+abbrev pub SentIsShaped : Type 0
+SentIsShaped = (store : Store) (fed rest : List ℕ) (sent : List Sent) → IsStore store → SentAll store fed sent rest → ShapedAll fed sent rest

@@ -1,0 +1,5 @@
+pub mod Sent
+pub mod Sessions
+pub mod Shapes
+pub mod Laws
+pub mod Examples

@@ -1,0 +1,83 @@
+//! What a session has sent for the bytes that it was fed, reply by reply, and its laws, each the contract of a function
+//! that does nothing.
+#![tactic(auto)]
+
+mod examples;
+
+ghost use Rattle.tg_sent.specs.Laws.{BrokenAreFew, BrokenIsFront, FailedAreBroken, FailedAreCounted, SentAreFew, SentAsReplies};
+ghost use Rattle.tg_sent.specs.Laws.{SentBegins, SentExtends, SentIsDetermined, SentIsShaped, SentJoins, SentStays};
+ghost use Rattle.tg_sent.specs.Laws.{SessionsGoOn, SessionsStayClosed, SomeSent};
+
+pub use examples::sent_examples;
+
+/// What is sent is determined by the bytes and by what happened at each request; where the store doesn't break off it is
+/// what the definition of replies says of the bytes, and there is such for any bytes.
+///
+/// RFC 9112, sections 2.2 and 9.3.
+pub fn sent_is_determined()
+    ensures determined { SentIsDetermined }
+    ensures replies { SentAsReplies }
+    ensures some { SomeSent }
+{
+    tg_http::laws::longer_bytes();
+    tg_reply::first_heads();
+    tg_reply::one_request();
+    tg_reply::one_writing();
+}
+
+/// What was sent for a front, and for the rest and what follows, is sent for both; behind a close nothing is sent.
+///
+/// RFC 9112, sections 2.2 and 9.3.
+pub fn sent_joins()
+    ensures joins { SentJoins }
+    ensures stays { SentStays }
+{
+    tg_http::laws::longer_bytes();
+}
+
+/// What was sent can be gone on with, and what is sent for bytes that go on begins with what was sent for these, where
+/// the same happened at the requests in these: so it doesn't matter how the bytes are cut.
+///
+/// RFC 9112, sections 2.2 and 9.3.
+pub fn sent_begins()
+    ensures extends { SentExtends }
+    ensures begins { SentBegins }
+{
+    tg_http::laws::longer_bytes();
+    tg_reply::first_heads();
+    tg_reply::one_request();
+}
+
+/// There are no more replies than bytes; a reply at which the store broke off has status 500 or a body that was cut, and
+/// the store counted it.
+///
+/// RFC 9112, section 9.3.
+pub fn numbers_of_sent()
+    ensures few { SentAreFew }
+    ensures broken { FailedAreBroken }
+    ensures broken_few { BrokenAreFew }
+    ensures counted { FailedAreCounted }
+{}
+
+/// A session that stands for what was sent goes on to stand for it and for what it sent besides; a closed one stands for
+/// the same whatever comes; and where one is broken off a front of what is sent was written.
+///
+/// RFC 9112, section 9.3.
+pub fn sessions_go_on()
+    ensures go_on { SessionsGoOn }
+    ensures closed { SessionsStayClosed }
+    ensures front { BrokenIsFront }
+{
+    tg_http::laws::longer_bytes();
+}
+
+/// What is sent over a store that tells its blocks has the shape of what is sent over one that tells nothing.
+///
+/// RFC 9112, section 9.3; Trustless Gateway specification.
+pub fn sent_is_shaped()
+    ensures { SentIsShaped }
+{
+    tg_reply::request_targets();
+    tg_reply::asked_queries();
+    tg_reply::raw_queries();
+}
