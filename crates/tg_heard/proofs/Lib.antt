@@ -1,0 +1,10 @@
+mod Framings
+mod Heads
+mod Carrying
+mod Cutting
+mod Refusing
+mod Asked
+mod Single
+mod ChunkFronts
+mod BodiesSoFar
+mod Receiving

@@ -1,0 +1,5 @@
+pub mod FinalHeads
+pub mod Carried
+pub mod Got
+pub mod Laws
+pub mod GotLaws

@@ -1,0 +1,63 @@
+//! What a client hears of a gateway: interim heads and the final one, and the sections that a reply carries for a query.
+//! Each law is the contract of a function that does nothing.
+#![tactic(auto)]
+
+ghost use Rattle.tg_heard.specs.GotLaws.{CarriedIsGot, GotFronts, OneGot};
+ghost use Rattle.tg_heard.specs.Laws.{AskedAbsencesCarry, AskedAnswersCarry, CarsCarry, CutsCarryNothing, NotBoth};
+ghost use Rattle.tg_heard.specs.Laws.{OneCarried, OneCarriedBy, OneFinalHead, RawsCarry, RefusalsCarryNothing};
+
+/// What is heard of a reply is one: its final head, also when more bytes come, and the sections that it carries for a
+/// query; and it is no answer and no absence at once.
+///
+/// RFC 9112, sections 2 to 7; CARv1 specification.
+pub fn heard_is_one()
+    ensures head { OneFinalHead }
+    ensures carried { OneCarried }
+    ensures carried_by { OneCarriedBy }
+    ensures not_both { NotBoth }
+{
+    tg_http::laws::longer_bytes();
+    tg_body::laws::body_laws();
+    tg_car::laws::car_laws();
+}
+
+/// A reply to `GET` with blocks carries its sections for the query, as the answer or as an absence; one that is cut
+/// carries nothing, and so does a refusal.
+///
+/// RFC 9112, sections 4 to 7; CARv1 specification; Trustless Gateway specification, response types.
+pub fn replies_carry()
+    ensures car { CarsCarry }
+    ensures raw { RawsCarry }
+    ensures cut { CutsCarryNothing }
+    ensures refusals { RefusalsCarryNothing }
+{
+    tg_reply::replies_read();
+    tg_reply::reply_bodies();
+    tg_body::laws::body_laws();
+    tg_http::laws::longer_bytes();
+}
+
+/// The reply to `GET` for a query that is asked, over a store of bytes, carries the sections of the query: of a path
+/// that leads to a terminal the answer's, and of one that leads nowhere those that show it.
+///
+/// RFC 9112, sections 4 to 7; CARv1 specification; Trustless Gateway specification, response types.
+pub fn asked_replies_carry()
+    ensures answers { AskedAnswersCarry }
+    ensures absences { AskedAbsencesCarry }
+{
+    tg_reply::asked_replies_read();
+}
+
+/// The sections received so far of a reply are one list, of a front of what was heard a front of it, and those that
+/// a reply carries where its blocks are within the limit.
+///
+/// RFC 9112, sections 6 and 7; CARv1 specification, Data.
+pub fn received_so_far()
+    ensures one { OneGot }
+    ensures fronts { GotFronts }
+    ensures carried { CarriedIsGot }
+{
+    tg_http::laws::longer_bytes();
+    tg_body::laws::body_laws();
+    tg_client::laws::received_sections();
+}
