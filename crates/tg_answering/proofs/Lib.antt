@@ -1,0 +1,3 @@
+mod OwnReplies
+mod PathsCut
+mod SentFronts

@@ -1,0 +1,2 @@
+pub mod WalksSend
+pub mod OwnReplies
