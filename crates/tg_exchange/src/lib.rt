@@ -1,0 +1,45 @@
+//! A client's request for a query and a gateway's reply to it: what is read of the one, and what the other carries over a
+//! store that holds the blocks of a sound DAG. Each law is the contract of a function that does nothing.
+#![tactic(auto)]
+
+ghost use Rattle.tg_exchange.specs.Exchanges.{AnswerableIsAnswered, HeldHaveOneBlock, OwnRepliesCarry, OwnReply, PrintedIsRead};
+
+/// The request that is printed for a query is read, whatever follows it, as a head that asks for the query by `GET` of
+/// HTTP/1.1 and for a close, and as nothing else.
+///
+/// RFC 9112, sections 2 to 6 and 9.3; Trustless Gateway specification.
+pub fn own_requests()
+    ensures { PrintedIsRead }
+{
+    tg_query::laws::printed_requests();
+    tg_reply::first_heads();
+    tg_http::laws::longer_bytes();
+}
+
+/// Over a store that holds the blocks of a sound DAG, no two different ones stand under one CID, and the reply is the
+/// DAG's own.
+///
+/// Path Gateway and Trustless Gateway specifications.
+pub fn own_replies()
+    ensures one_block { HeldHaveOneBlock }
+    ensures reply { OwnReply }
+{
+    tg_answering::own_replies();
+    tg_model_laws::paths();
+}
+
+/// What a gateway writes for the printed request of a query over such a store, within the limits, carries the sections of
+/// the DAG's own traversal: as the answer, or where the path leads nowhere as an absence.
+///
+/// RFC 9112, sections 4 to 7; CARv1 specification; Trustless Gateway specification, response types.
+pub fn own_replies_carry()
+    ensures carry { OwnRepliesCarry }
+    ensures answerable { AnswerableIsAnswered }
+{
+    own_requests();
+    own_replies();
+    tg_answering::own_replies();
+    tg_heard::replies_carry();
+    tg_reply::sent_sections();
+    tg_reply::one_writing();
+}
