@@ -1,7 +1,10 @@
-//! The tests of `tg_streams` and `tg_links`: sources and sinks over memory and over real streams, over readers and
-//! writers that are interrupted or tell their bytes, a two-way stream, and links in memory.
+//! The tests of `tg_streams`, `tg_links` and `tg_doors`: sources and sinks over memory and over real streams, over readers and
+//! writers that are interrupted or tell their bytes, a two-way stream, and links and
+//! doors in memory.
 #![tactic(auto)]
 
+#[cfg(test)]
+mod doors;
 #[cfg(test)]
 mod interrupted;
 #[cfg(test)]

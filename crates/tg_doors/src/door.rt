@@ -1,0 +1,39 @@
+//! Doors through which links come.
+ghost use Rattle.tg_doors.specs.Doors.{DoorMeaning, IsAdmitted, IsBound, IsDone, KeepsComing, KeepsPort, KeepsServed, KeepsShut};
+ghost use Rattle.tg_doors.specs.Doors.{at_door, given_link, view_of};
+
+use tg_faults::Failed;
+use tg_links::Link;
+
+/// A door through which links to peers come one after another.
+///
+/// Its meaning is one record: `coming` is what each peer will say whose link is to come, or `None` where that isn't
+/// told; `served` is what went through the links that were given back, or `None`; `port` is what the last `bind` that
+/// succeeded gave; `shut` says that the last `admit` since then gave no link; `faults` counts the calls that failed and
+/// the links that were given back with a fault of their own, and stands still at 2 ^ 64 - 1.
+pub trait Door {
+    type Link: Link;
+
+    ghost door: { DoorMeaning Self };
+
+    /// Binds the door to a port of this machine, where 0 asks for one that is free, and says to which. The error is a
+    /// fault of the door, which stays bound as it was.
+    fn bind(&mut self, port: u16) -> Result<u16, Failed>
+        ensures bound { IsBound (at_door door self.old self.new) result }
+        ensures coming { KeepsComing (at_door door self.old self.new) }
+        ensures served { KeepsServed (at_door door self.old self.new) };
+
+    /// The next link, or none where no more come; over a socket it waits for one. The error is a fault of the door.
+    fn admit(&mut self) -> Result<Option<Self::Link>, Failed>
+        ensures admitted { IsAdmitted (at_door door self.old self.new)
+            (given_link Self.Link.link Self.Link.Source.source result) }
+        ensures served { KeepsServed (at_door door self.old self.new) }
+        ensures port { KeepsPort (at_door door self.old self.new) };
+
+    /// Takes back a link that it gave.
+    fn done(&mut self, link: Self::Link)
+        ensures done { IsDone (view_of Self.Link.link Self.Link.Source.source link) (at_door door self.old self.new) }
+        ensures coming { KeepsComing (at_door door self.old self.new) }
+        ensures port { KeepsPort (at_door door self.old self.new) }
+        ensures shut { KeepsShut (at_door door self.old self.new) };
+}
