@@ -4,6 +4,7 @@ pub mod Depths
 pub mod Fronts
 pub mod ListFronts
 pub mod NamedBlocks
+pub mod OpenedSections
 pub mod Openings
 pub mod PartialDags
 pub mod PathStops

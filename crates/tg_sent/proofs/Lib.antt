@@ -5,6 +5,5 @@ mod Begins
 mod AsReplies
 mod Sessions
 mod Numbers
-mod OpenedSections
 mod Shaped
 mod Worked

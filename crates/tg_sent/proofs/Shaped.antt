@@ -33,7 +33,7 @@ use Rattle.tg_sent.specs.Laws.{SentIsShaped}
 use Rattle.tg_sent.specs.Sent.{Sent, SentFor, bad_head, before_head, behind_sections, broken_behind, broken_reply, exact, is_found, last, limit, next, no_more, quiet}
 use Rattle.tg_sent.specs.Shapes.{IsGood, IsOfPath, ShapedFor, broken_car, broken_path, car_of, raw_block, refused_ask, refused_path}
 use Rattle.tg_sent.proofs.Joins.{false_true}
-use Rattle.tg_sent.proofs.OpenedSections.{Opened, OpenedChildren, cut_opened, traversal_opened}
+use Rattle.tg_model_laws.specs.OpenedSections.{Opened, OpenedChildren, cut_opened, traversal_opened}
 
 -- ---- a walk along no path
 

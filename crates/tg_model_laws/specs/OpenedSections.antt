@@ -1,14 +1,15 @@
--- What holds of each opened section of a DAG holds of each that a query opens.
-use Rattle.std.proofs.Common.{ℕ, zero, suc, ◌+◌, All, List, [], ◌∷◌, None, Option, Some, length}
+-- What holds of each opened section of a DAG holds of each that a query opens, and that is sent of them.
+use Rattle.std.proofs.Common.{ℕ, zero, suc, ◌+◌, All, Contains, List, [], ◌∷◌, None, Option, Some, length}
 use Rattle.std.specs.Prelude.{nat_lt, ⊤}
 use Rattle.std.proofs.lemmas.Bool.{cond_both}
-use Rattle.std.proofs.lemmas.List.Elements.{All-append, All-cons, All-head, All-map, All-nil, All-tail}
+use Rattle.std.proofs.lemmas.List.Elements.{All-append, All-cons, All-contains, All-contains_itself, All-head, All-map, All-nil, All-tail, All-weaker}
+use Rattle.tg_model_laws.specs.SentSections.{sent_held}
 use Rattle.tg_model_laws.specs.Depths.{children_down_to, down_to}
 use Rattle.tg_model.specs.Dag.{Children, Dag, Section, bare, no_child, node, unopened, with_child}
 use Rattle.tg_model.specs.PathWalk.{PathEnd, PathWalk, Spot, StepTo, TraversalEnd, absent, child_below, not_folder_here, not_reached, path_walk, spot_at, step_of, stopped, terminal, to_child, to_entry, unless_misfit, walk_child, walk_from, walk_step, whole}
 use Rattle.tg_model.specs.Queries.{QueryParts, SpanParts}
 use Rattle.tg_model.specs.Sound.{Position, passed, position_fault, top}
-use Rattle.tg_model.specs.Traversal.{Place, Reach, Traversal, Visit, after_end, and_then, at_terminal, block_alone, from_end, giving_entries, giving_place, giving_text, opened_list, text_before, text_behind, traversal, traverse, traverse_children, unless_bad, visited, visits, walk_places}
+use Rattle.tg_model.specs.Traversal.{Place, Reach, Traversal, Visit, after_end, and_then, at_terminal, block_alone, block_list, from_end, giving_entries, giving_place, giving_text, opened_list, text_before, text_behind, traversal, traverse, traverse_children, unless_bad, visited, visits, walk_places}
 use Rattle.tg_model.specs.declared.fault.BlockFault.{BlockFault}
 use Rattle.tg_model.specs.declared.queries.Scope.{Scope}
 use Rattle.tg_model.specs.declared.queries.Scope.TheVariants as scopes
@@ -173,3 +174,10 @@ module _ (P : Section → Type 0) where
       let below = from_end walk.end q.scope q.span (length walk.sections + 1) in
       All-map P (λ (place : Place). place.section) (traversal q d).places
       (All-append AtPlace (walk_places 1 walk.sections) below.places (walked 1 walk.sections w.0) (end_opened walk.end q.scope q.span (length walk.sections + 1) w.1))
+
+  -- and each section that is sent of it
+  pub list_opened : (q : QueryParts) (d : Dag) → Opened d → All P (block_list q d)
+  list_opened q d o =
+      All-weaker (Contains (block_list q d)) P
+      (λ (x : Section) (h : Contains (block_list q d) x). All-contains P (opened_list q d) x (traversal_opened q d o) (sent_held q (opened_list q d) x h))
+      (block_list q d) (All-contains_itself (block_list q d))
