@@ -15,8 +15,9 @@ pub fn walks_send()
     ensures fronts { WalksSendFronts }
 {}
 
-/// Over a store that holds the blocks of a sound DAG the reply sends the sections of the DAG's own traversal: with an
-/// answer the CAR of them, of a path that leads nowhere that of the blocks on it, and of a raw block the root's.
+/// Over a store that holds the blocks of a sound DAG, of which none that is asked for lies deeper than 512, the reply
+/// sends the sections of the DAG's own traversal: with an answer the CAR of them, of a path that leads nowhere that of
+/// the blocks on it, and of a raw block the root's.
 ///
 /// Trustless Gateway specification; Path Gateway specification, Path Resolution.
 pub fn own_replies()

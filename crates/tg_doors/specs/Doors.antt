@@ -55,7 +55,7 @@ DoorRose door = Rose door.faults_old door.faults_new
 -- it is bound to this port, and open; or a fault was counted, and it is bound to what it was
 abbrev pub IsBound : Doorway → Result ℕ Failed → Type 0
 IsBound door (Ok port) = (door.port_new ≡ Some port) × (door.shut_new ≡ false) × DoorQuiet door
-IsBound door (Err fault) = (door.port_new ≡ door.port_old) × DoorRose door
+IsBound door (Err fault) = (door.port_new ≡ door.port_old) × (door.shut_new ≡ door.shut_old) × DoorRose door
 
 -- ---- admit
 

@@ -9,8 +9,9 @@ use tg_links::Link;
 ///
 /// Its meaning is one record: `coming` is what each peer will say whose link is to come, or `None` where that isn't
 /// told; `served` is what went through the links that were given back, or `None`; `port` is what the last `bind` that
-/// succeeded gave; `shut` says that the last `admit` since then gave no link; `faults` counts the calls that failed and
-/// the links that were given back with a fault of their own, and stands still at 2 ^ 64 - 1.
+/// succeeded gave; `shut` says that the last `admit` since then gave no link; `faults` counts the calls that failed, the
+/// links that were given back with a fault of their own, and where no memory was found to tell of one, and stands still
+/// at 2 ^ 64 - 1.
 pub trait Door {
     type Link: Link;
 
@@ -23,14 +24,16 @@ pub trait Door {
         ensures coming { KeepsComing (at_door door self.old self.new) }
         ensures served { KeepsServed (at_door door self.old self.new) };
 
-    /// The next link, or none where no more come; over a socket it waits for one. The error is a fault of the door.
+    /// The next link, or none where it is told that no more come; over a socket it waits for one. The error is a fault
+    /// of the door.
     fn admit(&mut self) -> Result<Option<Self::Link>, Failed>
         ensures admitted { IsAdmitted (at_door door self.old self.new)
             (given_link Self.Link.link Self.Link.Source.source result) }
         ensures served { KeepsServed (at_door door self.old self.new) }
         ensures port { KeepsPort (at_door door self.old self.new) };
 
-    /// Takes back a link that it gave.
+    /// Takes back a link that it gave, and tells what went through it. A fault of the link is one of the door; so is
+    /// want of memory to tell of it, behind which nothing is told any more.
     fn done(&mut self, link: Self::Link)
         ensures done { IsDone (view_of Self.Link.link Self.Link.Source.source link) (at_door door self.old self.new) }
         ensures coming { KeepsComing (at_door door self.old self.new) }

@@ -16,8 +16,8 @@ pub fn own_requests()
     tg_http::laws::longer_bytes();
 }
 
-/// Over a store that holds the blocks of a sound DAG, no two different ones stand under one CID, and the reply is the
-/// DAG's own.
+/// Over a store that holds the blocks of a sound DAG, no two different ones stand under one CID; and where none that is
+/// asked for lies deeper than 512, the reply to a head such as that of the printed request is the DAG's own.
 ///
 /// Path Gateway and Trustless Gateway specifications.
 pub fn own_replies()

@@ -21,8 +21,9 @@ pub fn heard_is_one()
     tg_car::laws::car_laws();
 }
 
-/// A reply to `GET` with blocks carries its sections for the query, as the answer or as an absence; one that is cut
-/// carries nothing, and so does a refusal.
+/// A reply to `GET` with blocks that isn't cut carries its sections for the query, as the answer or as an absence, where
+/// its head fits a head and the root and the sections are spelled. A CAR in chunks that is cut carries nothing, and a
+/// refusal carries nothing, whatever follows it. To HTTP/1.0 nothing shows that a CAR was cut.
 ///
 /// RFC 9112, sections 4 to 7; CARv1 specification; Trustless Gateway specification, response types.
 pub fn replies_carry()
@@ -37,8 +38,9 @@ pub fn replies_carry()
     tg_http::laws::longer_bytes();
 }
 
-/// The reply to `GET` for a query that is asked, over a store of bytes, carries the sections of the query: of a path
-/// that leads to a terminal the answer's, and of one that leads nowhere those that show it.
+/// The reply to `GET` for a CAR that is asked, over a store of bytes, carries the sections of the query where it isn't
+/// cut and its head fits a head: of a path that leads to a terminal the answer's, and of one that leads nowhere those
+/// that show it.
 ///
 /// RFC 9112, sections 4 to 7; CARv1 specification; Trustless Gateway specification, response types.
 pub fn asked_replies_carry()

@@ -8,7 +8,7 @@ use tg_streams::{Sink, Source};
 /// Its meaning is one record beside those of its two directions: `heard` and `said` are the bytes so far, or `None`
 /// where they aren't told, and `over` says that a take into a buffer that has room has given nothing. A generic `put`
 /// leaves what was heard, and a generic `take` what was said, since each direction's steps are steps of the link; and
-/// its faults are counted in one number, which is 0 when the link is made.
+/// its faults are counted in one number, which is 0 where a door gives the link.
 pub trait Link: Source + Sink {
     ghost link: { LinkMeaning Self };
 

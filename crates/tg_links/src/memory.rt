@@ -58,7 +58,8 @@ impl MemLink {
         MemLink::with_calls(alloc, bytes, piece, Calls::new(fails))
     }
 
-    /// The same, whose calls follow those already made.
+    /// The same, whose calls and faults go on from these: where there are faults already, `count` and `into_call` tell
+    /// them too.
     pub fn with_calls(alloc: Global, bytes: Bytes, piece: usize, calls: Calls) -> MemLink
         requires { 0 < piece }
         ensures { result ≡ record { heard = []; rest = bytes; said = []; over = false; piece = piece; fails = calls.fails; calls = calls.made; faults = calls.faults } }

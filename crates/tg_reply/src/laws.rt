@@ -127,8 +127,8 @@ pub fn sent_sections()
 }
 
 /// What a reader makes of the reply to `GET` for a query that is asked, over a store of bytes, where the head of the
-/// reply fits a head: at a terminal the block, or the CAR where it isn't cut; and the text of the refusal where the
-/// path leads to none.
+/// reply fits a head: at a terminal the block, or the CAR where it isn't cut; the CAR of the blocks on the path where it
+/// leads nowhere and isn't cut; and else the text of the refusal.
 ///
 /// RFC 9112, sections 4 to 7; CARv1 specification.
 pub fn asked_replies_read()
