@@ -1,20 +1,18 @@
 -- What is written for the printed request carries the sections of the DAG's own traversal.
-use Rattle.std.proofs.Common.{All, Bool, Contains, List, Option, Some, [], ap, arith, inl, inr, length, refl, subst, sym, true, ℕ, ◌++◌, ◌∙◌, ◌∷◌, ◌<◌, ◌≡◌, ◌≤◌, ◌^◌}
+use Rattle.std.proofs.Common.{All, Bool, List, Option, [], ap, arith, length, refl, subst, sym, true, ℕ, ◌++◌, ◌∙◌, ◌∷◌, ◌≡◌, ◌≤◌}
+use Rattle.std.proofs.lemmas.List.Elements.{All-head}
 use Rattle.tg_answering.specs.OwnReplies.{OwnSections}
 use Rattle.tg_cid.specs.Cid.{CidParts}
 use Rattle.tg_cid.specs.Limits.{max_block_len}
-use Rattle.tg_cid.specs.Spelling.{CidBytes, IsDigestSize}
-use Rattle.tg_cid.specs.declared.cid.HashKind.{HashKind}
-use Rattle.tg_cid.specs.declared.cid.HashKind.TheVariants.{Identity, Sha256}
 use Rattle.tg_heard.specs.Laws.{CarriedBy, CarsCarry, RawsCarry}
 use Rattle.tg_http.specs.declared.request.RequestHead.{RequestHead}
 use Rattle.tg_model.specs.Answer.{answer, answer_at, block_of}
-use Rattle.tg_model.specs.Dag.{Dag, IsWhole, Section, bare, blocks, node, root_cid, unopened}
+use Rattle.tg_model.specs.Dag.{Dag, IsWhole, Section, bare, node, root_cid, unopened}
 use Rattle.tg_model.specs.LimitNumbers.{LimitNumbers}
 use Rattle.tg_model.specs.Lookup.{lookup_path}
 use Rattle.tg_model.specs.Queries.{IsRawQuery, QueryParts, SpanParts}
-use Rattle.tg_model.specs.StoreView.{block_at, block_by}
-use Rattle.tg_model.specs.Stores.{IsStore, Store}
+use Rattle.tg_model.specs.Sound.{IsSound}
+use Rattle.tg_model.specs.Stores.{Store}
 use Rattle.tg_model.specs.Traversal.{block_list}
 use Rattle.tg_model.specs.declared.queries.Form.{Form}
 use Rattle.tg_model.specs.declared.queries.Form.TheVariants as forms
@@ -28,19 +26,13 @@ use Rattle.tg_reply.specs.Bodies.{IsSpelled}
 use Rattle.tg_reply.specs.Readings.{IsGet}
 use Rattle.tg_reply.specs.Replies.{Reply, asks_close, reply, reply_bytes}
 use Rattle.tg_reply.specs.Streams.{BeginsRequest, OneWriting, Replies, closes}
-use Rattle.tg_exchange.specs.Exchanges.{AnswerableIsAnswered, IsCarried, IsHeld, IsOwnHead, IsWithin, OwnRepliesCarry, OwnReply, PrintedIsRead, is_answer, own_reply}
+use Rattle.tg_exchange.specs.Exchanges.{AnswerableIsAnswered, IsCarried, IsHeld, IsOwnHead, IsWithin, OwnRepliesCarry, OwnReply, OwnReplyCarries, PrintedIsRead, is_answer, own_reply}
 
 -- ---- the root's block
 
 -- the root of a DAG with its block
 abbrev root_of : Dag → Section
 root_of d = record { cid = root_cid d; block = block_of d }
-
--- of a whole DAG it is one of the blocks
-root_among : (d : Dag) → IsWhole d → Contains (blocks d) (root_of d)
-root_among (unopened cid) w = absurd w
-root_among (bare section fault) w = absurd w
-root_among (node section kind children) w = (0, omega arith, refl)
 
 -- a query by its parts
 abbrev made : CidParts → List (List ℕ) → Form → Scope → Option SpanParts → Bool → QueryParts
@@ -67,21 +59,6 @@ raw_list q d f r w =
 raw_answer : (q : QueryParts) (d : Dag) → IsRawQuery q → is_answer (answer q d) ≡ true
 raw_answer q d r = ap (λ (path : List (List ℕ)). is_answer (answer_at q (lookup_path path d))) r.path
 
--- the digest of an identity CID is short
-digest_short : (cid : CidParts) (name : List ℕ) → cid.hash ≡ Identity → CidBytes cid name → length cid.digest ≤ 128
-digest_short cid name e (inl v0) = absurd (cc (e, v0.hash))
-digest_short cid name e (inr v1) = subst (λ (k : HashKind). IsDigestSize k (length cid.digest)) e v1.size
-
--- the block that a CID leads to isn't too large
-block_small : (store : Store) (cid : CidParts) (name block : List ℕ) → IsStore store → CidBytes cid name → block_at store cid ≡ Some block → length block ≤ max_block_len
-block_small store cid name block s spelled e = by cid.hash refl e
-  where
-    by : (hash : HashKind) → cid.hash ≡ hash → block_by hash cid.digest (store cid) ≡ Some block → length block ≤ max_block_len
-    by Sha256 h found = s.small cid block found
-    by Identity h found =
-        let same : cid.digest ≡ block = cc in
-        omega (arith, ap length same, digest_short cid name h spelled)
-
 -- ---- what is written
 
 -- the laws of requests and replies
@@ -103,6 +80,42 @@ reply_closes : (q : QueryParts) (d : Dag) (head : RequestHead) (form : Form) →
 reply_closes q d head forms.Raw own = close_asked q head own
 reply_closes q d head forms.Car own = rw (close_asked q head own) refl
 
+module _ (laws : CarriedLaws) (q : QueryParts) (d : Dag) (limits : LimitNumbers) (addr : List ℕ) (head : RequestHead) (sound : IsSound d)
+    (root : root_cid d ≡ q.root) (spelled : All IsSpelled (block_list q d)) (within : IsWithin q limits d) (p : IsPrintable q addr) (own : IsOwnHead q head) where
+  -- the request is by GET for a query that is spelled
+  by_get : IsGet head q
+  by_get = record { method = ap is_head own.method; name = p.root_bytes; root = p.root; names = p.names }
+
+  -- the reply's head fits a head
+  head_fits : (form : Form) → q.form ≡ form → length (own_reply head q d form).head ≤ 16384
+  head_fits form f = subst (λ (x : Form). length (own_reply head q d x).head ≤ 16384) f (within.head head own)
+
+  -- the root's block alone is sent of a query for a raw block, so that it isn't too large
+  raw_small : q.form ≡ forms.Raw → length (block_of d) ≤ max_block_len
+  raw_small f =
+      (All-head IsSpelled (root_of d) [] (subst (All IsSpelled) (raw_list q d f (p.well_formed.raw f) sound.whole) spelled)).small
+
+  -- the reply carries the sections, by the form
+  by_form : (form : Form) → q.form ≡ form → (behind : List ℕ) (ended : Bool)
+      → CarriedBy (is_answer (answer q d)) (reply_bytes (own_reply head q d form) ++ behind) ended q (block_list q d)
+  by_form forms.Raw f behind ended =
+      let raw = p.well_formed.raw f in
+      let list : block_list q d ≡ record { cid = q.root; block = block_of d } ∷ [] =
+      raw_list q d f raw sound.whole ∙ ap (λ (cid : CidParts). record { cid = cid; block = block_of d } ∷ []) root in
+      subst (λ (found : Bool). CarriedBy found (reply_bytes (own_reply head q d forms.Raw) ++ behind) ended q (block_list q d)) (sym (raw_answer q d raw))
+      (subst (λ (sections : List Section). CarriedBy true (reply_bytes (own_reply head q d forms.Raw) ++ behind) ended q sections) (sym list)
+      (laws.raws head q (block_of d) by_get f (omega (arith, raw_small f)) (head_fits forms.Raw f) behind ended))
+  by_form forms.Car f behind ended =
+      (laws.cars head (is_answer (answer q d)) q (block_list q d) by_get f spelled (head_fits forms.Car f)).0 own.minor behind ended
+
+  -- and may be received
+  own_carried : IsCarried q limits d (reply_bytes (own_reply head q d q.form))
+  own_carried = record { carries = by_form q.form refl; few = within.received head own }
+
+-- so it is for any query and DAG
+pub own_reply_carries : CarriedLaws → OwnReplyCarries
+own_reply_carries laws q d limits addr head sound root spelled within p own = own_carried laws q d limits addr head sound root spelled within p own
+
 module _ (laws : CarriedLaws) (store : Store) (q : QueryParts) (d : Dag) (limits : LimitNumbers) (addr more written : List ℕ) (held : IsHeld store q d)
     (within : IsWithin q limits d) (p : IsPrintable q addr) (writes : Replies store (request_text q addr ++ more) written)
     (head : RequestHead) (begins : BeginsRequest (request_text q addr ++ more) head more) (own : IsOwnHead q head) where
@@ -114,49 +127,19 @@ module _ (laws : CarriedLaws) (store : Store) (q : QueryParts) (d : Dag) (limits
       (closes (request_text q addr ++ more) more head begins (ap (λ (r : Reply). r.closes) same ∙ reply_closes q d head q.form own))
       ∙ ap reply_bytes same
 
-  -- the request is by GET for a query that is spelled
-  by_get : IsGet head q
-  by_get = record { method = ap is_head own.method; name = p.root_bytes; root = p.root; names = p.names }
-
   -- the sections are spelled
-  spelled : All IsSpelled (block_list q d)
-  spelled =
+  spelled_by_store : All IsSpelled (block_list q d)
+  spelled_by_store =
       subst (All IsSpelled)
       (laws.sections store d q head
       (record { sound = held.sound; root = held.root; holds = held.holds; shallow = within.shallow; asked_is = own.asked_is }))
       (laws.spelled store q p.root_bytes held.store_is p.root)
 
-  -- the reply's head fits a head
-  head_fits : (form : Form) → q.form ≡ form → length (own_reply head q d form).head ≤ 16384
-  head_fits form f = subst (λ (x : Form). length (own_reply head q d x).head ≤ 16384) f (within.head head own)
-
-  -- the root's block is short
-  root_small : length (block_of d) < 2 ^ 63
-  root_small =
-      let found : block_at store q.root ≡ Some (block_of d) =
-      subst (λ (cid : CidParts). block_at store cid ≡ Some (block_of d)) held.root (held.holds.blocks_are (root_of d) (root_among d held.sound.whole)) in
-      omega (arith, block_small store q.root p.root_bytes (block_of d) held.store_is.store_is p.root found)
-
-  -- the reply carries the sections, by the form
-  by_form : (form : Form) → q.form ≡ form → (behind : List ℕ) (ended : Bool)
-      → CarriedBy (is_answer (answer q d)) (reply_bytes (own_reply head q d form) ++ behind) ended q (block_list q d)
-  by_form forms.Raw f behind ended =
-      let raw = p.well_formed.raw f in
-      let list : block_list q d ≡ record { cid = q.root; block = block_of d } ∷ [] =
-      raw_list q d f raw held.sound.whole ∙ ap (λ (cid : CidParts). record { cid = cid; block = block_of d } ∷ []) held.root in
-      subst (λ (found : Bool). CarriedBy found (reply_bytes (own_reply head q d forms.Raw) ++ behind) ended q (block_list q d)) (sym (raw_answer q d raw))
-      (subst (λ (sections : List Section). CarriedBy true (reply_bytes (own_reply head q d forms.Raw) ++ behind) ended q sections) (sym list)
-      (laws.raws head q (block_of d) by_get f root_small (head_fits forms.Raw f) behind ended))
-  by_form forms.Car f behind ended =
-      (laws.cars head (is_answer (answer q d)) q (block_list q d) by_get f spelled (head_fits forms.Car f)).0 own.minor behind ended
-
-  -- so what is written does, and may be received
+  -- so what is written carries them
   carried : IsCarried q limits d written
-  carried = record {
-    carries = λ behind ended.
-        subst (λ (bytes : List ℕ). CarriedBy (is_answer (answer q d)) (bytes ++ behind) ended q (block_list q d)) (sym is_own) (by_form q.form refl behind ended);
-    few = subst (λ (bytes : List ℕ). length bytes ≤ limits.received) (sym is_own) (within.received head own);
-  }
+  carried =
+      subst (IsCarried q limits d) (sym is_own)
+      (own_reply_carries laws q d limits addr head held.sound held.root spelled_by_store within p own)
 
 -- so it is for the head of the printed request
 pub own_replies_carry : CarriedLaws → OwnRepliesCarry

@@ -1,6 +1,6 @@
 -- A client's request for a query and a gateway's reply to it, over a store that holds the blocks of a sound DAG (RFC 9112,
 -- sections 2 to 7; Path Gateway and Trustless Gateway specifications).
-use Rattle.std.specs.Prelude.{Bool, Contains, List, None, Ok, Option, Some, codes, false, length, true, ℕ, ◌++◌, ◌≡◌, ◌≤◌}
+use Rattle.std.specs.Prelude.{All, Bool, Contains, List, None, Ok, Option, Some, codes, false, length, true, ℕ, ◌++◌, ◌≡◌, ◌≤◌}
 use Rattle.tg_heard.specs.Carried.{Carries}
 use Rattle.tg_heard.specs.Laws.{CarriedBy}
 use Rattle.tg_http.specs.declared.request.RequestHead.{RequestHead}
@@ -19,6 +19,7 @@ use Rattle.tg_query.specs.Laws.{IsPrintable}
 use Rattle.tg_query.specs.Requests.{IsAddr, request_text}
 use Rattle.tg_reply.specs.Asked.{asked}
 use Rattle.tg_reply.specs.AskedReadings.{IsByteStore}
+use Rattle.tg_reply.specs.Bodies.{IsSpelled}
 use Rattle.tg_reply.specs.Replies.{Reply, car_reply, raw_reply, reply, reply_bytes}
 use Rattle.tg_reply.specs.Streams.{BeginsRequest, Replies}
 use Rattle.tg_walk.specs.Walks.{max_depth}
@@ -97,7 +98,13 @@ pub record IsCarried (q : QueryParts) (limits : LimitNumbers) (d : Dag) (written
   pub carries : (behind : List ℕ) (ended : Bool) → CarriedBy (is_answer (answer q d)) (written ++ behind) ended q (block_list q d)
   pub few : length written ≤ limits.received
 
--- what is written for the printed request, whatever follows it
+-- the DAG's own reply does, whichever store gave it
+abbrev pub OwnReplyCarries : Type 0
+OwnReplyCarries = (q : QueryParts) (d : Dag) (limits : LimitNumbers) (addr : List ℕ) (head : RequestHead) → IsSound d → root_cid d ≡ q.root
+    → All IsSpelled (block_list q d) → IsWithin q limits d → IsPrintable q addr → IsOwnHead q head
+    → IsCarried q limits d (reply_bytes (own_reply head q d q.form))
+
+-- so does what is written for the printed request, whatever follows it
 abbrev pub OwnRepliesCarry : Type 0
 OwnRepliesCarry = (store : Store) (q : QueryParts) (d : Dag) (limits : LimitNumbers) (addr more written : List ℕ) → IsHeld store q d
     → IsWithin q limits d → IsPrintable q addr → Replies store (request_text q addr ++ more) written → IsCarried q limits d written

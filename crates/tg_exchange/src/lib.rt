@@ -2,7 +2,7 @@
 //! store that holds the blocks of a sound DAG. Each law is the contract of a function that does nothing.
 #![tactic(auto)]
 
-ghost use Rattle.tg_exchange.specs.Exchanges.{AnswerableIsAnswered, HeldHaveOneBlock, OwnRepliesCarry, OwnReply, PrintedIsRead};
+ghost use Rattle.tg_exchange.specs.Exchanges.{AnswerableIsAnswered, HeldHaveOneBlock, OwnRepliesCarry, OwnReply, OwnReplyCarries, PrintedIsRead};
 
 /// The request that is printed for a query is read, whatever follows it, as a head that asks for the query by `GET` of
 /// HTTP/1.1 and for a close, and as nothing else.
@@ -28,11 +28,13 @@ pub fn own_replies()
     tg_model_laws::paths();
 }
 
-/// What a gateway writes for the printed request of a query over such a store, within the limits, carries the sections of
-/// the DAG's own traversal: as the answer, or where the path leads nowhere as an absence.
+/// The reply that a sound DAG has to the printed request of a query, within the limits, carries the sections of the DAG's
+/// own traversal, where they are spelled: as the answer, or where the path leads nowhere as an absence. So does what a
+/// gateway writes for it over a store that holds the DAG.
 ///
 /// RFC 9112, sections 4 to 7; CARv1 specification; Trustless Gateway specification, response types.
 pub fn own_replies_carry()
+    ensures own { OwnReplyCarries }
     ensures carry { OwnRepliesCarry }
     ensures answerable { AnswerableIsAnswered }
 {

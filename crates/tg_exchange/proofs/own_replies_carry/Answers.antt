@@ -1,5 +1,16 @@
-use Rattle.tg_exchange.proofs.Carried.{answerable, own_replies_carry}
+use Rattle.tg_exchange.proofs.Carried.{answerable, own_replies_carry, own_reply_carries}
 use Rattle.tg_exchange.proofs.own_replies_carry.Goals as goal
+
+pub returns-clause-own : goal.returns-clause-own
+returns-clause-own c = own_reply_carries (record {
+  requests = c.own_requests.ensures;
+  own = c.own_replies.ensures.reply;
+  sections = c.own_replies-2.ensures.sections;
+  cars = c.replies_carry.ensures.car;
+  raws = c.replies_carry.ensures.raw;
+  spelled = c.sent_sections.ensures;
+  one = c.one_writing.ensures.one;
+})
 
 pub returns-clause-carry : goal.returns-clause-carry
 returns-clause-carry c = own_replies_carry (record {
