@@ -1,5 +1,5 @@
 -- The numbers of what was sent.
-use Rattle.std.proofs.Common.{◌≡◌, ◌⊎◌, ℕ, suc, ◌<◌, ◌≤◌, Bool, true, false, List, [], ◌∷◌, ◌++◌, inl, inr, length, refl, ap, arith}
+use Rattle.std.proofs.Common.{◌≡◌, ◌⊎◌, ℕ, suc, ◌<◌, ◌≤◌, Bool, true, false, List, [], ◌∷◌, ◌++◌, inl, inr, length, refl, ap, ◌∙◌, arith}
 use Rattle.std.specs.Prelude.{if◌then◌else◌}
 use Rattle.std.proofs.lemmas.List.{length-append}
 use Rattle.httparse.specs.Grammar.{print_blank, print_end}
@@ -11,7 +11,7 @@ use Rattle.tg_http.specs.declared.request.RequestHead.{RequestHead}
 use Rattle.tg_model.specs.Queries.{QueryParts}
 use Rattle.tg_model.specs.Stores.{Store}
 use Rattle.tg_reply.specs.Asked.{is_head}
-use Rattle.tg_sent.specs.Laws.{BrokenAreFew, FailedAreBroken, FailedAreCounted, SentAreFew}
+use Rattle.tg_sent.specs.Laws.{BrokenAreFew, FailedAreBroken, FailedAreCounted, SentAreFew, UnfailedAreUncounted}
 use Rattle.tg_sent.specs.Sent.{CountsBetween, Sent, SentFor, bad_head, before_head, behind_sections, broken_in, broken_reply, count_if, exact, failed_in, is_broken, is_server_error, last, limit, next, no_more}
 use Rattle.tg_sent.proofs.Joins.{false_true, true_false}
 
@@ -147,3 +147,27 @@ counted store fed rest sent before now (last b r head s begins f e) h =
     counted_both s [] before now (counted_if store head s f) h (inl refl)
 counted store fed rest sent before now (next b r behind head s more begins f e all) h =
     counted_both s more before now (counted_if store head s f) h (counted store r behind more s.faults_now now all h.2)
+
+-- ---- where it broke off nowhere its count is what it was
+
+-- at one request that it didn't break off it counted nothing
+quiet_if : (store : Store) (head : RequestHead) (s : Sent) → SentFor store head s → is_broken s.course ≡ false → s.faults_now ≡ s.faults_before
+quiet_if store head s (exact before) e = refl
+quiet_if store head s (before_head q before now a r) e = absurd (true_false e)
+quiet_if store head s (behind_sections q count before now b r) e = absurd (true_false e)
+
+-- where none is counted none is here, and none below
+none_counted : (c : Bool) (n : ℕ) → count_if c n ≡ 0 → (c ≡ false) × (n ≡ 0)
+none_counted true n e = absurd (omega (arith, e))
+none_counted false n e = (refl, e)
+
+-- so what follows is counted from the same number
+pub uncounted : UnfailedAreUncounted
+uncounted store fed rest sent before now (no_more b) h none = h
+uncounted store fed rest sent before now (limit b at k) h none = h.2 ∙ h.0
+uncounted store fed rest sent before now (bad_head b at k) h none = h.2 ∙ h.0
+uncounted store fed rest sent before now (last b r head s begins f e) h none =
+    h.2 ∙ quiet_if store head s f (none_counted (is_broken s.course) 0 none).0 ∙ h.0
+uncounted store fed rest sent before now (next b r behind head s more begins f e all) h none =
+    let below = none_counted (is_broken s.course) (failed_in more) none in
+    uncounted store r behind more s.faults_now now all h.2 below.1 ∙ quiet_if store head s f below.0 ∙ h.0

@@ -1,6 +1,6 @@
 -- What is sent over a store that tells its blocks has the shape of what is sent over one that tells nothing.
 use Rattle.std.proofs.Common.{◌≡◌, ℕ, zero, suc, ◌≤◌, true, false, All, Contains, List, [], ◌∷◌, None, Ok, Err, Option, Result, Some, inl, inr, length, refl, sym, ap, subst, ◌∙◌, arith}
-use Rattle.std.specs.Prelude.{take, ⊤}
+use Rattle.std.specs.Prelude.{take, ◌≢◌}
 use Rattle.std.proofs.lemmas.List.{length-take-le}
 use Rattle.std.proofs.lemmas.List.Elements.{All-contains, All-contains_itself, All-take, All-weaker}
 use Rattle.tg_cid.specs.Cid.{CidParts}
@@ -30,20 +30,20 @@ use Rattle.tg_reply.specs.Streams.{BeginsRequest}
 use Rattle.tg_reply.specs.declared.refusal.Refusal.{Refusal}
 use Rattle.tg_reply.specs.declared.refusal.Refusal.TheVariants as refusals
 use Rattle.tg_sent.specs.Laws.{SentIsShaped}
-use Rattle.tg_sent.specs.Sent.{Sent, SentFor, bad_head, before_head, behind_sections, broken_behind, broken_reply, exact, is_found, last, limit, next, no_more, quiet}
+use Rattle.tg_sent.specs.Sent.{SendsSections, Sent, SentFor, bad_head, before_head, behind_sections, broken_behind, broken_reply, exact, is_found, last, limit, next, no_more, quiet}
 use Rattle.tg_sent.specs.Shapes.{IsGood, IsOfPath, ShapedFor, broken_car, broken_path, car_of, raw_block, refused_ask, refused_path}
-use Rattle.tg_sent.proofs.Joins.{false_true}
+use Rattle.tg_sent.proofs.Joins.{false_true, true_false}
 use Rattle.tg_model_laws.specs.OpenedSections.{Opened, OpenedChildren, cut_opened, traversal_opened}
 
 -- ---- a walk along no path
 
--- it leads to the root's block, or stops as this isn't stored; never is an entry missing
+-- it leads to the root's block, or stops as this isn't found; never is an entry missing, or a block unreadable
 abbrev IsAtRoot : Option (List ℕ) → PathEnd → Type 0
 IsAtRoot found (terminal d) = found ≡ Some (block_of d)
 IsAtRoot found (not_reached (not_there i)) = ⊥
 IsAtRoot found (not_reached (not_folder i)) = ⊥
-IsAtRoot found (not_reached (gone spot)) = ⊤
-IsAtRoot found (not_reached (bad_block spot fault)) = ⊤
+IsAtRoot found (not_reached (gone spot)) = found ≡ None
+IsAtRoot found (not_reached (bad_block spot fault)) = ⊥
 
 module _ (store : Store) where
   -- from a block, whatever it is read as
@@ -54,13 +54,23 @@ module _ (store : Store) where
 
   -- from a CID with the block that is found for it
   block_root : (opened : CidParts → Dag) (cid : CidParts) (found : Option (List ℕ)) → IsAtRoot found (walk_from 0 top 1 [] (with_block opened cid found)).end
-  block_root opened cid None = tt
+  block_root opened cid None = refl
   block_root opened cid (Some block) = read_root opened (record { cid = cid; block = block }) (read cid block)
 
-  -- from what is shown of a CID
-  at_root : (n : ℕ) (cid : CidParts) → IsAtRoot (block_at store cid) (walk_from 0 top 1 [] (opened_to n store cid)).end
-  at_root zero cid = tt
-  at_root (suc n) cid = block_root (opened_to n store) cid (block_at store cid)
+  -- where the path of a query is empty, the walk along it does
+  at_root : (q : QueryParts) (end : PathEnd) → q.path ≡ [] → (path_walk q.path (store_view store q.root)).end ≡ end → IsAtRoot (block_at store q.root) end
+  at_root q end e w =
+      let walked : (path_walk [] (store_view store q.root)).end ≡ end =
+      ap (λ (path : List (List ℕ)). (path_walk path (store_view store q.root)).end) (sym e) ∙ w in
+      subst (IsAtRoot (block_at store q.root)) walked (block_root (opened_to 1099 store) q.root (block_at store q.root))
+
+  -- so a path that leads to no terminal, where sections are sent all the same, isn't empty
+  some_path : (q : QueryParts) (end : PathEnd) → (path_walk q.path (store_view store q.root)).end ≡ end → SendsSections end → is_found end ≡ false → q.path ≢ []
+  some_path q (terminal d) w sends e = absurd (true_false e)
+  some_path q (not_reached (not_there i)) w sends e = λ empty. at_root q (not_reached (not_there i)) empty w
+  some_path q (not_reached (not_folder i)) w sends e = λ empty. at_root q (not_reached (not_folder i)) empty w
+  some_path q (not_reached (gone spot)) w sends e = absurd sends
+  some_path q (not_reached (bad_block spot fault)) w sends e = absurd sends
 
   -- ---- what a store shows
 
@@ -95,21 +105,23 @@ module _ (store : Store) where
   -- ---- the blocks are named by their CIDs
 
   module _ (s : IsStore store) where
-    -- a stored block under a CID with sha2-256
-    hashed_good : (x : Section) → Leads x → is_hashed x.cid.hash ≡ true → IsGood x
-    hashed_good x e hashed = by x.cid.hash e hashed
+    -- a stored block under a CID with sha2-256 is named by it
+    hashed_named : (x : Section) → Leads x → is_hashed x.cid.hash ≡ true → IsNamedBlock x.cid (Some x.block)
+    hashed_named x e hashed = by x.cid.hash e hashed
       where
-        by : (hash : HashKind) → block_by hash x.cid.digest (store x.cid) ≡ Some x.block → is_hashed hash ≡ true → IsGood x
+        by : (hash : HashKind) → block_by hash x.cid.digest (store x.cid) ≡ Some x.block → is_hashed hash ≡ true → IsNamedBlock x.cid (Some x.block)
         by Sha256 found h = (s.named x.cid x.block found, s.small x.cid x.block found)
         by Identity found h = absurd (false_true h)
 
-    -- the sections of a query for a CAR
-    sections_good : (q : QueryParts) → q.form ≡ forms.Car → All IsGood (block_list q (sent_dag store q.root))
+    -- the sections of a query for a CAR are asked for, and named by their CIDs
+    sections_good : (q : QueryParts) → q.form ≡ forms.Car → All (IsGood q) (block_list q (sent_dag store q.root))
     sections_good q car =
         let d = sent_dag store q.root in
-        All-weaker (Contains (block_list q d)) IsGood
-        (λ (x : Section) (h : Contains (block_list q d) x). hashed_good x (All-contains Leads (opened_list q d) x (all_lead q) (sent_held q (opened_list q d) x h))
-        (is_asked_hashed q x.cid car (sent_asked q (opened_list q d) x h)))
+        All-weaker (Contains (block_list q d)) (IsGood q)
+        (λ (x : Section) (h : Contains (block_list q d) x). let is_sent = sent_asked q (opened_list q d) x h in (
+          is_sent,
+          hashed_named x (All-contains Leads (opened_list q d) x (all_lead q) (sent_held q (opened_list q d) x h)) (is_asked_hashed q x.cid car is_sent),
+        ))
         (block_list q d) (All-contains_itself (block_list q d))
       where
         is_asked_hashed : (q : QueryParts) (cid : CidParts) → q.form ≡ forms.Car → is_asked q cid ≡ true → is_hashed cid.hash ≡ true
@@ -133,53 +145,56 @@ module _ (store : Store) where
     -- ---- the reply to one head
 
     module _ (bare : AskedRawHasNoPath) (head : RequestHead) (spelled : (q : QueryParts) → asked head ≡ Ok q → (name : List ℕ) × CidBytes q.root name) where
-      -- what isn't stored is a refusal of a path
-      of_path : (found : Option (List ℕ)) → IsOfPath (gone_refusal found)
-      of_path None = tt
-      of_path (Some block) = tt
+      -- a CID that leads to no block has sha2-256
+      unfound : (cid : CidParts) → block_at store cid ≡ None → cid.hash ≡ Sha256
+      unfound cid e = by cid.hash e
+        where
+          by : (hash : HashKind) → block_by hash cid.digest (store cid) ≡ None → hash ≡ Sha256
+          by Sha256 none = refl
+          by Identity none = cc
 
-      -- a query whose path leads to no entry, or to no directory, is for a CAR
-      car_only : (q : QueryParts) (end : PathEnd) → asked head ≡ Ok q → (path_walk q.path (store_view store q.root)).end ≡ end
-          → (IsAtRoot (block_at store q.root) end → ⊥) → q.form ≡ forms.Car
-      car_only q end a w never = by q.form refl
+      -- what isn't stored is a refusal of the root, or of a path that isn't empty
+      of_path : (q : QueryParts) (found : Option (List ℕ)) → block_at store q.root ≡ found → (q.path ≡ [] → found ≡ None) → IsOfPath q (gone_refusal found)
+      of_path q None e at = unfound q.root e
+      of_path q (Some block) e at = λ empty. some_none block (at empty)
+        where
+          some_none : (block : List ℕ) → Some block ≡ None → ⊥
+          some_none block e = cc
+
+      -- a query whose path isn't empty is for a CAR
+      car_only : (q : QueryParts) → asked head ≡ Ok q → q.path ≢ [] → q.form ≡ forms.Car
+      car_only q a some = by q.form refl
         where
           by : (form : Form) → q.form ≡ form → q.form ≡ forms.Car
           by forms.Car e = e
-          by forms.Raw e =
-              let walked : (path_walk [] (store_view store q.root)).end ≡ end =
-              ap (λ (path : List (List ℕ)). (path_walk path (store_view store q.root)).end) (sym (bare head q a e)) ∙ w in
-              absurd (never (subst (IsAtRoot (block_at store q.root)) walked (at_root 1100 q.root)))
-
-      -- and one for a raw block leads to the root's
-      raw_at_root : (q : QueryParts) (d : Dag) → asked head ≡ Ok q → (path_walk q.path (store_view store q.root)).end ≡ terminal d → q.form ≡ forms.Raw
-          → block_at store q.root ≡ Some (block_of d)
-      raw_at_root q d a w e =
-          let walked : (path_walk [] (store_view store q.root)).end ≡ terminal d =
-          ap (λ (path : List (List ℕ)). (path_walk path (store_view store q.root)).end) (sym (bare head q a e)) ∙ w in
-          subst (IsAtRoot (block_at store q.root)) walked (at_root 1100 q.root)
+          by forms.Raw e = absurd (some (bare head q a e))
 
       -- the reply to a query whose path leads to a terminal
       found_shaped : (before : ℕ) (q : QueryParts) (d : Dag) (form : Form) → asked head ≡ Ok q → q.form ≡ form
           → (path_walk q.path (store_view store q.root)).end ≡ terminal d → ShapedFor head (quiet (found_reply store head q d form) before)
       found_shaped before q d forms.Raw a e w =
           let name = spelled q a in
-          raw_block q (block_of d) before a e (root_named q.root name.0 (block_of d) name.1 (raw_at_root q d a w e))
+          raw_block q (block_of d) before a e (root_named q.root name.0 (block_of d) name.1 (at_root q (terminal d) (bare head q a e) w))
       found_shaped before q d forms.Car a e w =
-          car_of q true (is_cut (traversal q (sent_dag store q.root)).end) (block_list q (sent_dag store q.root)) before a e (sections_good q e)
+          car_of q true (is_cut (traversal q (sent_dag store q.root)).end) (block_list q (sent_dag store q.root)) before a e (λ none. absurd (true_false none)) (sections_good q e)
 
-      -- the reply to one whose path leads nowhere
-      absence_shaped : (before : ℕ) (q : QueryParts) → asked head ≡ Ok q → q.form ≡ forms.Car → ShapedFor head (quiet (reply_at store head q (not_reached (not_there 0))) before)
-      absence_shaped before q a e =
-          car_of q false (is_cut_on_path (traversal q (sent_dag store q.root)).end) (block_list q (sent_dag store q.root)) before a e (sections_good q e)
+      -- the reply to one whose path leads nowhere, and so isn't empty
+      absence_shaped : (before : ℕ) (q : QueryParts) → asked head ≡ Ok q → q.path ≢ [] → ShapedFor head (quiet (reply_at store head q (not_reached (not_there 0))) before)
+      absence_shaped before q a some =
+          let car = car_only q a some in
+          car_of q false (is_cut_on_path (traversal q (sent_dag store q.root)).end) (block_list q (sent_dag store q.root)) before a car (λ none. some) (sections_good q car)
 
       -- the reply by the end of the path
       end_shaped : (before : ℕ) (q : QueryParts) (end : PathEnd) → asked head ≡ Ok q → (path_walk q.path (store_view store q.root)).end ≡ end
           → ShapedFor head (quiet (reply_at store head q end) before)
       end_shaped before q (terminal d) a w = found_shaped before q d q.form a refl w
-      end_shaped before q (not_reached (not_there i)) a w = absence_shaped before q a (car_only q (not_reached (not_there i)) a w (λ none. none))
-      end_shaped before q (not_reached (not_folder i)) a w = absence_shaped before q a (car_only q (not_reached (not_folder i)) a w (λ none. none))
-      end_shaped before q (not_reached (gone spot)) a w = refused_path q (gone_refusal (block_at store q.root)) before a (of_path (block_at store q.root))
-      end_shaped before q (not_reached (bad_block spot fault)) a w = refused_path q refusals.BadBlock before a tt
+      end_shaped before q (not_reached (not_there i)) a w = absence_shaped before q a (some_path q (not_reached (not_there i)) w tt refl)
+      end_shaped before q (not_reached (not_folder i)) a w = absence_shaped before q a (some_path q (not_reached (not_folder i)) w tt refl)
+      end_shaped before q (not_reached (gone spot)) a w =
+          let found = block_at store q.root in
+          refused_path q (gone_refusal found) before a (of_path q found refl (λ empty. at_root q (not_reached (gone spot)) empty w))
+      end_shaped before q (not_reached (bad_block spot fault)) a w =
+          refused_path q refusals.BadBlock before a (λ empty. at_root q (not_reached (bad_block spot fault)) empty w)
 
       -- the reply by what is asked
       exact_shaped : (before : ℕ) (answer : Result QueryParts Refusal) → asked head ≡ answer → ShapedFor head (quiet (reply_to store head answer) before)
@@ -192,10 +207,11 @@ module _ (store : Store) where
       for_shaped sent (before_head q before now a r) = broken_path q before now a (inl r)
       for_shaped sent (behind_sections q count before now b r) =
           let sections = block_list q (sent_dag store q.root) in
+          let end = (path_walk q.path (store_view store q.root)).end in
           subst (λ (n : ℕ). ShapedFor head (record { reply = broken_reply store head q count; course = broken_behind n; faults_before = before; faults_now = now }))
           (length-take-le count sections b.within)
-          (broken_car q (is_found (path_walk q.path (store_view store q.root)).end) (take count sections) before now b.asked_is b.car b.by_get
-          (All-take IsGood count sections (sections_good q b.car)) (inl r))
+          (broken_car q (is_found end) (take count sections) before now b.asked_is b.car b.by_get (some_path q end refl b.sends)
+          (All-take (IsGood q) count sections (sections_good q b.car)) (inl r))
 
 -- ---- one request after another
 

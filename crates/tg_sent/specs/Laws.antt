@@ -4,8 +4,8 @@ use Rattle.tg_faults.specs.Faults.{Rose}
 use Rattle.tg_model.specs.Stores.{IsStore, Store}
 use Rattle.tg_reply.specs.Streams.{Replies}
 use Rattle.tg_reply.specs.Written.{replies_for}
-use Rattle.tg_sent.specs.Sent.{CountsBetween, Sent, SentAll, SentInFull, broken_in, closed_by, failed_in, happening_of, sent_bytes}
-use Rattle.tg_sent.specs.Sessions.{IsFrontOfSent, SessionState, StandsFor, WentOn}
+use Rattle.tg_sent.specs.Sent.{CountsBetween, CountsFollow, Sent, SentAll, SentInFull, broken_in, closed_by, failed_in, happening_of, sent_bytes}
+use Rattle.tg_sent.specs.Sessions.{BrokeOff, HasNumbers, IsFrontOfSent, PassedLimit, SessionState, StandsFor, WentOn}
 use Rattle.tg_sent.specs.Shapes.{ShapedAll}
 
 -- ---- what is sent is one
@@ -71,21 +71,38 @@ abbrev pub FailedAreCounted : Type 0
 FailedAreCounted = (store : Store) (fed rest : List ℕ) (sent : List Sent) (before now : ℕ) → SentAll store fed sent rest
     → CountsBetween before sent now → (failed_in sent ≡ 0) ⊎ Rose before now
 
+-- and where it broke off nowhere, and nothing else used it, its count is what it was
+abbrev pub UnfailedAreUncounted : Type 0
+UnfailedAreUncounted = (store : Store) (fed rest : List ℕ) (sent : List Sent) (before now : ℕ) → SentAll store fed sent rest
+    → CountsFollow before sent now → failed_in sent ≡ 0 → now ≡ before
+
 -- ---- sessions
 
+-- what a session stands for is sent for all the bytes that it was fed
+abbrev pub StandsForSent : Type 0
+StandsForSent = (session : SessionState) (store : Store) (fed : List ℕ) (sent : List Sent) (first now : ℕ) → StandsFor session store fed sent first now
+    → (rest : List ℕ) × SentAll store fed sent rest
+
 abbrev pub SessionsGoOn : Type 0
-SessionsGoOn = (old new : SessionState) (store : Store) (fed piece : List ℕ) (sent more : List Sent) → StandsFor old store fed sent
-    → WentOn old new store piece more → StandsFor new store (fed ++ piece) (sent ++ more)
+SessionsGoOn = (old new : SessionState) (store : Store) (fed piece : List ℕ) (sent more : List Sent) (first after before now : ℕ)
+    → StandsFor old store fed sent first after → WentOn old new store piece more before now → after ≤ before
+    → StandsFor new store (fed ++ piece) (sent ++ more) first now
 
 abbrev pub SessionsStayClosed : Type 0
-SessionsStayClosed = (session : SessionState) (store : Store) (fed piece : List ℕ) (sent : List Sent) → StandsFor session store fed sent
-    → session.closed ≡ true → StandsFor session store (fed ++ piece) sent
+SessionsStayClosed = (session : SessionState) (store : Store) (fed piece : List ℕ) (sent : List Sent) (first now : ℕ) → StandsFor session store fed sent first now
+    → session.closed ≡ true → StandsFor session store (fed ++ piece) sent first now
 
--- where an open session was broken off, a front of what is sent was written
+-- where more bytes came than may be received, or an open session was broken off, a front of what is sent was written, with
+-- the numbers of the replies that were written whole
+abbrev pub LimitIsFront : Type 0
+LimitIsFront = (old new : SessionState) (store : Store) (fed piece : List ℕ) (sent more : List Sent) (first after before now : ℕ)
+    → StandsFor old store fed sent first after → PassedLimit old new store piece more before now
+    → IsFrontOfSent store (fed ++ piece) (sent_bytes sent ++ sent_bytes more) × HasNumbers new (sent ++ more)
+
 abbrev pub BrokenIsFront : Type 0
-BrokenIsFront = (session : SessionState) (store : Store) (fed piece behind : List ℕ) (sent more : List Sent) (count : ℕ)
-    → StandsFor session store fed sent → session.closed ≡ false → SentAll store (session.kept ++ piece) more behind
-    → IsFrontOfSent store (fed ++ piece) (sent_bytes sent ++ take count (sent_bytes more))
+BrokenIsFront = (old new : SessionState) (store : Store) (fed piece written : List ℕ) (sent more next : List Sent) (first after before now : ℕ)
+    → StandsFor old store fed sent first after → BrokeOff old new store piece more next written before now
+    → IsFrontOfSent store (fed ++ piece) (sent_bytes sent ++ written) × HasNumbers new (sent ++ more)
 
 -- ---- stores that tell nothing
 

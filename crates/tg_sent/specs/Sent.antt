@@ -109,7 +109,13 @@ sent_bytes sent = flat_map (λ s. reply_bytes s.reply) sent
 abbrev pub replies_sent : List Sent → List Reply
 replies_sent sent = map (λ s. s.reply) sent
 
--- the store's count goes from one number to another, and was these numbers between
+-- the store's count while nothing else uses the store: it is at each request what it was behind the one before
+abbrev pub CountsFollow : ℕ → List Sent → ℕ → Type 0
+CountsFollow before [] now = now ≡ before
+CountsFollow before (s ∷ more) now =
+    (s.faults_before ≡ before) × (before ≤ s.faults_now) × CountsFollow s.faults_now more now
+
+-- and while something else may use it between requests
 abbrev pub CountsBetween : ℕ → List Sent → ℕ → Type 0
 CountsBetween before [] now = before ≤ now
 CountsBetween before (s ∷ more) now =

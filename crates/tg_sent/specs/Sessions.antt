@@ -1,15 +1,16 @@
 -- What a session stands for: the bytes that it was fed and what it sent for them (RFC 9112, section 9.3).
-use Rattle.std.specs.Prelude.{Bool, List, false, length, take, true, ℕ, ⊤, ◌+◌, ◌++◌, ◌≡◌, ◌≤◌}
+use Rattle.std.specs.Prelude.{Bool, List, [], false, length, take, true, ℕ, ⊤, ◌+◌, ◌++◌, ◌<◌, ◌≡◌, ◌≤◌}
 use Rattle.tg_http.specs.Heads.{IsWaiting}
 use Rattle.tg_model.specs.Stores.{Store}
-use Rattle.tg_sent.specs.Sent.{Sent, SentAll, broken_in, closed_by, failed_in, sent_bytes}
+use Rattle.tg_sent.specs.Sent.{CountsBetween, CountsFollow, Sent, SentAll, SentInFull, broken_in, closed_by, failed_in, sent_bytes}
 
--- a session: the bytes of the head at hand, whether the connection is closed, and the numbers of replies that were sent, of
--- those with status 500 or a body that was cut, and of those at which the store broke off; how many bytes were received
--- while it was open, and how many may be
+-- a session: the bytes of the head at hand, whether the connection is closed and whether it refused something, and the
+-- numbers of replies that were sent, of those with status 500 or a body that was cut, and of those at which the store broke
+-- off; how many bytes were received while it was open, and how many may be
 pub record SessionState : Type 0 where
   pub kept : List ℕ
   pub closed : Bool
+  pub refused : Bool
   pub requests : ℕ
   pub broken : ℕ
   pub failed : ℕ
@@ -22,37 +23,98 @@ abbrev pub IsWaitingFor : Bool → List ℕ → List ℕ → Type 0
 IsWaitingFor true kept rest = ⊤
 IsWaitingFor false kept rest = (kept ≡ rest) × IsWaiting rest
 
--- a session that refused nothing
-pub record StandsFor (session : SessionState) (store : Store) (fed : List ℕ) (sent : List Sent) : Type 0 where
-  pub rest : List ℕ
-  pub sent_is : SentAll store fed sent rest
-  pub waiting : IsWaitingFor session.closed session.kept rest
-  pub closed_is : session.closed ≡ closed_by sent
+-- the numbers of what was sent
+pub record HasNumbers (session : SessionState) (sent : List Sent) : Type 0 where
   pub requests_are : session.requests ≡ length sent
   pub broken_are : session.broken ≡ broken_in sent
   pub failed_are : session.failed ≡ failed_in sent
-  pub received_is : session.closed ≡ false → session.received ≡ length fed
-  pub within : session.received ≤ session.most
 
--- where out failed, more bytes came than may be received, or memory was wanted: the replies to the bytes that were fed, of
--- which a front was written
+-- A session that refused nothing. All bytes were looked at, or those up to a close and some behind it, no more than may be;
+-- and the store's count was one number when the session began, and another when it had answered.
+pub record StandsFor (session : SessionState) (store : Store) (fed : List ℕ) (sent : List Sent) (first now : ℕ) : Type 0 where
+  pub unrefused : session.refused ≡ false
+  pub looked : List ℕ
+  pub dropped : List ℕ
+  pub fed_is : fed ≡ looked ++ dropped
+  pub all_looked : session.closed ≡ false → dropped ≡ []
+  pub rest : List ℕ
+  pub sent_is : SentAll store looked sent rest
+  pub waiting : IsWaitingFor session.closed session.kept rest
+  pub closed_is : session.closed ≡ closed_by sent
+  pub numbers : HasNumbers session sent
+  pub received_is : session.received ≡ length looked
+  pub within : session.received ≤ session.most
+  pub counts : CountsBetween first sent now
+
+-- ---- an open session is fed a piece
+
+-- the numbers go on by those of what was sent
+pub record NumbersGoOn (old new : SessionState) (more : List Sent) : Type 0 where
+  pub requests_are : new.requests ≡ old.requests + length more
+  pub broken_are : new.broken ≡ old.broken + broken_in more
+  pub failed_are : new.failed ≡ old.failed + failed_in more
+  pub most_is : new.most ≡ old.most
+
+-- a session that is open and refused nothing
+pub record IsOpen (session : SessionState) : Type 0 where
+  pub unclosed : session.closed ≡ false
+  pub unrefused : session.refused ≡ false
+
+-- It refused nothing: these were sent for what it kept and the piece, up to a close if there is one, while the store's count
+-- went from one number to another. The bytes that were looked at are no more than may be received.
+pub record WentOn (old new : SessionState) (store : Store) (piece : List ℕ) (more : List Sent) (before now : ℕ) : Type 0 where
+  pub open_is : IsOpen old
+  pub unrefused : new.refused ≡ false
+  pub looked : List ℕ
+  pub dropped : List ℕ
+  pub piece_is : piece ≡ looked ++ dropped
+  pub all_looked : new.closed ≡ false → dropped ≡ []
+  pub behind : List ℕ
+  pub sent_is : SentAll store (old.kept ++ looked) more behind
+  pub waiting : IsWaitingFor new.closed new.kept behind
+  pub closed_is : new.closed ≡ closed_by more
+  pub numbers : NumbersGoOn old new more
+  pub received_is : new.received ≡ old.received + length looked
+  pub within : new.received ≤ new.most
+  pub counts : CountsFollow before more now
+
+-- More bytes came than may be received: all that is sent for those that may be was sent, and leaves the connection open.
+pub record PassedLimit (old new : SessionState) (store : Store) (piece : List ℕ) (more : List Sent) (before now : ℕ) : Type 0 where
+  pub open_is : IsOpen old
+  pub refused : new.refused ≡ true
+  pub looked : List ℕ
+  pub dropped : List ℕ
+  pub piece_is : piece ≡ looked ++ dropped
+  pub all_that_may : old.received + length looked ≡ old.most
+  pub past : 0 < length dropped
+  pub behind : List ℕ
+  pub sent_is : SentInFull store (old.kept ++ looked) more behind
+  pub left_open : closed_by more ≡ false
+  pub numbers : NumbersGoOn old new more
+  pub counts : CountsFollow before more now
+
+-- Out failed, or memory was wanted: these replies were written whole, and of the next one a front, if it was begun. That one
+-- isn't counted.
+pub record BrokeOff (old new : SessionState) (store : Store) (piece : List ℕ) (more next : List Sent) (written : List ℕ) (before now : ℕ) : Type 0 where
+  pub open_is : IsOpen old
+  pub refused : new.refused ≡ true
+  pub looked : List ℕ
+  pub dropped : List ℕ
+  pub piece_is : piece ≡ looked ++ dropped
+  pub within : old.received + length looked ≤ old.most
+  pub behind : List ℕ
+  pub sent_is : SentAll store (old.kept ++ looked) (more ++ next) behind
+  pub at_most_one : length next ≤ 1
+  pub left_open : closed_by more ≡ false
+  pub count : ℕ
+  pub written_is : written ≡ sent_bytes more ++ take count (sent_bytes next)
+  pub numbers : NumbersGoOn old new more
+  pub counts : CountsBetween before more now
+
+-- what was written is a front of what is sent for the bytes
 pub record IsFrontOfSent (store : Store) (fed written : List ℕ) : Type 0 where
   pub sent : List Sent
   pub rest : List ℕ
   pub sent_is : SentAll store fed sent rest
   pub count : ℕ
   pub written_is : written ≡ take count (sent_bytes sent)
-
--- an open session was fed a piece: these were sent for what it kept and the piece, and these bytes are behind them
-pub record WentOn (old new : SessionState) (store : Store) (piece : List ℕ) (more : List Sent) : Type 0 where
-  pub behind : List ℕ
-  pub open_is : old.closed ≡ false
-  pub sent_is : SentAll store (old.kept ++ piece) more behind
-  pub waiting : IsWaitingFor new.closed new.kept behind
-  pub closed_is : new.closed ≡ closed_by more
-  pub requests_are : new.requests ≡ old.requests + length more
-  pub broken_are : new.broken ≡ old.broken + broken_in more
-  pub failed_are : new.failed ≡ old.failed + failed_in more
-  pub received_is : new.closed ≡ false → new.received ≡ old.received + length piece
-  pub most_is : new.most ≡ old.most
-  pub within : new.received ≤ new.most

@@ -1,10 +1,12 @@
 -- What is sent over a store that tells nothing: the shape of a reply, its blocks named by their CIDs.
-use Rattle.std.specs.Prelude.{All, Bool, Err, List, Ok, Some, false, length, true, ℕ, ⊤, ◌≡◌, ◌⊎◌}
+use Rattle.std.specs.Prelude.{All, Bool, Err, List, Ok, Some, [], false, length, true, ℕ, ◌≡◌, ◌≢◌, ◌⊎◌}
+use Rattle.tg_cid.specs.declared.cid.HashKind.TheVariants as hashes
 use Rattle.tg_faults.specs.Faults.{Rose}
 use Rattle.tg_http.specs.declared.request.RequestHead.{RequestHead}
 use Rattle.tg_model.specs.Dag.{Section}
 use Rattle.tg_model.specs.Queries.{QueryParts}
 use Rattle.tg_model.specs.Stores.{IsNamedBlock}
+use Rattle.tg_model.specs.Traversal.{is_asked}
 use Rattle.tg_model.specs.declared.queries.Form.TheVariants as forms
 use Rattle.tg_reply.specs.Asked.{asked, is_head}
 use Rattle.tg_reply.specs.Replies.{car_reply, raw_reply, refused_request}
@@ -12,21 +14,22 @@ use Rattle.tg_reply.specs.declared.refusal.Refusal.{Refusal}
 use Rattle.tg_reply.specs.declared.refusal.Refusal.TheVariants as refusals
 use Rattle.tg_sent.specs.Sent.{Sent, SentBy, broken_before, broken_behind, quiet}
 
--- the refusals that come of what is stored
-abbrev pub IsOfPath : Refusal → Type 0
-IsOfPath refusals.NoRoot = ⊤
-IsOfPath refusals.Gone = ⊤
-IsOfPath refusals.BadBlock = ⊤
-IsOfPath refusals.Store = ⊥
-IsOfPath refusals.HeadLimit = ⊥
-IsOfPath refusals.BadHead = ⊥
-IsOfPath refusals.BadFraming = ⊥
-IsOfPath refusals.BadMethod = ⊥
-IsOfPath (refusals.Query fault) = ⊥
+-- the refusals that come of what is stored: that the root isn't, whose CID is then no identity CID; and of a path that a block
+-- of it isn't stored or can't be read
+abbrev pub IsOfPath : QueryParts → Refusal → Type 0
+IsOfPath q refusals.NoRoot = q.root.hash ≡ hashes.Sha256
+IsOfPath q refusals.Gone = q.path ≢ []
+IsOfPath q refusals.BadBlock = q.path ≢ []
+IsOfPath q refusals.Store = ⊥
+IsOfPath q refusals.HeadLimit = ⊥
+IsOfPath q refusals.BadHead = ⊥
+IsOfPath q refusals.BadFraming = ⊥
+IsOfPath q refusals.BadMethod = ⊥
+IsOfPath q (refusals.Query fault) = ⊥
 
--- the block is named by its CID
-abbrev pub IsGood : Section → Type 0
-IsGood section = IsNamedBlock section.cid (Some section.block)
+-- the block is asked for, and named by its CID
+abbrev pub IsGood : QueryParts → Section → Type 0
+IsGood q section = (is_asked q section.cid ≡ true) × IsNamedBlock section.cid (Some section.block)
 
 -- the store failed and counted it, or a stored block had changed, which isn't counted
 abbrev pub HasBroken : ℕ → ℕ → Type 0
@@ -37,16 +40,16 @@ HasBroken before now = Rose before now ⊎ (now ≡ before)
 pub data ShapedFor (head : RequestHead) : Sent → Type 0 where
   refused_ask : (refusal : Refusal) (before : ℕ) → asked head ≡ Err refusal
       → ShapedFor head (quiet (refused_request head refusal) before)
-  refused_path : (q : QueryParts) (refusal : Refusal) (before : ℕ) → asked head ≡ Ok q → IsOfPath refusal
+  refused_path : (q : QueryParts) (refusal : Refusal) (before : ℕ) → asked head ≡ Ok q → IsOfPath q refusal
       → ShapedFor head (quiet (refused_request head refusal) before)
   raw_block : (q : QueryParts) (block : List ℕ) (before : ℕ) → asked head ≡ Ok q → q.form ≡ forms.Raw
       → IsNamedBlock q.root (Some block) → ShapedFor head (quiet (raw_reply head q block) before)
   car_of : (q : QueryParts) (found cut : Bool) (sections : List Section) (before : ℕ) → asked head ≡ Ok q
-      → q.form ≡ forms.Car → All IsGood sections → ShapedFor head (quiet (car_reply head found q sections cut) before)
+      → q.form ≡ forms.Car → (found ≡ false → q.path ≢ []) → All (IsGood q) sections → ShapedFor head (quiet (car_reply head found q sections cut) before)
   broken_path : (q : QueryParts) (before now : ℕ) → asked head ≡ Ok q → HasBroken before now
       → ShapedFor head (record { reply = refused_request head refusals.Store; course = broken_before; faults_before = before; faults_now = now })
   broken_car : (q : QueryParts) (found : Bool) (sections : List Section) (before now : ℕ) → asked head ≡ Ok q
-      → q.form ≡ forms.Car → is_head head.method ≡ false → All IsGood sections → HasBroken before now
+      → q.form ≡ forms.Car → is_head head.method ≡ false → (found ≡ false → q.path ≢ []) → All (IsGood q) sections → HasBroken before now
       → ShapedFor head (record { reply = car_reply head found q sections true; course = broken_behind (length sections); faults_before = before; faults_now = now })
 
 -- one request after another

@@ -4,9 +4,10 @@
 
 mod examples;
 
-ghost use Rattle.tg_sent.specs.Laws.{BrokenAreFew, BrokenIsFront, FailedAreBroken, FailedAreCounted, SentAreFew, SentAsReplies};
-ghost use Rattle.tg_sent.specs.Laws.{SentBegins, SentExtends, SentIsDetermined, SentIsShaped, SentJoins, SentStays};
-ghost use Rattle.tg_sent.specs.Laws.{SessionsGoOn, SessionsStayClosed, SomeSent};
+ghost use Rattle.tg_sent.specs.Laws.{BrokenAreFew, BrokenIsFront, FailedAreBroken, FailedAreCounted};
+ghost use Rattle.tg_sent.specs.Laws.{LimitIsFront, SentAreFew, SentAsReplies, SentBegins, SentExtends};
+ghost use Rattle.tg_sent.specs.Laws.{SentIsDetermined, SentIsShaped, SentJoins, SentStays, SessionsGoOn};
+ghost use Rattle.tg_sent.specs.Laws.{SessionsStayClosed, SomeSent, StandsForSent, UnfailedAreUncounted};
 
 pub use examples::sent_examples;
 
@@ -49,7 +50,7 @@ pub fn sent_begins()
 }
 
 /// There are no more replies than bytes; a reply at which the store broke off has status 500 or a body that was cut, and
-/// the store counted it.
+/// the store counted it; where it broke off nowhere its count is what it was.
 ///
 /// RFC 9112, section 9.3.
 pub fn numbers_of_sent()
@@ -57,15 +58,20 @@ pub fn numbers_of_sent()
     ensures broken { FailedAreBroken }
     ensures broken_few { BrokenAreFew }
     ensures counted { FailedAreCounted }
+    ensures uncounted { UnfailedAreUncounted }
 {}
 
-/// A session that stands for what was sent goes on to stand for it and for what it sent besides; a closed one stands for
-/// the same whatever comes; and where one is broken off a front of what is sent was written.
+/// What a session stands for is sent for the bytes that it was fed. One that is fed a piece and refuses nothing stands for
+/// what it sent besides, too; a closed one stands for the same whatever comes; and where more bytes came than may be
+/// received, out failed or memory was wanted, a front of what is sent was written, with the numbers of the replies that
+/// were written whole.
 ///
 /// RFC 9112, section 9.3.
 pub fn sessions_go_on()
+    ensures sent { StandsForSent }
     ensures go_on { SessionsGoOn }
     ensures closed { SessionsStayClosed }
+    ensures limit { LimitIsFront }
     ensures front { BrokenIsFront }
 {
     tg_http::laws::longer_bytes();

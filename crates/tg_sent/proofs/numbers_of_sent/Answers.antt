@@ -1,4 +1,4 @@
-use Rattle.tg_sent.proofs.Numbers.{broken, broken_few, counted, few}
+use Rattle.tg_sent.proofs.Numbers.{broken, broken_few, counted, few, uncounted}
 use Rattle.tg_sent.proofs.numbers_of_sent.Goals as goal
 
 pub returns-clause-few : goal.returns-clause-few
@@ -12,3 +12,6 @@ returns-clause-broken_few c = broken_few
 
 pub returns-clause-counted : goal.returns-clause-counted
 returns-clause-counted c = counted
+
+pub returns-clause-uncounted : goal.returns-clause-uncounted
+returns-clause-uncounted c = uncounted
