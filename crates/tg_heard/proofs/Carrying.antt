@@ -105,7 +105,7 @@ module _ (IsHead : ReplyHead → Type 0) (reply : Reply) (q : QueryParts) (secti
       }
 
 -- chunks end by themselves
-chunked_open : framings.Chunked ≡ framings.UntilClose → ⊥
+pub chunked_open : framings.Chunked ≡ framings.UntilClose → ⊥
 chunked_open e = cc
 
 -- and so does a body of a length

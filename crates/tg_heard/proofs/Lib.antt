@@ -8,3 +8,4 @@ mod Single
 mod ChunkFronts
 mod BodiesSoFar
 mod Receiving
+mod Worked

@@ -3,3 +3,4 @@ pub mod Carried
 pub mod Got
 pub mod Laws
 pub mod GotLaws
+pub mod Examples

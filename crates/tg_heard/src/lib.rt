@@ -2,9 +2,13 @@
 //! Each law is the contract of a function that does nothing.
 #![tactic(auto)]
 
+mod examples;
+
 ghost use Rattle.tg_heard.specs.GotLaws.{CarriedIsGot, GotFronts, OneGot};
 ghost use Rattle.tg_heard.specs.Laws.{AskedAbsencesCarry, AskedAnswersCarry, CarsCarry, CutsCarryNothing, NotBoth};
 ghost use Rattle.tg_heard.specs.Laws.{OneCarried, OneCarriedBy, OneFinalHead, RawsCarry, RefusalsCarryNothing};
+
+pub use examples::heard_examples;
 
 /// What is heard of a reply is one: its final head, also when more bytes come, and the sections that it carries for a
 /// query; and it is no answer and no absence at once.
