@@ -1,4 +1,5 @@
 pub mod Streams
 pub mod Joining
+pub mod Gathering
 pub mod Memory
 pub mod Known

@@ -127,7 +127,7 @@ impl<W: Write> Sink for StdSink<W> {
 
 /// One read, begun anew where it is interrupted (POSIX.1-2017, `read`). Errors: those of the reader but an
 /// interruption, and `TimedOut` where each of 2 ^ 64 - 1 reads was interrupted.
-fn read_on<R: Read>(reader: &mut R, buf: &mut [u8]) -> io::Result<usize>
+pub fn read_on<R: Read>(reader: &mut R, buf: &mut [u8]) -> io::Result<usize>
     ensures within { ReadsAtMost result buf.new }
     ensures bytes { ReadConsumes (R.remaining reader.old) (R.remaining reader.new) result buf.new }
     ensures anew { IfErr result (λ e. error_kind e ≢ ErrorKind.Interrupted) }
@@ -143,7 +143,7 @@ fn read_on<R: Read>(reader: &mut R, buf: &mut [u8]) -> io::Result<usize>
 
 /// One write, begun anew where it is interrupted (POSIX.1-2017, `write`). Errors: those of the writer but an
 /// interruption, and `TimedOut` where each of 2 ^ 64 - 1 writes was interrupted.
-fn write_on<W: Write>(writer: &mut W, bytes: &[u8]) -> io::Result<usize>
+pub fn write_on<W: Write>(writer: &mut W, bytes: &[u8]) -> io::Result<usize>
     ensures within { WritesAtMost result bytes.now }
     ensures bytes { WriteAppends (W.contents writer.old) (W.contents writer.new) result bytes.now }
     ensures anew { IfErr result (λ e. error_kind e ≢ ErrorKind.Interrupted) }
