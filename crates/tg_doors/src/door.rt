@@ -1,4 +1,5 @@
 //! Doors through which links come.
+ghost use Rattle.std.specs.Prelude.{◌≤◌};
 ghost use Rattle.tg_doors.specs.Doors.{DoorMeaning, IsAdmitted, IsBound, IsDone, KeepsComing, KeepsPort, KeepsServed, KeepsShut};
 ghost use Rattle.tg_doors.specs.Doors.{at_door, given_link, view_of};
 
@@ -22,7 +23,8 @@ pub trait Door {
     fn bind(&mut self, port: u16) -> Result<u16, Failed>
         ensures bound { IsBound (at_door door self.old self.new) result }
         ensures coming { KeepsComing (at_door door self.old self.new) }
-        ensures served { KeepsServed (at_door door self.old self.new) };
+        ensures served { KeepsServed (at_door door self.old self.new) }
+        ensures counted { door.faults self.old ≤ door.faults self.new };
 
     /// The next link, or none where it is told that no more come; over a socket it waits for one. The error is a fault
     /// of the door.
@@ -30,7 +32,8 @@ pub trait Door {
         ensures admitted { IsAdmitted (at_door door self.old self.new)
             (given_link Self.Link.link Self.Link.Source.source result) }
         ensures served { KeepsServed (at_door door self.old self.new) }
-        ensures port { KeepsPort (at_door door self.old self.new) };
+        ensures port { KeepsPort (at_door door self.old self.new) }
+        ensures counted { door.faults self.old ≤ door.faults self.new };
 
     /// Takes back a link that it gave, and tells what went through it. A fault of the link is one of the door; so is
     /// want of memory to tell of it, behind which nothing is told any more.

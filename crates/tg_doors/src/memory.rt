@@ -119,6 +119,7 @@ impl Door for MemDoor {
         ensures bound { IsBound (at_door mem_door self.old self.new) result }
         ensures coming { KeepsComing (at_door mem_door self.old self.new) }
         ensures served { KeepsServed (at_door mem_door self.old self.new) }
+        ensures counted { self.old.faults ≤ self.new.faults }
 
         ensures asked { IfOk result (λ n. n ≡ port) }
         ensures fails { IsErr result ↔ Contains self.old.fails self.old.calls }
@@ -136,6 +137,7 @@ impl Door for MemDoor {
         ensures admitted { IsAdmitted (at_door mem_door self.old self.new) (given_link mem_link mem_hearing result) }
         ensures served { KeepsServed (at_door mem_door self.old self.new) }
         ensures port { KeepsPort (at_door mem_door self.old self.new) }
+        ensures counted { self.old.faults ≤ self.new.faults }
 
         ensures fails { Contains self.old.fails self.old.calls → IsErr result }
         ensures call { self.new.calls ≡ counted self.old.calls }

@@ -1,16 +1,20 @@
-//! The tests of `tg_streams`, `tg_links` and `tg_doors`: sources and sinks over memory and over real streams, over readers and
-//! writers that are interrupted or tell their bytes, a two-way stream, and links and
-//! doors in memory.
+//! The tests of `tg_streams`, `tg_links` and `tg_doors`: sources and sinks over memory and over real streams, over readers
+//! and writers that are interrupted or tell their bytes, small pieces that are gathered, a two-way stream, and links and
+//! doors in memory and over sockets.
 #![tactic(auto)]
 
 #[cfg(test)]
 mod doors;
+#[cfg(test)]
+mod gathering;
 #[cfg(test)]
 mod interrupted;
 #[cfg(test)]
 mod links;
 #[cfg(test)]
 mod memory;
+#[cfg(test)]
+mod sockets;
 #[cfg(test)]
 mod standard;
 #[cfg(test)]

@@ -1,0 +1,192 @@
+//! Doors over TCP.
+ghost use Rattle.std.specs.Prelude.{◌≡◌, ◌+◌, ◌⊎◌, ◌≤◌, ◌≢◌, ◌↔◌, IfErr, IfOk, IfSome, IsErr, IsTrue, None, false};
+ghost use Rattle.std.specs.IoError.{error_kind};
+ghost use Rattle.tg_doors.specs.Doors.{IsAdmitted, IsBound, IsDone, KeepsComing, KeepsPort, KeepsServed, KeepsShut};
+ghost use Rattle.tg_doors.specs.Doors.{at_door, given_link, view_of};
+ghost use Rattle.tg_doors.specs.Tcp.{loopback, tcp_door};
+ghost use Rattle.tg_faults.specs.Faults.{Rose, counted};
+ghost use Rattle.tg_links.specs.Tcp.{tcp_hearing, tcp_link};
+
+use crate::door::Door;
+use std::io;
+use std::io::ErrorKind;
+use std::marker::Model;
+use std::net::{IpAddr, Ipv4Addr, Net, OpenListener, SocketAddr};
+use tg_faults::Failed;
+use tg_links::{Silence, TcpLink};
+
+/// A door to peers on this machine, which connect to a port of 127.0.0.1 over TCP (RFC 9293). It tells neither the
+/// links to come nor what went through those that were given back.
+///
+/// A link is over once its peer is silent for 60 seconds. Before a `bind` succeeded each `admit` is a fault.
+#[derive(Drop)]
+pub struct TcpDoor<R: Net> {
+    net: R,
+    bound: Option<Bound<R::Listener>>,
+    shut: bool,
+    faults: u64,
+}
+
+/// What listens, and the port at which it does.
+#[derive(Drop)]
+struct Bound<L> {
+    listener: L,
+    port: u16,
+}
+
+impl<R: Net> Model for TcpDoor<R> {
+    ghost use Rattle.std.specs.Prelude.{option_map};
+    ghost use Rattle.tg_doors.specs.Tcp.{TcpDoorState};
+
+    ghost Value = { TcpDoorState };
+
+    ghost view = { λ d. record { port = option_map (λ b. b.port) d.bound; shut = d.shut; faults = d.faults } };
+}
+
+impl<R: Net> TcpDoor<R> {
+    /// A door that is bound to no port yet, with no fault counted.
+    pub fn new(net: R) -> TcpDoor<R>
+        ensures { result ≡ record { port = None; shut = false; faults = 0 } }
+    {
+        TcpDoor {
+            net,
+            bound: None,
+            shut: false,
+            faults: 0,
+        }
+    }
+
+    /// How many calls failed, and how many links were given back with a fault of their own.
+    pub fn count(&self) -> u64
+        ensures { result ≡ self.now.faults }
+    {
+        self.faults
+    }
+
+    /// Counts a fault.
+    fn fault(&mut self) -> Failed
+        ensures count { self.new ≡ record self.old { faults = counted self.old.faults } }
+        ensures counted { self.old.faults ≤ self.new.faults }
+        ensures rose { Rose self.old.faults self.new.faults }
+    {
+        self.faults = self.faults.saturating_add(1);
+        Failed
+    }
+
+    /// The link of the next connection. Errors: those of accepting it and of setting it, and `NotConnected` where the
+    /// door isn't bound.
+    fn next_link(&self) -> io::Result<TcpLink<R::Stream>>
+        ensures new { IfOk result (λ link. (link.over ≡ false) × (link.faults ≡ 0)) }
+        ensures silence { IfOk result (λ link. link.silence ≡ Silence.Ends) }
+        ensures unbound { self.now.port ≡ None → IsErr result }
+    {
+        match &self.bound {
+            Some(bound) => TcpLink::open(accept_on(&bound.listener)?, Silence::Ends),
+            None => Err(io::Error::from(ErrorKind::NotConnected)),
+        }
+    }
+}
+
+impl<R: Net + Drop> Door for TcpDoor<R> {
+    type Link = TcpLink<R::Stream>;
+
+    ghost door = { tcp_door };
+
+    /// It is bound to 127.0.0.1 alone, and says at which port it listens. A port that is bound still is a fault, this
+    /// door's own among them; one whose connections were closed is free (`SO_REUSEADDR`).
+    fn bind(&mut self, port: u16) -> Result<u16, Failed> {
+        match listen(&self.net, loopback(port)) {
+            Ok(bound) => {
+                let port = bound.port;
+                self.bound = Some(bound);
+                self.shut = false;
+                Ok(port)
+            }
+            Err(_) => Err(self.fault()),
+        }
+    }
+
+    /// It waits for a connection and gives its link, and never none. Accepting is begun anew where it is interrupted,
+    /// and where the peer gave the connection up before.
+    fn admit(&mut self) -> Result<Option<TcpLink<R::Stream>>, Failed>
+        ensures admitted { IsAdmitted (at_door tcp_door self.old self.new)
+            (given_link tcp_link (tcp_hearing R.Stream.remaining) result) }
+        ensures served { KeepsServed (at_door tcp_door self.old self.new) }
+        ensures port { KeepsPort (at_door tcp_door self.old self.new) }
+        ensures counted { self.old.faults ≤ self.new.faults }
+
+        ensures unbound { self.old.port ≡ None → IsErr result }
+        ensures silence { IfOk result (λ given. IfSome given (λ link. link.silence ≡ Silence.Ends)) }
+    {
+        match self.next_link() {
+            Ok(link) => {
+                self.shut = false;
+                Ok(Some(link))
+            }
+            Err(_) => {
+                self.shut = true;
+                Err(self.fault())
+            }
+        }
+    }
+
+    /// It finishes the link, whose last errors are no faults.
+    fn done(&mut self, link: TcpLink<R::Stream>)
+        ensures done { IsDone (view_of tcp_link (tcp_hearing R.Stream.remaining) link)
+            (at_door tcp_door self.old self.new) }
+        ensures coming { KeepsComing (at_door tcp_door self.old self.new) }
+        ensures port { KeepsPort (at_door tcp_door self.old self.new) }
+        ensures shut { KeepsShut (at_door tcp_door self.old self.new) }
+
+        // However many calls of the link failed, one fault is counted at most.
+        ensures once { self.new.faults ≤ self.old.faults + 1 }
+    {
+        if link.count() != 0 {
+            self.fault();
+        }
+        link.finish();
+    }
+}
+
+/// Listens at an address, and says at which port. Errors: those of the system, such as a port that is in use.
+fn listen<R: Net>(net: &R, address: SocketAddr) -> io::Result<Bound<R::Listener>> {
+    let listener = net.bind(address)?;
+    let port = listener.local_addr()?.port();
+    Ok(Bound { listener, port })
+}
+
+/// The address of a port of this machine that no other machine reaches (RFC 1122, 3.2.1.3), where 0 stands for one
+/// that is free.
+fn loopback(port: u16) -> SocketAddr
+    ensures { result ≡ loopback port }
+{
+    SocketAddr::new(IpAddr::V4(Ipv4Addr::LOCALHOST), port)
+}
+
+/// The next connection. Accepting is begun anew where it is interrupted, and where the peer gave the connection up
+/// before (POSIX.1-2017, `accept`: `EINTR`, `ECONNABORTED`). Errors: the others of the listener, and `TimedOut` where
+/// each of 2 ^ 64 - 1 calls was begun anew.
+fn accept_on<L: OpenListener>(listener: &L) -> io::Result<L::Stream>
+    ensures { IfErr result (λ e. (error_kind e ≢ ErrorKind.Interrupted)
+        × (error_kind e ≢ ErrorKind.ConnectionAborted)) }
+{
+    for _ in 0..u64::MAX {
+        match listener.accept() {
+            Ok((stream, _)) => return Ok(stream),
+            Err(e) if is_passing(&e) => {}
+            Err(e) => return Err(e),
+        }
+    }
+    Err(io::Error::from(ErrorKind::TimedOut))
+}
+
+/// Whether accepting is begun anew behind this error.
+fn is_passing(e: &io::Error) -> bool
+    ensures { IsTrue result ↔ ((error_kind e.now ≡ ErrorKind.Interrupted)
+        ⊎ (error_kind e.now ≡ ErrorKind.ConnectionAborted)) }
+{
+    matches!(
+        e.kind(),
+        ErrorKind::Interrupted | ErrorKind::ConnectionAborted
+    )
+}

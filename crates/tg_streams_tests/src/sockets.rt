@@ -1,0 +1,237 @@
+//! A door and its links over real sockets, and links over streams that are silent or fail.
+ghost use Rattle.std.specs.Prelude.{◌≤◌, IfOk};
+
+use std::io;
+use std::io::{ErrorKind, Read, Write};
+use std::net::{Ipv4Addr, Shutdown, SocketAddr, TcpStream};
+use std::time::Instant;
+use tg_doors::{Door, TcpDoor};
+use tg_faults::Failed;
+use tg_links::{Silence, TcpLink};
+use tg_streams::{Sink, Source, put_all, read_front};
+
+/// Whether a link hears these bytes and then the end, and goes on to give the end.
+fn hears<L: Source>(link: &mut L, want: &[u8]) -> bool {
+    let mut buf = [0; 16];
+    match read_front(link, &mut buf) {
+        Ok(n) if n <= buf.len() => &buf[..n] == want && link.take(&mut buf) == Ok(0),
+        _ => false,
+    }
+}
+
+/// A client's connection to a port of this machine.
+fn dialled(rt: &HostRuntime, port: u16) -> io::Result<TcpStream> {
+    TcpStream::connect(rt, SocketAddr::from((Ipv4Addr::LOCALHOST, port)))
+}
+
+/// Whether a client can say these bytes, and then that no more come.
+fn says(client: &mut TcpStream, bytes: &[u8]) -> bool {
+    client.write_all(bytes).is_ok() && client.shutdown(Shutdown::Write).is_ok()
+}
+
+/// Whether a client reads these bytes and then the end.
+fn reads(client: &mut TcpStream, want: &[u8; 8]) -> bool {
+    let mut buf = [0; 8];
+    client.read_exact(&mut buf).is_ok() && buf == *want && matches!(client.read(&mut buf), Ok(0))
+}
+
+/// Whether a door over sockets answers one client, and takes the link back with no fault.
+fn serves(rt: &HostRuntime) -> bool {
+    let mut door = TcpDoor::new(*rt);
+    if door.admit().is_ok() || door.count() != 1 {
+        return false;
+    }
+    let Ok(port) = door.bind(0) else {
+        return false;
+    };
+    let Ok(mut client) = dialled(rt, port) else {
+        return false;
+    };
+    let said = says(&mut client, b"hello");
+    let Ok(Some(mut link)) = door.admit() else {
+        return false;
+    };
+    let answers = said && hears(&mut link, b"hello") && put_all(&mut link, b"hi there").is_ok();
+    door.done(link);
+    // Its own port is in use, so that it stays as it was.
+    let keeps = port != 0 && door.bind(port) == Err(Failed) && door.count() == 2;
+    answers && keeps && reads(&mut client, b"hi there")
+}
+
+/// Whether a client that reset its connection is a fault of its link, and one of the door.
+fn counts_reset(rt: &HostRuntime) -> bool {
+    let mut door = TcpDoor::new(*rt);
+    let Ok(port) = door.bind(0) else {
+        return false;
+    };
+    let Ok(mut client) = dialled(rt, port) else {
+        return false;
+    };
+    let Ok(Some(mut link)) = door.admit() else {
+        return false;
+    };
+    // A connection that is closed over bytes that weren't read is reset.
+    let mut byte = [0];
+    let arrives = put_all(&mut link, b"hello").is_ok() && client.read_exact(&mut byte).is_ok();
+    drop(client);
+    let resets = link.take(&mut byte) == Err(Failed) && link.count() == 1;
+    door.done(link);
+    arrives && resets && door.count() == 1
+}
+
+/// Whether a client reads the whole answer and the end, though the door's link left bytes of its unread; and, where the
+/// client doesn't end, whether the door waits about a second for it and far less than a minute.
+fn finishes(rt: &HostRuntime, ends: bool) -> bool {
+    let mut door = TcpDoor::new(*rt);
+    let Ok(port) = door.bind(0) else {
+        return false;
+    };
+    let Ok(mut client) = dialled(rt, port) else {
+        return false;
+    };
+    let said = if ends {
+        says(&mut client, b"hello")
+    } else {
+        client.write_all(b"hello").is_ok()
+    };
+    let Ok(Some(mut link)) = door.admit() else {
+        return false;
+    };
+    let mut byte = [0];
+    let hears = said && link.take(&mut byte) == Ok(1) && byte == [b'h'];
+    let answers = put_all(&mut link, b"hi there").is_ok();
+    let Ok(start) = Instant::now(rt) else {
+        return false;
+    };
+    door.done(link);
+    let waited = match start.elapsed(rt) {
+        Ok(waited) => waited.as_millis(),
+        Err(_) => return false,
+    };
+    hears
+        && answers
+        && (ends || (500 <= waited && waited < 30_000))
+        && reads(&mut client, b"hi there")
+        && door.count() == 0
+}
+
+#[test]
+fn a_door_serves_a_client(rt: HostRuntime) {
+    assert!(rt; serves(&rt));
+    assert!(rt; counts_reset(&rt));
+    assert!(rt; finishes(&rt, true) && finishes(&rt, false));
+}
+
+/// A stream whose first call answers so, an error or nothing, and of which each further call moves one byte.
+#[derive(Drop)]
+struct First {
+    answer: Option<Option<ErrorKind>>,
+}
+
+impl First {
+    /// The next call, with room for so many bytes.
+    fn call(&mut self, room: usize) -> io::Result<usize>
+        ensures { IfOk result (λ n. n ≤ room) }
+    {
+        match self.answer.take() {
+            None => Ok(room.min(1)),
+            Some(None) => Ok(0),
+            Some(Some(kind)) => Err(io::Error::from(kind)),
+        }
+    }
+}
+
+impl Read for First {
+    fn read(&mut self, buf: &mut [u8]) -> io::Result<usize> {
+        self.call(buf.len())
+    }
+}
+
+impl Write for First {
+    fn write(&mut self, buf: &[u8]) -> io::Result<usize> {
+        self.call(buf.len())
+    }
+
+    fn flush(&mut self) -> io::Result<()> {
+        Ok(())
+    }
+}
+
+/// What silence means, what the stream's first call answers, what two takes give, and what a put behind the same first
+/// call gives.
+type Row = (
+    Silence,
+    Option<ErrorKind>,
+    Result<usize, Failed>,
+    Result<usize, Failed>,
+    Result<usize, Failed>,
+);
+
+const ROWS: &[Row] = &[
+    (Silence::Ends, None, Ok(0), Ok(0), Err(Failed)),
+    (Silence::Fails, None, Ok(0), Ok(0), Err(Failed)),
+    (
+        Silence::Ends,
+        Some(ErrorKind::WouldBlock),
+        Ok(0),
+        Ok(0),
+        Err(Failed),
+    ),
+    (
+        Silence::Ends,
+        Some(ErrorKind::TimedOut),
+        Ok(0),
+        Ok(0),
+        Err(Failed),
+    ),
+    (
+        Silence::Fails,
+        Some(ErrorKind::WouldBlock),
+        Err(Failed),
+        Ok(1),
+        Err(Failed),
+    ),
+    (
+        Silence::Fails,
+        Some(ErrorKind::TimedOut),
+        Err(Failed),
+        Ok(1),
+        Err(Failed),
+    ),
+    (
+        Silence::Ends,
+        Some(ErrorKind::ConnectionReset),
+        Err(Failed),
+        Ok(1),
+        Err(Failed),
+    ),
+    (
+        Silence::Fails,
+        Some(ErrorKind::Interrupted),
+        Ok(1),
+        Ok(1),
+        Ok(1),
+    ),
+];
+
+/// Whether a link over such a stream answers so, and counts as many faults as calls failed.
+fn answers(row: &Row) -> bool {
+    let (silence, kind, first, second, put) = *row;
+    let mut link = TcpLink::new(First { answer: Some(kind) }, silence);
+    let mut buf = [0; 2];
+    let no_room = link.take(&mut buf[..0]) == Ok(0);
+    let mut other = TcpLink::new(First { answer: Some(kind) }, silence);
+    no_room
+        && link.take(&mut buf) == first
+        && link.take(&mut buf) == second
+        && link.count() == u64::from(first.is_err())
+        && other.put(b"abc") == put
+        && other.count() == u64::from(put.is_err())
+}
+
+#[test]
+fn a_silent_stream_ends_or_fails(rt: HostRuntime) {
+    for row in ROWS {
+        assert!(rt; answers(row), "{:?} {:?}", row.0, row.1);
+    }
+}
