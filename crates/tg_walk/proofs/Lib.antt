@@ -4,4 +4,5 @@ mod Giving
 mod OpenedHere
 mod PathPlaces
 mod PathSteps
+mod PathShapes
 mod Fewer

@@ -29,12 +29,13 @@ use Rattle.tg_traversal_laws.specs.PathStages.{IsResolved, ResolveLaws}
 use Rattle.tg_traversal_laws.specs.StoreWalks.{section_of, shown_at}
 use Rattle.tg_traversal_laws.specs.Tasks.{Task, Want, depth_of, fault_at, give_entries, give_text, is_read_at, node_want, open_block, path_want, segment_want, spot_of, start, stop_at, tasks_of, tasks_then, terminal_want}
 
--- behind so many blocks one place is left, at first the root's; and in a told store it leads where the path does, and behind the first
--- block the root is stored
+-- behind so many blocks one place is left, at first the root's, which is the only place of an empty path; and in a told store it leads
+-- where the path does, and behind the first block the root is stored
 pub record IsAlong (root : CidParts) (path : List (List ℕ)) (told : Option Store) (passed : ℕ) (left : LeftState) : Type 0 where
   pub query : left.query ≡ path_query root path
   pub place : IsPathPlace (passed + 1) (tasks_left left)
   pub first : passed ≡ 0 → tasks_left left ≡ start (path_query root path) root
+  pub only : path ≡ [] → passed ≡ 0
   pub behind : (store : Store) → told ≡ Some store → (passed ≡ 0 → ⊥) → IsStoredRoot store root
   pub way : (store : Store) → told ≡ Some store → IsResolved (path_query root path) store (tasks_left left) × (passed ≤ 1025)
 
@@ -47,6 +48,8 @@ pub record IsPlaceAlong (root : CidParts) (path : List (List ℕ)) (told : Optio
   pub later : left.later ≡ []
   pub place : IsPathPlace (passed + 1) (open_block at.want at.cid ∷ [])
   pub first : passed ≡ 0 → at.cid ≡ root
+  pub only : path ≡ [] → passed ≡ 0
+  pub unread : path ≡ [] → is_read_at (path_query root path) at.want ≡ false
   pub behind : (store : Store) → told ≡ Some store → (passed ≡ 0 → ⊥) → IsStoredRoot store root
   pub way : (store : Store) → told ≡ Some store → IsResolved (path_query root path) store (open_block at.want at.cid ∷ []) × (passed ≤ 1025)
 
@@ -58,13 +61,14 @@ starts laws root path told left q t = record {
   query = q;
   place = subst (IsPathPlace 1) (sym t) (first_place path root);
   first = λ z. t;
+  only = λ z. refl;
   behind = λ store e n. absurd (n refl);
   way = λ store e. (subst (IsResolved (path_query root path) store) (sym t) (laws.start (path_query root path) store), omega (arith));
 }
 
 -- ---- the place that is left
 
-place_then : (d : ℕ) (tasks : List (Task CidParts)) → IsPathPlace d tasks → tasks_then tasks ≡ tasks
+pub place_then : (d : ℕ) (tasks : List (Task CidParts)) → IsPathPlace d tasks → tasks_then tasks ≡ tasks
 place_then d [] h = absurd h
 place_then d (open_block w cid ∷ tasks) h = refl
 place_then d (give_text text ∷ tasks) h = absurd h
@@ -83,8 +87,17 @@ deep d (segment_want i position name path depth) cid h = h
 deep d (terminal_want depth) cid h = h
 deep d (node_want reach position depth) cid h = absurd h
 
+same_want : (v w : Want) (cid other : CidParts) → open_block v cid ∷ [] ≡ open_block w other ∷ [] → v ≡ w
+same_want v w cid other e = cc
+
 same_cid : (v w : Want) (cid other : CidParts) → open_block v cid ∷ [] ≡ open_block w other ∷ [] → cid ≡ other
 same_cid v w cid other e = cc
+
+-- the block at the end of an empty path isn't read
+unread_root : (root : CidParts) (path : List (List ℕ)) (w : Want) (cid : CidParts) → path ≡ [] → open_block w cid ∷ [] ≡ open_block (path_want 0 path 1) root ∷ []
+    → is_read_at (path_query root path) w ≡ false
+unread_root root [] w cid z e = ap (is_read_at (path_query root [])) (same_want w (path_want 0 [] 1) cid root e)
+unread_root root (name ∷ path) w cid z e = absurd (cc)
 
 placed : (root : CidParts) (path : List (List ℕ)) (told : Option Store) (passed : ℕ) (old mid : LeftState) (wanted : Wanted) (at : WantedAt) → mid.query ≡ old.query → IsAlong root path told passed old
     → mid.wanted ≡ Some at → wanted.cid ≡ at.cid → mid.later ≡ [] → open_block at.want at.cid ∷ [] ≡ tasks_left old → IsPlaceAlong root path told passed mid wanted
@@ -96,6 +109,8 @@ placed root path told passed old mid wanted at q on w c later e = record {
   later = later;
   place = subst (IsPathPlace (passed + 1)) (sym e) on.place;
   first = λ z. same_cid at.want (path_want 0 path 1) at.cid root (e ∙ on.first z);
+  only = on.only;
+  unread = λ z. unread_root root path at.want at.cid z (e ∙ on.first (on.only z));
   behind = on.behind;
   way = λ store t. (subst (IsResolved (path_query root path) store) (sym e) (on.way store t).0, (on.way store t).1);
 }
@@ -121,7 +136,7 @@ miss_ends laws root path store (misses.NoEntry i) more b h = record { root_store
 miss_ends laws root path store (misses.NoDirectory i) more b h = record { root_stored = b; end = laws.miss (path_query root path) store (missing_of (misses.NoDirectory i)) more h }
 
 -- at first the root is left, and no segment led nowhere yet
-no_miss_first : (w : Want) (cid : CidParts) (miss : _) (more : List (Task CidParts)) → open_block w cid ∷ [] ≡ stop_at miss ∷ more → ⊥
+pub no_miss_first : (w : Want) (cid : CidParts) (miss : _) (more : List (Task CidParts)) → open_block w cid ∷ [] ≡ stop_at miss ∷ more → ⊥
 no_miss_first w cid miss more e = cc
 
 root_before : (root : CidParts) (path : List (List ℕ)) (told : Option Store) (store : Store) (passed : ℕ) (old : LeftState) (miss : Miss) (more : List (Task CidParts)) → told ≡ Some store
@@ -306,6 +321,7 @@ went_on laws root path told passed mid new wanted block few there s q h = record
   place = subst (IsPathPlace (passed + 1 + 1)) (sym h.tasks)
       (next_place root path (passed + 1) there.at.want there.at.cid (section_of there.at.cid block) h.kind (links_of h.kind) there.place h.is_read);
   first = λ z. absurd (omega (arith, z));
+  only = λ z. absurd (let u = there.unread z in let r = h.is_read in cc);
   behind = λ store e n. root_there root path told store passed mid wanted block e there (s store e);
   way = λ store e. (
     subst (IsResolved (path_query root path) store) (sym h.tasks)

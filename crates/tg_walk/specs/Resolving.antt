@@ -1,6 +1,7 @@
 -- Where a path leads over what a store shows (Path Gateway specification, Path Resolution).
-use Rattle.std.specs.Prelude.{Err, List, None, Ok, Option, Result, Some, [], true, ⊤, ℕ, ◌∷◌, ◌≡◌}
+use Rattle.std.specs.Prelude.{Err, List, None, Ok, Option, Result, Some, [], true, ⊤, ℕ, ◌∷◌, ◌≡◌, ◌≢◌}
 use Rattle.tg_cid.specs.Cid.{CidParts}
+use Rattle.tg_cid.specs.declared.cid.HashKind.TheVariants.{Sha256}
 use Rattle.tg_walk.specs.declared.fault.ResolveFault.{ResolveFault}
 use Rattle.tg_walk.specs.declared.fault.ResolveFault.TheVariants as refusals
 use Rattle.tg_walk.specs.declared.fault.WalkFault.{WalkFault}
@@ -80,6 +81,16 @@ HasResolveCause (Ok cid) told lookups = LookupsQuiet lookups
 HasResolveCause (Err (refusals.Store fault)) told lookups =
     (cid : CidParts) × IsCauseOf told cid lookups.faults_old lookups.faults_new fault
 HasResolveCause (Err other) told lookups = LookupsQuiet lookups
+
+-- which refusals can come: that the root isn't stored only of a root whose hash isn't identity, and the others of a path
+-- that has a segment
+abbrev pub HasResolveShape : CidParts → List (List ℕ) → Result CidParts ResolveFault → Type 0
+HasResolveShape root path (Err refusals.NoRoot) = root.hash ≡ Sha256
+HasResolveShape root path (Err (refusals.NotThere i)) = path ≢ []
+HasResolveShape root path (Err (refusals.NotFolder i)) = path ≢ []
+HasResolveShape root path (Err (refusals.BadBlock cid fault)) = path ≢ []
+HasResolveShape root path (Err (refusals.Gone cid)) = path ≢ []
+HasResolveShape root path end = ⊤
 
 -- one place of the path is left, at this depth; or a segment led nowhere
 abbrev pub IsPathPlace : ℕ → List (Task CidParts) → Type 0

@@ -28,7 +28,7 @@ use Rattle.tg_model.specs.PathWalk.{Spot, TraversalEnd, bad_block, gone, not_fol
 use Rattle.tg_model.specs.Queries.{QueryParts}
 use Rattle.tg_model.specs.StoreView.{block_at, store_view}
 use Rattle.tg_model.specs.Stores.{IsCauseOf, IsNamedBlock, LookedUp, Lookups, LookupsQuiet, Store}
-use Rattle.tg_model.specs.Traversal.{Traversal, and_then, sent, traversal}
+use Rattle.tg_model.specs.Traversal.{Traversal, and_then, is_asked, sent, traversal}
 use Rattle.tg_model.specs.declared.stores.BlocksFault.{BlocksFault}
 use Rattle.tg_traversal_laws.specs.Openings.{opened_by}
 use Rattle.tg_traversal_laws.specs.StoreWalks.{IsWalked, WalkEnds, WalkTooDeep, section_of}
@@ -146,6 +146,12 @@ abbrev pub IsNamedFound : Result (Option (CidParts × List ℕ)) WalkFault → T
 IsNamedFound (Ok (Some found)) = Names found.0 found.1 × (length found.1 ≤ max_block_len)
 IsNamedFound (Ok None) = ⊤
 IsNamedFound (Err fault) = ⊤
+
+-- a block that is given is asked for
+abbrev pub IsAskedFound : QueryParts → Result (Option (CidParts × List ℕ)) WalkFault → Type 0
+IsAskedFound q (Ok (Some found)) = is_asked q found.0 ≡ true
+IsAskedFound q (Ok None) = ⊤
+IsAskedFound q (Err fault) = ⊤
 
 -- a fault of the store comes as it came; no other fault hides one
 abbrev pub HasStoreCause : Result (Option (CidParts × List ℕ)) WalkFault → Option Store → Lookups → Type 0

@@ -1,4 +1,5 @@
-//! A walk over the blocks of a store: the blocks that a query asks for, one by one, and where a path leads.
+//! A walk over the blocks of a store: the blocks that a query asks for, one by one; where a path leads; and the
+//! block of a CID.
 #![tactic(auto)]
 
 mod fault;
@@ -7,4 +8,4 @@ mod walk;
 
 pub use fault::{ResolveFault, WalkFault};
 pub use resolving::resolve;
-pub use walk::{MAX_DEPTH, Walk};
+pub use walk::{MAX_DEPTH, Walk, fetch};

@@ -1,6 +1,6 @@
 //! Where a path leads in a store.
 ghost use Rattle.std.specs.Prelude.{◌≡◌, ◌≤◌, All, IfOk, Some, length};
-ghost use Rattle.tg_walk.specs.Resolving.{HasResolveCause, IsResolvedTo, path_query};
+ghost use Rattle.tg_walk.specs.Resolving.{HasResolveCause, HasResolveShape, IsResolvedTo, path_query};
 ghost use Rattle.tg_walk.specs.Walks.{HaveLookedUp};
 ghost use Rattle.tg_traversal.specs.Left.{tasks_left};
 ghost use Rattle.tg_traversal_laws.specs.Tasks.{start};
@@ -35,8 +35,10 @@ pub fn resolve<B: Blocks>(
     requires good { All IsGoodName path.now }
     ensures end { (store : Store) → B.blocks.stored blocks.old ≡ Some store
         → IsResolvedTo store root.now path.now result }
+    ensures shape { HasResolveShape root.now path.now result }
     ensures looked { HaveLookedUp (looked_in B.blocks blocks.old blocks.new) }
     ensures cause { HasResolveCause result (B.blocks.stored blocks.old) (looked_in B.blocks blocks.old blocks.new) }
+    ensures counted { B.blocks.faults blocks.old ≤ B.blocks.faults blocks.new }
 {
     match path_frames(alloc, root, path) {
         Ok(mut frames) => follow(alloc, &mut frames, blocks, root),
@@ -67,8 +69,10 @@ fn follow<B: Blocks>(
     requires start { tasks_left frames.old ≡ start (path_query root.now frames.old.query.path) root.now }
     ensures end { (store : Store) → B.blocks.stored blocks.old ≡ Some store
         → IsResolvedTo store root.now frames.old.query.path result }
+    ensures shape { HasResolveShape root.now frames.old.query.path result }
     ensures looked { HaveLookedUp (looked_in B.blocks blocks.old blocks.new) }
     ensures cause { HasResolveCause result (B.blocks.stored blocks.old) (looked_in B.blocks blocks.old blocks.new) }
+    ensures counted { B.blocks.faults blocks.old ≤ B.blocks.faults blocks.new }
 {
     tg_traversal_laws::resolved_paths();
     let mut last = *root;

@@ -4,9 +4,10 @@ ghost use Rattle.std.specs.Prelude.{◌≡◌, ◌≤◌, ◌<◌, ◌^◌, List
 ghost use Rattle.tg_traversal.specs.BlocksLeft.{HasFewer, blocks_over};
 ghost use Rattle.tg_traversal.specs.Left.{WantedAt, tasks_left};
 ghost use Rattle.tg_walk.specs.Walks.{HasFetched, HasGone, HasGoneOn, HasLookedOnce, HasLookedUp, HasOpened};
-ghost use Rattle.tg_walk.specs.Walks.{HasStepped, HasStoreCause, IsBlockOf, IsGiven, IsNamedFound, IsNextPlace};
-ghost use Rattle.tg_walk.specs.Walks.{IsOnWalk, IsOpened, IsWantedHere, StandsFor, blocks_left};
+ghost use Rattle.tg_walk.specs.Walks.{HasStepped, HasStoreCause, IsAskedFound, IsBlockOf, IsGiven, IsNamedFound};
+ghost use Rattle.tg_walk.specs.Walks.{IsNextPlace, IsOnWalk, IsOpened, IsWantedHere, StandsFor, blocks_left};
 ghost use Rattle.tg_walk.specs.Walks.{fault_of_block, fault_of_miss, max_depth};
+ghost use Rattle.tg_cid.specs.declared.cid.HashKind.TheVariants.{Identity};
 ghost use Rattle.tg_model.specs.Dag.{Section};
 ghost use Rattle.tg_model.specs.Stores.{IsCauseOf, Store, looked_in};
 
@@ -76,11 +77,13 @@ impl Walk {
             → StandsFor self.old store sections
             → HasStepped result self.new store sections }
         ensures named { IsNamedFound result }
+        ensures asked { IsAskedFound self.old.left.query result }
         ensures fewer { IfOk result (λ found. IfSome found
             (λ _. blocks_left self.new.left < blocks_left self.old.left)) }
         ensures looked { HasLookedUp self.old.left.query result (looked_in B.blocks blocks.old blocks.new) }
         ensures cause { self.old.refused ≡ None
             → HasStoreCause result (B.blocks.stored blocks.old) (looked_in B.blocks blocks.old blocks.new) }
+        ensures counted { B.blocks.faults blocks.old ≤ B.blocks.faults blocks.new }
         ensures again { (fault : WalkFault) → self.old.refused ≡ Some fault
             → (result ≡ Err fault) × (self.new ≡ self.old) × (blocks.new ≡ blocks.old) }
         ensures refused { MatchResult result (λ _. self.new.refused ≡ None) (λ fault. self.new.refused ≡ Some fault) }
@@ -107,9 +110,11 @@ fn next_given<B: Blocks>(
         → IsOnWalk max_depth frames.old (keys_of known.old.entries) store sections
         → HasGoneOn result frames.new (keys_of known.new.entries) store sections }
     ensures named { IsNamedFound result }
+    ensures asked { IsAskedFound frames.old.query result }
     ensures fewer { IfOk result (λ found. IfSome found (λ _. blocks_left frames.new < blocks_left frames.old)) }
     ensures looked { HasLookedUp frames.old.query result (looked_in B.blocks blocks.old blocks.new) }
     ensures cause { HasStoreCause result (B.blocks.stored blocks.old) (looked_in B.blocks blocks.old blocks.new) }
+    ensures counted { B.blocks.faults blocks.old ≤ B.blocks.faults blocks.new }
 {
     tg_traversal_laws::store_walks();
     let dups = frames.query().dups();
@@ -151,6 +156,7 @@ fn step<B: Blocks>(
         (λ _. blocks_over most (tasks_left frames.new) < blocks_over most (tasks_left frames.old))) }
     ensures looked { HasLookedOnce result (looked_in B.blocks blocks.old blocks.new) }
     ensures cause { HasStoreCause result (B.blocks.stored blocks.old) (looked_in B.blocks blocks.old blocks.new) }
+    ensures counted { B.blocks.faults blocks.old ≤ B.blocks.faults blocks.new }
 {
     tg_traversal_laws::store_walks();
     let Some(place) = next_place(frames)? else {
@@ -167,16 +173,22 @@ fn step<B: Blocks>(
 }
 
 /// The block that a CID leads to: of an identity CID its digest, for which the store isn't asked; and else the stored
-/// one.
-pub(crate) fn fetch<B: Blocks>(
+/// one, or none where no block is stored.
+///
+/// CID specification; Multihash, the identity hash. Errors: `Changed` and `Failed` where the store's look-up gave them,
+/// so never of an identity CID; and `OutOfMemory` where no memory was found, in the store or for the block.
+pub fn fetch<B: Blocks>(
     alloc: Global,
     blocks: &mut B,
     cid: &Cid,
 ) -> Result<Option<SharedBlock>, BlocksFault>
     ensures found { IfOk result (λ found. IsBlockOf (B.blocks.stored blocks.old) cid.now found) }
+    ensures identity { cid.now.hash ≡ Identity → IfOk result (λ found. found ≡ Some cid.now.digest) }
+    ensures no_memory { cid.now.hash ≡ Identity → IfErr result (λ fault. fault ≡ BlocksFault.OutOfMemory) }
     ensures looked { HasFetched cid.now result (looked_in B.blocks blocks.old blocks.new) }
     ensures cause { IfErr result (λ fault. IsCauseOf (B.blocks.stored blocks.old) cid.now (B.blocks.faults blocks.old)
         (B.blocks.faults blocks.new) fault) }
+    ensures counted { B.blocks.faults blocks.old ≤ B.blocks.faults blocks.new }
 {
     let block = match cid.hash_kind() {
         HashKind::Sha256 => match blocks.get(cid)? {

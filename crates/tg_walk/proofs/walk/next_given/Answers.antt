@@ -58,6 +58,10 @@ returns-then-branch-clause-stands g c store sections told start =
     (goes_on 512 c.loop-found.frames c.step.new.frames (keys_of c.loop-found.known.entries) (keys_of c.is_given.new.known.entries) store sections (section_of c.in-Some.found.0 c.in-Some.found.1) c.in_ok-is_given.field-0
     c.step.ensures.query on asks is more)
 
+pub returns-then-branch-clause-asked : goal.returns-then-branch-clause-asked
+returns-then-branch-clause-asked g c =
+    ap (λ (q : QueryParts). is_asked q c.in-Some.found.0) (sym (c.step.ensures.query ∙ c.loop-found.invariant.query) ∙ sym c.query-in-Some.ensures) ∙ sym c.asks.ensures ∙ c.if-asks.true
+
 pub returns-then-branch-clause-looked : goal.returns-then-branch-clause-looked
 returns-then-branch-clause-looked g c =
     let looked = subst (λ (found : Option (CidParts × List ℕ)). HasLookedOnce (Ok found) (looked_in g.B.Blocks.blocks c.loop-found.blocks c.step.new.blocks)) c.in-Some.is c.in_ok-found.ensures.looked in
