@@ -10,7 +10,7 @@ mod types;
 
 pub use accepts::{Accepted, CarChoice, parse_accept};
 pub use joins::join;
-pub use requests::print_request;
+pub use requests::{print_request, push_asked_path};
 pub use targets::{Target, parse_target};
 pub use tg_path::{QueryFault, parse_span, parse_word};
-pub use types::is_type_of;
+pub use types::{car_type, is_type_of, raw_type};

@@ -1,12 +1,13 @@
 //! The request that a client prints for a query.
-ghost use Rattle.std.specs.Prelude.{◌≡◌, ◌++◌, ◌∷◌, IfOk, OnOk, decimal};
+ghost use Rattle.std.specs.Prelude.{◌≡◌, ◌++◌, ◌∷◌, IfOk, OnOk, codes, decimal};
 ghost use Rattle.tg_cid.specs.Computed.{cid_text};
 ghost use Rattle.tg_model.specs.Queries.{IsSpan};
-ghost use Rattle.tg_query.specs.Requests.{IsAddr, accept_text, car_params, car_with_dups, dups_word, from_text};
+ghost use Rattle.tg_query.specs.Requests.{IsAddr, accept_text, car_params, from_text};
 ghost use Rattle.tg_query.specs.Requests.{params_text, path_text, request_text, span_param, span_text, target_text};
 ghost use Rattle.tg_query.specs.Requests.{to_text};
 ghost use Rattle.tg_query.specs.Targets.{scope_word};
 
+use crate::types::{car_type, raw_type};
 use itoa::Buffer;
 use std::alloc::{AllocError, Global};
 use tg_bytes::Bytes;
@@ -37,11 +38,23 @@ pub fn print_request(alloc: Global, query: &Query, addr: &str) -> Result<Bytes, 
 fn push_target(text: &mut Bytes, alloc: Global, query: &Query) -> Result<(), AllocError>
     ensures { OnOk result (text.new ≡ text.old ++ target_text query.now) }
 {
+    push_asked_path(text, alloc, query)?;
+    text.push_all(b"?")?;
+    push_params(text, query)?;
+    Ok(())
+}
+
+/// Adds `/ipfs/`, the text of the query's root as a CIDv1, and each segment of its path, escaped, behind a slash. The
+/// error is want of memory.
+///
+/// Path Gateway specification; RFC 3986, section 2.1.
+pub fn push_asked_path(text: &mut Bytes, alloc: Global, query: &Query) -> Result<(), AllocError>
+    ensures { OnOk result (text.new ≡ text.old ++ (codes "/ipfs/" ++ (cid_text query.now.root
+        ++ path_text query.now.path))) }
+{
     text.push_all(b"/ipfs/")?;
     push_root(text, alloc, query.root())?;
     push_path(text, alloc, query.path().as_slice())?;
-    text.push_all(b"?")?;
-    push_params(text, query)?;
     Ok(())
 }
 
@@ -141,23 +154,7 @@ fn push_accept(text: &mut Bytes, query: &Query) -> Result<(), AllocError>
     ensures { OnOk result (text.new ≡ text.old ++ accept_text query.now.form query.now) }
 {
     match query.form() {
-        Form::Raw => text.push_all(b"application/vnd.ipld.raw"),
-        Form::Car => push_car_type(text, query.dups()),
+        Form::Raw => text.push_all(raw_type()),
+        Form::Car => text.push_all(car_type(query.dups())),
     }
-}
-
-/// Adds the CAR type with its parameters.
-fn push_car_type(text: &mut Bytes, dups: bool) -> Result<(), AllocError>
-    ensures { OnOk result (text.new ≡ text.old ++ car_with_dups dups) }
-{
-    text.push_all(b"application/vnd.ipld.car; version=1; order=dfs; dups=")?;
-    text.push_all(dups_word(dups))?;
-    Ok(())
-}
-
-/// The word for repeats.
-pub(crate) fn dups_word(dups: bool) -> &'static [u8]
-    ensures { result.now ≡ dups_word dups }
-{
-    if dups { b"y" } else { b"n" }
 }

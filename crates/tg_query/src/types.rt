@@ -1,9 +1,10 @@
 //! Media types of answers.
-ghost use Rattle.std.specs.Prelude.{◌↔◌, IsTrue};
+ghost use Rattle.std.specs.Prelude.{◌≡◌, ◌↔◌, IsTrue};
+ghost use Rattle.tg_query.specs.Accepts.{raw_type};
+ghost use Rattle.tg_query.specs.Requests.{car_with_dups, dups_word};
 ghost use Rattle.tg_query.specs.Types.{IsCarType, IsTypeOf};
 
 use crate::accepts::{form_of_range, is_car, param_of};
-use crate::requests::dups_word;
 use tg_model::{Form, Query};
 
 /// Whether a media type, as the value of `Content-Type`, is that of a query's answer: the type of a raw block, or that
@@ -30,4 +31,33 @@ fn is_car_type(kind: &[u8], repeats: bool) -> bool
         && param_of(kind, b"version", b"1") == b"1".as_slice()
         && param_of(kind, b"order", b"dfs") == b"dfs".as_slice()
         && param_of(kind, b"dups", b"y") == dups_word(repeats)
+}
+
+/// The media type of a raw block.
+///
+/// Trustless Gateway specification, response types.
+pub fn raw_type() -> &'static [u8]
+    ensures { result.now ≡ raw_type }
+{
+    b"application/vnd.ipld.raw"
+}
+
+/// The media type of a CAR of version 1, in order `dfs`, with repeats or without.
+///
+/// Trustless Gateway specification, response types and CAR parameters.
+pub fn car_type(dups: bool) -> &'static [u8]
+    ensures { result.now ≡ car_with_dups dups }
+{
+    if dups {
+        b"application/vnd.ipld.car; version=1; order=dfs; dups=y"
+    } else {
+        b"application/vnd.ipld.car; version=1; order=dfs; dups=n"
+    }
+}
+
+/// The word for repeats.
+fn dups_word(dups: bool) -> &'static [u8]
+    ensures { result.now ≡ dups_word dups }
+{
+    if dups { b"y" } else { b"n" }
 }

@@ -85,10 +85,10 @@ header_part below root name h =
 
 -- ---- sections
 
-version_zero : (cid : CidParts) → cid.version ≡ 0 → cid_bytes cid ≡ 0x12 ∷ 0x20 ∷ cid.digest
+pub version_zero : (cid : CidParts) → cid.version ≡ 0 → cid_bytes cid ≡ 0x12 ∷ 0x20 ∷ cid.digest
 version_zero cid e = ap (λ (v : ℕ). cond (v == 0) (0x12 ∷ 0x20 ∷ cid.digest) (v1_bytes cid)) e
 
-version_one : (cid : CidParts) → cid.version ≡ 1 → cid_bytes cid ≡ v1_bytes cid
+pub version_one : (cid : CidParts) → cid.version ≡ 1 → cid_bytes cid ≡ v1_bytes cid
 version_one cid e = ap (λ (v : ℕ). cond (v == 0) (0x12 ∷ 0x20 ∷ cid.digest) (v1_bytes cid)) e
 
 spelled_again : Below → (cid : CidParts) (name : List ℕ) → CidBytes cid name → CidBytes cid (cid_bytes cid)

@@ -4,6 +4,7 @@ mod ReadBack
 mod ReplyHeads
 mod ChunkTexts
 mod CarTexts
+mod OneCarText
 mod Paths
 mod Memory
 mod TextLines

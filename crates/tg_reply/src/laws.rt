@@ -1,13 +1,19 @@
 //! Laws of replies, each the contract of a function that does nothing.
 ghost use Rattle.httparse.specs.Grammar.{AllPass, is_value_byte};
 ghost use Rattle.std.specs.Prelude.{◌≡◌, ◌≢◌, ◌<◌, ℕ, All, Err, List};
+ghost use Rattle.tg_car.specs.CarText.{SectionText};
+ghost use Rattle.tg_car.specs.Writing.{HeaderOf};
+ghost use Rattle.tg_cid.specs.Cid.{CidParts};
 ghost use Rattle.tg_cid.specs.Spelling.{CidBytes};
 ghost use Rattle.tg_http.specs.declared.request.RequestHead.{RequestHead};
+ghost use Rattle.tg_model.specs.Dag.{Section};
 ghost use Rattle.tg_model.specs.Queries.{QueryParts};
 ghost use Rattle.tg_path.specs.declared.fault.QueryFault.{QueryFault};
 ghost use Rattle.tg_reply.specs.Asked.{asked};
 ghost use Rattle.tg_reply.specs.AskedReadings.{AskedRawHasNoPath, AskedRepliesRead, AskedSpells, SentSpelled, TargetsAreBytes};
 ghost use Rattle.tg_reply.specs.Bodies.{CarsInParts, CutGoesOn, WholeInChunks, WholeInLength, WholeUntilClose};
+ghost use Rattle.tg_reply.specs.Bodies.{car_section};
+ghost use Rattle.tg_reply.specs.CarBytes.{car_header, section_bytes};
 ghost use Rattle.tg_reply.specs.Cutting.{CutsBeforeDeeper};
 ghost use Rattle.tg_reply.specs.Heads.{asked_path};
 ghost use Rattle.tg_reply.specs.Laws.{CarReadsBack, RawReadsBack, RefusalsReadBack};
@@ -46,6 +52,19 @@ pub fn car_bytes()
 {
     tg_cid::laws::computes();
     tg_cid::laws::length_laws();
+    tg_varint::laws::spelling_laws();
+}
+
+/// A root has one header of a CAR, and a section has one text: the bytes that `car_header` and `section_bytes` compute.
+///
+/// CARv1 specification, Header and Data.
+pub fn car_texts()
+    ensures header { (root : CidParts) (bytes : List ℕ) → HeaderOf root bytes → bytes ≡ car_header root }
+    ensures section { (section : Section) (text : List ℕ) → SectionText (car_section section) text
+        → text ≡ section_bytes section }
+{
+    tg_cid::laws::computes();
+    tg_cid::laws::one_spelling();
     tg_varint::laws::spelling_laws();
 }
 

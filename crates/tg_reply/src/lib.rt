@@ -10,8 +10,8 @@ mod streams;
 
 pub use examples::{absence_replies, block_replies, computed_replies, text_replies, two_replies};
 pub use laws::{
-    asked_queries, asked_replies_read, car_bytes, cut_places, no_memory, raw_queries, replies_read,
-    reply_bodies, reply_heads, request_targets, sent_sections, told_paths,
+    asked_queries, asked_replies_read, car_bytes, car_texts, cut_places, no_memory, raw_queries,
+    replies_read, reply_bodies, reply_heads, request_targets, sent_sections, told_paths,
 };
 pub use refusal::Refusal;
 pub use status::Status;
