@@ -1,3 +1,5 @@
+mod MissedRoots
 mod OwnReplies
 mod PathsCut
 mod SentFronts
+mod StoredRoots

@@ -1,2 +1,4 @@
 pub mod WalksSend
 pub mod OwnReplies
+pub mod StoredRoots
+pub mod MissedRoots
