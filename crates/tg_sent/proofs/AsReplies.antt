@@ -80,7 +80,7 @@ as_replies one computes store bytes rest sent all none =
 
 -- all that is sent where the store doesn't break off, whose count stays
 abbrev Some : Store → ℕ → List ℕ → Type 0
-Some store before bytes = (sent : List Sent) × (rest : List ℕ) × SentInFull store bytes sent rest × (failed_in sent ≡ 0) × CountsBetween before sent before
+Some store before bytes = (sent : List Sent) × (rest : List ℕ) × SentInFull (SentFor store) bytes sent rest × (failed_in sent ≡ 0) × CountsBetween before sent before
 
 module _ (store : Store) (before : ℕ) where
   -- for a request, and what follows where its reply leaves the connection open

@@ -3,9 +3,8 @@ use Rattle.std.proofs.Common.{◌≡◌, ℕ, true, false, Bool, List, [], ◌�
 use Rattle.tg_http.specs.Heads.{HasWholeText, IsNoRequest, PassesLimit, RequestStays}
 use Rattle.tg_http.specs.declared.fault.HttpFault.TheVariants as http_faults
 use Rattle.tg_http.specs.declared.request.RequestHead.{RequestHead}
-use Rattle.tg_model.specs.Stores.{Store}
 use Rattle.tg_reply.specs.Streams.{BeginsRequest}
-use Rattle.tg_sent.specs.Sent.{Sent, SentAll, bad_head, closed_by, last, limit, next, no_more}
+use Rattle.tg_sent.specs.Sent.{Answering, Sent, SentBy, bad_head, closed_by, last, limit, next, no_more}
 
 -- ---- closing
 
@@ -47,24 +46,24 @@ module _ (stays : RequestStays) where
   none_longer bytes piece h = stays.1 bytes piece http_faults.BadHead h
 
   -- what was sent for a front, and for the rest and a piece, is sent for both
-  pub joins : (store : Store) (fed piece rest behind : List ℕ) (sent more : List Sent) → SentAll store fed sent rest → closed_by sent ≡ false
-      → SentAll store (rest ++ piece) more behind → SentAll store (fed ++ piece) (sent ++ more) behind
-  joins store fed piece rest behind sent more (no_more b) open_is after = after
-  joins store fed piece rest behind sent more (limit b before h) open_is after = absurd (true_false open_is)
-  joins store fed piece rest behind sent more (bad_head b before h) open_is after = absurd (true_false open_is)
-  joins store fed piece rest behind sent more (last b r head s begins f e) open_is after =
+  pub joins : (For : Answering) (fed piece rest behind : List ℕ) (sent more : List Sent) → SentBy For fed sent rest → closed_by sent ≡ false
+      → SentBy For (rest ++ piece) more behind → SentBy For (fed ++ piece) (sent ++ more) behind
+  joins For fed piece rest behind sent more (no_more b) open_is after = after
+  joins For fed piece rest behind sent more (limit b before h) open_is after = absurd (true_false open_is)
+  joins For fed piece rest behind sent more (bad_head b before h) open_is after = absurd (true_false open_is)
+  joins For fed piece rest behind sent more (last b r head s begins f e) open_is after =
       absurd (true_false (sym (closed_here s [] e) ∙ open_is))
-  joins store fed piece rest behind sent more (next b r left head s below begins f e all) open_is after =
+  joins For fed piece rest behind sent more (next b r left head s below begins f e all) open_is after =
       next (b ++ piece) (r ++ piece) behind head s (below ++ more) (longer b r piece head begins) f e
-      (joins store r piece rest behind below more all (closed_below s below false e open_is) after)
+      (joins For r piece rest behind below more all (closed_below s below false e open_is) after)
 
   -- behind a close nothing more is sent
-  pub closed_stays : (store : Store) (fed piece rest : List ℕ) (sent : List Sent) → SentAll store fed sent rest → closed_by sent ≡ true
-      → SentAll store (fed ++ piece) sent rest
-  closed_stays store fed piece rest sent (no_more b) closed = absurd (false_true closed)
-  closed_stays store fed piece rest sent (limit b before h) closed = limit (b ++ piece) before (limit_longer b piece h)
-  closed_stays store fed piece rest sent (bad_head b before h) closed = bad_head (b ++ piece) before (none_longer b piece h)
-  closed_stays store fed piece rest sent (last b r head s begins f e) closed = last (b ++ piece) (r ++ piece) head s (longer b r piece head begins) f e
-  closed_stays store fed piece rest sent (next b r left head s below begins f e all) closed =
+  pub closed_stays : (For : Answering) (fed piece rest : List ℕ) (sent : List Sent) → SentBy For fed sent rest → closed_by sent ≡ true
+      → SentBy For (fed ++ piece) sent rest
+  closed_stays For fed piece rest sent (no_more b) closed = absurd (false_true closed)
+  closed_stays For fed piece rest sent (limit b before h) closed = limit (b ++ piece) before (limit_longer b piece h)
+  closed_stays For fed piece rest sent (bad_head b before h) closed = bad_head (b ++ piece) before (none_longer b piece h)
+  closed_stays For fed piece rest sent (last b r head s begins f e) closed = last (b ++ piece) (r ++ piece) head s (longer b r piece head begins) f e
+  closed_stays For fed piece rest sent (next b r left head s below begins f e all) closed =
       next (b ++ piece) (r ++ piece) rest head s below (longer b r piece head begins) f e
-      (closed_stays store r piece rest below all (closed_below s below true e closed))
+      (closed_stays For r piece rest below all (closed_below s below true e closed))

@@ -9,7 +9,8 @@ use Rattle.tg_model.specs.Stores.{Store}
 use Rattle.tg_reply.specs.FirstHead.{FirstHeads}
 use Rattle.tg_reply.specs.Replies.{reply_bytes}
 use Rattle.tg_sent.specs.Laws.{BrokenIsFront, LimitIsFront, SentExtends, SessionsGoOn, SessionsStayClosed, StandsForSent}
-use Rattle.tg_sent.specs.Sent.{CountsBetween, CountsFollow, IsSettled, Sent, SentAll, SentInFull, broken_in, closed_by, count_if, failed_in, is_broken, is_server_error, no_more, sent_bytes}
+use Rattle.tg_sent.specs.Sent.{Answering, CountsBetween, CountsFollow, IsSettled, Sent, SentAll, SentBy, SentFor, SentInFull, broken_in, closed_by, count_if, failed_in, is_broken, is_server_error, no_more, sent_bytes}
+use Rattle.tg_sent.specs.Shapes.{SentOver}
 use Rattle.tg_sent.specs.Sessions.{HasNumbers, IsWaitingFor, NumbersGoOn, SessionState, StandsFor}
 use Rattle.tg_sent.proofs.AsReplies.{some_sent}
 use Rattle.tg_sent.proofs.Joins.{closed_below, closed_here, closed_stays, joins, true_false}
@@ -79,19 +80,19 @@ between_append first after before now (s ∷ below) more h le f =
 pub sent_extends : RequestStays → FirstHeads → SentExtends
 sent_extends stays heads store fed piece rest sent s = by_close (closed_by sent) refl
   where
-    by_close : (c : Bool) → closed_by sent ≡ c → (more : List Sent) × (behind : List ℕ) × SentInFull store (fed ++ piece) (sent ++ more) behind
+    by_close : (c : Bool) → closed_by sent ≡ c → (more : List Sent) × (behind : List ℕ) × SentInFull (SentFor store) (fed ++ piece) (sent ++ more) behind
     by_close true e = (
       [],
       rest,
-      subst (λ (l : List Sent). SentInFull store (fed ++ piece) l rest) (sym (append-nil sent))
-          (record { sent_is = closed_stays stays store fed piece rest sent s e; settled = inr e }),
+      subst (λ (l : List Sent). SentInFull (SentFor store) (fed ++ piece) l rest) (sym (append-nil sent))
+          (record { sent_is = closed_stays stays (SentFor store) fed piece rest sent s e; settled = inr e }),
     )
     by_close false e =
         let found = some_sent heads store (rest ++ piece) 0 in (
           found.0,
           found.1,
           record {
-            sent_is = joins stays store fed piece rest found.1 sent found.0 s e found.2.sent_is;
+            sent_is = joins stays (SentFor store) fed piece rest found.1 sent found.0 s e found.2.sent_is;
             settled = settled_append found.1 sent found.0 e found.2.settled;
           },
         )
@@ -124,48 +125,48 @@ front_bytes sent more next count =
 
 module _ (stays : RequestStays) where
   -- what was sent for bytes is sent for these and any behind them
-  sent_with : (store : Store) (bytes dropped rest : List ℕ) (sent : List Sent) → SentAll store bytes sent rest
-      → (behind : List ℕ) × SentAll store (bytes ++ dropped) sent behind
-  sent_with store bytes dropped rest sent s = by_close (closed_by sent) refl
+  sent_with : (For : Answering) (bytes dropped rest : List ℕ) (sent : List Sent) → SentBy For bytes sent rest
+      → (behind : List ℕ) × SentBy For (bytes ++ dropped) sent behind
+  sent_with For bytes dropped rest sent s = by_close (closed_by sent) refl
     where
-      by_close : (c : Bool) → closed_by sent ≡ c → (behind : List ℕ) × SentAll store (bytes ++ dropped) sent behind
-      by_close true e = (rest, closed_stays stays store bytes dropped rest sent s e)
+      by_close : (c : Bool) → closed_by sent ≡ c → (behind : List ℕ) × SentBy For (bytes ++ dropped) sent behind
+      by_close true e = (rest, closed_stays stays For bytes dropped rest sent s e)
       by_close false e = (
         rest ++ dropped,
-        subst (λ (l : List Sent). SentAll store (bytes ++ dropped) l (rest ++ dropped)) (append-nil sent)
-            (joins stays store bytes dropped rest (rest ++ dropped) sent [] s e (no_more (rest ++ dropped))),
+        subst (λ (l : List Sent). SentBy For (bytes ++ dropped) l (rest ++ dropped)) (append-nil sent)
+            (joins stays For bytes dropped rest (rest ++ dropped) sent [] s e (no_more (rest ++ dropped))),
       )
 
   -- what a session stands for is sent for all the bytes that it was fed
   pub stands_sent : StandsForSent
-  stands_sent session store fed sent first now s =
-      let all = sent_with store s.looked s.dropped s.rest sent s.sent_is in
-      (all.0, subst (λ (l : List ℕ). SentAll store l sent all.0) (sym s.fed_is) all.1)
+  stands_sent session told fed sent first now s =
+      let all = sent_with (SentOver told) s.looked s.dropped s.rest sent s.sent_is in
+      (all.0, subst (λ (l : List ℕ). SentBy (SentOver told) l sent all.0) (sym s.fed_is) all.1)
 
   -- an open session kept what is behind the heads, so that what is sent for it and a piece joins what was sent
-  kept_joins : (old : SessionState) (store : Store) (fed looked behind : List ℕ) (sent more : List Sent) (first after : ℕ)
-      (s : StandsFor old store fed sent first after) → old.closed ≡ false → SentAll store (old.kept ++ looked) more behind
-      → SentAll store (s.looked ++ looked) (sent ++ more) behind
-  kept_joins old store fed looked behind sent more first after s open_is all =
+  kept_joins : (old : SessionState) (For : Answering) (fed looked behind : List ℕ) (sent more : List Sent) (first after : ℕ)
+      (s : StandsFor old For fed sent first after) → old.closed ≡ false → SentBy For (old.kept ++ looked) more behind
+      → SentBy For (s.looked ++ looked) (sent ++ more) behind
+  kept_joins old For fed looked behind sent more first after s open_is all =
       let waits : IsWaitingFor false old.kept s.rest = subst (λ (c : Bool). IsWaitingFor c old.kept s.rest) open_is s.waiting in
-      joins stays store s.looked looked s.rest behind sent more s.sent_is (sym s.closed_is ∙ open_is)
-      (subst (λ (l : List ℕ). SentAll store (l ++ looked) more behind) waits.0 all)
+      joins stays For s.looked looked s.rest behind sent more s.sent_is (sym s.closed_is ∙ open_is)
+      (subst (λ (l : List ℕ). SentBy For (l ++ looked) more behind) waits.0 all)
 
   -- and both are sent for all bytes, with those of the piece that weren't looked at
-  piece_joins : (old : SessionState) (store : Store) (fed piece looked dropped behind : List ℕ) (sent more : List Sent) (first after : ℕ)
-      → StandsFor old store fed sent first after → old.closed ≡ false → piece ≡ looked ++ dropped
-      → SentAll store (old.kept ++ looked) more behind → (rest : List ℕ) × SentAll store (fed ++ piece) (sent ++ more) rest
-  piece_joins old store fed piece looked dropped behind sent more first after s open_is piece_is all =
-      let joined = kept_joins old store fed looked behind sent more first after s open_is all in
-      let found = sent_with store (s.looked ++ looked) dropped behind (sent ++ more) joined in (
+  piece_joins : (old : SessionState) (For : Answering) (fed piece looked dropped behind : List ℕ) (sent more : List Sent) (first after : ℕ)
+      → StandsFor old For fed sent first after → old.closed ≡ false → piece ≡ looked ++ dropped
+      → SentBy For (old.kept ++ looked) more behind → (rest : List ℕ) × SentBy For (fed ++ piece) (sent ++ more) rest
+  piece_joins old For fed piece looked dropped behind sent more first after s open_is piece_is all =
+      let joined = kept_joins old For fed looked behind sent more first after s open_is all in
+      let found = sent_with For (s.looked ++ looked) dropped behind (sent ++ more) joined in (
         found.0,
-        subst (λ (l : List ℕ). SentAll store l (sent ++ more) found.0)
+        subst (λ (l : List ℕ). SentBy For l (sent ++ more) found.0)
             (sym (looked_with fed piece s.looked s.dropped looked dropped s.fed_is (s.all_looked open_is) piece_is)) found.1,
       )
 
   -- a session that is fed a piece and refuses nothing stands for what it sent besides, too
   pub sessions_go_on : SessionsGoOn
-  sessions_go_on old new store fed piece sent more first after before now s w le =
+  sessions_go_on old new told fed piece sent more first after before now s w le =
       let open_is : closed_by sent ≡ false = sym s.closed_is ∙ w.open_is.unclosed in
       record {
         unrefused = w.unrefused;
@@ -174,7 +175,7 @@ module _ (stays : RequestStays) where
         fed_is = looked_with fed piece s.looked s.dropped w.looked w.dropped s.fed_is (s.all_looked w.open_is.unclosed) w.piece_is;
         all_looked = w.all_looked;
         rest = w.behind;
-        sent_is = kept_joins old store fed w.looked w.behind sent more first after s w.open_is.unclosed w.sent_is;
+        sent_is = kept_joins old (SentOver told) fed w.looked w.behind sent more first after s w.open_is.unclosed w.sent_is;
         waiting = w.waiting;
         closed_is = w.closed_is ∙ sym (closed_append sent more open_is);
         numbers = numbers_append old new sent more s.numbers w.numbers;
@@ -187,8 +188,8 @@ module _ (stays : RequestStays) where
 
   -- where more bytes came than may be received, all that is sent for those that may be is a front of what is sent
   pub limit_is_front : LimitIsFront
-  limit_is_front old new store fed piece sent more first after before now s p =
-      let all = piece_joins old store fed piece p.looked p.dropped p.behind sent more first after s p.open_is.unclosed p.piece_is p.sent_is.sent_is in
+  limit_is_front old new told fed piece sent more first after before now s p =
+      let all = piece_joins old (SentOver told) fed piece p.looked p.dropped p.behind sent more first after s p.open_is.unclosed p.piece_is p.sent_is.sent_is in
       let bytes = sent_bytes (sent ++ more) in (
         record {
           sent = sent ++ more;
@@ -203,8 +204,8 @@ module _ (stays : RequestStays) where
 
   -- where an open session was broken off, the replies that were written whole, with a front of the next one, are one
   pub broken_is_front : BrokenIsFront
-  broken_is_front old new store fed piece written sent more next first after before now s b =
-      let all = piece_joins old store fed piece b.looked b.dropped b.behind sent (more ++ next) first after s b.open_is.unclosed b.piece_is b.sent_is in (
+  broken_is_front old new told fed piece written sent more next first after before now s b =
+      let all = piece_joins old (SentOver told) fed piece b.looked b.dropped b.behind sent (more ++ next) first after s b.open_is.unclosed b.piece_is b.sent_is in (
         record {
           sent = sent ++ (more ++ next);
           rest = all.0;
@@ -217,7 +218,7 @@ module _ (stays : RequestStays) where
 
 -- a closed session stands for the same
 pub sessions_stay_closed : SessionsStayClosed
-sessions_stay_closed session store fed piece sent first now s closed = record {
+sessions_stay_closed session told fed piece sent first now s closed = record {
   unrefused = s.unrefused;
   looked = s.looked;
   dropped = s.dropped ++ piece;

@@ -157,7 +157,7 @@ module _ (heads : FirstHeads) where
       (subst (λ (r : Reply). SentFor three_roots second_told (quiet r count)) second_replied (exact count)) refl (no_more [])
 
   -- both answered
-  pub as_stored : SentInFull three_roots both_requests as_stored_sent []
+  pub as_stored : SentInFull (SentFor three_roots) both_requests as_stored_sent []
   as_stored = record {
     sent_is = next both_requests (request_lines second_target) [] first_told (quiet directory_reply 0) (quiet absent_reply 0 ∷ []) (first_begins heads)
         (subst (λ (r : Reply). SentFor three_roots first_told (quiet r 0)) first_replied (exact 0)) refl (second_sent 0);
@@ -165,7 +165,7 @@ module _ (heads : FirstHeads) where
   }
 
   -- the first refused, and the second answered
-  pub refused : refused_request (get first_target) refusals.Store ≡ server_error (codes "6") (codes "Store") → SentInFull three_roots both_requests refused_sent []
+  pub refused : refused_request (get first_target) refusals.Store ≡ server_error (codes "6") (codes "Store") → SentInFull (SentFor three_roots) both_requests refused_sent []
   refused e = record {
     sent_is = next both_requests (request_lines second_target) [] first_told (broken_off (server_error (codes "6") (codes "Store")) broken_before) (quiet absent_reply 1 ∷ [])
         (first_begins heads)
@@ -174,7 +174,7 @@ module _ (heads : FirstHeads) where
   }
 
   -- the first cut, and the second not looked at
-  pub cut : SentInFull three_roots both_requests (cut_sent (cut_reply empty_head header_chunk)) []
+  pub cut : SentInFull (SentFor three_roots) both_requests (cut_sent (cut_reply empty_head header_chunk)) []
   cut = record {
     sent_is = last both_requests (request_lines second_target) first_told (broken_off (cut_reply empty_head header_chunk) (broken_behind 0)) (first_begins heads)
         (subst (λ (r : Reply). SentFor three_roots first_told (broken_off r (broken_behind 0))) first_cut (behind_sections empty_query 0 0 1 first_breaks one_more)) refl;
@@ -182,7 +182,7 @@ module _ (heads : FirstHeads) where
   }
 
   -- the one by HTTP/1.0 answered, and the second not looked at
-  pub plain : SentInFull three_roots plain_requests (quiet plain_reply 0 ∷ []) []
+  pub plain : SentInFull (SentFor three_roots) plain_requests (quiet plain_reply 0 ∷ []) []
   plain = record {
     sent_is = last plain_requests (request_lines second_target) plain_told (quiet plain_reply 0) (plain_begins heads)
         (subst (λ (r : Reply). SentFor three_roots plain_told (quiet r 0)) plain_replied (exact 0)) refl;
@@ -190,7 +190,7 @@ module _ (heads : FirstHeads) where
   }
 
   -- and cut
-  pub plain_cut_off : SentInFull three_roots plain_requests (cut_sent (cut_reply empty_head_plain empty_car_header)) []
+  pub plain_cut_off : SentInFull (SentFor three_roots) plain_requests (cut_sent (cut_reply empty_head_plain empty_car_header)) []
   plain_cut_off = record {
     sent_is = last plain_requests (request_lines second_target) plain_told (broken_off (cut_reply empty_head_plain empty_car_header) (broken_behind 0)) (plain_begins heads)
         (subst (λ (r : Reply). SentFor three_roots plain_told (broken_off r (broken_behind 0))) plain_cut (behind_sections empty_query 0 0 1 plain_breaks one_more)) refl;

@@ -1,12 +1,12 @@
 -- Laws of what a session has sent.
-use Rattle.std.specs.Prelude.{List, false, length, map, take, true, ℕ, ◌+◌, ◌++◌, ◌≡◌, ◌≤◌, ◌⊎◌}
+use Rattle.std.specs.Prelude.{List, Option, false, length, map, take, true, ℕ, ◌+◌, ◌++◌, ◌≡◌, ◌≤◌, ◌⊎◌}
 use Rattle.tg_faults.specs.Faults.{Rose}
 use Rattle.tg_model.specs.Stores.{IsStore, Store}
 use Rattle.tg_reply.specs.Streams.{Replies}
 use Rattle.tg_reply.specs.Written.{replies_for}
-use Rattle.tg_sent.specs.Sent.{CountsBetween, CountsFollow, Sent, SentAll, SentInFull, broken_in, closed_by, failed_in, happening_of, sent_bytes}
+use Rattle.tg_sent.specs.Sent.{CountsBetween, CountsFollow, Sent, SentAll, SentBy, SentFor, SentInFull, broken_in, closed_by, failed_in, happening_of, sent_bytes}
 use Rattle.tg_sent.specs.Sessions.{BrokeOff, HasNumbers, IsFrontOfSent, PassedLimit, SessionState, StandsFor, WentOn}
-use Rattle.tg_sent.specs.Shapes.{ShapedAll}
+use Rattle.tg_sent.specs.Shapes.{SentOver, ShapedAll}
 
 -- ---- what is sent is one
 
@@ -18,30 +18,30 @@ SentIsDetermined = (store : Store) (bytes rest behind : List ℕ) (sent other : 
 
 -- where the store doesn't break off the replies are those of the definition of replies, and one writing
 abbrev pub SentAsReplies : Type 0
-SentAsReplies = (store : Store) (bytes rest : List ℕ) (sent : List Sent) → SentInFull store bytes sent rest → failed_in sent ≡ 0
+SentAsReplies = (store : Store) (bytes rest : List ℕ) (sent : List Sent) → SentInFull (SentFor store) bytes sent rest → failed_in sent ≡ 0
     → Replies store bytes (sent_bytes sent) × (sent_bytes sent ≡ replies_for store bytes)
 
 -- and there are such, whatever the store's count is
 abbrev pub SomeSent : Type 0
 SomeSent = (store : Store) (bytes : List ℕ) (before : ℕ) → (sent : List Sent) × (rest : List ℕ)
-    × SentInFull store bytes sent rest × (failed_in sent ≡ 0) × CountsBetween before sent before
+    × SentInFull (SentFor store) bytes sent rest × (failed_in sent ≡ 0) × CountsBetween before sent before
 
 -- ---- bytes that go on
 
 -- what was sent for a front, and for the bytes behind it with a piece, is sent for both
 abbrev pub SentJoins : Type 0
-SentJoins = (store : Store) (fed piece rest behind : List ℕ) (sent more : List Sent) → SentAll store fed sent rest
-    → closed_by sent ≡ false → SentAll store (rest ++ piece) more behind → SentAll store (fed ++ piece) (sent ++ more) behind
+SentJoins = (told : Option Store) (fed piece rest behind : List ℕ) (sent more : List Sent) → SentBy (SentOver told) fed sent rest
+    → closed_by sent ≡ false → SentBy (SentOver told) (rest ++ piece) more behind → SentBy (SentOver told) (fed ++ piece) (sent ++ more) behind
 
 -- behind a close nothing more is sent
 abbrev pub SentStays : Type 0
-SentStays = (store : Store) (fed piece rest : List ℕ) (sent : List Sent) → SentAll store fed sent rest → closed_by sent ≡ true
-    → SentAll store (fed ++ piece) sent rest
+SentStays = (told : Option Store) (fed piece rest : List ℕ) (sent : List Sent) → SentBy (SentOver told) fed sent rest → closed_by sent ≡ true
+    → SentBy (SentOver told) (fed ++ piece) sent rest
 
 -- what was sent for bytes, whatever happened, can be gone on with
 abbrev pub SentExtends : Type 0
 SentExtends = (store : Store) (fed piece rest : List ℕ) (sent : List Sent) → SentAll store fed sent rest
-    → (more : List Sent) × (behind : List ℕ) × SentInFull store (fed ++ piece) (sent ++ more) behind
+    → (more : List Sent) × (behind : List ℕ) × SentInFull (SentFor store) (fed ++ piece) (sent ++ more) behind
 
 -- what is sent for bytes that go on begins with what was sent for these, where the same happened at the requests in these;
 -- and what more is sent is sent for the bytes behind these and the piece, where the connection is open
@@ -80,29 +80,29 @@ UnfailedAreUncounted = (store : Store) (fed rest : List ℕ) (sent : List Sent) 
 
 -- what a session stands for is sent for all the bytes that it was fed
 abbrev pub StandsForSent : Type 0
-StandsForSent = (session : SessionState) (store : Store) (fed : List ℕ) (sent : List Sent) (first now : ℕ) → StandsFor session store fed sent first now
-    → (rest : List ℕ) × SentAll store fed sent rest
+StandsForSent = (session : SessionState) (told : Option Store) (fed : List ℕ) (sent : List Sent) (first now : ℕ) → StandsFor session (SentOver told) fed sent first now
+    → (rest : List ℕ) × SentBy (SentOver told) fed sent rest
 
 abbrev pub SessionsGoOn : Type 0
-SessionsGoOn = (old new : SessionState) (store : Store) (fed piece : List ℕ) (sent more : List Sent) (first after before now : ℕ)
-    → StandsFor old store fed sent first after → WentOn old new store piece more before now → after ≤ before
-    → StandsFor new store (fed ++ piece) (sent ++ more) first now
+SessionsGoOn = (old new : SessionState) (told : Option Store) (fed piece : List ℕ) (sent more : List Sent) (first after before now : ℕ)
+    → StandsFor old (SentOver told) fed sent first after → WentOn old new (SentOver told) piece more before now → after ≤ before
+    → StandsFor new (SentOver told) (fed ++ piece) (sent ++ more) first now
 
 abbrev pub SessionsStayClosed : Type 0
-SessionsStayClosed = (session : SessionState) (store : Store) (fed piece : List ℕ) (sent : List Sent) (first now : ℕ) → StandsFor session store fed sent first now
-    → session.closed ≡ true → StandsFor session store (fed ++ piece) sent first now
+SessionsStayClosed = (session : SessionState) (told : Option Store) (fed piece : List ℕ) (sent : List Sent) (first now : ℕ) → StandsFor session (SentOver told) fed sent first now
+    → session.closed ≡ true → StandsFor session (SentOver told) (fed ++ piece) sent first now
 
 -- where more bytes came than may be received, or an open session was broken off, a front of what is sent was written, with
 -- the numbers of the replies that were written whole
 abbrev pub LimitIsFront : Type 0
-LimitIsFront = (old new : SessionState) (store : Store) (fed piece : List ℕ) (sent more : List Sent) (first after before now : ℕ)
-    → StandsFor old store fed sent first after → PassedLimit old new store piece more before now
-    → IsFrontOfSent store (fed ++ piece) (sent_bytes sent ++ sent_bytes more) × HasNumbers new (sent ++ more)
+LimitIsFront = (old new : SessionState) (told : Option Store) (fed piece : List ℕ) (sent more : List Sent) (first after before now : ℕ)
+    → StandsFor old (SentOver told) fed sent first after → PassedLimit old new (SentOver told) piece more before now
+    → IsFrontOfSent (SentOver told) (fed ++ piece) (sent_bytes sent ++ sent_bytes more) × HasNumbers new (sent ++ more)
 
 abbrev pub BrokenIsFront : Type 0
-BrokenIsFront = (old new : SessionState) (store : Store) (fed piece written : List ℕ) (sent more next : List Sent) (first after before now : ℕ)
-    → StandsFor old store fed sent first after → BrokeOff old new store piece more next written before now
-    → IsFrontOfSent store (fed ++ piece) (sent_bytes sent ++ written) × HasNumbers new (sent ++ more)
+BrokenIsFront = (old new : SessionState) (told : Option Store) (fed piece written : List ℕ) (sent more next : List Sent) (first after before now : ℕ)
+    → StandsFor old (SentOver told) fed sent first after → BrokeOff old new (SentOver told) piece more next written before now
+    → IsFrontOfSent (SentOver told) (fed ++ piece) (sent_bytes sent ++ written) × HasNumbers new (sent ++ more)
 
 -- ---- stores that tell nothing
 

@@ -86,9 +86,13 @@ pub data SentFor (store : Store) (head : RequestHead) : Sent → Type 0 where
 
 -- ---- one request after another
 
+-- what may be sent for a head
+abbrev pub Answering : Type 1
+Answering = RequestHead → Sent → Type 0
+
 -- What was sent for the heads at the front of bytes, in order, each as is said of its head, none but the last of which
 -- closes; and the bytes behind these heads. Behind a close no byte is looked at.
-pub data SentBy (For : RequestHead → Sent → Type 0) : List ℕ → List Sent → List ℕ → Type 0 where
+pub data SentBy (For : Answering) : List ℕ → List Sent → List ℕ → Type 0 where
   no_more : (bytes : List ℕ) → SentBy For bytes [] bytes
   limit : (bytes : List ℕ) (before : ℕ) → PassesLimit bytes
       → SentBy For bytes (quiet (refused_bytes refusals.HeadLimit) before ∷ []) []
@@ -161,6 +165,6 @@ abbrev pub IsSettled : List ℕ → List Sent → Type 0
 IsSettled rest sent = IsWaiting rest ⊎ (closed_by sent ≡ true)
 
 -- all that is sent for bytes, and the bytes behind it
-pub record SentInFull (store : Store) (bytes : List ℕ) (sent : List Sent) (rest : List ℕ) : Type 0 where
-  pub sent_is : SentAll store bytes sent rest
+pub record SentInFull (For : Answering) (bytes : List ℕ) (sent : List Sent) (rest : List ℕ) : Type 0 where
+  pub sent_is : SentBy For bytes sent rest
   pub settled : IsSettled rest sent

@@ -1,18 +1,18 @@
 -- What is sent over a store that tells nothing: the shape of a reply, its blocks named by their CIDs.
-use Rattle.std.specs.Prelude.{All, Bool, Err, List, Ok, Some, [], false, length, true, ℕ, ◌≡◌, ◌≢◌, ◌⊎◌}
+use Rattle.std.specs.Prelude.{All, Bool, Err, List, None, Ok, Option, Some, [], false, length, true, ℕ, ◌≡◌, ◌≢◌, ◌⊎◌}
 use Rattle.tg_cid.specs.declared.cid.HashKind.TheVariants as hashes
 use Rattle.tg_faults.specs.Faults.{Rose}
 use Rattle.tg_http.specs.declared.request.RequestHead.{RequestHead}
 use Rattle.tg_model.specs.Dag.{Section}
 use Rattle.tg_model.specs.Queries.{QueryParts}
-use Rattle.tg_model.specs.Stores.{IsNamedBlock}
+use Rattle.tg_model.specs.Stores.{IsNamedBlock, Store}
 use Rattle.tg_model.specs.Traversal.{is_asked}
 use Rattle.tg_model.specs.declared.queries.Form.TheVariants as forms
 use Rattle.tg_reply.specs.Asked.{asked, is_head}
 use Rattle.tg_reply.specs.Replies.{car_reply, raw_reply, refused_request}
 use Rattle.tg_reply.specs.declared.refusal.Refusal.{Refusal}
 use Rattle.tg_reply.specs.declared.refusal.Refusal.TheVariants as refusals
-use Rattle.tg_sent.specs.Sent.{Sent, SentBy, broken_before, broken_behind, quiet}
+use Rattle.tg_sent.specs.Sent.{Answering, Sent, SentBy, SentFor, broken_before, broken_behind, quiet}
 
 -- the refusals that come of what is stored: that the root isn't, whose CID is then no identity CID; and of a path that a block
 -- of it isn't stored or can't be read
@@ -52,6 +52,14 @@ pub data ShapedFor (head : RequestHead) : Sent → Type 0 where
       → q.form ≡ forms.Car → is_head head.method ≡ false → (found ≡ false → q.path ≢ []) → All (IsGood q) sections → HasBroken before now
       → ShapedFor head (record { reply = car_reply head found q sections true; course = broken_behind (length sections); faults_before = before; faults_now = now })
 
--- one request after another
+-- ---- a store that is told or not
+
+-- what is sent for a head over a store: over one that tells its blocks, and over one that tells nothing
+abbrev pub SentOver : Option Store → Answering
+SentOver (Some store) = SentFor store
+SentOver None = ShapedFor
+
+-- ---- one request after another
+
 abbrev pub ShapedAll : List ℕ → List Sent → List ℕ → Type 0
 ShapedAll = SentBy ShapedFor

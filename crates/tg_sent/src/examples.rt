@@ -2,7 +2,7 @@
 ghost use Rattle.std.specs.Prelude.{◌≡◌, ◌++◌, ◌∷◌, [], false, true};
 ghost use Rattle.tg_reply.specs.Examples.{empty_car_header, empty_head, empty_head_plain, three_roots};
 ghost use Rattle.tg_sent.specs.Examples.{as_stored_sent, both_requests, cut_reply, cut_sent, header_chunk, plain_reply, plain_requests, refused_sent};
-ghost use Rattle.tg_sent.specs.Sent.{CountsBetween, SentInFull, broken_in, closed_by, failed_in, quiet, sent_bytes};
+ghost use Rattle.tg_sent.specs.Sent.{CountsBetween, SentFor, SentInFull, broken_in, closed_by, failed_in, quiet, sent_bytes};
 
 /// What is sent for requests on one link. The CAR of the empty directory, and that an entry of it isn't there. Where the
 /// store failed before the head of the first reply: the refusal `Store`, behind which the connection stays open, so that
@@ -12,18 +12,18 @@ ghost use Rattle.tg_sent.specs.Sent.{CountsBetween, SentInFull, broken_in, close
 ///
 /// RFC 9112, sections 7.1 and 9.3; Trustless Gateway specification.
 pub fn sent_examples()
-    ensures as_stored { SentInFull three_roots both_requests as_stored_sent [] }
-    ensures refused { SentInFull three_roots both_requests refused_sent [] }
+    ensures as_stored { SentInFull (SentFor three_roots) both_requests as_stored_sent [] }
+    ensures refused { SentInFull (SentFor three_roots) both_requests refused_sent [] }
     ensures open_link { closed_by refused_sent ≡ false }
     ensures refused_counts { CountsBetween 0 refused_sent 1 }
     ensures refused_failed { failed_in refused_sent ≡ 1 }
     ensures refused_broken { broken_in refused_sent ≡ 1 }
-    ensures cut { SentInFull three_roots both_requests (cut_sent (cut_reply empty_head header_chunk)) [] }
+    ensures cut { SentInFull (SentFor three_roots) both_requests (cut_sent (cut_reply empty_head header_chunk)) [] }
     ensures cut_bytes { sent_bytes (cut_sent (cut_reply empty_head header_chunk)) ≡ empty_head ++ header_chunk }
     ensures cut_closes { closed_by (cut_sent (cut_reply empty_head header_chunk)) ≡ true }
     ensures cut_broken { broken_in (cut_sent (cut_reply empty_head header_chunk)) ≡ 1 }
-    ensures plain { SentInFull three_roots plain_requests (quiet plain_reply 0 ∷ []) [] }
-    ensures plain_cut { SentInFull three_roots plain_requests (cut_sent (cut_reply empty_head_plain empty_car_header)) [] }
+    ensures plain { SentInFull (SentFor three_roots) plain_requests (quiet plain_reply 0 ∷ []) [] }
+    ensures plain_cut { SentInFull (SentFor three_roots) plain_requests (cut_sent (cut_reply empty_head_plain empty_car_header)) [] }
 {
     tg_reply::first_heads();
     tg_reply::text_replies();
