@@ -7,6 +7,7 @@ use Rattle.tg_cid.specs.Limits.{max_block_len}
 use Rattle.tg_heard.specs.Laws.{CarriedBy, CarsCarry, RawsCarry}
 use Rattle.tg_http.specs.declared.request.RequestHead.{RequestHead}
 use Rattle.tg_model.specs.Answer.{answer, answer_at, block_of}
+use Rattle.tg_model.specs.Counts.{counts}
 use Rattle.tg_model.specs.Dag.{Dag, IsWhole, Section, bare, node, root_cid, unopened}
 use Rattle.tg_model.specs.LimitNumbers.{LimitNumbers}
 use Rattle.tg_model.specs.Lookup.{lookup_path}
@@ -26,6 +27,7 @@ use Rattle.tg_reply.specs.Bodies.{IsSpelled}
 use Rattle.tg_reply.specs.Readings.{IsGet}
 use Rattle.tg_reply.specs.Replies.{Reply, asks_close, reply, reply_bytes}
 use Rattle.tg_reply.specs.Streams.{BeginsRequest, OneWriting, Replies, closes}
+use Rattle.tg_walk.specs.Walks.{max_depth}
 use Rattle.tg_exchange.specs.Exchanges.{AnswerableIsAnswered, IsCarried, IsHeld, IsOwnHead, IsWithin, OwnRepliesCarry, OwnReply, OwnReplyCarries, PrintedIsRead, is_answer, own_reply}
 
 -- ---- the root's block
@@ -72,11 +74,11 @@ pub record CarriedLaws : Type 0 where
   pub one : OneWriting
 
 -- the request asks for a close
-close_asked : (q : QueryParts) (head : RequestHead) → IsOwnHead q head → asks_close head ≡ true
+pub close_asked : (q : QueryParts) (head : RequestHead) → IsOwnHead q head → asks_close head ≡ true
 close_asked q head own = rw (own.minor, own.close) refl
 
 -- so the reply closes
-reply_closes : (q : QueryParts) (d : Dag) (head : RequestHead) (form : Form) → IsOwnHead q head → (own_reply head q d form).closes ≡ true
+pub reply_closes : (q : QueryParts) (d : Dag) (head : RequestHead) (form : Form) → IsOwnHead q head → (own_reply head q d form).closes ≡ true
 reply_closes q d head forms.Raw own = close_asked q head own
 reply_closes q d head forms.Car own = rw (close_asked q head own) refl
 
@@ -116,17 +118,19 @@ module _ (laws : CarriedLaws) (q : QueryParts) (d : Dag) (limits : LimitNumbers)
 pub own_reply_carries : CarriedLaws → OwnReplyCarries
 own_reply_carries laws q d limits addr head sound root spelled within p own = own_carried laws q d limits addr head sound root spelled within p own
 
+-- what is written for a request of such a head, whatever follows it, is the DAG's own reply
+pub is_own : OwnReply → OneWriting → (store : Store) (q : QueryParts) (d : Dag) (bytes more written : List ℕ) (head : RequestHead) → IsHeld store q d
+    → (counts q d).depth ≤ max_depth → Replies store bytes written → BeginsRequest bytes head more → IsOwnHead q head
+    → written ≡ reply_bytes (own_reply head q d q.form)
+is_own law one store q d bytes more written head held shallow writes begins own =
+    let same : reply store head ≡ own_reply head q d q.form = law store q d head held shallow own in
+    one store bytes written (reply_bytes (reply store head)) writes
+    (closes bytes more head begins (ap (λ (r : Reply). r.closes) same ∙ reply_closes q d head q.form own))
+    ∙ ap reply_bytes same
+
 module _ (laws : CarriedLaws) (store : Store) (q : QueryParts) (d : Dag) (limits : LimitNumbers) (addr more written : List ℕ) (held : IsHeld store q d)
     (within : IsWithin q limits d) (p : IsPrintable q addr) (writes : Replies store (request_text q addr ++ more) written)
     (head : RequestHead) (begins : BeginsRequest (request_text q addr ++ more) head more) (own : IsOwnHead q head) where
-  -- what is written is the DAG's own reply
-  is_own : written ≡ reply_bytes (own_reply head q d q.form)
-  is_own =
-      let same : reply store head ≡ own_reply head q d q.form = laws.own store q d head held within.shallow own in
-      laws.one store (request_text q addr ++ more) written (reply_bytes (reply store head)) writes
-      (closes (request_text q addr ++ more) more head begins (ap (λ (r : Reply). r.closes) same ∙ reply_closes q d head q.form own))
-      ∙ ap reply_bytes same
-
   -- the sections are spelled
   spelled_by_store : All IsSpelled (block_list q d)
   spelled_by_store =
@@ -138,7 +142,8 @@ module _ (laws : CarriedLaws) (store : Store) (q : QueryParts) (d : Dag) (limits
   -- so what is written carries them
   carried : IsCarried q limits d written
   carried =
-      subst (IsCarried q limits d) (sym is_own)
+      subst (IsCarried q limits d)
+      (sym (is_own laws.own laws.one store q d (request_text q addr ++ more) more written head held within.shallow writes begins own))
       (own_reply_carries laws q d limits addr head held.sound held.root spelled_by_store within p own)
 
 -- so it is for the head of the printed request

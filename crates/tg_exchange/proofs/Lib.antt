@@ -1,3 +1,4 @@
 mod Carried
 mod Held
 mod OwnRequests
+mod OwnSent

@@ -3,6 +3,7 @@
 #![tactic(auto)]
 
 ghost use Rattle.tg_exchange.specs.Exchanges.{AnswerableIsAnswered, HeldHaveOneBlock, OwnRepliesCarry, OwnReply, OwnReplyCarries, PrintedIsRead};
+ghost use Rattle.tg_exchange.specs.Sessions.{OwnIsSent, SentCarries};
 
 /// The request that is printed for a query is read, whatever follows it, as a head that asks for the query by `GET` of
 /// HTTP/1.1 and for a close, and as nothing else.
@@ -44,4 +45,21 @@ pub fn own_replies_carry()
     tg_heard::replies_carry();
     tg_reply::sent_sections();
     tg_reply::one_writing();
+}
+
+/// Over a store that holds the blocks of a sound DAG and breaks off nowhere, all that a session sends for the printed
+/// request of a query, whatever follows it, is the reply that the DAG has, and the connection closes behind it, where
+/// no block that is asked for lies deeper than 512; and within the limits it carries the sections of the DAG's own
+/// traversal.
+///
+/// RFC 9112, sections 2 to 7 and 9.3; Path Gateway and Trustless Gateway specifications.
+pub fn own_sessions()
+    ensures sent { OwnIsSent }
+    ensures carries { SentCarries }
+{
+    own_requests();
+    own_replies();
+    own_replies_carry();
+    tg_reply::one_writing();
+    tg_sent::sent_is_determined();
 }
