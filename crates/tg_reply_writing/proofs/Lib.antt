@@ -1,0 +1,2 @@
+mod HeadLines
+mod Fronts
