@@ -1,0 +1,12 @@
+mod Chunks
+mod Fronts
+mod Giving
+mod Leading
+mod Looking
+mod PuttingOut
+mod Replies
+mod Sections
+mod Sending
+mod SendingBlocks
+mod SendingCars
+mod WholeBodies
