@@ -1,0 +1,6 @@
+mod Keeping
+mod Answering
+mod Looking
+mod Feeding
+mod Hearing
+mod Serving

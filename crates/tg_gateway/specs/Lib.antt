@@ -1,0 +1,5 @@
+pub mod Heads
+pub mod Room
+pub mod Sessions
+pub mod Steps
+pub mod Links

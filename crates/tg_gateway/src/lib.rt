@@ -1,0 +1,11 @@
+//! Sessions of a gateway over links.
+#![tactic(auto)]
+
+mod fault;
+mod heads;
+mod link;
+mod session;
+
+pub use fault::GatewayFault;
+pub use link::serve_link;
+pub use session::{Next, Served, Session};
