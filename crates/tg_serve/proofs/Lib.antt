@@ -1,0 +1,2 @@
+pub mod OneLink
+pub mod Runs

@@ -1,0 +1,122 @@
+//! A pack that is served through a door.
+ghost use Rattle.std.specs.Prelude.{◌≡◌, [], OnErr, OnOk};
+ghost use Rattle.tg_doors.specs.Doors.{at_door};
+ghost use Rattle.tg_files.specs.Packs.{Did, pack_step};
+ghost use Rattle.tg_model.specs.Stores.{looked_in};
+ghost use Rattle.tg_serve.specs.Packed.{PackServed, StoreServed, serving_line};
+ghost use Rattle.tg_serve.specs.Serving.{LinksTell};
+ghost use Rattle.tg_streams.specs.Streams.{OutputQuiet, Put, PutFront, into};
+ghost use Rattle.tg_walk.specs.Walks.{HaveLookedUp};
+
+use crate::{Happened, serve_door};
+use itoa::Buffer;
+use std::alloc::Global;
+use tg_doors::Door;
+use tg_faults::Failed;
+use tg_files::Pack;
+use tg_model::{Blocks, Limits};
+use tg_store::{PackFault, PackStore};
+use tg_streams::{Sink, put_pieces};
+use thiserror::Error;
+
+/// Why a pack isn't served. No inner fault is want of memory.
+#[derive(Clone, Copy, Debug, PartialEq, Eq, Error)]
+pub enum ServeFault {
+    /// The pack can't be attached. Nothing was written, and the door wasn't bound.
+    #[error("Pack")]
+    Pack(PackFault),
+    /// The door couldn't be bound. Nothing was written.
+    #[error("DoorFault")]
+    DoorFault,
+    /// A fault of out was counted. A front of the line was written, and no link was served.
+    #[error("SinkFault")]
+    SinkFault,
+    /// No memory was found for the pack's index. Nothing was written, and the door wasn't bound.
+    #[error("OutOfMemory")]
+    OutOfMemory,
+}
+
+impl From<PackFault> for ServeFault {
+    ghost use Rattle.std.specs.Prelude.{◌≡◌};
+    ghost use Rattle.tg_serve.specs.Packed.{fault_of_pack};
+
+    ghost from_gives = { λ fault given. given ≡ fault_of_pack fault };
+
+    fn from(fault: PackFault) -> ServeFault {
+        match fault {
+            PackFault::OutOfMemory => ServeFault::OutOfMemory,
+            PackFault::NotCar { .. }
+            | PackFault::BadDigest { .. }
+            | PackFault::Unfinished
+            | PackFault::Truncated { .. }
+            | PackFault::Failed
+            | PackFault::BlockLimit { .. } => ServeFault::Pack(fault),
+        }
+    }
+}
+
+/// Serves a pack through a door, which is bound to a port, and gives the pack back, to which nothing was done. The pack is
+/// read through and checked first; behind `bind` a line that says the port goes to out, before the first link is
+/// admitted; and then so many links are served, one after another, or fewer where the door gives no more.
+///
+/// RFC 9112, section 9.3. Errors: `Pack` where the pack can't be attached as a store; `DoorFault` where the door can't be
+/// bound; `SinkFault` where the line can't be written; and `OutOfMemory`. What happened behind the line is told, and no
+/// error.
+pub fn serve_pack<P: Pack, L: Door, S: Sink>(
+    alloc: Global,
+    pack: P,
+    door: &mut L,
+    port: u16,
+    count: u32,
+    limits: Limits,
+    out: &mut S,
+) -> (P, Result<Happened, ServeFault>)
+    ensures pack { Did [] (pack_step P.pack pack result.0) }
+    ensures served { PackServed limits.received count (LinksTell L.Link.link) (pack_step P.pack pack result.0)
+        (into S.sink out.old out.new) (at_door L.door door.old door.new) (door.new ≡ door.old) result.1 }
+{
+    tg_store::laws::finished_packs::<P>();
+    match PackStore::attach_pack(alloc, pack) {
+        Ok(store) => {
+            let mut store = store;
+            let end = serve_store(alloc, &mut store, door, port, count, limits, out);
+            (store.into_pack(), end)
+        }
+        Err(refused) => (refused.pack, Err(ServeFault::from(refused.fault))),
+    }
+}
+
+/// Serves a store through a door, which is bound to a port. Errors: `DoorFault` and `SinkFault`.
+fn serve_store<B: Blocks, L: Door, S: Sink>(
+    alloc: Global,
+    blocks: &mut B,
+    door: &mut L,
+    port: u16,
+    count: u32,
+    limits: Limits,
+    out: &mut S,
+) -> Result<Happened, ServeFault>
+    ensures served { StoreServed (B.blocks.stored blocks.old) limits.received count (LinksTell L.Link.link)
+        (B.blocks.faults blocks.old) (B.blocks.faults blocks.new) (into S.sink out.old out.new)
+        (at_door L.door door.old door.new) result }
+    ensures looked { HaveLookedUp (looked_in B.blocks blocks.old blocks.new) }
+{
+    let Ok(port) = door.bind(port) else {
+        return Err(ServeFault::DoorFault);
+    };
+    if put_line(out, port).is_err() {
+        return Err(ServeFault::SinkFault);
+    }
+    Ok(serve_door(alloc, blocks, door, count, limits))
+}
+
+/// Puts the line that says to which port the door is bound. The error is a fault of out, which has a front of it.
+fn put_line<S: Sink>(out: &mut S, port: u16) -> Result<(), Failed>
+    ensures put { OnOk result (Put (serving_line port) (into S.sink out.old out.new)) }
+    ensures quiet { OnOk result (OutputQuiet (into S.sink out.old out.new)) }
+    ensures err_front { OnErr result (PutFront (serving_line port) (into S.sink out.old out.new)) }
+{
+    let mut digits = Buffer::new();
+    let number = digits.format(port).as_bytes();
+    put_pieces(out, &[b"serving 127.0.0.1:", number, b"\n"])
+}
