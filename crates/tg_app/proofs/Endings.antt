@@ -10,7 +10,7 @@ use Rattle.tg_cid.specs.declared.cid.HashKind.TheVariants.{Sha256, Identity}
 use Rattle.tg_words.specs.CommandLine.{CommandLine}
 use Rattle.tg_words.specs.ImportLines.{ImportParts}
 use Rattle.tg_words.specs.declared.Command.{Command}
-use Rattle.tg_words.specs.declared.Command.TheVariants.{Check, Node, CidToHex, CidToText, Export, Import, Verify}
+use Rattle.tg_words.specs.declared.Command.TheVariants.{Check, Node, CidToHex, CidToText, Export, Import, Serve, Verify}
 use Rattle.tg_export.specs.Cars.{CarEnds}
 use Rattle.tg_export.specs.Packed.{ExportEnds, HasPackedCause, IsExportedElse}
 use Rattle.tg_export.specs.declared.fault.ExportFault.{ExportFault}
@@ -34,12 +34,13 @@ use Rattle.tg_app.specs.Blocks.{OutputUntouched, PassedLimit, TookBlock}
 use Rattle.tg_app.specs.Check.{Checked, CheckedOther, CheckEnds, CollisionPair, Agrees, CheckStatus}
 use Rattle.tg_app.specs.Node.{Noded, NodedOther, NodeEnds, HasText, HasNoText, NodeStatus}
 use Rattle.tg_app.specs.CidLines.{HexLine, PrintEnds, PutsLine, TextLine}
-use Rattle.tg_app.specs.Commands.{AllUntouched, CommandEnds, Ends, IsNoCommand, NoCommandEnds, ReadsBlock, UsesNoFiles, WantsMemory}
+use Rattle.tg_app.specs.Commands.{AllUntouched, CommandEnds, Ends, IsNoCommand, NoCommandEnds, ReadsBlock, UsesNoDoor, UsesNoFiles, WantsMemory}
 use Rattle.tg_app.specs.Exports.{ExportAnswers, Exported, ExportedNothing, HasAnswer, IsExportRefusal, IsRisen, LeadsNowhere, TellsExport}
 use Rattle.tg_app.specs.Imports.{ImportAnswers, Imported, IsGoodFolder, IsImportRefusal, options_of, refusal_of_import}
 use Rattle.tg_app.specs.Objects.{Files, Objects, SameFiles}
 use Rattle.tg_app.specs.declared.fault.CommandFault.{CommandFault}
 use Rattle.tg_app.specs.declared.fault.CommandFault.TheVariants.{Usage, BadDigest, BadBlock, BlockLimit, InputFault, SinkFault, OutOfMemory}
+use Rattle.tg_app.proofs.ServeEndings.{no_serve_usage, serve_quiet}
 use Rattle.tg_app.proofs.Statuses.{not_zero}
 use Rattle.tg_app.proofs.VerifyEndings.{no_verify_usage, unverified, verify_fault, verify_quiet}
 
@@ -62,6 +63,8 @@ memory_ends words (Export parts) objects line all =
     (all.files.folder, all.streams.untaken, unbegun objects.files.pack objects.files.same_pack objects.out parts.pack parts.query all.files.pack all.streams.unput)
 memory_ends words (Import parts) objects line all = (all.streams.untaken, not_imported parts objects.files objects.out all.files all.streams.unput)
 memory_ends words (Verify q) objects line all = (all.files, unverified q objects.input objects.out all.streams)
+memory_ends words (Serve parts) objects line all =
+    (all.files.folder, all.streams.untaken, inr (inr (record { same = all.files.pack; unput = all.streams.unput; same_door = all.door; end_is = refl })))
 
 pub ends_of : (words : List (List ℕ)) (command : Command) (objects : Objects) (end : Option CommandFault) → CommandLine words command
     → Ends words objects end → CommandEnds command objects end
@@ -167,6 +170,7 @@ no_usage (CidToText cid) objects ends = absurd ends.2
 no_usage (Export parts) objects ends = no_export_usage parts.pack parts.query objects.files.pack objects.files.same_pack objects.out ends.2
 no_usage (Import parts) objects ends = no_import_usage parts objects.files objects.out ends.1
 no_usage (Verify q) objects ends = no_verify_usage q objects.input objects.out ends.1
+no_usage (Serve parts) objects ends = no_serve_usage parts objects.files.pack objects.files.same_pack objects.out objects.door ends.2
 
 memory_isnt_2 : (end : Option CommandFault) → end ≡ Some OutOfMemory → exit_status end ≡ 2 → ⊥
 memory_isnt_2 end e two = let eight : exit_status (Some OutOfMemory) ≡ 2 = sym (ap exit_status e) ∙ two in cc
@@ -197,6 +201,14 @@ kept_of (CidToText cid) objects end uses ends = ends.0
 kept_of (Verify q) objects end uses ends = ends.0
 kept_of (Export parts) objects end uses ends = absurd uses
 kept_of (Import parts) objects end uses ends = absurd uses
+kept_of (Serve parts) objects end uses ends = absurd uses
+
+-- a command that is handed no door leaves it as it was
+pub kept_door_of : (words : List (List ℕ)) (command : Command) (objects : Objects) (end : Option CommandFault) → CommandLine words command → UsesNoDoor command
+    → Ends words objects end → objects.door.same_door
+kept_door_of words command objects end line uses (inl none) = none.untouched.door
+kept_door_of words command objects end line uses (inr (inl memory)) = memory.untouched.door
+kept_door_of words command objects end line uses (inr (inr did)) = did.door (subst UsesNoDoor (sym (did.the.only command line)) uses)
 
 check_fault : (cid : CidParts) (input : Input) (out : Output) (end : Option CommandFault) → exit_status end ≡ 6 → CheckEnds cid input out end → InputRose input ⊎ OutputRose out
 check_fault cid input out (Some InputFault) e ends = inl ends.0.rose
@@ -232,6 +244,7 @@ fault_of (CidToText cid) objects end uses e ends = inr (print_fault (TextLine ci
 fault_of (Verify q) objects end uses e ends = verify_fault q objects.input objects.out end e ends.1
 fault_of (Export parts) objects end uses e ends = absurd uses
 fault_of (Import parts) objects end uses e ends = absurd uses
+fault_of (Serve parts) objects end uses e ends = absurd uses
 
 check_passed : (cid : CidParts) (input : Input) (out : Output) (end : Option CommandFault) → exit_status end ≡ 7 → CheckEnds cid input out end → PassedLimit input × OutputUntouched out
 check_passed cid input out (Some InputFault) e ends = absurd (differs _ _ refl e)
@@ -261,6 +274,7 @@ passed_of (CidToText cid) objects end reads e ends = absurd reads
 passed_of (Export parts) objects end reads e ends = absurd reads
 passed_of (Import parts) objects end reads e ends = absurd reads
 passed_of (Verify q) objects end reads e ends = absurd reads
+passed_of (Serve parts) objects end reads e ends = absurd reads
 
 -- ---- faults that weren't counted
 
@@ -343,6 +357,7 @@ command_quiet (CidToText cid) objects end ne ends = (ends.1.quiet, print_quiet (
 command_quiet (Export parts) objects end ne ends = (ends.1.quiet, export_quiet parts.pack parts.query objects.files.pack objects.files.same_pack objects.out end ne ends.2)
 command_quiet (Import parts) objects end ne ends = (ends.0.quiet, import_quiet parts objects.files objects.out end ne ends.1)
 command_quiet (Verify q) objects end ne ends = verify_quiet q objects.input objects.out end ne ends.1
+command_quiet (Serve parts) objects end ne ends = (ends.1.quiet, serve_quiet parts objects.files.pack objects.files.same_pack objects.out objects.door end ne ends.2)
 
 pub quiet_of : (words : List (List ℕ)) (objects : Objects) (end : Option CommandFault) → exit_status end ≢ 6 → Ends words objects end
     → InputQuiet objects.input × OutputQuiet objects.out

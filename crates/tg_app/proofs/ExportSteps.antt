@@ -36,7 +36,7 @@ module _ {P : Type 0} (m : PackMeaning P) (a b c : P) (same : m.content b ≡ m.
   cause_in : (fault : PackFault) → HasCauseIn (m.content b) fault → HasCauseIn (m.content a) fault
   cause_in fault h = subst (λ (content : Option (List ℕ)). HasCauseIn content fault) same h
 
-  refusal_moved : (fault : PackFault) → IsRefusal (pack_step m b c) fault → IsRefusal (pack_step m a c) fault
+  pub refusal_moved : (fault : PackFault) → IsRefusal (pack_step m b c) fault → IsRefusal (pack_step m a c) fault
   refusal_moved packs.Failed h = rose_moved h
   refusal_moved packs.OutOfMemory h = quiet_moved h
   refusal_moved (packs.NotCar at) h = (quiet_moved h.0, cause_in (packs.NotCar at) h.1)

@@ -8,4 +8,6 @@ mod OwnBlocks
 mod OwnCars
 mod OwnAnswers
 mod OwnDone
+mod ServeSteps
+mod ServeEndings
 mod Running

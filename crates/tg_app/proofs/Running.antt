@@ -1,16 +1,17 @@
 -- What a run says, from how its words end.
 use Rattle.std.proofs.Common.{Option, subst, sym, ◌∙◌, ◌≡◌, ◌⊎◌, ℕ}
-use Rattle.tg_app.proofs.Endings.{agrees, answered_of, checked_of, ends_of, export_answered_of, exported_of, fault_of, import_answered_of, imported_of, kept_of, memory_of, node_answered_of, node_other_of, noded_of, nowhere_of, other_of, passed_of, printed_of, quiet_of, refused_of, untouched_of, usage_of}
+use Rattle.tg_app.proofs.Endings.{agrees, answered_of, checked_of, ends_of, export_answered_of, exported_of, fault_of, import_answered_of, imported_of, kept_door_of, kept_of, memory_of, node_answered_of, node_other_of, noded_of, nowhere_of, other_of, passed_of, printed_of, quiet_of, refused_of, untouched_of, usage_of}
 use Rattle.tg_app.proofs.OwnCars.{AttachAlike, own_car_of}
 use Rattle.tg_app.proofs.OwnAnswers.{AnswerTexts, own_answer_of}
 use Rattle.tg_app.proofs.OwnDone.{DoneLaws, has_answer}
+use Rattle.tg_app.proofs.ServeEndings.{NoneCaused, door_fault_of, serve_answered_of, served_of}
 use Rattle.tg_app.proofs.VerifyEndings.{verified_of, verify_answered_of, vouched_of}
 use Rattle.tg_app.specs.Check.{CheckStatus}
 use Rattle.tg_app.specs.CidLines.{HexLine, TextLine}
 use Rattle.tg_app.specs.Commands.{CommandEnds, Ends}
 use Rattle.tg_app.specs.Lines.{Says, exit_status}
 use Rattle.tg_app.specs.Node.{NodeStatus}
-use Rattle.tg_app.specs.Runs.{Asks, CheckRun, CidHexRun, CidTextRun, ExportRun, ImportRun, NodeRun, Run, Runs, VerifyRun, WordsRun}
+use Rattle.tg_app.specs.Runs.{Asks, CheckRun, CidHexRun, CidTextRun, ExportRun, ImportRun, NodeRun, Run, Runs, ServeRun, VerifyRun, WordsRun}
 use Rattle.tg_app.specs.declared.fault.CommandFault.{CommandFault}
 use Rattle.tg_cid.specs.Cid.{CidParts}
 use Rattle.tg_model.specs.Queries.{QueryParts}
@@ -18,12 +19,13 @@ use Rattle.tg_model_laws.specs.Depths.{CutsAtDepths, ShowsDownTo}
 use Rattle.tg_verify.specs.Laws.{AnswerIsFront, ThroughFits}
 use Rattle.tg_words.specs.ExportLines.{ExportParts}
 use Rattle.tg_words.specs.ImportLines.{ImportParts}
+use Rattle.tg_words.specs.ServeLines.{ServeParts}
 use Rattle.tg_words.specs.declared.Command.{Command}
-use Rattle.tg_words.specs.declared.Command.TheVariants.{Check, CidToHex, CidToText, Export, Import, Node, Verify}
+use Rattle.tg_words.specs.declared.Command.TheVariants.{Check, CidToHex, CidToText, Export, Import, Node, Serve, Verify}
 
 -- how the words of a run end, its status and its line
 module _ (run : Run) (end : Option CommandFault) (through : ThroughFits) (front : AnswerIsFront)
-    (cuts : CutsAtDepths) (shows : ShowsDownTo) (alike : AttachAlike) (texts : AnswerTexts) (dones : DoneLaws)
+    (cuts : CutsAtDepths) (shows : ShowsDownTo) (alike : AttachAlike) (uncaused : NoneCaused) (texts : AnswerTexts) (dones : DoneLaws)
     (status : run.status ≡ exit_status end) (line : Says end run.err) (ends : Ends run.words run.objects end) where
   by : (command : Command) → Asks run command → CommandEnds command run.objects end
   by command asked = ends_of run.words command run.objects end asked ends
@@ -39,6 +41,7 @@ module _ (run : Run) (end : Option CommandFault) (through : ThroughFits) (front 
     untouched = λ two. untouched_of run.words run.objects end (has two) ends;
     memory = λ eight. memory_of run.words run.objects end (has eight) ends;
     kept = λ command asked uses. kept_of command run.objects end uses (by command asked);
+    kept_door = λ command asked uses. kept_door_of run.words command run.objects end asked uses ends;
     fault = λ command asked uses six. fault_of command run.objects end uses (has six) (by command asked);
     quiet_input = λ ne. (quiet_of run.words run.objects end (λ six. ne (status ∙ six)) ends).0;
     quiet_output = λ ne. (quiet_of run.words run.objects end (λ six. ne (status ∙ six)) ends).1;
@@ -119,6 +122,19 @@ module _ (run : Run) (end : Option CommandFault) (through : ThroughFits) (front 
         vouched_answer = λ d sound root. vouched_of front q d run.objects.input run.objects.out run.err run.status sound root end status line did.1;
       }
 
+  serve_run : (parts : ServeParts) → Asks run (Serve parts) → ServeRun parts run
+  serve_run parts asked =
+      let did = by (Serve parts) asked in
+      let pack = run.objects.files.pack in
+      let same = run.objects.files.same_pack in
+      record {
+        ends = (end, status, did, line);
+        served = λ zero. served_of parts pack same run.objects.out run.objects.door end (has zero) did.2;
+        door_fault = λ five. door_fault_of parts pack same run.objects.out run.objects.door end (has five) did.2;
+        answered = λ good no_pack no_door no_out. subst (λ (n : ℕ). (n ≡ 8) ⊎ ((n ≡ 7) ⊎ (n ≡ 0))) (sym status)
+            (serve_answered_of uncaused parts pack same run.objects.out run.objects.door end good no_pack no_door no_out did.2);
+      }
+
   pub runs : Runs run
   runs = record {
     words = words_run;
@@ -129,4 +145,5 @@ module _ (run : Run) (end : Option CommandFault) (through : ThroughFits) (front 
     export = export_run;
     import = import_run;
     verify = verify_run;
+    serve = serve_run;
   }

@@ -2,7 +2,7 @@
 use Rattle.std.specs.Prelude.{◌≡◌, ℕ, ◌⊎◌, ⊤, List, Option, Some}
 use Rattle.tg_words.specs.CommandLine.{CommandLine}
 use Rattle.tg_words.specs.declared.Command.{Command}
-use Rattle.tg_words.specs.declared.Command.TheVariants.{Check, Node, CidToHex, CidToText, Export, Import, Verify}
+use Rattle.tg_words.specs.declared.Command.TheVariants.{Check, Node, CidToHex, CidToText, Export, Import, Serve, Verify}
 use Rattle.tg_streams.specs.Streams.{Output}
 use Rattle.tg_app.specs.Lines.{exit_status, Says}
 use Rattle.tg_app.specs.Blocks.{InputUntouched, Untouched}
@@ -12,6 +12,7 @@ use Rattle.tg_app.specs.CidLines.{HexLine, TextLine, PrintEnds}
 use Rattle.tg_app.specs.Exports.{ExportAnswers}
 use Rattle.tg_app.specs.Imports.{ImportAnswers}
 use Rattle.tg_app.specs.Objects.{Objects, SameFiles}
+use Rattle.tg_app.specs.Serves.{ServeAnswers}
 use Rattle.tg_app.specs.Verify.{VerifyEnds}
 use Rattle.tg_app.specs.declared.fault.CommandFault.{CommandFault}
 use Rattle.tg_app.specs.declared.fault.CommandFault.TheVariants.{Usage, OutOfMemory}
@@ -27,6 +28,8 @@ CommandEnds (CidToText cid) objects end =
 CommandEnds (Export parts) objects end =
     objects.files.same_folder × InputUntouched objects.input × ExportAnswers parts.pack parts.query objects.files.pack objects.files.same_pack objects.out end
 CommandEnds (Verify q) objects end = SameFiles objects.files × VerifyEnds q objects.input objects.out end
+CommandEnds (Serve parts) objects end =
+    objects.files.same_folder × InputUntouched objects.input × ServeAnswers parts objects.files.pack objects.files.same_pack objects.out objects.door end
 CommandEnds (Import parts) objects end =
     InputUntouched objects.input × ImportAnswers parts objects.files objects.out end
 
@@ -39,6 +42,18 @@ UsesNoFiles (CidToText cid) = ⊤
 UsesNoFiles (Verify q) = ⊤
 UsesNoFiles (Export parts) = ⊥
 UsesNoFiles (Import parts) = ⊥
+UsesNoFiles (Serve parts) = ⊥
+
+-- a command that is handed no door, and leaves it as it was
+abbrev pub UsesNoDoor : Command → Type 0
+UsesNoDoor (Serve parts) = ⊥
+UsesNoDoor (Check cid) = ⊤
+UsesNoDoor (Node cid) = ⊤
+UsesNoDoor (CidToHex cid) = ⊤
+UsesNoDoor (CidToText cid) = ⊤
+UsesNoDoor (Verify q) = ⊤
+UsesNoDoor (Export parts) = ⊤
+UsesNoDoor (Import parts) = ⊤
 
 -- a command that reads a block from its input
 abbrev pub ReadsBlock : Command → Type 0
@@ -49,6 +64,7 @@ ReadsBlock other = ⊥
 -- all of the objects are as they were
 pub record AllUntouched (objects : Objects) : Type 0 where
   pub files : SameFiles objects.files
+  pub door : objects.door.same_door
   pub streams : Untouched objects.input objects.out
 
 -- the words spell this command and no other
@@ -74,6 +90,7 @@ pub record TheCommandEnds (words : List (List ℕ)) (objects : Objects) (end : O
   pub command : Command
   pub the : TheCommand words command
   pub ends : CommandEnds command objects end
+  pub door : UsesNoDoor command → objects.door.same_door
 
 abbrev pub Ends : List (List ℕ) → Objects → Option CommandFault → Type 0
 Ends words objects end = NoCommandEnds words objects end ⊎ (NoMemoryEnds objects end ⊎ TheCommandEnds words objects end)

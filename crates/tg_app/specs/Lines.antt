@@ -14,7 +14,7 @@ use Rattle.tg_app.specs.declared.fault.CommandFault.TheVariants.{BadPack, Unfini
 use Rattle.tg_app.specs.declared.fault.CommandFault.TheVariants.{BadReceived, BadSize, Truncated, Extra, BadCar, Limit}
 use Rattle.tg_app.specs.declared.fault.CommandFault.TheVariants.{NoRoot, NotThere, NotFolder, BadStored, Gone, Changed}
 use Rattle.tg_app.specs.declared.fault.CommandFault.TheVariants.{TooDeep, DeepFolder, BadName, LongName, SameHash}
-use Rattle.tg_app.specs.declared.fault.CommandFault.TheVariants.{NotPlain, TooBig}
+use Rattle.tg_app.specs.declared.fault.CommandFault.TheVariants.{DoorFault, NotPlain, StoreFault, TooBig}
 use Rattle.tg_model.specs.declared.fault.BlockFault.{BlockFault}
 use Rattle.tg_model.specs.declared.fault.BlockFault.TheVariants as blocks
 use Rattle.tg_model.specs.declared.limits.LimitKind.{LimitKind}
@@ -64,6 +64,8 @@ status_of (LongName path) = 7
 status_of (SameHash names) = 6
 status_of (NotPlain path) = 6
 status_of (TooBig path) = 7
+status_of DoorFault = 5
+status_of StoreFault = 6
 
 -- what is at fault of a block, behind its CID
 abbrev pub cause_of : NodeFault → List ℕ
@@ -152,6 +154,8 @@ word_of (LongName path) = codes "LongName " ++ path
 word_of (SameHash names) = codes "SameHash " ++ names
 word_of (NotPlain path) = codes "NotPlain " ++ path
 word_of (TooBig path) = codes "TooBig " ++ path
+word_of DoorFault = codes "DoorFault"
+word_of StoreFault = codes "Store"
 
 -- the line: the program's name, the word with its detail, a line feed
 abbrev pub line_of : CommandFault → List ℕ

@@ -1,7 +1,10 @@
--- The objects that a command is handed: a folder, a pack, which it gives back, its input and out.
+-- The objects that a command is handed: a folder, a pack, which it gives back, a door, its input and out.
 use Rattle.std.specs.Prelude.{◌≡◌, Option, Some, None}
+use Rattle.tg_doors.specs.Doors.{DoorMeaning, Doorway, at_door}
 use Rattle.tg_files.specs.Folders.{FolderMeaning, FolderStep, folder_step}
 use Rattle.tg_files.specs.Packs.{PackMeaning, PackStep, pack_step}
+use Rattle.tg_links.specs.Links.{LinkMeaning}
+use Rattle.tg_serve.specs.Serving.{LinksTell}
 use Rattle.tg_streams.specs.Streams.{Input, Output, SinkMeaning, SourceMeaning, into, through}
 
 -- what became of a folder and of a pack between two moments, and whether each is the one that it was
@@ -11,9 +14,20 @@ pub record Files : Type 1 where
   pub pack : PackStep
   pub same_pack : Type 0
 
+-- what became of a door, whether it is the one that it was, and whether its links tell what goes through them
+pub record Entrance : Type 1 where
+  pub doorway : Doorway
+  pub same_door : Type 0
+  pub links_tell : Type 0
+
+abbrev pub entrance_between : {L K : Type 0} → DoorMeaning L → LinkMeaning K → L → L → Entrance
+entrance_between doors links door door' =
+    record { doorway = at_door doors door door'; same_door = door' ≡ door; links_tell = LinksTell links }
+
 -- what became of a command's objects
 pub record Objects : Type 1 where
   pub files : Files
+  pub door : Entrance
   pub input : Input
   pub out : Output
 
@@ -36,10 +50,11 @@ pub record SameFiles (files : Files) : Type 0 where
   pub folder : files.same_folder
   pub pack : files.same_pack
 
-abbrev pub objects_between : {F P I O : Type 0} → FolderMeaning F → PackMeaning P → SourceMeaning I → SinkMeaning O
-    → F → F → Option P → Option P → I → I → O → O → Objects
-objects_between folders packs inputs outs folder folder' pack pack' input input' out out' = record {
+abbrev pub objects_between : {F P L K I O : Type 0} → FolderMeaning F → PackMeaning P → DoorMeaning L → LinkMeaning K
+    → SourceMeaning I → SinkMeaning O → F → F → Option P → Option P → L → L → I → I → O → O → Objects
+objects_between folders packs doors links inputs outs folder folder' pack pack' door door' input input' out out' = record {
   files = files_between folders packs folder folder' pack pack';
+  door = entrance_between doors links door door';
   input = through inputs input input';
   out = into outs out out';
 }

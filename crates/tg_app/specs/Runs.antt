@@ -3,15 +3,17 @@ use Rattle.std.specs.Prelude.{List, Some, ℕ, ◌≡◌, ◌≢◌, ◌≤◌, 
 use Rattle.tg_app.specs.Blocks.{OutputUntouched, PassedLimit}
 use Rattle.tg_app.specs.Check.{Agrees, CheckEnds, CheckStatus, Checked, CheckedOther}
 use Rattle.tg_app.specs.CidLines.{HexLine, PutsLine, TextLine}
-use Rattle.tg_app.specs.Commands.{AllUntouched, Answers, CommandEnds, Ends, IsNoCommand, ReadsBlock, UsesNoFiles}
+use Rattle.tg_app.specs.Commands.{AllUntouched, Answers, CommandEnds, Ends, IsNoCommand, ReadsBlock, UsesNoDoor, UsesNoFiles}
 use Rattle.tg_app.specs.Commands.{WantsMemory}
 use Rattle.tg_app.specs.Exports.{Exported, ExportedNothing, HasAnswer, HoldsDag, IsRisen}
 use Rattle.tg_app.specs.Imports.{Imported, IsGoodFolder, options_of}
 use Rattle.tg_app.specs.Node.{NodeEnds, NodeStatus, Noded, NodedOther}
 use Rattle.tg_app.specs.Objects.{Objects, SameFiles}
+use Rattle.tg_app.specs.Serves.{IsGoodPack, ServedWhole}
 use Rattle.tg_app.specs.Verify.{IsGoodCar, IsItsCar, VerifiedInput, Vouched}
 use Rattle.tg_cid.specs.Cid.{CidParts}
 use Rattle.tg_cid.specs.Names.{Names}
+use Rattle.tg_doors.specs.Doors.{DoorRose}
 use Rattle.tg_files.specs.Folders.{FolderRose}
 use Rattle.tg_files.specs.Packs.{PackRose}
 use Rattle.tg_model.specs.Answer.{answer}
@@ -26,8 +28,9 @@ use Rattle.tg_walk.specs.Walks.{max_depth}
 use Rattle.tg_words.specs.CommandLine.{CommandLine}
 use Rattle.tg_words.specs.ExportLines.{ExportParts}
 use Rattle.tg_words.specs.ImportLines.{ImportParts}
+use Rattle.tg_words.specs.ServeLines.{ServeParts}
 use Rattle.tg_words.specs.declared.Command.{Command}
-use Rattle.tg_words.specs.declared.Command.TheVariants.{Check, CidToHex, CidToText, Export, Import, Node, Verify}
+use Rattle.tg_words.specs.declared.Command.TheVariants.{Check, CidToHex, CidToText, Export, Import, Node, Serve, Verify}
 
 -- a run: the words behind the program's name, what became of the objects and of err, and the exit status
 pub record Run : Type 1 where
@@ -60,6 +63,8 @@ pub record WordsRun (run : Run) : Type 0 where
   pub memory : run.status ≡ 8 → WantsMemory run.words run.objects
   -- a command over blocks leaves the folder and the pack as they were
   pub kept : (command : Command) → Asks run command → UsesNoFiles command → SameFiles run.objects.files
+  -- and no command but `serve` touches the door
+  pub kept_door : (command : Command) → Asks run command → UsesNoDoor command → run.objects.door.same_door
   -- status 6 of a command over blocks comes where a fault of the input or of out was counted; at every other status of
   -- any command none was
   pub fault : (command : Command) → Asks run command → UsesNoFiles command → run.status ≡ 6
@@ -145,6 +150,20 @@ pub record VerifyRun (q : QueryParts) (run : Run) : Type 0 where
   pub vouched_answer : (d : Dag) → IsSound d → root_cid d ≡ q.root
       → Vouched q d run.objects.input run.objects.out run.err run.status
 
+-- `serve`: the line says the port to which the door is bound; then so many links were served, or fewer where the door gave no
+-- more, in order, each by a session over what the pack's content holds, as far as it is told, and given back
+pub record ServeRun (parts : ServeParts) (run : Run) : Type 0 where
+  pub ends : EndsAs (Serve parts) run
+  -- at 0 on each link all that is sent for what was heard was said, and the peer said no more or the last reply closes
+  pub served : run.status ≡ 0 → ServedWhole parts run.objects.files.pack run.objects.out run.objects.door
+  -- at 5 the door couldn't be bound, or gave a link, or took one back, with a counted fault
+  pub door_fault : run.status ≡ 5 → DoorRose run.objects.door.doorway
+  -- where the pack is refused nothing, no fault is counted and memory is found, the status is 0, or 7 where on a link more bytes
+  -- came than may be received
+  pub answered : IsGoodPack run.objects.files.pack.content_old → (PackRose run.objects.files.pack → ⊥)
+      → (DoorRose run.objects.door.doorway → ⊥) → (OutputRose run.objects.out → ⊥)
+      → (run.status ≡ 8) ⊎ ((run.status ≡ 7) ⊎ (run.status ≡ 0))
+
 -- what a run says, by the command that its words spell
 pub record Runs (run : Run) : Type 0 where
   pub words : WordsRun run
@@ -155,3 +174,4 @@ pub record Runs (run : Run) : Type 0 where
   pub export : (parts : ExportParts) → Asks run (Export parts) → ExportRun parts run
   pub import : (parts : ImportParts) → Asks run (Import parts) → ImportRun parts run
   pub verify : (q : QueryParts) → Asks run (Verify q) → VerifyRun q run
+  pub serve : (parts : ServeParts) → Asks run (Serve parts) → ServeRun parts run

@@ -3,6 +3,7 @@ ghost use Rattle.std.specs.Prelude.{◌≡◌, IsSome, Some};
 ghost use Rattle.tg_app.specs.Exports.{ExportAnswers, IsExportRefusal, ShowsOrWants, store_refusal};
 ghost use Rattle.tg_app.specs.Lines.{end_of};
 ghost use Rattle.tg_app.specs.Objects.{given_back};
+ghost use Rattle.tg_app.specs.Serves.{pack_refusal};
 ghost use Rattle.tg_files.specs.Packs.{pack_step};
 ghost use Rattle.tg_streams.specs.Streams.{into};
 
@@ -74,8 +75,9 @@ fn refusal_of(alloc: Global, fault: ExportFault) -> CommandFault
 }
 
 /// The refusal for a pack that can't be attached.
-fn refusal_of_pack(fault: PackFault) -> CommandFault
-    ensures { IsExportRefusal (ExportFault.Pack fault) result }
+pub(crate) fn refusal_of_pack(fault: PackFault) -> CommandFault
+    ensures export { IsExportRefusal (ExportFault.Pack fault) result }
+    ensures exact { result ≡ pack_refusal fault }
 {
     match fault {
         PackFault::NotCar { at } => CommandFault::NotCar { at },

@@ -118,6 +118,12 @@ pub enum CommandFault {
     /// What has the path, in percent-encoding, passes a limit of the import.
     #[error("TooBig")]
     TooBig { path: Bytes },
+    /// A fault of the door or of a link was counted.
+    #[error("DoorFault")]
+    DoorFault,
+    /// The pack failed while links were served, or a stored block isn't any more what it was.
+    #[error("Store")]
+    StoreFault,
 }
 
 impl From<AllocError> for CommandFault {
@@ -163,6 +169,7 @@ impl CommandFault {
             | CommandFault::Truncated { .. }
             | CommandFault::Extra { .. }
             | CommandFault::BadCar => 3,
+            CommandFault::DoorFault => 5,
             CommandFault::InputFault
             | CommandFault::SinkFault
             | CommandFault::PackFault
@@ -176,7 +183,8 @@ impl CommandFault {
             | CommandFault::Changed
             | CommandFault::BadName { .. }
             | CommandFault::SameHash { .. }
-            | CommandFault::NotPlain { .. } => 6,
+            | CommandFault::NotPlain { .. }
+            | CommandFault::StoreFault => 6,
             CommandFault::BlockLimit
             | CommandFault::Limit { .. }
             | CommandFault::PackLimit { .. }
@@ -283,6 +291,8 @@ impl CommandFault {
             CommandFault::SameHash { names } => (b"SameHash ", names.as_slice(), b"", b""),
             CommandFault::NotPlain { path } => (b"NotPlain ", path.as_slice(), b"", b""),
             CommandFault::TooBig { path } => (b"TooBig ", path.as_slice(), b"", b""),
+            CommandFault::DoorFault => (b"DoorFault", b"", b"", b""),
+            CommandFault::StoreFault => (b"Store", b"", b"", b""),
         }
     }
 }

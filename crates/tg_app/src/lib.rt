@@ -8,6 +8,7 @@ mod export;
 mod fault;
 mod import;
 mod node;
+mod serve;
 mod top;
 mod verify;
 

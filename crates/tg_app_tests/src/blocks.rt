@@ -273,7 +273,7 @@ const OTHER_WORDS: &[&[&str]] = &[
     &["node", H, H],
     &["node", "--hex", H_HEX],
     &["nodes", H],
-    &["serve", "pack", "--port", "0", "--count", "1"],
+    &["audit", "--seed", "0", "--files", "1"],
 ];
 
 /// Whether the words are told as none of a command.

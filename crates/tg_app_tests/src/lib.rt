@@ -15,3 +15,5 @@ mod files;
 mod known;
 #[cfg(test)]
 mod once;
+#[cfg(test)]
+mod serve;

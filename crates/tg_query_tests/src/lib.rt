@@ -13,6 +13,8 @@ mod paths;
 #[cfg(test)]
 mod requests;
 #[cfg(test)]
+mod serves;
+#[cfg(test)]
 mod targets;
 #[cfg(test)]
 mod types;

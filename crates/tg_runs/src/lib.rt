@@ -1,4 +1,4 @@
-//! The program's top call over streams, a folder and a pack in memory, as the tests of its commands make it.
+//! The program's top call over streams, a folder, a pack and a door in memory, as the tests of its commands make it.
 #![tactic(auto)]
 
 ghost use Rattle.std.specs.Option.{IsSome};
@@ -6,7 +6,9 @@ ghost use Rattle.std.specs.Option.{IsSome};
 use std::alloc::{AllocError, Global};
 use tg_app::run;
 use tg_bytes::{Bytes, List};
+use tg_doors::MemDoor;
 use tg_files::{MemFolder, MemPack};
+use tg_links::Call;
 use tg_streams::{MemSink, MemSource};
 use tg_tree::{Sort, Tree};
 
@@ -36,21 +38,36 @@ impl Outcome {
     }
 }
 
+/// What a run over a door left: what every run leaves, and what went through the links.
+#[derive(Drop)]
+pub struct Served {
+    pub outcome: Outcome,
+    streams: Streams,
+}
+
+impl Served {
+    /// What went through the links that were given back, in order; none where no memory was found for one of them.
+    pub fn calls(&self) -> Option<&List<Call>> {
+        self.streams.door.served()
+    }
+}
+
 /// The numbers of the calls that fail, counted from 0, of three of the objects of a run.
 pub type Failing<'a> = [&'a [u64]; 3];
 
 /// No call fails.
 pub const NONE: Failing<'static> = [&[], &[], &[]];
 
-/// What a run is over besides its words and the folder: the pack's content, the input, how many bytes a call of a
-/// stream moves at most, and the numbers of the calls that fail, of the folder, of the pack, of the input, of out and
-/// of err.
+/// What a run is over besides its words and the folder: the pack's content, the input, what each peer says whose link
+/// comes through the door, how many bytes a call of a stream or of a link moves at most, and the numbers of the calls
+/// that fail, of the folder, of the pack, of the input, of out, of err and of the door.
 #[derive(Clone, Copy)]
 struct Given<'a, 'f> {
     content: &'a [u8],
     input: &'a [u8],
+    links: &'a [&'a [u8]],
     piece: usize,
-    fails: [&'f [u64]; 5],
+    fails: [&'f [u64]; 6],
 }
 
 /// Runs the words over an input in memory, by pieces of this size, an empty folder and an empty pack. The calls that
@@ -66,10 +83,12 @@ pub fn run_over_streams(
     let given = Given {
         content: &[],
         input,
+        links: &[],
         piece,
-        fails: [&[], &[], input_fails, out_fails, err_fails],
+        fails: [&[], &[], input_fails, out_fails, err_fails, &[]],
     };
-    run_over(alloc, words, Tree::Folder(Vec::new(alloc)), &given)
+    let ran = run_over(alloc, words, Tree::Folder(Vec::new(alloc)), &given)?;
+    Ok(ran.outcome)
 }
 
 /// Runs the words over a folder and a pack in memory, and no input. The calls that fail are those of the folder, of
@@ -86,10 +105,34 @@ pub fn run_over_files(
     let given = Given {
         content,
         input: &[],
+        links: &[],
         piece: 4096,
-        fails: [folder_fails, pack_fails, &[], out_fails, &[]],
+        fails: [folder_fails, pack_fails, &[], out_fails, &[], &[]],
     };
-    run_over(alloc, words, tree, &given)
+    let ran = run_over(alloc, words, tree, &given)?;
+    Ok(ran.outcome)
+}
+
+/// Runs the words over a pack and a door in memory, through which links come to peers that say these bytes, by pieces
+/// of this size, no input and an empty folder. The calls that fail are those of the door and its links, of the pack and
+/// of out. The error is want of memory.
+pub fn run_over_door(
+    alloc: Global,
+    words: &[&str],
+    content: &[u8],
+    links: &[&[u8]],
+    piece: usize,
+    failing: Failing<'_>,
+) -> Result<Served, AllocError> {
+    let [door_fails, pack_fails, out_fails] = failing;
+    let given = Given {
+        content,
+        input: &[],
+        links,
+        piece,
+        fails: [&[], pack_fails, &[], out_fails, &[], door_fails],
+    };
+    run_over(alloc, words, Tree::Folder(Vec::new(alloc)), &given)
 }
 
 /// A list of call numbers.
@@ -145,21 +188,43 @@ fn sink_of(alloc: Global, piece: usize, fails: &[u64]) -> Result<MemSink, AllocE
     Ok(MemSink::new(alloc, piece.max(1), numbers(alloc, fails)?))
 }
 
-/// The streams of a run.
+/// A door to peers that say these bytes, of whose links one call moves so many bytes at most; 0 counts as 1.
+fn door_of(
+    alloc: Global,
+    links: &[&[u8]],
+    piece: usize,
+    fails: &[u64],
+) -> Result<MemDoor, AllocError> {
+    let mut coming = List::new(alloc);
+    for bytes in links {
+        coming.push(Bytes::of(alloc, bytes)?)?;
+    }
+    let fails = numbers(alloc, fails)?;
+    Ok(MemDoor::new(alloc, coming, piece.max(1), fails))
+}
+
+/// The door and the streams of a run.
 #[derive(Drop)]
 struct Streams {
+    door: MemDoor,
     input: MemSource,
     out: MemSink,
     err: MemSink,
 }
 
-/// The streams that are given.
+/// The door and the streams that are given.
 fn streams_of(alloc: Global, given: &Given<'_, '_>) -> Result<Streams, AllocError> {
-    let [_, _, input_fails, out_fails, err_fails] = given.fails;
+    let [_, _, input_fails, out_fails, err_fails, door_fails] = given.fails;
+    let door = door_of(alloc, given.links, given.piece, door_fails)?;
     let out = sink_of(alloc, given.piece, out_fails)?;
     let err = sink_of(alloc, given.piece, err_fails)?;
     let input = source_of(alloc, given.input, given.piece, input_fails)?;
-    Ok(Streams { input, out, err })
+    Ok(Streams {
+        door,
+        input,
+        out,
+        err,
+    })
 }
 
 /// The status of a run of these words.
@@ -168,13 +233,14 @@ fn status_of(
     words: &[String],
     folder: &mut MemFolder,
     pack: &mut Option<MemPack>,
+    door: &mut MemDoor,
     input: &mut MemSource,
     out: &mut MemSink,
     err: &mut MemSink,
 ) -> u8
     requires { IsSome pack.old }
 {
-    run(alloc, words, folder, pack, input, out, err)
+    run(alloc, words, folder, pack, door, input, out, err)
 }
 
 /// What a run with this status left.
@@ -195,7 +261,7 @@ fn outcome_of(
     })
 }
 
-/// Runs the words over a folder, a pack and streams, and tells what is left.
+/// Runs the words over a folder, a pack, a door and streams, and tells what is left.
 fn run_in(
     alloc: Global,
     words: &[String],
@@ -210,6 +276,7 @@ fn run_in(
         words,
         folder,
         pack,
+        &mut streams.door,
         &mut streams.input,
         &mut streams.out,
         &mut streams.err,
@@ -223,11 +290,12 @@ fn run_words(
     words: &[String],
     folder: &mut MemFolder,
     given: &Given<'_, '_>,
-) -> Result<Outcome, AllocError> {
-    let [_, pack_fails, _, _, _] = given.fails;
+) -> Result<Served, AllocError> {
+    let [_, pack_fails, _, _, _, _] = given.fails;
     let mut streams = streams_of(alloc, given)?;
     let mut pack = Some(pack_of(alloc, given.content, pack_fails)?);
-    run_in(alloc, words, folder, &mut pack, &mut streams)
+    let outcome = run_in(alloc, words, folder, &mut pack, &mut streams)?;
+    Ok(Served { outcome, streams })
 }
 
 /// The same with words that aren't owned.
@@ -236,7 +304,7 @@ fn run_given(
     words: &[&str],
     folder: &mut MemFolder,
     given: &Given<'_, '_>,
-) -> Result<Outcome, AllocError> {
+) -> Result<Served, AllocError> {
     let words = owned_words(alloc, words)?;
     run_words(alloc, words.as_slice(), folder, given)
 }
@@ -247,10 +315,13 @@ fn run_over(
     words: &[&str],
     tree: Tree,
     given: &Given<'_, '_>,
-) -> Result<Outcome, AllocError> {
-    let [folder_fails, _, _, _, _] = given.fails;
+) -> Result<Served, AllocError> {
+    let [folder_fails, _, _, _, _, _] = given.fails;
     match folder_of(alloc, tree, folder_fails)? {
         Some(mut folder) => run_given(alloc, words, &mut folder, given),
-        None => Ok(Outcome::of_no_folder(alloc)),
+        None => Ok(Served {
+            outcome: Outcome::of_no_folder(alloc),
+            streams: streams_of(alloc, given)?,
+        }),
     }
 }

@@ -15,4 +15,5 @@ mod QueryAnswers
 mod ExportAnswers
 mod ImportAnswers
 mod VerifyAnswers
+mod ServeAnswers
 mod Lines

@@ -12,9 +12,10 @@ use Rattle.tg_words.specs.CommandLine.{CommandLine, CidHexLine, CidLine, OneCidL
 use Rattle.tg_model.specs.Queries.{QueryParts}
 use Rattle.tg_words.specs.ImportLines.{import_names}
 use Rattle.tg_words.specs.QueryWords.{query_names}
+use Rattle.tg_words.specs.ServeLines.{serve_names}
 use Rattle.tg_words.specs.Operands.{Answers, Exact, OneCid, QueryBy, givens, texts_of, value_at}
 use Rattle.tg_words.specs.declared.Command.{Command}
-use Rattle.tg_words.specs.declared.Command.TheVariants.{Check, Node, CidToHex, CidToText, Export, Import, Verify}
+use Rattle.tg_words.specs.declared.Command.TheVariants.{Check, Node, CidToHex, CidToText, Export, Import, Verify, Serve}
 use Rattle.tg_words.specs.declared.WordsFault.{WordsFault}
 use Rattle.tg_words.specs.declared.WordsFault.TheVariants.{Usage, OutOfMemory}
 use Rattle.tg_words.specs.declared.operands.GivenOption.{GivenOption}
@@ -22,6 +23,7 @@ use Rattle.tg_words.proofs.Readings.{one_spelling_of_words}
 use Rattle.tg_words.proofs.Positional.{IsOf, Lines, answer_of, exact_answer, one_of_form, the_line}
 use Rattle.tg_words.proofs.ExportAnswers.{export_by, export_form, export_line, one_export}
 use Rattle.tg_words.proofs.ImportAnswers.{import_by, import_form, import_line, one_import}
+use Rattle.tg_words.proofs.ServeAnswers.{one_serve, serve_by, serve_form, serve_line}
 use Rattle.tg_words.proofs.VerifyAnswers.{verify_by, verify_form, verify_line}
 use Rattle.tg_words.proofs.Known.{AreKnown, known}
 use Rattle.tg_words.proofs.Names.{are_by, at_first, later_too, first_or_later}
@@ -100,7 +102,8 @@ IsAsked name rest command =
     (Where (bytes_eq name (codes "cid")) (IsToHex rest command ⊎ IsToText rest command)
     (Where (bytes_eq name (codes "export")) (IsOf export_form rest command)
     (Where (bytes_eq name (codes "import")) (IsOf import_form rest command)
-    (Where (bytes_eq name (codes "verify")) (IsOf verify_form rest command) ⊥)))))
+    (Where (bytes_eq name (codes "verify")) (IsOf verify_form rest command)
+    (Where (bytes_eq name (codes "serve")) (IsOf serve_form rest command) ⊥))))))
 
 named : (name other : List ℕ) (rest more : List (List ℕ)) (command : Command) → name ∷ rest ≡ other ∷ more
     → (CommandLine (other ∷ rest) command → IsAsked other rest command) → CommandLine (name ∷ rest) command → IsAsked name rest command
@@ -116,6 +119,7 @@ asked_by_line name rest (CidToText cid) line = named name (codes "cid") rest lin
 asked_by_line name rest (Export parts) line = named name (codes "export") rest line.line.rest (Export parts) line.line.begins (export_line rest parts) line
 asked_by_line name rest (Import parts) line = named name (codes "import") rest line.line.rest (Import parts) line.line.begins (import_line rest parts) line
 asked_by_line name rest (Verify query) line = named name (codes "verify") rest line.line.rest (Verify query) line.line.begins (verify_line rest query) line
+asked_by_line name rest (Serve parts) line = named name (codes "serve") rest line.line.rest (Serve parts) line.line.begins (serve_line rest parts) line
 
 pub export_lines : Lines export_form
 export_lines = record { reads = asked_by_line (codes "export"); writes = export_by }
@@ -125,6 +129,9 @@ import_lines = record { reads = asked_by_line (codes "import"); writes = import_
 
 pub verify_lines : Lines verify_form
 verify_lines = record { reads = asked_by_line (codes "verify"); writes = verify_by }
+
+pub serve_lines : Lines serve_form
+serve_lines = record { reads = asked_by_line (codes "serve"); writes = serve_by }
 
 -- the words are these operands, and no others
 pub record AreOperands (rest texts : List (List ℕ)) (options : List Given) : Type 0 where
@@ -239,6 +246,8 @@ one_line one_cid no_front one_query words (Import parts) b line other =
     one_of_form import_form words line.line.rest (Import parts) b import_lines (are_by import_names refl) one_import line.line.begins line other
 one_line one_cid no_front one_query words (Verify query) b line other =
     one_of_form verify_form words line.line.rest (Verify query) b verify_lines (are_by query_names refl) one_query line.line.begins line other
+one_line one_cid no_front one_query words (Serve parts) b line other =
+    one_of_form serve_form words line.line.rest (Serve parts) b serve_lines (are_by serve_names refl) one_serve line.line.begins line other
 
 -- what is no command is refused
 pub refused : (words : List (List ℕ)) (answer : Result Command WordsFault) → IfOk answer (λ command. CommandLine words command)

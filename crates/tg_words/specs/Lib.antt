@@ -3,6 +3,7 @@ pub mod QueryWords
 pub mod ExportLines
 pub mod ImportLines
 pub mod VerifyLines
+pub mod ServeLines
 pub mod CommandLine
 pub mod Operands
 pub mod Parsing

@@ -26,6 +26,7 @@ use Rattle.tg_path.specs.declared.fault.QueryFault.TheVariants as queries
 use Rattle.tg_words.specs.ExportLines.{ExportParts}
 use Rattle.tg_words.specs.ImportLines.{ImportParts, NumberText}
 use Rattle.tg_words.specs.QueryWords.{DupsText, ScopeText, dups_for, scope_for}
+use Rattle.tg_words.specs.ServeLines.{ServeParts}
 use Rattle.tg_words.specs.Words.{Names, Given, WordsSpelling}
 use denote.Ref.{Bor}
 
@@ -96,6 +97,19 @@ pub record ImportGiven (folder pack : List ℕ) (options : List Given) (parts : 
   pub chunk : NumberGiven (value_at options (codes "chunk")) 1 max_block_len 1048576 parts.chunk
   pub width : NumberGiven (value_at options (codes "width")) 2 4096 1024 parts.width
   pub shard : NumberGiven (value_at options (codes "shard")) 0 1048576 262144 parts.shard
+
+-- the number that a value writes, which must stand; it is from `low` to `high`
+pub record NumberNeeded (value : Option (List ℕ)) (low high number : ℕ) : Type 0 where
+  pub asked : ValueGives NumberText value (Some number)
+  pub least : low ≤ number
+  pub most : number ≤ high
+
+-- a gateway over this pack with these options
+pub record ServeGiven (pack : List ℕ) (options : List Given) (parts : ServeParts) : Type 0 where
+  pub pack_is : parts.pack ≡ pack
+  pub named : pack ≢ []
+  pub port : NumberNeeded (value_at options (codes "port")) 0 65535 parts.port
+  pub count : NumberNeeded (value_at options (codes "count")) 1 1000000 parts.count
 
 -- the words are one CID and no options
 pub record OneCid (words : List (List ℕ)) (cid : CidParts) : Type 0 where

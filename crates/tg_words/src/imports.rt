@@ -1,11 +1,10 @@
 //! The command `import`.
 
-ghost use Rattle.std.specs.Prelude.{◌≡◌, ℕ, ◌^◌, ◌≤◌, ◌∷◌, map, string_bytes, codes, option_map, IfOk, IfSome, IfNone};
+ghost use Rattle.std.specs.Prelude.{◌∷◌, map, string_bytes, codes, option_map};
 ghost use Rattle.tg_cid.specs.Limits.{max_block_len};
-ghost use Rattle.tg_words.specs.ImportLines.{ImportParts, NumberText};
 ghost use Rattle.tg_words.specs.Operands.{Answers, Exact, ImportGiven, NumberGiven, givens, value_at};
 
-use crate::operands::{GivenOption, OptionNames, named, two_operands, value_of};
+use crate::operands::{GivenOption, OptionNames, named, number_of, two_operands, value_of};
 use crate::{Command, WordsFault};
 use std::alloc::Global;
 use std::marker::Model;
@@ -127,15 +126,4 @@ fn number_given(value: Option<&str>, setting: Setting) -> Result<u32, WordsFault
         return Err(WordsFault::Usage);
     }
     Ok(number)
-}
-
-/// The number below 2^32 that 1 to 20 decimal digits write.
-fn number_of(text: &str) -> Option<u32>
-    ensures some { IfSome result (λ number. NumberText text.now number) }
-    ensures none { IfNone result ((number : ℕ) → NumberText text.now number → 2 ^ 32 ≤ number) }
-{
-    if text.len() > 20 || text.as_bytes().first() == Some(&b'+') {
-        return None;
-    }
-    text.parse::<u32>().ok()
 }

@@ -18,6 +18,7 @@ mod exports;
 mod imports;
 mod operands;
 mod queries;
+mod serves;
 mod verifies;
 
 use clap::error::ErrorKind;
@@ -28,6 +29,8 @@ pub use imports::Import;
 use imports::import_of;
 pub use operands::{GivenOption, Operands, OptionNames, operands_of};
 use operands::{one_operand, one_word, value_of};
+pub use serves::Serve;
+use serves::serve_of;
 use std::alloc::{AllocError, Global};
 use tg_cid::{Cid, CidFault};
 use tg_model::Query;
@@ -63,6 +66,11 @@ pub enum Command {
     ///
     /// S, R, D and the scope are as in `export`.
     Verify(Query),
+    /// `serve PACK --port N --count N`: the blocks of a pack are served on a port.
+    ///
+    /// PACK isn't empty. Both options stand, and each N is 1 to 20 decimal digits. The port is 0 to 65,535, where 0
+    /// asks for one that is free; 1 to 1,000,000 links are served.
+    Serve(Serve),
 }
 
 /// Why words were not read as a command.
@@ -210,6 +218,8 @@ fn dispatch(alloc: Global, command: &str, words: &[String]) -> Result<Command, W
         import_of(alloc, words)
     } else if command == "verify" {
         verify_of(alloc, words)
+    } else if command == "serve" {
+        serve_of(alloc, words)
     } else {
         Err(WordsFault::Usage)
     }

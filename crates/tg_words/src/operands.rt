@@ -1,10 +1,11 @@
 //! Words as positional words and options, for a command whose options have these names.
 
-ghost use Rattle.std.specs.Prelude.{◌≡◌, ◌≢◌, ℕ, List, [], ◌∷◌, map, string_bytes, option_map, IfOk, IfErr, IfSome};
-ghost use Rattle.std.specs.Prelude.{IfNone, IsTrue, MatchResult, find};
+ghost use Rattle.std.specs.Prelude.{◌≡◌, ◌≢◌, ℕ, ◌^◌, ◌≤◌, List, [], ◌∷◌, map, string_bytes, option_map, IfOk, IfErr};
+ghost use Rattle.std.specs.Prelude.{IfSome, IfNone, IsTrue, MatchResult, find};
 ghost use Rattle.std.specs.Str.{bytes_eq};
 ghost use Rattle.clap.specs.Words.{app_of, found_of, rows_of};
 ghost use Rattle.tg_words.specs.CommandLine.{no_names};
+ghost use Rattle.tg_words.specs.ImportLines.{NumberText};
 ghost use Rattle.tg_words.specs.Operands.{given, givens, names_of, texts_of, value_at};
 ghost use Rattle.tg_words.specs.Parsing.{app_for, option_at, option_rule, options_in, positional_in, with_rules};
 ghost use Rattle.tg_words.specs.Words.{Given, WordsSpelling, are_names};
@@ -245,4 +246,15 @@ fn find_option<'a>(options: &[GivenOption<'a>], name: &str) -> Option<GivenOptio
         }
     }
     None
+}
+
+/// The number below 2^32 that 1 to 20 decimal digits write.
+pub fn number_of(text: &str) -> Option<u32>
+    ensures some { IfSome result (λ number. NumberText text.now number) }
+    ensures none { IfNone result ((number : ℕ) → NumberText text.now number → 2 ^ 32 ≤ number) }
+{
+    if text.len() > 20 || text.as_bytes().first() == Some(&b'+') {
+        return None;
+    }
+    text.parse::<u32>().ok()
 }

@@ -19,6 +19,7 @@ use std::process::ExitCode;
 use std::rt::Env;
 use std::{env, io};
 use tg_app::{CommandFault, out_of_memory, run};
+use tg_doors::TcpDoor;
 use tg_edges::{HostFolder, HostPack, Sink, Source, StdSink, StdSource};
 
 /// How many standard streams there are: 0 is input, 1 out and 2 err.
@@ -70,7 +71,17 @@ fn run_words<I: Source, O: Sink, E: Sink>(
 {
     let mut folder = HostFolder::new(*rt);
     let mut pack = Some(HostPack::new(*rt));
-    run(rt.alloc(), words, &mut folder, &mut pack, input, out, err)
+    let mut door = TcpDoor::new(*rt);
+    run(
+        rt.alloc(),
+        words,
+        &mut folder,
+        &mut pack,
+        &mut door,
+        input,
+        out,
+        err,
+    )
 }
 
 /// The words after the program's name, and none where they aren't UTF-8: neither is a command. The error is want of

@@ -50,3 +50,9 @@ returns-then-eq-6-clause-exact c = of_name _ (codes "verify") _ _ _ c.eq-else-eq
 
 pub returns-then-eq-6-clause-memory : goal.returns-then-eq-6-clause-memory
 returns-then-eq-6-clause-memory c = λ wants. (5, omega arith, same_name _ (codes "verify") _ c.eq-else-eq-5.ensures c.if-eq-6.true)
+
+pub returns-then-eq-7-clause-exact : goal.returns-then-eq-7-clause-exact
+returns-then-eq-7-clause-exact c = of_name _ (codes "serve") _ _ _ c.eq-else-eq-6.ensures c.if-eq-7.true c.serve_of.ensures
+
+pub returns-then-eq-7-clause-memory : goal.returns-then-eq-7-clause-memory
+returns-then-eq-7-clause-memory c = λ wants. (6, omega arith, same_name _ (codes "serve") _ c.eq-else-eq-6.ensures c.if-eq-7.true)

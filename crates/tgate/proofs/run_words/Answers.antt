@@ -16,4 +16,5 @@ returns-clause-ran g c =
       hex = λ cid asked. (runs.cid_hex cid asked).put;
       text = λ cid asked. (runs.cid_text cid asked).put;
       verified = λ q asked. (runs.verify q asked).verified;
+      served = λ parts asked zero. let links = ((runs.serve parts asked).served zero).links in (links.served.port, links.served.line);
     }

@@ -1,0 +1,337 @@
+-- What each exit status says of `serve`.
+use Rattle.std.proofs.Common.{◌≡◌, ◌≢◌, ◌≤◌, ◌<◌, ◌+◌, ◌⊎◌, ◌∙◌, ◌++◌, ◌∷◌, All, Bool, Err, List, None, Ok, Option, Some, [], ap, arith, false, inl, inr, refl, subst, sym, true, ℕ}
+use Rattle.std.proofs.lemmas.Bool.{or_parts}
+use Rattle.std.proofs.lemmas.List.Elements.{All-cons, All-nil}
+use Rattle.std.specs.List.{list_any}
+use Rattle.std.specs.Prelude.{Result, if◌then◌else◌, take, ⊤, ◌^◌, ◌||◌}
+use Rattle.tg_app.proofs.Statuses.{not_zero}
+use Rattle.tg_app.specs.Exports.{IsAttachedPack}
+use Rattle.tg_app.specs.Lines.{exit_status, status_of}
+use Rattle.tg_app.specs.Objects.{Entrance}
+use Rattle.tg_app.specs.Serves.{IsGoodPack, ServeAnswers, ServedWhole, pack_refusal, serve_end}
+use Rattle.tg_app.specs.declared.fault.CommandFault.{CommandFault}
+use Rattle.tg_app.specs.declared.fault.CommandFault.TheVariants as refusals
+use Rattle.tg_doors.specs.Doors.{DoorRose, Doorway}
+use Rattle.tg_faults.specs.Faults.{Rose}
+use Rattle.tg_files.specs.Packs.{PackRose, PackStep}
+use Rattle.tg_gateway.specs.declared.fault.GatewayFault.{GatewayFault}
+use Rattle.tg_gateway.specs.declared.fault.GatewayFault.TheVariants as links
+use Rattle.tg_http.specs.declared.request.RequestHead.{RequestHead}
+use Rattle.tg_model.specs.LimitNumbers.{standard}
+use Rattle.tg_model.specs.Stores.{Store}
+use Rattle.tg_model.specs.declared.limits.LimitKind.TheVariants as kinds
+use Rattle.tg_sent.specs.Sent.{CountsBetween, Sent, SentBy, SentFor, bad_head, before_head, behind_sections, count_if, exact, failed_in, is_broken, last, limit, next, no_more}
+use Rattle.tg_serve.specs.Packed.{PackServed}
+use Rattle.tg_serve.specs.Serving.{AreServed, LinkRun, SaidAll, SaidBy, SaidFront, is_limit, is_memory, is_positive}
+use Rattle.tg_serve.specs.declared.Happened.{Happened}
+use Rattle.tg_serve.specs.declared.packed.ServeFault.{ServeFault}
+use Rattle.tg_serve.specs.declared.packed.ServeFault.TheVariants as faults
+use Rattle.tg_store.specs.AttachedPacks.{IsAttachedIn}
+use Rattle.tg_store.specs.Attaching.{HasCauseIn, HasPackCause, IsAttached, IsRefusal}
+use Rattle.tg_store.specs.declared.fault.PackFault.{PackFault}
+use Rattle.tg_store.specs.declared.fault.PackFault.TheVariants as packs
+use Rattle.tg_streams.specs.Streams.{Output, OutputQuiet, OutputRose}
+use Rattle.tg_words.specs.ServeLines.{ServeParts}
+
+-- ---- what happened
+
+-- what a command says of what happened, by each of it
+abbrev end_by : Bool → Bool → Bool → Bool → Option CommandFault
+end_by memory store fault passed =
+    if memory then Some refusals.OutOfMemory
+    else (if store then Some refusals.StoreFault
+    else (if fault then Some refusals.DoorFault
+    else (if passed then Some (refusals.Limit kinds.Received standard.received) else None)))
+
+-- nothing of it did
+pub record NothingHappened (memory store fault passed : Bool) : Type 0 where
+  pub no_memory : memory ≡ false
+  pub no_store : store ≡ false
+  pub no_fault : fault ≡ false
+  pub no_limit : passed ≡ false
+
+zero_by : (memory store fault passed : Bool) → exit_status (end_by memory store fault passed) ≡ 0 → NothingHappened memory store fault passed
+zero_by false false false false e = record { no_memory = refl; no_store = refl; no_fault = refl; no_limit = refl }
+zero_by true store fault passed e = cc
+zero_by false true fault passed e = cc
+zero_by false false true passed e = cc
+zero_by false false false true e = cc
+
+five_by : (memory store fault passed : Bool) → exit_status (end_by memory store fault passed) ≡ 5 → fault ≡ true
+five_by memory store true passed e = refl
+five_by true store false passed e = cc
+five_by false true false passed e = cc
+five_by false false false true e = cc
+five_by false false false false e = cc
+
+usage_by : (memory store fault passed : Bool) → Some refusals.Usage ≡ end_by memory store fault passed → ⊥
+usage_by true store fault passed e = cc
+usage_by false true fault passed e = cc
+usage_by false false true passed e = cc
+usage_by false false false true e = cc
+usage_by false false false false e = cc
+
+-- without a fault of the store and one of the door
+left_by : (memory store fault passed : Bool) → (store ≡ true → ⊥) → (fault ≡ true → ⊥) → (exit_status (end_by memory store fault passed) ≡ 8)
+    ⊎ ((exit_status (end_by memory store fault passed) ≡ 7) ⊎ (exit_status (end_by memory store fault passed) ≡ 0))
+left_by true store fault passed no_store no_fault = inl refl
+left_by false true fault passed no_store no_fault = absurd (no_store refl)
+left_by false false true passed no_store no_fault = absurd (no_fault refl)
+left_by false false false true no_store no_fault = inr (inl refl)
+left_by false false false false no_store no_fault = inr (inr refl)
+
+-- ---- no command ends as one that is none
+
+no_pack_usage : (fault : PackFault) → Some refusals.Usage ≡ Some (pack_refusal fault) → ⊥
+no_pack_usage (packs.NotCar at) e = cc
+no_pack_usage (packs.BadDigest at) e = cc
+no_pack_usage packs.Unfinished e = cc
+no_pack_usage (packs.Truncated at) e = cc
+no_pack_usage packs.Failed e = cc
+no_pack_usage (packs.BlockLimit at) e = cc
+no_pack_usage packs.OutOfMemory e = cc
+
+no_end_usage : (result : Result Happened ServeFault) → Some refusals.Usage ≡ serve_end result → ⊥
+no_end_usage (Ok happened) e = usage_by happened.memory happened.store happened.fault happened.limit e
+no_end_usage (Err (faults.Pack fault)) e = no_pack_usage fault e
+no_end_usage (Err faults.DoorFault) e = cc
+no_end_usage (Err faults.SinkFault) e = cc
+no_end_usage (Err faults.OutOfMemory) e = cc
+
+pub no_serve_usage : (parts : ServeParts) (step : PackStep) (same_pack : Type 0) (out : Output) (door : Entrance)
+    → ServeAnswers parts step same_pack out door (Some refusals.Usage) → ⊥
+no_serve_usage parts step same_pack out door (inl ended) = no_end_usage ended.result ended.end_is
+no_serve_usage parts step same_pack out door (inr (inl none)) = let e = none.end_is in let is = none.unattached.is in cc
+no_serve_usage parts step same_pack out door (inr (inr unbegun)) = let e = unbegun.end_is in cc
+
+-- ---- faults of out that weren't counted
+
+quiet_by : (most count : ℕ) (tell : Type 0) (step : PackStep) (out : Output) (door : Doorway) (same_door : Type 0) (result : Result Happened ServeFault)
+    → (result ≡ Err faults.SinkFault → ⊥) → PackServed most count tell step out door same_door result → OutputQuiet out
+quiet_by most count tell step out door same_door (Ok happened) never h = h.served.quiet
+quiet_by most count tell step out door same_door (Err (faults.Pack fault)) never h = h.1.quiet
+quiet_by most count tell step out door same_door (Err faults.DoorFault) never h = h.served.0.untouched.quiet
+quiet_by most count tell step out door same_door (Err faults.SinkFault) never h = absurd (never refl)
+quiet_by most count tell step out door same_door (Err faults.OutOfMemory) never h = h.0.quiet
+
+pub serve_quiet : (parts : ServeParts) (step : PackStep) (same_pack : Type 0) (out : Output) (door : Entrance) (end : Option CommandFault) → exit_status end ≢ 6
+    → ServeAnswers parts step same_pack out door end → OutputQuiet out
+serve_quiet parts step same_pack out door end ne (inl ended) =
+    quiet_by standard.received parts.count door.links_tell step out door.doorway door.same_door ended.result
+    (λ sink. ne (ap exit_status (ended.end_is ∙ ap serve_end sink))) ended.served
+serve_quiet parts step same_pack out door end ne (inr (inl none)) = none.unattached.unput.quiet
+serve_quiet parts step same_pack out door end ne (inr (inr unbegun)) = unbegun.unput.quiet
+
+-- ---- status 0
+
+-- of a link whose session ended Ok all was said
+said_by : (told : Option Store) (most : ℕ) (run : LinkRun) (end : Result ⊤ GatewayFault) → SaidBy told most run end → is_memory end ≡ false → run.failed ≡ false → is_limit end ≡ false
+    → SaidAll told run
+said_by told most run (Ok done) h no_memory unfailed no_limit = h
+said_by told most run (Err (links.Limit number)) h no_memory unfailed no_limit = cc
+said_by told most run (Err links.LinkFault) h no_memory unfailed no_limit = let failed = h.1 in cc
+said_by told most run (Err links.OutOfMemory) h no_memory unfailed no_limit = cc
+
+each_said : (told : Option Store) (most before : ℕ) (runs : List LinkRun) (now : ℕ) → AreServed told most before runs now
+    → list_any (λ run. is_memory run.end) runs ≡ false → list_any (λ run. run.failed) runs ≡ false → list_any (λ run. is_limit run.end) runs ≡ false
+    → All (SaidAll told) runs
+each_said told most before [] now served no_memory unfailed no_limit = All-nil (SaidAll told)
+each_said told most before (run ∷ runs) now served no_memory unfailed no_limit =
+    let memory = or_parts (is_memory run.end) (list_any (λ run. is_memory run.end) runs) no_memory in
+    let failed = or_parts run.failed (list_any (λ run. run.failed) runs) unfailed in
+    let passed = or_parts (is_limit run.end) (list_any (λ run. is_limit run.end) runs) no_limit in
+    let first = said_by told most run run.end served.0 memory.0 failed.0 passed.0 in
+    All-cons (SaidAll told) run runs first (each_said told most run.faults_now runs now served.3 memory.1 failed.1 passed.1)
+
+whole_by : (parts : ServeParts) (step : PackStep) (out : Output) (door : Entrance) (result : Result Happened ServeFault)
+    → IsAttachedPack parts.pack step → exit_status (serve_end result) ≡ 0
+    → PackServed standard.received parts.count door.links_tell step out door.doorway door.same_door result → ServedWhole parts step out door
+whole_by parts step out door (Ok happened) attached e h =
+    let none = zero_by happened.memory happened.store happened.fault happened.limit e in
+    let serves = h.served.serves in
+    let has = serves.has_happened in
+    let fault = or_parts serves.unadmitted (list_any (λ run. run.failed) serves.runs) (sym has.fault ∙ none.no_fault) in
+    record {
+      links = record { attached = attached; told = h.told; store = h.attached; happened = happened; served = h.served };
+      each = each_said h.told standard.received step.faults_old serves.runs step.faults_new serves.served (sym has.memory ∙ none.no_memory) fault.1 (sym has.limit ∙ none.no_limit);
+    }
+whole_by parts step out door (Err (faults.Pack fault)) attached e h = absurd (not_zero (pack_refusal fault) e)
+whole_by parts step out door (Err faults.DoorFault) attached e h = cc
+whole_by parts step out door (Err faults.SinkFault) attached e h = cc
+whole_by parts step out door (Err faults.OutOfMemory) attached e h = cc
+
+pub served_of : (parts : ServeParts) (step : PackStep) (same_pack : Type 0) (out : Output) (door : Entrance) (end : Option CommandFault) → exit_status end ≡ 0
+    → ServeAnswers parts step same_pack out door end → ServedWhole parts step out door
+served_of parts step same_pack out door end e (inl ended) = whole_by parts step out door ended.result ended.attached (sym (ap exit_status ended.end_is) ∙ e) ended.served
+served_of parts step same_pack out door end e (inr (inl none)) = absurd (not_zero none.refusal (sym (ap exit_status none.end_is) ∙ e))
+served_of parts step same_pack out door end e (inr (inr unbegun)) = absurd (not_zero refusals.OutOfMemory (sym (ap exit_status unbegun.end_is) ∙ e))
+
+-- ---- status 5
+
+five_refused : (fault : PackFault) → status_of (pack_refusal fault) ≡ 5 → ⊥
+five_refused (packs.NotCar at) e = cc
+five_refused (packs.BadDigest at) e = cc
+five_refused packs.Unfinished e = cc
+five_refused (packs.Truncated at) e = cc
+five_refused packs.Failed e = cc
+five_refused (packs.BlockLimit at) e = cc
+five_refused packs.OutOfMemory e = cc
+
+rose_by : (most count : ℕ) (tell : Type 0) (step : PackStep) (out : Output) (door : Doorway) (same_door : Type 0) (result : Result Happened ServeFault)
+    → exit_status (serve_end result) ≡ 5 → PackServed most count tell step out door same_door result → DoorRose door
+rose_by most count tell step out door same_door (Ok happened) e h = h.served.serves.failed (five_by happened.memory happened.store happened.fault happened.limit e)
+rose_by most count tell step out door same_door (Err (faults.Pack fault)) e h = absurd (five_refused fault e)
+rose_by most count tell step out door same_door (Err faults.DoorFault) e h = h.served.0.rose
+rose_by most count tell step out door same_door (Err faults.SinkFault) e h = cc
+rose_by most count tell step out door same_door (Err faults.OutOfMemory) e h = cc
+
+pub door_fault_of : (parts : ServeParts) (step : PackStep) (same_pack : Type 0) (out : Output) (door : Entrance) (end : Option CommandFault) → exit_status end ≡ 5
+    → ServeAnswers parts step same_pack out door end → DoorRose door.doorway
+door_fault_of parts step same_pack out door end e (inl ended) =
+    rose_by standard.received parts.count door.links_tell step out door.doorway door.same_door ended.result (sym (ap exit_status ended.end_is) ∙ e) ended.served
+door_fault_of parts step same_pack out door end e (inr (inl none)) = let k = sym (ap status_of none.unattached.is) ∙ (sym (ap exit_status none.end_is) ∙ e) in cc
+door_fault_of parts step same_pack out door end e (inr (inr unbegun)) = let k = sym (ap exit_status unbegun.end_is) ∙ e in cc
+
+-- ---- a store that broke off counted a fault
+
+-- at each reply the store didn't break off, or its count rose
+abbrev AreCounted : List Sent → Type 0
+AreCounted [] = ⊤
+AreCounted (s ∷ more) = ((is_broken s.course ≡ false) ⊎ Rose s.faults_before s.faults_now) × AreCounted more
+
+counted_if : (store : Store) (head : RequestHead) (s : Sent) → SentFor store head s → (is_broken s.course ≡ false) ⊎ Rose s.faults_before s.faults_now
+counted_if store head s (exact before) = inl refl
+counted_if store head s (before_head q before now a r) = inr r
+counted_if store head s (behind_sections q count before now b r) = inr r
+
+are_counted : (store : Store) (bytes : List ℕ) (sent : List Sent) (rest : List ℕ) → SentBy (SentFor store) bytes sent rest → AreCounted sent
+are_counted store bytes sent rest (no_more b) = tt
+are_counted store bytes sent rest (limit b before h) = (inl refl, tt)
+are_counted store bytes sent rest (bad_head b before h) = (inl refl, tt)
+are_counted store bytes sent rest (last b r head s begins f e) = (counted_if store head s f, tt)
+are_counted store bytes sent rest (next b r behind head s more begins f e all) = (counted_if store head s f, are_counted store r more behind all)
+
+front_counted : (sent more : List Sent) → AreCounted (sent ++ more) → AreCounted sent
+front_counted [] more h = tt
+front_counted (s ∷ sent) more h = (h.0, front_counted sent more h.1)
+
+counts_rise : (before : ℕ) (sent : List Sent) (now : ℕ) → CountsBetween before sent now → before ≤ now
+counts_rise before [] now h = h
+counts_rise before (s ∷ more) now h = omega (arith, h.0, h.1, counts_rise s.faults_now more now h.2)
+
+-- a count that rose between two numbers rose between any around them
+wider : (before first later now : ℕ) → before ≤ first → later ≤ now → Rose first later → Rose before now
+wider before first later now low high rose few =
+    let small : later + 1 < 2 ^ 64 = omega (arith, few, high) in
+    omega (arith, low, high, rose small)
+
+behind_first : (c : Bool) (n : ℕ) → c ≡ false → is_positive (count_if c n) ≡ true → is_positive n ≡ true
+behind_first false n e h = h
+behind_first true n e h = cc
+
+rose_of : (before : ℕ) (sent : List Sent) (now : ℕ) → AreCounted sent → CountsBetween before sent now → is_positive (failed_in sent) ≡ true → Rose before now
+rose_of before [] now counted h some = cc
+rose_of before (s ∷ more) now (inl e, counted) h some =
+    let up : before ≤ s.faults_now = omega (arith, h.0, h.1) in
+    let same : now ≤ now = omega arith in
+    wider before s.faults_now now now up same
+    (rose_of s.faults_now more now counted h.2 (behind_first (is_broken s.course) (failed_in more) e some))
+rose_of before (s ∷ more) now (inr rose, counted) h some =
+    wider before s.faults_before s.faults_now now h.0 (counts_rise s.faults_now more now h.2) rose
+
+rose_if : (served : ℕ) (before : ℕ) (sent : List Sent) (now : ℕ) → served ≡ failed_in sent → AreCounted sent → CountsBetween before sent now → is_positive served ≡ true → Rose before now
+rose_if served before sent now is counted h some = rose_of before sent now counted h (subst (λ (n : ℕ). is_positive n ≡ true) is some)
+
+front_rose : (store : Store) (run : LinkRun) → SaidFront (Some store) run → is_positive run.served.store ≡ true → Rose run.faults_before run.faults_now
+front_rose store run h some =
+    rose_if run.served.store run.faults_before h.sent run.faults_now h.numbers.store_are
+    (front_counted h.sent h.next (are_counted store run.heard (h.sent ++ h.next) h.rest h.sent_is)) h.counts some
+
+link_rose : (store : Store) (most : ℕ) (run : LinkRun) (end : Result ⊤ GatewayFault) → SaidBy (Some store) most run end → is_positive run.served.store ≡ true
+    → Rose run.faults_before run.faults_now
+link_rose store most run (Ok done) h some =
+    rose_if run.served.store run.faults_before h.sent run.faults_now h.numbers.store_are (are_counted store run.heard h.sent h.rest h.sent_is.sent_is) h.counts some
+link_rose store most run (Err (links.Limit number)) h some =
+    let said = h.1 in
+    rose_if run.served.store run.faults_before said.sent run.faults_now said.numbers.store_are (are_counted store (take number run.heard) said.sent said.rest said.sent_is.sent_is) said.counts some
+link_rose store most run (Err links.LinkFault) h some = front_rose store run h.0 some
+link_rose store most run (Err links.OutOfMemory) h some = front_rose store run h.0 some
+
+runs_rise : (told : Option Store) (most before : ℕ) (runs : List LinkRun) (now : ℕ) → AreServed told most before runs now → before ≤ now
+runs_rise told most before [] now h = h
+runs_rise told most before (run ∷ runs) now h = omega (arith, h.1, h.2, runs_rise told most run.faults_now runs now h.3)
+
+one_true : (a b : Bool) → (a || b) ≡ true → (a ≡ true) ⊎ (b ≡ true)
+one_true true b e = inl refl
+one_true false b e = inr e
+
+runs_rose : (store : Store) (most before : ℕ) (runs : List LinkRun) (now : ℕ) → AreServed (Some store) most before runs now
+    → list_any (λ run. is_positive run.served.store) runs ≡ true → Rose before now
+runs_rose store most before [] now h some = cc
+runs_rose store most before (run ∷ runs) now h some =
+    by (one_true (is_positive run.served.store) (list_any (λ run. is_positive run.served.store) runs) some) (λ there. runs_rose store most run.faults_now runs now h.3 there)
+  where
+    by : (is_positive run.served.store ≡ true) ⊎ (list_any (λ run. is_positive run.served.store) runs ≡ true)
+        → (list_any (λ run. is_positive run.served.store) runs ≡ true → Rose run.faults_now now) → Rose before now
+    by (inl here) rise =
+        wider before run.faults_before run.faults_now now h.1 (runs_rise (Some store) most run.faults_now runs now h.3) (link_rose store most run run.end h.0 here)
+    by (inr there) rise =
+        let up : before ≤ run.faults_now = omega (arith, h.1, h.2) in
+        let same : now ≤ now = omega arith in
+        wider before run.faults_now now now up same (rise there)
+
+-- ---- a pack whose content can be attached
+
+-- no cause of a refusal holds of a content that is attached
+abbrev pub NoneCaused : Type 0
+NoneCaused = (content : List ℕ) (store : Store) (fault : PackFault) → IsAttached content store → HasPackCause content fault → ⊥
+
+-- it is told, and so is its store
+store_told : (content : Option (List ℕ)) (told : Option Store) (bytes : List ℕ) → content ≡ Some bytes → IsAttachedIn content told → (store : Store) × (told ≡ Some store)
+store_told None told bytes e attached = cc
+store_told (Some content) None bytes e attached = absurd attached
+store_told (Some content) (Some store) bytes e attached = (store, refl)
+
+module _ (uncaused : NoneCaused) (step : PackStep) (good : IsGoodPack step.content_old) (no_pack : PackRose step → ⊥) where
+  caused : (fault : PackFault) → HasCauseIn step.content_old fault → ⊥
+  caused fault h = uncaused good.0 good.1 fault good.3 (subst (λ (content : Option (List ℕ)). HasCauseIn content fault) good.2 h)
+
+  -- it is refused for want of memory alone
+  refused_8 : (fault : PackFault) → IsRefusal step fault → status_of (pack_refusal fault) ≡ 8
+  refused_8 packs.Failed h = absurd (no_pack h)
+  refused_8 packs.OutOfMemory h = refl
+  refused_8 (packs.NotCar at) h = absurd (caused (packs.NotCar at) h.1)
+  refused_8 (packs.BadDigest at) h = absurd (caused (packs.BadDigest at) h.1)
+  refused_8 packs.Unfinished h = absurd (caused packs.Unfinished h.1)
+  refused_8 (packs.Truncated at) h = absurd (caused (packs.Truncated at) h.1)
+  refused_8 (packs.BlockLimit at) h = absurd (caused (packs.BlockLimit at) h.1)
+
+  unbroken : (told : Option Store) (most : ℕ) (runs : List LinkRun) → IsAttachedIn step.content_old told → AreServed told most step.faults_old runs step.faults_new
+      → list_any (λ run. is_positive run.served.store) runs ≡ true → ⊥
+  unbroken told most runs attached served some =
+      let (store, is) = store_told step.content_old told good.0 good.2 attached in
+      no_pack (record {
+        rose = runs_rose store most step.faults_old runs step.faults_new (subst (λ (t : Option Store). AreServed t most step.faults_old runs step.faults_new) is served) some;
+        counted = runs_rise told most step.faults_old runs step.faults_new served;
+      })
+
+  module _ (out : Output) (door : Entrance) (no_door : DoorRose door.doorway → ⊥) (no_out : OutputRose out → ⊥) where
+    answered_by : (most count : ℕ) (result : Result Happened ServeFault) → PackServed most count door.links_tell step out door.doorway door.same_door result
+        → (exit_status (serve_end result) ≡ 8) ⊎ ((exit_status (serve_end result) ≡ 7) ⊎ (exit_status (serve_end result) ≡ 0))
+    answered_by most count (Ok happened) h =
+        let serves = h.served.serves in
+        left_by happened.memory happened.store happened.fault happened.limit
+        (λ some. unbroken h.told most serves.runs h.attached serves.served (sym serves.has_happened.store ∙ some)) (λ some. no_door (serves.failed some))
+    answered_by most count (Err (faults.Pack fault)) h = inl (refused_8 fault h.0)
+    answered_by most count (Err faults.DoorFault) h = absurd (no_door h.served.0.rose)
+    answered_by most count (Err faults.SinkFault) h = absurd (no_out h.served.0.line.rose)
+    answered_by most count (Err faults.OutOfMemory) h = inl refl
+
+pub serve_answered_of : NoneCaused → (parts : ServeParts) (step : PackStep) (same_pack : Type 0) (out : Output) (door : Entrance) (end : Option CommandFault)
+    → IsGoodPack step.content_old → (PackRose step → ⊥) → (DoorRose door.doorway → ⊥) → (OutputRose out → ⊥) → ServeAnswers parts step same_pack out door end
+    → (exit_status end ≡ 8) ⊎ ((exit_status end ≡ 7) ⊎ (exit_status end ≡ 0))
+serve_answered_of uncaused parts step same_pack out door end good no_pack no_door no_out (inl ended) =
+    subst (λ (e : Option CommandFault). (exit_status e ≡ 8) ⊎ ((exit_status e ≡ 7) ⊎ (exit_status e ≡ 0))) (sym ended.end_is)
+    (answered_by uncaused step good no_pack out door no_door no_out standard.received parts.count ended.result ended.served)
+serve_answered_of uncaused parts step same_pack out door end good no_pack no_door no_out (inr (inl none)) = absurd (no_pack none.unattached.rose)
+serve_answered_of uncaused parts step same_pack out door end good no_pack no_door no_out (inr (inr unbegun)) = inl (ap exit_status unbegun.end_is)

@@ -1,0 +1,72 @@
+//! The command `serve`.
+
+ghost use Rattle.std.specs.Prelude.{◌∷◌, map, string_bytes, codes, option_map};
+ghost use Rattle.tg_words.specs.Operands.{Answers, Exact, NumberNeeded, ServeGiven, givens, value_at};
+
+use crate::operands::{GivenOption, OptionNames, named, number_of, one_operand, value_of};
+use crate::{Command, WordsFault};
+use std::alloc::Global;
+use std::marker::Model;
+
+/// What is asked of a gateway: the path of the pack, the port, and how many links are served.
+#[derive(Drop)]
+pub struct Serve {
+    /// The path of the pack, which isn't empty.
+    pub pack: String,
+    /// The port, where 0 asks for one that is free: 0 to 65,535.
+    pub port: u16,
+    /// How many links are served: 1 to 1,000,000.
+    pub count: u32,
+}
+
+impl Model for Serve {
+    ghost use Rattle.std.specs.Prelude.{string_bytes};
+    ghost use Rattle.tg_words.specs.ServeLines.{ServeParts};
+
+    ghost Value = { ServeParts };
+
+    ghost view = { λ s. record { pack = string_bytes s.pack; port = s.port; count = s.count } };
+}
+
+/// `serve PACK --port N --count N`.
+pub fn serve_of(alloc: Global, words: &[String]) -> Result<Command, WordsFault>
+    ensures { Answers (codes "serve" ∷ map string_bytes words.now) result }
+{
+    let names = OptionNames {
+        valued: &["port", "count"],
+        flags: &[],
+    };
+    let (pack, options) = one_operand(alloc, words, names)?;
+    let serve = serve_with(alloc, pack, options.as_slice())?;
+    Ok(Command::Serve(serve))
+}
+
+/// The gateway over this pack with these options.
+fn serve_with(alloc: Global, pack: &str, options: &[GivenOption]) -> Result<Serve, WordsFault>
+    ensures { Exact (ServeGiven pack.now (givens options.now)) result }
+{
+    let pack = named(alloc, pack)?;
+    let port = port_given(options)?;
+    let count = number_needed(value_of(options, "count"), 1, 1_000_000)?;
+    Ok(Serve { pack, port, count })
+}
+
+/// The port that these options give.
+fn port_given(options: &[GivenOption]) -> Result<u16, WordsFault>
+    ensures { Exact (NumberNeeded (value_at (givens options.now) (codes "port")) 0 65535) result }
+{
+    let port = number_needed(value_of(options, "port"), 0, 65_535)?;
+    Ok(port as u16)
+}
+
+/// The number from `low` to `high` that an option's value writes.
+fn number_needed(value: Option<&str>, low: u32, high: u32) -> Result<u32, WordsFault>
+    ensures { Exact (NumberNeeded (option_map (λ text. text.now) value.entry) low high) result }
+{
+    let text = value.ok_or(WordsFault::Usage)?;
+    let number = number_of(text).ok_or(WordsFault::Usage)?;
+    if number < low || high < number {
+        return Err(WordsFault::Usage);
+    }
+    Ok(number)
+}
