@@ -2,3 +2,4 @@ mod Answering
 mod Attached
 mod Moves
 mod Parts
+mod Pieces

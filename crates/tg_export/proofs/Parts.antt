@@ -10,7 +10,7 @@ use Rattle.tg_cid.specs.Cid.{CidParts}
 use Rattle.tg_cid.specs.Limits.{max_block_len}
 use Rattle.tg_cid.specs.Names.{Names}
 use Rattle.tg_export.proofs.Moves.{puts_both, puts_front}
-use Rattle.tg_export.specs.Cars.{BytesEnd, CarEnds, HasCar, HasOwnMemory, HasResolved, HasText, HasTexts, IsGoodSection, PutNothing, PutWhole, SectionEnds, SectionsEnd, fault_of_path, fault_of_walk}
+use Rattle.tg_export.specs.Cars.{CarEnds, HasCar, HasOwnMemory, HasResolved, HasText, HasTexts, IsGoodSection, PutNothing, PutWhole, SectionsEnd, fault_of_path, fault_of_walk}
 use Rattle.tg_export.specs.declared.fault.ExportFault.{ExportFault}
 use Rattle.tg_export.specs.declared.fault.ExportFault.TheVariants as faults
 use Rattle.tg_model.specs.Dag.{Section}
@@ -71,18 +71,6 @@ pub cause_of : (state : WalkState) (store : Store) (sections : List Section) (fa
 cause_of state store sections fault e stands = subst (λ (refused : Option WalkFault). StandsBy refused max_depth state.left state.known store sections) e stands
 
 -- ---- what was put behind the header
-
--- the bytes of a section's head and its block
-pub section_ends : {S : Type 0} (m : SinkMeaning S) (a b c : S) (head block : List ℕ) (section : Section) (result : Result ⊤ ExportFault) → SinkJoins S m
-    → SectionText (in_car section) (head ++ block) → PutWhole (into m a b) head → BytesEnd block (into m b c) result → SectionEnds section (into m a c) result
-section_ends m a b c head block section (Ok done) joins is p q = record { text = head ++ block; text_is = is; is_done = puts_both m a b c head block joins p q }
-section_ends m a b c head block section (Err fault) joins is p q =
-    (q.0, record { text = head ++ block; text_is = is; is_done = puts_front m a b c head block joins p q.1 })
-
-pub section_stops : {S : Type 0} (m : SinkMeaning S) (a b : S) (head block : List ℕ) (section : Section) (fault : ExportFault)
-    → SectionText (in_car section) (head ++ block) → BytesEnd head (into m a b) (Err fault) → SectionEnds section (into m a b) (Err fault)
-section_stops m a b head block section fault is q =
-    (q.0, record { text = head ++ block; text_is = is; is_done = put_front_more _ m a b head block q.1 })
 
 -- the same texts, of which another thing holds
 retold : (told : Option Store) (holds after : Store → List Section → Type 0) (done : List ℕ → Type 0)

@@ -433,9 +433,8 @@ fn packs_of_a_directory_are_written_or_refused(rt: HostRuntime) {
 /// Which put of out fails, its number, how the writing ends, and how many bytes of the CAR are put.
 const FRONTS: &[(&str, u64, Ended, usize)] = &[
     ("the header", 0, Ended::SinkFault, 0),
-    ("the section's head", 1, Ended::SinkFault, 59),
-    ("the block", 2, Ended::SinkFault, 96),
-    ("none of them", 3, Ended::Whole, 100),
+    ("the section", 1, Ended::SinkFault, 59),
+    ("none of them", 2, Ended::Whole, 100),
 ];
 
 /// A store that has the directory under its CIDv1, or none where memory is wanted.

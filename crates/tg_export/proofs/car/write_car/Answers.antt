@@ -83,6 +83,29 @@ returns-in_err-walk-clause-answered g c store sections told all =
     let p = err_from_is_err_and c.from_residual-in_err-walk.result c.from_residual-in_err-walk.ensures.1 in
     rw (p.1, p.2) tt
 
+pub returns-in_err-gathering-clause-ends : goal.returns-in_err-gathering-clause-ends
+returns-in_err-gathering-clause-ends g c =
+    let p = err_from_is_err_and c.from_residual-in_err-gathering.result c.from_residual-in_err-gathering.ensures.1 in
+    rw (p.1, p.2) (inl (puts_nothing g.S.Sink.sink c.args.out.now (g.met.S.Sink.rests _)))
+
+pub returns-in_err-gathering-clause-looked : goal.returns-in_err-gathering-clause-looked
+returns-in_err-gathering-clause-looked g c = c.in_ok-resolve.ensures.looked
+
+pub returns-in_err-gathering-clause-cause : goal.returns-in_err-gathering-clause-cause
+returns-in_err-gathering-clause-cause g c =
+    let p = err_from_is_err_and c.from_residual-in_err-gathering.result c.from_residual-in_err-gathering.ensures.1 in
+    rw (p.1, p.2) c.in_ok-resolve.ensures.cause
+
+pub returns-in_err-gathering-clause-memory : goal.returns-in_err-gathering-clause-memory
+returns-in_err-gathering-clause-memory g c =
+    let p = err_from_is_err_and c.from_residual-in_err-gathering.result c.from_residual-in_err-gathering.ensures.1 in
+    rw (p.1, p.2) tt
+
+pub returns-in_err-gathering-clause-answered : goal.returns-in_err-gathering-clause-answered
+returns-in_err-gathering-clause-answered g c store sections told all =
+    let p = err_from_is_err_and c.from_residual-in_err-gathering.result c.from_residual-in_err-gathering.ensures.1 in
+    rw (p.1, p.2) tt
+
 pub write_all-requires : goal.write_all-requires
 write_all-requires g c =
     let q = c.in_ok-walk.ensures.query in
@@ -93,6 +116,7 @@ write_all-requires g c =
       resolved = λ store e. subst (λ (p : QueryParts). HasResolved store p) (sym q) (way store (sym c.in_ok-resolve.ensures.looked.looked.stored ∙ e));
       fresh = c.in_ok-walk.ensures.fresh;
       stands = c.in_ok-walk.ensures.stands;
+      empty = c.in_ok-gathering.ensures;
     }
 
 pub returns-clause-ends : goal.returns-clause-ends

@@ -14,6 +14,7 @@ pub loop-cid-init : goal.loop-cid-init
 loop-cid-init g c = record {
   query = refl;
   fresh = c.requires.fresh;
+  empty = c.requires.empty;
   looked = looks_nothing g.B.Blocks.blocks c.args.blocks.now (g.met.B.Blocks.rests c.args.blocks.now);
   texts = none_put g.S.Sink.sink c.args.out.now _ c.args.walk.now (g.met.S.Sink.rests c.args.out.now) c.requires.stands;
 }
@@ -38,9 +39,9 @@ pub returns-in_err-put_section-clause-ends : goal.returns-in_err-put_section-cla
 returns-in_err-put_section-clause-ends g c =
     let next = subst (λ (found : Option (CidParts × List ℕ)). HasNext (g.B.Blocks.blocks.stored c.loop-cid.blocks) c.loop-cid.walk (Ok found) c.next.new.self) c.in-Some.is c.in_ok-cid.ensures.stands in
     let named = subst (λ (found : Option (CidParts × List ℕ)). IsNamedFound (Ok found)) c.in-Some.is c.in_ok-cid.ensures.named in
-    let put : HasText (section_of c.in-Some.cid c.in-Some.block) (λ text. PutFront text (into g.S.Sink.sink c.loop-cid.out c.put_section.new.out)) = search (rules, c.in_err-put_section.ensures) in
+    let put : HasText (section_of c.in-Some.cid c.in-Some.block) (λ text. PutFront text (into g.S.Sink.sink c.loop-cid.out c.put_section.new.out)) = search (rules, c.in_err-put_section.ensures.ends) in
     let p = err_from_is_err_and c.from_residual-in_err-put_section.result c.from_residual-in_err-put_section.ensures.1 in
-    rw (p.1, p.2, c.in_err-put_section.ensures.0) (sink_ends g.S.Sink.sink c.args.out.now c.loop-cid.out c.put_section.new.out c.store_walks.ensures c.args.walk.now.left.query _ (g.B.Blocks.blocks.stored c.loop-cid.blocks)
+    rw (p.1, p.2, c.in_err-put_section.ensures.ends.0) (sink_ends g.S.Sink.sink c.args.out.now c.loop-cid.out c.put_section.new.out c.store_walks.ensures c.args.walk.now.left.query _ (g.B.Blocks.blocks.stored c.loop-cid.blocks)
     c.loop-cid.walk c.next.new.self c.in-Some.cid c.in-Some.block g.met.S.Sink.joins c.loop-cid.invariant.looked.up.looked.stored (c.next.ensures.query ∙ c.loop-cid.invariant.query) c.in_ok-cid.ensures.refused
     next named put c.loop-cid.invariant.texts)
 
@@ -54,10 +55,11 @@ loop-cid-preserved g c =
     let next = subst (λ (found : Option (CidParts × List ℕ)). HasNext (g.B.Blocks.blocks.stored c.loop-cid.blocks) c.loop-cid.walk (Ok found) c.next.new.self) c.in-Some.is c.in_ok-cid.ensures.stands in
     let named = subst (λ (found : Option (CidParts × List ℕ)). IsNamedFound (Ok found)) c.in-Some.is c.in_ok-cid.ensures.named in
     let found = subst (λ (found : Option (CidParts × List ℕ)). HasLookedUp c.loop-cid.walk.left.query (Ok found) (looked_in g.B.Blocks.blocks c.loop-cid.blocks c.next.new.blocks)) c.in-Some.is c.in_ok-cid.ensures.looked in
-    let put : HasText (section_of c.in-Some.cid c.in-Some.block) (PutWhole (into g.S.Sink.sink c.loop-cid.out c.put_section.new.out)) = search (rules, c.in_ok-put_section.ensures) in
+    let put : HasText (section_of c.in-Some.cid c.in-Some.block) (PutWhole (into g.S.Sink.sink c.loop-cid.out c.put_section.new.out)) = search (rules, c.in_ok-put_section.ensures.ends) in
     record {
       query = c.next.ensures.query ∙ c.loop-cid.invariant.query;
       fresh = c.in_ok-cid.ensures.refused;
+      empty = c.put_section.ensures.nothing;
       looked = looks_on g.B.Blocks.blocks c.args.blocks.now c.loop-cid.blocks c.next.new.blocks g.met.B.Blocks.joins c.loop-cid.invariant.looked (looked_by _ _ _ found) found.quiet;
       texts = puts_more g.S.Sink.sink c.args.out.now c.loop-cid.out c.put_section.new.out _ (g.B.Blocks.blocks.stored c.loop-cid.blocks) c.loop-cid.walk c.next.new.self c.in-Some.cid c.in-Some.block g.met.S.Sink.joins
           c.loop-cid.invariant.looked.up.looked.stored next named put c.loop-cid.invariant.texts;
