@@ -106,18 +106,18 @@ no_serve_usage parts step same_pack out door (inr (inr unbegun)) = let e = unbeg
 
 -- ---- faults of out that weren't counted
 
-quiet_by : (most count : ℕ) (tell : Type 0) (step : PackStep) (out : Output) (door : Doorway) (same_door : Type 0) (result : Result Happened ServeFault)
-    → (result ≡ Err faults.SinkFault → ⊥) → PackServed most count tell step out door same_door result → OutputQuiet out
-quiet_by most count tell step out door same_door (Ok happened) never h = h.served.quiet
-quiet_by most count tell step out door same_door (Err (faults.Pack fault)) never h = h.1.quiet
-quiet_by most count tell step out door same_door (Err faults.DoorFault) never h = h.served.0.untouched.quiet
-quiet_by most count tell step out door same_door (Err faults.SinkFault) never h = absurd (never refl)
-quiet_by most count tell step out door same_door (Err faults.OutOfMemory) never h = h.0.quiet
+quiet_by : (most asked count : ℕ) (tell : Type 0) (step : PackStep) (out : Output) (door : Doorway) (same_door : Type 0) (result : Result Happened ServeFault)
+    → (result ≡ Err faults.SinkFault → ⊥) → PackServed most asked count tell step out door same_door result → OutputQuiet out
+quiet_by most asked count tell step out door same_door (Ok happened) never h = h.served.quiet
+quiet_by most asked count tell step out door same_door (Err (faults.Pack fault)) never h = h.1.quiet
+quiet_by most asked count tell step out door same_door (Err faults.DoorFault) never h = h.served.0.untouched.quiet
+quiet_by most asked count tell step out door same_door (Err faults.SinkFault) never h = absurd (never refl)
+quiet_by most asked count tell step out door same_door (Err faults.OutOfMemory) never h = h.0.quiet
 
 pub serve_quiet : (parts : ServeParts) (step : PackStep) (same_pack : Type 0) (out : Output) (door : Entrance) (end : Option CommandFault) → exit_status end ≢ 6
     → ServeAnswers parts step same_pack out door end → OutputQuiet out
 serve_quiet parts step same_pack out door end ne (inl ended) =
-    quiet_by standard.received parts.count door.links_tell step out door.doorway door.same_door ended.result
+    quiet_by standard.received parts.port parts.count door.links_tell step out door.doorway door.same_door ended.result
     (λ sink. ne (ap exit_status (ended.end_is ∙ ap serve_end sink))) ended.served
 serve_quiet parts step same_pack out door end ne (inr (inl none)) = none.unattached.unput.quiet
 serve_quiet parts step same_pack out door end ne (inr (inr unbegun)) = unbegun.unput.quiet
@@ -145,7 +145,7 @@ each_said told most before (run ∷ runs) now served no_memory unfailed no_limit
 
 whole_by : (parts : ServeParts) (step : PackStep) (out : Output) (door : Entrance) (result : Result Happened ServeFault)
     → IsAttachedPack parts.pack step → exit_status (serve_end result) ≡ 0
-    → PackServed standard.received parts.count door.links_tell step out door.doorway door.same_door result → ServedWhole parts step out door
+    → PackServed standard.received parts.port parts.count door.links_tell step out door.doorway door.same_door result → ServedWhole parts step out door
 whole_by parts step out door (Ok happened) attached e h =
     let none = zero_by happened.memory happened.store happened.fault happened.limit e in
     let serves = h.served.serves in
@@ -177,18 +177,18 @@ five_refused packs.Failed e = cc
 five_refused (packs.BlockLimit at) e = cc
 five_refused packs.OutOfMemory e = cc
 
-rose_by : (most count : ℕ) (tell : Type 0) (step : PackStep) (out : Output) (door : Doorway) (same_door : Type 0) (result : Result Happened ServeFault)
-    → exit_status (serve_end result) ≡ 5 → PackServed most count tell step out door same_door result → DoorRose door
-rose_by most count tell step out door same_door (Ok happened) e h = h.served.serves.failed (five_by happened.memory happened.store happened.fault happened.limit e)
-rose_by most count tell step out door same_door (Err (faults.Pack fault)) e h = absurd (five_refused fault e)
-rose_by most count tell step out door same_door (Err faults.DoorFault) e h = h.served.0.rose
-rose_by most count tell step out door same_door (Err faults.SinkFault) e h = cc
-rose_by most count tell step out door same_door (Err faults.OutOfMemory) e h = cc
+rose_by : (most asked count : ℕ) (tell : Type 0) (step : PackStep) (out : Output) (door : Doorway) (same_door : Type 0) (result : Result Happened ServeFault)
+    → exit_status (serve_end result) ≡ 5 → PackServed most asked count tell step out door same_door result → DoorRose door
+rose_by most asked count tell step out door same_door (Ok happened) e h = h.served.serves.failed (five_by happened.memory happened.store happened.fault happened.limit e)
+rose_by most asked count tell step out door same_door (Err (faults.Pack fault)) e h = absurd (five_refused fault e)
+rose_by most asked count tell step out door same_door (Err faults.DoorFault) e h = h.served.0.rose
+rose_by most asked count tell step out door same_door (Err faults.SinkFault) e h = cc
+rose_by most asked count tell step out door same_door (Err faults.OutOfMemory) e h = cc
 
 pub door_fault_of : (parts : ServeParts) (step : PackStep) (same_pack : Type 0) (out : Output) (door : Entrance) (end : Option CommandFault) → exit_status end ≡ 5
     → ServeAnswers parts step same_pack out door end → DoorRose door.doorway
 door_fault_of parts step same_pack out door end e (inl ended) =
-    rose_by standard.received parts.count door.links_tell step out door.doorway door.same_door ended.result (sym (ap exit_status ended.end_is) ∙ e) ended.served
+    rose_by standard.received parts.port parts.count door.links_tell step out door.doorway door.same_door ended.result (sym (ap exit_status ended.end_is) ∙ e) ended.served
 door_fault_of parts step same_pack out door end e (inr (inl none)) = let k = sym (ap status_of none.unattached.is) ∙ (sym (ap exit_status none.end_is) ∙ e) in cc
 door_fault_of parts step same_pack out door end e (inr (inr unbegun)) = let k = sym (ap exit_status unbegun.end_is) ∙ e in cc
 
@@ -316,22 +316,22 @@ module _ (uncaused : NoneCaused) (step : PackStep) (good : IsGoodPack step.conte
       })
 
   module _ (out : Output) (door : Entrance) (no_door : DoorRose door.doorway → ⊥) (no_out : OutputRose out → ⊥) where
-    answered_by : (most count : ℕ) (result : Result Happened ServeFault) → PackServed most count door.links_tell step out door.doorway door.same_door result
+    answered_by : (most asked count : ℕ) (result : Result Happened ServeFault) → PackServed most asked count door.links_tell step out door.doorway door.same_door result
         → (exit_status (serve_end result) ≡ 8) ⊎ ((exit_status (serve_end result) ≡ 7) ⊎ (exit_status (serve_end result) ≡ 0))
-    answered_by most count (Ok happened) h =
+    answered_by most asked count (Ok happened) h =
         let serves = h.served.serves in
         left_by happened.memory happened.store happened.fault happened.limit
         (λ some. unbroken h.told most serves.runs h.attached serves.served (sym serves.has_happened.store ∙ some)) (λ some. no_door (serves.failed some))
-    answered_by most count (Err (faults.Pack fault)) h = inl (refused_8 fault h.0)
-    answered_by most count (Err faults.DoorFault) h = absurd (no_door h.served.0.rose)
-    answered_by most count (Err faults.SinkFault) h = absurd (no_out h.served.0.line.rose)
-    answered_by most count (Err faults.OutOfMemory) h = inl refl
+    answered_by most asked count (Err (faults.Pack fault)) h = inl (refused_8 fault h.0)
+    answered_by most asked count (Err faults.DoorFault) h = absurd (no_door h.served.0.rose)
+    answered_by most asked count (Err faults.SinkFault) h = absurd (no_out h.served.0.line.rose)
+    answered_by most asked count (Err faults.OutOfMemory) h = inl refl
 
 pub serve_answered_of : NoneCaused → (parts : ServeParts) (step : PackStep) (same_pack : Type 0) (out : Output) (door : Entrance) (end : Option CommandFault)
     → IsGoodPack step.content_old → (PackRose step → ⊥) → (DoorRose door.doorway → ⊥) → (OutputRose out → ⊥) → ServeAnswers parts step same_pack out door end
     → (exit_status end ≡ 8) ⊎ ((exit_status end ≡ 7) ⊎ (exit_status end ≡ 0))
 serve_answered_of uncaused parts step same_pack out door end good no_pack no_door no_out (inl ended) =
     subst (λ (e : Option CommandFault). (exit_status e ≡ 8) ⊎ ((exit_status e ≡ 7) ⊎ (exit_status e ≡ 0))) (sym ended.end_is)
-    (answered_by uncaused step good no_pack out door no_door no_out standard.received parts.count ended.result ended.served)
+    (answered_by uncaused step good no_pack out door no_door no_out standard.received parts.port parts.count ended.result ended.served)
 serve_answered_of uncaused parts step same_pack out door end good no_pack no_door no_out (inr (inl none)) = absurd (no_pack none.unattached.rose)
 serve_answered_of uncaused parts step same_pack out door end good no_pack no_door no_out (inr (inr unbegun)) = inl (ap exit_status unbegun.end_is)

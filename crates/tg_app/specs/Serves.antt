@@ -51,7 +51,7 @@ serve_end (Err faults.OutOfMemory) = Some refusals.OutOfMemory
 pub record ServeEnded (parts : ServeParts) (step : PackStep) (out : Output) (door : Entrance) (end : Option CommandFault) : Type 0 where
   pub attached : IsAttachedPack parts.pack step
   pub result : Result Happened ServeFault
-  pub served : PackServed standard.received parts.count door.links_tell step out door.doorway door.same_door result
+  pub served : PackServed standard.received parts.port parts.count door.links_tell step out door.doorway door.same_door result
   pub end_is : end ≡ serve_end result
 
 -- the pack can't be attached at its path
@@ -79,7 +79,7 @@ pub record ServedLinks (parts : ServeParts) (step : PackStep) (out : Output) (do
   pub told : Option Store
   pub store : IsAttachedIn step.content_old told
   pub happened : Happened
-  pub served : HasServed told standard.received parts.count door.links_tell step.faults_old step.faults_new out door.doorway happened
+  pub served : HasServed told standard.received parts.port parts.count door.links_tell step.faults_old step.faults_new out door.doorway happened
 
 -- and on each link all that is sent for what was heard was said
 pub record ServedWhole (parts : ServeParts) (step : PackStep) (out : Output) (door : Entrance) : Type 0 where

@@ -1,5 +1,5 @@
 -- What a door means, through which links to peers come one after another, and what its calls do.
-use Rattle.std.specs.Prelude.{◌≡◌, ◌⊎◌, ◌++◌, ◌∷◌, ℕ, Bool, Err, List, None, Ok, Option, Result, Some, [], false, suc, true, zero, ◌≤◌}
+use Rattle.std.specs.Prelude.{◌≡◌, ◌≢◌, ⊤, ◌⊎◌, ◌++◌, ◌∷◌, ℕ, Bool, Err, List, None, Ok, Option, Result, Some, [], false, suc, true, zero, ◌≤◌}
 use Rattle.tg_bytes.specs.Told.{IsNothing}
 use Rattle.tg_faults.specs.Faults.{Rose}
 use Rattle.tg_faults.specs.declared.calls.Failed.{Failed}
@@ -56,6 +56,11 @@ DoorRose door = Rose door.faults_old door.faults_new
 abbrev pub IsBound : Doorway → Result ℕ Failed → Type 0
 IsBound door (Ok port) = (door.port_new ≡ Some port) × (door.shut_new ≡ false) × DoorQuiet door
 IsBound door (Err fault) = (door.port_new ≡ door.port_old) × (door.shut_new ≡ door.shut_old) × DoorRose door
+
+-- the port is the one that was asked for, but where 0 asks for one that is free
+abbrev pub IsAskedPort : ℕ → Result ℕ Failed → Type 0
+IsAskedPort asked (Ok port) = asked ≢ 0 → port ≡ asked
+IsAskedPort asked (Err fault) = ⊤
 
 -- ---- admit
 

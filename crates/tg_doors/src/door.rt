@@ -1,6 +1,6 @@
 //! Doors through which links come.
 ghost use Rattle.std.specs.Prelude.{◌≤◌};
-ghost use Rattle.tg_doors.specs.Doors.{DoorMeaning, IsAdmitted, IsBound, IsDone, KeepsComing, KeepsPort, KeepsServed, KeepsShut};
+ghost use Rattle.tg_doors.specs.Doors.{DoorMeaning, IsAdmitted, IsAskedPort, IsBound, IsDone, KeepsComing, KeepsPort, KeepsServed, KeepsShut};
 ghost use Rattle.tg_doors.specs.Doors.{at_door, given_link, view_of};
 
 use tg_faults::Failed;
@@ -22,6 +22,7 @@ pub trait Door {
     /// fault of the door, which stays bound as it was.
     fn bind(&mut self, port: u16) -> Result<u16, Failed>
         ensures bound { IsBound (at_door door self.old self.new) result }
+        ensures port { IsAskedPort port result }
         ensures coming { KeepsComing (at_door door self.old self.new) }
         ensures served { KeepsServed (at_door door self.old self.new) }
         ensures counted { door.faults self.old ≤ door.faults self.new };

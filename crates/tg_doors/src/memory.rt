@@ -1,7 +1,7 @@
 //! Doors in memory, which fail at the calls that they are given.
 ghost use Rattle.std.specs.Prelude.{◌≡◌, ◌⊎◌, ◌<◌, ◌≤◌, ◌↔◌, List as Items, [], Contains, IfOk, IfSome, IsErr, max, MatchOption, None, Some, false};
 ghost use Rattle.tg_faults.specs.Faults.{Rose, counted};
-ghost use Rattle.tg_doors.specs.Doors.{IsAdmitted, IsBound, IsDone, KeepsComing, KeepsPort, KeepsServed, KeepsShut, and_call, at_door};
+ghost use Rattle.tg_doors.specs.Doors.{IsAdmitted, IsAskedPort, IsBound, IsDone, KeepsComing, KeepsPort, KeepsServed, KeepsShut, and_call, at_door};
 ghost use Rattle.tg_doors.specs.Doors.{given_link, view_of};
 ghost use Rattle.tg_doors.specs.Memory.{IsLinkOf, mem_door};
 ghost use Rattle.tg_links.specs.Memory.{mem_hearing, mem_link};
@@ -117,6 +117,7 @@ impl Door for MemDoor {
     /// It gives the port that it is asked for, and fails exactly where the call's number stands in the list.
     fn bind(&mut self, port: u16) -> Result<u16, Failed>
         ensures bound { IsBound (at_door mem_door self.old self.new) result }
+        ensures port { IsAskedPort port result }
         ensures coming { KeepsComing (at_door mem_door self.old self.new) }
         ensures served { KeepsServed (at_door mem_door self.old self.new) }
         ensures counted { self.old.faults ≤ self.new.faults }

@@ -96,13 +96,13 @@ impl<R: Net + Drop> Door for TcpDoor<R> {
     /// door's own among them; one whose connections were closed is free (`SO_REUSEADDR`).
     fn bind(&mut self, port: u16) -> Result<u16, Failed> {
         match listen(&self.net, loopback(port)) {
-            Ok(bound) => {
+            Ok(bound) if port == 0 || bound.port == port => {
                 let port = bound.port;
                 self.bound = Some(bound);
                 self.shut = false;
                 Ok(port)
             }
-            Err(_) => Err(self.fault()),
+            _ => Err(self.fault()),
         }
     }
 

@@ -1,5 +1,5 @@
 -- A pack that is served through a door (this project's own; RFC 9112, section 9.3).
-use Rattle.std.specs.Prelude.{Err, List, Ok, Option, Result, Some, [], codes, decimal, false, ℕ, ◌++◌, ◌∷◌, ◌≡◌}
+use Rattle.std.specs.Prelude.{Err, List, Ok, Option, Result, Some, [], codes, decimal, false, ℕ, ◌++◌, ◌∷◌, ◌≡◌, ◌≢◌}
 use Rattle.tg_bytes.specs.Ascii.{line_feed}
 use Rattle.tg_doors.specs.Doors.{DoorRose, Doorway, KeepsComing, KeepsPort, KeepsServed, KeepsShut}
 use Rattle.tg_files.specs.Packs.{PackStep}
@@ -37,8 +37,9 @@ pub record Unbound (out : Output) (door : Doorway) : Type 0 where
   pub rose : DoorRose door
 
 -- the line couldn't be written
-pub record Unsaid (out : Output) (door : Doorway) : Type 0 where
+pub record Unsaid (asked : ℕ) (out : Output) (door : Doorway) : Type 0 where
   pub port : ℕ
+  pub port_is : asked ≢ 0 → port ≡ asked
   pub bound : door.port_new ≡ Some port
   pub line : PutFront (serving_line port) out
   pub links : NoLinks door
@@ -48,32 +49,33 @@ abbrev pub behind_bind : Doorway → ℕ → Doorway
 behind_bind door port = record door { port_old = Some port; shut_old = false }
 
 -- the door was bound, the line was written, and links were served
-pub record HasServed (told : Option Store) (most count : ℕ) (tell : Type 0) (before now : ℕ) (out : Output) (door : Doorway) (happened : Happened) : Type 0 where
+pub record HasServed (told : Option Store) (most asked count : ℕ) (tell : Type 0) (before now : ℕ) (out : Output) (door : Doorway) (happened : Happened) : Type 0 where
   pub port : ℕ
+  pub port_is : asked ≢ 0 → port ≡ asked
   pub bound : door.port_new ≡ Some port
   pub line : Put (serving_line port) out
   pub quiet : OutputQuiet out
   pub serves : ServesDoor told most count tell before now (behind_bind door port) happened
 
 -- how a store is served
-abbrev pub StoreServed : Option Store → ℕ → ℕ → Type 0 → ℕ → ℕ → Output → Doorway → Result Happened ServeFault → Type 0
-StoreServed told most count tell before now out door (Ok happened) = HasServed told most count tell before now out door happened
-StoreServed told most count tell before now out door (Err faults.DoorFault) = Unbound out door × (now ≡ before)
-StoreServed told most count tell before now out door (Err faults.SinkFault) = Unsaid out door × (now ≡ before)
-StoreServed told most count tell before now out door (Err faults.OutOfMemory) = ⊥
-StoreServed told most count tell before now out door (Err (faults.Pack fault)) = ⊥
+abbrev pub StoreServed : Option Store → ℕ → ℕ → ℕ → Type 0 → ℕ → ℕ → Output → Doorway → Result Happened ServeFault → Type 0
+StoreServed told most asked count tell before now out door (Ok happened) = HasServed told most asked count tell before now out door happened
+StoreServed told most asked count tell before now out door (Err faults.DoorFault) = Unbound out door × (now ≡ before)
+StoreServed told most asked count tell before now out door (Err faults.SinkFault) = Unsaid asked out door × (now ≡ before)
+StoreServed told most asked count tell before now out door (Err faults.OutOfMemory) = ⊥
+StoreServed told most asked count tell before now out door (Err (faults.Pack fault)) = ⊥
 
 -- the pack was attached as a store, which was served so
-pub record AttachedServed (most count : ℕ) (tell : Type 0) (step : PackStep) (out : Output) (door : Doorway) (end : Result Happened ServeFault) : Type 0 where
+pub record AttachedServed (most asked count : ℕ) (tell : Type 0) (step : PackStep) (out : Output) (door : Doorway) (end : Result Happened ServeFault) : Type 0 where
   pub told : Option Store
   pub attached : IsAttachedIn step.content_old told
-  pub served : StoreServed told most count tell step.faults_old step.faults_new out door end
+  pub served : StoreServed told most asked count tell step.faults_old step.faults_new out door end
 
 -- how a pack is served: it is refused, and nothing is done; or it is attached
-abbrev pub PackServed : ℕ → ℕ → Type 0 → PackStep → Output → Doorway → Type 0 → Result Happened ServeFault → Type 0
-PackServed most count tell step out door same_door (Err (faults.Pack fault)) = IsRefusal step fault × OutUntouched out × same_door
-PackServed most count tell step out door same_door (Err faults.OutOfMemory) = OutUntouched out × same_door
-PackServed most count tell step out door same_door end = AttachedServed most count tell step out door end
+abbrev pub PackServed : ℕ → ℕ → ℕ → Type 0 → PackStep → Output → Doorway → Type 0 → Result Happened ServeFault → Type 0
+PackServed most asked count tell step out door same_door (Err (faults.Pack fault)) = IsRefusal step fault × OutUntouched out × same_door
+PackServed most asked count tell step out door same_door (Err faults.OutOfMemory) = OutUntouched out × same_door
+PackServed most asked count tell step out door same_door end = AttachedServed most asked count tell step out door end
 
 -- a refusal of a pack; want of memory is the command's own
 abbrev pub fault_of_pack : PackFault → ServeFault

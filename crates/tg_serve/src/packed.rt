@@ -72,7 +72,7 @@ pub fn serve_pack<P: Pack, L: Door, S: Sink>(
     out: &mut S,
 ) -> (P, Result<Happened, ServeFault>)
     ensures pack { Did [] (pack_step P.pack pack result.0) }
-    ensures served { PackServed limits.received count (LinksTell L.Link.link) (pack_step P.pack pack result.0)
+    ensures served { PackServed limits.received port count (LinksTell L.Link.link) (pack_step P.pack pack result.0)
         (into S.sink out.old out.new) (at_door L.door door.old door.new) (door.new ≡ door.old) result.1 }
 {
     tg_store::laws::finished_packs::<P>();
@@ -96,7 +96,7 @@ fn serve_store<B: Blocks, L: Door, S: Sink>(
     limits: Limits,
     out: &mut S,
 ) -> Result<Happened, ServeFault>
-    ensures served { StoreServed (B.blocks.stored blocks.old) limits.received count (LinksTell L.Link.link)
+    ensures served { StoreServed (B.blocks.stored blocks.old) limits.received port count (LinksTell L.Link.link)
         (B.blocks.faults blocks.old) (B.blocks.faults blocks.new) (into S.sink out.old out.new)
         (at_door L.door door.old door.new) result }
     ensures looked { HaveLookedUp (looked_in B.blocks blocks.old blocks.new) }
