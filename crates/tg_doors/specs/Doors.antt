@@ -1,9 +1,9 @@
 -- What a door means, through which links to peers come one after another, and what its calls do.
-use Rattle.std.specs.Prelude.{◌≡◌, ◌≢◌, ⊤, ◌⊎◌, ◌++◌, ◌∷◌, ℕ, Bool, Err, List, None, Ok, Option, Result, Some, [], false, suc, true, zero, ◌≤◌}
-use Rattle.tg_bytes.specs.Told.{IsNothing}
+use Rattle.std.specs.Prelude.{◌≡◌, ◌≢◌, ⊤, ◌⊎◌, ◌∷◌, ℕ, Bool, Err, List, None, Ok, Option, Result, Some, [], false, true, ◌≤◌}
 use Rattle.tg_faults.specs.Faults.{Rose}
 use Rattle.tg_faults.specs.declared.calls.Failed.{Failed}
 use Rattle.tg_links.specs.Links.{LinkMeaning}
+use Rattle.tg_links.specs.Views.{IsNew, LinkView, and_call, is_failed, told_call, view_of}
 use Rattle.tg_links.specs.declared.call.Call.{Call}
 use Rattle.tg_streams.specs.Streams.{SourceMeaning}
 
@@ -64,36 +64,11 @@ IsAskedPort asked (Err fault) = ⊤
 
 -- ---- admit
 
--- a link as its door sees it: what is left to hear, what was heard and said, each told or not, whether it is over, and how
--- many calls failed
-pub record LinkView : Type 0 where
-  pub left : Option (List ℕ)
-  pub heard : Option (List ℕ)
-  pub said : Option (List ℕ)
-  pub over : Bool
-  pub faults : ℕ
-
-abbrev pub view_of : {L : Type 0} → LinkMeaning L → SourceMeaning L → L → LinkView
-view_of m source link = record {
-  left = source.left link;
-  heard = m.heard link;
-  said = m.said link;
-  over = m.over link;
-  faults = source.faults link;
-}
-
 -- what an `admit` gives, as the door sees it
 abbrev pub given_link : {L : Type 0} → LinkMeaning L → SourceMeaning L → Result (Option L) Failed → Result (Option LinkView) Failed
 given_link m source (Ok (Some link)) = Ok (Some (view_of m source link))
 given_link m source (Ok None) = Ok None
 given_link m source (Err fault) = Err fault
-
--- nothing went through the link yet
-pub record IsNew (link : LinkView) : Type 0 where
-  pub heard : IsNothing link.heard
-  pub said : IsNothing link.said
-  pub over : link.over ≡ false
-  pub faults : link.faults ≡ 0
 
 -- the first of the links to come is gone, where they are told, and its peer says this
 abbrev pub IsFirst : Option (List (List ℕ)) → Option (List (List ℕ)) → Option (List ℕ) → Type 0
@@ -111,26 +86,6 @@ IsAdmitted door (Ok None) =
 IsAdmitted door (Err fault) = (door.coming_new ≡ door.coming_old) × (door.shut_new ≡ true) × DoorRose door
 
 -- ---- done
-
--- what went through a link, where it tells what it heard and said
-abbrev pub is_failed : ℕ → Bool
-is_failed zero = false
-is_failed (suc n) = true
-
-abbrev pub call_with : Option (List ℕ) → Option (List ℕ) → Bool → Bool → Option Call
-call_with None said over failed = None
-call_with (Some heard) None over failed = None
-call_with (Some heard) (Some said) over failed =
-    Some (record { heard = heard; said = said; over = over; failed = failed })
-
-abbrev pub told_call : LinkView → Option Call
-told_call link = call_with link.heard link.said link.over (is_failed link.faults)
-
--- one call more, where all are told
-abbrev pub and_call : Option (List Call) → Option Call → Option (List Call)
-and_call None call = None
-and_call (Some calls) None = None
-and_call (Some calls) (Some call) = Some (calls ++ call ∷ [])
 
 -- a link was given back: what went through it is told behind the others, or a fault was counted and nothing is told any
 -- more; a fault of the link is one of the door, and no other is counted

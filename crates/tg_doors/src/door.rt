@@ -1,7 +1,8 @@
 //! Doors through which links come.
 ghost use Rattle.std.specs.Prelude.{◌≤◌};
 ghost use Rattle.tg_doors.specs.Doors.{DoorMeaning, IsAdmitted, IsAskedPort, IsBound, IsDone, KeepsComing, KeepsPort, KeepsServed, KeepsShut};
-ghost use Rattle.tg_doors.specs.Doors.{at_door, given_link, view_of};
+ghost use Rattle.tg_doors.specs.Doors.{at_door, given_link};
+ghost use Rattle.tg_links.specs.Views.{view_of};
 
 use tg_faults::Failed;
 use tg_links::Link;

@@ -1,8 +1,10 @@
 //! Doors in memory, which fail at the calls that they are given.
 ghost use Rattle.std.specs.Prelude.{◌≡◌, ◌⊎◌, ◌<◌, ◌≤◌, ◌↔◌, List as Items, [], Contains, IfOk, IfSome, IsErr, max, MatchOption, None, Some, false};
 ghost use Rattle.tg_faults.specs.Faults.{Rose, counted};
-ghost use Rattle.tg_doors.specs.Doors.{IsAdmitted, IsAskedPort, IsBound, IsDone, KeepsComing, KeepsPort, KeepsServed, KeepsShut, and_call, at_door};
-ghost use Rattle.tg_doors.specs.Doors.{given_link, view_of};
+ghost use Rattle.tg_doors.specs.Doors.{IsAdmitted, IsAskedPort, IsBound, IsDone, KeepsComing, KeepsPort, KeepsServed, KeepsShut, at_door};
+ghost use Rattle.tg_links.specs.Views.{and_call};
+ghost use Rattle.tg_doors.specs.Doors.{given_link};
+ghost use Rattle.tg_links.specs.Views.{view_of};
 ghost use Rattle.tg_doors.specs.Memory.{IsLinkOf, mem_door};
 ghost use Rattle.tg_links.specs.Memory.{mem_hearing, mem_link};
 

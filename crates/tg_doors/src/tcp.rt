@@ -1,8 +1,9 @@
 //! Doors over TCP.
 ghost use Rattle.std.specs.Prelude.{◌≡◌, ◌+◌, ◌⊎◌, ◌≤◌, ◌≢◌, ◌↔◌, IfErr, IfOk, IfSome, IsErr, IsTrue, None, false};
 ghost use Rattle.std.specs.IoError.{error_kind};
-ghost use Rattle.tg_doors.specs.Doors.{IsAdmitted, IsBound, IsDone, KeepsComing, KeepsPort, KeepsServed, KeepsShut};
-ghost use Rattle.tg_doors.specs.Doors.{at_door, given_link, view_of};
+ghost use Rattle.tg_doors.specs.Doors.{IsAdmitted, IsDone, KeepsComing, KeepsPort, KeepsServed, KeepsShut};
+ghost use Rattle.tg_doors.specs.Doors.{at_door, given_link};
+ghost use Rattle.tg_links.specs.Views.{view_of};
 ghost use Rattle.tg_doors.specs.Tcp.{loopback, tcp_door};
 ghost use Rattle.tg_faults.specs.Faults.{Rose, counted};
 ghost use Rattle.tg_links.specs.Tcp.{tcp_hearing, tcp_link};

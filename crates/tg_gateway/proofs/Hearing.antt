@@ -2,7 +2,8 @@
 use Rattle.std.proofs.Common.{◌≡◌, ℕ, ◌≤◌, Bool, Err, Option, true, false, List, [], ◌++◌, refl, sym, subst, ◌∙◌, ap, arith}
 use Rattle.tg_gateway.proofs.Looking.{LooksJoin, looks_both, looks_nothing}
 use Rattle.tg_gateway.proofs.Serving.{HasHeard, sent_both, served_closed, served_ended, served_front, served_untaken, served_up_to, stands_new, quiet_put, rose_put, rose_take, spoke_nothing, spoke_put, spoke_same, spoke_took, spoke_untaken}
-use Rattle.tg_gateway.specs.Links.{LinkEnds, LinkQuiet, ServedAll, ServedFront, ServedUpTo, Spoke, link_step, served_of}
+use Rattle.tg_gateway.specs.Links.{LinkEnds, ServedAll, ServedFront, ServedUpTo, served_of}
+use Rattle.tg_links.specs.Steps.{LinkQuiet, Spoke, link_step}
 use Rattle.tg_gateway.specs.Sessions.{FedOn, FeedEnds, SessionView, new_session, next_of}
 use Rattle.tg_gateway.specs.declared.fault.GatewayFault.{GatewayFault}
 use Rattle.tg_gateway.specs.declared.fault.GatewayFault.TheVariants as faults

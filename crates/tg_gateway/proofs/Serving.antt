@@ -5,7 +5,8 @@ use Rattle.tg_bytes.specs.Told.{grown}
 use Rattle.tg_bytes.specs.ToldLaws.{grown-grown, grown-nothing}
 use Rattle.tg_faults.specs.Faults.{Rose}
 use Rattle.tg_gateway.proofs.Looking.{closed_append}
-use Rattle.tg_gateway.specs.Links.{IsServed, LinkQuiet, LinkStep, ServedAll, ServedFront, ServedUpTo, Spoke, served_of, LinkRose, link_step}
+use Rattle.tg_gateway.specs.Links.{IsServed, ServedAll, ServedFront, ServedUpTo, served_of}
+use Rattle.tg_links.specs.Steps.{LinkQuiet, LinkStep, Spoke, LinkRose, link_step}
 use Rattle.tg_gateway.specs.Sessions.{new_session}
 use Rattle.tg_http.specs.Heads.{IsWaiting}
 use Rattle.tg_links.specs.Links.{CountsAreOne, LinkMeaning, PutsAreSaid, TakesAreHeard}

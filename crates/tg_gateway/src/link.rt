@@ -1,6 +1,7 @@
 //! A session over a link.
 ghost use Rattle.std.specs.Prelude.{◌≡◌, ◌<◌, ◌≤◌, ℕ, IfOk, length};
-ghost use Rattle.tg_gateway.specs.Links.{LinkEnds, link_step, served_of};
+ghost use Rattle.tg_gateway.specs.Links.{LinkEnds, served_of};
+ghost use Rattle.tg_links.specs.Steps.{link_step};
 ghost use Rattle.tg_gateway.specs.Sessions.{new_session};
 ghost use Rattle.tg_model.specs.Stores.{looked_in};
 ghost use Rattle.tg_walk.specs.Walks.{HaveLookedUp};

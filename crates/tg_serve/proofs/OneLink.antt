@@ -3,9 +3,11 @@ use Rattle.std.proofs.Common.{Bool, Err, List, None, Ok, Option, Some, [], ap, a
 use Rattle.std.specs.Option.{option_map}
 use Rattle.std.specs.Prelude.{IsSome, Result, drop, is_some, take, ⊤}
 use Rattle.tg_bytes.specs.Told.{IsNothing, grown}
-use Rattle.tg_doors.specs.Doors.{DoorMeaning, DoorRose, IsAdmitted, IsDone, IsFirst, KeepsComing, KeepsPort, KeepsServed, and_call, at_door, call_with, is_failed, told_call, view_of}
+use Rattle.tg_doors.specs.Doors.{DoorMeaning, DoorRose, IsAdmitted, IsDone, IsFirst, KeepsComing, KeepsPort, KeepsServed, at_door}
+use Rattle.tg_links.specs.Views.{and_call, call_with, is_failed, told_call, view_of}
 use Rattle.tg_faults.specs.Faults.{Rose}
-use Rattle.tg_gateway.specs.Links.{LinkEnds, LinkQuiet, LinkStep, Spoke, link_step}
+use Rattle.tg_gateway.specs.Links.{LinkEnds}
+use Rattle.tg_links.specs.Steps.{LinkQuiet, LinkStep, Spoke, link_step}
 use Rattle.tg_gateway.specs.declared.fault.GatewayFault.{GatewayFault}
 use Rattle.tg_gateway.specs.declared.fault.GatewayFault.TheVariants as faults
 use Rattle.tg_gateway.specs.declared.session.Served.{Served}

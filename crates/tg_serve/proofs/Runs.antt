@@ -9,7 +9,8 @@ use Rattle.std.specs.Option.{option_map}
 use Rattle.std.specs.Prelude.{Result, drop, map, ⊤, ◌||◌}
 use Rattle.tg_cid.specs.Cid.{CidParts}
 use Rattle.tg_cid.specs.declared.cid.HashKind.TheVariants.{Sha256}
-use Rattle.tg_doors.specs.Doors.{DoorMeaning, DoorRose, Doorway, and_call, at_door}
+use Rattle.tg_doors.specs.Doors.{DoorMeaning, DoorRose, Doorway, at_door}
+use Rattle.tg_links.specs.Views.{and_call}
 use Rattle.tg_gateway.specs.declared.fault.GatewayFault.{GatewayFault}
 use Rattle.tg_gateway.specs.declared.fault.GatewayFault.TheVariants as faults
 use Rattle.tg_gateway.specs.declared.session.Served.{Served}

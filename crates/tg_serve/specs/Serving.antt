@@ -2,7 +2,8 @@
 use Rattle.std.specs.List.{list_any}
 use Rattle.std.specs.Prelude.{Bool, Err, IsSome, List, None, Ok, Option, Result, Some, [], drop, false, length, map, option_map, suc, take, true, zero, ⊤, ℕ}
 use Rattle.std.specs.Prelude.{◌++◌, ◌<◌, ◌∷◌, ◌≡◌, ◌≤◌, ◌⊎◌, ◌||◌}
-use Rattle.tg_doors.specs.Doors.{DoorRose, Doorway, and_call}
+use Rattle.tg_doors.specs.Doors.{DoorRose, Doorway}
+use Rattle.tg_links.specs.Views.{and_call}
 use Rattle.tg_faults.specs.declared.calls.Failed.{Failed}
 use Rattle.tg_gateway.specs.Links.{IsServed}
 use Rattle.tg_gateway.specs.declared.fault.GatewayFault.{GatewayFault}

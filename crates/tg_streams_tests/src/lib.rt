@@ -1,8 +1,10 @@
-//! The tests of `tg_streams`, `tg_links` and `tg_doors`: sources and sinks over memory and over real streams, over readers
-//! and writers that are interrupted or tell their bytes, small pieces that are gathered, a two-way stream, and links and
-//! doors in memory and over sockets.
+//! The tests of `tg_streams`, `tg_links`, `tg_doors` and `tg_dials`: sources and sinks over memory and over real streams,
+//! over readers and writers that are interrupted or tell their bytes, small pieces that are gathered, a two-way stream,
+//! and links, doors and dials in memory and over sockets.
 #![tactic(auto)]
 
+#[cfg(test)]
+mod dials;
 #[cfg(test)]
 mod doors;
 #[cfg(test)]

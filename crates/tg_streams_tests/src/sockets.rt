@@ -1,10 +1,11 @@
-//! A door and its links over real sockets, and links over streams that are silent or fail.
+//! A door, a dial and their links over real sockets, and links over streams that are silent or fail.
 ghost use Rattle.std.specs.Prelude.{◌≤◌, IfOk};
 
 use std::io;
 use std::io::{ErrorKind, Read, Write};
 use std::net::{Ipv4Addr, Shutdown, SocketAddr, TcpStream};
 use std::time::Instant;
+use tg_dials::{Dial, TcpDial};
 use tg_doors::{Door, TcpDoor};
 use tg_faults::Failed;
 use tg_links::{Silence, TcpLink};
@@ -120,6 +121,48 @@ fn a_door_serves_a_client(rt: HostRuntime) {
     assert!(rt; serves(&rt));
     assert!(rt; counts_reset(&rt));
     assert!(rt; finishes(&rt, true) && finishes(&rt, false));
+}
+
+/// Whether a dial reaches a door of this machine, and bytes go both ways, with no fault on either side.
+fn dials(rt: &HostRuntime) -> bool {
+    let mut door = TcpDoor::new(*rt);
+    let mut dial = TcpDial::new(*rt);
+    let Ok(port) = door.bind(0) else {
+        return false;
+    };
+    let Ok(addr) = format!(in rt.alloc(); "127.0.0.1:{port}") else {
+        return false;
+    };
+    let Ok(mut link) = dial.dial(addr.as_str()) else {
+        return false;
+    };
+    let Ok(Some(mut given)) = door.admit() else {
+        return false;
+    };
+    let mut buf = [0; 5];
+    let asks = put_all(&mut link, b"hello").is_ok()
+        && read_front(&mut given, &mut buf) == Ok(5)
+        && buf == *b"hello";
+    let answers = put_all(&mut given, b"hi there").is_ok();
+    // It waits for the dial's link about a second, which ends behind it.
+    door.done(given);
+    let ends = hears(&mut link, b"hi there");
+    dial.done(link);
+    asks && answers && ends && door.count() == 0 && dial.count() == 0
+}
+
+/// Whether a dial fails where nothing listens, at the port 1 (RFC 1078) of this machine, and where the address has no port,
+/// and counts both.
+fn misses(rt: &HostRuntime) -> bool {
+    let mut dial = TcpDial::new(*rt);
+    let refused = dial.dial("127.0.0.1:1").is_err() && dial.count() == 1;
+    refused && dial.dial("127.0.0.1").is_err() && dial.count() == 2
+}
+
+#[test]
+fn a_dial_reaches_a_door(rt: HostRuntime) {
+    assert!(rt; dials(&rt));
+    assert!(rt; misses(&rt));
 }
 
 /// A stream whose first call answers so, an error or nothing, and of which each further call moves one byte.

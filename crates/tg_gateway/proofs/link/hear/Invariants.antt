@@ -1,6 +1,6 @@
 -- what was heard and said so far, for which the session stands, and that it is open
 use Rattle.std.proofs.Common.{◌<◌, ◌-◌, length}
-use Rattle.tg_gateway.specs.Links.{link_step}
+use Rattle.tg_links.specs.Steps.{link_step}
 use Rattle.tg_model.specs.Stores.{looked_in}
 use Rattle.tg_gateway.proofs.Serving.{HasHeard}
 use Rattle.tg_gateway.proofs.link.hear.Given as goal

@@ -1,0 +1,3 @@
+pub mod Dials
+pub mod Memory
+pub mod Tcp

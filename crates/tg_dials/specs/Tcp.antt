@@ -1,0 +1,11 @@
+-- What a contract sees of a dial over TCP.
+use Rattle.std.specs.Prelude.{ℕ, None}
+use Rattle.tg_dials.specs.Dials.{DialMeaning}
+
+pub record TcpDialState : Type 0 where
+  pub missed : ℕ
+  pub faults : ℕ
+
+-- it doesn't tell what went through the links that were given back
+abbrev pub tcp_dial : DialMeaning TcpDialState
+tcp_dial = record { calls = λ _. None; missed = λ s. s.missed; faults = λ s. s.faults }

@@ -1,0 +1,31 @@
+//! Dials that make links to peers.
+ghost use Rattle.std.specs.Prelude.{◌≤◌};
+ghost use Rattle.tg_dials.specs.Dials.{DialMeaning, IsDialled, IsHungUp, KeepsCalls, KeepsMissed, at_dial, dialled_link};
+ghost use Rattle.tg_links.specs.Views.{view_of};
+
+use tg_faults::Failed;
+use tg_links::Link;
+
+/// A dial, which makes links to peers.
+///
+/// Its meaning is one record: `calls` is what went through the links that were given back, or `None` where that isn't
+/// told; `missed` counts the calls of `dial` that failed; `faults` counts those, the links that were given back with a
+/// fault of their own, and where no memory was found to tell of one. Both stand still at 2 ^ 64 - 1.
+pub trait Dial {
+    type Link: Link;
+
+    ghost dial: { DialMeaning Self };
+
+    /// A link to the peer at an address HOST:PORT. The error is a fault of the dial.
+    fn dial(&mut self, addr: &str) -> Result<Self::Link, Failed>
+        ensures dialled { IsDialled (at_dial dial self.old self.new)
+            (dialled_link Self.Link.link Self.Link.Source.source result) }
+        ensures calls { KeepsCalls (at_dial dial self.old self.new) }
+        ensures counted { dial.faults self.old ≤ dial.faults self.new };
+
+    /// Takes back a link that it made, and tells what went through it. A fault of the link is one of the dial; so is
+    /// want of memory to tell of it, behind which nothing is told any more.
+    fn done(&mut self, link: Self::Link)
+        ensures done { IsHungUp (view_of Self.Link.link Self.Link.Source.source link) (at_dial dial self.old self.new) }
+        ensures missed { KeepsMissed (at_dial dial self.old self.new) };
+}
