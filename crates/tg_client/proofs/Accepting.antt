@@ -48,10 +48,18 @@ ThroughAll q all = (front rest : List Section) (section : Section) (text : List 
 abbrev pub AreTaken : QueryParts → LimitNumbers → List Section → Type 0
 AreTaken q limits all = (front rest : List Section) (text : List ℕ) (fault : Refusal) → all ≡ front ++ rest → HasRefused q limits front text fault → IsOwnFault fault
 
+-- but for these refusals
+abbrev pub AreTakenBut : (Refusal → Type 0) → QueryParts → LimitNumbers → List Section → Type 0
+AreTakenBut Missed q limits all =
+    (front rest : List Section) (text : List ℕ) (fault : Refusal) → all ≡ front ++ rest → HasRefused q limits front text fault → Missed fault ⊎ IsOwnFault fault
+
+none_but : (q : QueryParts) (limits : LimitNumbers) (all : List Section) → AreTaken q limits all → AreTakenBut (λ fault. ⊥) q limits all
+none_but q limits all taken front rest text fault e h = inr (taken front rest text fault e h)
+
 -- ---- an input of which a front was heard
 
 module _ (received : ReceivedLaws) (q : QueryParts) (limits : LimitNumbers) (input : Input) (bytes : List ℕ) (all : List Section) (here : HasReceived limits.block bytes all)
-    (few : length bytes ≤ limits.received) (ends : ThroughAll q all) (taken : AreTaken q limits all)
+    (few : length bytes ≤ limits.received) (ends : ThroughAll q all) (Missed : Refusal → Type 0) (taken : AreTakenBut Missed q limits all)
     (heard unheard : List ℕ) (sections : List Section) (text : List ℕ) (l : IsLeft bytes heard unheard input) (got : HasReceived limits.block heard sections) where
   behind : (rest : List Section) × (all ≡ sections ++ rest)
   behind = received.front limits.block heard (unheard ++ l.left) sections all got (subst (λ (b : List ℕ). HasReceived limits.block b all) l.whole here)
@@ -78,12 +86,16 @@ module _ (received : ReceivedLaws) (q : QueryParts) (limits : LimitNumbers) (inp
 
   -- ---- no other refusals than these
 
-  module _ (R : ClientFault → Type 0) (own : (fault : ClientFault) → IsOwnEnd fault → R fault)
+  module _ (R : ClientFault → Type 0) (own : (fault : ClientFault) → IsOwnEnd fault → R fault) (missed : (fault : Refusal) → Missed fault → R (faults.Refused fault))
       (truncated : (want : CidParts) (number : ℕ) → IsAllHeard unheard input → IsEndedShort q limits heard sections text want number
       → R (faults.Refused (refusals.Truncated want number)))
       (extra : (number : ℕ) → HasSurplus q limits (heard ++ unheard) sections text number → R (faults.Refused (refusals.Extra number))) where
-    refused : (fault : Refusal) → HasRefused q limits sections text fault → IsOwnFault fault
-    refused fault h = taken sections behind.0 text fault behind.1 h
+    by_own : (fault : Refusal) → (IsOwnFault fault → ⊥) → Missed fault ⊎ IsOwnFault fault → R (faults.Refused fault)
+    by_own fault never (inl h) = missed fault h
+    by_own fault never (inr h) = absurd (never h)
+
+    refused : (fault : Refusal) → (IsOwnFault fault → ⊥) → HasRefused q limits sections text fault → R (faults.Refused fault)
+    refused fault never h = by_own fault never (taken sections behind.0 text fault behind.1 h)
 
     pub only : (fault : ClientFault) → EndsBy q limits input heard unheard sections text (Err fault) → R fault
     only (faults.Refused (refusals.Extra number)) h = extra number h
@@ -93,19 +105,19 @@ module _ (received : ReceivedLaws) (q : QueryParts) (limits : LimitNumbers) (inp
     only (faults.Refused (refusals.Limit kinds.Received number)) h = absurd (too_many (h.heard_is ∙ h.number_is) h.some)
     only (faults.Refused (refusals.Limit kinds.Block number)) (is, h) =
         absurd (received.unpassed limits.block heard (h.more ++ l.left) h.last h.brings.0 all (broken_whole h.last h.more h.unheard_is) h.brings.1)
-    only (faults.Refused (refusals.NotFolder segment)) h = absurd (refused (refusals.NotFolder segment) h)
-    only (faults.Refused (refusals.NotThere segment)) h = absurd (refused (refusals.NotThere segment) h)
-    only (faults.Refused (refusals.BadDigest cid)) h = absurd (refused (refusals.BadDigest cid) h)
-    only (faults.Refused (refusals.WrongBlock want got)) h = absurd (refused (refusals.WrongBlock want got) h)
-    only (faults.Refused (refusals.BadBlock cid fault)) h = absurd (refused (refusals.BadBlock cid fault) h)
-    only (faults.Refused (refusals.BadSize declared actual)) h = absurd (refused (refusals.BadSize declared actual) h)
-    only (faults.Refused (refusals.Limit kinds.Depth number)) h = absurd (refused (refusals.Limit kinds.Depth number) h)
-    only (faults.Refused (refusals.Limit kinds.Entries number)) h = absurd (refused (refusals.Limit kinds.Entries number) h)
-    only (faults.Refused (refusals.Limit kinds.Names number)) h = absurd (refused (refusals.Limit kinds.Names number) h)
-    only (faults.Refused (refusals.Limit kinds.Output number)) h = absurd (refused (refusals.Limit kinds.Output number) h)
-    only (faults.Refused (refusals.Limit kinds.SeenBlocks number)) h = absurd (refused (refusals.Limit kinds.SeenBlocks number) h)
-    only (faults.Refused (refusals.Limit kinds.SeenBytes number)) h = absurd (refused (refusals.Limit kinds.SeenBytes number) h)
-    only (faults.Refused (refusals.Limit kinds.Reused number)) h = absurd (refused (refusals.Limit kinds.Reused number) h)
+    only (faults.Refused (refusals.NotFolder segment)) h = refused (refusals.NotFolder segment) (λ none. none) h
+    only (faults.Refused (refusals.NotThere segment)) h = refused (refusals.NotThere segment) (λ none. none) h
+    only (faults.Refused (refusals.BadDigest cid)) h = refused (refusals.BadDigest cid) (λ none. none) h
+    only (faults.Refused (refusals.WrongBlock want got)) h = refused (refusals.WrongBlock want got) (λ none. none) h
+    only (faults.Refused (refusals.BadBlock cid fault)) h = refused (refusals.BadBlock cid fault) (λ none. none) h
+    only (faults.Refused (refusals.BadSize declared actual)) h = refused (refusals.BadSize declared actual) (λ none. none) h
+    only (faults.Refused (refusals.Limit kinds.Depth number)) h = refused (refusals.Limit kinds.Depth number) (λ none. none) h
+    only (faults.Refused (refusals.Limit kinds.Entries number)) h = refused (refusals.Limit kinds.Entries number) (λ none. none) h
+    only (faults.Refused (refusals.Limit kinds.Names number)) h = refused (refusals.Limit kinds.Names number) (λ none. none) h
+    only (faults.Refused (refusals.Limit kinds.Output number)) h = refused (refusals.Limit kinds.Output number) (λ none. none) h
+    only (faults.Refused (refusals.Limit kinds.SeenBlocks number)) h = refused (refusals.Limit kinds.SeenBlocks number) (λ none. none) h
+    only (faults.Refused (refusals.Limit kinds.SeenBytes number)) h = refused (refusals.Limit kinds.SeenBytes number) (λ none. none) h
+    only (faults.Refused (refusals.Limit kinds.Reused number)) h = refused (refusals.Limit kinds.Reused number) (λ none. none) h
     only (faults.BadCar car) (no_car, h) =
         absurd (received.unbroken limits.block heard (h.more ++ l.left) h.last all car (broken_whole h.last h.more h.unheard_is) no_car h.brings)
     only faults.InputFault h = own faults.InputFault tt
@@ -151,17 +163,20 @@ module _ (cars : CarLaws) (received : ReceivedLaws) (q : QueryParts) (limits : L
   not_short heard sections text want number same are (inl (before, _, _)) = no_header cars limits.block all bytes [] heard is_car (same ∙ sym (append-nil bytes)) before.goes_on
   not_short heard sections text want number same are (inr (at, is, cut)) = done text at (subst (λ (s : List Section). IsUpTo q s text at) are cut.up_to)
 
+  but : AreTakenBut (λ fault. ⊥) q limits all
+  but = none_but q limits all taken
+
   pub accepts : (result : Result ⊤ ClientFault) → Verifies q limits input out result → IsAcceptedElse result
   accepts (Ok end) v = tt
   accepts (Err fault) v =
       let l = left_of bytes v.heard v.unheard input told v.took in
-      only received q limits input bytes all here few ends taken v.heard v.unheard v.sections v.text l v.received IsOwnEnd (λ fault own. own)
+      only received q limits input bytes all here few ends (λ fault. ⊥) but v.heard v.unheard v.sections v.text l v.received IsOwnEnd (λ fault own. own) (λ fault none. absurd none)
       (λ want number heard short.
       let whole = all_heard bytes v.heard v.unheard input l heard.all heard.ended in
-      let same = all_came received q limits input bytes all here few ends taken v.heard v.unheard v.sections v.text l v.received whole in
+      let same = all_came received q limits input bytes all here few ends (λ fault. ⊥) but v.heard v.unheard v.sections v.text l v.received whole in
       absurd (not_short v.heard v.sections v.text want number whole same short))
       (λ number h.
-      let same = through_all received q limits input bytes all here few ends taken v.heard v.unheard v.sections v.text l v.received h.through in
+      let same = through_all received q limits input bytes all here few ends (λ fault. ⊥) but v.heard v.unheard v.sections v.text l v.received h.through in
       let whole : bytes ≡ h.car ++ (h.more ++ l.left) =
       l.whole ∙ (sym (append_assoc v.heard v.unheard l.left) ∙ (ap (λ (x : List ℕ). x ++ l.left) h.whole ∙ append_assoc h.car h.more l.left)) in
       let some : 0 < length h.more = h.some in
@@ -181,20 +196,23 @@ module _ (cars : CarLaws) (received : ReceivedLaws) (q : QueryParts) (limits : L
       let counted : number ≡ count_of all = cut.number_is ∙ ap (λ (s : List Section). count_of s) are in
       cc (wanted, counted)
 
+  but_cut : AreTakenBut (λ fault. ⊥) q limits all
+  but_cut = none_but q limits all taken
+
   pub cuts : (result : Result ⊤ ClientFault) → Verifies q limits input out result → IsRefusedElse (refusals.Truncated cid (count_of all)) result
   cuts (Ok end) v =
       let l = left_of bytes v.heard v.unheard input told v.took in
-      let same = through_all received q limits input bytes all here few ends taken v.heard v.unheard v.sections v.text l v.received v.ends.1.through in
+      let same = through_all received q limits input bytes all here few ends (λ fault. ⊥) but_cut v.heard v.unheard v.sections v.text l v.received v.ends.1.through in
       through v.text (subst (λ (s : List Section). IsThrough q s v.text) same v.ends.1.through)
   cuts (Err fault) v =
       let l = left_of bytes v.heard v.unheard input told v.took in
-      only received q limits input bytes all here few ends taken v.heard v.unheard v.sections v.text l v.received
-      (λ fault. (fault ≡ faults.Refused (refusals.Truncated cid (count_of all))) ⊎ IsOwnEnd fault) (λ fault own. inr own)
+      only received q limits input bytes all here few ends (λ fault. ⊥) but_cut v.heard v.unheard v.sections v.text l v.received
+      (λ fault. (fault ≡ faults.Refused (refusals.Truncated cid (count_of all))) ⊎ IsOwnEnd fault) (λ fault own. inr own) (λ fault none. absurd none)
       (λ want number heard short.
       let whole = all_heard bytes v.heard v.unheard input l heard.all heard.ended in
-      let same = all_came received q limits input bytes all here few ends taken v.heard v.unheard v.sections v.text l v.received whole in
+      let same = all_came received q limits input bytes all here few ends (λ fault. ⊥) but_cut v.heard v.unheard v.sections v.text l v.received whole in
       inl (is_short v.heard v.sections v.text want number whole same short))
       (λ number h.
-      let same = through_all received q limits input bytes all here few ends taken v.heard v.unheard v.sections v.text l v.received h.through in
+      let same = through_all received q limits input bytes all here few ends (λ fault. ⊥) but_cut v.heard v.unheard v.sections v.text l v.received h.through in
       absurd (through v.text (subst (λ (s : List Section). IsThrough q s v.text) same h.through)))
       fault v.ends

@@ -11,11 +11,11 @@ use Rattle.tg_client.specs.Body.{HasEnded, IsAfterWanted, IsBody, IsBodyAt}
 use Rattle.tg_client.specs.Ends.{IsBeforeHeader}
 use Rattle.tg_client.specs.Received.{sections_given}
 use Rattle.tg_client.specs.declared.fault.ClientFault.{ClientFault}
-use Rattle.tg_client.specs.declared.body.Body.{Body}
+use Rattle.tg_client.specs.declared.body.CarBody.{CarBody}
 use Rattle.tg_client.specs.declared.fault.ClientFault.TheVariants as faults
 use Rattle.tg_client.proofs.Going.{car_behind, goes_here, held_front, is_received}
 
-module _ (laws : AnswerLaws) (body : Body) (heard : List ℕ) (sections : List Section) (written : List ℕ) (h : IsBody body heard sections written) where
+module _ (laws : AnswerLaws) (body : CarBody) (heard : List ℕ) (sections : List Section) (written : List ℕ) (h : IsBody body heard sections written) where
   abbrev Ended : CidParts → ℕ → Type 0
   Ended want number = HasEnded body.verifier.left.query body.verifier.limits heard sections written (Err (faults.Refused (refusals.Truncated want number)))
 

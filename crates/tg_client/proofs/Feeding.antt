@@ -8,11 +8,11 @@ use Rattle.tg_streams.specs.Streams.{Put, SinkMeaning, into}
 use Rattle.tg_verify.specs.Sound.{ForEachSound}
 use Rattle.tg_client.specs.Body.{IsBody, IsStopped, WentOn, unknown}
 use Rattle.tg_client.specs.Ends.{EndsBy, SaysFor}
-use Rattle.tg_client.specs.declared.body.Body.{Body}
+use Rattle.tg_client.specs.declared.body.CarBody.{CarBody}
 use Rattle.tg_client.specs.declared.fault.ClientFault.{ClientFault}
 
 -- of a piece of which nothing was taken
-pub went_nothing : {S : Type 0} (m : SinkMeaning S) (a : S) → m.wrote a a [] → (body : Body) (heard : List ℕ) (sections : List Section) (written : List ℕ) → IsBody body heard sections written
+pub went_nothing : {S : Type 0} (m : SinkMeaning S) (a : S) → m.wrote a a [] → (body : CarBody) (heard : List ℕ) (sections : List Section) (written : List ℕ) → IsBody body heard sections written
     → WentOn body (heard ++ []) written (into m a a)
 went_nothing {S} m a stays body heard sections written h = record {
   sections = sections;
@@ -40,7 +40,7 @@ module _ {S : Type 0} (m : SinkMeaning S) (joins : SinkJoins S m) (a b c : S) (w
         wanted = s.wanted;
       }
 
-  pub went_further : (body : Body) (heard : List ℕ) → WentOn body heard (written ++ text) (into m b c) → WentOn body heard written (into m a c)
+  pub went_further : (body : CarBody) (heard : List ℕ) → WentOn body heard (written ++ text) (into m b c) → WentOn body heard written (into m a c)
   went_further body heard w = record {
     sections = w.sections;
     text = text ++ w.text;

@@ -21,14 +21,14 @@ use Rattle.tg_verify.specs.Taken.{IsGoing, IsThrough}
 use Rattle.tg_client.specs.Body.{IsAfterWanted, IsBody, IsBodyAt, IsStopped, unknown}
 use Rattle.tg_client.specs.Ends.{EndsBy, HasSurplus, IsBeforeHeader, IsHeld, IsHeldExactly, IsWaiting, IsWithinReceived, SaysFor}
 use Rattle.tg_client.specs.Received.{HasReceived, IsCarOf, in_car, out_of_car, sections_given}
-use Rattle.tg_client.specs.declared.body.Body.{Body}
+use Rattle.tg_client.specs.declared.body.CarBody.{CarBody}
 use Rattle.tg_client.specs.declared.fault.ClientFault.{ClientFault}
 use Rattle.tg_client.proofs.Sections.{among_sections}
 
-pub goes_here : (body : Body) (heard : List ℕ) (sections : List Section) (written : List ℕ) → (h : IsBody body heard sections written) → GoesOn body.verifier.limits.block heard h.given
+pub goes_here : (body : CarBody) (heard : List ℕ) (sections : List Section) (written : List ℕ) → (h : IsBody body heard sections written) → GoesOn body.verifier.limits.block heard h.given
 goes_here body heard sections written h = subst (λ (limit : ℕ). GoesOn limit heard h.given) h.limit h.reads.exact.goes_on
 
-pub is_received : (body : Body) (heard : List ℕ) (sections : List Section) (written : List ℕ) → IsBody body heard sections written
+pub is_received : (body : CarBody) (heard : List ℕ) (sections : List Section) (written : List ℕ) → IsBody body heard sections written
     → HasReceived body.verifier.limits.block heard sections
 is_received body heard sections written h = record {
   given = h.given;
@@ -36,18 +36,18 @@ is_received body heard sections written h = record {
   sections_are = h.sections_are;
 }
 
-pub is_within : (body : Body) (heard : List ℕ) (sections : List Section) (written : List ℕ) → IsBody body heard sections written → IsWithinReceived body.verifier.limits heard
+pub is_within : (body : CarBody) (heard : List ℕ) (sections : List Section) (written : List ℕ) → IsBody body heard sections written → IsWithinReceived body.verifier.limits heard
 is_within body heard sections written h =
     let most : body.most ≡ body.verifier.limits.received = h.most in omega (arith, most, h.within)
 
 -- ---- whether a block is wanted
 
 -- before the header is whole
-before_header : (body : Body) (bytes : List ℕ) (sections : List Section) (written : List ℕ) → GoesOn body.verifier.limits.block bytes [] → [] ≡ sections → written ≡ []
+before_header : (body : CarBody) (bytes : List ℕ) (sections : List Section) (written : List ℕ) → GoesOn body.verifier.limits.block bytes [] → [] ≡ sections → written ≡ []
     → IsBeforeHeader body.verifier.limits bytes sections written
 before_header body bytes sections written on are none = record { goes_on = on; no_section = sym are; no_text = none }
 
-module _ (laws : AnswerLaws) (body : Body) (bytes : List ℕ) (sections : List Section) (written : List ℕ) where
+module _ (laws : AnswerLaws) (body : CarBody) (bytes : List ℕ) (sections : List Section) (written : List ℕ) where
   pub is_waiting : (given : List Event) → GoesOn body.verifier.limits.block bytes given → sections_given given ≡ sections → IsBodyAt body given sections written
       → (at : WantedAt) → body.verifier.left.wanted ≡ Some at → IsWaiting body.verifier.left.query body.verifier.limits bytes sections written
   is_waiting [] on are h at e = inl (before_header body bytes sections written on are h.1)
@@ -59,7 +59,7 @@ module _ (laws : AnswerLaws) (body : Body) (bytes : List ℕ) (sections : List S
   held_by [] on are h None e = inl (inl (before_header body bytes sections written on are h.1))
   held_by (event ∷ given) on are h None e = inr (laws.going_through body.verifier sections written h e)
 
-pub is_held : AnswerLaws → (body : Body) (heard : List ℕ) (sections : List Section) (written : List ℕ) → IsBody body heard sections written
+pub is_held : AnswerLaws → (body : CarBody) (heard : List ℕ) (sections : List Section) (written : List ℕ) → IsBody body heard sections written
     → IsHeld body.verifier.left.query body.verifier.limits heard sections written
 is_held laws body heard sections written h =
     held_by laws body heard sections written h.given (goes_here body heard sections written h) h.sections_are h.at body.verifier.left.wanted refl
@@ -138,17 +138,17 @@ whole_car limit heard rest given sections a none are =
     )
 
 -- where all sections came, what was heard is their CAR
-car_by : (body : Body) (heard : List ℕ) (sections : List Section) (written : List ℕ) (given : List Event) → Holds body.reader.in_header body.reader heard given → body.reader.came ≡ []
+car_by : (body : CarBody) (heard : List ℕ) (sections : List Section) (written : List ℕ) (given : List Event) → Holds body.reader.in_header body.reader heard given → body.reader.came ≡ []
     → sections_given given ≡ sections → IsBodyAt body given sections written → body.verifier.left.wanted ≡ None → IsGoing body.verifier sections written × IsCarOf heard sections
 car_by body heard sections written [] holds came are h none = absurd (h.0.wanted none)
 car_by body heard sections written (event ∷ given) holds came are h none =
     (h, whole_car body.reader.limit heard body.reader.came (event ∷ given) sections (among_by body.reader.in_header body.reader heard event given holds) came are)
 
-pub car_behind : (body : Body) (heard : List ℕ) (sections : List Section) (written : List ℕ) → IsBody body heard sections written → body.verifier.left.wanted ≡ None
+pub car_behind : (body : CarBody) (heard : List ℕ) (sections : List Section) (written : List ℕ) → IsBody body heard sections written → body.verifier.left.wanted ≡ None
     → IsGoing body.verifier sections written × IsCarOf heard sections
 car_behind body heard sections written h none = car_by body heard sections written h.given (h.reads.holds refl) (h.behind none) h.sections_are h.at none
 
-module _ (laws : AnswerLaws) (body : Body) (heard : List ℕ) (sections : List Section) (written : List ℕ) (h : IsBody body heard sections written) where
+module _ (laws : AnswerLaws) (body : CarBody) (heard : List ℕ) (sections : List Section) (written : List ℕ) (h : IsBody body heard sections written) where
   exactly_by : (wanted : Option WantedAt) → body.verifier.left.wanted ≡ wanted → IsHeldExactly body.verifier.left.query body.verifier.limits heard sections written
   exactly_by (Some at) e = inl (is_waiting laws body heard sections written h.given (goes_here body heard sections written h) h.sections_are h.at at e)
   exactly_by None e =

@@ -19,7 +19,7 @@ use Rattle.tg_verify.specs.declared.fault.Refusal.TheVariants as refusals
 use Rattle.tg_client.specs.Body.{EndsAt, HasEnded, HasOutCause, IsAfterWanted, IsEndFault, IsStopped, IsVerified, unknown}
 use Rattle.tg_client.specs.Ends.{EndsBy, HasStreamCause, IsBeforeHeader, IsHeld, IsWithinReceived, Verifies}
 use Rattle.tg_client.specs.Received.{HasReceived}
-use Rattle.tg_client.specs.declared.body.Body.{Body}
+use Rattle.tg_client.specs.declared.body.CarBody.{CarBody}
 use Rattle.tg_client.specs.declared.fault.ClientFault.{ClientFault}
 use Rattle.tg_client.specs.declared.fault.ClientFault.TheVariants as faults
 use Rattle.tg_client.proofs.Coming.{HasCome}
@@ -68,7 +68,7 @@ none_heard varints laws q limits input out took put =
 
 -- ---- the input fails, or ends
 
-pub fault_heard : AnswerLaws → (limits : LimitNumbers) (q : QueryParts) (body : Body) (input : Input) (out : Output) → body.verifier.left.query ≡ q → body.verifier.limits ≡ limits → HasCome body input out
+pub fault_heard : AnswerLaws → (limits : LimitNumbers) (q : QueryParts) (body : CarBody) (input : Input) (out : Output) → body.verifier.left.query ≡ q → body.verifier.limits ≡ limits → HasCome body input out
     → IsVerified q limits input out (Err faults.InputFault)
 fault_heard laws limits q body input out query same come =
     let w = come.went in

@@ -11,5 +11,7 @@ mod Feeding
 mod Hearing
 mod Told
 mod Accepting
+mod Bodies
 mod Surplus
 mod Headless
+mod Standing

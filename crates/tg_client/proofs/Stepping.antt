@@ -27,7 +27,7 @@ use Rattle.tg_client.specs.Body.{IsBody, IsBodyAt, IsStopped, WentOn, going_on}
 use Rattle.tg_client.specs.Ends.{fault_of_car, fault_of_refusal}
 use Rattle.tg_client.specs.Received.{HasHeader, HasReceived, out_of_car, sections_given}
 use Rattle.tg_client.specs.ReceivedLaws.{ReceivedLaws}
-use Rattle.tg_client.specs.declared.body.Body.{Body}
+use Rattle.tg_client.specs.declared.body.CarBody.{CarBody}
 use Rattle.tg_client.specs.declared.fault.ClientFault.TheVariants as faults
 use Rattle.tg_client.proofs.Breaking.{car_ends, car_says, car_wants, refused_first, refused_now}
 use Rattle.tg_client.proofs.Going.{held_front, is_held, is_held_exactly, is_waiting, is_received, is_within, past_header, past_header_then, stopped_here, surplus_of}
@@ -80,7 +80,7 @@ header_whole limit bytes given more event placed is on =
     record { event = event; given = placed ++ more; goes_on = subst (λ (l : List Event). GoesOn limit bytes (l ++ more)) is on }
 
 -- the verifier stays as it is
-at_same : (old new : Body) (given : List Event) (sections : List Section) (written : List ℕ) → new.verifier ≡ old.verifier → IsBodyAt old given sections written → IsBodyAt new given sections written
+at_same : (old new : CarBody) (given : List Event) (sections : List Section) (written : List ℕ) → new.verifier ≡ old.verifier → IsBodyAt old given sections written → IsBodyAt new given sections written
 at_same old new [] sections written same (fresh, none) = (subst IsFresh (sym same) fresh, none)
 at_same old new (event ∷ given) sections written same going = subst (λ (v : VerifierState). IsGoing v sections written) (sym same) going
 
@@ -95,7 +95,7 @@ reads_on reader heard piece given room taken event other stands within e =
 pub within_piece : (piece : List ℕ) (room taken : ℕ) → taken ≤ length (take room piece) → (taken ≤ room) × (taken ≤ length piece)
 within_piece piece room taken within = (omega (arith, within, length-take room piece), omega (arith, within, length-take room piece))
 
-module _ (laws : AnswerLaws) (body : Body) (heard : List ℕ) (sections : List Section) (written : List ℕ) (h : IsBody body heard sections written) where
+module _ (laws : AnswerLaws) (body : CarBody) (heard : List ℕ) (sections : List Section) (written : List ℕ) (h : IsBody body heard sections written) where
   -- ---- before a byte is looked at
 
   pub past_received : (piece : List ℕ) (out : Output) → body.most ≤ body.heard → 0 < length piece → Put [] out
@@ -179,7 +179,7 @@ module _ (laws : AnswerLaws) (body : Body) (heard : List ℕ) (sections : List S
 
     -- something was given
     going_on_at : (given : List Event) (text : List ℕ) → sections_given given ≡ sections ++ out_of_car section ∷ [] → IsGoing verifier (sections ++ out_of_car section ∷ []) text
-        → (next : Body) → next.verifier ≡ verifier → IsBodyAt next given (sections ++ out_of_car section ∷ []) text
+        → (next : CarBody) → next.verifier ≡ verifier → IsBodyAt next given (sections ++ out_of_car section ∷ []) text
     going_on_at [] text are going next same =
         let none : 0 ≡ length (sections ++ out_of_car section ∷ []) = ap length are in absurd (omega (arith, none, length-append sections (out_of_car section ∷ [])))
     going_on_at (event ∷ given) text are going next same = subst (λ (v : VerifierState). IsGoing v (sections ++ out_of_car section ∷ []) text) (sym same) going

@@ -1,12 +1,12 @@
 -- What the body of an answer stands for: the bytes that it heard, the sections that it took, and what is written for
 -- them.
-use Rattle.std.specs.Prelude.{Err, List, None, Ok, Result, [], length, ⊤, ℕ, ◌++◌, ◌∷◌, ◌≡◌, ◌≤◌, ◌⊎◌}
+use Rattle.std.specs.Prelude.{Err, List, None, Ok, Option, Result, [], length, ⊤, ℕ, ◌++◌, ◌∷◌, ◌≡◌, ◌≢◌, ◌≤◌, ◌⊎◌}
 use Rattle.tg_car.specs.History.{History}
 use Rattle.tg_car.specs.State.{StandsFor}
 use Rattle.tg_car.specs.declared.event.Event.{Event}
-use Rattle.tg_client.specs.Ends.{EndsBy, IsAccepted, IsEndedShort, IsWithinReceived, SaysFor, Verifies}
-use Rattle.tg_client.specs.Received.{HasHeader, HasReceived, sections_given}
-use Rattle.tg_client.specs.declared.body.Body.{Body}
+use Rattle.tg_client.specs.Ends.{EndsBy, IsAccepted, IsEndedShort, IsHeldExactly, IsWaiting, IsWithinReceived, SaysFor, Verifies}
+use Rattle.tg_client.specs.Received.{HasHeader, HasReceived, IsCarOf, sections_given}
+use Rattle.tg_client.specs.declared.body.CarBody.{CarBody}
 use Rattle.tg_client.specs.declared.fault.ClientFault.{ClientFault}
 use Rattle.tg_client.specs.declared.fault.ClientFault.TheVariants as faults
 use Rattle.tg_traversal.specs.Left.{WantedAt}
@@ -15,8 +15,8 @@ use Rattle.tg_model.specs.LimitNumbers.{LimitNumbers}
 use Rattle.tg_model.specs.Queries.{QueryParts}
 use Rattle.tg_model.specs.declared.limits.LimitKind.TheVariants as kinds
 use Rattle.tg_streams.specs.Streams.{Input, Output, OutputQuiet, OutputRose, Put}
-use Rattle.tg_verify.specs.Sound.{ForEachSound}
-use Rattle.tg_verify.specs.Taken.{IsFresh, IsGoing, IsUpTo}
+use Rattle.tg_verify.specs.Sound.{ForEachSound, IsItsFront}
+use Rattle.tg_verify.specs.Taken.{IsFresh, IsGoing, IsThrough, IsUpTo}
 use Rattle.tg_verify.specs.declared.fault.Refusal.TheVariants as refusals
 
 -- a reader's history before a refusal
@@ -24,13 +24,13 @@ abbrev pub going_on : List ℕ → List Event → History
 going_on bytes given = record { fed = bytes; given = given; stop = None }
 
 -- the verifier isn't started before the header is whole
-abbrev pub IsBodyAt : Body → List Event → List Section → List ℕ → Type 0
+abbrev pub IsBodyAt : CarBody → List Event → List Section → List ℕ → Type 0
 IsBodyAt body [] sections written = IsFresh body.verifier × (written ≡ [])
 IsBodyAt body (event ∷ given) sections written = IsGoing body.verifier sections written
 
 -- nothing was refused: these bytes were heard, these sections stand whole in them and were taken, and this is written
 -- for them
-pub record IsBody (body : Body) (heard : List ℕ) (sections : List Section) (written : List ℕ) : Type 0 where
+pub record IsBody (body : CarBody) (heard : List ℕ) (sections : List Section) (written : List ℕ) : Type 0 where
   pub given : List Event
   pub reads : StandsFor body.reader (going_on heard given)
   pub sections_are : sections_given given ≡ sections
@@ -44,7 +44,7 @@ pub record IsBody (body : Body) (heard : List ℕ) (sections : List Section) (wr
   pub within : length heard ≤ body.most
 
 -- a text was put, and nothing was refused
-pub record WentOn (body : Body) (heard written : List ℕ) (out : Output) : Type 0 where
+pub record WentOn (body : CarBody) (heard written : List ℕ) (out : Output) : Type 0 where
   pub sections : List Section
   pub text : List ℕ
   pub put : Put text out
@@ -121,3 +121,18 @@ HasOutCause out other = OutputQuiet out
 abbrev pub IsEndFault : ClientFault → Type 0
 IsEndFault (faults.Refused (refusals.Truncated want number)) = ⊤
 IsEndFault other = ⊥
+
+-- ---- what stands of a CAR of which nothing was refused
+
+-- the sections are whole in what was heard, a block is wanted or all came, with no byte behind; and what is written is a
+-- front of each sound DAG's answer
+pub record StandsSo (q : QueryParts) (limits : LimitNumbers) (wanted : Option WantedAt) (heard : List ℕ) (sections : List Section) (written : List ℕ) : Type 0 where
+  pub received : HasReceived limits.block heard sections
+  pub held : IsHeldExactly q limits heard sections written
+  pub waits : wanted ≢ None → IsWaiting q limits heard sections written
+  pub through : wanted ≡ None → IsThrough q sections written × IsCarOf heard sections
+  pub front : ForEachSound q (λ d. IsItsFront q d sections written)
+
+abbrev pub BodyStands : Type 0
+BodyStands = (body : CarBody) (heard : List ℕ) (sections : List Section) (written : List ℕ) → IsBody body heard sections written
+    → StandsSo body.verifier.left.query body.verifier.limits body.verifier.left.wanted heard sections written

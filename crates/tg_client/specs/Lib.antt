@@ -2,3 +2,4 @@ pub mod Received
 pub mod ReceivedLaws
 pub mod Ends
 pub mod Body
+pub mod BodyLaws

@@ -1,10 +1,12 @@
 //! The bytes of a CAR, verified while they come.
-ghost use Rattle.std.specs.Prelude.{◌≡◌, ◌++◌, ◌+◌, ◌<◌, ◌≤◌, [], ℕ, List as Items, None, IfErr, IfOk, MatchResult};
-ghost use Rattle.std.specs.Prelude.{length, take, true};
+ghost use Rattle.std.specs.Prelude.{◌≡◌, ◌↔◌, ◌++◌, ◌+◌, ◌<◌, ◌≤◌, [], ℕ, List as Items, None, IfErr, IfOk, IsTrue};
+ghost use Rattle.std.specs.Prelude.{MatchResult, length, take};
 ghost use Rattle.tg_client.specs.Body.{HasEnded, HasOutCause, IsBody, IsEndFault, IsStopped, WentOn};
 ghost use Rattle.tg_model.specs.Dag.{Section};
 ghost use Rattle.tg_streams.specs.Streams.{OutputQuiet, into};
+ghost use Rattle.tg_verify.specs.Absences.{path_limits, path_query};
 ghost use Rattle.tg_verify.specs.State.{next_cid};
+ghost use Rattle.tg_verify.specs.Taken.{IsFresh};
 
 use crate::fault::ClientFault;
 use crate::laws;
@@ -14,31 +16,69 @@ use tg_model::{LimitKind, Limits, Query};
 use tg_streams::Sink;
 use tg_verify::{Refusal, Verifier};
 
-/// The body of an answer to a query: a CAR, of which each section is verified as soon as its last byte came. The
-/// verifier is started once the header is whole. No byte of the CAR is kept but those of the section at hand.
+/// The CAR that answers a query while it comes: each section is verified as soon as its last byte came, and the verifier
+/// is started once the header is whole. No byte of the CAR is kept but those of the section at hand.
+///
+/// Behind an error nothing is to be handed to it any more. CARv1 specification; Trustless Gateway specification, CAR
+/// responses.
 #[derive(Drop)]
-pub(crate) struct Body {
+pub struct CarBody {
     reader: CarReader,
     verifier: Verifier,
     most: u64,
     heard: u64,
 }
 
-impl Body {
-    /// The body before its first byte. The error is want of memory.
-    pub(crate) fn new(alloc: Global, query: &Query, limits: Limits) -> Result<Body, AllocError>
+impl CarBody {
+    /// The CAR of an answer, before its first byte. The error is want of memory.
+    pub fn new(alloc: Global, query: &Query, limits: Limits) -> Result<CarBody, AllocError>
         ensures query { IfOk result (λ body. body.verifier.left.query ≡ query.now) }
         ensures limits { IfOk result (λ body. body.verifier.limits ≡ limits) }
         ensures fresh { IfOk result (λ body. body.verifier.refused ≡ None) }
         ensures heard { IfOk result (λ body. body.heard ≡ 0) }
         ensures stands { IfOk result (λ body. IsBody body [] [] []) }
     {
-        Ok(Body {
+        let verifier = Verifier::new(alloc, query, limits)?;
+        Ok(CarBody::verified_by(alloc, verifier, limits))
+    }
+
+    /// The CAR that shows where a query's path leads, before its first byte: of the blocks on the way, and the
+    /// terminal's. What it says is put as that of any other. The error is want of memory.
+    ///
+    /// Path Gateway specification, Path Resolution.
+    pub fn absence(alloc: Global, query: &Query, limits: Limits) -> Result<CarBody, AllocError>
+        ensures query { IfOk result (λ body. body.verifier.left.query ≡ path_query query.now) }
+        ensures limits { IfOk result (λ body. body.verifier.limits ≡ path_limits limits) }
+        ensures fresh { IfOk result (λ body. body.verifier.refused ≡ None) }
+        ensures heard { IfOk result (λ body. body.heard ≡ 0) }
+        ensures stands { IfOk result (λ body. IsBody body [] [] []) }
+    {
+        let verifier = Verifier::absence(alloc, query, limits)?;
+        Ok(CarBody::verified_by(alloc, verifier, limits))
+    }
+
+    /// The CAR whose sections this verifier takes, which is new.
+    fn verified_by(alloc: Global, verifier: Verifier, limits: Limits) -> CarBody
+        requires block { verifier.limits.block ≡ limits.block }
+        requires received { verifier.limits.received ≡ limits.received }
+        requires fresh { IsFresh verifier }
+        ensures verifier { result.verifier ≡ verifier }
+        ensures heard { result.heard ≡ 0 }
+        ensures stands { IsBody result [] [] [] }
+    {
+        CarBody {
             reader: CarReader::new(alloc, limits.number(LimitKind::Block)),
-            verifier: Verifier::new(alloc, query, limits)?,
+            verifier,
             most: limits.number(LimitKind::Received),
             heard: 0,
-        })
+        }
+    }
+
+    /// Whether all sections came that the query asks for: no block is wanted.
+    pub fn is_whole(&self) -> bool
+        ensures { IsTrue result ↔ (next_cid self.now.verifier.refused self.now.verifier.left.wanted ≡ None) }
+    {
+        self.verifier.want().is_none()
     }
 
     /// Takes all of a piece.
@@ -47,7 +87,7 @@ impl Body {
     /// than may; with `Extra` behind the last wanted section; with a `Limit` of kind `Block` where a section declares
     /// too large a block; with a refusal of the verifier at the last byte of the header or of a section; `BadCar` where
     /// no CAR goes on so; and `OutOfMemory`.
-    pub(crate) fn feed<S: Sink>(&mut self, piece: &[u8], out: &mut S) -> Result<(), ClientFault>
+    pub fn feed<S: Sink>(&mut self, piece: &[u8], out: &mut S) -> Result<(), ClientFault>
         ensures query { self.new.verifier.left.query ≡ self.old.verifier.left.query }
         ensures limits { self.new.verifier.limits ≡ self.old.verifier.limits }
         ensures most { self.new.most ≡ self.old.most }
@@ -72,7 +112,7 @@ impl Body {
 
     /// Says that no more bytes come. Errors: `Refused` with `Truncated` where a block is wanted, or the header isn't
     /// whole, with the root.
-    pub(crate) fn end(&mut self) -> Result<(), ClientFault>
+    pub fn end(&mut self) -> Result<(), ClientFault>
         ensures cause { self.old.verifier.refused ≡ None → IfErr result IsEndFault }
         ensures stands { (heard : Items ℕ) (sections : Items Section) (written : Items ℕ)
             → IsBody self.old heard sections written
@@ -84,8 +124,8 @@ impl Body {
     }
 
     /// Takes bytes of a piece that has some, up to the end of the header or of a section, and says how many. A byte
-    /// that is one too many isn't looked at.
-    fn take<S: Sink>(&mut self, piece: &[u8], out: &mut S) -> Result<usize, ClientFault>
+    /// that is one too many isn't looked at. Errors: those of `feed`.
+    pub fn take<S: Sink>(&mut self, piece: &[u8], out: &mut S) -> Result<usize, ClientFault>
         requires { 0 < length piece.now }
         ensures query { self.new.verifier.left.query ≡ self.old.verifier.left.query }
         ensures limits { self.new.verifier.limits ≡ self.old.verifier.limits }

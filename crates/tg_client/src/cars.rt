@@ -14,7 +14,7 @@ ghost use Rattle.tg_streams.specs.Streams.{into, through};
 ghost use Rattle.tg_verify.specs.Laws.{IsWithinLimits};
 ghost use Rattle.tg_verify.specs.State.{count_of};
 
-use crate::body::Body;
+use crate::body::CarBody;
 use crate::fault::ClientFault;
 use crate::laws;
 use std::alloc::Global;
@@ -101,13 +101,13 @@ fn hear<I: Source, S: Sink>(
     tg_varint::laws::spelling_laws();
     tg_verify::laws::verified_answers();
     let mut room = zeros(alloc, PIECE_LEN)?;
-    let mut body = Body::new(alloc, query, limits)?;
+    let mut body = CarBody::new(alloc, query, limits)?;
     hear_pieces(&mut body, room.as_mut_slice(), input, out)
 }
 
 /// Hands the pieces of the input to a body of which nothing came, through this room.
 fn hear_pieces<I: Source, S: Sink>(
-    body: &mut Body,
+    body: &mut CarBody,
     room: &mut [u8],
     input: &mut I,
     out: &mut S,

@@ -1,4 +1,6 @@
 //! What holds of the sections that stand whole in the bytes of a CAR.
+ghost use Rattle.tg_client.specs.Body.{BodyStands};
+ghost use Rattle.tg_client.specs.BodyLaws.{BodyLaws};
 ghost use Rattle.tg_client.specs.ReceivedLaws.{ReceivedLaws};
 
 /// The sections that stand whole in the bytes of a CAR are determined by the bytes; of a front of them fewer stand
@@ -11,4 +13,30 @@ pub fn received_sections()
     tg_car::laws::car_laws();
     tg_cid::laws::length_laws();
     tg_varint::laws::spelling_laws();
+}
+
+/// The CAR of sections that fit a query is refused in none of its fronts, but for counted faults and want of memory, and
+/// accepted once it came whole. That of the blocks on a path that leads nowhere is refused for that segment alone, before
+/// its end.
+///
+/// CARv1 specification; Trustless Gateway specification, CAR responses; Path Gateway specification, Path Resolution.
+pub fn bodies()
+    ensures { BodyLaws }
+{
+    received_sections();
+    tg_car::laws::car_laws();
+    tg_model_laws::one_fit();
+    tg_traversal_laws::verified_sections();
+    tg_verify::laws::verified_answers();
+}
+
+/// What stands of a CAR of which nothing was refused: the sections that are whole in its bytes, and what is written for
+/// them, beside each sound DAG with the query's root too.
+///
+/// CARv1 specification; Trustless Gateway specification, CAR responses.
+pub fn standing_bodies()
+    ensures { BodyStands }
+{
+    received_sections();
+    tg_verify::laws::verified_answers();
 }

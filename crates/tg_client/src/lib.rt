@@ -6,5 +6,6 @@ mod cars;
 mod fault;
 pub mod laws;
 
+pub use body::CarBody;
 pub use cars::verify_car;
 pub use fault::ClientFault;

@@ -8,6 +8,7 @@ use Rattle.tg_body.specs.Laws.{BodyLaws}
 use Rattle.tg_http.specs.declared.framing.Framing.{Framing}
 use Rattle.tg_http.specs.declared.framing.Framing.TheVariants as framings
 use Rattle.tg_heard.specs.Got.{HasBodySoFar, HasWholeBody}
+use Rattle.tg_heard.specs.GotLaws.{BodyFronts}
 use Rattle.tg_heard.proofs.ChunkFronts.{CutBody, Reach, cut_front, cut_text, reach}
 use Rattle.tg_heard.proofs.Single.{one_body}
 
@@ -99,3 +100,8 @@ module _ (laws : BodyLaws) where
       same_grows body other (one_so_far ended framing (rest ++ tail) body other (inl (stays_whole ended framing rest tail body w)) far)
   grows ended framing rest tail body other (inr f) (inl v) = front_whole ended framing rest tail body other f v
   grows ended framing rest tail body other (inr f) (inr g) = front_front framing rest tail body other f g
+
+  -- what came of a body is a front of the whole one
+  pub body_fronts : BodyFronts
+  body_fronts framing given body came whole more behind f b e closed =
+      front_whole true framing came more given body f (record { front = whole; more = behind; rest_is = e; closed = λ c. (refl, closed c); body_is = b })

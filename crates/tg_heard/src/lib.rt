@@ -4,7 +4,7 @@
 
 mod examples;
 
-ghost use Rattle.tg_heard.specs.GotLaws.{CarriedIsGot, GotFronts, OneGot};
+ghost use Rattle.tg_heard.specs.GotLaws.{BodyFronts, CarriedIsGot, GotFronts, OneGot};
 ghost use Rattle.tg_heard.specs.Laws.{AskedAbsencesCarry, AskedAnswersCarry, CarsCarry, CutsCarryNothing, NotBoth};
 ghost use Rattle.tg_heard.specs.Laws.{OneCarried, OneCarriedBy, OneFinalHead, RawsCarry, RefusalsCarryNothing};
 
@@ -66,4 +66,14 @@ pub fn received_so_far()
     tg_http::laws::longer_bytes();
     tg_body::laws::body_laws();
     tg_client::laws::received_sections();
+}
+
+/// What came of a body is a front of the whole one.
+///
+/// RFC 9112, sections 6 and 7.
+pub fn bodies_go_on()
+    ensures { BodyFronts }
+{
+    tg_body::laws::body_laws();
+    tg_http::laws::line_laws();
 }

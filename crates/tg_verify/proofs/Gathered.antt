@@ -6,7 +6,7 @@ use Rattle.std.specs.List.{flat_map}
 use Rattle.std.specs.Prelude.{Result, ⊤}
 use Rattle.tg_bytes.specs.Ascii.{line_feed}
 use Rattle.tg_cid.specs.Cid.{CidParts}
-use Rattle.tg_listing.specs.Listings.{line_of, named_entry}
+use Rattle.tg_listing.specs.Listings.{line_of}
 use Rattle.tg_listing.specs.declared.line.ListingLine.{ListingLine}
 use Rattle.tg_model.specs.Counts.{met_line}
 use Rattle.tg_model.specs.Queries.{QueryParts}

@@ -1,5 +1,5 @@
 -- The sections of a list, one by one.
-use Rattle.std.proofs.Common.{inl, [], Err, List, None, Ok, Option, Some, ap, append-nil, drop, get_or, inr, length, map, refl, subst, sym, take, ℕ, ◌+◌, ◌++◌, ◌<◌, ◌∙◌, ◌∷◌, ◌≡◌}
+use Rattle.std.proofs.Common.{inl, [], Err, List, None, Ok, Option, Some, ap, drop, get_or, inr, length, map, refl, subst, sym, take, ℕ, ◌+◌, ◌++◌, ◌<◌, ◌∙◌, ◌∷◌, ◌≡◌}
 use Rattle.std.proofs.lemmas.List.{map-append, take-append-drop, take_more}
 use Rattle.std.specs.Prelude.{MatchResult, Result}
 use Rattle.tg_cid.specs.Cid.{CidParts}

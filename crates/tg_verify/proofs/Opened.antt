@@ -3,12 +3,11 @@ use Rattle.std.proofs.Common.{[], Err, List, None, Option, Some, ap, append-nil,
 use Rattle.std.proofs.lemmas.List.{map-append}
 use Rattle.std.specs.Bool.{⊤}
 use Rattle.tg_cid.specs.Cid.{CidParts}
-use Rattle.tg_listing.specs.Listings.{line_of, named_entry}
+use Rattle.tg_listing.specs.Listings.{line_of}
 use Rattle.tg_listing.specs.declared.line.ListingLine.{ListingLine}
 use Rattle.tg_model.specs.Dag.{Section}
 use Rattle.tg_model.specs.LimitNumbers.{LimitNumbers}
 use Rattle.tg_model.specs.Queries.{QueryParts}
-use Rattle.tg_model.specs.Texts.{Named}
 use Rattle.tg_model.specs.Traversal.{ListedEntry, named_met, sent}
 use Rattle.tg_model.specs.declared.kinds.Kind.{Kind}
 use Rattle.tg_model.specs.declared.limits.LimitKind.TheVariants as kinds

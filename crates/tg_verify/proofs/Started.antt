@@ -2,21 +2,19 @@
 use Rattle.std.proofs.Common.{[], List, ap, map, refl, subst, sym, ◌∙◌, ◌≡◌, arith, false, true, Bool, ℕ, length, ◌-◌}
 use Rattle.std.specs.Prelude.{sum}
 use Rattle.tg_cid.specs.Cid.{CidParts}
-use Rattle.tg_listing.specs.Listings.{line_of, named_entry}
-use Rattle.tg_listing.specs.declared.line.ListingLine.{ListingLine}
+use Rattle.tg_listing.specs.Listings.{line_of}
 use Rattle.tg_model.specs.Counts.{if_once}
 use Rattle.tg_model.specs.Dag.{Section}
 use Rattle.tg_model.specs.LimitNumbers.{LimitNumbers}
 use Rattle.tg_model.specs.Queries.{QueryParts}
 use Rattle.tg_model.specs.Traversal.{unrepeated}
-use Rattle.tg_model.specs.declared.kinds.Entry.{Entry}
 use Rattle.tg_model.specs.declared.queries.Scope.{Scope}
 use Rattle.tg_model.specs.declared.queries.Scope.TheVariants as scopes
 use Rattle.tg_traversal_laws.specs.Stages.{nothing_given}
 use Rattle.tg_traversal_laws.specs.Tasks.{Task}
 use Rattle.tg_traversal_laws.specs.Verified.{Verified, VerifiedLaws}
 use Rattle.tg_verify.specs.Counting.{AreUnpassed, counts_given}
-use Rattle.tg_verify.specs.State.{VerifierState, listed_lines, listed_of}
+use Rattle.tg_verify.specs.State.{VerifierState, listed_of}
 use Rattle.tg_verify.specs.Taken.{IsFresh, IsOn, Remembers}
 
 none_listed : (scope : Scope) → [] ≡ listed_of scope []

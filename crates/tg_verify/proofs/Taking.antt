@@ -1,12 +1,10 @@
 -- A section that is taken, or refused.
 use Rattle.std.proofs.Common.{[], All, Bool, Contains, Err, List, None, Ok, Option, Some, ap, append-nil, arith, false}
-use Rattle.std.proofs.Common.{inl, inr, length-append, map, refl, subst, sym, true, ℕ, ◌++◌, ◌<◌, ◌∙◌, ◌∷◌, ◌≡◌}
+use Rattle.std.proofs.Common.{inl, inr, length-append, refl, subst, sym, true, ℕ, ◌++◌, ◌<◌, ◌∙◌, ◌∷◌, ◌≡◌}
 use Rattle.std.proofs.lemmas.List.Elements.{Contains-push_cases}
 use Rattle.std.proofs.lemmas.List.{map-append}
 use Rattle.std.specs.Prelude.{Result, ⊤}
 use Rattle.tg_cid.specs.Cid.{CidParts}
-use Rattle.tg_listing.specs.Listings.{line_of, named_entry}
-use Rattle.tg_listing.specs.declared.line.ListingLine.{ListingLine}
 use Rattle.tg_model.specs.Dag.{Section}
 use Rattle.tg_model.specs.LimitNumbers.{LimitNumbers}
 use Rattle.tg_model.specs.Queries.{QueryParts}
@@ -25,7 +23,7 @@ use Rattle.tg_verify.proofs.Turning.{kept_section, known_if, pair_of}
 use Rattle.tg_verify.specs.Counting.{AreUnpassed, HasCounted, counts_given}
 use Rattle.tg_verify.specs.History.{HasOn, HasTaken, PutsFor, one_more}
 use Rattle.tg_verify.specs.Refusals.{HasRefused, HasSectionCause, IsRefusedAt, IsWantedBlock}
-use Rattle.tg_verify.specs.State.{OpenerState, VerifierState, count_of, listed_lines, listed_of}
+use Rattle.tg_verify.specs.State.{OpenerState, VerifierState, count_of, listed_lines}
 use Rattle.tg_verify.specs.Steps.{IsPlacedAt, IsReceivedAt, IsSameOpener, section_with}
 use Rattle.tg_verify.specs.Taken.{AreNamed, IsFrontWritten, IsGoing, IsNamed, IsNowhere, IsOn, IsSentFor, IsWrittenAt, Remembers}
 use Rattle.tg_verify.specs.declared.counts.Source.TheVariants as sources

@@ -7,8 +7,6 @@ use Rattle.tg_cid.specs.Names.{IsDigestOf, Names}
 use Rattle.tg_cid.specs.declared.cid.HashKind.{HashKind}
 use Rattle.tg_model.specs.LimitNumbers.{LimitNumbers}
 use Rattle.tg_verify.specs.Counting.{AreUnpassed, HasCounted, counts_given}
-use Rattle.tg_listing.specs.Listings.{line_of, named_entry}
-use Rattle.tg_listing.specs.declared.line.ListingLine.{ListingLine}
 use Rattle.tg_model.specs.Dag.{Section}
 use Rattle.tg_model.specs.Fits.{IfOnce}
 use Rattle.tg_model.specs.Queries.{QueryParts}
@@ -25,7 +23,7 @@ use Rattle.tg_traversal_laws.specs.Tasks.{Task, no_directory, no_entry, open_blo
 use Rattle.tg_traversal_laws.specs.Verified.{IsHad, IsKnown, IsKnownIf, IsOwnBlock, Verified, VerifiedLaws, listing_at_end, written_whole}
 use Rattle.tg_verify.proofs.Counting.{IsFrom, unasked_unsent}
 use Rattle.tg_verify.proofs.Misread.{Computes}
-use Rattle.tg_verify.proofs.Opened.{Ends, IsAtPlace, IsOpenedUpTo, front_of, opens_up_to, placed_ends}
+use Rattle.tg_verify.proofs.Opened.{Ends, IsAtPlace, IsOpenedUpTo, opens_up_to, placed_ends}
 use Rattle.tg_verify.specs.History.{HasGone, HasOn, HasStopped}
 use Rattle.tg_verify.specs.Refusals.{HasPlaceCause, IsRefusedBehind}
 use Rattle.tg_verify.specs.State.{OpenerState, VerifierState, listed_lines, listed_of}

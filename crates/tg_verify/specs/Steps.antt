@@ -1,7 +1,7 @@
 -- How a block is opened at its place: it is checked and opened, what comes up to the next place is gathered and counted,
 -- and what it says is put.
 use Rattle.std.specs.List.{flat_map}
-use Rattle.std.specs.Prelude.{Bool, Contains, Err, List, None, Ok, Option, Result, Some, [], false, length, map, true, ⊤, ℕ}
+use Rattle.std.specs.Prelude.{Bool, Contains, Err, List, None, Ok, Option, Result, Some, [], false, length, true, ⊤, ℕ}
 use Rattle.std.specs.Prelude.{◌++◌, ◌+◌, ◌<◌, ◌∷◌, ◌≡◌}
 use Rattle.tg_cid.specs.Cid.{CidParts}
 use Rattle.tg_listing.specs.Listings.{line_of, named_entry}

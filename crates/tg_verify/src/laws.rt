@@ -1,4 +1,5 @@
 //! What a verifier's answers mean.
+ghost use Rattle.tg_verify.specs.Absences.{AnsweredLeadsThere};
 ghost use Rattle.tg_verify.specs.Laws.{AnswerLaws};
 ghost use Rattle.tg_verify.specs.Own.{OwnLaws};
 
@@ -31,3 +32,10 @@ pub fn own_sections_taken()
     tg_traversal_laws::beside_dags();
     tg_traversal_laws::verified_sections();
 }
+
+/// What is written is the answer of a DAG only where the query's path leads to a terminal of it.
+///
+/// Path Gateway specification, Path Resolution.
+pub fn answered_paths()
+    ensures { AnsweredLeadsThere }
+{}

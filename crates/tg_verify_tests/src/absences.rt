@@ -1,4 +1,4 @@
-//! Sections that show where a path leads, handed to a verifier that writes nothing.
+//! Sections that show where a path leads, handed to a verifier whose text goes nowhere.
 use crate::feeding::{Sections, VerifyEnd, sections_of};
 use crate::refusals::{Ended, end_of};
 use std::alloc::Global;
@@ -6,7 +6,7 @@ use std::rt::HostRuntime;
 use tg_model::{LimitKind, Limits, Scope};
 use tg_oracle::scoped_query;
 use tg_test_dags::{Block, Dag, Stored, store};
-use tg_verify::Absence;
+use tg_verify::{Nowhere, Verifier};
 
 /// A DAG, a path in it, the numbers of the blocks that are fed, and how the verifier ends.
 type Row = (Dag, &'static [&'static str], &'static [usize], Ended);
@@ -55,21 +55,22 @@ const ROWS: &[Row] = &[
 ];
 
 /// Hands the sections to a verifier, and ends it where all are taken.
-fn handed(absence: &mut Absence, sections: Sections) -> VerifyEnd {
-    absence.start()?;
+fn handed(verifier: &mut Verifier, sections: Sections) -> VerifyEnd {
+    let mut out = Nowhere {};
+    verifier.start(&mut out)?;
     for (cid, block) in sections.into_vec() {
-        absence.section(cid, block)?;
+        verifier.section(cid, block, &mut out)?;
     }
-    Ok(absence.want())
+    Ok(verifier.want())
 }
 
-/// How a verifier of a row's path ends, which may put no byte.
+/// How a verifier of a row's path ends, under a limit of no byte of the answer, which doesn't hold for it.
 fn shown(alloc: Global, stored: &Stored, row: &Row) -> Option<VerifyEnd> {
     let query = scoped_query(alloc, stored.root, row.1, Scope::All).ok()?;
     let sections = sections_of(alloc, stored.blocks.as_slice(), row.2)?;
     let none = Limits::standard().with(LimitKind::Output, 0);
-    let mut absence = Absence::new(alloc, &query, none).ok()?;
-    Some(handed(&mut absence, sections))
+    let mut verifier = Verifier::absence(alloc, &query, none).ok()?;
+    Some(handed(&mut verifier, sections))
 }
 
 /// Whether a verifier ends as a row says.

@@ -1,4 +1,4 @@
-use Rattle.std.proofs.Common.{All, List, Some, ap, refl, subst, sym, ℕ, ◌<◌, ◌≡◌, ◌∙◌}
+use Rattle.std.proofs.Common.{All, List, Some, ap, refl, subst, sym, ℕ, ◌<◌, ◌∙◌}
 use Rattle.std.specs.Option.{option_copied}
 use Rattle.std.proofs.lemmas.Result.{err_from_is_err_and}
 use Rattle.tg_verify.proofs.Remembered.{found_under, none_under}

@@ -1,4 +1,4 @@
-use Rattle.std.proofs.Common.{Err, ap, map, subst, sym, ◌∙◌}
+use Rattle.std.proofs.Common.{ap, ◌∙◌}
 use Rattle.std.proofs.lemmas.Result.{err_from_is_err_and}
 use Rattle.tg_verify.proofs.Puts.{listing_cause, listing_place, listing_stops}
 use Rattle.tg_verify.specs.State.{OpenerState}

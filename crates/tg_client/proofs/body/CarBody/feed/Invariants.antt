@@ -3,7 +3,7 @@ use Rattle.std.proofs.Common.{◌≡◌, ◌≤◌, ◌+◌, ◌++◌, ◌-◌, 
 use Rattle.tg_client.specs.Body.{IsBody, WentOn}
 use Rattle.tg_model.specs.Dag.{Section}
 use Rattle.tg_streams.specs.Streams.{OutputQuiet, into}
-use Rattle.tg_client.proofs.body.Body.feed.Given as goal
+use Rattle.tg_client.proofs.body.CarBody.feed.Given as goal
 
 abbrev pub invariant-loop-at : goal.invariant-loop-at
 invariant-loop-at g l = record {

@@ -7,7 +7,7 @@ use Rattle.tg_model.specs.Queries.{QueryParts}
 use Rattle.tg_streams.specs.Streams.{into}
 use Rattle.tg_client.specs.Body.{IsStopped, WentOn}
 use Rattle.tg_client.proofs.Feeding.{stopped_on, went_further, went_nothing}
-use Rattle.tg_client.proofs.body.Body.feed.Goals as goal
+use Rattle.tg_client.proofs.body.CarBody.feed.Goals as goal
 
 pub loop-at-init : goal.loop-at-init
 loop-at-init g c = record {

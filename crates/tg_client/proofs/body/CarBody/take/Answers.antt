@@ -6,8 +6,8 @@ use Rattle.tg_car.specs.declared.event.Event.TheVariants as events
 use Rattle.tg_streams.specs.Joining.{put_nothing}
 use Rattle.tg_streams.specs.Streams.{into}
 use Rattle.tg_client.proofs.Stepping.{behind_last, header_refused, header_taken, is_fresh, past_received, reader_stops, reads_on, section_refused, section_taken, some_of, stands_there, step_taken, wants_none, wants_some, within_piece}
-use Rattle.tg_client.proofs.body.Body.take.Goals.{in-Header+in_ok-start-in-Header, in-Need, in-Section+in_ok-section-in-Section}
-use Rattle.tg_client.proofs.body.Body.take.Goals as goal
+use Rattle.tg_client.proofs.body.CarBody.take.Goals.{in-Header+in_ok-start-in-Header, in-Need, in-Section+in_ok-section-in-Section}
+use Rattle.tg_client.proofs.body.CarBody.take.Goals as goal
 
 pub returns-then-self-clause-stands : goal.returns-then-self-clause-stands
 returns-then-self-clause-stands g c heard sections written h =
