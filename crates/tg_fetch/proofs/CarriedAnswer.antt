@@ -1,0 +1,57 @@
+-- Of a reply that carries sections which fit, their text is put.
+use Rattle.std.proofs.Common.{◌≡◌, ℕ, Bool, true, List, [], ◌++◌, refl, ap, ap₂, subst, ◌∙◌, append_assoc}
+use Rattle.std.specs.Prelude.{⊤}
+use Rattle.tg_fetch.proofs.CarriedTaken.{IsCarrier, carrier}
+use Rattle.tg_fetch.specs.Laws.{CarriedIsAnswer}
+use Rattle.tg_heard.specs.Carried.{Carries, CarriesBehind}
+use Rattle.tg_heard.specs.Laws.{OneCarried}
+use Rattle.tg_model.specs.Dag.{Dag, Section}
+use Rattle.tg_model.specs.Fits.{Fits}
+use Rattle.tg_model.specs.LimitNumbers.{LimitNumbers}
+use Rattle.tg_model.specs.Queries.{QueryParts}
+use Rattle.tg_verify.specs.Laws.{AnswerLaws}
+use Rattle.tg_verify.specs.Taken.{IsThrough}
+
+-- sections fit with one text
+abbrev pub FitOnce : Type 0
+FitOnce = (q : QueryParts) (sections : List Section) (a b : Dag) (x y : List ℕ) → Fits a q sections x → Fits b q sections y → (a ≡ b) × (x ≡ y)
+
+-- what a front of the bytes carries they carry
+longer_carries : (q : QueryParts) (heard more : List ℕ) (ended : Bool) (sections : List Section) → (ended ≡ true → more ≡ []) → Carries heard ended q sections
+    → CarriesBehind (λ head. ⊤) (heard ++ more) ended q sections
+longer_carries q heard more ended sections none c = record {
+  front = c.front;
+  more = c.more ++ more;
+  heard_is = ap (λ (l : List ℕ). l ++ more) c.heard_is ∙ append_assoc c.front c.more more;
+  head = c.head;
+  rest = c.rest;
+  final = c.final;
+  is_head = tt;
+  body = c.body;
+  body_is = c.body_is;
+  closed = λ e. let close = c.closed e in (close.0, ap₂ (λ (a b : List ℕ). a ++ b) close.1 (none close.0));
+  carries = c.carries;
+}
+
+carrier_carries : (q : QueryParts) (limits : LimitNumbers) (bytes : List ℕ) (sections : List Section) → IsCarrier q limits bytes sections
+    → CarriesBehind (λ head. ⊤) bytes true q sections
+carrier_carries q limits bytes sections n = record {
+  front = n.text;
+  more = n.tail;
+  heard_is = n.whole;
+  head = n.head;
+  rest = n.rest;
+  final = n.final;
+  is_head = tt;
+  body = n.body;
+  body_is = n.body_is;
+  closed = λ e. (refl, n.closed e);
+  carries = n.carries;
+}
+
+pub carried_is_answer : OneCarried → AnswerLaws → FitOnce → CarriedIsAnswer
+carried_is_answer one answers once q limits d all answer heard more ended over sections text fits carries none a =
+    let same = one (heard ++ more) ended true q sections all (longer_carries q heard more ended sections none a.carries)
+    (carrier_carries q limits (heard ++ more) all (carrier q limits (heard ++ more) over all carries)) in
+    let fit = answers.through q all text (subst (λ (s : List Section). IsThrough q s text) same a.through) in
+    (same, (once q all fit.s d text answer fit.fits fits).1)

@@ -1,0 +1,17 @@
+mod Accepted
+mod CarriedAnswer
+mod CarriedBodies
+mod CarriedHeads
+mod CarriedTaken
+mod OwnExchanges
+mod Receiving
+mod Taking
+mod TakingHeads
+mod Final
+mod Standing
+mod Contents
+mod HearingOn
+mod Calling
+mod Fetching
+mod Longer
+mod Feeding

@@ -1,0 +1,54 @@
+use Rattle.std.proofs.Common.{rules, false, ◌≡◌, ◌≤◌, ◌+◌, ◌++◌, ℕ, length, ap, sym, subst, ◌∙◌, length-append, arith}
+use denote.Enum.Bare.{same_true}
+use Rattle.std.proofs.lemmas.Result.{err_from_is_err_and}
+use Rattle.tg_model.specs.LimitNumbers.{LimitNumbers}
+use Rattle.tg_model.specs.declared.limits.LimitKind.TheVariants as kinds
+use Rattle.tg_streams.specs.Streams.{into}
+use Rattle.tg_verify.specs.contracts.verifier.Progress.{the_type}
+use Rattle.tg_verify.specs.declared.fault.Refusal.TheVariants as refusals
+use Rattle.tg_verify.specs.declared.verifier.Progress.TheVariants as progresses
+use Rattle.tg_fetch.specs.Replies.{IsRefused}
+use Rattle.tg_fetch.specs.declared.fault.FetchFault.TheVariants as faults
+use Rattle.tg_fetch.proofs.Feeding.{answered_front, false_true, fed_all, fed_more, more_told, passed, some_there}
+use Rattle.tg_fetch.proofs.Longer.{refused_front}
+use Rattle.tg_fetch.proofs.client.Client.hear.Goals as goal
+
+pub returns-in_err-look-clause-ends : goal.returns-in_err-look-clause-ends
+returns-in_err-look-clause-ends g c heard written h =
+    let p = err_from_is_err_and c.from_residual.result c.from_residual.ensures.1 in
+    let new = c.look.new.self in
+    let front = c.split_at.result.0.now in
+    let few : length heard + length front ≤ c.args.self.now.limits.received =
+    omega (arith, h.count, h.within, c.number-most.ensures.number, c.min.ensures, c.min-room.ensures, c.split_at.ensures.front_len) in
+    rw (p.1, p.2)
+    (refused_front c.longer_bytes.ensures.reply new.query new.limits heard front c.split_at.result.1.now c.args.piece.now written (into g.S.Sink.sink c.args.out.now c.look.new.out) c.in_err-look.field-0.0
+    c.split_at.ensures.by_index.0 (c.in_err-look.ensures.ends heard written h few))
+
+pub returns-then-eq-clause-ends : goal.returns-then-eq-clause-ends
+returns-then-eq-clause-ends g c heard written h =
+    let new = c.look.new.self in
+    let front = c.split_at.result.0.now in
+    let out = into g.S.Sink.sink c.args.out.now c.look.new.out in
+    let few : length heard + length front ≤ c.args.self.now.limits.received =
+    omega (arith, h.count, h.within, c.number-most.ensures.number, c.min.ensures, c.min-room.ensures, c.split_at.ensures.front_len) in
+    let done : c.in_ok-look.field-0 ≡ progresses.Done = same_true the_type (search rules) _ _ (sym c.if-eq.ensures) in
+    let all = fed_all c.in_ok-look.field-0 new heard front written out done (c.in_ok-look.ensures.ends heard written h few) in
+    (answered_front new.query new.limits heard front c.split_at.result.1.now c.args.piece.now written out c.split_at.ensures.by_index.0 all.0, all.1)
+
+pub returns-clause-ends : goal.returns-clause-ends
+returns-clause-ends g c heard written h =
+    let new = c.look.new.self in
+    let front = c.split_at.result.0.now in
+    let tail = c.split_at.result.1.now in
+    let out = into g.S.Sink.sink c.args.out.now c.look.new.out in
+    let few : length heard + length front ≤ c.args.self.now.limits.received =
+    omega (arith, h.count, h.within, c.number-most.ensures.number, c.min.ensures, c.min-room.ensures, c.split_at.ensures.front_len) in
+    let same = ap (λ (l : LimitNumbers). l.received) c.look.ensures.limits in
+    let some = some_there (length tail) c.if-is_empty.ensures in
+    let full : length (heard ++ front) ≡ new.limits.received =
+    omega (arith, same, some, length-append heard front, h.count, h.within, c.number-most.ensures.number, c.min.ensures, c.min-room.ensures, c.split_at.ensures.front_len, c.split_at.ensures.back_len) in
+    let going : c.in_ok-look.field-0 ≡ progresses.Done → ⊥ = λ (done : c.in_ok-look.field-0 ≡ progresses.Done). false_true (rw done at c.if-eq.ensures) in
+    let more = fed_more c.in_ok-look.field-0 new heard front written out going (c.in_ok-look.ensures.ends heard written h few) in
+    let short = c.in_ok-look.ensures.short heard written h few (more_told c.in_ok-look.field-0 going) in
+    subst (λ (n : ℕ). IsRefused new.query new.limits heard c.args.piece.now false written out (faults.Refused (refusals.Limit kinds.Received n))) (same ∙ sym c.number-most.ensures.number)
+    (passed c.standing_bodies.ensures new heard front tail c.args.piece.now written out c.split_at.ensures.by_index.0 full some more short)

@@ -1,0 +1,93 @@
+use Rattle.std.proofs.Common.{◌++◌, ℕ, List, [], refl, ap, sym, subst, ◌∙◌, take, append_assoc}
+use Rattle.std.proofs.lemmas.Result.{err_from_is_err_and}
+use Rattle.tg_streams.specs.Streams.{into}
+use Rattle.tg_fetch.specs.Clients.{FedMore}
+use Rattle.tg_fetch.specs.declared.client.Client.{Client}
+use Rattle.tg_fetch.proofs.Feeding.{answered_after, answered_all, done_all, fed_nothing, more_after, not_done, on_more, refused_after, refused_behind, rest_is, short_behind, still_few, wait_more}
+use Rattle.tg_fetch.proofs.client.Client.look.Goals as goal
+
+pub loop-taken-init : goal.loop-taken-init
+loop-taken-init g c = record {
+  query = refl;
+  limits = refl;
+  unrefused = c.requires.unrefused;
+  front = [];
+  bytes_are = refl;
+  goes = λ heard written h few. (fed_nothing _ g.S.Sink.sink c.args.out.now (g.met.S.Sink.rests c.args.out.now) c.args.self.now heard written h, refl);
+  still = λ e. (refl, refl);
+}
+
+pub returns-in_err-taken-clause-ends : goal.returns-in_err-taken-clause-ends
+returns-in_err-taken-clause-ends g c heard written h few =
+    let p = err_from_is_err_and c.from_residual.result c.from_residual.ensures.1 in
+    let i = c.loop-taken.invariant in
+    let w = (i.goes heard written h few).0 in
+    let new = c.step.new.self in
+    let rest = c.loop-taken.rest.now in
+    let fault = c.in_err-taken.field-0.0 in
+    let few_left = still_few heard c.args.bytes.now i.front rest c.args.self.now.limits c.loop-taken.self.limits i.bytes_are i.limits few in
+    rw (p.1, p.2)
+    (refused_behind new.query new.limits heard c.args.bytes.now i.front rest written (into g.S.Sink.sink c.args.out.now c.step.new.out) fault i.bytes_are
+    (refused_after g.S.Sink.sink g.met.S.Sink.joins c.args.out.now c.loop-taken.out c.step.new.out written w.text w.put new.query new.limits (heard ++ i.front) rest fault
+    (c.in_err-taken.ensures.ends (heard ++ i.front) (written ++ w.text) w.is_open few_left)))
+
+pub loop-taken-preserved : goal.loop-taken-preserved
+loop-taken-preserved g c =
+    let i = c.loop-taken.invariant in
+    let e = c.in_ok-taken.ensures in
+    let new = c.step.new.self in
+    let rest = c.loop-taken.rest.now in
+    let taken = c.in_ok-taken.taken in
+    record {
+      query = c.step.ensures.query ∙ i.query;
+      limits = c.step.ensures.limits ∙ i.limits;
+      unrefused = c.step.ensures.unrefused;
+      front = i.front ++ take taken rest;
+      bytes_are = rest_is c.args.bytes.now i.front rest taken i.bytes_are;
+      goes = λ heard written h few.
+          let went = i.goes heard written h few in
+          let w = went.0 in
+          let few_left = still_few heard c.args.bytes.now i.front rest c.args.self.now.limits c.loop-taken.self.limits i.bytes_are i.limits few in
+          let on = on_more new (heard ++ i.front) rest (written ++ w.text) (into g.S.Sink.sink c.loop-taken.out c.step.new.out) taken c.in_ok-taken.told
+          (e.ends (heard ++ i.front) (written ++ w.text) w.is_open few_left) c.in-On.is in
+          let more = more_after g.S.Sink.sink g.met.S.Sink.joins c.args.out.now c.loop-taken.out c.step.new.out written w.text w.put new ((heard ++ i.front) ++ take taken rest) on in (
+            subst (λ (l : List ℕ). FedMore new l written (into g.S.Sink.sink c.args.out.now c.step.new.out)) (append_assoc heard i.front (take taken rest)) more,
+            e.cause (heard ++ i.front) (written ++ w.text) w.is_open ∙ went.1,
+          );
+      still = λ done. absurd (not_done taken c.in_ok-taken.told c.in-On.is (e.done (ap (λ (s : Client). s.stage) (i.still done).0 ∙ done)).0);
+    }
+
+pub returns-in-Wait-clause-ends : goal.returns-in-Wait-clause-ends
+returns-in-Wait-clause-ends g c heard written h few =
+    let i = c.loop-taken.invariant in
+    let w = (i.goes heard written h few).0 in
+    let new = c.step.new.self in
+    let rest = c.loop-taken.rest.now in
+    let few_left = still_few heard c.args.bytes.now i.front rest c.args.self.now.limits c.loop-taken.self.limits i.bytes_are i.limits few in
+    let wait = wait_more new (heard ++ i.front) rest (written ++ w.text) (into g.S.Sink.sink c.loop-taken.out c.step.new.out) c.in_ok-taken.taken c.in_ok-taken.told
+    (c.in_ok-taken.ensures.ends (heard ++ i.front) (written ++ w.text) w.is_open few_left) c.in-Wait.is in
+    let more = more_after g.S.Sink.sink g.met.S.Sink.joins c.args.out.now c.loop-taken.out c.step.new.out written w.text w.put new ((heard ++ i.front) ++ rest) wait in
+    subst (λ (l : List ℕ). FedMore new l written (into g.S.Sink.sink c.args.out.now c.step.new.out)) (append_assoc heard i.front rest ∙ ap (λ (l : List ℕ). heard ++ l) (sym i.bytes_are)) more
+
+pub returns-in-Wait-clause-short : goal.returns-in-Wait-clause-short
+returns-in-Wait-clause-short g c heard written h few e =
+    let i = c.loop-taken.invariant in
+    let w = (i.goes heard written h few).0 in
+    short_behind c.step.new.self heard c.args.bytes.now i.front c.loop-taken.rest.now i.bytes_are
+    (c.in_ok-taken.ensures.short (heard ++ i.front) (written ++ w.text) w.is_open c.in-Wait.is)
+
+pub returns-in-Done-clause-ends : goal.returns-in-Done-clause-ends
+returns-in-Done-clause-ends g c heard written h few =
+    let i = c.loop-taken.invariant in
+    let w = (i.goes heard written h few).0 in
+    let new = c.step.new.self in
+    let rest = c.loop-taken.rest.now in
+    let taken = c.in_ok-taken.taken in
+    let few_left = still_few heard c.args.bytes.now i.front rest c.args.self.now.limits c.loop-taken.self.limits i.bytes_are i.limits few in
+    let done = done_all new (heard ++ i.front) rest (written ++ w.text) (into g.S.Sink.sink c.loop-taken.out c.step.new.out) taken c.in_ok-taken.told
+    (c.in_ok-taken.ensures.ends (heard ++ i.front) (written ++ w.text) w.is_open few_left) c.in-Done.is in
+    let few_now = still_few heard c.args.bytes.now i.front rest c.args.self.now.limits new.limits i.bytes_are (c.step.ensures.limits ∙ i.limits) few in (
+      answered_all new.query new.limits heard c.args.bytes.now i.front rest written (into g.S.Sink.sink c.args.out.now c.step.new.out) taken i.bytes_are few_now
+          (answered_after g.S.Sink.sink g.met.S.Sink.joins c.args.out.now c.loop-taken.out c.step.new.out written w.text w.put new.query ((heard ++ i.front) ++ take taken rest) done.0),
+      done.1,
+    )

@@ -1,0 +1,23 @@
+use Rattle.std.proofs.Common.{subst, ◌∙◌}
+use Rattle.std.proofs.lemmas.Result.{err_from_is_err_and}
+use Rattle.tg_body.specs.Bodies.{BodyText}
+use Rattle.tg_body.specs.History.{HasEndCause}
+use Rattle.tg_http.specs.declared.framing.Framing.{Framing}
+use Rattle.tg_streams.specs.Streams.{into}
+use Rattle.tg_fetch.proofs.Contents.{cut_refused, has_ended}
+use Rattle.tg_fetch.proofs.content.Content.end.Goals as goal
+
+pub returns-in_err-end-clause-ends : goal.returns-in_err-end-clause-ends
+returns-in_err-end-clause-ends g c q limits heard written h =
+    let p = err_from_is_err_and c.from_residual.result c.from_residual.ensures.1 in
+    let stopped = c.in_err-end.ensures.stands _ h.reads in
+    let fault = c.in_err-end.field-0.0 in
+    let cause : HasEndCause h.head.framing h.rest h.given fault =
+    subst (λ (f : Framing). HasEndCause f h.rest h.given fault) (c.in_err-end.ensures.framing ∙ h.framing) stopped.exact.stopped.1 in
+    rw (p.1, p.2)
+    (cut_refused q limits c.args.self.now heard written h c.standing_bodies.ensures _ g.S.Sink.sink c.args.out.now (g.met.S.Sink.rests c.args.out.now) fault cause)
+
+pub returns-clause-ends : goal.returns-clause-ends
+returns-clause-ends g c q limits heard written h =
+    has_ended q limits c.args.self.now heard written h (subst (λ (f : Framing). BodyText f h.given h.rest) h.framing (c.in_ok-end.ensures.whole _ h.reads))
+    (into g.S.Sink.sink c.args.out.now c.end-2.new.out) c.end-2.result (c.end-2.ensures.ends q limits h.head h.given written h.taking)

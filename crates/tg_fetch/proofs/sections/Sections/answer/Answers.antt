@@ -1,0 +1,5 @@
+use Rattle.std.proofs.Common.{rules, refl}
+use Rattle.tg_fetch.proofs.sections.Sections.answer.Goals as goal
+
+pub returns-in_ok-new-in-Raw : goal.returns-in_ok-new-in-Raw
+returns-in_ok-new-in-Raw c head is = (c.in_ok-new-in-Raw.ensures head is (search rules), refl)

@@ -1,0 +1,9 @@
+pub mod Faults
+pub mod HeadsStates
+pub mod Heads
+pub mod Bodies
+pub mod Replies
+pub mod Clients
+pub mod Calls
+pub mod Received
+pub mod Laws

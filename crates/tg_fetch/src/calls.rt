@@ -1,0 +1,153 @@
+//! A reply that is fetched over a dial.
+ghost use Rattle.std.specs.Prelude.{◌≡◌, ◌<◌, [], ℕ, List as Items, IfOk, Some, length};
+ghost use Rattle.tg_dials.specs.Dials.{at_dial};
+ghost use Rattle.tg_exchange.specs.Exchanges.{HasOneBlockEach};
+ghost use Rattle.tg_fetch.specs.Calls.{FetchEnds, LinkCalled, LinkHeard};
+ghost use Rattle.tg_fetch.specs.Clients.{StandsFor};
+ghost use Rattle.tg_fetch.specs.Faults.{QuietUnlessSink};
+ghost use Rattle.tg_fetch.specs.Laws.{IsAcceptedElse, TellsCarried};
+ghost use Rattle.tg_fetch.specs.Received.{SoundCall};
+ghost use Rattle.tg_links.specs.Steps.{link_step};
+ghost use Rattle.tg_model.specs.Answer.{answer};
+ghost use Rattle.tg_model.specs.Dag.{Dag, Section, root_cid};
+ghost use Rattle.tg_model.specs.Fits.{Fits};
+ghost use Rattle.tg_model.specs.Sound.{IsSound};
+ghost use Rattle.tg_model.specs.Traversal.{block_list};
+ghost use Rattle.tg_query.specs.Requests.{IsAddr};
+ghost use Rattle.tg_streams.specs.Streams.{into};
+ghost use Rattle.tg_verify.specs.Laws.{IsWithinLimits};
+
+use crate::client::Client;
+use crate::fault::FetchFault;
+use crate::laws;
+use std::alloc::{AllocError, Global};
+use tg_bytes::zeros;
+use tg_dials::Dial;
+use tg_links::Link;
+use tg_model::{Limits, Query};
+use tg_streams::{Sink, put_all};
+use tg_verify::Progress;
+
+/// How many bytes are taken from a link at once, at most.
+const PIECE_LEN: usize = 65_536;
+
+/// Fetches what a query asks for from the gateway at `addr`, which has the form HOST:PORT, and puts what it says: the
+/// peer is dialled, the request is put, the reply is fed to a client until it is whole or the link has ended, and the
+/// link is given back, whatever came of it. The query's root alone is trusted.
+///
+/// RFC 9112; Trustless Gateway specification. Errors: `PeerFault` where the dial or the link failed, and those of
+/// `Client::feed` and `Client::end`. What was put before stays.
+pub fn fetch<D: Dial, S: Sink>(
+    alloc: Global,
+    query: &Query,
+    limits: Limits,
+    addr: &str,
+    dial: &mut D,
+    out: &mut S,
+) -> Result<(), FetchFault>
+    requires { IsAddr addr.now }
+    // One call: what was said and heard, how it ended, and what that says of each sound DAG with the query's root.
+    ensures ends { FetchEnds query.now limits addr.now (at_dial D.dial dial.old dial.new) (into S.sink out.old out.new) result }
+    ensures cause { QuietUnlessSink (into S.sink out.old out.new) result }
+    // For each sound DAG with the query's root: what was put is its answer, or a front of it, and what a refusal says of it
+    // holds; or a block that was received in this call and one of the DAG are different bytes with one SHA-256.
+    ensures sound { SoundCall query.now limits (at_dial D.dial dial.old dial.new) (into S.sink out.old out.new) result }
+
+    // Where the dial tells the call, but for counted faults and want of memory: a reply that carries sections which fit is
+    // accepted, and their text is put; and so is one that carries the sections of a sound DAG's own traversal, of which no
+    // two different blocks stand under one CID.
+    ensures fitting { (d : Dag) (sections : Items Section) (text : Items ℕ) → Fits d query.now sections text
+        → IsWithinLimits query.now limits d → TellsCarried query.now limits (at_dial D.dial dial.old dial.new) sections
+        → IsAcceptedElse text (into S.sink out.old out.new) result }
+    ensures own { (d : Dag) (text : Items ℕ) → IsSound d → root_cid d ≡ query.now.root
+        → answer query.now d ≡ Some text → HasOneBlockEach d
+        → IsWithinLimits query.now limits d
+        → TellsCarried query.now limits (at_dial D.dial dial.old dial.new) (block_list query.now d)
+        → IsAcceptedElse text (into S.sink out.old out.new) result }
+{
+    tg_model_laws::own_sections();
+    tg_model_laws::against_every_peer();
+    laws::carried_replies();
+    let mut link = dial.dial(addr)?;
+    let end = call(alloc, query, limits, addr, &mut link, out);
+    dial.done(link);
+    end
+}
+
+/// Puts the request for a query into a link, through which nothing went yet, and feeds the reply to a client. Errors:
+/// those of `fetch`.
+fn call<K: Link, S: Sink>(
+    alloc: Global,
+    query: &Query,
+    limits: Limits,
+    addr: &str,
+    link: &mut K,
+    out: &mut S,
+) -> Result<(), FetchFault>
+    requires { IsAddr addr.now }
+    ensures called { LinkCalled query.now limits addr.now (link_step K.link K.Source.source link.old link.new) (into S.sink out.old out.new) result }
+    ensures cause { QuietUnlessSink (into S.sink out.old out.new) result }
+{
+    match begun(alloc, query, limits) {
+        Ok((client, room)) => {
+            let (mut client, mut room) = (client, room);
+            ask(&mut client, room.as_mut_slice(), addr, link, out)
+        }
+        Err(AllocError) => Err(FetchFault::OutOfMemory),
+    }
+}
+
+/// A new client, and the room into which the pieces are taken that it is fed. The error is want of memory.
+fn begun(alloc: Global, query: &Query, limits: Limits) -> Result<(Client, Vec<u8>), AllocError>
+    ensures query { IfOk result (λ begun. begun.0.query ≡ query.now) }
+    ensures limits { IfOk result (λ begun. begun.0.limits ≡ limits) }
+    ensures stands { IfOk result (λ begun. StandsFor begun.0 [] []) }
+    ensures room { IfOk result (λ begun. 0 < length begun.1.items) }
+{
+    Ok((Client::new(alloc, query, limits)?, zeros(alloc, PIECE_LEN)?))
+}
+
+/// Puts the request of a client, which is new, into a link, and feeds it the reply through this room. Errors: those of
+/// `fetch`.
+fn ask<K: Link, S: Sink>(
+    client: &mut Client,
+    room: &mut [u8],
+    addr: &str,
+    link: &mut K,
+    out: &mut S,
+) -> Result<(), FetchFault>
+    requires addr { IsAddr addr.now }
+    requires fresh { StandsFor client.old [] [] }
+    requires room { 0 < length room.old }
+    ensures called { LinkCalled client.old.query client.old.limits addr.now (link_step K.link K.Source.source link.old link.new) (into S.sink out.old out.new) result }
+    ensures cause { QuietUnlessSink (into S.sink out.old out.new) result }
+{
+    let request = client.request(addr)?;
+    put_all(link, request.as_slice())?;
+    hear(client, room, link, out)
+}
+
+/// Feeds a client, which is new, with what a link's peer says, through this room, until the reply is whole or the peer
+/// says no more. Errors: those of the client, and `PeerFault` where the link failed.
+fn hear<K: Link, S: Sink>(
+    client: &mut Client,
+    room: &mut [u8],
+    link: &mut K,
+    out: &mut S,
+) -> Result<(), FetchFault>
+    requires fresh { StandsFor client.old [] [] }
+    requires room { 0 < length room.old }
+    ensures heard { LinkHeard client.old.query client.old.limits (link_step K.link K.Source.source link.old link.new) (into S.sink out.old out.new) result }
+    ensures cause { QuietUnlessSink (into S.sink out.old out.new) result }
+{
+    tg_client::laws::standing_bodies();
+    loop {
+        let size = link.take(room)?;
+        if size == 0 {
+            return client.end(out);
+        }
+        if client.feed(&room[..size], out)? == Progress::Done {
+            return Ok(());
+        }
+    }
+}

@@ -1,0 +1,14 @@
+//! The client of a gateway, which trusts no server: a reply is read and verified while it comes.
+#![tactic(auto)]
+
+mod calls;
+mod client;
+mod content;
+mod fault;
+mod heads;
+pub mod laws;
+mod sections;
+
+pub use calls::fetch;
+pub use client::Client;
+pub use fault::FetchFault;

@@ -1,0 +1,194 @@
+//! The sections that a body carries for a query, verified while it comes.
+ghost use Rattle.std.specs.Prelude.{◌++◌, ◌≡◌, [], ℕ, List as Items, Err, IfOk, MatchResult, None};
+ghost use Rattle.tg_fetch.specs.Bodies.{BodyStops, EndsTaking, FrontAndSays, IsBlockFault, IsTaking, IsTakingAbsence};
+ghost use Rattle.tg_fetch.specs.Bodies.{IsTakingBlock, StopsTaking, TakesOn};
+ghost use Rattle.tg_fetch.specs.Faults.{QuietUnlessSink, absence_fault};
+ghost use Rattle.tg_heard.specs.Carried.{IsAbsenceHead, IsAnswerHead};
+ghost use Rattle.tg_http.specs.declared.reply.ReplyHead.{ReplyHead};
+ghost use Rattle.tg_model.specs.Dag.{Section};
+ghost use Rattle.tg_model.specs.LimitNumbers.{LimitNumbers};
+ghost use Rattle.tg_model.specs.Queries.{QueryParts};
+ghost use Rattle.tg_streams.specs.Streams.{into};
+ghost use Rattle.tg_verify.specs.Sound.{ForEachSound};
+
+use crate::fault::FetchFault;
+use std::alloc::{AllocError, Global};
+use std::mem;
+use tg_bytes::Bytes;
+use tg_cid::Cid;
+use tg_client::{CarBody, ClientFault};
+use tg_model::{Form, LimitKind, Limits, Query};
+use tg_streams::Sink;
+use tg_verify::{Nowhere, Refusal, Verifier};
+
+/// What a body is, as the head and the query say.
+///
+/// Trustless Gateway specification, response types.
+#[derive(Drop)]
+pub(crate) enum Sections {
+    /// The CAR that answers the query.
+    Answer(CarBody),
+    /// The CAR that shows that the query's path leads nowhere. Its text goes nowhere.
+    Absence(CarBody),
+    /// The root's block, as it is.
+    Block(RawBlock),
+}
+
+/// A raw block while it comes: all of it is kept, and it is verified once it is whole.
+#[derive(Drop)]
+pub(crate) struct RawBlock {
+    alloc: Global,
+    root: Cid,
+    verifier: Verifier,
+    most: u64,
+    bytes: Bytes,
+}
+
+impl Sections {
+    /// Those of the answer to a query, before the first byte of the body. The error is want of memory.
+    pub(crate) fn answer(
+        alloc: Global,
+        query: &Query,
+        limits: Limits,
+    ) -> Result<Sections, AllocError>
+        ensures { (head : ReplyHead) → IsAnswerHead query.now head
+            → IfOk result (λ sections. IsTaking query.now limits head sections [] []) }
+    {
+        match query.form() {
+            Form::Car => Ok(Sections::Answer(CarBody::new(alloc, query, limits)?)),
+            Form::Raw => Ok(Sections::Block(RawBlock::new(alloc, query, limits)?)),
+        }
+    }
+
+    /// Those that show that a query's path leads nowhere, before the first byte of the body. The error is want of
+    /// memory.
+    pub(crate) fn absence(
+        alloc: Global,
+        query: &Query,
+        limits: Limits,
+    ) -> Result<Sections, AllocError>
+        ensures { (head : ReplyHead) → IsAbsenceHead query.now head
+            → IfOk result (λ sections. IsTaking query.now limits head sections [] []) }
+    {
+        tg_client::laws::standing_bodies();
+        Ok(Sections::Absence(CarBody::absence(alloc, query, limits)?))
+    }
+
+    /// Takes a part of the body. Errors: those of `CarBody::feed`; of an absence `Status` with 404 once the terminal
+    /// came, whatever follows it; and of a raw block a `Limit` of kind `Block` where it is too large.
+    pub(crate) fn take<S: Sink>(&mut self, part: &[u8], out: &mut S) -> Result<(), FetchFault>
+        ensures takes { (q : QueryParts) (limits : LimitNumbers) (head : ReplyHead) (given written : Items ℕ)
+            → IsTaking q limits head self.old given written → MatchResult result
+            (λ _. TakesOn q limits head self.new (given ++ part.now) written (into S.sink out.old out.new))
+            (λ fault. StopsTaking q limits head (given ++ part.now) written (into S.sink out.old out.new) fault) }
+        ensures cause { (q : QueryParts) (limits : LimitNumbers) (head : ReplyHead) (given written : Items ℕ)
+            → IsTaking q limits head self.old given written → QuietUnlessSink (into S.sink out.old out.new) result }
+    {
+        match self {
+            Sections::Answer(body) => Ok(body.feed(part, out)?),
+            Sections::Absence(body) => show(body, part),
+            Sections::Block(block) => block.add(part),
+        }
+    }
+
+    /// Says that the body is whole, and puts what is put at its end. Errors: `Truncated` where a block is wanted, or
+    /// the CAR's header isn't whole; of an absence `Status` with 404 where the terminal came; and those of
+    /// `Verifier::start` and `Verifier::section` for a raw block.
+    pub(crate) fn end<S: Sink>(&mut self, out: &mut S) -> Result<(), FetchFault>
+        ensures ends { (q : QueryParts) (limits : LimitNumbers) (head : ReplyHead) (given written : Items ℕ)
+            → IsTaking q limits head self.old given written
+            → EndsTaking q limits head given written (into S.sink out.old out.new) result }
+        ensures cause { (q : QueryParts) (limits : LimitNumbers) (head : ReplyHead) (given written : Items ℕ)
+            → IsTaking q limits head self.old given written → QuietUnlessSink (into S.sink out.old out.new) result }
+    {
+        match self {
+            Sections::Answer(body) => Ok(body.end()?),
+            Sections::Absence(body) => {
+                body.end()?;
+                Err(FetchFault::Status(404))
+            }
+            Sections::Block(block) => block.verify(out),
+        }
+    }
+}
+
+/// Takes a part of the CAR that shows that a path leads nowhere. Errors: `Status` with 404 where it shows the terminal,
+/// whatever follows that; else those of `CarBody::feed`.
+fn show(body: &mut CarBody, part: &[u8]) -> Result<(), FetchFault>
+    ensures shows { (q : QueryParts) (limits : LimitNumbers) (head : ReplyHead) (given : Items ℕ)
+        → IsTakingAbsence q limits head body.old given → MatchResult result
+        (λ _. IsTakingAbsence q limits head body.new (given ++ part.now))
+        (λ fault. (sections : Items Section) × BodyStops q limits head (given ++ part.now) sections [] fault
+        × ForEachSound q (FrontAndSays q sections [] fault)) }
+    ensures cause { body.old.verifier.refused ≡ None → result ≡ Err (FetchFault.Refused Refusal.SinkFault) → ⊥ }
+{
+    tg_client::laws::standing_bodies();
+    match body.feed(part, &mut Nowhere {}) {
+        Ok(()) if body.is_whole() => Err(FetchFault::Status(404)),
+        Ok(()) => Ok(()),
+        Err(fault) => Err(shown_by(fault)),
+    }
+}
+
+/// The fault of a CAR that shows that a path leads nowhere: `Status` with 404 where bytes follow the terminal's section.
+fn shown_by(fault: ClientFault) -> FetchFault
+    ensures { result ≡ absence_fault fault }
+{
+    match fault {
+        ClientFault::Refused(refusal) => match refusal {
+            Refusal::Extra { .. } => FetchFault::Status(404),
+            refusal => FetchFault::Refused(refusal),
+        },
+        ClientFault::BadCar(car) => FetchFault::BadCar(car),
+        ClientFault::InputFault => FetchFault::PeerFault,
+        ClientFault::OutOfMemory => FetchFault::OutOfMemory,
+    }
+}
+
+impl RawBlock {
+    /// The block before its first byte. The error is want of memory.
+    fn new(alloc: Global, query: &Query, limits: Limits) -> Result<RawBlock, AllocError>
+        ensures { (head : ReplyHead) → IsAnswerHead query.now head → query.now.form ≡ Form.Raw
+            → IfOk result (λ raw. IsTakingBlock query.now limits head raw []) }
+    {
+        Ok(RawBlock {
+            alloc,
+            root: query.root(),
+            verifier: Verifier::new(alloc, query, limits)?,
+            most: limits.number(LimitKind::Block),
+            bytes: Bytes::new(alloc),
+        })
+    }
+
+    /// Keeps bytes of the block. Errors: a `Limit` of kind `Block` where it has more of them than may be, and
+    /// `OutOfMemory`.
+    fn add(&mut self, part: &[u8]) -> Result<(), FetchFault>
+        ensures { (q : QueryParts) (limits : LimitNumbers) (head : ReplyHead) (given : Items ℕ)
+            → IsTakingBlock q limits head self.old given → MatchResult result
+            (λ _. IsTakingBlock q limits head self.new (given ++ part.now))
+            (IsBlockFault limits (given ++ part.now)) }
+    {
+        let size = self.bytes.as_slice().len() as u64;
+        if part.len() as u64 > self.most - size.min(self.most) {
+            return Err(FetchFault::Refused(Refusal::Limit {
+                kind: LimitKind::Block,
+                number: self.most,
+            }));
+        }
+        Ok(self.bytes.push_all(part)?)
+    }
+
+    /// Verifies the block, which is whole, and puts what it says. Errors: those of the verifier.
+    fn verify<S: Sink>(&mut self, out: &mut S) -> Result<(), FetchFault>
+        ensures ends { (q : QueryParts) (limits : LimitNumbers) (head : ReplyHead) (given : Items ℕ)
+            → IsTakingBlock q limits head self.old given
+            → EndsTaking q limits head given [] (into S.sink out.old out.new) result }
+        ensures cause { self.old.verifier.refused ≡ None → QuietUnlessSink (into S.sink out.old out.new) result }
+    {
+        tg_verify::laws::verified_answers();
+        self.verifier.start(out)?;
+        let block = mem::replace(&mut self.bytes, Bytes::new(self.alloc));
+        self.verifier.section(self.root, block, out)?;
+        Ok(self.verifier.finish()?)
+    }
+}
