@@ -1,6 +1,5 @@
 -- What each exit status says, from how the words end.
-use Rattle.std.proofs.Common.{◌+◌, ◌≡◌, ◌≢◌, ℕ, ◌<◌, ◌≤◌, ◌⊎◌, inl, inr, List, [], ◌∷◌, ◌++◌, length, Option, Some, None, Err, refl, sym, ap, ◌∙◌, subst, arith, append-nil, length-append, nat_eq, true, false}
-use Rattle.std.proofs.lemmas.Bool.{eq-eqb}
+use Rattle.std.proofs.Common.{◌+◌, ◌≡◌, ◌≢◌, ℕ, ◌<◌, ◌≤◌, ◌⊎◌, inl, inr, List, [], ◌∷◌, ◌++◌, length, Option, Some, None, Err, refl, sym, ap, ◌∙◌, subst, arith, append-nil, length-append, nat_eq, false}
 use Rattle.std.proofs.lemmas.Bool.Decides.{eqb_tells}
 use Rattle.tg_bytes.specs.Told.{after_front, IsNothing}
 use Rattle.tg_cid.specs.Cid.{CidParts}
@@ -10,7 +9,7 @@ use Rattle.tg_cid.specs.declared.cid.HashKind.TheVariants.{Sha256, Identity}
 use Rattle.tg_words.specs.CommandLine.{CommandLine}
 use Rattle.tg_words.specs.ImportLines.{ImportParts}
 use Rattle.tg_words.specs.declared.Command.{Command}
-use Rattle.tg_words.specs.declared.Command.TheVariants.{Check, Node, CidToHex, CidToText, Export, Import, Serve, Verify}
+use Rattle.tg_words.specs.declared.Command.TheVariants.{Check, Node, CidToHex, CidToText, Export, Fetch, Import, Serve, Verify}
 use Rattle.tg_export.specs.Cars.{CarEnds}
 use Rattle.tg_export.specs.Packed.{ExportEnds, HasPackedCause, IsExportedElse}
 use Rattle.tg_export.specs.declared.fault.ExportFault.{ExportFault}
@@ -34,14 +33,15 @@ use Rattle.tg_app.specs.Blocks.{OutputUntouched, PassedLimit, TookBlock}
 use Rattle.tg_app.specs.Check.{Checked, CheckedOther, CheckEnds, CollisionPair, Agrees, CheckStatus}
 use Rattle.tg_app.specs.Node.{Noded, NodedOther, NodeEnds, HasText, HasNoText, NodeStatus}
 use Rattle.tg_app.specs.CidLines.{HexLine, PrintEnds, PutsLine, TextLine}
-use Rattle.tg_app.specs.Commands.{AllUntouched, CommandEnds, Ends, IsNoCommand, NoCommandEnds, ReadsBlock, UsesNoDoor, UsesNoFiles, WantsMemory}
+use Rattle.tg_app.specs.Commands.{AllUntouched, CommandEnds, Ends, IsNoCommand, NoCommandEnds, NoMemoryEnds, ReadsBlock, UsesNoDial, UsesNoDoor, UsesNoFiles, WantsMemory}
 use Rattle.tg_app.specs.Exports.{ExportAnswers, Exported, ExportedNothing, HasAnswer, IsExportRefusal, IsRisen, LeadsNowhere, TellsExport}
 use Rattle.tg_app.specs.Imports.{ImportAnswers, Imported, IsGoodFolder, IsImportRefusal, options_of, refusal_of_import}
 use Rattle.tg_app.specs.Objects.{Files, Objects, SameFiles}
 use Rattle.tg_app.specs.declared.fault.CommandFault.{CommandFault}
 use Rattle.tg_app.specs.declared.fault.CommandFault.TheVariants.{Usage, BadDigest, BadBlock, BlockLimit, InputFault, SinkFault, OutOfMemory}
 use Rattle.tg_app.proofs.ServeEndings.{no_serve_usage, serve_quiet}
-use Rattle.tg_app.proofs.Statuses.{not_zero}
+use Rattle.tg_app.proofs.FetchEndings.{fetch_fault, fetch_quiet, no_fetch_usage}
+use Rattle.tg_app.proofs.Statuses.{differs, not_zero}
 use Rattle.tg_app.proofs.VerifyEndings.{no_verify_usage, unverified, verify_fault, verify_quiet}
 
 -- ---- the command that the words spell
@@ -53,30 +53,36 @@ not_imported : (parts : ImportParts) (files : Files) (out : Output) → SameFile
 not_imported parts files out same unput =
     inr (inr (record { same_folder = same.folder; same_pack = same.pack; unput = unput; is = refl }))
 
-memory_ends : (words : List (List ℕ)) (command : Command) (objects : Objects) → CommandLine words command → AllUntouched objects
+memory_ends : (words : List (List ℕ)) (command : Command) (objects : Objects) → UsesNoDial command → CommandLine words command → AllUntouched objects
     → CommandEnds command objects (Some OutOfMemory)
-memory_ends words (Check cid) objects line all = (all.files, all.streams)
-memory_ends words (Node cid) objects line all = (all.files, inl all.streams)
-memory_ends words (CidToHex cid) objects line all = (all.files, all.streams.untaken, all.streams.unput)
-memory_ends words (CidToText cid) objects line all = (all.files, all.streams.untaken, all.streams.unput)
-memory_ends words (Export parts) objects line all =
+memory_ends words (Check cid) objects uses line all = (all.files, all.streams)
+memory_ends words (Node cid) objects uses line all = (all.files, inl all.streams)
+memory_ends words (CidToHex cid) objects uses line all = (all.files, all.streams.untaken, all.streams.unput)
+memory_ends words (CidToText cid) objects uses line all = (all.files, all.streams.untaken, all.streams.unput)
+memory_ends words (Export parts) objects uses line all =
     (all.files.folder, all.streams.untaken, unbegun objects.files.pack objects.files.same_pack objects.out parts.pack parts.query all.files.pack all.streams.unput)
-memory_ends words (Import parts) objects line all = (all.streams.untaken, not_imported parts objects.files objects.out all.files all.streams.unput)
-memory_ends words (Verify q) objects line all = (all.files, unverified q objects.input objects.out all.streams)
-memory_ends words (Serve parts) objects line all =
+memory_ends words (Import parts) objects uses line all = (all.streams.untaken, not_imported parts objects.files objects.out all.files all.streams.unput)
+memory_ends words (Verify q) objects uses line all = (all.files, unverified q objects.input objects.out all.streams)
+memory_ends words (Serve parts) objects uses line all =
     (all.files.folder, all.streams.untaken, inr (inr (record { same = all.files.pack; unput = all.streams.unput; same_door = all.door; end_is = refl })))
+memory_ends words (Fetch parts) objects uses line all = absurd uses
 
-pub ends_of : (words : List (List ℕ)) (command : Command) (objects : Objects) (end : Option CommandFault) → CommandLine words command
+-- a command that is handed no dial ends as itself where no memory is found for its words
+pub ends_of : (words : List (List ℕ)) (command : Command) (objects : Objects) (end : Option CommandFault) → UsesNoDial command → CommandLine words command
     → Ends words objects end → CommandEnds command objects end
-ends_of words command objects end line (inl none) = absurd (none.none command line)
-ends_of words command objects end line (inr (inl memory)) =
-    subst (CommandEnds command objects) (sym memory.end_is) (memory_ends words command objects line memory.untouched)
-ends_of words command objects end line (inr (inr did)) = subst (λ (k : Command). CommandEnds k objects end) (did.the.only command line) did.ends
+ends_of words command objects end uses line (inl none) = absurd (none.none command line)
+ends_of words command objects end uses line (inr (inl memory)) =
+    subst (CommandEnds command objects) (sym memory.end_is) (memory_ends words command objects uses line memory.untouched)
+ends_of words command objects end uses line (inr (inr did)) = subst (λ (k : Command). CommandEnds k objects end) (did.the.only command line) did.ends
+
+-- and each command ends as itself, or no memory was found for its words
+pub did_of : (words : List (List ℕ)) (command : Command) (objects : Objects) (end : Option CommandFault) → CommandLine words command
+    → Ends words objects end → NoMemoryEnds objects end ⊎ CommandEnds command objects end
+did_of words command objects end line (inl none) = absurd (none.none command line)
+did_of words command objects end line (inr (inl memory)) = inl memory
+did_of words command objects end line (inr (inr did)) = inr (subst (λ (k : Command). CommandEnds k objects end) (did.the.only command line) did.ends)
 
 -- ---- statuses that differ
-
-differs : (m n : ℕ) → nat_eq m n ≡ false → m ≡ n → ⊥
-differs m n apart e = let same : nat_eq m n ≡ true = eq-eqb m n e in cc
 
 usage_differs : (refusal : CommandFault) → nat_eq 2 (status_of refusal) ≡ false → Usage ≡ refusal → ⊥
 usage_differs refusal apart e = differs 2 (status_of refusal) apart (ap status_of e)
@@ -171,6 +177,7 @@ no_usage (Export parts) objects ends = no_export_usage parts.pack parts.query ob
 no_usage (Import parts) objects ends = no_import_usage parts objects.files objects.out ends.1
 no_usage (Verify q) objects ends = no_verify_usage q objects.input objects.out ends.1
 no_usage (Serve parts) objects ends = no_serve_usage parts objects.files.pack objects.files.same_pack objects.out objects.door ends.2
+no_usage (Fetch parts) objects ends = no_fetch_usage parts objects.dial.dialling objects.out ends.2
 
 memory_isnt_2 : (end : Option CommandFault) → end ≡ Some OutOfMemory → exit_status end ≡ 2 → ⊥
 memory_isnt_2 end e two = let eight : exit_status (Some OutOfMemory) ≡ 2 = sym (ap exit_status e) ∙ two in cc
@@ -193,15 +200,21 @@ refused_of words objects end never (inr (inr did)) = absurd (never did.command d
 
 -- ---- commands over blocks
 
-pub kept_of : (command : Command) (objects : Objects) (end : Option CommandFault) → UsesNoFiles command → CommandEnds command objects end → SameFiles objects.files
-kept_of (Check cid) objects end uses ends = ends.0
-kept_of (Node cid) objects end uses ends = ends.0
-kept_of (CidToHex cid) objects end uses ends = ends.0
-kept_of (CidToText cid) objects end uses ends = ends.0
-kept_of (Verify q) objects end uses ends = ends.0
-kept_of (Export parts) objects end uses ends = absurd uses
-kept_of (Import parts) objects end uses ends = absurd uses
-kept_of (Serve parts) objects end uses ends = absurd uses
+command_kept : (command : Command) (objects : Objects) (end : Option CommandFault) → UsesNoFiles command → CommandEnds command objects end → SameFiles objects.files
+command_kept (Check cid) objects end uses ends = ends.0
+command_kept (Node cid) objects end uses ends = ends.0
+command_kept (CidToHex cid) objects end uses ends = ends.0
+command_kept (CidToText cid) objects end uses ends = ends.0
+command_kept (Verify q) objects end uses ends = ends.0
+command_kept (Export parts) objects end uses ends = absurd uses
+command_kept (Import parts) objects end uses ends = absurd uses
+command_kept (Serve parts) objects end uses ends = absurd uses
+command_kept (Fetch parts) objects end uses ends = ends.0
+
+pub kept_of : (words : List (List ℕ)) (command : Command) (objects : Objects) (end : Option CommandFault) → CommandLine words command → UsesNoFiles command
+    → Ends words objects end → SameFiles objects.files
+kept_of words command objects end line uses ends =
+    elim (did_of words command objects end line ends) [ inl memory ↦ memory.untouched.files | inr did ↦ command_kept command objects end uses did ]
 
 -- a command that is handed no door leaves it as it was
 pub kept_door_of : (words : List (List ℕ)) (command : Command) (objects : Objects) (end : Option CommandFault) → CommandLine words command → UsesNoDoor command
@@ -209,6 +222,13 @@ pub kept_door_of : (words : List (List ℕ)) (command : Command) (objects : Obje
 kept_door_of words command objects end line uses (inl none) = none.untouched.door
 kept_door_of words command objects end line uses (inr (inl memory)) = memory.untouched.door
 kept_door_of words command objects end line uses (inr (inr did)) = did.door (subst UsesNoDoor (sym (did.the.only command line)) uses)
+
+-- nor one that is handed no dial the dial
+pub kept_dial_of : (words : List (List ℕ)) (command : Command) (objects : Objects) (end : Option CommandFault) → CommandLine words command → UsesNoDial command
+    → Ends words objects end → objects.dial.same_dial
+kept_dial_of words command objects end line uses (inl none) = none.untouched.dial
+kept_dial_of words command objects end line uses (inr (inl memory)) = memory.untouched.dial
+kept_dial_of words command objects end line uses (inr (inr did)) = did.dial (subst UsesNoDial (sym (did.the.only command line)) uses)
 
 check_fault : (cid : CidParts) (input : Input) (out : Output) (end : Option CommandFault) → exit_status end ≡ 6 → CheckEnds cid input out end → InputRose input ⊎ OutputRose out
 check_fault cid input out (Some InputFault) e ends = inl ends.0.rose
@@ -235,16 +255,26 @@ print_fault IsLine out (Some OutOfMemory) e ends = absurd (differs _ _ refl e)
 print_fault IsLine out None e ends = absurd (differs _ _ refl e)
 print_fault IsLine out (Some refusal) e ends = absurd ends
 
-pub fault_of : (command : Command) (objects : Objects) (end : Option CommandFault) → UsesNoFiles command → exit_status end ≡ 6 → CommandEnds command objects end
+command_fault : (command : Command) (objects : Objects) (end : Option CommandFault) → UsesNoFiles command → exit_status end ≡ 6 → CommandEnds command objects end
     → InputRose objects.input ⊎ OutputRose objects.out
-fault_of (Check cid) objects end uses e ends = check_fault cid objects.input objects.out end e ends.1
-fault_of (Node cid) objects end uses e ends = node_fault cid objects.input objects.out end e ends.1
-fault_of (CidToHex cid) objects end uses e ends = inr (print_fault (HexLine cid) objects.out end e ends.2)
-fault_of (CidToText cid) objects end uses e ends = inr (print_fault (TextLine cid) objects.out end e ends.2)
-fault_of (Verify q) objects end uses e ends = verify_fault q objects.input objects.out end e ends.1
-fault_of (Export parts) objects end uses e ends = absurd uses
-fault_of (Import parts) objects end uses e ends = absurd uses
-fault_of (Serve parts) objects end uses e ends = absurd uses
+command_fault (Check cid) objects end uses e ends = check_fault cid objects.input objects.out end e ends.1
+command_fault (Node cid) objects end uses e ends = node_fault cid objects.input objects.out end e ends.1
+command_fault (CidToHex cid) objects end uses e ends = inr (print_fault (HexLine cid) objects.out end e ends.2)
+command_fault (CidToText cid) objects end uses e ends = inr (print_fault (TextLine cid) objects.out end e ends.2)
+command_fault (Verify q) objects end uses e ends = verify_fault q objects.input objects.out end e ends.1
+command_fault (Export parts) objects end uses e ends = absurd uses
+command_fault (Import parts) objects end uses e ends = absurd uses
+command_fault (Serve parts) objects end uses e ends = absurd uses
+command_fault (Fetch parts) objects end uses e ends = inr (fetch_fault parts objects.dial.dialling objects.out end e ends.2)
+
+-- want of memory has status 8
+pub memory_isnt : (objects : Objects) (end : Option CommandFault) (n : ℕ) → nat_eq 8 n ≡ false → exit_status end ≡ n → NoMemoryEnds objects end → ⊥
+memory_isnt objects end n apart e memory = differs 8 n apart (sym (ap exit_status memory.end_is) ∙ e)
+
+pub fault_of : (words : List (List ℕ)) (command : Command) (objects : Objects) (end : Option CommandFault) → CommandLine words command → UsesNoFiles command → exit_status end ≡ 6
+    → Ends words objects end → InputRose objects.input ⊎ OutputRose objects.out
+fault_of words command objects end line uses e ends =
+    elim (did_of words command objects end line ends) [ inl memory ↦ absurd (memory_isnt objects end 6 refl e memory) | inr did ↦ command_fault command objects end uses e did ]
 
 check_passed : (cid : CidParts) (input : Input) (out : Output) (end : Option CommandFault) → exit_status end ≡ 7 → CheckEnds cid input out end → PassedLimit input × OutputUntouched out
 check_passed cid input out (Some InputFault) e ends = absurd (differs _ _ refl e)
@@ -265,16 +295,22 @@ node_passed cid input out (Some (BadBlock text fault)) e ends = absurd (differs 
 node_passed cid input out None e ends = absurd (differs _ _ refl e)
 node_passed cid input out (Some refusal) e ends = absurd ends.0
 
-pub passed_of : (command : Command) (objects : Objects) (end : Option CommandFault) → ReadsBlock command → exit_status end ≡ 7 → CommandEnds command objects end
+command_passed : (command : Command) (objects : Objects) (end : Option CommandFault) → ReadsBlock command → exit_status end ≡ 7 → CommandEnds command objects end
     → PassedLimit objects.input × OutputUntouched objects.out
-passed_of (Check cid) objects end reads e ends = check_passed cid objects.input objects.out end e ends.1
-passed_of (Node cid) objects end reads e ends = node_passed cid objects.input objects.out end e ends.1
-passed_of (CidToHex cid) objects end reads e ends = absurd reads
-passed_of (CidToText cid) objects end reads e ends = absurd reads
-passed_of (Export parts) objects end reads e ends = absurd reads
-passed_of (Import parts) objects end reads e ends = absurd reads
-passed_of (Verify q) objects end reads e ends = absurd reads
-passed_of (Serve parts) objects end reads e ends = absurd reads
+command_passed (Check cid) objects end reads e ends = check_passed cid objects.input objects.out end e ends.1
+command_passed (Node cid) objects end reads e ends = node_passed cid objects.input objects.out end e ends.1
+command_passed (CidToHex cid) objects end reads e ends = absurd reads
+command_passed (CidToText cid) objects end reads e ends = absurd reads
+command_passed (Export parts) objects end reads e ends = absurd reads
+command_passed (Import parts) objects end reads e ends = absurd reads
+command_passed (Verify q) objects end reads e ends = absurd reads
+command_passed (Serve parts) objects end reads e ends = absurd reads
+command_passed (Fetch parts) objects end reads e ends = absurd reads
+
+pub passed_of : (words : List (List ℕ)) (command : Command) (objects : Objects) (end : Option CommandFault) → CommandLine words command → ReadsBlock command → exit_status end ≡ 7
+    → Ends words objects end → PassedLimit objects.input × OutputUntouched objects.out
+passed_of words command objects end line reads e ends =
+    elim (did_of words command objects end line ends) [ inl memory ↦ absurd (memory_isnt objects end 7 refl e memory) | inr did ↦ command_passed command objects end reads e did ]
 
 -- ---- faults that weren't counted
 
@@ -358,6 +394,7 @@ command_quiet (Export parts) objects end ne ends = (ends.1.quiet, export_quiet p
 command_quiet (Import parts) objects end ne ends = (ends.0.quiet, import_quiet parts objects.files objects.out end ne ends.1)
 command_quiet (Verify q) objects end ne ends = verify_quiet q objects.input objects.out end ne ends.1
 command_quiet (Serve parts) objects end ne ends = (ends.1.quiet, serve_quiet parts objects.files.pack objects.files.same_pack objects.out objects.door end ne ends.2)
+command_quiet (Fetch parts) objects end ne ends = (ends.1.quiet, fetch_quiet parts objects.dial.dialling objects.out end ne ends.2)
 
 pub quiet_of : (words : List (List ℕ)) (objects : Objects) (end : Option CommandFault) → exit_status end ≢ 6 → Ends words objects end
     → InputQuiet objects.input × OutputQuiet objects.out

@@ -3,6 +3,7 @@ mod Endings
 mod ExportSteps
 mod ImportSteps
 mod VerifyEndings
+mod FetchEndings
 mod VerifySteps
 mod OwnBlocks
 mod OwnCars
@@ -11,3 +12,4 @@ mod OwnDone
 mod ServeSteps
 mod ServeEndings
 mod Running
+mod FetchSteps

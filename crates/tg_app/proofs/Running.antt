@@ -1,6 +1,8 @@
 -- What a run says, from how its words end.
-use Rattle.std.proofs.Common.{Option, subst, sym, ◌∙◌, ◌≡◌, ◌⊎◌, ℕ}
-use Rattle.tg_app.proofs.Endings.{agrees, answered_of, checked_of, ends_of, export_answered_of, exported_of, fault_of, import_answered_of, imported_of, kept_door_of, kept_of, memory_of, node_answered_of, node_other_of, noded_of, nowhere_of, other_of, passed_of, printed_of, quiet_of, refused_of, untouched_of, usage_of}
+use Rattle.std.proofs.Common.{Option, ap, inl, inr, refl, subst, sym, ◌∙◌, ◌≡◌, ◌⊎◌, ℕ}
+use Rattle.tg_app.proofs.Endings.{agrees, answered_of, checked_of, did_of, ends_of, export_answered_of, exported_of, fault_of, import_answered_of, imported_of, kept_dial_of, kept_door_of, kept_of}
+use Rattle.tg_app.proofs.Endings.{memory_isnt, memory_of, node_answered_of, node_other_of, noded_of, nowhere_of, other_of, passed_of, printed_of, quiet_of, refused_of, untouched_of, usage_of}
+use Rattle.tg_app.proofs.FetchEndings.{fetch_answered_of, fetch_other_of, fetch_rose_of, fetch_vouched_of, fetched_of}
 use Rattle.tg_app.proofs.OwnCars.{AttachAlike, own_car_of}
 use Rattle.tg_app.proofs.OwnAnswers.{AnswerTexts, own_answer_of}
 use Rattle.tg_app.proofs.OwnDone.{DoneLaws, has_answer}
@@ -8,27 +10,29 @@ use Rattle.tg_app.proofs.ServeEndings.{NoneCaused, door_fault_of, serve_answered
 use Rattle.tg_app.proofs.VerifyEndings.{verified_of, verify_answered_of, vouched_of}
 use Rattle.tg_app.specs.Check.{CheckStatus}
 use Rattle.tg_app.specs.CidLines.{HexLine, TextLine}
-use Rattle.tg_app.specs.Commands.{CommandEnds, Ends}
+use Rattle.tg_app.specs.Commands.{CommandEnds, Ends, NoMemoryEnds, UsesNoDial}
 use Rattle.tg_app.specs.Lines.{Says, exit_status}
 use Rattle.tg_app.specs.Node.{NodeStatus}
-use Rattle.tg_app.specs.Runs.{Asks, CheckRun, CidHexRun, CidTextRun, ExportRun, ImportRun, NodeRun, Run, Runs, ServeRun, VerifyRun, WordsRun}
+use Rattle.tg_app.specs.Runs.{Asks, CheckRun, CidHexRun, CidTextRun, ExportRun, FetchRun, ImportRun, NodeRun, Run, Runs, ServeRun, VerifyRun, WordsRun}
 use Rattle.tg_app.specs.declared.fault.CommandFault.{CommandFault}
 use Rattle.tg_cid.specs.Cid.{CidParts}
 use Rattle.tg_model.specs.Queries.{QueryParts}
 use Rattle.tg_model_laws.specs.Depths.{CutsAtDepths, ShowsDownTo}
+use Rattle.tg_streams.specs.Streams.{Put}
 use Rattle.tg_verify.specs.Laws.{AnswerIsFront, ThroughFits}
 use Rattle.tg_words.specs.ExportLines.{ExportParts}
+use Rattle.tg_words.specs.FetchLines.{FetchParts}
 use Rattle.tg_words.specs.ImportLines.{ImportParts}
 use Rattle.tg_words.specs.ServeLines.{ServeParts}
 use Rattle.tg_words.specs.declared.Command.{Command}
-use Rattle.tg_words.specs.declared.Command.TheVariants.{Check, CidToHex, CidToText, Export, Import, Node, Serve, Verify}
+use Rattle.tg_words.specs.declared.Command.TheVariants.{Check, CidToHex, CidToText, Export, Fetch, Import, Node, Serve, Verify}
 
 -- how the words of a run end, its status and its line
 module _ (run : Run) (end : Option CommandFault) (through : ThroughFits) (front : AnswerIsFront)
     (cuts : CutsAtDepths) (shows : ShowsDownTo) (alike : AttachAlike) (uncaused : NoneCaused) (texts : AnswerTexts) (dones : DoneLaws)
     (status : run.status ≡ exit_status end) (line : Says end run.err) (ends : Ends run.words run.objects end) where
-  by : (command : Command) → Asks run command → CommandEnds command run.objects end
-  by command asked = ends_of run.words command run.objects end asked ends
+  by : (command : Command) → UsesNoDial command → Asks run command → CommandEnds command run.objects end
+  by command uses asked = ends_of run.words command run.objects end uses asked ends
 
   has : {n : ℕ} → run.status ≡ n → exit_status end ≡ n
   has e = sym status ∙ e
@@ -40,17 +44,18 @@ module _ (run : Run) (end : Option CommandFault) (through : ThroughFits) (front 
     no_command = λ none. subst (λ (n : ℕ). (n ≡ 2) ⊎ (n ≡ 8)) (sym status) (refused_of run.words run.objects end none ends);
     untouched = λ two. untouched_of run.words run.objects end (has two) ends;
     memory = λ eight. memory_of run.words run.objects end (has eight) ends;
-    kept = λ command asked uses. kept_of command run.objects end uses (by command asked);
+    kept = λ command asked uses. kept_of run.words command run.objects end asked uses ends;
     kept_door = λ command asked uses. kept_door_of run.words command run.objects end asked uses ends;
-    fault = λ command asked uses six. fault_of command run.objects end uses (has six) (by command asked);
+    kept_dial = λ command asked uses. kept_dial_of run.words command run.objects end asked uses ends;
+    fault = λ command asked uses six. fault_of run.words command run.objects end asked uses (has six) ends;
     quiet_input = λ ne. (quiet_of run.words run.objects end (λ six. ne (status ∙ six)) ends).0;
     quiet_output = λ ne. (quiet_of run.words run.objects end (λ six. ne (status ∙ six)) ends).1;
-    passed = λ command asked reads seven. passed_of command run.objects end reads (has seven) (by command asked);
+    passed = λ command asked reads seven. passed_of run.words command run.objects end asked reads (has seven) ends;
   }
 
   check_run : (cid : CidParts) → Asks run (Check cid) → CheckRun cid run
   check_run cid asked =
-      let did = (by (Check cid) asked).1 in
+      let did = (by (Check cid) tt asked).1 in
       record {
         ends = (end, status, did, line);
         checked = λ zero. checked_of cid run.objects.input run.objects.out end (has zero) did;
@@ -63,7 +68,7 @@ module _ (run : Run) (end : Option CommandFault) (through : ThroughFits) (front 
 
   node_run : (cid : CidParts) → Asks run (Node cid) → NodeRun cid run
   node_run cid asked =
-      let did = (by (Node cid) asked).1 in
+      let did = (by (Node cid) tt asked).1 in
       record {
         ends = (end, status, did, line);
         noded = λ zero. noded_of cid run.objects.input run.objects.out end (has zero) did;
@@ -74,17 +79,17 @@ module _ (run : Run) (end : Option CommandFault) (through : ThroughFits) (front 
 
   cid_hex_run : (cid : CidParts) → Asks run (CidToHex cid) → CidHexRun cid run
   cid_hex_run cid asked =
-      let did = by (CidToHex cid) asked in
+      let did = by (CidToHex cid) tt asked in
       record { ends = (end, status, did, line); put = λ zero. printed_of (HexLine cid) run.objects.out end (has zero) did.2 }
 
   cid_text_run : (cid : CidParts) → Asks run (CidToText cid) → CidTextRun cid run
   cid_text_run cid asked =
-      let did = by (CidToText cid) asked in
+      let did = by (CidToText cid) tt asked in
       record { ends = (end, status, did, line); put = λ zero. printed_of (TextLine cid) run.objects.out end (has zero) did.2 }
 
   export_run : (parts : ExportParts) → Asks run (Export parts) → ExportRun parts run
   export_run parts asked =
-      let did = by (Export parts) asked in
+      let did = by (Export parts) tt asked in
       let pack = run.objects.files.pack in
       let same = run.objects.files.same_pack in
       record {
@@ -101,7 +106,7 @@ module _ (run : Run) (end : Option CommandFault) (through : ThroughFits) (front 
 
   import_run : (parts : ImportParts) → Asks run (Import parts) → ImportRun parts run
   import_run parts asked =
-      let did = by (Import parts) asked in
+      let did = by (Import parts) tt asked in
       let files = run.objects.files in
       record {
         ends = (end, status, did, line);
@@ -112,7 +117,7 @@ module _ (run : Run) (end : Option CommandFault) (through : ThroughFits) (front 
 
   verify_run : (q : QueryParts) → Asks run (Verify q) → VerifyRun q run
   verify_run q asked =
-      let did = by (Verify q) asked in
+      let did = by (Verify q) tt asked in
       record {
         ends = (end, status, did, line);
         verified = λ zero. verified_of q run.objects.input run.objects.out end through (has zero) did.1;
@@ -124,7 +129,7 @@ module _ (run : Run) (end : Option CommandFault) (through : ThroughFits) (front 
 
   serve_run : (parts : ServeParts) → Asks run (Serve parts) → ServeRun parts run
   serve_run parts asked =
-      let did = by (Serve parts) asked in
+      let did = by (Serve parts) tt asked in
       let pack = run.objects.files.pack in
       let same = run.objects.files.same_pack in
       record {
@@ -134,6 +139,33 @@ module _ (run : Run) (end : Option CommandFault) (through : ThroughFits) (front 
         answered = λ good no_pack no_door no_out. subst (λ (n : ℕ). (n ≡ 8) ⊎ ((n ≡ 7) ⊎ (n ≡ 0))) (sym status)
             (serve_answered_of uncaused parts pack same run.objects.out run.objects.door end good no_pack no_door no_out did.2);
       }
+
+  fetch_run : (parts : FetchParts) → Asks run (Fetch parts) → FetchRun parts run
+  fetch_run parts asked = by_did (did_of run.words (Fetch parts) run.objects end asked ends)
+    where
+      by_did : NoMemoryEnds run.objects end ⊎ CommandEnds (Fetch parts) run.objects end → FetchRun parts run
+      by_did (inl memory) =
+          let eight = status ∙ ap exit_status memory.end_is in
+          record {
+            ends = (end, status, inl memory, line);
+            fetched = λ zero. absurd (memory_isnt run.objects end 0 refl (has zero) memory);
+            other = λ four. absurd (memory_isnt run.objects end 4 refl (has four) memory);
+            dial_fault = λ five. absurd (memory_isnt run.objects end 5 refl (has five) memory);
+            answered = λ text good no_dial no_out. inl eight;
+            vouched_answer = λ d sound root. inl (eight, memory.untouched);
+          }
+      by_did (inr did) =
+          let dial = run.objects.dial.dialling in
+          let out = run.objects.out in
+          record {
+            ends = (end, status, inr did, line);
+            fetched = λ zero. fetched_of parts dial out end (has zero) did.2;
+            other = λ four. fetch_other_of parts dial out end (has four) did.2;
+            dial_fault = λ five. fetch_rose_of parts dial out end (has five) did.2;
+            answered = λ text good no_dial no_out. subst (λ (n : ℕ). (n ≡ 8) ⊎ ((n ≡ 0) × Put text out)) (sym status)
+                (fetch_answered_of parts dial out end text good no_dial no_out did.2);
+            vouched_answer = λ d sound root. inr (fetch_vouched_of front parts d dial out run.err run.status end sound root status line did.2);
+          }
 
   pub runs : Runs run
   runs = record {
@@ -146,4 +178,5 @@ module _ (run : Run) (end : Option CommandFault) (through : ThroughFits) (front 
     import = import_run;
     verify = verify_run;
     serve = serve_run;
+    fetch = fetch_run;
   }

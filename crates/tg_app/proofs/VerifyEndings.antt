@@ -28,7 +28,7 @@ use Rattle.tg_verify.specs.declared.fault.Refusal.TheVariants as verifiers
 -- ---- the status of each fault
 
 -- where memory is found for its line
-abbrev status_for : ClientFault → ℕ
+abbrev pub status_for : ClientFault → ℕ
 status_for (clients.Refused (verifiers.Limit kind number)) = 7
 status_for (clients.Refused (verifiers.NotFolder segment)) = 9
 status_for (clients.Refused (verifiers.NotThere segment)) = 9
@@ -56,10 +56,10 @@ tells_status clients.InputFault refusal h = ap status_of h
 tells_status clients.OutOfMemory refusal h = ap status_of h
 
 -- the refusal has the status of its fault, or memory was wanted for its line
-abbrev HasStatus : ClientFault → CommandFault → Type 0
+abbrev pub HasStatus : ClientFault → CommandFault → Type 0
 HasStatus fault refusal = (status_of refusal ≡ status_for fault) ⊎ (ShowsSome fault × (status_of refusal ≡ 8))
 
-has_status : (fault : ClientFault) (refusal : CommandFault) → IsVerifyRefusal fault refusal → HasStatus fault refusal
+pub has_status : (fault : ClientFault) (refusal : CommandFault) → IsVerifyRefusal fault refusal → HasStatus fault refusal
 has_status fault refusal (inl tells) = inl (tells_status fault refusal tells)
 has_status fault refusal (inr memory) = inr (memory.0, ap status_of memory.1)
 

@@ -2,7 +2,7 @@
 use Rattle.std.specs.Prelude.{◌≡◌, ℕ, ◌⊎◌, ⊤, List, Option, Some}
 use Rattle.tg_words.specs.CommandLine.{CommandLine}
 use Rattle.tg_words.specs.declared.Command.{Command}
-use Rattle.tg_words.specs.declared.Command.TheVariants.{Check, Node, CidToHex, CidToText, Export, Import, Serve, Verify}
+use Rattle.tg_words.specs.declared.Command.TheVariants.{Check, Node, CidToHex, CidToText, Export, Fetch, Import, Serve, Verify}
 use Rattle.tg_streams.specs.Streams.{Output}
 use Rattle.tg_app.specs.Lines.{exit_status, Says}
 use Rattle.tg_app.specs.Blocks.{InputUntouched, Untouched}
@@ -10,6 +10,7 @@ use Rattle.tg_app.specs.Check.{CheckEnds}
 use Rattle.tg_app.specs.Node.{NodeEnds}
 use Rattle.tg_app.specs.CidLines.{HexLine, TextLine, PrintEnds}
 use Rattle.tg_app.specs.Exports.{ExportAnswers}
+use Rattle.tg_app.specs.Fetches.{FetchAnswers}
 use Rattle.tg_app.specs.Imports.{ImportAnswers}
 use Rattle.tg_app.specs.Objects.{Objects, SameFiles}
 use Rattle.tg_app.specs.Serves.{ServeAnswers}
@@ -30,6 +31,8 @@ CommandEnds (Export parts) objects end =
 CommandEnds (Verify q) objects end = SameFiles objects.files × VerifyEnds q objects.input objects.out end
 CommandEnds (Serve parts) objects end =
     objects.files.same_folder × InputUntouched objects.input × ServeAnswers parts objects.files.pack objects.files.same_pack objects.out objects.door end
+CommandEnds (Fetch parts) objects end =
+    SameFiles objects.files × InputUntouched objects.input × FetchAnswers parts objects.dial.dialling objects.out end
 CommandEnds (Import parts) objects end =
     InputUntouched objects.input × ImportAnswers parts objects.files objects.out end
 
@@ -43,6 +46,7 @@ UsesNoFiles (Verify q) = ⊤
 UsesNoFiles (Export parts) = ⊥
 UsesNoFiles (Import parts) = ⊥
 UsesNoFiles (Serve parts) = ⊥
+UsesNoFiles (Fetch parts) = ⊤
 
 -- a command that is handed no door, and leaves it as it was
 abbrev pub UsesNoDoor : Command → Type 0
@@ -54,6 +58,19 @@ UsesNoDoor (CidToText cid) = ⊤
 UsesNoDoor (Verify q) = ⊤
 UsesNoDoor (Export parts) = ⊤
 UsesNoDoor (Import parts) = ⊤
+UsesNoDoor (Fetch parts) = ⊤
+
+-- a command that is handed no dial, and leaves it as it was
+abbrev pub UsesNoDial : Command → Type 0
+UsesNoDial (Fetch parts) = ⊥
+UsesNoDial (Check cid) = ⊤
+UsesNoDial (Node cid) = ⊤
+UsesNoDial (CidToHex cid) = ⊤
+UsesNoDial (CidToText cid) = ⊤
+UsesNoDial (Verify q) = ⊤
+UsesNoDial (Export parts) = ⊤
+UsesNoDial (Import parts) = ⊤
+UsesNoDial (Serve parts) = ⊤
 
 -- a command that reads a block from its input
 abbrev pub ReadsBlock : Command → Type 0
@@ -65,6 +82,7 @@ ReadsBlock other = ⊥
 pub record AllUntouched (objects : Objects) : Type 0 where
   pub files : SameFiles objects.files
   pub door : objects.door.same_door
+  pub dial : objects.dial.same_dial
   pub streams : Untouched objects.input objects.out
 
 -- the words spell this command and no other
@@ -91,6 +109,7 @@ pub record TheCommandEnds (words : List (List ℕ)) (objects : Objects) (end : O
   pub the : TheCommand words command
   pub ends : CommandEnds command objects end
   pub door : UsesNoDoor command → objects.door.same_door
+  pub dial : UsesNoDial command → objects.dial.same_dial
 
 abbrev pub Ends : List (List ℕ) → Objects → Option CommandFault → Type 0
 Ends words objects end = NoCommandEnds words objects end ⊎ (NoMemoryEnds objects end ⊎ TheCommandEnds words objects end)

@@ -14,7 +14,8 @@ use Rattle.tg_app.specs.declared.fault.CommandFault.TheVariants.{BadPack, Unfini
 use Rattle.tg_app.specs.declared.fault.CommandFault.TheVariants.{BadReceived, BadSize, Truncated, Extra, BadCar, Limit}
 use Rattle.tg_app.specs.declared.fault.CommandFault.TheVariants.{NoRoot, NotThere, NotFolder, BadStored, Gone, Changed}
 use Rattle.tg_app.specs.declared.fault.CommandFault.TheVariants.{TooDeep, DeepFolder, BadName, LongName, SameHash}
-use Rattle.tg_app.specs.declared.fault.CommandFault.TheVariants.{DoorFault, NotPlain, StoreFault, TooBig}
+use Rattle.tg_app.specs.declared.fault.CommandFault.TheVariants.{BadFraming, BadReplyHead, BadType, DoorFault, NotPlain, PeerFault}
+use Rattle.tg_app.specs.declared.fault.CommandFault.TheVariants.{Status, StoreFault, TooBig}
 use Rattle.tg_model.specs.declared.fault.BlockFault.{BlockFault}
 use Rattle.tg_model.specs.declared.fault.BlockFault.TheVariants as blocks
 use Rattle.tg_model.specs.declared.limits.LimitKind.{LimitKind}
@@ -66,6 +67,11 @@ status_of (NotPlain path) = 6
 status_of (TooBig path) = 7
 status_of DoorFault = 5
 status_of StoreFault = 6
+status_of (Status status) = 4
+status_of BadType = 3
+status_of BadReplyHead = 3
+status_of BadFraming = 3
+status_of PeerFault = 5
 
 -- what is at fault of a block, behind its CID
 abbrev pub cause_of : NodeFault → List ℕ
@@ -85,6 +91,7 @@ numbers_in (Truncated want sections) = (sections, 0)
 numbers_in (Extra sections) = (sections, 0)
 numbers_in (Limit kind number) = (number, 0)
 numbers_in (BadSize declared actual) = (declared, actual)
+numbers_in (Status status) = (status, 0)
 numbers_in other = (0, 0)
 
 -- the name of a kind of limit
@@ -156,6 +163,11 @@ word_of (NotPlain path) = codes "NotPlain " ++ path
 word_of (TooBig path) = codes "TooBig " ++ path
 word_of DoorFault = codes "DoorFault"
 word_of StoreFault = codes "Store"
+word_of (Status status) = codes "Status " ++ decimal status
+word_of BadType = codes "BadType"
+word_of BadReplyHead = codes "BadReplyHead"
+word_of BadFraming = codes "BadFraming"
+word_of PeerFault = codes "PeerFault"
 
 -- the line: the program's name, the word with its detail, a line feed
 abbrev pub line_of : CommandFault → List ℕ

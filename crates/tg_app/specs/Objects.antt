@@ -1,5 +1,6 @@
--- The objects that a command is handed: a folder, a pack, which it gives back, a door, its input and out.
+-- The objects that a command is handed: a folder, a pack, which it gives back, a door, a dial, its input and out.
 use Rattle.std.specs.Prelude.{◌≡◌, Option, Some, None}
+use Rattle.tg_dials.specs.Dials.{DialMeaning, Dialling, at_dial}
 use Rattle.tg_doors.specs.Doors.{DoorMeaning, Doorway, at_door}
 use Rattle.tg_files.specs.Folders.{FolderMeaning, FolderStep, folder_step}
 use Rattle.tg_files.specs.Packs.{PackMeaning, PackStep, pack_step}
@@ -24,10 +25,19 @@ abbrev pub entrance_between : {L K : Type 0} → DoorMeaning L → LinkMeaning K
 entrance_between doors links door door' =
     record { doorway = at_door doors door door'; same_door = door' ≡ door; links_tell = LinksTell links }
 
+-- what became of a dial, and whether it is the one that it was
+pub record DialUse : Type 1 where
+  pub dialling : Dialling
+  pub same_dial : Type 0
+
+abbrev pub dial_between : {D : Type 0} → DialMeaning D → D → D → DialUse
+dial_between dials dial dial' = record { dialling = at_dial dials dial dial'; same_dial = dial' ≡ dial }
+
 -- what became of a command's objects
 pub record Objects : Type 1 where
   pub files : Files
   pub door : Entrance
+  pub dial : DialUse
   pub input : Input
   pub out : Output
 
@@ -50,11 +60,12 @@ pub record SameFiles (files : Files) : Type 0 where
   pub folder : files.same_folder
   pub pack : files.same_pack
 
-abbrev pub objects_between : {F P L K I O : Type 0} → FolderMeaning F → PackMeaning P → DoorMeaning L → LinkMeaning K
-    → SourceMeaning I → SinkMeaning O → F → F → Option P → Option P → L → L → I → I → O → O → Objects
-objects_between folders packs doors links inputs outs folder folder' pack pack' door door' input input' out out' = record {
+abbrev pub objects_between : {F P L K D I O : Type 0} → FolderMeaning F → PackMeaning P → DoorMeaning L → LinkMeaning K → DialMeaning D
+    → SourceMeaning I → SinkMeaning O → F → F → Option P → Option P → L → L → D → D → I → I → O → O → Objects
+objects_between folders packs doors links dials inputs outs folder folder' pack pack' door door' dial dial' input input' out out' = record {
   files = files_between folders packs folder folder' pack pack';
   door = entrance_between doors links door door';
+  dial = dial_between dials dial dial';
   input = through inputs input input';
   out = into outs out out';
 }

@@ -3,9 +3,11 @@ use Rattle.std.specs.Prelude.{List, Some, ℕ, ◌≡◌, ◌≢◌, ◌≤◌, 
 use Rattle.tg_app.specs.Blocks.{OutputUntouched, PassedLimit}
 use Rattle.tg_app.specs.Check.{Agrees, CheckEnds, CheckStatus, Checked, CheckedOther}
 use Rattle.tg_app.specs.CidLines.{HexLine, PutsLine, TextLine}
-use Rattle.tg_app.specs.Commands.{AllUntouched, Answers, CommandEnds, Ends, IsNoCommand, ReadsBlock, UsesNoDoor, UsesNoFiles}
+use Rattle.tg_app.specs.Commands.{AllUntouched, Answers, CommandEnds, Ends, IsNoCommand, NoMemoryEnds, ReadsBlock, UsesNoDial, UsesNoDoor}
+use Rattle.tg_app.specs.Commands.{UsesNoFiles}
 use Rattle.tg_app.specs.Commands.{WantsMemory}
 use Rattle.tg_app.specs.Exports.{Exported, ExportedNothing, HasAnswer, HoldsDag, IsRisen}
+use Rattle.tg_app.specs.Fetches.{Fetched, FetchedStatus, IsGoodReply, VouchedFetch}
 use Rattle.tg_app.specs.Imports.{Imported, IsGoodFolder, options_of}
 use Rattle.tg_app.specs.Node.{NodeEnds, NodeStatus, Noded, NodedOther}
 use Rattle.tg_app.specs.Objects.{Objects, SameFiles}
@@ -13,6 +15,7 @@ use Rattle.tg_app.specs.Serves.{IsGoodPack, ServedWhole}
 use Rattle.tg_app.specs.Verify.{IsGoodCar, IsItsCar, VerifiedInput, Vouched}
 use Rattle.tg_cid.specs.Cid.{CidParts}
 use Rattle.tg_cid.specs.Names.{Names}
+use Rattle.tg_dials.specs.Dials.{DialRose}
 use Rattle.tg_doors.specs.Doors.{DoorRose}
 use Rattle.tg_files.specs.Folders.{FolderRose}
 use Rattle.tg_files.specs.Packs.{PackRose}
@@ -27,10 +30,11 @@ use Rattle.tg_verify.specs.Laws.{IsWithinLimits}
 use Rattle.tg_walk.specs.Walks.{max_depth}
 use Rattle.tg_words.specs.CommandLine.{CommandLine}
 use Rattle.tg_words.specs.ExportLines.{ExportParts}
+use Rattle.tg_words.specs.FetchLines.{FetchParts}
 use Rattle.tg_words.specs.ImportLines.{ImportParts}
 use Rattle.tg_words.specs.ServeLines.{ServeParts}
 use Rattle.tg_words.specs.declared.Command.{Command}
-use Rattle.tg_words.specs.declared.Command.TheVariants.{Check, CidToHex, CidToText, Export, Import, Node, Serve, Verify}
+use Rattle.tg_words.specs.declared.Command.TheVariants.{Check, CidToHex, CidToText, Export, Fetch, Import, Node, Serve, Verify}
 
 -- a run: the words behind the program's name, what became of the objects and of err, and the exit status
 pub record Run : Type 1 where
@@ -65,6 +69,8 @@ pub record WordsRun (run : Run) : Type 0 where
   pub kept : (command : Command) → Asks run command → UsesNoFiles command → SameFiles run.objects.files
   -- and no command but `serve` touches the door
   pub kept_door : (command : Command) → Asks run command → UsesNoDoor command → run.objects.door.same_door
+  -- nor any but `fetch` the dial
+  pub kept_dial : (command : Command) → Asks run command → UsesNoDial command → run.objects.dial.same_dial
   -- status 6 of a command over blocks comes where a fault of the input or of out was counted; at every other status of
   -- any command none was
   pub fault : (command : Command) → Asks run command → UsesNoFiles command → run.status ≡ 6
@@ -164,6 +170,25 @@ pub record ServeRun (parts : ServeParts) (run : Run) : Type 0 where
       → (DoorRose run.objects.door.doorway → ⊥) → (OutputRose run.objects.out → ⊥)
       → (run.status ≡ 8) ⊎ ((run.status ≡ 7) ⊎ (run.status ≡ 0))
 
+-- `fetch`: one call to a gateway, what was said and heard in it, and what went to out
+pub record FetchRun (parts : FetchParts) (run : Run) : Type 0 where
+  -- no memory was found for the words, and nothing was done; or the call was made, and ended so
+  pub ends : Answers (λ end. NoMemoryEnds run.objects end ⊎ CommandEnds (Fetch parts) run.objects end) run.status run.err
+  -- at 0 what was heard begins with a reply that is the answer, and out grew by its text
+  pub fetched : run.status ≡ 0 → Fetched parts run.objects.dial.dialling run.objects.out
+  -- at 4 it is a reply of another status; at 5 a fault of the dial or of its link was counted
+  pub other : run.status ≡ 4 → FetchedStatus parts run.objects.dial.dialling run.objects.out
+  pub dial_fault : run.status ≡ 5 → DialRose run.objects.dial.dialling
+  -- a reply that carries the sections of a sound DAG's own traversal, or sections that fit, is accepted where no fault is
+  -- counted and memory is found, and out grows by their text
+  pub answered : (text : List ℕ) → IsGoodReply parts.query run.objects.dial.dialling text → (DialRose run.objects.dial.dialling → ⊥)
+      → (OutputRose run.objects.out → ⊥) → (run.status ≡ 8) ⊎ ((run.status ≡ 0) × Put text run.objects.out)
+  -- for every sound DAG with the query's root, whatever is heard, however it is cut: at 0 out grew by the DAG's answer, and else
+  -- by a front of it, and what the line on err says of the DAG holds; or a received block and one of the DAG are different
+  -- bytes with one SHA-256; but where no memory was found for the words, and nothing was done
+  pub vouched_answer : (d : Dag) → IsSound d → root_cid d ≡ parts.query.root
+      → ((run.status ≡ 8) × AllUntouched run.objects) ⊎ VouchedFetch parts d run.objects.dial.dialling run.objects.out run.err run.status
+
 -- what a run says, by the command that its words spell
 pub record Runs (run : Run) : Type 0 where
   pub words : WordsRun run
@@ -175,3 +200,4 @@ pub record Runs (run : Run) : Type 0 where
   pub import : (parts : ImportParts) → Asks run (Import parts) → ImportRun parts run
   pub verify : (q : QueryParts) → Asks run (Verify q) → VerifyRun q run
   pub serve : (parts : ServeParts) → Asks run (Serve parts) → ServeRun parts run
+  pub fetch : (parts : FetchParts) → Asks run (Fetch parts) → FetchRun parts run

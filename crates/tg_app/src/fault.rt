@@ -124,6 +124,21 @@ pub enum CommandFault {
     /// The pack failed while links were served, or a stored block isn't any more what it was.
     #[error("Store")]
     StoreFault,
+    /// The reply has this status, and is neither an answer nor shows that the path leads nowhere.
+    #[error("Status {status}")]
+    Status { status: u16 },
+    /// The reply's media type isn't that of the query's answer, or it states a coding.
+    #[error("BadType")]
+    BadType,
+    /// What came is no head of a reply.
+    #[error("BadReplyHead")]
+    BadReplyHead,
+    /// The reply's body is framed in no way, or breaks its framing.
+    #[error("BadFraming")]
+    BadFraming,
+    /// A fault of the dial or of its link was counted.
+    #[error("PeerFault")]
+    PeerFault,
 }
 
 impl From<AllocError> for CommandFault {
@@ -168,8 +183,12 @@ impl CommandFault {
             | CommandFault::BadSize { .. }
             | CommandFault::Truncated { .. }
             | CommandFault::Extra { .. }
-            | CommandFault::BadCar => 3,
-            CommandFault::DoorFault => 5,
+            | CommandFault::BadCar
+            | CommandFault::BadType
+            | CommandFault::BadReplyHead
+            | CommandFault::BadFraming => 3,
+            CommandFault::Status { .. } => 4,
+            CommandFault::DoorFault | CommandFault::PeerFault => 5,
             CommandFault::InputFault
             | CommandFault::SinkFault
             | CommandFault::PackFault
@@ -230,6 +249,7 @@ impl CommandFault {
                 *sections, 0,
             ),
             CommandFault::Limit { number, .. } => (*number, 0),
+            CommandFault::Status { status } => (u64::from(*status), 0),
             CommandFault::BadSize { declared, actual } => (*declared, *actual),
             _ => (0, 0),
         }
@@ -293,6 +313,11 @@ impl CommandFault {
             CommandFault::TooBig { path } => (b"TooBig ", path.as_slice(), b"", b""),
             CommandFault::DoorFault => (b"DoorFault", b"", b"", b""),
             CommandFault::StoreFault => (b"Store", b"", b"", b""),
+            CommandFault::Status { .. } => (b"Status ", first, b"", b""),
+            CommandFault::BadType => (b"BadType", b"", b"", b""),
+            CommandFault::BadReplyHead => (b"BadReplyHead", b"", b"", b""),
+            CommandFault::BadFraming => (b"BadFraming", b"", b"", b""),
+            CommandFault::PeerFault => (b"PeerFault", b"", b"", b""),
         }
     }
 }

@@ -6,6 +6,7 @@ mod check;
 mod cid;
 mod export;
 mod fault;
+mod fetching;
 mod import;
 mod node;
 mod serve;

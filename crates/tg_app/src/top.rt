@@ -11,11 +11,13 @@ use crate::check::check;
 use crate::cid::{cid_to_hex, cid_to_text};
 use crate::export::export;
 use crate::fault::CommandFault;
+use crate::fetching::fetch_answer;
 use crate::import::import;
 use crate::node::node;
 use crate::serve::serve;
 use crate::verify::verify;
 use std::alloc::Global;
+use tg_dials::Dial;
 use tg_doors::Door;
 use tg_files::{Folder, Pack};
 use tg_streams::{Sink, Source};
@@ -24,22 +26,24 @@ use tg_words::Command;
 /// Does what the words ask for, the words being those after the program's name, and answers the exit status.
 ///
 /// 0 the command is done; 2 the words are no command; 3 the block on input isn't the CID's, or `node` finds a fault in
-/// it, or the CAR on input isn't what `verify` asks for; 5 a fault of the door or of a link was counted; 6 a fault of
+/// it, or the CAR on input isn't what `verify` asks for, or a reply isn't what `fetch` asks for; 4 the reply to `fetch` has
+/// another status than 200; 5 a fault of the door, of the dial or of a link was counted; 6 a fault of
 /// the folder, of the pack, of the input or of out was counted, or the pack's or the folder's content is refused, or a
 /// stored block has changed; 7 a limit is passed: a block of more than 2,097,152 bytes, a block more than 512 deep, an
 /// input or a link of more than 2^40 bytes, one of `verify`'s other limits, a folder on level 33, a name of more than
 /// 255 bytes, a file or a folder that is too large; 8 want of memory; 9 the path of an `export` or of a `verify` leads
-/// nowhere. A status other than 6 says that no fault of the input or of out was counted. A status other than 0 puts one
+/// nowhere, or that of a `fetch`. A status other than 6 says that no fault of the input or of out was counted. A status other than 0 puts one
 /// line on err, and a fault of err changes nothing else.
 ///
 /// What each status says stands in `Runs`: a record for the words, and one for each command, whose last field for
-/// `verify` is the answer that every sound DAG vouches for.
-pub fn run<F: Folder, P: Pack, L: Door, I: Source, O: Sink, E: Sink>(
+/// `verify` and for `fetch` is the answer that every sound DAG vouches for.
+pub fn run<F: Folder, P: Pack, L: Door, D: Dial, I: Source, O: Sink, E: Sink>(
     alloc: Global,
     words: &[String],
     folder: &mut F,
     pack: &mut Option<P>,
     door: &mut L,
+    dial: &mut D,
     input: &mut I,
     out: &mut O,
     err: &mut E,
@@ -50,8 +54,8 @@ pub fn run<F: Folder, P: Pack, L: Door, I: Source, O: Sink, E: Sink>(
 
     ensures runs { Runs (record {
       words = map string_bytes words.now;
-      objects = objects_between F.folder P.pack L.door L.Link.link I.source O.sink
-          folder.old folder.new pack.old pack.new door.old door.new input.old input.new out.old out.new;
+      objects = objects_between F.folder P.pack L.door L.Link.link D.dial I.source O.sink
+          folder.old folder.new pack.old pack.new door.old door.new dial.old dial.new input.old input.new out.old out.new;
       err = into E.sink err.old err.new;
       status = result;
     }) }
@@ -68,25 +72,26 @@ pub fn run<F: Folder, P: Pack, L: Door, I: Source, O: Sink, E: Sink>(
     tg_traversal_laws::beside_dags();
     tg_traversal_laws::store_walks();
     tg_verify::laws::verified_answers();
-    let end = command(alloc, words, folder, pack, door, input, out);
+    let end = command(alloc, words, folder, pack, door, dial, input, out);
     tell(&end, err)
 }
 
 /// Does what the words ask for.
-fn command<F: Folder, P: Pack, L: Door, I: Source, O: Sink>(
+fn command<F: Folder, P: Pack, L: Door, D: Dial, I: Source, O: Sink>(
     alloc: Global,
     words: &[String],
     folder: &mut F,
     pack: &mut Option<P>,
     door: &mut L,
+    dial: &mut D,
     input: &mut I,
     out: &mut O,
 ) -> Result<(), CommandFault>
     requires { IsSome pack.old }
     ensures back { IsSome pack.new }
     ensures ends { Ends (map string_bytes words.now)
-        (objects_between F.folder P.pack L.door L.Link.link I.source O.sink
-        folder.old folder.new pack.old pack.new door.old door.new input.old input.new out.old out.new)
+        (objects_between F.folder P.pack L.door L.Link.link D.dial I.source O.sink
+        folder.old folder.new pack.old pack.new door.old door.new dial.old dial.new input.old input.new out.old out.new)
         (end_of result) }
 {
     match tg_words::read(alloc, words)? {
@@ -98,6 +103,7 @@ fn command<F: Folder, P: Pack, L: Door, I: Source, O: Sink>(
         Command::Import(asked) => import(alloc, &asked, folder, pack, out),
         Command::Verify(query) => verify(alloc, &query, input, out),
         Command::Serve(asked) => serve(alloc, &asked, pack, door, out),
+        Command::Fetch(asked) => fetch_answer(alloc, &asked, dial, out),
     }
 }
 

@@ -45,7 +45,7 @@ fn refusal_of(alloc: Global, fault: ClientFault) -> CommandFault
 }
 
 /// The refusal for one of the verifier.
-fn refusal_of_verifier(alloc: Global, fault: VerifierRefusal) -> CommandFault
+pub(crate) fn refusal_of_verifier(alloc: Global, fault: VerifierRefusal) -> CommandFault
     ensures { IsVerifyRefusal (ClientFault.Refused fault) result }
 {
     match fault {

@@ -10,6 +10,8 @@ mod car_sections;
 #[cfg(test)]
 mod cars;
 #[cfg(test)]
+mod fetch;
+#[cfg(test)]
 mod files;
 #[cfg(test)]
 mod known;

@@ -5,6 +5,8 @@
 #[cfg(test)]
 mod asked;
 #[cfg(test)]
+mod fetches;
+#[cfg(test)]
 mod lines;
 #[cfg(test)]
 mod operands;

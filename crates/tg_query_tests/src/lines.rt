@@ -64,7 +64,6 @@ const LINES: &[(&[&str], Option<Asked>)] = &[
     (&[""], None),
     (&["help"], None),
     (&["audit", "--seed", "1", "--files", "3"], None),
-    (&["fetch", "--raw", "a:1", HELLO_TEXT], None),
     (&["--help"], None),
     (&["version"], None),
     (&["--", "check", HELLO_TEXT], None),

@@ -1,4 +1,5 @@
-//! The program's top call over streams, a folder, a pack and a door in memory, as the tests of its commands make it.
+//! The program's top call over streams, a folder, a pack, a door and a dial in memory, as the tests of its commands make
+//! it.
 #![tactic(auto)]
 
 ghost use Rattle.std.specs.Option.{IsSome};
@@ -6,6 +7,7 @@ ghost use Rattle.std.specs.Option.{IsSome};
 use std::alloc::{AllocError, Global};
 use tg_app::run;
 use tg_bytes::{Bytes, List};
+use tg_dials::MemDial;
 use tg_doors::MemDoor;
 use tg_files::{MemFolder, MemPack};
 use tg_links::Call;
@@ -38,7 +40,7 @@ impl Outcome {
     }
 }
 
-/// What a run over a door left: what every run leaves, and what went through the links.
+/// What a run over a door and a dial left: what every run leaves, and what went through the links.
 #[derive(Drop)]
 pub struct Served {
     pub outcome: Outcome,
@@ -50,6 +52,12 @@ impl Served {
     pub fn calls(&self) -> Option<&List<Call>> {
         self.streams.door.served()
     }
+
+    /// What went through the links that were dialled and given back, in order; none where no memory was found for one of
+    /// them.
+    pub fn dialled(&self) -> Option<&List<Call>> {
+        self.streams.dial.calls()
+    }
 }
 
 /// The numbers of the calls that fail, counted from 0, of three of the objects of a run.
@@ -59,15 +67,16 @@ pub type Failing<'a> = [&'a [u64]; 3];
 pub const NONE: Failing<'static> = [&[], &[], &[]];
 
 /// What a run is over besides its words and the folder: the pack's content, the input, what each peer says whose link
-/// comes through the door, how many bytes a call of a stream or of a link moves at most, and the numbers of the calls
-/// that fail, of the folder, of the pack, of the input, of out, of err and of the door.
+/// comes through the door, and each that is dialled, how many bytes a call of a stream or of a link moves at most, and the
+/// numbers of the calls that fail, of the folder, of the pack, of the input, of out, of err, of the door and of the dial.
 #[derive(Clone, Copy)]
 struct Given<'a, 'f> {
     content: &'a [u8],
     input: &'a [u8],
     links: &'a [&'a [u8]],
+    replies: &'a [&'a [u8]],
     piece: usize,
-    fails: [&'f [u64]; 6],
+    fails: [&'f [u64]; 7],
 }
 
 /// Runs the words over an input in memory, by pieces of this size, an empty folder and an empty pack. The calls that
@@ -84,8 +93,9 @@ pub fn run_over_streams(
         content: &[],
         input,
         links: &[],
+        replies: &[],
         piece,
-        fails: [&[], &[], input_fails, out_fails, err_fails, &[]],
+        fails: [&[], &[], input_fails, out_fails, err_fails, &[], &[]],
     };
     let ran = run_over(alloc, words, Tree::Folder(Vec::new(alloc)), &given)?;
     Ok(ran.outcome)
@@ -106,8 +116,9 @@ pub fn run_over_files(
         content,
         input: &[],
         links: &[],
+        replies: &[],
         piece: 4096,
-        fails: [folder_fails, pack_fails, &[], out_fails, &[], &[]],
+        fails: [folder_fails, pack_fails, &[], out_fails, &[], &[], &[]],
     };
     let ran = run_over(alloc, words, tree, &given)?;
     Ok(ran.outcome)
@@ -129,8 +140,31 @@ pub fn run_over_door(
         content,
         input: &[],
         links,
+        replies: &[],
         piece,
-        fails: [&[], pack_fails, &[], out_fails, &[], door_fails],
+        fails: [&[], pack_fails, &[], out_fails, &[], door_fails, &[]],
+    };
+    run_over(alloc, words, Tree::Folder(Vec::new(alloc)), &given)
+}
+
+/// Runs the words over a dial in memory, to peers that say these bytes, by pieces of this size, no input, an empty folder
+/// and an empty pack. The calls that fail are those of the dial and its links, of out and of err. The error is want of
+/// memory.
+pub fn run_over_dial(
+    alloc: Global,
+    words: &[&str],
+    replies: &[&[u8]],
+    piece: usize,
+    failing: Failing<'_>,
+) -> Result<Served, AllocError> {
+    let [dial_fails, out_fails, err_fails] = failing;
+    let given = Given {
+        content: &[],
+        input: &[],
+        links: &[],
+        replies,
+        piece,
+        fails: [&[], &[], &[], out_fails, err_fails, &[], dial_fails],
     };
     run_over(alloc, words, Tree::Folder(Vec::new(alloc)), &given)
 }
@@ -195,32 +229,61 @@ fn door_of(
     piece: usize,
     fails: &[u64],
 ) -> Result<MemDoor, AllocError> {
-    let mut coming = List::new(alloc);
-    for bytes in links {
-        coming.push(Bytes::of(alloc, bytes)?)?;
-    }
+    let coming = owned_texts(alloc, links)?;
     let fails = numbers(alloc, fails)?;
     Ok(MemDoor::new(alloc, coming, piece.max(1), fails))
 }
 
-/// The door and the streams of a run.
+/// A dial to peers that say these bytes, of whose links one call moves so many bytes at most; 0 counts as 1.
+fn dial_of(
+    alloc: Global,
+    replies: &[&[u8]],
+    piece: usize,
+    fails: &[u64],
+) -> Result<MemDial, AllocError> {
+    let replies = owned_texts(alloc, replies)?;
+    let fails = numbers(alloc, fails)?;
+    Ok(MemDial::new(alloc, replies, piece.max(1), fails))
+}
+
+/// What peers say, one after another.
+fn owned_texts(alloc: Global, texts: &[&[u8]]) -> Result<List<Bytes>, AllocError> {
+    let mut list = List::new(alloc);
+    for text in texts {
+        list.push(Bytes::of(alloc, text)?)?;
+    }
+    Ok(list)
+}
+
+/// The door, the dial and the streams of a run.
 #[derive(Drop)]
 struct Streams {
     door: MemDoor,
+    dial: MemDial,
     input: MemSource,
     out: MemSink,
     err: MemSink,
 }
 
-/// The door and the streams that are given.
+/// The door, the dial and the streams that are given.
 fn streams_of(alloc: Global, given: &Given<'_, '_>) -> Result<Streams, AllocError> {
-    let [_, _, input_fails, out_fails, err_fails, door_fails] = given.fails;
+    let [
+        _,
+        _,
+        input_fails,
+        out_fails,
+        err_fails,
+        door_fails,
+        dial_fails,
+    ] = given.fails;
     let door = door_of(alloc, given.links, given.piece, door_fails)?;
+    let dial = dial_of(alloc, given.replies, given.piece, dial_fails)?;
     let out = sink_of(alloc, given.piece, out_fails)?;
     let err = sink_of(alloc, given.piece, err_fails)?;
     let input = source_of(alloc, given.input, given.piece, input_fails)?;
     Ok(Streams {
         door,
+        dial,
         input,
         out,
         err,
@@ -234,13 +297,14 @@ fn status_of(
     folder: &mut MemFolder,
     pack: &mut Option<MemPack>,
     door: &mut MemDoor,
+    dial: &mut MemDial,
     input: &mut MemSource,
     out: &mut MemSink,
     err: &mut MemSink,
 ) -> u8
     requires { IsSome pack.old }
 {
-    run(alloc, words, folder, pack, door, input, out, err)
+    run(alloc, words, folder, pack, door, dial, input, out, err)
 }
 
 /// What a run with this status left.
@@ -261,7 +325,7 @@ fn outcome_of(
     })
 }
 
-/// Runs the words over a folder, a pack, a door and streams, and tells what is left.
+/// Runs the words over a folder, a pack, a door, a dial and streams, and tells what is left.
 fn run_in(
     alloc: Global,
     words: &[String],
@@ -277,6 +341,7 @@ fn run_in(
         folder,
         pack,
         &mut streams.door,
+        &mut streams.dial,
         &mut streams.input,
         &mut streams.out,
         &mut streams.err,
@@ -291,7 +356,7 @@ fn run_words(
     folder: &mut MemFolder,
     given: &Given<'_, '_>,
 ) -> Result<Served, AllocError> {
-    let [_, pack_fails, _, _, _, _] = given.fails;
+    let [_, pack_fails, _, _, _, _, _] = given.fails;
     let mut streams = streams_of(alloc, given)?;
     let mut pack = Some(pack_of(alloc, given.content, pack_fails)?);
     let outcome = run_in(alloc, words, folder, &mut pack, &mut streams)?;
@@ -316,7 +381,7 @@ fn run_over(
     tree: Tree,
     given: &Given<'_, '_>,
 ) -> Result<Served, AllocError> {
-    let [folder_fails, _, _, _, _, _] = given.fails;
+    let [folder_fails, _, _, _, _, _, _] = given.fails;
     match folder_of(alloc, tree, folder_fails)? {
         Some(mut folder) => run_given(alloc, words, &mut folder, given),
         None => Ok(Served {

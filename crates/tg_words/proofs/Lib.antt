@@ -13,6 +13,8 @@ mod Options
 mod Positional
 mod QueryAnswers
 mod ExportAnswers
+mod FetchAnswers
+mod Addrs
 mod ImportAnswers
 mod VerifyAnswers
 mod ServeAnswers

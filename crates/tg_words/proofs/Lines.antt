@@ -10,18 +10,20 @@ use Rattle.tg_bytes.specs.Lists.{none_in, same_only}
 use Rattle.tg_words.specs.Words.{Given, StandOnce, WordsSpelling}
 use Rattle.tg_words.specs.CommandLine.{CommandLine, CidHexLine, CidLine, OneCidLine, no_names, cid_names}
 use Rattle.tg_model.specs.Queries.{QueryParts}
+use Rattle.tg_words.specs.FetchLines.{fetch_names}
 use Rattle.tg_words.specs.ImportLines.{import_names}
 use Rattle.tg_words.specs.QueryWords.{query_names}
 use Rattle.tg_words.specs.ServeLines.{serve_names}
-use Rattle.tg_words.specs.Operands.{Answers, Exact, OneCid, QueryBy, givens, texts_of, value_at}
+use Rattle.tg_words.specs.Operands.{Answers, Exact, OneCid, QueryBy, RawGiven, givens, texts_of, value_at}
 use Rattle.tg_words.specs.declared.Command.{Command}
-use Rattle.tg_words.specs.declared.Command.TheVariants.{Check, Node, CidToHex, CidToText, Export, Import, Verify, Serve}
+use Rattle.tg_words.specs.declared.Command.TheVariants.{Check, Node, CidToHex, CidToText, Export, Import, Verify, Serve, Fetch}
 use Rattle.tg_words.specs.declared.WordsFault.{WordsFault}
 use Rattle.tg_words.specs.declared.WordsFault.TheVariants.{Usage, OutOfMemory}
 use Rattle.tg_words.specs.declared.operands.GivenOption.{GivenOption}
 use Rattle.tg_words.proofs.Readings.{one_spelling_of_words}
 use Rattle.tg_words.proofs.Positional.{IsOf, Lines, answer_of, exact_answer, one_of_form, the_line}
 use Rattle.tg_words.proofs.ExportAnswers.{export_by, export_form, export_line, one_export}
+use Rattle.tg_words.proofs.FetchAnswers.{fetch_by, fetch_form, fetch_line, one_fetch}
 use Rattle.tg_words.proofs.ImportAnswers.{import_by, import_form, import_line, one_import}
 use Rattle.tg_words.proofs.ServeAnswers.{one_serve, serve_by, serve_form, serve_line}
 use Rattle.tg_words.proofs.VerifyAnswers.{verify_by, verify_form, verify_line}
@@ -103,7 +105,8 @@ IsAsked name rest command =
     (Where (bytes_eq name (codes "export")) (IsOf export_form rest command)
     (Where (bytes_eq name (codes "import")) (IsOf import_form rest command)
     (Where (bytes_eq name (codes "verify")) (IsOf verify_form rest command)
-    (Where (bytes_eq name (codes "serve")) (IsOf serve_form rest command) ⊥))))))
+    (Where (bytes_eq name (codes "serve")) (IsOf serve_form rest command)
+    (Where (bytes_eq name (codes "fetch")) (IsOf fetch_form rest command) ⊥)))))))
 
 named : (name other : List ℕ) (rest more : List (List ℕ)) (command : Command) → name ∷ rest ≡ other ∷ more
     → (CommandLine (other ∷ rest) command → IsAsked other rest command) → CommandLine (name ∷ rest) command → IsAsked name rest command
@@ -120,6 +123,7 @@ asked_by_line name rest (Export parts) line = named name (codes "export") rest l
 asked_by_line name rest (Import parts) line = named name (codes "import") rest line.line.rest (Import parts) line.line.begins (import_line rest parts) line
 asked_by_line name rest (Verify query) line = named name (codes "verify") rest line.line.rest (Verify query) line.line.begins (verify_line rest query) line
 asked_by_line name rest (Serve parts) line = named name (codes "serve") rest line.line.rest (Serve parts) line.line.begins (serve_line rest parts) line
+asked_by_line name rest (Fetch parts) line = named name (codes "fetch") rest line.line.rest (Fetch parts) line.line.begins (fetch_line rest parts) line
 
 pub export_lines : Lines export_form
 export_lines = record { reads = asked_by_line (codes "export"); writes = export_by }
@@ -132,6 +136,9 @@ verify_lines = record { reads = asked_by_line (codes "verify"); writes = verify_
 
 pub serve_lines : Lines serve_form
 serve_lines = record { reads = asked_by_line (codes "serve"); writes = serve_by }
+
+pub fetch_lines : Lines fetch_form
+fetch_lines = record { reads = asked_by_line (codes "fetch"); writes = fetch_by }
 
 -- the words are these operands, and no others
 pub record AreOperands (rest texts : List (List ℕ)) (options : List Given) : Type 0 where
@@ -216,14 +223,15 @@ one_of_cid words all more every others r s = one_spelling_of_words cid_names wor
 pub one_line : ((a b : CidParts) (text : List ℕ) → CidText a text → CidText b text → a ≡ b)
     → ((a b : CidParts) (u v x y : List ℕ) → CidBytes a u → CidBytes b v → u ++ x ≡ v ++ y → (u ≡ v) × (a ≡ b))
     → ((target : List ℕ) (options : List Given) (a b : QueryParts) → QueryBy target options a → QueryBy target options b → a ≡ b)
+    → ((target : List ℕ) (options : List Given) (a b : QueryParts) → RawGiven target options a → RawGiven target options b → a ≡ b)
     → (words : List (List ℕ)) (a b : Command) → CommandLine words a → CommandLine words b → a ≡ b
-one_line one_cid no_front one_query words (Check cid) b line other =
+one_line one_cid no_front one_query one_raw words (Check cid) b line other =
     let l = asked_by_line (codes "check") line.line.rest b (subst (λ ws. CommandLine ws b) line.line.begins other) in
     ap Check (same_cid one_cid line.line.rest cid l.0 (record { text = line.text; operands = line.line.operands; text_is = line.text_is }) l.2) ∙ sym l.1
-one_line one_cid no_front one_query words (Node cid) b line other =
+one_line one_cid no_front one_query one_raw words (Node cid) b line other =
     let l = asked_by_line (codes "node") line.line.rest b (subst (λ ws. CommandLine ws b) line.line.begins other) in
     ap Node (same_cid one_cid line.line.rest cid l.0 (record { text = line.text; operands = line.line.operands; text_is = line.text_is }) l.2) ∙ sym l.1
-one_line one_cid no_front one_query words (CidToHex cid) b line other =
+one_line one_cid no_front one_query one_raw words (CidToHex cid) b line other =
     elim (asked_by_line (codes "cid") line.line.rest b (subst (λ ws. CommandLine ws b) line.line.begins other)) [
       | inl l ↦
           let both : line.text ∷ [] ≡ l.1 ∷ [] = (one_of_cid line.line.rest (line.text ∷ []) (l.1 ∷ []) [] [] line.line.operands l.3).0 in
@@ -231,7 +239,7 @@ one_line one_cid no_front one_query words (CidToHex cid) b line other =
           ap CidToHex (one_cid cid l.0 line.text line.text_is (subst (λ t. CidText l.0 t) same l.4)) ∙ sym l.2
       | inr l ↦ absurd (no_digits l.1 (one_of_cid line.line.rest (line.text ∷ []) [] [] (hex_option l.1 ∷ []) line.line.operands l.4).1)
     ]
-one_line one_cid no_front one_query words (CidToText cid) b line other =
+one_line one_cid no_front one_query one_raw words (CidToText cid) b line other =
     elim (asked_by_line (codes "cid") line.line.rest b (subst (λ ws. CommandLine ws b) line.line.begins other)) [
       | inl l ↦ absurd (no_digits line.digits (sym (one_of_cid line.line.rest [] (l.1 ∷ []) (hex_option line.digits ∷ []) [] line.line.operands l.3).1))
       | inr l ↦
@@ -240,14 +248,16 @@ one_line one_cid no_front one_query words (CidToText cid) b line other =
           let bytes : line.bytes ≡ l.2 = cc in
           ap CidToText (no_front cid l.0 line.bytes l.2 [] [] line.bytes_are l.6 (ap (λ bs. bs ++ []) bytes)).1 ∙ sym l.3
     ]
-one_line one_cid no_front one_query words (Export parts) b line other =
+one_line one_cid no_front one_query one_raw words (Export parts) b line other =
     one_of_form export_form words line.line.rest (Export parts) b export_lines (are_by query_names refl) (one_export one_query) line.line.begins line other
-one_line one_cid no_front one_query words (Import parts) b line other =
+one_line one_cid no_front one_query one_raw words (Import parts) b line other =
     one_of_form import_form words line.line.rest (Import parts) b import_lines (are_by import_names refl) one_import line.line.begins line other
-one_line one_cid no_front one_query words (Verify query) b line other =
+one_line one_cid no_front one_query one_raw words (Verify query) b line other =
     one_of_form verify_form words line.line.rest (Verify query) b verify_lines (are_by query_names refl) one_query line.line.begins line other
-one_line one_cid no_front one_query words (Serve parts) b line other =
+one_line one_cid no_front one_query one_raw words (Serve parts) b line other =
     one_of_form serve_form words line.line.rest (Serve parts) b serve_lines (are_by serve_names refl) one_serve line.line.begins line other
+one_line one_cid no_front one_query one_raw words (Fetch parts) b line other =
+    one_of_form fetch_form words line.line.rest (Fetch parts) b fetch_lines (are_by fetch_names refl) (one_fetch one_raw one_query) line.line.begins line other
 
 -- what is no command is refused
 pub refused : (words : List (List ℕ)) (answer : Result Command WordsFault) → IfOk answer (λ command. CommandLine words command)

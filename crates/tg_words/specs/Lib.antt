@@ -4,6 +4,7 @@ pub mod ExportLines
 pub mod ImportLines
 pub mod VerifyLines
 pub mod ServeLines
+pub mod FetchLines
 pub mod CommandLine
 pub mod Operands
 pub mod Parsing

@@ -1,8 +1,10 @@
 -- What the reader of a command's operands keeps and answers, and how faults of the crates below are faults of words.
 use Rattle.std.specs.Prelude.{◌≡◌, ◌≢◌, ℕ, ◌≤◌, Bool, List, [], ◌∷◌, map, find, codes, Option, Some, None, option_map}
-use Rattle.std.specs.Prelude.{option_and_then, Result, MatchResult, IfOk}
+use Rattle.std.specs.Prelude.{option_and_then, Result, MatchResult, IfOk, false, length, true}
+use Rattle.std.specs.List.{list_any}
 use Rattle.std.specs.Option.{unwrap_or}
 use Rattle.std.specs.Str.{bytes_eq}
+use Rattle.std.specs.Str.Parse.{IsNumeral, digits_value}
 use Rattle.hex.specs.declared.error.FromHexError.{FromHexError}
 use Rattle.hex.specs.declared.error.FromHexError.TheVariants as hex
 use Rattle.tg_cid.specs.declared.fault.CidFault.{CidFault}
@@ -17,13 +19,16 @@ use Rattle.tg_cid.specs.Cid.{CidParts}
 use Rattle.tg_cid.specs.Spelling.{CidText}
 use Rattle.tg_words.specs.CommandLine.{CommandLine, no_names}
 use Rattle.tg_model.specs.Queries.{QueryParts}
-use Rattle.tg_model.specs.declared.queries.Form.TheVariants.{Car}
+use Rattle.tg_model.specs.declared.queries.Form.TheVariants.{Car, Raw}
 use Rattle.tg_model.specs.declared.queries.Scope.{Scope}
+use Rattle.tg_model.specs.declared.queries.Scope.TheVariants.{Block}
 use Rattle.tg_path.specs.Spans.{SpanText}
 use Rattle.tg_path.specs.WordTexts.{WordText}
 use Rattle.tg_path.specs.declared.fault.QueryFault.{QueryFault}
 use Rattle.tg_path.specs.declared.fault.QueryFault.TheVariants as queries
+use Rattle.tg_query.specs.Requests.{IsAddr}
 use Rattle.tg_words.specs.ExportLines.{ExportParts}
+use Rattle.tg_words.specs.FetchLines.{FetchParts}
 use Rattle.tg_words.specs.ImportLines.{ImportParts, NumberText}
 use Rattle.tg_words.specs.QueryWords.{DupsText, ScopeText, dups_for, scope_for}
 use Rattle.tg_words.specs.ServeLines.{ServeParts}
@@ -110,6 +115,36 @@ pub record ServeGiven (pack : List ℕ) (options : List Given) (parts : ServePar
   pub named : pack ≢ []
   pub port : NumberNeeded (value_at options (codes "port")) 0 65535 parts.port
   pub count : NumberNeeded (value_at options (codes "count")) 1 1000000 parts.count
+
+-- the block of a root that a word names without a path, where no other option stands
+pub record RawGiven (target : List ℕ) (options : List Given) (query : QueryParts) : Type 0 where
+  pub few : length options ≤ 1
+  pub word : WordText target query.root []
+  pub query_is : query ≡ record { root = query.root; path = []; form = Raw; scope = Block; span = None; dups = true }
+
+-- what a word and these options ask, by whether `--raw` stands
+abbrev pub is_raw : Given → Bool
+is_raw option = bytes_eq option.0 (codes "raw")
+
+abbrev pub FetchAskedBy : Bool → List ℕ → List Given → QueryParts → Type 0
+FetchAskedBy true target options query = RawGiven target options query
+FetchAskedBy false target options query = QueryBy target options query
+
+abbrev pub FetchBy : List ℕ → List Given → QueryParts → Type 0
+FetchBy target options query = FetchAskedBy (list_any is_raw options) target options query
+
+-- one to five digits that write a port from 1 to 65,535
+pub record PortText (text : List ℕ) : Type 0 where
+  pub digits : IsNumeral 10 text
+  pub at_most_five : length text ≤ 5
+  pub not_zero : 1 ≤ digits_value 10 text
+  pub fits : digits_value 10 text ≤ 65535
+
+-- what is fetched from a gateway at this address
+pub record FetchGiven (addr target : List ℕ) (options : List Given) (parts : FetchParts) : Type 0 where
+  pub addr_is : parts.addr ≡ addr
+  pub is_addr : IsAddr addr
+  pub query : FetchBy target options parts.query
 
 -- the words are one CID and no options
 pub record OneCid (words : List (List ℕ)) (cid : CidParts) : Type 0 where

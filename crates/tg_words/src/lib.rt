@@ -15,6 +15,7 @@ ghost use Rattle.tg_words.specs.declared.Command.{Command};
 ghost use Rattle.tg_words.specs.declared.WordsFault.{WordsFault};
 
 mod exports;
+mod fetches;
 mod imports;
 mod operands;
 mod queries;
@@ -24,6 +25,8 @@ mod verifies;
 use clap::error::ErrorKind;
 pub use exports::Export;
 use exports::export_of;
+pub use fetches::Fetch;
+use fetches::fetch_of;
 use hex::FromHexError;
 pub use imports::Import;
 use imports::import_of;
@@ -71,6 +74,12 @@ pub enum Command {
     /// PACK isn't empty. Both options stand, and each N is 1 to 20 decimal digits. The port is 0 to 65,535, where 0
     /// asks for one that is free; 1 to 1,000,000 links are served.
     Serve(Serve),
+    /// `fetch ADDR ROOT/PATH [--scope S] [--bytes R] [--dups D]`: what is asked below a root is fetched from a gateway,
+    /// checked block by block, and what it says is written to out. `fetch ADDR ROOT --raw`: the root's block, as it is.
+    ///
+    /// ADDR is HOST:PORT: 3 to 255 visible bytes of ASCII, and behind the last colon one to five digits that write a
+    /// port of 1 to 65,535. S, R, D and the scope are as in `export`; with `--raw` no other option stands, and no path.
+    Fetch(Fetch),
 }
 
 /// Why words were not read as a command.
@@ -220,6 +229,8 @@ fn dispatch(alloc: Global, command: &str, words: &[String]) -> Result<Command, W
         verify_of(alloc, words)
     } else if command == "serve" {
         serve_of(alloc, words)
+    } else if command == "fetch" {
+        fetch_of(alloc, words)
     } else {
         Err(WordsFault::Usage)
     }

@@ -2,13 +2,16 @@
 use Rattle.std.specs.Prelude.{◌≡◌, ◌≢◌, ℕ, ◌⊎◌, List, Option}
 use Rattle.tg_cid.specs.Cid.{CidParts}
 use Rattle.tg_model.specs.Queries.{QueryParts}
+use Rattle.tg_dials.specs.Dials.{Dialling}
 use Rattle.tg_serve.specs.Packed.{serving_line}
 use Rattle.tg_words.specs.CommandLine.{CommandLine}
+use Rattle.tg_words.specs.FetchLines.{FetchParts}
 use Rattle.tg_words.specs.ServeLines.{ServeParts}
-use Rattle.tg_words.specs.declared.Command.TheVariants.{Check, Node, CidToHex, CidToText, Serve, Verify}
+use Rattle.tg_words.specs.declared.Command.TheVariants.{Check, Fetch, Node, CidToHex, CidToText, Serve, Verify}
 use Rattle.tg_streams.specs.Streams.{Input, InputQuiet, Output, OutputQuiet, Put}
 use Rattle.tg_app.specs.Lines.{Says, exit_status}
 use Rattle.tg_app.specs.Check.{Checked}
+use Rattle.tg_app.specs.Fetches.{Fetched}
 use Rattle.tg_app.specs.Node.{Noded}
 use Rattle.tg_app.specs.CidLines.{HexLine, TextLine, PutsLine}
 use Rattle.tg_app.specs.Verify.{VerifiedInput}
@@ -31,3 +34,4 @@ pub record Ran (words : List (List ℕ)) (status : ℕ) (input : Input) (out : O
   pub text : (cid : CidParts) → CommandLine words (CidToText cid) → status ≡ 0 → PutsLine (TextLine cid) out
   pub verified : (q : QueryParts) → CommandLine words (Verify q) → status ≡ 0 → VerifiedInput q input out
   pub served : (parts : ServeParts) → CommandLine words (Serve parts) → status ≡ 0 → (port : ℕ) × Put (serving_line port) out
+  pub fetched : (parts : FetchParts) → CommandLine words (Fetch parts) → status ≡ 0 → (dial : Dialling) × Fetched parts dial out

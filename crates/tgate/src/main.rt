@@ -19,6 +19,7 @@ use std::process::ExitCode;
 use std::rt::Env;
 use std::{env, io};
 use tg_app::{CommandFault, out_of_memory, run};
+use tg_dials::TcpDial;
 use tg_doors::TcpDoor;
 use tg_edges::{HostFolder, HostPack, Sink, Source, StdSink, StdSource};
 
@@ -72,12 +73,14 @@ fn run_words<I: Source, O: Sink, E: Sink>(
     let mut folder = HostFolder::new(*rt);
     let mut pack = Some(HostPack::new(*rt));
     let mut door = TcpDoor::new(*rt);
+    let mut dial = TcpDial::new(*rt);
     run(
         rt.alloc(),
         words,
         &mut folder,
         &mut pack,
         &mut door,
+        &mut dial,
         input,
         out,
         err,

@@ -56,3 +56,9 @@ returns-then-eq-7-clause-exact c = of_name _ (codes "serve") _ _ _ c.eq-else-eq-
 
 pub returns-then-eq-7-clause-memory : goal.returns-then-eq-7-clause-memory
 returns-then-eq-7-clause-memory c = λ wants. (6, omega arith, same_name _ (codes "serve") _ c.eq-else-eq-6.ensures c.if-eq-7.true)
+
+pub returns-then-eq-8-clause-exact : goal.returns-then-eq-8-clause-exact
+returns-then-eq-8-clause-exact c = of_name _ (codes "fetch") _ _ _ c.eq-else-eq-7.ensures c.if-eq-8.true c.fetch_of.ensures
+
+pub returns-then-eq-8-clause-memory : goal.returns-then-eq-8-clause-memory
+returns-then-eq-8-clause-memory c = λ wants. (7, omega arith, same_name _ (codes "fetch") _ c.eq-else-eq-7.ensures c.if-eq-8.true)

@@ -17,4 +17,5 @@ returns-clause-ran g c =
       text = λ cid asked. (runs.cid_text cid asked).put;
       verified = λ q asked. (runs.verify q asked).verified;
       served = λ parts asked zero. let links = ((runs.serve parts asked).served zero).links in (links.served.port, links.served.line);
+      fetched = λ parts asked zero. (_, (runs.fetch parts asked).fetched zero);
     }

@@ -1,51 +1,68 @@
 use Rattle.std.proofs.Common.{◌≡◌, Option, List, ℕ, inr, subst, refl}
-use Rattle.tg_app.specs.Commands.{CommandEnds, Ends, TheCommand, UsesNoDoor}
+use Rattle.tg_app.specs.Commands.{CommandEnds, Ends, TheCommand, UsesNoDial, UsesNoDoor}
 use Rattle.tg_app.specs.Objects.{Objects}
 use Rattle.tg_app.specs.declared.fault.CommandFault.{CommandFault}
+use Rattle.tg_query.specs.Requests.{IsAddr}
 use Rattle.tg_words.specs.CommandLine.{CommandLine}
+use Rattle.tg_words.specs.FetchLines.{FetchParts}
 use Rattle.tg_words.specs.declared.Command.{Command}
+use Rattle.tg_words.specs.declared.Command.TheVariants.{Fetch}
 use Rattle.tg_app.proofs.top.command.Goals as goal
 
 -- the words spell the command that was read alone, and it ended so
 the_ends : {words : List (List ℕ)} {objects : Objects} {end : Option CommandFault} {read command : Command} → CommandLine words read → ((other : Command) → CommandLine words other → read ≡ other)
-    → read ≡ command → CommandEnds command objects end → (UsesNoDoor command → objects.door.same_door) → Ends words objects end
-the_ends {words} {objects} {end} {read} {command} spelled only is ends door =
-    inr (inr (record { command = command; the = subst (TheCommand words) is (record { spelled = spelled; only = only }); ends = ends; door = door }))
+    → read ≡ command → CommandEnds command objects end → (UsesNoDoor command → objects.door.same_door)
+    → (UsesNoDial command → objects.dial.same_dial) → Ends words objects end
+the_ends {words} {objects} {end} {read} {command} spelled only is ends door dial =
+    inr (inr (record { command = command; the = subst (TheCommand words) is (record { spelled = spelled; only = only }); ends = ends; door = door; dial = dial }))
+
+-- the address of a spelled `fetch` is one
+is_addr : (words : List (List ℕ)) (read : Command) (parts : FetchParts) → CommandLine words read → read ≡ Fetch parts → IsAddr parts.addr
+is_addr words read parts spelled is = let line = subst (CommandLine words) is spelled in line.addr
+
+pub fetch_answer-requires : goal.fetch_answer-requires
+fetch_answer-requires g c = is_addr _ _ _ c.in_ok-cid.ensures.found c.in-Fetch.is
 
 pub returns-in-Check-clause-ends : goal.returns-in-Check-clause-ends
 returns-in-Check-clause-ends g c =
-    the_ends c.in_ok-cid.ensures.found c.in_ok-cid.ensures.only c.in-Check.is (record { folder = refl; pack = refl }, c.check.ensures) (λ none. refl)
+    the_ends c.in_ok-cid.ensures.found c.in_ok-cid.ensures.only c.in-Check.is (record { folder = refl; pack = refl }, c.check.ensures) (λ none. refl) (λ none. refl)
 
 pub returns-in-Node-clause-ends : goal.returns-in-Node-clause-ends
 returns-in-Node-clause-ends g c =
-    the_ends c.in_ok-cid.ensures.found c.in_ok-cid.ensures.only c.in-Node.is (record { folder = refl; pack = refl }, c.node.ensures) (λ none. refl)
+    the_ends c.in_ok-cid.ensures.found c.in_ok-cid.ensures.only c.in-Node.is (record { folder = refl; pack = refl }, c.node.ensures) (λ none. refl) (λ none. refl)
 
 pub returns-in-CidToHex-clause-ends : goal.returns-in-CidToHex-clause-ends
 returns-in-CidToHex-clause-ends g c =
     the_ends c.in_ok-cid.ensures.found c.in_ok-cid.ensures.only c.in-CidToHex.is
     (record { folder = refl; pack = refl }, record { untaken = record { moved = g.met.I.Source.rests _; left = refl }; quiet = refl }, c.cid_to_hex.ensures)
-    (λ none. refl)
+    (λ none. refl) (λ none. refl)
 
 pub returns-in-CidToText-clause-ends : goal.returns-in-CidToText-clause-ends
 returns-in-CidToText-clause-ends g c =
     the_ends c.in_ok-cid.ensures.found c.in_ok-cid.ensures.only c.in-CidToText.is
-    (record { folder = refl; pack = refl }, record { untaken = record { moved = g.met.I.Source.rests _; left = refl }; quiet = refl }, c.cid_to_text.ensures) (λ none. refl)
+    (record { folder = refl; pack = refl }, record { untaken = record { moved = g.met.I.Source.rests _; left = refl }; quiet = refl }, c.cid_to_text.ensures) (λ none. refl) (λ none. refl)
 
 pub returns-in-Export-clause-ends : goal.returns-in-Export-clause-ends
 returns-in-Export-clause-ends g c =
     the_ends c.in_ok-cid.ensures.found c.in_ok-cid.ensures.only c.in-Export.is
-    (refl, record { untaken = record { moved = g.met.I.Source.rests _; left = refl }; quiet = refl }, c.export.ensures.ends) (λ none. refl)
+    (refl, record { untaken = record { moved = g.met.I.Source.rests _; left = refl }; quiet = refl }, c.export.ensures.ends) (λ none. refl) (λ none. refl)
 
 pub returns-in-Import-clause-ends : goal.returns-in-Import-clause-ends
 returns-in-Import-clause-ends g c =
     the_ends c.in_ok-cid.ensures.found c.in_ok-cid.ensures.only c.in-Import.is
-    (record { untaken = record { moved = g.met.I.Source.rests _; left = refl }; quiet = refl }, c.import.ensures.ends) (λ none. refl)
+    (record { untaken = record { moved = g.met.I.Source.rests _; left = refl }; quiet = refl }, c.import.ensures.ends) (λ none. refl) (λ none. refl)
 
 pub returns-in-Verify-clause-ends : goal.returns-in-Verify-clause-ends
 returns-in-Verify-clause-ends g c =
-    the_ends c.in_ok-cid.ensures.found c.in_ok-cid.ensures.only c.in-Verify.is (record { folder = refl; pack = refl }, c.verify.ensures) (λ none. refl)
+    the_ends c.in_ok-cid.ensures.found c.in_ok-cid.ensures.only c.in-Verify.is (record { folder = refl; pack = refl }, c.verify.ensures) (λ none. refl) (λ none. refl)
 
 pub returns-in-Serve-clause-ends : goal.returns-in-Serve-clause-ends
 returns-in-Serve-clause-ends g c =
     the_ends c.in_ok-cid.ensures.found c.in_ok-cid.ensures.only c.in-Serve.is
-    (refl, record { untaken = record { moved = g.met.I.Source.rests _; left = refl }; quiet = refl }, c.serve.ensures.ends) (λ uses. absurd uses)
+    (refl, record { untaken = record { moved = g.met.I.Source.rests _; left = refl }; quiet = refl }, c.serve.ensures.ends) (λ uses. absurd uses) (λ none. refl)
+
+pub returns-in-Fetch-clause-ends : goal.returns-in-Fetch-clause-ends
+returns-in-Fetch-clause-ends g c =
+    the_ends c.in_ok-cid.ensures.found c.in_ok-cid.ensures.only c.in-Fetch.is
+    (record { folder = refl; pack = refl }, record { untaken = record { moved = g.met.I.Source.rests _; left = refl }; quiet = refl }, c.fetch_answer.ensures)
+    (λ none. refl) (λ uses. absurd uses)

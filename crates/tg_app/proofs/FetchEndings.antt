@@ -1,0 +1,256 @@
+-- What each exit status says of `fetch`.
+use Rattle.std.proofs.Common.{◌+◌, ◌<◌, ◌≡◌, ◌≢◌, ◌⊎◌, ◌∙◌, Err, List, Ok, Option, Some, ap, arith, inl, inr, nat_eq, false, refl, suc, sym, subst, true, zero, ℕ}
+use Rattle.std.specs.Prelude.{Result, ⊤, ◌^◌}
+use Rattle.tg_app.proofs.Statuses.{differs, not_zero}
+use Rattle.tg_app.proofs.VerifyEndings.{has_status, status_for}
+use Rattle.tg_app.specs.Fetches.{Fetched, FetchedStatus, FetchAnswers, IsFetchEnd, IsFetchRefusal, IsGoodReply, SaysFetchLine, VouchedFetch}
+use Rattle.tg_app.specs.Lines.{Says, exit_status, status_of}
+use Rattle.tg_app.specs.Verify.{IsNoAnswer, ShowsSome}
+use Rattle.tg_app.specs.declared.fault.CommandFault.{CommandFault}
+use Rattle.tg_app.specs.declared.fault.CommandFault.TheVariants as refusals
+use Rattle.tg_client.specs.declared.fault.ClientFault.TheVariants as clients
+use Rattle.tg_dials.specs.Dials.{DialRose, Dialling}
+use Rattle.tg_faults.specs.Faults.{Rose}
+use Rattle.tg_fetch.specs.Bodies.{SaysOf}
+use Rattle.tg_fetch.specs.Calls.{FetchEnds, LinkCalled}
+use Rattle.tg_fetch.specs.Faults.{QuietUnlessSink}
+use Rattle.tg_fetch.specs.Laws.{IsAcceptedElse}
+use Rattle.tg_fetch.specs.Received.{SaysOfCall}
+use Rattle.tg_fetch.specs.declared.fault.FetchFault.{FetchFault}
+use Rattle.tg_fetch.specs.declared.fault.FetchFault.TheVariants as faults
+use Rattle.tg_links.specs.Steps.{LinkRose, LinkStep}
+use Rattle.tg_links.specs.Views.{is_failed}
+use Rattle.tg_model.specs.Dag.{Dag, Section, root_cid}
+use Rattle.tg_model.specs.Fits.{CollisionPair}
+use Rattle.tg_model.specs.LimitNumbers.{LimitNumbers, standard}
+use Rattle.tg_model.specs.Queries.{QueryParts}
+use Rattle.tg_model.specs.Sound.{IsSound}
+use Rattle.tg_streams.specs.Streams.{Output, OutputQuiet, OutputRose, Put}
+use Rattle.tg_verify.specs.Laws.{AnswerIsFront}
+use Rattle.tg_verify.specs.Sound.{IsItsAnswer, IsItsFront}
+use Rattle.tg_verify.specs.declared.fault.Refusal.TheVariants as verifiers
+use Rattle.tg_words.specs.FetchLines.{FetchParts}
+
+-- ---- the status of each fault
+
+-- where memory is found for its line
+abbrev fetch_status : FetchFault → ℕ
+fetch_status (faults.Refused fault) = status_for (clients.Refused fault)
+fetch_status (faults.Status status) = 4
+fetch_status faults.BadType = 3
+fetch_status faults.BadReplyHead = 3
+fetch_status faults.BadFraming = 3
+fetch_status (faults.BadCar fault) = 3
+fetch_status faults.PeerFault = 5
+fetch_status faults.OutOfMemory = 8
+
+-- where the text of a CID has to be shown
+abbrev ShowsText : FetchFault → Type 0
+ShowsText (faults.Refused fault) = ShowsSome (clients.Refused fault)
+ShowsText other = ⊥
+
+-- the status is that of the fault, or memory was wanted for its line
+abbrev IsStatusOf : FetchFault → ℕ → Type 0
+IsStatusOf fault n = (n ≡ fetch_status fault) ⊎ (ShowsText fault × (n ≡ 8))
+
+refusal_status : (fault : FetchFault) (refusal : CommandFault) → IsFetchRefusal fault refusal → IsStatusOf fault (status_of refusal)
+refusal_status (faults.Refused fault) refusal h = has_status (clients.Refused fault) refusal h
+refusal_status (faults.Status status) refusal h = inl (ap status_of h)
+refusal_status faults.BadType refusal h = inl (ap status_of h)
+refusal_status faults.BadReplyHead refusal h = inl (ap status_of h)
+refusal_status faults.BadFraming refusal h = inl (ap status_of h)
+refusal_status (faults.BadCar fault) refusal h = inl (ap status_of h)
+refusal_status faults.PeerFault refusal h = inl (ap status_of h)
+refusal_status faults.OutOfMemory refusal h = inl (ap status_of h)
+
+end_status : (fault : FetchFault) (end : Option CommandFault) → IsFetchEnd (Err fault) end → IsStatusOf fault (exit_status end)
+end_status fault end (refusal, is, tells) = subst (IsStatusOf fault) (sym (ap exit_status is)) (refusal_status fault refusal tells)
+
+by_status : (n : ℕ) (fault : FetchFault) → nat_eq n 8 ≡ false → IsStatusOf fault n → fetch_status fault ≡ n
+by_status n fault apart (inl e) = sym e
+by_status n fault apart (inr memory) = absurd (differs n 8 apart memory.1)
+
+-- an end with this status is one for a fault that has it
+fault_has : (n : ℕ) (fault : FetchFault) (end : Option CommandFault) → nat_eq n 8 ≡ false → exit_status end ≡ n → IsFetchEnd (Err fault) end → fetch_status fault ≡ n
+fault_has n fault end apart e is = by_status n fault apart (subst (IsStatusOf fault) e (end_status fault end is))
+
+done_is : (n : ℕ) (done : ⊤) (end : Option CommandFault) → nat_eq 0 n ≡ false → exit_status end ≡ n → IsFetchEnd (Ok done) end → ⊥
+done_is n done end apart e is = differs 0 n apart (sym (ap exit_status is) ∙ e)
+
+-- ---- status 2
+
+never_2 : (fault : FetchFault) → fetch_status fault ≡ 2 → ⊥
+never_2 (faults.Refused (verifiers.Extra sections)) e = cc
+never_2 (faults.Refused fault) e = cc
+never_2 fault e = cc
+
+no_usage_by : (result : Result ⊤ FetchFault) → IsFetchEnd result (Some refusals.Usage) → ⊥
+no_usage_by (Ok done) is = done_is 2 done (Some refusals.Usage) refl refl is
+no_usage_by (Err fault) is = never_2 fault (fault_has 2 fault (Some refusals.Usage) refl refl is)
+
+pub no_fetch_usage : (parts : FetchParts) (dial : Dialling) (out : Output) → FetchAnswers parts dial out (Some refusals.Usage) → ⊥
+no_fetch_usage parts dial out h = no_usage_by h.result h.end_is
+
+-- ---- status 6
+
+rose_at_6 : (out : Output) (fault : FetchFault) → fetch_status fault ≡ 6 → QuietUnlessSink {A = ⊤} out (Err fault) → OutputRose out
+rose_at_6 out (faults.Refused verifiers.SinkFault) e cause = cause
+rose_at_6 out (faults.Refused fault) e cause = cc
+rose_at_6 out fault e cause = cc
+
+rose_by : (out : Output) (result : Result ⊤ FetchFault) (end : Option CommandFault) → exit_status end ≡ 6 → IsFetchEnd result end → QuietUnlessSink out result → OutputRose out
+rose_by out (Ok done) end e is cause = absurd (done_is 6 done end refl e is)
+rose_by out (Err fault) end e is cause = rose_at_6 out fault (fault_has 6 fault end refl e is) cause
+
+pub fetch_fault : (parts : FetchParts) (dial : Dialling) (out : Output) (end : Option CommandFault) → exit_status end ≡ 6 → FetchAnswers parts dial out end → OutputRose out
+fetch_fault parts dial out end e h = rose_by out h.result end e h.end_is h.cause
+
+sink_is_6 : (end : Option CommandFault) → IsFetchEnd (Err (faults.Refused verifiers.SinkFault)) end → exit_status end ≡ 6
+sink_is_6 end (refusal, is, inl tells) = ap exit_status is ∙ ap status_of tells
+sink_is_6 end (refusal, is, inr memory) = absurd memory.0
+
+quiet_by : (out : Output) (result : Result ⊤ FetchFault) (end : Option CommandFault) → exit_status end ≢ 6 → IsFetchEnd result end → QuietUnlessSink out result → OutputQuiet out
+quiet_by out (Ok done) end ne is cause = cause
+quiet_by out (Err (faults.Refused verifiers.SinkFault)) end ne is cause = absurd (ne (sink_is_6 end is))
+quiet_by out (Err (faults.Refused fault)) end ne is cause = cause
+quiet_by out (Err fault) end ne is cause = cause
+
+pub fetch_quiet : (parts : FetchParts) (dial : Dialling) (out : Output) (end : Option CommandFault) → exit_status end ≢ 6 → FetchAnswers parts dial out end → OutputQuiet out
+fetch_quiet parts dial out end ne h = quiet_by out h.result end ne h.end_is h.cause
+
+-- ---- status 0
+
+never_0 : (fault : FetchFault) (end : Option CommandFault) → exit_status end ≡ 0 → IsFetchEnd (Err fault) end → ⊥
+never_0 fault end e (refusal, is, tells) = not_zero refusal (sym (ap exit_status is) ∙ e)
+
+fetched_by : (parts : FetchParts) (dial : Dialling) (out : Output) (result : Result ⊤ FetchFault) (end : Option CommandFault) → exit_status end ≡ 0 → IsFetchEnd result end
+    → FetchEnds parts.query standard parts.addr dial out result → QuietUnlessSink out result → Fetched parts dial out
+fetched_by parts dial out (Ok done) end e is ends cause = record { ends = ends; quiet = cause }
+fetched_by parts dial out (Err fault) end e is ends cause = absurd (never_0 fault end e is)
+
+pub fetched_of : (parts : FetchParts) (dial : Dialling) (out : Output) (end : Option CommandFault) → exit_status end ≡ 0 → FetchAnswers parts dial out end → Fetched parts dial out
+fetched_of parts dial out end e h = fetched_by parts dial out h.result end e h.end_is h.ends h.cause
+
+-- ---- status 4
+
+status_at_4 : (fault : FetchFault) → fetch_status fault ≡ 4 → (status : ℕ) × (fault ≡ faults.Status status)
+status_at_4 (faults.Status status) e = (status, refl)
+status_at_4 (faults.Refused (verifiers.Extra sections)) e = cc
+status_at_4 (faults.Refused fault) e = cc
+status_at_4 fault e = cc
+
+other_by : (parts : FetchParts) (dial : Dialling) (out : Output) (result : Result ⊤ FetchFault) (end : Option CommandFault) → exit_status end ≡ 4 → IsFetchEnd result end
+    → FetchEnds parts.query standard parts.addr dial out result → FetchedStatus parts dial out
+other_by parts dial out (Ok done) end e is ends = absurd (done_is 4 done end refl e is)
+other_by parts dial out (Err fault) end e is ends =
+    let (status, same) = status_at_4 fault (fault_has 4 fault end refl e is) in
+    record { status = status; ends = subst (λ (f : FetchFault). FetchEnds parts.query standard parts.addr dial out (Err f)) same ends }
+
+pub fetch_other_of : (parts : FetchParts) (dial : Dialling) (out : Output) (end : Option CommandFault) → exit_status end ≡ 4 → FetchAnswers parts dial out end → FetchedStatus parts dial out
+fetch_other_of parts dial out end e h = other_by parts dial out h.result end e h.end_is h.ends
+
+-- ---- status 5
+
+peer_at_5 : (fault : FetchFault) → fetch_status fault ≡ 5 → fault ≡ faults.PeerFault
+peer_at_5 faults.PeerFault e = refl
+peer_at_5 (faults.Refused (verifiers.Extra sections)) e = cc
+peer_at_5 (faults.Refused fault) e = cc
+peer_at_5 fault e = cc
+
+-- a count of faults that rose from 0 is one of a link that failed
+failed_by : (n : ℕ) → Rose 0 n → is_failed n ≡ true
+failed_by zero rose = let few : 0 + 1 < 2 ^ 64 = omega arith in let up = rose few in absurd (omega (arith, up))
+failed_by (suc n) rose = refl
+
+link_rose : (q : QueryParts) (limits : LimitNumbers) (addr : List ℕ) (link : LinkStep) (out : Output) → LinkCalled q limits addr link out (Err faults.PeerFault) → LinkRose link
+link_rose q limits addr link out (inl whole) = whole.rose
+link_rose q limits addr link out (inr front) = front.why
+
+-- a fault of the peer is one of the dial, or of the link that was given back to it
+peer_rose : (q : QueryParts) (limits : LimitNumbers) (addr : List ℕ) (dial : Dialling) (out : Output) → FetchEnds q limits addr dial out (Err faults.PeerFault) → DialRose dial
+peer_rose q limits addr dial out (inl call) = call.hung_up.failed (failed_by call.link.faults (link_rose q limits addr _ out call.called))
+peer_rose q limits addr dial out (inr missed) = missed.rose
+
+dial_by : (parts : FetchParts) (dial : Dialling) (out : Output) (result : Result ⊤ FetchFault) (end : Option CommandFault) → exit_status end ≡ 5 → IsFetchEnd result end
+    → FetchEnds parts.query standard parts.addr dial out result → DialRose dial
+dial_by parts dial out (Ok done) end e is ends = absurd (done_is 5 done end refl e is)
+dial_by parts dial out (Err fault) end e is ends =
+    peer_rose parts.query standard parts.addr dial out
+    (subst (λ (f : FetchFault). FetchEnds parts.query standard parts.addr dial out (Err f)) (peer_at_5 fault (fault_has 5 fault end refl e is)) ends)
+
+pub fetch_rose_of : (parts : FetchParts) (dial : Dialling) (out : Output) (end : Option CommandFault) → exit_status end ≡ 5 → FetchAnswers parts dial out end → DialRose dial
+fetch_rose_of parts dial out end e h = dial_by parts dial out h.result end e h.end_is h.ends
+
+-- ---- a good reply
+
+-- a counted fault or want of memory is left
+own_8 : (parts : FetchParts) (dial : Dialling) (out : Output) (text : List ℕ) (result : Result ⊤ FetchFault) (end : Option CommandFault) → (DialRose dial → ⊥) → (OutputRose out → ⊥)
+    → IsFetchEnd result end → FetchEnds parts.query standard parts.addr dial out result → QuietUnlessSink out result → IsAcceptedElse text out result
+    → (exit_status end ≡ 8) ⊎ ((exit_status end ≡ 0) × Put text out)
+own_8 parts dial out text (Ok done) end no_dial no_out is ends cause put = inr (ap exit_status is, put)
+own_8 parts dial out text (Err (faults.Refused verifiers.SinkFault)) end no_dial no_out is ends cause own = absurd (no_out cause)
+own_8 parts dial out text (Err faults.PeerFault) end no_dial no_out is ends cause own = absurd (no_dial (peer_rose parts.query standard parts.addr dial out ends))
+own_8 parts dial out text (Err faults.OutOfMemory) end no_dial no_out (refusal, is, tells) ends cause own = inl (ap exit_status is ∙ ap status_of tells)
+own_8 parts dial out text (Err (faults.Refused fault)) end no_dial no_out is ends cause own = absurd own
+own_8 parts dial out text (Err fault) end no_dial no_out is ends cause own = absurd own
+
+pub fetch_answered_of : (parts : FetchParts) (dial : Dialling) (out : Output) (end : Option CommandFault) (text : List ℕ) → IsGoodReply parts.query dial text
+    → (DialRose dial → ⊥) → (OutputRose out → ⊥) → FetchAnswers parts dial out end → (exit_status end ≡ 8) ⊎ ((exit_status end ≡ 0) × Put text out)
+fetch_answered_of parts dial out end text good no_dial no_out h = own_8 parts dial out text h.result end no_dial no_out h.end_is h.ends h.cause (h.accepts text good)
+
+-- ---- beside a sound DAG
+
+answer_by : (q : QueryParts) (d : Dag) (sections : List Section) (text : List ℕ) (result : Result ⊤ FetchFault) (end : Option CommandFault) → exit_status end ≡ 0 → IsFetchEnd result end
+    → SaysOfCall q sections text result d → IsItsAnswer q d sections text
+answer_by q d sections text (Ok done) end e is says = says
+answer_by q d sections text (Err fault) end e is says = absurd (never_0 fault end e is)
+
+front_by : AnswerIsFront → (q : QueryParts) (d : Dag) (sections : List Section) (text : List ℕ) (result : Result ⊤ FetchFault) → SaysOfCall q sections text result d → IsItsFront q d sections text
+front_by law q d sections text (Ok done) says = law q d sections text says
+front_by law q d sections text (Err fault) says = says.0
+
+nowhere_at_9 : (q : QueryParts) (d : Dag) (sections : List Section) (fault : FetchFault) → fetch_status fault ≡ 9 → SaysOf q d sections fault → IsNoAnswer q d ⊎ CollisionPair sections d
+nowhere_at_9 q d sections (faults.Refused (verifiers.NotThere segment)) e (inl (inl leads)) = inl (inl (segment, leads))
+nowhere_at_9 q d sections (faults.Refused (verifiers.NotThere segment)) e (inl (inr pair)) = inr pair
+nowhere_at_9 q d sections (faults.Refused (verifiers.NotThere segment)) e (inr (inl leads)) = inl (inl (segment, leads))
+nowhere_at_9 q d sections (faults.Refused (verifiers.NotThere segment)) e (inr (inr pair)) = inr pair
+nowhere_at_9 q d sections (faults.Refused (verifiers.NotFolder segment)) e (inl (inl leads)) = inl (inr (segment, leads))
+nowhere_at_9 q d sections (faults.Refused (verifiers.NotFolder segment)) e (inl (inr pair)) = inr pair
+nowhere_at_9 q d sections (faults.Refused (verifiers.NotFolder segment)) e (inr (inl leads)) = inl (inr (segment, leads))
+nowhere_at_9 q d sections (faults.Refused (verifiers.NotFolder segment)) e (inr (inr pair)) = inr pair
+nowhere_at_9 q d sections (faults.Refused fault) e says = cc
+nowhere_at_9 q d sections fault e says = cc
+
+nowhere_by : (q : QueryParts) (d : Dag) (sections : List Section) (text : List ℕ) (result : Result ⊤ FetchFault) (end : Option CommandFault) → exit_status end ≡ 9 → IsFetchEnd result end
+    → SaysOfCall q sections text result d → IsNoAnswer q d ⊎ CollisionPair sections d
+nowhere_by q d sections text (Ok done) end e is says = absurd (done_is 9 done end refl e is)
+nowhere_by q d sections text (Err fault) end e is says = nowhere_at_9 q d sections fault (fault_has 9 fault end refl e is) says.1
+
+says_by : (q : QueryParts) (d : Dag) (sections : List Section) (text : List ℕ) (result : Result ⊤ FetchFault) → SaysOfCall q sections text result d → SaysFetchLine q d sections result
+says_by q d sections text (Ok done) says = tt
+says_by q d sections text (Err fault) says = says.1
+
+pub fetch_vouched_of : AnswerIsFront → (parts : FetchParts) (d : Dag) (dial : Dialling) (out err : Output) (status : ℕ) (end : Option CommandFault) → IsSound d → root_cid d ≡ parts.query.root
+    → status ≡ exit_status end → Says end err → FetchAnswers parts dial out end → VouchedFetch parts d dial out err status
+fetch_vouched_of law parts d dial out err status end sound root e line h =
+    let q = parts.query in
+    let did = h.sound in
+    let says = did.sound d sound root in
+    record {
+      result = h.result;
+      ends = h.ends;
+      sections = did.sections;
+      heard = did.heard;
+      heard_in = did.heard_in;
+      received = did.received;
+      text = did.text;
+      put = did.put;
+      accepted = λ done. answer_by q d did.sections did.text h.result end (sym e ∙ done) h.end_is says;
+      front = front_by law q d did.sections did.text h.result says;
+      nowhere = λ nine. nowhere_by q d did.sections did.text h.result end (sym e ∙ nine) h.end_is says;
+      says = says_by q d did.sections did.text h.result says;
+      end = end;
+      end_is = h.end_is;
+      status_is = e;
+      line = line;
+    }
