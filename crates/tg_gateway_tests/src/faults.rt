@@ -1,15 +1,15 @@
 //! Faults of out: of a stream's replies each put fails in turn.
 use crate::fed::{Exchange, Stream, feed_all, replied, stream_of};
-use crate::pieces::Piece::Text;
-use crate::pieces::{
-    ABSENT, BAD, CAR, CHUNKED, E, E_HEADER, E_SECTION, H, LENGTH_11_CLOSE, RAW, size_of,
-};
 use crate::replies::{BAD_HEAD, GOOD, SHORT};
 use crate::test_store::{Breaks, TestStore};
 use std::alloc::{AllocError, Global};
 use std::rt::HostRuntime;
 use tg_bytes::List;
 use tg_gateway::{GatewayFault, Next, Session};
+use tg_known_pieces::pieces::Piece::Text;
+use tg_known_pieces::pieces::{
+    ABSENT, BAD, CAR, CHUNKED, E, E_HEADER, E_SECTION, H, LENGTH_11_CLOSE, RAW, size_of,
+};
 use tg_model::Limits;
 use tg_streams::MemSink;
 

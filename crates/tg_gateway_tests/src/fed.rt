@@ -1,9 +1,9 @@
 //! Sessions that are fed streams in pieces.
-use crate::pieces::{Part, push_part, size_of};
 use crate::test_store::{Breaks, TestStore};
 use std::alloc::{AllocError, Global};
 use tg_bytes::{Bytes, List};
 use tg_gateway::{GatewayFault, Next, Served, Session};
+use tg_known_pieces::pieces::{Part, push_part, size_of};
 use tg_model::Limits;
 use tg_streams::MemSink;
 

@@ -1,13 +1,13 @@
 //! What is sent of files and directories.
 use crate::fed::{Exchange, Stream, is_served};
-use crate::pieces::Piece::Text;
-use crate::pieces::{
-    AAAA, ABSENT, CAR, CAR_ONCE, CHUNKED, D, D_HEADER, D_SECTION, F, F_HEADER, F_SECTION, HELL,
-    O_WO, Part, RLD, T, T_HEADER, T_SECTION,
-};
 use crate::test_store::TestStore;
 use std::rt::HostRuntime;
 use tg_gateway::Next;
+use tg_known_pieces::pieces::Piece::Text;
+use tg_known_pieces::pieces::{
+    AAAA, ABSENT, CAR, CAR_ONCE, CHUNKED, D, D_HEADER, D_SECTION, F, F_HEADER, F_SECTION, HELL,
+    O_WO, Part, RLD, T, T_HEADER, T_SECTION,
+};
 
 /// The CAR of the whole file, of its root alone, of its root and one leaf.
 const WHOLE_FILE: Part = &[

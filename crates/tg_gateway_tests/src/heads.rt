@@ -2,14 +2,14 @@
 use crate::fed::{
     Exchange, Pieces, Told, feed_all, replied, replies_within, sink_of, stream_of, tells,
 };
-use crate::pieces::Piece::Text;
-use crate::pieces::{BAD, E, I, LENGTH_0, Part, RAW, push_part};
 use crate::replies::{BAD_HEAD, BAD_METHOD, GOOD, HEAD_LIMIT, NO_FORMAT, SHORT, SHORT_REPLY};
 use crate::test_store::TestStore;
 use std::alloc::{AllocError, Global};
 use std::rt::HostRuntime;
 use tg_bytes::Bytes;
 use tg_gateway::{Next, Served, Session};
+use tg_known_pieces::pieces::Piece::Text;
+use tg_known_pieces::pieces::{BAD, E, I, LENGTH_0, Part, RAW, push_part};
 use tg_model::Limits;
 
 /// Streams that come in two pieces, and whether the last reply closes the connection.

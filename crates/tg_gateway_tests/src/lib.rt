@@ -3,8 +3,6 @@
 #![tactic(auto)]
 
 #[cfg(test)]
-mod blocks;
-#[cfg(test)]
 mod faults;
 #[cfg(test)]
 mod fed;
@@ -16,8 +14,6 @@ mod heads;
 mod links;
 #[cfg(test)]
 mod long;
-#[cfg(test)]
-mod pieces;
 #[cfg(test)]
 mod received;
 #[cfg(test)]

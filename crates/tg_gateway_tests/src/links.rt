@@ -1,15 +1,15 @@
 //! Sessions over links in memory.
 use crate::fed::{Exchange, Stream, replied, replies_within, stream_of, whole_within};
-use crate::pieces::Piece::Text;
-use crate::pieces::{
-    BAD, CAR, CHUNKED, E, E_HEADER, E_SECTION, G, G_HEADER, G_SECTION, H, I, LENGTH_11, RAW,
-};
 use crate::replies::{BAD_HEAD, GOOD, NO_FORMAT, SHORT};
 use crate::test_store::{Breaks, TestStore};
 use std::alloc::{AllocError, Global};
 use std::rt::HostRuntime;
 use tg_bytes::{Bytes, List};
 use tg_gateway::{GatewayFault, Next, Served, serve_link};
+use tg_known_pieces::pieces::Piece::Text;
+use tg_known_pieces::pieces::{
+    BAD, CAR, CHUNKED, E, E_HEADER, E_SECTION, G, G_HEADER, G_SECTION, H, I, LENGTH_11, RAW,
+};
 use tg_links::{Call, MemLink};
 use tg_model::{LimitKind, Limits};
 

@@ -1,14 +1,16 @@
 //! A block that is longer than what is gathered, which is 32,768 bytes.
-use crate::blocks::long_block;
 use crate::fed::{PIECES, Told, feed_all, tells};
-use crate::pieces::Piece::Text;
-use crate::pieces::{CAR, CHUNKED, CLOSE, L, L_HEADER, L_SECTION, Part, RAW, push_part, size_of};
 use crate::replies::{SHORT, SHORT_REPLY};
 use crate::test_store::TestStore;
 use std::alloc::{AllocError, Global};
 use std::rt::HostRuntime;
 use tg_bytes::{Bytes, List};
 use tg_gateway::{GatewayFault, Next, Served, Session};
+use tg_known_pieces::blocks::long_block;
+use tg_known_pieces::pieces::Piece::Text;
+use tg_known_pieces::pieces::{
+    CAR, CHUNKED, CLOSE, L, L_HEADER, L_SECTION, Part, RAW, push_part, size_of,
+};
 use tg_model::Limits;
 use tg_streams::MemSink;
 

@@ -1,12 +1,12 @@
 //! The limit on what may be received: of each stream any number of bytes may be.
 use crate::fed::{Pieces, Stream, Told, replied, replies_within, stream_of, tells};
-use crate::pieces::Piece::Text;
-use crate::pieces::{CAR, CHUNKED, E, E_HEADER, E_SECTION, I, LENGTH_0, RAW};
 use crate::replies::{BAD_HEAD, GOOD, NO_FORMAT, SHORT};
 use crate::test_store::{Breaks, TestStore};
 use std::alloc::Global;
 use std::rt::HostRuntime;
 use tg_gateway::{GatewayFault, Next, Served};
+use tg_known_pieces::pieces::Piece::Text;
+use tg_known_pieces::pieces::{CAR, CHUNKED, E, E_HEADER, E_SECTION, I, LENGTH_0, RAW};
 use tg_model::{LimitKind, Limits};
 
 const ROWS: &[Stream] = &[

@@ -1,7 +1,5 @@
 //! Requests that are refused, each behind a good request and before another.
 use crate::fed::{PIECES, Told, tells};
-use crate::pieces::Piece::Text;
-use crate::pieces::{B, BAD, BROKEN, E, G, GONE, H, Part, push_part};
 use crate::replies::{
     BAD_FRAMING, BAD_HEAD, BAD_METHOD, BAD_PARAM, NO_FORMAT, NO_ROOT, SHORT, SHORT_REPLY,
 };
@@ -10,6 +8,8 @@ use std::alloc::{AllocError, Global};
 use std::rt::HostRuntime;
 use tg_bytes::Bytes;
 use tg_gateway::{Next, Served};
+use tg_known_pieces::pieces::Piece::Text;
+use tg_known_pieces::pieces::{B, BAD, BROKEN, E, G, GONE, H, Part, push_part};
 use tg_model::Limits;
 
 /// What comes behind the reply: the connection stays open, or closes.

@@ -1,7 +1,7 @@
 //! Whole replies.
 use crate::fed::Exchange;
-use crate::pieces::Piece::Text;
-use crate::pieces::{BAD, BROKEN, Front, I, LENGTH_0, NOT_FOUND, Part, Piece, RAW};
+use tg_known_pieces::pieces::Piece::Text;
+use tg_known_pieces::pieces::{BAD, BROKEN, Front, I, LENGTH_0, NOT_FOUND, Part, Piece, RAW};
 
 /// The shortest request, for the raw block of no bytes, and its reply.
 pub const SHORT: Part = &[Text("GET "), I, Text("?format=raw HTTP/1.1\r\n\r\n")];

@@ -1,16 +1,16 @@
 //! What is sent of single blocks, of an identity CID, and of a DAG of which a block can't be sent.
 use crate::fed::{Exchange, Stream, is_served};
-use crate::pieces::Piece::Text;
-use crate::pieces::{
-    ABSENT, B, B_HEADER, B_SECTION, CAR, CHUNKED, CLOSE, E, E_HEADER, E_SECTION, F, F_HEADER,
-    F_SECTION, G, G_HEADER, G_SECTION, H, H_HEADER, H_SECTION, I, I_HEADER, LENGTH_0, LENGTH_1,
-    LENGTH_11, O_WO, RAW,
-};
 use crate::replies::{GOOD, SHORT};
 use crate::test_store::TestStore;
 use std::alloc::Global;
 use std::rt::HostRuntime;
 use tg_gateway::Next;
+use tg_known_pieces::pieces::Piece::Text;
+use tg_known_pieces::pieces::{
+    ABSENT, B, B_HEADER, B_SECTION, CAR, CHUNKED, CLOSE, E, E_HEADER, E_SECTION, F, F_HEADER,
+    F_SECTION, G, G_HEADER, G_SECTION, H, H_HEADER, H_SECTION, I, I_HEADER, LENGTH_0, LENGTH_1,
+    LENGTH_11, O_WO, RAW,
+};
 
 /// Blocks: by the query, by `Accept`, as CARs, and one that is no node.
 const BLOCKS: &[Exchange] = &[

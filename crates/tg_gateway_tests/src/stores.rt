@@ -1,16 +1,16 @@
 //! Stores of which one look-up fails, or finds a block that changed: each look-up for a request in turn.
 use crate::fed::{Exchange, is_served_so, replied};
-use crate::pieces::Piece::Text;
-use crate::pieces::{
-    AAAA, ABSENT, BROKEN, CAR, CAR_ONCE, CHUNKED, CLOSE, D, D_HEADER, D_SECTION, E, E_HEADER,
-    E_SECTION, F, F_HEADER, F_SECTION, GONE, H, HELL, LENGTH_11, LENGTH_11_CLOSE, O_WO, Part, RAW,
-    RLD, T, T_HEADER, T_SECTION,
-};
 use crate::replies::{GOOD, NO_ROOT, SHORT, SHORT_REPLY, STORE, STORE_CLOSE};
 use crate::test_store::{Breaks, TestStore};
 use std::alloc::Global;
 use std::rt::HostRuntime;
 use tg_gateway::{Next, Served};
+use tg_known_pieces::pieces::Piece::Text;
+use tg_known_pieces::pieces::{
+    AAAA, ABSENT, BROKEN, CAR, CAR_ONCE, CHUNKED, CLOSE, D, D_HEADER, D_SECTION, E, E_HEADER,
+    E_SECTION, F, F_HEADER, F_SECTION, GONE, H, HELL, LENGTH_11, LENGTH_11_CLOSE, O_WO, Part, RAW,
+    RLD, T, T_HEADER, T_SECTION,
+};
 
 /// A request between two for which nothing is looked up: its name, its text, its replies where its first look-up breaks,
 /// where its second one does, and so on, each with the session's last answer, and at last those where none breaks.

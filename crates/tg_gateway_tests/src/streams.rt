@@ -1,14 +1,14 @@
 //! Streams of requests on one connection, and all that is written for them.
 use crate::fed::{Stream, is_served};
-use crate::pieces::Piece::Text;
-use crate::pieces::{
-    ABSENT, BAD, BROKEN, CAR, CHUNKED, CHUNKED_CLOSE, CLOSE, E, E_HEADER, E_SECTION, G, GONE, H,
-    LENGTH_11, LENGTH_11_CLOSE, NOT_FOUND, Part, RAW,
-};
 use crate::replies::{GOOD, SHORT, SHORT_REPLY};
 use crate::test_store::TestStore;
 use std::rt::HostRuntime;
 use tg_gateway::Next;
+use tg_known_pieces::pieces::Piece::Text;
+use tg_known_pieces::pieces::{
+    ABSENT, BAD, BROKEN, CAR, CHUNKED, CHUNKED_CLOSE, CLOSE, E, E_HEADER, E_SECTION, G, GONE, H,
+    LENGTH_11, LENGTH_11_CLOSE, NOT_FOUND, Part, RAW,
+};
 
 /// Requests for the CAR of the empty directory, for an entry that it hasn't, and for the raw block `hello world`.
 const GET_E: Part = &[

@@ -2,11 +2,11 @@
 ghost use Rattle.std.specs.Prelude.{◌≡◌, ℕ, IfSome, None, ⊤};
 ghost use Rattle.tg_model.specs.Stores.{IsCauseOf};
 
-use crate::blocks::{stored, stored_long};
 use sha2::{Digest, Sha256};
 use std::alloc::Global;
 use tg_bytes::Bytes;
 use tg_cid::Cid;
+use tg_known_pieces::blocks::{stored, stored_long};
 use tg_model::{Blocks, BlocksFault};
 use tg_store::MemStore;
 

@@ -116,7 +116,7 @@ pub fn path_of(root: Block) -> &'static str {
 }
 
 /// The bytes of a CID.
-fn cid_of(block: Block) -> &'static [u8] {
+pub fn cid_of(block: Block) -> &'static [u8] {
     match block {
         Block::Empty => DIRECTORY_CID,
         Block::Hello => HELLO_CID,
