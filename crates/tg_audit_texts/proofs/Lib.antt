@@ -1,0 +1,4 @@
+mod NextFiles
+mod ExpectedTexts
+mod SummaryTexts
+mod GoodPaths

@@ -1,0 +1,4 @@
+pub mod Hashing
+pub mod Queries
+pub mod Expected
+pub mod Summary

@@ -1,0 +1,3 @@
+mod Draws
+mod Names
+mod Trees
