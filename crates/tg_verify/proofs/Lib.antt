@@ -16,6 +16,7 @@ mod OpenHere
 mod Opened
 mod Owning
 mod Passing
+mod Pieces
 mod Placed
 mod Puts
 mod Refused

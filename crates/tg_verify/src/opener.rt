@@ -1,10 +1,11 @@
 //! Blocks that are opened at their places.
 ghost use Rattle.std.specs.Prelude.{◌≡◌, ◌≢◌, ◌++◌, ◌+◌, [], ℕ, List as Items, None, Option, Some, IfOk, MatchResult};
-ghost use Rattle.std.specs.Prelude.{OnOk, length};
+ghost use Rattle.std.specs.Prelude.{OnErr, OnOk, length};
 ghost use Rattle.tg_model.specs.Dag.{Section};
 ghost use Rattle.tg_model.specs.Traversal.{ListedEntry, is_asked};
 ghost use Rattle.tg_model.specs.declared.kinds.Kind.{Kind};
-ghost use Rattle.tg_streams.specs.Streams.{into};
+ghost use Rattle.tg_streams.specs.Gathering.{Gave};
+ghost use Rattle.tg_streams.specs.Streams.{OutputQuiet, Put, PutFront, into};
 ghost use Rattle.tg_traversal.specs.BlocksLeft.{HasFewer};
 ghost use Rattle.tg_traversal.specs.Left.{WantedAt, tasks_left, told_wanted};
 ghost use Rattle.tg_traversal_laws.specs.Stages.{nothing_given};
@@ -21,9 +22,10 @@ use std::alloc::{AllocError, Global};
 use std::marker::Model;
 use tg_bytes::{Bytes, List};
 use tg_cid::Cid;
+use tg_faults::Failed;
 use tg_listing::ListingLine;
 use tg_model::{LimitKind, Limits, PlacedKind, Query, Scope};
-use tg_streams::{Sink, put_pieces};
+use tg_streams::{Gathering, Sink, put_all};
 use tg_traversal::{Frames, PlaceText, SharedBlock, Wanted};
 
 /// Opens the blocks that a query asks for at their places, one after another, and puts what they say. It holds of a
@@ -36,6 +38,7 @@ pub(crate) struct Opener {
     pub(crate) limits: Limits,
     pub(crate) lines: List<ListingLine>,
     pub(crate) counts: Counts,
+    pub(crate) gathering: Gathering,
 }
 
 /// What a block says, up to the next place: a line, bytes of the block, and ends of lines.
@@ -46,14 +49,14 @@ pub(crate) struct Said<'a> {
 }
 
 impl Model for Opener {
-    ghost use Rattle.std.specs.Prelude.{◌≡◌};
+    ghost use Rattle.std.specs.Prelude.{◌≡◌, []};
     ghost use Rattle.tg_verify.specs.State.{OpenerState};
 
     ghost Value = { OpenerState };
 
     ghost view = { λ o. record { left = o.frames; limits = o.limits; lines = o.lines; counts = o.counts } };
 
-    ghost invariant = { λ o. o.scope ≡ o.frames.query.scope };
+    ghost invariant = { λ o. (o.scope ≡ o.frames.query.scope) × (o.gathering ≡ []) };
 }
 
 impl Opener {
@@ -73,6 +76,7 @@ impl Opener {
             limits,
             lines: List::new(alloc),
             counts: Counts::new(alloc),
+            gathering: Gathering::new(alloc)?,
         })
     }
 
@@ -111,6 +115,7 @@ impl Opener {
     {
         let said = self.prepare(cid, block, source)?;
         put_from(
+            &mut self.gathering,
             out,
             said.text.line.as_slice(),
             said.text.bytes,
@@ -197,12 +202,62 @@ impl Opener {
     }
 }
 
-/// Puts a line, bytes, and ends of lines. The error is a fault of out, which then has a front of them.
-fn put_from<S: Sink>(out: &mut S, line: &[u8], bytes: &[u8], ends: &[u8]) -> Result<(), Refusal>
-    ensures { PutEnds (line.now ++ (bytes.now ++ ends.now)) (into S.sink out.old out.new) result }
+/// Puts a line, bytes, and ends of lines, through a room in which nothing is gathered. The error is a fault of out, which
+/// then has a front of them.
+fn put_from<S: Sink>(
+    gathering: &mut Gathering,
+    out: &mut S,
+    line: &[u8],
+    bytes: &[u8],
+    ends: &[u8],
+) -> Result<(), Refusal>
+    requires { gathering.old ≡ [] }
+    ensures put { PutEnds (line.now ++ (bytes.now ++ ends.now)) (into S.sink out.old out.new) result }
+    ensures nothing { gathering.new ≡ [] }
 {
-    match put_pieces(out, &[line, bytes, ends]) {
+    match put_together(gathering, out, line, bytes, ends) {
         Ok(()) => Ok(()),
         Err(_) => Err(Refusal::SinkFault),
     }
+}
+
+/// Puts a line, bytes, and ends of lines: as one piece where all fit into the room, and the bytes from where they lie
+/// where they stand alone. The error is a fault of out, which then has a front of them.
+fn put_together<S: Sink>(
+    gathering: &mut Gathering,
+    out: &mut S,
+    line: &[u8],
+    bytes: &[u8],
+    ends: &[u8],
+) -> Result<(), Failed>
+    requires { gathering.old ≡ [] }
+    ensures put { OnOk result (Put (line.now ++ (bytes.now ++ ends.now)) (into S.sink out.old out.new)) }
+    ensures quiet { OnOk result (OutputQuiet (into S.sink out.old out.new)) }
+    ensures err_front { OnErr result (PutFront (line.now ++ (bytes.now ++ ends.now)) (into S.sink out.old out.new)) }
+    ensures nothing { gathering.new ≡ [] }
+{
+    if line.is_empty() && ends.is_empty() {
+        return put_all(out, bytes);
+    }
+    give_three(gathering, out, line, bytes, ends)?;
+    gathering.put_out(out)
+}
+
+/// Gives three pieces. The error is a fault of out, which then has a front of them.
+fn give_three<S: Sink>(
+    gathering: &mut Gathering,
+    out: &mut S,
+    line: &[u8],
+    bytes: &[u8],
+    ends: &[u8],
+) -> Result<(), Failed>
+    requires { gathering.old ≡ [] }
+    ensures gave { OnOk result (Gave (line.now ++ (bytes.now ++ ends.now)) [] gathering.new
+        (into S.sink out.old out.new)) }
+    ensures err_front { OnErr result (PutFront (line.now ++ (bytes.now ++ ends.now)) (into S.sink out.old out.new)) }
+    ensures err_nothing { OnErr result (gathering.new ≡ []) }
+{
+    gathering.give(out, line)?;
+    gathering.give(out, bytes)?;
+    gathering.give(out, ends)
 }
