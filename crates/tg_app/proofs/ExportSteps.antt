@@ -1,6 +1,6 @@
 -- An export from a pack, and before it the pack attached: together one step.
 use Rattle.std.proofs.Common.{◌≡◌, ℕ, inl, inr, [], ◌∷◌, List, Option, Some, Ok, Err, sym, ◌∙◌, subst, ◌++◌, ◌≤◌}
-use Rattle.std.specs.Prelude.{false, ⊤}
+use Rattle.std.specs.Prelude.{false, ⊤, ◌⊎◌}
 use Rattle.tg_app.specs.Exports.{ExportRefused, Exported, IsAttachedPack, IsExportRefusal}
 use Rattle.tg_app.specs.declared.fault.CommandFault.{CommandFault}
 use Rattle.tg_export.specs.Packed.{ExportEnds, HasPackedCause, IsExportedElse, IsStoreCause, StoreEnds}
@@ -58,6 +58,10 @@ module _ {P : Type 0} (m : PackMeaning P) (a b c : P) (same : m.content b ≡ m.
   store_cause_moved stores.Failed h = subst (λ (n : ℕ). Rose n (m.faults c)) quiet h
   store_cause_moved stores.OutOfMemory h = quiet_moved h
 
+  sink_cause_moved : PackQuiet (pack_step m b c) ⊎ ((fault : BlocksFault) × IsStoreCause (pack_step m b c) fault) → PackQuiet (pack_step m a c) ⊎ ((fault : BlocksFault) × IsStoreCause (pack_step m a c) fault)
+  sink_cause_moved (inl quiet) = inl (quiet_moved quiet)
+  sink_cause_moved (inr (fault, cause)) = inr (fault, store_cause_moved fault cause)
+
   cause_moved : (fault : ExportFault) → HasPackedCause (pack_step m b c) (Err fault) → HasPackedCause (pack_step m a c) (Err fault)
   cause_moved (faults.Pack fault) h = h
   cause_moved (faults.Resolve (paths.Store fault)) h = store_cause_moved fault h
@@ -74,7 +78,7 @@ module _ {P : Type 0} (m : PackMeaning P) (a b c : P) (same : m.content b ≡ m.
   cause_moved (faults.Walk (walks.NotThere segment)) h = quiet_moved h
   cause_moved (faults.Walk (walks.NotFolder segment)) h = quiet_moved h
   cause_moved (faults.Walk walks.OutOfMemory) h = quiet_moved h
-  cause_moved faults.SinkFault h = quiet_moved h
+  cause_moved faults.SinkFault h = sink_cause_moved h
   cause_moved faults.OutOfMemory h = quiet_moved h
 
   pub refused_step : (path : List ℕ) (q : QueryParts) (out : Output) (fault : ExportFault) (refusal : CommandFault) → IsAttachedPack path (pack_step m a c) → IsExportRefusal fault refusal

@@ -503,7 +503,8 @@ type Export = (Pack, &'static [u64], u8, usize, &'static str);
 const EXPORTS: &[Export] = &[
     ((100, b""), &[], 0, 100, ""),
     ((0, E_V0_PACK), &[], 0, 100, ""),
-    ((100, b""), &[1], 6, 59, SINK_FAULT),
+    ((100, b""), &[0], 6, 0, SINK_FAULT),
+    ((100, b""), &[1], 0, 100, ""),
     ((99, b"\x02"), &[], 6, 0, "tgate: BadDigest 59\n"),
     ((59, b""), &[], 9, 0, "tgate: NoRoot\n"),
     ((0, b""), &[], 6, 0, "tgate: Truncated 0\n"),

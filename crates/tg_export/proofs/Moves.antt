@@ -1,18 +1,17 @@
--- A store that is looked up in, and a sink that bytes are put into, from one moment to the next.
-use Rattle.std.proofs.Common.{Err, List, Ok, Option, [], refl, subst, ℕ, ◌++◌, ◌∙◌, ◌≡◌}
+-- A store that is looked up in, from one moment to the next, and the causes of a CAR's end.
+use Rattle.std.proofs.Common.{Err, List, Ok, Option, [], inl, inr, refl, subst, ℕ, ◌++◌, ◌∙◌, ◌≡◌}
 use Rattle.std.proofs.lemmas.List.Elements.{All-append, All-nil}
-use Rattle.std.specs.Prelude.{Result, ⊤}
+use Rattle.std.specs.Prelude.{Result, ⊤, ◌⊎◌}
 use Rattle.tg_cid.specs.Cid.{CidParts}
 use Rattle.tg_cid.specs.declared.cid.HashKind.TheVariants.{Sha256}
-use Rattle.tg_export.specs.Cars.{HasCarCause, PutNothing, PutWhole, fault_of_path, fault_of_walk}
+use Rattle.tg_export.specs.Cars.{HasCarCause, HasStoreFault, PutNothing, fault_of_path, fault_of_walk}
 use Rattle.tg_export.specs.declared.fault.ExportFault.{ExportFault}
 use Rattle.tg_export.specs.declared.fault.ExportFault.TheVariants as faults
 use Rattle.tg_model.specs.Queries.{QueryParts}
 use Rattle.tg_model.specs.Stores.{BlocksMeaning, IsCauseOf, Lookups, LookupsQuiet, Store, looked_in}
 use Rattle.tg_model.specs.declared.stores.BlocksFault.{BlocksFault}
 use Rattle.tg_model.specs.declared.stores.BlocksFault.TheVariants as store_faults
-use Rattle.tg_streams.specs.Joining.{SinkJoins, put_put, put_put_front}
-use Rattle.tg_streams.specs.Streams.{PutFront, SinkMeaning, into}
+use Rattle.tg_streams.specs.Streams.{SinkMeaning, into}
 use Rattle.tg_walk.specs.Resolving.{HasResolveCause}
 use Rattle.tg_walk.specs.Walks.{HasLookedUp, HasStoreCause, HaveLookedUp}
 use Rattle.tg_walk.specs.declared.fault.ResolveFault.{ResolveFault}
@@ -24,12 +23,6 @@ use Rattle.tg_walk.specs.declared.fault.WalkFault.TheVariants as walks
 
 pub puts_nothing : {S : Type 0} (m : SinkMeaning S) (a : S) → m.wrote a a [] → PutNothing (into m a a)
 puts_nothing m a rests = record { unput = record { moved = rests; held = refl }; quiet = refl }
-
-pub puts_both : {S : Type 0} (m : SinkMeaning S) (a b c : S) (u v : List ℕ) → SinkJoins S m → PutWhole (into m a b) u → PutWhole (into m b c) v → PutWhole (into m a c) (u ++ v)
-puts_both m a b c u v joins p q = record { put = put_put _ m a b c u v joins p.put q.put; quiet = q.quiet ∙ p.quiet }
-
-pub puts_front : {S : Type 0} (m : SinkMeaning S) (a b c : S) (u v : List ℕ) → SinkJoins S m → PutWhole (into m a b) u → PutFront v (into m b c) → PutFront (u ++ v) (into m a c)
-puts_front m a b c u v joins p q = put_put_front _ m a b c u v joins p.put p.quiet q
 
 -- ---- stores
 
@@ -90,11 +83,17 @@ walk_cause m a b c (walks.NotThere i) p h = h ∙ p.quiet
 walk_cause m a b c (walks.NotFolder i) p h = h ∙ p.quiet
 walk_cause m a b c walks.OutOfMemory p h = h ∙ p.quiet
 
+-- out fails, behind a fault of the store or none
+sink_cause_since : {S : Type 0} (m : BlocksMeaning S) (a b c : S) → HasLooked (looked_in m a b) → LookupsQuiet (looked_in m b c) ⊎ HasStoreFault (m.stored b) (looked_in m b c)
+    → LookupsQuiet (looked_in m a c) ⊎ HasStoreFault (m.stored a) (looked_in m a c)
+sink_cause_since m a b c p (inl quiet) = inl (quiet ∙ p.quiet)
+sink_cause_since m a b c p (inr h) = inr (record { cid = h.cid; fault = h.fault; cause = cause_since m a b c h.cid h.fault p h.cause })
+
 pub car_cause : {S : Type 0} (m : BlocksMeaning S) (a b c : S) (end : Result ⊤ ExportFault) → HasLooked (looked_in m a b) → HasCarCause (m.stored b) (looked_in m b c) end
     → HasCarCause (m.stored a) (looked_in m a c) end
 car_cause m a b c (Ok done) p h = h ∙ p.quiet
 car_cause m a b c (Err (faults.Pack fault)) p h = h ∙ p.quiet
-car_cause m a b c (Err faults.SinkFault) p h = h ∙ p.quiet
+car_cause m a b c (Err faults.SinkFault) p h = sink_cause_since m a b c p h
 car_cause m a b c (Err faults.OutOfMemory) p h = h ∙ p.quiet
 car_cause m a b c (Err (faults.Resolve refusals.NoRoot)) p h = h ∙ p.quiet
 car_cause m a b c (Err (faults.Resolve (refusals.NotThere i))) p h = h ∙ p.quiet
@@ -110,3 +109,24 @@ car_cause m a b c (Err (faults.Walk (walks.Store fault))) p h = (h.0, cause_sinc
 car_cause m a b c (Err (faults.Walk (walks.NotThere i))) p h = h ∙ p.quiet
 car_cause m a b c (Err (faults.Walk (walks.NotFolder i))) p h = h ∙ p.quiet
 car_cause m a b c (Err (faults.Walk walks.OutOfMemory)) p h = h ∙ p.quiet
+
+-- whatever ended the CAR, out then failed
+pub sink_cause : (told : Option Store) (lookups : Lookups) (end : Result ⊤ ExportFault) → HasCarCause told lookups end → HasCarCause told lookups (Err faults.SinkFault)
+sink_cause told lookups (Ok done) h = inl h
+sink_cause told lookups (Err (faults.Pack fault)) h = inl h
+sink_cause told lookups (Err faults.SinkFault) h = h
+sink_cause told lookups (Err faults.OutOfMemory) h = inl h
+sink_cause told lookups (Err (faults.Resolve refusals.NoRoot)) h = inl h
+sink_cause told lookups (Err (faults.Resolve (refusals.NotThere i))) h = inl h
+sink_cause told lookups (Err (faults.Resolve (refusals.NotFolder i))) h = inl h
+sink_cause told lookups (Err (faults.Resolve (refusals.BadBlock cid fault))) h = inl h
+sink_cause told lookups (Err (faults.Resolve (refusals.Gone cid))) h = inl h
+sink_cause told lookups (Err (faults.Resolve (refusals.Store fault))) h = inr (record { cid = h.0; fault = fault; cause = h.1 })
+sink_cause told lookups (Err (faults.Resolve refusals.OutOfMemory)) h = inl h
+sink_cause told lookups (Err (faults.Walk (walks.BadBlock cid fault))) h = inl h
+sink_cause told lookups (Err (faults.Walk (walks.Gone cid))) h = inl h
+sink_cause told lookups (Err (faults.Walk walks.TooDeep)) h = inl h
+sink_cause told lookups (Err (faults.Walk (walks.Store fault))) h = inr (record { cid = h.0; fault = fault; cause = h.1 })
+sink_cause told lookups (Err (faults.Walk (walks.NotThere i))) h = inl h
+sink_cause told lookups (Err (faults.Walk (walks.NotFolder i))) h = inl h
+sink_cause told lookups (Err (faults.Walk walks.OutOfMemory)) h = inl h

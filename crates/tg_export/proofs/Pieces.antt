@@ -1,29 +1,39 @@
--- Pieces that are gathered before they are put.
-use Rattle.std.proofs.Common.{Err, List, Ok, ℕ, ◌++◌}
-use Rattle.std.specs.Prelude.{Result, ⊤}
-use Rattle.std.specs.Result.{OnErr, OnOk}
-use Rattle.tg_faults.specs.declared.calls.Failed.{Failed}
-use Rattle.tg_streams.specs.Gathering.{Gave, gave_front, gave_front_out, gave_gave}
-use Rattle.tg_streams.specs.Joining.{SinkJoins}
+-- The text of a section that is given as its head and its block.
+use Rattle.std.proofs.Common.{List, append_assoc, subst, ℕ, ◌++◌}
+use Rattle.tg_car.specs.CarText.{SectionText}
+use Rattle.tg_export.specs.Given.{FailsIn, Gives, HasText, giving_in}
+use Rattle.tg_model.specs.Dag.{Section}
+use Rattle.tg_store.specs.Packs.{in_car}
+use Rattle.tg_streams.specs.Gathering.{Gave, gave_front, gave_gave}
+use Rattle.tg_streams.specs.Joining.{SinkJoins, put_front_more}
 use Rattle.tg_streams.specs.Streams.{PutFront, SinkMeaning, into}
 
--- bytes given, and then others
-pub gives_both : {S : Type 0} (m : SinkMeaning S) (a b c : S) (u v g0 g1 g2 : List ℕ) (result : Result ⊤ Failed)
-    → SinkJoins S m → Gave u g0 g1 (into m a b) → OnOk result (Gave v g1 g2 (into m b c))
-    → OnOk result (Gave (u ++ v) g0 g2 (into m a c))
-gives_both m a b c u v g0 g1 g2 (Ok done) joins first next = gave_gave _ m a b c u v g0 g1 g2 joins first next
-gives_both m a b c u v g0 g1 g2 (Err fault) joins first next = next
+module _ {S : Type 0} (m : SinkMeaning S) (a b c : S) (section : Section) (head block : List ℕ)
+    (is : SectionText (in_car section) (head ++ block)) where
+  -- both were given
+  pub both_given : (g0 g1 g2 : List ℕ) → SinkJoins S m → Gave head g0 g1 (into m a b) → Gave block g1 g2 (into m b c)
+      → HasText section (Gives (giving_in g0 g2 (into m a c)))
+  both_given g0 g1 g2 joins first next = record {
+    text = head ++ block;
+    text_is = is;
+    is_done = gave_gave _ m a b c head block g0 g1 g2 joins first next;
+  }
 
--- or out failed in the others
-pub gives_front : {S : Type 0} (m : SinkMeaning S) (a b c : S) (u v g0 g1 : List ℕ) (result : Result ⊤ Failed)
-    → SinkJoins S m → Gave u g0 g1 (into m a b) → OnErr result (PutFront (g1 ++ v) (into m b c))
-    → OnErr result (PutFront (g0 ++ (u ++ v)) (into m a c))
-gives_front m a b c u v g0 g1 (Ok done) joins first next = next
-gives_front m a b c u v g0 g1 (Err fault) joins first next = gave_front _ m a b c u v g0 g1 joins first next
+  -- out failed in the head
+  pub head_failed : (g0 g1 : List ℕ) → PutFront (g0 ++ head) (into m a b)
+      → HasText section (FailsIn (giving_in g0 g1 (into m a b)))
+  head_failed g0 g1 h = record {
+    text = head ++ block;
+    text_is = is;
+    is_done = subst (λ (bytes : List ℕ). PutFront bytes (into m a b)) (append_assoc g0 head block)
+        (put_front_more _ m a b (g0 ++ head) block h);
+  }
 
--- bytes given, and then out failed in what is gathered
-pub outs_front : {S : Type 0} (m : SinkMeaning S) (a b c : S) (u g0 g1 : List ℕ) (result : Result ⊤ Failed)
-    → SinkJoins S m → Gave u g0 g1 (into m a b) → OnErr result (PutFront g1 (into m b c))
-    → OnErr result (PutFront (g0 ++ u) (into m a c))
-outs_front m a b c u g0 g1 (Ok done) joins first next = next
-outs_front m a b c u g0 g1 (Err fault) joins first next = gave_front_out _ m a b c u g0 g1 joins first next
+  -- or in the block
+  pub block_failed : (g0 g1 g2 : List ℕ) → SinkJoins S m → Gave head g0 g1 (into m a b)
+      → PutFront (g1 ++ block) (into m b c) → HasText section (FailsIn (giving_in g0 g2 (into m a c)))
+  block_failed g0 g1 g2 joins first next = record {
+    text = head ++ block;
+    text_is = is;
+    is_done = gave_front _ m a b c head block g0 g1 joins first next;
+  }

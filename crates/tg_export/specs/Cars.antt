@@ -1,7 +1,7 @@
 -- A query's answer over a store as a CAR (CARv1 specification, Header and Data; Trustless Gateway specification, CAR
 -- responses).
 use Rattle.std.specs.Prelude.{All, Err, IfSome, List, Ok, Option, Result, map, ⊤, ℕ, ◌++◌, ◌≡◌, ◌≤◌, ◌⊎◌, length}
-use Rattle.tg_car.specs.CarText.{SectionText, SectionsText}
+use Rattle.tg_car.specs.CarText.{SectionsText}
 use Rattle.tg_car.specs.Writing.{HeaderOf}
 use Rattle.tg_cid.specs.Cid.{CidParts}
 use Rattle.tg_cid.specs.Limits.{max_block_len}
@@ -12,6 +12,7 @@ use Rattle.tg_model.specs.Dag.{Section}
 use Rattle.tg_model.specs.PathWalk.{whole}
 use Rattle.tg_model.specs.Queries.{QueryParts}
 use Rattle.tg_model.specs.Stores.{IsCauseOf, Lookups, LookupsQuiet, Store}
+use Rattle.tg_model.specs.declared.stores.BlocksFault.{BlocksFault}
 use Rattle.tg_model.specs.declared.stores.BlocksFault.TheVariants as store_faults
 use Rattle.tg_store.specs.Packs.{in_car}
 use Rattle.tg_store.specs.declared.fault.PackFault.TheVariants as pack_faults
@@ -76,12 +77,19 @@ CarEnds q told out (Err faults.OutOfMemory) =
     PutNothing out ⊎ HasCar q.root told (λ store sections. HasResolved store q × IsFront q store sections) (PutWhole out)
 CarEnds q told out (Err (faults.Pack fault)) = ⊥
 
--- a fault of the store comes as it came; no other end hides one
+-- a fault of the store was counted, or a stored block isn't any more what it was
+pub record HasStoreFault (told : Option Store) (lookups : Lookups) : Type 0 where
+  pub cid : CidParts
+  pub fault : BlocksFault
+  pub cause : IsCauseOf told cid lookups.faults_old lookups.faults_new fault
+
+-- a fault of the store comes as it came, but where out then fails in what was gathered before it; no other end hides one
 abbrev pub HasCarCause : Option Store → Lookups → Result ⊤ ExportFault → Type 0
 HasCarCause told lookups (Err (faults.Resolve (refusals.Store fault))) =
     (cid : CidParts) × IsCauseOf told cid lookups.faults_old lookups.faults_new fault
 HasCarCause told lookups (Err (faults.Walk (walks.Store fault))) =
     (cid : CidParts) × IsCauseOf told cid lookups.faults_old lookups.faults_new fault
+HasCarCause told lookups (Err faults.SinkFault) = LookupsQuiet lookups ⊎ HasStoreFault told lookups
 HasCarCause told lookups end = LookupsQuiet lookups
 
 -- where the whole traversal can be given, no end comes but it, a counted fault, or want of memory
@@ -112,44 +120,3 @@ abbrev pub fault_of_walk : WalkFault → ExportFault
 fault_of_walk walks.OutOfMemory = faults.OutOfMemory
 fault_of_walk (walks.Store store_faults.OutOfMemory) = faults.OutOfMemory
 fault_of_walk fault = faults.Walk fault
-
--- ---- a CAR put in parts
-
--- the bytes were put, or out failed in a front of them
-abbrev pub BytesEnd : List ℕ → Output → Result ⊤ ExportFault → Type 0
-BytesEnd bytes out (Ok done) = PutWhole out bytes
-BytesEnd bytes out (Err fault) = (fault ≡ faults.SinkFault) × PutFront bytes out
-
--- the text of a section, with which this was done
-pub record HasText (section : Section) (done : List ℕ → Type 0) : Type 0 where
-  pub text : List ℕ
-  pub text_is : SectionText (in_car section) text
-  pub is_done : done text
-
--- a section was put, or out failed in a front of it
-abbrev pub SectionEnds : Section → Output → Result ⊤ ExportFault → Type 0
-SectionEnds section out (Ok done) = HasText section (PutWhole out)
-SectionEnds section out (Err fault) = (fault ≡ faults.SinkFault) × HasText section (λ text. PutFront text out)
-
--- the texts of the sections of named blocks, of which this holds over the store, as far as it is told, and with which
--- this was done
-pub record HasTexts (told : Option Store) (holds : Store → List Section → Type 0) (done : List ℕ → Type 0) : Type 0 where
-  pub sections : List Section
-  pub bytes : List ℕ
-  pub named : All IsGoodSection sections
-  pub texts : SectionsText (map in_car sections) bytes
-  pub is_so : IfSome told (λ store. holds store sections)
-  pub is_done : done bytes
-
--- how the sections behind the header end
-abbrev pub SectionsEnd : QueryParts → Option Store → Output → Result ⊤ ExportFault → Type 0
-SectionsEnd q told out (Ok done) =
-    HasTexts told (λ store sections. HasEnded q store max_depth sections whole) (PutWhole out)
-SectionsEnd q told out (Err (faults.Walk fault)) =
-    HasTexts told (λ store sections. HasWalkCause q store max_depth sections fault) (PutWhole out)
-SectionsEnd q told out (Err faults.SinkFault) =
-    HasTexts told (λ store sections. IsFront q store sections) (λ bytes. PutFront bytes out)
-SectionsEnd q told out (Err faults.OutOfMemory) =
-    HasTexts told (λ store sections. IsFront q store sections) (PutWhole out)
-SectionsEnd q told out (Err (faults.Resolve fault)) = ⊥
-SectionsEnd q told out (Err (faults.Pack fault)) = ⊥

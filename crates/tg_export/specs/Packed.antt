@@ -39,11 +39,13 @@ IsStoreCause step (store_faults.Changed want got) =
 IsStoreCause step store_faults.Failed = Rose step.faults_old step.faults_new
 IsStoreCause step store_faults.OutOfMemory = PackQuiet step
 
--- a fault of the attached store comes as it came; no other end hides a fault of the pack
+-- a fault of the attached store comes as it came, but where out then fails in what was gathered before it; no other end
+-- hides a fault of the pack
 abbrev pub HasPackedCause : PackStep → Result ⊤ ExportFault → Type 0
 HasPackedCause step (Err (faults.Pack fault)) = ⊤
 HasPackedCause step (Err (faults.Resolve (refusals.Store fault))) = IsStoreCause step fault
 HasPackedCause step (Err (faults.Walk (walks.Store fault))) = IsStoreCause step fault
+HasPackedCause step (Err faults.SinkFault) = PackQuiet step ⊎ ((fault : BlocksFault) × IsStoreCause step fault)
 HasPackedCause step end = PackQuiet step
 
 -- where a cause of a pack's refusal holds, it comes, or the pack failed or memory was wanted

@@ -1,5 +1,6 @@
 //! Why a query's CAR isn't written to its end.
 use std::alloc::AllocError;
+use tg_faults::Failed;
 use tg_model::BlocksFault;
 use tg_store::PackFault;
 use tg_walk::{ResolveFault, WalkFault};
@@ -33,6 +34,17 @@ impl From<AllocError> for ExportFault {
 
     fn from(_: AllocError) -> ExportFault {
         ExportFault::OutOfMemory
+    }
+}
+
+impl From<Failed> for ExportFault {
+    ghost use Rattle.std.specs.Prelude.{◌≡◌};
+    ghost use Rattle.tg_export.specs.declared.fault.ExportFault.TheVariants.{SinkFault};
+
+    ghost from_gives = { λ _ fault. fault ≡ SinkFault };
+
+    fn from(_: Failed) -> ExportFault {
+        ExportFault::SinkFault
     }
 }
 

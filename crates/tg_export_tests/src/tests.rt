@@ -10,7 +10,7 @@ use tg_cid::{Cid, Codec};
 use tg_export::{ExportFault, export, write_car};
 use tg_files::MemPack;
 use tg_known_bytes::{CHUNKED_FILE, DIRECTORY, DIRECTORY_CAR};
-use tg_model::{Keep, Query, Scope, SpanFrom};
+use tg_model::{BlocksFault, Keep, Query, Scope, SpanFrom};
 use tg_oracle::{ranged_query, scoped_query};
 use tg_store::{MemStore, PackFault};
 use tg_streams::MemSink;
@@ -32,6 +32,8 @@ enum Ended {
     NotFolder(u32),
     /// The raw block of these bytes isn't stored.
     Gone(&'static [u8]),
+    /// The pack failed at a look-up of the walk.
+    StoreFault,
     /// Out failed.
     SinkFault,
 }
@@ -51,6 +53,7 @@ fn fault_of(ended: Ended) -> Option<ExportFault> {
         Ended::Gone(block) => Some(ExportFault::Walk(WalkFault::Gone {
             cid: Cid::of_block(Codec::Raw, block),
         })),
+        Ended::StoreFault => Some(ExportFault::Walk(WalkFault::Store(BlocksFault::Failed))),
         Ended::SinkFault => Some(ExportFault::SinkFault),
     }
 }
@@ -430,11 +433,15 @@ fn packs_of_a_directory_are_written_or_refused(rt: HostRuntime) {
     }
 }
 
-/// Which put of out fails, its number, how the writing ends, and how many bytes of the CAR are put.
-const FRONTS: &[(&str, u64, Ended, usize)] = &[
-    ("the header", 0, Ended::SinkFault, 0),
-    ("the section", 1, Ended::SinkFault, 59),
-    ("none of them", 2, Ended::Whole, 100),
+/// What fails, how many bytes a put takes at most, the number of the put that fails, how the writing ends, and how many
+/// bytes of the CAR are put.
+const FRONTS: &[(&str, usize, u64, Ended, usize)] = &[
+    ("the only put", 4096, 0, Ended::SinkFault, 0),
+    ("a second put, which isn't made", 4096, 1, Ended::Whole, 100),
+    ("the first of three", 40, 0, Ended::SinkFault, 0),
+    ("the second of three", 40, 1, Ended::SinkFault, 40),
+    ("the last of three", 40, 2, Ended::SinkFault, 80),
+    ("a fourth one, which isn't made", 40, 3, Ended::Whole, 100),
 ];
 
 /// A store that has the directory under its CIDv1, or none where memory is wanted.
@@ -446,12 +453,15 @@ fn directory_store(alloc: Global) -> Option<MemStore> {
     }
 }
 
-/// A sink of which the put with this number fails, or none where memory is wanted.
-fn failing_sink(alloc: Global, call: u64) -> Option<MemSink> {
+/// The call that fails, or none of them, as a list; or none where memory is wanted.
+fn fails_at(alloc: Global, call: Option<u64>) -> Option<List<u64>> {
     let mut fails = List::new(alloc);
-    match fails.push(call) {
-        Ok(()) => Some(MemSink::new(alloc, 4096, fails)),
-        Err(_) => None,
+    match call {
+        None => Some(fails),
+        Some(number) => match fails.push(number) {
+            Ok(()) => Some(fails),
+            Err(_) => None,
+        },
     }
 }
 
@@ -469,14 +479,18 @@ fn stops_so(
 }
 
 /// Whether the CAR of the directory ends so where this put of out fails, with so many of its bytes in out.
-fn is_front_put(alloc: Global, call: u64, ended: Ended, size: usize) -> bool {
+fn is_front_put(alloc: Global, piece: usize, call: u64, ended: Ended, size: usize) -> bool {
+    if piece == 0 {
+        return false;
+    }
     let root = Cid::of_block(Codec::DagPb, DIRECTORY);
     match (
         scoped_query(alloc, root, &[], Scope::Entity),
         directory_store(alloc),
-        failing_sink(alloc, call),
+        fails_at(alloc, Some(call)),
     ) {
-        (Ok(query), Some(mut store), Some(mut out)) => {
+        (Ok(query), Some(mut store), Some(fails)) => {
+            let mut out = MemSink::new(alloc, piece, fails);
             stops_so(alloc, &query, &mut store, &mut out, ended, size)
         }
         _ => false,
@@ -485,7 +499,122 @@ fn is_front_put(alloc: Global, call: u64, ended: Ended, size: usize) -> bool {
 
 #[test]
 fn a_fault_of_out_ends_the_car(rt: HostRuntime) {
-    for (name, call, ended, size) in FRONTS {
-        assert!(rt; is_front_put(rt.alloc(), *call, *ended, *size), "{name}");
+    for (name, piece, call, ended, size) in FRONTS {
+        assert!(rt;
+            is_front_put(rt.alloc(), *piece, *call, *ended, *size),
+            "{name}"
+        );
+    }
+}
+
+/// What fails, the number of the pack's call that does and that of the put, how the export of the file into an out that
+/// takes all at once ends, and what is put.
+type FaultRow = (
+    &'static str,
+    Option<u64>,
+    Option<u64>,
+    Ended,
+    &'static [Part],
+);
+
+/// The pack's call by which the walk looks up the root: the ones before it are of the pack's attachment and of the path.
+const ROOT_CALL: u64 = 3;
+
+const FAULTS: &[FaultRow] = &[
+    (
+        "the put of the whole CAR",
+        None,
+        Some(0),
+        Ended::SinkFault,
+        &[],
+    ),
+    (
+        "a second put, which isn't made",
+        None,
+        Some(1),
+        Ended::Whole,
+        FILE_CAR,
+    ),
+    (
+        "the look-up of the root in the walk",
+        Some(ROOT_CALL),
+        None,
+        Ended::StoreFault,
+        &[FILE_HEADER],
+    ),
+    (
+        "the look-up behind it",
+        Some(ROOT_CALL + 1),
+        None,
+        Ended::StoreFault,
+        &[FILE_HEADER, FILE],
+    ),
+    (
+        "the last look-up",
+        Some(ROOT_CALL + 3),
+        None,
+        Ended::StoreFault,
+        &[FILE_HEADER, FILE, HELL, O_WO],
+    ),
+    (
+        "the look-up behind the root, and then the put",
+        Some(ROOT_CALL + 1),
+        Some(0),
+        Ended::SinkFault,
+        &[],
+    ),
+    (
+        "the look-up behind the root, and a second put, which isn't made",
+        Some(ROOT_CALL + 1),
+        Some(1),
+        Ended::StoreFault,
+        &[FILE_HEADER, FILE],
+    ),
+];
+
+/// Whether the export from the pack into out ends so, with just these bytes in out.
+fn leaves_so(
+    alloc: Global,
+    query: &Query,
+    pack: MemPack,
+    out: MemSink,
+    ended: Ended,
+    put: &[u8],
+) -> bool {
+    let mut out = out;
+    let (_, end) = export(alloc, query, pack, &mut out);
+    is_end(end, ended) && out.held() == put
+}
+
+/// Whether the export of the file is as a row says.
+fn is_fault_row(alloc: Global, row: &FaultRow) -> bool {
+    let (_, call, put_call, ended, put) = *row;
+    let root = Cid::of_block(Codec::DagPb, CHUNKED_FILE);
+    match (
+        scoped_query(alloc, root, &[], Scope::Entity),
+        joined(alloc, FILE_PACK),
+        joined(alloc, put),
+        fails_at(alloc, call),
+        fails_at(alloc, put_call),
+    ) {
+        (Ok(query), Some(pack), Some(put), Some(reads), Some(puts)) => {
+            let out = MemSink::new(alloc, 100_000, puts);
+            leaves_so(
+                alloc,
+                &query,
+                MemPack::new(pack, reads),
+                out,
+                ended,
+                put.as_slice(),
+            )
+        }
+        _ => false,
+    }
+}
+
+#[test]
+fn what_the_walk_gave_is_put_at_once(rt: HostRuntime) {
+    for row in FAULTS {
+        assert!(rt; is_fault_row(rt.alloc(), row), "{}", row.0);
     }
 }

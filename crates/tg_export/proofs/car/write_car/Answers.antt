@@ -1,13 +1,13 @@
-use Rattle.std.proofs.Common.{List, Option, inl, subst, sym, ℕ, ◌∙◌}
+use Rattle.std.proofs.Common.{List, inl, subst, sym, ℕ, ◌∙◌}
 use Rattle.std.proofs.lemmas.Result.{err_from_is_err_and}
 use Rattle.tg_car.specs.Writing.{HeaderOf}
 use Rattle.tg_cid.specs.Cid.{CidParts}
 use Rattle.tg_export.proofs.Answering.{answers}
-use Rattle.tg_export.proofs.Moves.{car_cause, looks_both, path_cause, puts_nothing}
-use Rattle.tg_export.proofs.Parts.{path_ends, path_leads, path_memory, resolved}
-use Rattle.tg_export.specs.Cars.{CarEnds, HasResolved}
+use Rattle.tg_export.proofs.Moves.{car_cause, looks_both, path_cause, puts_nothing, sink_cause}
+use Rattle.tg_export.proofs.Parts.{car_of, out_ends, path_ends, path_leads, path_memory, put_ends, resolved}
+use Rattle.tg_export.specs.Cars.{HasResolved}
 use Rattle.tg_model.specs.Queries.{QueryParts}
-use Rattle.tg_model.specs.Stores.{Store, looked_in}
+use Rattle.tg_model.specs.Stores.{looked_in}
 use Rattle.tg_streams.specs.Streams.{into}
 use Rattle.tg_export.proofs.car.write_car.Goals as goal
 
@@ -106,8 +106,8 @@ returns-in_err-gathering-clause-answered g c store sections told all =
     let p = err_from_is_err_and c.from_residual-in_err-gathering.result c.from_residual-in_err-gathering.ensures.1 in
     rw (p.1, p.2) tt
 
-pub write_all-requires : goal.write_all-requires
-write_all-requires g c =
+pub give_all-end-requires : goal.give_all-end-requires
+give_all-end-requires g c =
     let q = c.in_ok-walk.ensures.query in
     let way = resolved c.args.query.now (g.B.Blocks.blocks.stored c.args.blocks.now) c.root.result c.path.result.now c.in_ok-resolve.field-0 c.root.ensures c.path.ensures.path c.in_ok-resolve.ensures.end in
     let is = subst (λ (root : CidParts). HeaderOf root c.in_ok-header.header) c.root-2.ensures c.in_ok-header.ensures in
@@ -116,28 +116,57 @@ write_all-requires g c =
       resolved = λ store e. subst (λ (p : QueryParts). HasResolved store p) (sym q) (way store (sym c.in_ok-resolve.ensures.looked.looked.stored ∙ e));
       fresh = c.in_ok-walk.ensures.fresh;
       stands = c.in_ok-walk.ensures.stands;
-      empty = c.in_ok-gathering.ensures;
     }
+
+pub returns-in_err-put_out-clause-ends : goal.returns-in_err-put_out-clause-ends
+returns-in_err-put_out-clause-ends g c =
+    let given = car_of g.S.Sink.sink c.args.out.now c.give_all-end.new.out c.in_ok-gathering.gathering c.give_all-end.new.gathering c.args.query.now c.in_ok-walk.walk.left.query (g.B.Blocks.blocks.stored c.args.blocks.now)
+    (g.B.Blocks.blocks.stored c.resolve.new.blocks) c.give_all-end.result c.in_ok-gathering.ensures c.in_ok-walk.ensures.query c.in_ok-resolve.ensures.looked.looked.stored c.give_all-end.ensures.given in
+    let p = err_from_is_err_and c.from_residual-in_err-put_out.result c.from_residual-in_err-put_out.ensures.1 in
+    rw (p.1, p.2) (out_ends g.S.Sink.sink c.args.out.now c.give_all-end.new.out c.put_out.new.sink c.give_all-end.new.gathering c.args.query.now (g.B.Blocks.blocks.stored c.args.blocks.now) g.met.S.Sink.joins c.give_all-end.result
+    given c.in_err-put_out.ensures.err_front)
+
+pub returns-in_err-put_out-clause-looked : goal.returns-in_err-put_out-clause-looked
+returns-in_err-put_out-clause-looked g c =
+    looks_both g.B.Blocks.blocks c.args.blocks.now c.resolve.new.blocks c.give_all-end.new.blocks g.met.B.Blocks.joins c.in_ok-resolve.ensures.looked c.give_all-end.ensures.looked
+
+pub returns-in_err-put_out-clause-cause : goal.returns-in_err-put_out-clause-cause
+returns-in_err-put_out-clause-cause g c =
+    let p = err_from_is_err_and c.from_residual-in_err-put_out.result c.from_residual-in_err-put_out.ensures.1 in
+    rw (p.1, p.2) (sink_cause (g.B.Blocks.blocks.stored c.args.blocks.now) (looked_in g.B.Blocks.blocks c.args.blocks.now c.give_all-end.new.blocks) c.give_all-end.result
+    (car_cause g.B.Blocks.blocks c.args.blocks.now c.resolve.new.blocks c.give_all-end.new.blocks c.give_all-end.result
+    (record { up = c.in_ok-resolve.ensures.looked; quiet = c.in_ok-resolve.ensures.cause }) c.give_all-end.ensures.cause))
+
+pub returns-in_err-put_out-clause-memory : goal.returns-in_err-put_out-clause-memory
+returns-in_err-put_out-clause-memory g c =
+    let p = err_from_is_err_and c.from_residual-in_err-put_out.result c.from_residual-in_err-put_out.ensures.1 in
+    rw (p.1, p.2) tt
+
+pub returns-in_err-put_out-clause-answered : goal.returns-in_err-put_out-clause-answered
+returns-in_err-put_out-clause-answered g c store sections told all =
+    let p = err_from_is_err_and c.from_residual-in_err-put_out.result c.from_residual-in_err-put_out.ensures.1 in
+    rw (p.1, p.2) tt
 
 pub returns-clause-ends : goal.returns-clause-ends
 returns-clause-ends g c =
-    let out = into g.S.Sink.sink c.args.out.now c.write_all.new.out in
-    subst (λ (told : Option Store). CarEnds c.args.query.now told out c.write_all.result) c.in_ok-resolve.ensures.looked.looked.stored
-    (subst (λ (q : QueryParts). CarEnds q (g.B.Blocks.blocks.stored c.resolve.new.blocks) out c.write_all.result) c.in_ok-walk.ensures.query c.write_all.ensures.ends)
+    let given = car_of g.S.Sink.sink c.args.out.now c.give_all-end.new.out c.in_ok-gathering.gathering c.give_all-end.new.gathering c.args.query.now c.in_ok-walk.walk.left.query (g.B.Blocks.blocks.stored c.args.blocks.now)
+    (g.B.Blocks.blocks.stored c.resolve.new.blocks) c.give_all-end.result c.in_ok-gathering.ensures c.in_ok-walk.ensures.query c.in_ok-resolve.ensures.looked.looked.stored c.give_all-end.ensures.given in
+    put_ends g.S.Sink.sink c.args.out.now c.give_all-end.new.out c.put_out.new.sink c.give_all-end.new.gathering c.args.query.now (g.B.Blocks.blocks.stored c.args.blocks.now) g.met.S.Sink.joins c.give_all-end.result
+    given (record { put = c.in_ok-put_out.ensures.put; quiet = c.in_ok-put_out.ensures.quiet }) (λ e. (c.put_out.ensures.still e).1)
 
 pub returns-clause-looked : goal.returns-clause-looked
 returns-clause-looked g c =
-    looks_both g.B.Blocks.blocks c.args.blocks.now c.resolve.new.blocks c.write_all.new.blocks g.met.B.Blocks.joins c.in_ok-resolve.ensures.looked c.write_all.ensures.looked
+    looks_both g.B.Blocks.blocks c.args.blocks.now c.resolve.new.blocks c.give_all-end.new.blocks g.met.B.Blocks.joins c.in_ok-resolve.ensures.looked c.give_all-end.ensures.looked
 
 pub returns-clause-cause : goal.returns-clause-cause
 returns-clause-cause g c =
-    car_cause g.B.Blocks.blocks c.args.blocks.now c.resolve.new.blocks c.write_all.new.blocks c.write_all.result
-    (record { up = c.in_ok-resolve.ensures.looked; quiet = c.in_ok-resolve.ensures.cause }) c.write_all.ensures.cause
+    car_cause g.B.Blocks.blocks c.args.blocks.now c.resolve.new.blocks c.give_all-end.new.blocks c.give_all-end.result
+    (record { up = c.in_ok-resolve.ensures.looked; quiet = c.in_ok-resolve.ensures.cause }) c.give_all-end.ensures.cause
 
 pub returns-clause-memory : goal.returns-clause-memory
-returns-clause-memory g c = c.write_all.ensures.memory
+returns-clause-memory g c = c.give_all-end.ensures.memory
 
 pub returns-clause-answered : goal.returns-clause-answered
 returns-clause-answered g c store sections told all =
-    answers c.args.query.now (g.B.Blocks.blocks.stored c.args.blocks.now) (into g.S.Sink.sink c.args.out.now c.write_all.new.out) (looked_in g.B.Blocks.blocks c.args.blocks.now c.write_all.new.blocks)
-    store sections c.write_all.result (returns-clause-ends g c) (returns-clause-cause g c) (returns-clause-memory g c) told all
+    answers c.args.query.now (g.B.Blocks.blocks.stored c.args.blocks.now) (into g.S.Sink.sink c.args.out.now c.put_out.new.sink) (looked_in g.B.Blocks.blocks c.args.blocks.now c.give_all-end.new.blocks)
+    store sections c.give_all-end.result (returns-clause-ends g c) (returns-clause-cause g c) (returns-clause-memory g c) told all
