@@ -1,10 +1,11 @@
 -- Of a reply that carries sections which fit, their text is put.
 use Rattle.std.proofs.Common.{◌≡◌, ℕ, Bool, true, List, [], ◌++◌, refl, ap, ap₂, subst, ◌∙◌, append_assoc}
 use Rattle.std.specs.Prelude.{⊤}
-use Rattle.tg_fetch.proofs.CarriedTaken.{IsCarrier, carrier}
+use Rattle.tg_fetch.proofs.Carriers.{IsCarrier, carrier}
 use Rattle.tg_fetch.specs.Laws.{CarriedIsAnswer}
-use Rattle.tg_heard.specs.Carried.{Carries, CarriesBehind}
+use Rattle.tg_heard.specs.Carried.{Carries, CarriesBehind, IsAnswerHead}
 use Rattle.tg_heard.specs.Laws.{OneCarried}
+use Rattle.tg_http.specs.declared.reply.ReplyHead.{ReplyHead}
 use Rattle.tg_model.specs.Dag.{Dag, Section}
 use Rattle.tg_model.specs.Fits.{Fits}
 use Rattle.tg_model.specs.LimitNumbers.{LimitNumbers}
@@ -17,23 +18,39 @@ abbrev pub FitOnce : Type 0
 FitOnce = (q : QueryParts) (sections : List Section) (a b : Dag) (x y : List ℕ) → Fits a q sections x → Fits b q sections y → (a ≡ b) × (x ≡ y)
 
 -- what a front of the bytes carries they carry
-longer_carries : (q : QueryParts) (heard more : List ℕ) (ended : Bool) (sections : List Section) → (ended ≡ true → more ≡ []) → Carries heard ended q sections
-    → CarriesBehind (λ head. ⊤) (heard ++ more) ended q sections
-longer_carries q heard more ended sections none c = record {
+pub longer_carries : (IsHead : ReplyHead → Type 0) (q : QueryParts) (heard more : List ℕ) (ended : Bool) (sections : List Section) → (ended ≡ true → more ≡ [])
+    → CarriesBehind IsHead heard ended q sections → CarriesBehind IsHead (heard ++ more) ended q sections
+longer_carries IsHead q heard more ended sections none c = record {
   front = c.front;
   more = c.more ++ more;
   heard_is = ap (λ (l : List ℕ). l ++ more) c.heard_is ∙ append_assoc c.front c.more more;
   head = c.head;
   rest = c.rest;
   final = c.final;
-  is_head = tt;
+  is_head = c.is_head;
   body = c.body;
   body_is = c.body_is;
   closed = λ e. let close = c.closed e in (close.0, ap₂ (λ (a b : List ℕ). a ++ b) close.1 (none close.0));
   carries = c.carries;
 }
 
-carrier_carries : (q : QueryParts) (limits : LimitNumbers) (bytes : List ℕ) (sections : List Section) → IsCarrier q limits bytes sections
+-- behind whichever head
+any_head : (q : QueryParts) (heard : List ℕ) (ended : Bool) (sections : List Section) → Carries heard ended q sections → CarriesBehind (λ head. ⊤) heard ended q sections
+any_head q heard ended sections c = record {
+  front = c.front;
+  more = c.more;
+  heard_is = c.heard_is;
+  head = c.head;
+  rest = c.rest;
+  final = c.final;
+  is_head = tt;
+  body = c.body;
+  body_is = c.body_is;
+  closed = c.closed;
+  carries = c.carries;
+}
+
+carrier_carries : (q : QueryParts) (limits : LimitNumbers) (bytes : List ℕ) (sections : List Section) → IsCarrier (IsAnswerHead q) q limits bytes sections
     → CarriesBehind (λ head. ⊤) bytes true q sections
 carrier_carries q limits bytes sections n = record {
   front = n.text;
@@ -51,7 +68,7 @@ carrier_carries q limits bytes sections n = record {
 
 pub carried_is_answer : OneCarried → AnswerLaws → FitOnce → CarriedIsAnswer
 carried_is_answer one answers once q limits d all answer heard more ended over sections text fits carries none a =
-    let same = one (heard ++ more) ended true q sections all (longer_carries q heard more ended sections none a.carries)
+    let same = one (heard ++ more) ended true q sections all (any_head q (heard ++ more) ended sections (longer_carries (IsAnswerHead q) q heard more ended sections none a.carries))
     (carrier_carries q limits (heard ++ more) all (carrier q limits (heard ++ more) over all carries)) in
     let fit = answers.through q all text (subst (λ (s : List Section). IsThrough q s text) same a.through) in
     (same, (once q all fit.s d text answer fit.fits fits).1)

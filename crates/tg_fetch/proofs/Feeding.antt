@@ -338,12 +338,12 @@ answered_front q limits heard front tail piece written out e f = record {
 }
 
 -- what came is open, where a body of stated length isn't whole, and what is written is a front of each sound DAG's answer
-record OpenReply (q : QueryParts) (limits : LimitNumbers) (heard text : List ℕ) : Type 0 where
-  sections : List Section
-  is_open : IsOpenBefore heard sections text ⊎ IsShortBehind q limits heard sections text
-  front : ForEachSound q (λ d. IsItsFront q d sections text)
+pub record OpenReply (q : QueryParts) (limits : LimitNumbers) (heard text : List ℕ) : Type 0 where
+  pub sections : List Section
+  pub is_open : IsOpenBefore heard sections text ⊎ IsShortBehind q limits heard sections text
+  pub front : ForEachSound q (λ d. IsItsFront q d sections text)
 
-at_open : BodyStands → (q : QueryParts) (limits : LimitNumbers) (stage : Stage) (heard written : List ℕ) → IsAt q limits stage heard written → IsShortAt q limits stage heard
+pub at_open : BodyStands → (q : QueryParts) (limits : LimitNumbers) (stage : Stage) (heard written : List ℕ) → IsAt q limits stage heard written → IsShortAt q limits stage heard
     → OpenReply q limits heard written
 at_open stands q limits (stages.Heads heads) heard written (h, none) short = record {
   sections = [];

@@ -3,6 +3,8 @@ mod CarriedAnswer
 mod CarriedBodies
 mod CarriedHeads
 mod CarriedTaken
+mod Carriers
+mod OwnAbsences
 mod OwnExchanges
 mod Receiving
 mod Taking

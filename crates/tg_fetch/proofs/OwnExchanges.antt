@@ -1,13 +1,29 @@
--- What a gateway's session sends for a client's request is accepted by it.
-use Rattle.std.proofs.Common.{◌≡◌, ℕ, ◌≤◌, Bool, true, false, Contains, Some, List, [], ◌∷◌, ◌++◌, length, sym, ap, subst, ◌∙◌, inl, inr, append-nil, arith}
+-- What a gateway's session sends for a client's request is accepted by it, piece by piece, where the query has an answer.
+use Rattle.std.proofs.Common.{◌≡◌, ℕ, ◌≤◌, Bool, true, false, Contains, Err, Ok, Result, Some, List, [], ◌∷◌, ◌++◌, length, refl, sym, ap, subst, subst₂, ◌∙◌, inl, inr, append-nil, append_assoc, arith}
 use Rattle.std.specs.Prelude.{◌⊎◌}
 use Rattle.std.proofs.lemmas.List.Elements.{All-contains, Contains-append_left, Contains-append_right, Contains-push}
-use Rattle.tg_exchange.specs.Exchanges.{HasOneBlockEach as HasOneBlock, is_answer}
+use Rattle.tg_body.specs.Laws.{BodyLaws}
+use Rattle.tg_client.specs.Body.{BodyStands}
+use Rattle.tg_exchange.specs.Exchanges.{HasOneBlockEach as HasOneBlock, IsHeld, IsWithin, is_answer}
 use Rattle.tg_exchange.specs.Sessions.{SentCarries}
-use Rattle.tg_fetch.proofs.CarriedTaken.{none_both}
-use Rattle.tg_fetch.specs.Laws.{CarriedIsAnswer, CarriedIsTaken, CarriesWithin, OwnExchange}
-use Rattle.tg_heard.specs.Carried.{Carries}
-use Rattle.tg_heard.specs.Laws.{CarriedBy}
+use Rattle.tg_fetch.proofs.Carriers.{carrier_behind, not_open}
+use Rattle.tg_fetch.proofs.Feeding.{at_open}
+use Rattle.tg_fetch.proofs.HearingOn.{refused_not}
+use Rattle.tg_fetch.specs.Clients.{IsAt, IsShortAt}
+use Rattle.tg_fetch.specs.Laws.{CarriedIsAnswer, CarriedIsTaken, CarriesWithin, IsOwnFault}
+use Rattle.tg_fetch.specs.Own.{AnswerIsFed, IsFed, IsOutOrMemory}
+use Rattle.tg_fetch.specs.Replies.{IsAnswered, RefusedBy}
+use Rattle.tg_fetch.specs.declared.client.Client.{Client}
+use Rattle.tg_fetch.specs.declared.client.Stage.{Stage}
+use Rattle.tg_fetch.specs.declared.fault.FetchFault.{FetchFault}
+use Rattle.tg_fetch.specs.declared.fault.FetchFault.TheVariants as faults
+use Rattle.tg_heard.specs.Carried.{Carries, CarriesBehind, IsAnswerHead}
+use Rattle.tg_heard.specs.GotLaws.{BodyFronts}
+use Rattle.tg_heard.specs.Laws.{CarriedBy, OneFinalHead}
+use Rattle.tg_http.specs.Heads.{ReplyStays}
+use Rattle.tg_http.specs.declared.framing.Framing.{Framing}
+use Rattle.tg_http.specs.declared.framing.Framing.TheVariants as framings
+use Rattle.tg_http.specs.declared.reply.ReplyHead.{ReplyHead}
 use Rattle.tg_model.specs.Answer.{answer}
 use Rattle.tg_model.specs.Counts.{counts}
 use Rattle.tg_model.specs.Dag.{Children, Dag, Section, bare, blocks, blocks_of_children, no_child, node, root_cid, unopened, with_child}
@@ -15,12 +31,18 @@ use Rattle.tg_model.specs.Fits.{CollisionPair, Fits, HasOneBlockEach, IfOnce, Is
 use Rattle.tg_model.specs.LimitNumbers.{AreWithin, LimitNumbers}
 use Rattle.tg_model.specs.Queries.{QueryParts}
 use Rattle.tg_model.specs.Sound.{IsSound}
-use Rattle.tg_model.specs.Stores.{as_v1}
+use Rattle.tg_model.specs.Stores.{Store, as_v1}
 use Rattle.tg_model.specs.Traversal.{block_list, opened_list}
 use Rattle.tg_model_laws.specs.OpenedSections.{Opened, OpenedChildren, traversal_opened}
 use Rattle.tg_model_laws.specs.SentSections.{sent_held}
-use Rattle.tg_sent.specs.Sent.{sent_bytes}
+use Rattle.tg_query.specs.Laws.{IsPrintable}
+use Rattle.tg_query.specs.Requests.{request_text}
+use Rattle.tg_sent.specs.Sent.{Sent, SentFor, SentInFull, failed_in, sent_bytes}
+use Rattle.tg_streams.specs.Streams.{Output}
 use Rattle.tg_verify.specs.Laws.{IsWithinLimits}
+use Rattle.tg_verify.specs.declared.fault.Refusal.TheVariants as refusals
+use Rattle.tg_verify.specs.declared.verifier.Progress.{Progress}
+use Rattle.tg_verify.specs.declared.verifier.Progress.TheVariants as progresses
 
 -- ---- the blocks that are opened for a query are the DAG's
 
@@ -92,28 +114,99 @@ fitting_within q limits d s text one within fits (inr pair) =
 
 -- ---- what is sent
 
--- bytes that carry the sections whether or not the link ended
-all_within : (q : QueryParts) (limits : LimitNumbers) (bytes written : List ℕ) (over : Bool) (sections : List Section) → written ≡ bytes
-    → Carries (written ++ []) false q sections → length written ≤ limits.received → CarriesWithin q limits bytes over sections
-all_within q limits bytes written over sections same carries few = record {
-  front = written;
-  more = [];
-  whole = sym same ∙ sym (append-nil written);
-  few = few;
-  ended = false;
-  is_over = λ e. absurd (cc e);
-  carries = subst (λ (l : List ℕ). Carries l false q sections) (append-nil written) carries;
-}
+-- it carries the sections of the DAG's own traversal, which fit, and is no longer than may be received
+pub record IsOwnAnswer (q : QueryParts) (limits : LimitNumbers) (d : Dag) (bytes text : List ℕ) : Type 0 where
+  pub s : Dag
+  pub fits : Fits s q (block_list q d) text
+  pub small : IsWithinLimits q limits s
+  pub carries : Carries bytes false q (block_list q d)
+  pub few : length bytes ≤ limits.received
 
-pub own_exchange : CarriedIsTaken → CarriedIsAnswer → SentCarries → OwnFits → OpenedCounts → OwnExchange
-own_exchange taken answered sends own counted store q d limits addr next rest sent held within can printable full unfailed heard unheard more ended over bytes ends =
+pub own_answer : SentCarries → OwnFits → OpenedCounts → (store : Store) (q : QueryParts) (d : Dag) (limits : LimitNumbers) (addr next rest : List ℕ) (sent : List Sent) → IsHeld store q d
+    → IsWithin q limits d → IsPrintable q addr → SentInFull (SentFor store) (request_text q addr ++ next) sent rest → failed_in sent ≡ 0
+    → (text : List ℕ) → answer q d ≡ Some text → IsOwnAnswer q limits d (sent_bytes sent) text
+own_answer sends own counted store q d limits addr next rest sent held within printable full unfailed text is =
     let carried = sends store q d limits addr next rest sent held within printable full unfailed in
-    let (s, fits) = own q d can.text held.sound held.root (one_each q d within.one_block) can.answer_is in
-    let small = fitting_within q limits d s can.text within.one_block within.counts_are fits (counted q d s held.sound held.root fits.right) in
-    let is : Carries (sent_bytes sent ++ []) false q (block_list q d) =
-    subst (λ (b : Bool). CarriedBy b (sent_bytes sent ++ []) false q (block_list q d)) (ap is_answer can.answer_is) (carried.carries [] false) in
-    let carries = all_within q limits (heard ++ (unheard ++ more)) (sent_bytes sent) over (block_list q d) bytes is carried.few in (
-      λ sections text fault r. taken q limits s (block_list q d) can.text heard unheard more ended over sections text fault fits small carries ends r,
-      λ sections text a.
-          (answered q limits s (block_list q d) can.text heard (unheard ++ more) ended over sections text fits carries (λ e. none_both unheard more (ends e).1 (ends e).2) a).1,
-    )
+    let (s, fits) = own q d text held.sound held.root (one_each q d within.one_block) is in
+    let behind : Carries (sent_bytes sent ++ []) false q (block_list q d) =
+    subst (λ (b : Bool). CarriedBy b (sent_bytes sent ++ []) false q (block_list q d)) (ap is_answer is) (carried.carries [] false) in
+    record {
+      s = s;
+      fits = fits;
+      small = fitting_within q limits d s text within.one_block within.counts_are fits (counted q d s held.sound held.root fits.right);
+      carries = subst (λ (l : List ℕ). Carries l false q (block_list q d)) (append-nil (sent_bytes sent)) behind;
+      few = carried.few;
+    }
+
+-- ---- it is fed to the client
+
+-- a fault that is one's own, and not the peer's
+out_or_memory : (fault : FetchFault) → IsOwnFault fault → (fault ≡ faults.PeerFault → ⊥) → IsOutOrMemory fault
+out_or_memory (faults.Refused refusals.SinkFault) own not_peer = tt
+out_or_memory faults.OutOfMemory own not_peer = tt
+out_or_memory faults.PeerFault own not_peer = absurd (not_peer refl)
+out_or_memory _ own not_peer = absurd own
+
+-- the link didn't end
+pub no_end : {A : Type 0} → false ≡ true → A
+no_end e = absurd (cc e)
+
+-- it isn't without an end that the connection closes alone
+pub no_close : (framing : Framing) (more : List ℕ) → (framing ≡ framings.UntilClose → (false ≡ true) × (more ≡ [])) → framing ≡ framings.UntilClose → ⊥
+no_close framing more closed e = let no : false ≡ true = (closed e).0 in cc no
+
+-- a front of a piece, and what is behind it
+pub behind_front : (bytes heard piece more front left : List ℕ) → bytes ≡ heard ++ (piece ++ more) → piece ≡ front ++ left → bytes ≡ (heard ++ front) ++ (left ++ more)
+behind_front bytes heard piece more front left same whole =
+    same ∙ (ap (λ (l : List ℕ). heard ++ (l ++ more)) whole ∙ (ap (λ (l : List ℕ). heard ++ l) (append_assoc front left more) ∙ sym (append_assoc heard front (left ++ more))))
+
+-- nothing is left behind a piece that is the last
+pub none_behind : (bytes heard piece more : List ℕ) → bytes ≡ heard ++ (piece ++ more) → more ≡ [] → bytes ≡ (heard ++ piece) ++ ([] ++ [])
+none_behind bytes heard piece more same none =
+    same ∙ (ap (λ (l : List ℕ). heard ++ (piece ++ l)) none ∙ sym (append_assoc heard piece []))
+
+module _ (stays : ReplyStays) (one_head : OneFinalHead) (fronts : BodyFronts) (bodies : BodyLaws) (standing : BodyStands) where
+  -- where all of a reply came that carries sections the client doesn't stand open
+  pub closed_there : (IsHead : ReplyHead → Type 0) (q : QueryParts) (limits : LimitNumbers) (all : List Section) (bytes : List ℕ) (stage : Stage) (heard written : List ℕ) → length bytes ≤ limits.received
+      → CarriesBehind IsHead bytes false q all → bytes ≡ heard ++ ([] ++ []) → IsAt q limits stage heard written → IsShortAt q limits stage heard → ⊥
+  closed_there IsHead q limits all bytes stage heard written few c same at short =
+      let n = carrier_behind IsHead q limits (heard ++ ([] ++ [])) all bytes [] false (sym (same) ∙ sym (append-nil bytes)) few no_end c in
+      let o = at_open standing q limits stage heard written at short in
+      not_open stays one_head fronts bodies IsHead q limits all heard [] [] n n.tail (sym (append-nil heard) ∙ n.whole) (no_close c.head.framing c.more c.closed) o.sections written o.is_open
+
+  module _ (taken : CarriedIsTaken) (answered : CarriedIsAnswer) (q : QueryParts) (limits : LimitNumbers) (d : Dag) (bytes text : List ℕ) (own : IsOwnAnswer q limits d bytes text) where
+    -- bytes that carry the sections, whether or not the link ended
+    all_within : (other : List ℕ) → bytes ≡ other → CarriesWithin q limits other false (block_list q d)
+    all_within other same = record {
+      front = bytes;
+      more = [];
+      whole = sym same ∙ sym (append-nil bytes);
+      few = own.few;
+      ended = false;
+      is_over = λ e. absurd (cc e);
+      carries = own.carries;
+    }
+
+    pub answer_fed : (client : Client) (heard piece more written : List ℕ) (out : Output) (result : Result Progress FetchFault) → client.query ≡ q → client.limits ≡ limits
+        → bytes ≡ heard ++ (piece ++ more) → IsFed client heard piece written out result → AnswerIsFed text written more out result
+    answer_fed client heard piece more written out (Ok progresses.More) query limits_are same fed = λ none.
+        let open_at : IsAt q limits client.stage (heard ++ piece) (written ++ fed.ends.text) =
+        subst₂ (λ (p : QueryParts) (l : LimitNumbers). IsAt p l client.stage (heard ++ piece) (written ++ fed.ends.text)) query limits_are fed.ends.is_open.at in
+        let short : IsShortAt q limits client.stage (heard ++ piece) =
+        subst₂ (λ (p : QueryParts) (l : LimitNumbers). IsShortAt p l client.stage (heard ++ piece)) query limits_are (fed.short refl) in
+        closed_there (IsAnswerHead q) q limits (block_list q d) bytes client.stage (heard ++ piece) (written ++ fed.ends.text) own.few own.carries
+        (none_behind bytes heard piece more same none) open_at short
+    answer_fed client heard piece more written out (Ok progresses.Done) query limits_are same fed =
+        let a = fed.ends.0 in
+        let is : IsAnswered q limits (heard ++ a.front) false a.sections (written ++ a.text) =
+        subst₂ (λ (p : QueryParts) (l : LimitNumbers). IsAnswered p l (heard ++ a.front) false a.sections (written ++ a.text)) query limits_are a.answered in
+        let carries = all_within ((heard ++ a.front) ++ (a.more ++ more)) (behind_front bytes heard piece more a.front a.more same a.whole) in
+        (a.text, a.put, (answered q limits own.s (block_list q d) text (heard ++ a.front) (a.more ++ more) false false a.sections (written ++ a.text) own.fits carries no_end is).1)
+    answer_fed client heard piece more written out (Err fault) query limits_are same fed =
+        let r = fed.ends in
+        let is : RefusedBy q limits (heard ++ r.front) r.more false r.sections (written ++ r.text) fault =
+        subst₂ (λ (p : QueryParts) (l : LimitNumbers). RefusedBy p l (heard ++ r.front) r.more false r.sections (written ++ r.text) fault) query limits_are r.refused in
+        let carries = all_within ((heard ++ r.front) ++ (r.more ++ more)) (behind_front bytes heard piece more r.front r.more same r.whole) in
+        out_or_memory fault
+        (taken q limits own.s (block_list q d) text (heard ++ r.front) r.more more false false r.sections (written ++ r.text) fault own.fits own.small carries no_end is)
+        (λ peer. refused_not q limits fault peer (heard ++ r.front) r.more false r.sections (written ++ r.text) is)

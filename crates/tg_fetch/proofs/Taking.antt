@@ -267,9 +267,9 @@ module _ (q : QueryParts) (limits : LimitNumbers) (head : ReplyHead) (body : Car
         λ d is root. (nothing_front q d w.sections, tt),
       )
 
-  shown : (m : Output) (bytes : List ℕ) (cause : ClientFault) → cause ≢ clients.InputFault → IsStopped (path_query q) (path_limits limits) bytes h.said m cause
-      → Stops bytes (absence_fault cause)
-  shown m bytes cause not_input s = (
+  shown : (m : Output) (bytes : List ℕ) (cause : ClientFault) → cause ≢ clients.InputFault → absence_fault cause ≢ faults.Refused refusals.SinkFault
+      → IsStopped (path_query q) (path_limits limits) bytes h.said m cause → Stops bytes (absence_fault cause)
+  shown m bytes cause not_input not_sink s = (
     s.sections,
     BodyStops.absence (record {
       is_head = h.is_head;
@@ -278,16 +278,17 @@ module _ (q : QueryParts) (limits : LimitNumbers) (head : ReplyHead) (body : Car
       cause = cause;
       not_input = not_input;
       fault_is = refl;
+      not_sink = not_sink;
       ends = s.ends;
       no_text = refl;
     }),
     λ d is root. says_of_path q d s.sections (h.said ++ s.text) cause (s.sound d is root),
   )
 
-  pub shows_stop : (m : Output) (bytes : List ℕ) (cause : ClientFault) → HasOutCause m cause → IsStopped body.verifier.left.query body.verifier.limits bytes h.said m cause
-      → Stops bytes (absence_fault cause)
-  shows_stop m bytes cause has s =
-      shown m bytes cause (never_of_input m cause has)
+  pub shows_stop : (m : Output) (bytes : List ℕ) (cause : ClientFault) → HasOutCause m cause → absence_fault cause ≢ faults.Refused refusals.SinkFault
+      → IsStopped body.verifier.left.query body.verifier.limits bytes h.said m cause → Stops bytes (absence_fault cause)
+  shows_stop m bytes cause has not_sink s =
+      shown m bytes cause (never_of_input m cause has) not_sink
       (subst (λ (n : LimitNumbers). IsStopped (path_query q) n bytes h.said m cause) h.limits_are
       (subst (λ (p : QueryParts). IsStopped p body.verifier.limits bytes h.said m cause) h.query s))
 

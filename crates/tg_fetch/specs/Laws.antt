@@ -1,7 +1,6 @@
--- What follows from how a reply is heard: one that carries sections which fit is accepted, and so is a gateway's own.
+-- What follows from how a reply is heard: one that carries sections which fit is accepted.
 use Rattle.std.specs.Prelude.{Bool, Err, List, Ok, Result, Some, [], length, true, ⊤, ℕ, ◌++◌, ◌∷◌, ◌≡◌, ◌≤◌}
 use Rattle.tg_dials.specs.Dials.{Dialling}
-use Rattle.tg_exchange.specs.Exchanges.{IsAnswerable, IsHeld, IsWithin}
 use Rattle.tg_fetch.specs.Replies.{IsAnswered, RefusedBy}
 use Rattle.tg_fetch.specs.declared.fault.FetchFault.{FetchFault}
 use Rattle.tg_fetch.specs.declared.fault.FetchFault.TheVariants as faults
@@ -11,10 +10,6 @@ use Rattle.tg_model.specs.Dag.{Dag, Section}
 use Rattle.tg_model.specs.Fits.{Fits}
 use Rattle.tg_model.specs.LimitNumbers.{LimitNumbers}
 use Rattle.tg_model.specs.Queries.{QueryParts}
-use Rattle.tg_model.specs.Stores.{Store}
-use Rattle.tg_query.specs.Laws.{IsPrintable}
-use Rattle.tg_query.specs.Requests.{request_text}
-use Rattle.tg_sent.specs.Sent.{Sent, SentFor, SentInFull, failed_in, sent_bytes}
 use Rattle.tg_streams.specs.Streams.{Output, Put}
 use Rattle.tg_verify.specs.Laws.{IsWithinLimits}
 use Rattle.tg_verify.specs.declared.fault.Refusal.TheVariants as refusals
@@ -52,19 +47,6 @@ CarriedIsAnswer = (q : QueryParts) (limits : LimitNumbers) (d : Dag) (all : List
     → Fits d q all answer → CarriesWithin q limits (heard ++ more) over all → (ended ≡ true → more ≡ [])
     → IsAnswered q limits heard ended sections text
     → (sections ≡ all) × (text ≡ answer)
-
--- ---- a gateway's own reply
-
--- what a session sends for the request of a client, where the store that it is over holds the blocks of a sound DAG and breaks
--- off nowhere, and the query is answerable within the limits: handed to that client in any pieces, it isn't refused but for a
--- fault of out or want of memory, and where it is accepted the DAG's answer is put
-abbrev pub OwnExchange : Type 0
-OwnExchange = (store : Store) (q : QueryParts) (d : Dag) (limits : LimitNumbers) (addr next rest : List ℕ) (sent : List Sent) → IsHeld store q d → IsWithin q limits d
-    → (can : IsAnswerable q d) → IsPrintable q addr → SentInFull (SentFor store) (request_text q addr ++ next) sent rest → failed_in sent ≡ 0
-    → (heard unheard more : List ℕ) (ended over : Bool) → sent_bytes sent ≡ heard ++ (unheard ++ more)
-    → (ended ≡ true → (over ≡ true) × (unheard ≡ []) × (more ≡ []))
-    → ((sections : List Section) (text : List ℕ) (fault : FetchFault) → RefusedBy q limits heard unheard ended sections text fault → IsOwnFault fault)
-    × ((sections : List Section) (text : List ℕ) → IsAnswered q limits heard ended sections text → text ≡ can.text)
 
 -- ---- a call
 

@@ -7,3 +7,4 @@ pub mod Clients
 pub mod Calls
 pub mod Received
 pub mod Laws
+pub mod Own

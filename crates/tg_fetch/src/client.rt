@@ -91,6 +91,9 @@ impl Client {
         // What came, this piece with it, and what is written for it.
         ensures ends { (heard written : Items ℕ) → StandsFor self.old heard written
             → FeedEnds self.new heard piece.now written (into S.sink out.old out.new) result }
+        // Where more is wanted a body of stated length isn't whole.
+        ensures short { (heard written : Items ℕ) → StandsFor self.old heard written → result ≡ Ok Progress.More
+            → IsShortAt self.new.query self.new.limits self.new.stage (heard ++ piece.now) }
         ensures cause { (heard written : Items ℕ) → StandsFor self.old heard written
             → QuietUnlessSink (into S.sink out.old out.new) result }
         ensures done { self.old.refused ≡ None → self.old.stage ≡ Stage.Done
@@ -143,6 +146,8 @@ impl Client {
         ensures unrefused { self.new.refused ≡ None }
         ensures ends { (heard written : Items ℕ) → IsOpen self.old heard written
             → FeedEnds self.new heard piece.now written (into S.sink out.old out.new) result }
+        ensures short { (heard written : Items ℕ) → IsOpen self.old heard written → result ≡ Ok Progress.More
+            → IsShortAt self.new.query self.new.limits self.new.stage (heard ++ piece.now) }
         ensures cause { (heard written : Items ℕ) → IsOpen self.old heard written
             → QuietUnlessSink (into S.sink out.old out.new) result }
         ensures done { self.old.stage ≡ Stage.Done

@@ -1,5 +1,9 @@
 //! What follows from how a reply is heard.
-ghost use Rattle.tg_fetch.specs.Laws.{CarriedIsAnswer, CarriedIsTaken, OwnExchange};
+ghost use Rattle.tg_fetch.specs.Laws.{CarriedIsAnswer, CarriedIsTaken};
+ghost use Rattle.tg_fetch.specs.Own.{OwnIsFed};
+ghost use Rattle.tg_streams.specs.Streams.{into};
+
+use tg_streams::Sink;
 
 /// A reply that carries sections which fit a query, and pass no limit, is refused in none of its fronts, but for counted
 /// faults and want of memory, however it is cut; and where it is accepted their text is put.
@@ -19,16 +23,27 @@ pub fn carried_replies()
     tg_traversal_laws::verified_sections();
 }
 
-/// What a gateway's session sends for a client's request, over a store that holds the blocks of a sound DAG and breaks off
-/// nowhere, is accepted by that client, however it is cut, where the query is answerable within the limits, but for a fault
-/// of out and want of memory; and the DAG's answer is put.
+/// What a gateway's session sends for a client's request, over a store that holds the blocks of a sound DAG and breaks
+/// off nowhere, handed to that client in any pieces, is accepted, and the DAG's answer is written, where the query is
+/// within the limits; and where its path leads nowhere it is refused for that segment, and nothing is written. A fault
+/// of out and want of memory are free. It is said of `Client::feed` into any sink by what that ensures (`ends` and
+/// `short`), piece by piece.
 ///
 /// RFC 9112; Trustless Gateway specification; Path Gateway specification.
-pub fn own_exchanges()
-    ensures { OwnExchange }
+pub fn own_exchanges<S: Sink>()
+    ensures { (old new : S) → OwnIsFed (into S.sink old new) }
 {
     carried_replies();
     tg_exchange::own_sessions();
+    tg_heard::heard_is_one();
+    tg_heard::bodies_go_on();
+    tg_http::laws::longer_bytes();
+    tg_body::laws::body_laws();
+    tg_client::laws::bodies();
+    tg_client::laws::standing_bodies();
+    tg_client::laws::received_sections();
     tg_model_laws::own_sections();
+    tg_model_laws::own_absences();
     tg_model_laws::against_every_peer();
+    tg_traversal_laws::verified_sections();
 }

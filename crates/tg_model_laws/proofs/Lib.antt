@@ -27,6 +27,7 @@ mod Slices
 mod SlotNames
 mod SlotNumbers
 mod StepLaws
+mod StoppedPaths
 mod TerminalTexts
 mod Terminals
 mod Through

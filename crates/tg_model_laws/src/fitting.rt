@@ -1,5 +1,5 @@
 //! Laws on sections that fit a query, over the definitions alone.
-ghost use Rattle.std.specs.Prelude.{◌≡◌, ◌⊎◌, ℕ, Some, List};
+ghost use Rattle.std.specs.Prelude.{◌≡◌, ◌⊎◌, ℕ, None, Some, List};
 ghost use Rattle.tg_model_laws.specs.Fronts.{FitsByFronts, ProgressByFronts};
 ghost use Rattle.tg_model_laws.specs.Openings.{IsAtPlace, IsSettled};
 ghost use Rattle.tg_model_laws.specs.PartialDags.{HoldAll, WriteFronts};
@@ -11,7 +11,7 @@ ghost use Rattle.tg_model.specs.Fits.{CollisionPair, Fits, HasOneBlockEach, IfOn
 ghost use Rattle.tg_model.specs.Fits.{IsOpenedFor, output_so_far};
 ghost use Rattle.tg_model.specs.LimitNumbers.{AreWithin};
 ghost use Rattle.tg_model.specs.Lookup.{lookup_path};
-ghost use Rattle.tg_model.specs.PathWalk.{Spot, not_folder, not_there, stopped};
+ghost use Rattle.tg_model.specs.PathWalk.{Spot, Stop, not_folder, not_reached, not_there, path_walk, stopped};
 ghost use Rattle.tg_model.specs.Queries.{QueryParts};
 ghost use Rattle.tg_model.specs.Sound.{IsSound};
 ghost use Rattle.tg_model.specs.Traversal.{block_list, opened_list, traversal};
@@ -53,6 +53,18 @@ pub fn own_sections()
     ensures { (q : QueryParts) (d : Dag) (text : List ℕ) → IsSound d → root_cid d ≡ q.root
         → IfOnce q.dups (HasOneBlockEach (opened_list q d)) → answer q d ≡ Some text
         → (s : Dag) × Fits s q (block_list q d) text }
+{}
+
+/// Where the traversal of a sound DAG stops the path leads nowhere, and the query has no answer. The blocks on the path
+/// open a partial DAG with the same traversal, where one block stands under each CID if each is sent once.
+///
+/// Path Gateway specification, Path Resolution.
+pub fn own_absences()
+    ensures nowhere { (q : QueryParts) (d : Dag) (stop : Stop) → IsSound d → (traversal q d).end ≡ stopped stop
+        → ((path_walk q.path d).end ≡ not_reached stop) × (answer q d ≡ None) }
+    ensures opened { (q : QueryParts) (d : Dag) (stop : Stop) → IsSound d → root_cid d ≡ q.root
+        → IfOnce q.dups (HasOneBlockEach (opened_list q d)) → (traversal q d).end ≡ stopped stop
+        → (s : Dag) × IsOpenedFor s q × (traversal q s ≡ traversal q d) }
 {}
 
 /// Against every peer: sections that fit a query are those of the sound DAG with the query's root and their text is its

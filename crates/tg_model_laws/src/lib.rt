@@ -11,7 +11,7 @@ mod steps;
 mod stores;
 
 pub use examples::parts_at_a_range;
-pub use fitting::{against_every_peer, front_sections, one_fit, own_sections};
+pub use fitting::{against_every_peer, front_sections, one_fit, own_absences, own_sections};
 pub use partial::{opened_texts, partial_dags};
 pub use places::{met_parts, placed_children, placed_shards};
 pub use sound::{paths, traversals};
