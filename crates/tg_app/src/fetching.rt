@@ -9,17 +9,19 @@ use crate::fault::CommandFault;
 use crate::verify::refusal_of_verifier;
 use std::alloc::Global;
 use tg_dials::Dial;
-use tg_fetch::{FetchFault, fetch};
+use tg_fetch::{FetchFault, Watch, fetch};
 use tg_model::Limits;
 use tg_streams::Sink;
 use tg_words::Fetch;
 
-/// `fetch`: what a query asks for is fetched from a gateway, and what it says goes to out.
-pub fn fetch_answer<D: Dial, O: Sink>(
+/// `fetch`: what a query asks for is fetched from a gateway, and what it says goes to out. `watch` is told how far it has
+/// come.
+pub fn fetch_answer<D: Dial, O: Sink, W: Watch>(
     alloc: Global,
     asked: &Fetch,
     dial: &mut D,
     out: &mut O,
+    watch: &mut W,
 ) -> Result<(), CommandFault>
     requires { IsAddr asked.now.addr }
     ensures { FetchAnswers asked.now (at_dial D.dial dial.old dial.new) (into O.sink out.old out.new) (end_of result) }
@@ -31,6 +33,7 @@ pub fn fetch_answer<D: Dial, O: Sink>(
         asked.addr.as_str(),
         dial,
         out,
+        watch,
     ) {
         Ok(()) => Ok(()),
         Err(fault) => Err(refusal_of(alloc, fault)),

@@ -19,6 +19,7 @@ use crate::verify::verify;
 use std::alloc::Global;
 use tg_dials::Dial;
 use tg_doors::Door;
+use tg_fetch::Watch;
 use tg_files::{Folder, Pack};
 use tg_streams::{Sink, Source};
 use tg_words::Command;
@@ -35,9 +36,12 @@ use tg_words::Command;
 /// nowhere, or that of a `fetch`. A status other than 6 says that no fault of the input or of out was counted. A status other than 0 puts one
 /// line on err, and a fault of err changes nothing else.
 ///
+/// `watch` is told how far a `fetch` has come, and that it has ended before its line is put; it has no part in what is
+/// said here.
+///
 /// What each status says stands in `Runs`: a record for the words, and one for each command, whose last field for
 /// `verify` and for `fetch` is the answer that every sound DAG vouches for.
-pub fn run<F: Folder, P: Pack, L: Door, D: Dial, I: Source, O: Sink, E: Sink>(
+pub fn run<F: Folder, P: Pack, L: Door, D: Dial, I: Source, O: Sink, E: Sink, W: Watch>(
     alloc: Global,
     words: &[String],
     folder: &mut F,
@@ -47,6 +51,7 @@ pub fn run<F: Folder, P: Pack, L: Door, D: Dial, I: Source, O: Sink, E: Sink>(
     input: &mut I,
     out: &mut O,
     err: &mut E,
+    watch: &mut W,
 ) -> u8
     // The pack is there, and is given back, as the command left it.
     requires pack { IsSome pack.old }
@@ -72,12 +77,12 @@ pub fn run<F: Folder, P: Pack, L: Door, D: Dial, I: Source, O: Sink, E: Sink>(
     tg_traversal_laws::beside_dags();
     tg_traversal_laws::store_walks();
     tg_verify::laws::verified_answers();
-    let end = command(alloc, words, folder, pack, door, dial, input, out);
+    let end = command(alloc, words, folder, pack, door, dial, input, out, watch);
     tell(&end, err)
 }
 
 /// Does what the words ask for.
-fn command<F: Folder, P: Pack, L: Door, D: Dial, I: Source, O: Sink>(
+fn command<F: Folder, P: Pack, L: Door, D: Dial, I: Source, O: Sink, W: Watch>(
     alloc: Global,
     words: &[String],
     folder: &mut F,
@@ -86,6 +91,7 @@ fn command<F: Folder, P: Pack, L: Door, D: Dial, I: Source, O: Sink>(
     dial: &mut D,
     input: &mut I,
     out: &mut O,
+    watch: &mut W,
 ) -> Result<(), CommandFault>
     requires { IsSome pack.old }
     ensures back { IsSome pack.new }
@@ -103,7 +109,7 @@ fn command<F: Folder, P: Pack, L: Door, D: Dial, I: Source, O: Sink>(
         Command::Import(asked) => import(alloc, &asked, folder, pack, out),
         Command::Verify(query) => verify(alloc, &query, input, out),
         Command::Serve(asked) => serve(alloc, &asked, pack, door, out),
-        Command::Fetch(asked) => fetch_answer(alloc, &asked, dial, out),
+        Command::Fetch(asked) => fetch_answer(alloc, &asked, dial, out, watch),
     }
 }
 

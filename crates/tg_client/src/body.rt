@@ -5,7 +5,7 @@ ghost use Rattle.tg_client.specs.Body.{HasEnded, HasOutCause, IsBody, IsEndFault
 ghost use Rattle.tg_model.specs.Dag.{Section};
 ghost use Rattle.tg_streams.specs.Streams.{OutputQuiet, into};
 ghost use Rattle.tg_verify.specs.Absences.{path_limits, path_query};
-ghost use Rattle.tg_verify.specs.State.{next_cid};
+ghost use Rattle.tg_verify.specs.State.{next_cid, written_count};
 ghost use Rattle.tg_verify.specs.Taken.{IsFresh};
 
 use crate::fault::ClientFault;
@@ -79,6 +79,20 @@ impl CarBody {
         ensures { IsTrue result ↔ (next_cid self.now.verifier.refused self.now.verifier.left.wanted ≡ None) }
     {
         self.verifier.want().is_none()
+    }
+
+    /// How many sections were taken.
+    pub fn sections(&self) -> u64
+        ensures { result ≡ self.now.verifier.taken }
+    {
+        self.verifier.sections()
+    }
+
+    /// How many bytes were put of the answer, as `Verifier::written` counts them.
+    pub fn written(&self) -> u64
+        ensures { result ≡ written_count self.now.verifier.lines self.now.verifier.counts.output }
+    {
+        self.verifier.written()
     }
 
     /// Takes all of a piece.

@@ -7,4 +7,5 @@ pub mod Clients
 pub mod Calls
 pub mod Received
 pub mod Laws
+pub mod Watched
 pub mod Own

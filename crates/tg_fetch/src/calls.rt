@@ -20,6 +20,7 @@ ghost use Rattle.tg_verify.specs.Laws.{IsWithinLimits};
 use crate::client::Client;
 use crate::fault::FetchFault;
 use crate::laws;
+use crate::watch::Watch;
 use std::alloc::{AllocError, Global};
 use tg_bytes::zeros;
 use tg_dials::Dial;
@@ -33,17 +34,19 @@ const PIECE_LEN: usize = 65_536;
 
 /// Fetches what a query asks for from the gateway at `addr`, which has the form HOST:PORT, and puts what it says: the
 /// peer is dialled, the request is put, the reply is fed to a client until it is whole or the link has ended, and the
-/// link is given back, whatever came of it. The query's root alone is trusted.
+/// link is given back, whatever came of it. The query's root alone is trusted. `watch` is told how far it has come behind
+/// each piece of the reply, and at last that it has ended, whatever came of it.
 ///
 /// RFC 9112; Trustless Gateway specification. Errors: `PeerFault` where the dial or the link failed, and those of
 /// `Client::feed` and `Client::end`. What was put before stays.
-pub fn fetch<D: Dial, S: Sink>(
+pub fn fetch<D: Dial, S: Sink, W: Watch>(
     alloc: Global,
     query: &Query,
     limits: Limits,
     addr: &str,
     dial: &mut D,
     out: &mut S,
+    watch: &mut W,
 ) -> Result<(), FetchFault>
     requires { IsAddr addr.now }
     // One call: what was said and heard, how it ended, and what that says of each sound DAG with the query's root.
@@ -68,21 +71,41 @@ pub fn fetch<D: Dial, S: Sink>(
     tg_model_laws::own_sections();
     tg_model_laws::against_every_peer();
     laws::carried_replies();
+    let end = dialled(alloc, query, limits, addr, dial, out, watch);
+    watch.ended();
+    end
+}
+
+/// Fetches it so, and tells `watch` of each piece, but not that it has ended. Errors: those of `fetch`.
+fn dialled<D: Dial, S: Sink, W: Watch>(
+    alloc: Global,
+    query: &Query,
+    limits: Limits,
+    addr: &str,
+    dial: &mut D,
+    out: &mut S,
+    watch: &mut W,
+) -> Result<(), FetchFault>
+    requires { IsAddr addr.now }
+    ensures ends { FetchEnds query.now limits addr.now (at_dial D.dial dial.old dial.new) (into S.sink out.old out.new) result }
+    ensures cause { QuietUnlessSink (into S.sink out.old out.new) result }
+{
     let mut link = dial.dial(addr)?;
-    let end = call(alloc, query, limits, addr, &mut link, out);
+    let end = call(alloc, query, limits, addr, &mut link, out, watch);
     dial.done(link);
     end
 }
 
 /// Puts the request for a query into a link, through which nothing went yet, and feeds the reply to a client. Errors:
 /// those of `fetch`.
-fn call<K: Link, S: Sink>(
+fn call<K: Link, S: Sink, W: Watch>(
     alloc: Global,
     query: &Query,
     limits: Limits,
     addr: &str,
     link: &mut K,
     out: &mut S,
+    watch: &mut W,
 ) -> Result<(), FetchFault>
     requires { IsAddr addr.now }
     ensures called { LinkCalled query.now limits addr.now (link_step K.link K.Source.source link.old link.new) (into S.sink out.old out.new) result }
@@ -91,7 +114,7 @@ fn call<K: Link, S: Sink>(
     match begun(alloc, query, limits) {
         Ok((client, room)) => {
             let (mut client, mut room) = (client, room);
-            ask(&mut client, room.as_mut_slice(), addr, link, out)
+            ask(&mut client, room.as_mut_slice(), addr, link, out, watch)
         }
         Err(AllocError) => Err(FetchFault::OutOfMemory),
     }
@@ -109,12 +132,13 @@ fn begun(alloc: Global, query: &Query, limits: Limits) -> Result<(Client, Vec<u8
 
 /// Puts the request of a client, which is new, into a link, and feeds it the reply through this room. Errors: those of
 /// `fetch`.
-fn ask<K: Link, S: Sink>(
+fn ask<K: Link, S: Sink, W: Watch>(
     client: &mut Client,
     room: &mut [u8],
     addr: &str,
     link: &mut K,
     out: &mut S,
+    watch: &mut W,
 ) -> Result<(), FetchFault>
     requires addr { IsAddr addr.now }
     requires fresh { StandsFor client.old [] [] }
@@ -124,16 +148,17 @@ fn ask<K: Link, S: Sink>(
 {
     let request = client.request(addr)?;
     put_all(link, request.as_slice())?;
-    hear(client, room, link, out)
+    hear(client, room, link, out, watch)
 }
 
 /// Feeds a client, which is new, with what a link's peer says, through this room, until the reply is whole or the peer
-/// says no more. Errors: those of the client, and `PeerFault` where the link failed.
-fn hear<K: Link, S: Sink>(
+/// says no more, and tells `watch` behind each piece how far it has come. Errors: those of the client, and `PeerFault` where the link failed.
+fn hear<K: Link, S: Sink, W: Watch>(
     client: &mut Client,
     room: &mut [u8],
     link: &mut K,
     out: &mut S,
+    watch: &mut W,
 ) -> Result<(), FetchFault>
     requires fresh { StandsFor client.old [] [] }
     requires room { 0 < length room.old }
@@ -149,5 +174,6 @@ fn hear<K: Link, S: Sink>(
         if client.feed(&room[..size], out)? == Progress::Done {
             return Ok(());
         }
+        watch.told(client.told());
     }
 }

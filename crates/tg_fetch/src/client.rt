@@ -2,6 +2,7 @@
 ghost use Rattle.std.specs.Prelude.{◌≡◌, ◌++◌, ◌+◌, ◌<◌, ◌^◌, ◌≤◌, [], ℕ, List as Items, Err, IfOk, MatchResult, None, Ok, Some, length};
 ghost use Rattle.tg_fetch.specs.Clients.{EndEnds, FeedEnds, IsOpen, IsShortAt, StandsFor, StepEnds};
 ghost use Rattle.tg_fetch.specs.Faults.{QuietUnlessSink};
+ghost use Rattle.tg_fetch.specs.Watched.{told_of};
 ghost use Rattle.tg_fetch.specs.declared.client.Stage.{Stage};
 ghost use Rattle.tg_fetch.specs.declared.fault.FetchFault.{FetchFault};
 ghost use Rattle.tg_query.specs.Requests.{IsAddr, request_text};
@@ -11,6 +12,7 @@ ghost use Rattle.tg_verify.specs.declared.verifier.Progress.{Progress};
 use crate::content::{Content, Move};
 use crate::fault::FetchFault;
 use crate::heads::Heads;
+use crate::watch::Told;
 use std::alloc::{AllocError, Global};
 use tg_bytes::Bytes;
 use tg_model::{Form, LimitKind, Limits, Query, well_formed};
@@ -108,6 +110,20 @@ impl Client {
         let end = self.hear(piece, out);
         self.refused = fault_in(&end);
         end
+    }
+
+    /// How far a body has come that is a CAR: nothing is told before the final head and of a raw block, and nothing is
+    /// any more behind a whole reply.
+    pub fn told(&self) -> Told
+        ensures { result ≡ told_of self.now.stage }
+    {
+        match &self.stage {
+            Stage::Content(content) => content.told(),
+            Stage::Heads(_) | Stage::Done => Told {
+                bytes: 0,
+                blocks: 0,
+            },
+        }
     }
 
     /// Says that the link has ended. Ok says that the reply is the query's answer.

@@ -2,6 +2,7 @@
 ghost use Rattle.std.specs.Prelude.{◌≡◌, ◌↔◌, ◌++◌, ◌<◌, ◌≤◌, ℕ, List as Items, IfOk, IfSome, IsTrue, MatchResult, true, length, take};
 ghost use Rattle.tg_fetch.specs.Faults.{QuietUnlessSink};
 ghost use Rattle.tg_fetch.specs.Replies.{ContentEnds, ContentSteps, ContentStops, HeadStops, IsInContent, IsShortIn, MovesOn};
+ghost use Rattle.tg_fetch.specs.Watched.{told_in};
 ghost use Rattle.tg_heard.specs.Carried.{HasAskedType};
 ghost use Rattle.tg_http.specs.Fields.{is_identity};
 ghost use Rattle.tg_http.specs.declared.reply.ReplyHead.{ReplyHead};
@@ -11,6 +12,7 @@ ghost use Rattle.tg_streams.specs.Streams.{into};
 
 use crate::fault::FetchFault;
 use crate::sections::Sections;
+use crate::watch::Told;
 use std::alloc::Global;
 use tg_body::{Body, BodyReader};
 use tg_http::{Framing, ReplyHead};
@@ -114,6 +116,13 @@ impl Content {
                 Ok((taken, Move::Done))
             }
         }
+    }
+
+    /// How far the sections have come.
+    pub(crate) fn told(&self) -> Told
+        ensures { result ≡ told_in self.now.sections }
+    {
+        self.sections.told()
     }
 
     /// Says that no byte is to come.

@@ -8,7 +8,9 @@ mod fault;
 mod heads;
 pub mod laws;
 mod sections;
+mod watch;
 
 pub use calls::fetch;
 pub use client::Client;
 pub use fault::FetchFault;
+pub use watch::{Told, Unwatched, Watch};

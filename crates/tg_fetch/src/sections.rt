@@ -3,6 +3,7 @@ ghost use Rattle.std.specs.Prelude.{◌++◌, ◌≡◌, [], ℕ, List as Items,
 ghost use Rattle.tg_fetch.specs.Bodies.{BodyStops, EndsTaking, FrontAndSays, IsBlockFault, IsTaking, IsTakingAbsence};
 ghost use Rattle.tg_fetch.specs.Bodies.{IsTakingBlock, StopsTaking, TakesOn};
 ghost use Rattle.tg_fetch.specs.Faults.{QuietUnlessSink, absence_fault};
+ghost use Rattle.tg_fetch.specs.Watched.{told_in};
 ghost use Rattle.tg_heard.specs.Carried.{IsAbsenceHead, IsAnswerHead};
 ghost use Rattle.tg_http.specs.declared.reply.ReplyHead.{ReplyHead};
 ghost use Rattle.tg_model.specs.Dag.{Section};
@@ -12,6 +13,7 @@ ghost use Rattle.tg_streams.specs.Streams.{into};
 ghost use Rattle.tg_verify.specs.Sound.{ForEachSound};
 
 use crate::fault::FetchFault;
+use crate::watch::Told;
 use std::alloc::{AllocError, Global};
 use std::mem;
 use tg_bytes::Bytes;
@@ -88,6 +90,26 @@ impl Sections {
             Sections::Answer(body) => Ok(body.feed(part, out)?),
             Sections::Absence(body) => show(body, part),
             Sections::Block(block) => block.add(part),
+        }
+    }
+
+    /// How far they have come: of an absence nothing is put, and a raw block is verified at its end alone.
+    pub(crate) fn told(&self) -> Told
+        ensures { result ≡ told_in self.now }
+    {
+        match self {
+            Sections::Answer(body) => Told {
+                bytes: body.written(),
+                blocks: body.sections(),
+            },
+            Sections::Absence(body) => Told {
+                bytes: 0,
+                blocks: body.sections(),
+            },
+            Sections::Block(_) => Told {
+                bytes: 0,
+                blocks: 0,
+            },
         }
     }
 

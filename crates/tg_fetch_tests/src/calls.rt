@@ -5,7 +5,7 @@ use std::alloc::{AllocError, Global};
 use std::rt::HostRuntime;
 use tg_bytes::{Bytes, List};
 use tg_dials::MemDial;
-use tg_fetch::{FetchFault, fetch};
+use tg_fetch::{FetchFault, Unwatched, Watch, fetch};
 use tg_known_pieces::pieces::Piece::Text;
 use tg_known_pieces::pieces::{CAR, CHUNKED, F, F_HEADER, F_SECTION, O_WO, Part};
 use tg_links::Call;
@@ -30,15 +30,16 @@ const REQUEST: &[u8] =
     Accept: application/vnd.ipld.car; version=1; order=dfs; dups=y\r\nConnection: close\r\n\r\n";
 
 /// What a call left: how it ended, the dial, and out.
-type Left = (Result<(), FetchFault>, MemDial, MemSink);
+pub type Left = (Result<(), FetchFault>, MemDial, MemSink);
 
-/// A call by pieces of this size over a dial to these replies, with these calls of the dial and of out failing.
-fn called(
+/// A watched call by pieces of this size over a dial to these replies, with these calls of the dial and of out failing.
+pub fn called<W: Watch>(
     alloc: Global,
     query: &Query,
     replies: &[Part],
     piece: usize,
     fails: [&[u64]; 2],
+    watch: &mut W,
 ) -> Result<Left, AllocError> {
     let mut list = List::new(alloc);
     for reply in replies {
@@ -55,6 +56,7 @@ fn called(
         addr(),
         &mut dial,
         &mut out,
+        watch,
     );
     Ok((end, dial, out))
 }
@@ -83,7 +85,8 @@ fn ends(alloc: Global, number: u64, piece: usize) -> Option<Result<(), FetchFaul
     let Some(query) = query_of(alloc, &SPAN) else {
         return None;
     };
-    let Ok((end, dial, out)) = called(alloc, &query, &[REPLY], piece, [&[number], &[]]) else {
+    let fails: [&[u64]; 2] = [&[number], &[]];
+    let Ok((end, dial, out)) = called(alloc, &query, &[REPLY], piece, fails, &mut Unwatched) else {
         return None;
     };
     let right = match end {
@@ -122,7 +125,7 @@ fn is_sink_fault(alloc: Global) -> bool {
     let Some(query) = query_of(alloc, &SPAN) else {
         return false;
     };
-    match called(alloc, &query, &[REPLY], 16, [&[], &[0]]) {
+    match called(alloc, &query, &[REPLY], 16, [&[], &[0]], &mut Unwatched) {
         Ok((end, dial, out)) => {
             end == Err(FetchFault::Refused(Refusal::SinkFault))
                 && is_told(alloc, &dial, true)
@@ -143,7 +146,7 @@ fn is_missed(alloc: Global) -> bool {
     let Some(query) = query_of(alloc, &SPAN) else {
         return false;
     };
-    match called(alloc, &query, &[], 16, [&[], &[]]) {
+    match called(alloc, &query, &[], 16, [&[], &[]], &mut Unwatched) {
         Ok((end, dial, out)) => {
             end == Err(FetchFault::PeerFault)
                 && dial.missed() == 1

@@ -1,5 +1,5 @@
 //! The tests of `tg_fetch`: replies that a client is fed in pieces of any lengths, each with what it says or why it is
-//! refused, and calls over dials in memory and over a socket.
+//! refused, and calls over dials in memory and over a socket, watched while they go on.
 #![tactic(auto)]
 
 #[cfg(test)]
@@ -26,3 +26,5 @@ mod refusals;
 mod sockets;
 #[cfg(test)]
 mod types;
+#[cfg(test)]
+mod watched;

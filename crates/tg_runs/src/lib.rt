@@ -9,6 +9,7 @@ use tg_app::run;
 use tg_bytes::{Bytes, List};
 use tg_dials::MemDial;
 use tg_doors::MemDoor;
+use tg_fetch::Unwatched;
 use tg_files::{MemFolder, MemPack};
 use tg_links::Call;
 use tg_streams::{MemSink, MemSource};
@@ -304,7 +305,18 @@ fn status_of(
 ) -> u8
     requires { IsSome pack.old }
 {
-    run(alloc, words, folder, pack, door, dial, input, out, err)
+    run(
+        alloc,
+        words,
+        folder,
+        pack,
+        door,
+        dial,
+        input,
+        out,
+        err,
+        &mut Unwatched,
+    )
 }
 
 /// What a run with this status left.

@@ -1,5 +1,5 @@
 -- What contracts see of a verifier.
-use Rattle.std.specs.Prelude.{List, None, Option, Some, [], length, map, min, ℕ, ◌-◌, ◌^◌}
+use Rattle.std.specs.Prelude.{List, None, Option, Some, [], length, map, min, ℕ, ◌-◌, ◌^◌, ◌∷◌}
 use Rattle.tg_cid.specs.Cid.{CidParts}
 use Rattle.tg_traversal.specs.Left.{LeftState, WantedAt}
 use Rattle.tg_listing.specs.Listings.{line_of}
@@ -48,6 +48,11 @@ cid_wanted (Some at) = Some at.cid
 abbrev pub next_cid : Option Refusal → Option WantedAt → Option CidParts
 next_cid None wanted = cid_wanted wanted
 next_cid (Some refusal) wanted = None
+
+-- how many bytes were put, of those that are counted: none while the lines of a listing are kept, which is put once it is whole
+abbrev pub written_count : List ListingLine → ℕ → ℕ
+written_count [] output = output
+written_count (line ∷ lines) output = 0
 
 -- of the entries that were met those of a listing, of which a verifier keeps the lines
 abbrev pub listed_of : Scope → List ListedEntry → List Named

@@ -11,7 +11,7 @@ ghost use Rattle.tg_verify.specs.History.{HasAccepted, HasPutCause, HasTaken, Ha
 ghost use Rattle.tg_verify.specs.History.{IsSameVerifier, StandsFor, one_more};
 ghost use Rattle.tg_verify.specs.Laws.{IsFitOf, IsOwnFault, IsWithinLimits};
 ghost use Rattle.tg_verify.specs.Sound.{EndsFor, ForEachSound};
-ghost use Rattle.tg_verify.specs.State.{next_cid};
+ghost use Rattle.tg_verify.specs.State.{next_cid, written_count};
 ghost use Rattle.tg_verify.specs.Steps.{section_with};
 ghost use Rattle.tg_verify.specs.Taken.{IsFresh, IsGoing};
 
@@ -25,6 +25,7 @@ use std::alloc::{AllocError, Global};
 use std::marker::Model;
 use tg_bytes::Bytes;
 use tg_cid::Cid;
+use tg_listing::ListingLine;
 use tg_model::{Limits, Query};
 use tg_streams::Sink;
 use tg_traversal::SharedBlock;
@@ -144,6 +145,14 @@ impl Verifier {
         ensures { result ≡ self.now.taken }
     {
         self.taken
+    }
+
+    /// How many bytes of the answer were put, a number that stands still at 2 ^ 64 - 1; none while the lines of a listing
+    /// are kept, which is put once it is whole. It takes no memory.
+    pub fn written(&self) -> u64
+        ensures { result ≡ written_count self.now.lines self.now.counts.output }
+    {
+        written_of(self.opener.lines.as_slice(), self.opener.counts.output)
     }
 
     /// Takes the next section and puts what it says; opens the places behind it whose blocks no section brings, and
@@ -316,4 +325,11 @@ fn refusal_of<T>(end: &Result<T, Refusal>) -> Option<Refusal>
         Ok(_) => None,
         Err(fault) => Some(*fault),
     }
+}
+
+/// How many bytes were put, where so many are counted and these lines are kept.
+fn written_of(lines: &[ListingLine], output: u64) -> u64
+    ensures { result ≡ written_count lines.now output }
+{
+    if lines.is_empty() { output } else { 0 }
 }

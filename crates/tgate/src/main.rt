@@ -2,6 +2,8 @@
 //! to trust.
 #![tactic(auto)]
 
+mod progress;
+
 ghost use Rattle.std.specs.Prelude.{◌≡◌, ℕ, ◌⊎◌, List, pos, ◌≤ℤ◌, drop, map, string_bytes, Some, IfOk};
 ghost use Rattle.std.specs.Fd.{file_raw_fd};
 ghost use Rattle.std.specs.Vec.Iter.{into_iter_items};
@@ -10,6 +12,7 @@ ghost use Rattle.tg_app.specs.Lines.{Says};
 ghost use Rattle.tg_app.specs.declared.fault.CommandFault.{CommandFault};
 ghost use Rattle.tgate.specs.Runs.{Lined, Ran};
 
+use crate::progress::Progress;
 use std::alloc::{AllocError, Global};
 use std::env::Args;
 use std::fs::File;
@@ -58,7 +61,8 @@ fn answer<I: Source, O: Sink, E: Sink>(
     }
 }
 
-/// Runs the words over the system's files and these streams, and answers the exit status, as `run` does.
+/// Runs the words over the system's files and these streams, and answers the exit status, as `run` does. The line of
+/// progress of a `fetch` isn't put into `err`: it goes straight to the host's err, and no clause speaks of it.
 fn run_words<I: Source, O: Sink, E: Sink>(
     rt: &HostRuntime,
     words: &[String],
@@ -74,6 +78,7 @@ fn run_words<I: Source, O: Sink, E: Sink>(
     let mut pack = Some(HostPack::new(*rt));
     let mut door = TcpDoor::new(*rt);
     let mut dial = TcpDial::new(*rt);
+    let mut progress = Progress::new(*rt);
     run(
         rt.alloc(),
         words,
@@ -84,6 +89,7 @@ fn run_words<I: Source, O: Sink, E: Sink>(
         input,
         out,
         err,
+        &mut progress,
     )
 }
 

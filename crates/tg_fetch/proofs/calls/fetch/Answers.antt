@@ -1,71 +1,22 @@
-use Rattle.std.proofs.Common.{Err, refl}
-use Rattle.std.proofs.lemmas.Result.{err_from_is_err_and}
 use Rattle.tg_dials.specs.Dials.{at_dial}
 use Rattle.tg_fetch.proofs.Accepted.{fitting_accepted, own_accepted}
-use Rattle.tg_fetch.proofs.Fetching.{fetch_called, fetch_missed}
 use Rattle.tg_fetch.proofs.Receiving.{sound_call}
-use Rattle.tg_fetch.specs.declared.fault.FetchFault.TheVariants as faults
 use Rattle.tg_streams.specs.Streams.{into}
 use Rattle.tg_fetch.proofs.calls.fetch.Goals as goal
 
-pub returns-in_err-link-clause-ends : goal.returns-in_err-link-clause-ends
-returns-in_err-link-clause-ends g c =
-    let p = err_from_is_err_and c.from_residual.result c.from_residual.ensures.1 in
-    rw (p.1, p.2)
-    (fetch_missed g.D.Dial.dial g.S.Sink.sink c.args.query.now c.args.limits c.args.addr.now c.args.dial.now c.dial.new.self c.args.out.now c.in_err-link.field-0.0
-    (g.met.S.Sink.rests c.args.out.now) c.in_err-link.ensures.dialled c.dial.ensures.calls)
-
-pub returns-in_err-link-clause-cause : goal.returns-in_err-link-clause-cause
-returns-in_err-link-clause-cause g c =
-    let p = err_from_is_err_and c.from_residual.result c.from_residual.ensures.1 in
-    rw (p.1, p.2) refl
-
-pub returns-clause-ends : goal.returns-clause-ends
-returns-clause-ends g c =
-    fetch_called g.D.Dial.dial g.D.Link.Link.link g.D.Link.Source.source c.args.dial.now c.dial.new.self c.done.new.self c.in_ok-link.link c.call-end.new.link
-    c.in_ok-link.ensures.dialled c.dial.ensures.calls c.done.ensures.done c.done.ensures.missed c.args.query.now c.args.limits c.args.addr.now
-    (into g.S.Sink.sink c.args.out.now c.call-end.new.out) c.call-end.result c.call-end.ensures.called
-
-pub returns-in_err-link-clause-sound : goal.returns-in_err-link-clause-sound
-returns-in_err-link-clause-sound g c =
-    let p = err_from_is_err_and c.from_residual.result c.from_residual.ensures.1 in
-    rw (p.1, p.2)
-    (sound_call c.args.query.now c.args.limits c.args.addr.now (at_dial g.D.Dial.dial c.args.dial.now c.dial.new.self)
-    (into g.S.Sink.sink c.args.out.now c.args.out.now) (Err faults.PeerFault)
-    (fetch_missed g.D.Dial.dial g.S.Sink.sink c.args.query.now c.args.limits c.args.addr.now c.args.dial.now c.dial.new.self c.args.out.now c.in_err-link.field-0.0
-    (g.met.S.Sink.rests c.args.out.now) c.in_err-link.ensures.dialled c.dial.ensures.calls))
-
-pub returns-in_err-link-clause-fitting : goal.returns-in_err-link-clause-fitting
-returns-in_err-link-clause-fitting g c =
-    let p = err_from_is_err_and c.from_residual.result c.from_residual.ensures.1 in
-    rw (p.1, p.2) (λ d sections text fits small t. tt)
-
-pub returns-in_err-link-clause-own : goal.returns-in_err-link-clause-own
-returns-in_err-link-clause-own g c =
-    let p = err_from_is_err_and c.from_residual.result c.from_residual.ensures.1 in
-    rw (p.1, p.2) (λ d text sound root is one within t. tt)
-
 pub returns-clause-sound : goal.returns-clause-sound
 returns-clause-sound g c =
-    sound_call c.args.query.now c.args.limits c.args.addr.now (at_dial g.D.Dial.dial c.args.dial.now c.done.new.self)
-    (into g.S.Sink.sink c.args.out.now c.call-end.new.out) c.call-end.result
-    (fetch_called g.D.Dial.dial g.D.Link.Link.link g.D.Link.Source.source c.args.dial.now c.dial.new.self c.done.new.self c.in_ok-link.link c.call-end.new.link
-    c.in_ok-link.ensures.dialled c.dial.ensures.calls c.done.ensures.done c.done.ensures.missed c.args.query.now c.args.limits c.args.addr.now
-    (into g.S.Sink.sink c.args.out.now c.call-end.new.out) c.call-end.result c.call-end.ensures.called)
+    sound_call c.args.query.now c.args.limits c.args.addr.now (at_dial g.D.Dial.dial c.args.dial.now c.dialled-end.new.dial)
+    (into g.S.Sink.sink c.args.out.now c.dialled-end.new.out) c.dialled-end.result c.dialled-end.ensures.ends
 
 pub returns-clause-fitting : goal.returns-clause-fitting
 returns-clause-fitting g c =
     fitting_accepted c.carried_replies.ensures.taken c.carried_replies.ensures.answer c.args.query.now c.args.limits c.args.addr.now
-    (at_dial g.D.Dial.dial c.args.dial.now c.done.new.self) (into g.S.Sink.sink c.args.out.now c.call-end.new.out) c.call-end.result
-    (fetch_called g.D.Dial.dial g.D.Link.Link.link g.D.Link.Source.source c.args.dial.now c.dial.new.self c.done.new.self c.in_ok-link.link c.call-end.new.link
-    c.in_ok-link.ensures.dialled c.dial.ensures.calls c.done.ensures.done c.done.ensures.missed c.args.query.now c.args.limits c.args.addr.now
-    (into g.S.Sink.sink c.args.out.now c.call-end.new.out) c.call-end.result c.call-end.ensures.called)
+    (at_dial g.D.Dial.dial c.args.dial.now c.dialled-end.new.dial) (into g.S.Sink.sink c.args.out.now c.dialled-end.new.out) c.dialled-end.result
+    c.dialled-end.ensures.ends
 
 pub returns-clause-own : goal.returns-clause-own
 returns-clause-own g c =
     own_accepted c.carried_replies.ensures.taken c.carried_replies.ensures.answer c.args.query.now c.args.limits c.args.addr.now
-    (at_dial g.D.Dial.dial c.args.dial.now c.done.new.self) (into g.S.Sink.sink c.args.out.now c.call-end.new.out) c.call-end.result
-    (fetch_called g.D.Dial.dial g.D.Link.Link.link g.D.Link.Source.source c.args.dial.now c.dial.new.self c.done.new.self c.in_ok-link.link c.call-end.new.link
-    c.in_ok-link.ensures.dialled c.dial.ensures.calls c.done.ensures.done c.done.ensures.missed c.args.query.now c.args.limits c.args.addr.now
-    (into g.S.Sink.sink c.args.out.now c.call-end.new.out) c.call-end.result c.call-end.ensures.called)
-    c.own_sections.ensures c.against_every_peer.ensures.counted
+    (at_dial g.D.Dial.dial c.args.dial.now c.dialled-end.new.dial) (into g.S.Sink.sink c.args.out.now c.dialled-end.new.out) c.dialled-end.result
+    c.dialled-end.ensures.ends c.own_sections.ensures c.against_every_peer.ensures.counted
