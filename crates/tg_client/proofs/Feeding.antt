@@ -1,10 +1,11 @@
 -- A whole piece, step by step.
-use Rattle.std.proofs.Common.{◌≡◌, ℕ, List, [], ◌++◌, Err, sym, subst, append-nil, append_assoc}
+use Rattle.std.proofs.Common.{◌≡◌, ℕ, List, [], ◌++◌, ◌∙◌, Err, None, Ok, Option, Some, sym, subst, append-nil, append_assoc, take}
+use Rattle.std.specs.Prelude.{MatchResult, Result}
 use Rattle.tg_model.specs.Dag.{Section}
 use Rattle.tg_model.specs.LimitNumbers.{LimitNumbers}
 use Rattle.tg_model.specs.Queries.{QueryParts}
 use Rattle.tg_streams.specs.Joining.{SinkJoins, put_nothing, put_put}
-use Rattle.tg_streams.specs.Streams.{Put, SinkMeaning, into}
+use Rattle.tg_streams.specs.Streams.{Output, Put, SinkMeaning, into}
 use Rattle.tg_verify.specs.Sound.{ForEachSound}
 use Rattle.tg_client.specs.Body.{IsBody, IsStopped, WentOn, unknown}
 use Rattle.tg_client.specs.Ends.{EndsBy, SaysFor}
@@ -47,3 +48,17 @@ module _ {S : Type 0} (m : SinkMeaning S) (joins : SinkJoins S m) (a b c : S) (w
     put = put_put S m a b c text w.text joins put w.put;
     is_body = subst (λ (t : List ℕ). IsBody body heard w.sections t) (append_assoc written text w.text) w.is_body;
   }
+
+-- ---- nothing was refused, and that is kept
+
+kept_so : (body : CarBody) (refused : Option ClientFault) (heard written : List ℕ) (out : Output) → refused ≡ body.refused → WentOn body heard written out
+    → WentOn (record body { refused = refused }) heard written out
+kept_so body refused heard written out e w = subst (λ (r : Option ClientFault). WentOn (record body { refused = r }) heard written out) (sym e) w
+
+pub taken_so : (result : Result ℕ ClientFault) (old body : CarBody) (refused : Option ClientFault) (heard piece written : List ℕ) (out : Output)
+    → old.refused ≡ None → body.refused ≡ old.refused → MatchResult result (λ _. refused ≡ None) (λ fault. refused ≡ Some fault)
+    → MatchResult result (λ n. WentOn body (heard ++ take n piece) written out) (λ fault. IsStopped old.verifier.left.query old.verifier.limits (heard ++ piece) written out fault)
+    → MatchResult result (λ n. WentOn (record body { refused = refused }) (heard ++ take n piece) written out)
+    (λ fault. IsStopped old.verifier.left.query old.verifier.limits (heard ++ piece) written out fault)
+taken_so (Ok n) old body refused heard piece written out none same is on = kept_so body refused (heard ++ take n piece) written out (is ∙ sym (same ∙ none)) on
+taken_so (Err fault) old body refused heard piece written out none same is stopped = stopped

@@ -186,7 +186,7 @@ module _ (laws : AnswerLaws) (body : CarBody) (heard : List ℕ) (sections : Lis
 
     pub section_taken : (progress : Progress) (count : ℕ) → HasWritten verifier (sections ++ out_of_car section ∷ []) written out (Ok progress) → verifier.refused ≡ None
         → taken ≤ length piece → count ≡ body.heard + taken → count ≤ body.most → reader.came ≡ []
-        → WentOn (record { reader = reader; verifier = verifier; most = body.most; heard = count }) (heard ++ take taken piece) written out
+        → WentOn (record { reader = reader; verifier = verifier; most = body.most; heard = count; refused = body.refused }) (heard ++ take taken piece) written out
     section_taken progress count w fresh within count_is most at_end = record {
       sections = sections ++ out_of_car section ∷ [];
       text = w.text;
@@ -198,9 +198,10 @@ module _ (laws : AnswerLaws) (body : CarBody) (heard : List ℕ) (sections : Lis
         limit = block_limit;
         most = h.most ∙ ap (λ (l : LimitNumbers). l.received) (sym same_limits);
         fresh = fresh;
+        unrefused = h.unrefused;
         at = going_on_at (h.given ++ events.Section at size section ∷ []) (written ++ w.text) sections_then
             (subst (λ (r : Option Refusal). StandsBy r verifier (sections ++ out_of_car section ∷ []) (written ++ w.text)) fresh w.stands)
-            (record { reader = reader; verifier = verifier; most = body.most; heard = count }) refl;
+            (record { reader = reader; verifier = verifier; most = body.most; heard = count; refused = body.refused }) refl;
         behind = λ none. at_end;
         count = omega (arith, count_is, h.count, length-append heard (take taken piece), length-take-le taken piece within);
         within = omega (arith, most, count_is, h.count, length-append heard (take taken piece), length-take-le taken piece within);
@@ -258,7 +259,7 @@ module _ (laws : AnswerLaws) (body : CarBody) (heard : List ℕ) (sections : Lis
 
     pub header_taken : (progress : Progress) (count : ℕ) → HasWritten verifier [] [] out (Ok progress) → verifier.refused ≡ None
         → taken ≤ length piece → count ≡ body.heard + taken → count ≤ body.most → reader.came ≡ body.reader.came
-        → WentOn (record { reader = reader; verifier = verifier; most = body.most; heard = count }) (heard ++ take taken piece) written out
+        → WentOn (record { reader = reader; verifier = verifier; most = body.most; heard = count; refused = body.refused }) (heard ++ take taken piece) written out
     header_taken progress count w fresh within count_is most at_end = record {
       sections = [];
       text = w.text;
@@ -270,6 +271,7 @@ module _ (laws : AnswerLaws) (body : CarBody) (heard : List ℕ) (sections : Lis
         limit = limit ∙ (h.limit ∙ ap (λ (l : LimitNumbers). l.block) (sym same_limits));
         most = h.most ∙ ap (λ (l : LimitNumbers). l.received) (sym same_limits);
         fresh = fresh;
+        unrefused = h.unrefused;
         at = subst (λ (t : List ℕ). IsGoing verifier [] (t ++ w.text)) (sym fresh_then.1) (subst (λ (r : Option Refusal). StandsBy r verifier [] w.text) fresh w.stands);
         behind = λ none. at_end ∙ none_came body.reader.in_header body.reader heard h.given (h.reads.holds refl) first;
         count = omega (arith, count_is, h.count, length-append heard (take taken piece), length-take-le taken piece within);
@@ -302,7 +304,7 @@ module _ (laws : AnswerLaws) (body : CarBody) (heard : List ℕ) (sections : Lis
   pub step_taken : (reader : ReaderState) (piece : List ℕ) (taken count : ℕ) (out : Output)
       → StandsFor reader (going_on (heard ++ take taken piece) (h.given ++ [])) → reader.limit ≡ body.reader.limit → Put [] out
       → taken ≤ length piece → count ≡ body.heard + taken → count ≤ body.most → (wanted_at : WantedAt) → body.verifier.left.wanted ≡ Some wanted_at
-      → WentOn (record { reader = reader; verifier = body.verifier; most = body.most; heard = count }) (heard ++ take taken piece) written out
+      → WentOn (record { reader = reader; verifier = body.verifier; most = body.most; heard = count; refused = body.refused }) (heard ++ take taken piece) written out
   step_taken reader piece taken count out reads limit put within count_is most wanted_at wanted = record {
     sections = sections;
     text = [];
@@ -314,7 +316,8 @@ module _ (laws : AnswerLaws) (body : CarBody) (heard : List ℕ) (sections : Lis
       limit = limit ∙ h.limit;
       most = h.most;
       fresh = h.fresh;
-      at = at_same body (record { reader = reader; verifier = body.verifier; most = body.most; heard = count }) h.given sections (written ++ []) refl
+      unrefused = h.unrefused;
+      at = at_same body (record { reader = reader; verifier = body.verifier; most = body.most; heard = count; refused = body.refused }) h.given sections (written ++ []) refl
           (subst (λ (text : List ℕ). IsBodyAt body h.given sections text) (sym (append-nil written)) h.at);
       behind = λ none. absurd (cc (sym none ∙ wanted));
       count = omega (arith, count_is, h.count, length-append heard (take taken piece), length-take-le taken piece within);

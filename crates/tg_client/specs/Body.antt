@@ -37,6 +37,7 @@ pub record IsBody (body : CarBody) (heard : List ℕ) (sections : List Section) 
   pub limit : body.reader.limit ≡ body.verifier.limits.block
   pub most : body.most ≡ body.verifier.limits.received
   pub fresh : body.verifier.refused ≡ None
+  pub unrefused : body.refused ≡ None
   pub at : IsBodyAt body given sections written
   -- no byte is heard behind the header and the last wanted section
   pub behind : body.verifier.left.wanted ≡ None → body.reader.came ≡ []

@@ -1,5 +1,5 @@
 //! The bytes of a CAR, verified while they come.
-ghost use Rattle.std.specs.Prelude.{◌≡◌, ◌↔◌, ◌++◌, ◌+◌, ◌<◌, ◌≤◌, [], ℕ, List as Items, None, IfErr, IfOk, IsTrue};
+ghost use Rattle.std.specs.Prelude.{◌≡◌, ◌↔◌, ◌++◌, ◌+◌, ◌<◌, ◌≤◌, [], ℕ, List as Items, Err, None, Some, IfErr, IfOk, IsTrue};
 ghost use Rattle.std.specs.Prelude.{MatchResult, length, take};
 ghost use Rattle.tg_client.specs.Body.{HasEnded, HasOutCause, IsBody, IsEndFault, IsStopped, WentOn};
 ghost use Rattle.tg_model.specs.Dag.{Section};
@@ -19,14 +19,15 @@ use tg_verify::{Refusal, Verifier};
 /// The CAR that answers a query while it comes: each section is verified as soon as its last byte came, and the verifier
 /// is started once the header is whole. No byte of the CAR is kept but those of the section at hand.
 ///
-/// Behind an error nothing is to be handed to it any more. CARv1 specification; Trustless Gateway specification, CAR
-/// responses.
+/// Behind an error each further call gives the same error and changes nothing. CARv1 specification; Trustless Gateway
+/// specification, CAR responses.
 #[derive(Drop)]
 pub struct CarBody {
     reader: CarReader,
     verifier: Verifier,
     most: u64,
     heard: u64,
+    refused: Option<ClientFault>,
 }
 
 impl CarBody {
@@ -71,6 +72,7 @@ impl CarBody {
             verifier,
             most: limits.number(LimitKind::Received),
             heard: 0,
+            refused: None,
         }
     }
 
@@ -100,7 +102,7 @@ impl CarBody {
     /// Errors, at the first byte where one holds: `Refused` with a `Limit` of kind `Received` where more bytes came
     /// than may; with `Extra` behind the last wanted section; with a `Limit` of kind `Block` where a section declares
     /// too large a block; with a refusal of the verifier at the last byte of the header or of a section; `BadCar` where
-    /// no CAR goes on so; and `OutOfMemory`.
+    /// no CAR goes on so; and `OutOfMemory`. Each further call gives the same error and changes nothing.
     pub fn feed<S: Sink>(&mut self, piece: &[u8], out: &mut S) -> Result<(), ClientFault>
         ensures query { self.new.verifier.left.query ≡ self.old.verifier.left.query }
         ensures limits { self.new.verifier.limits ≡ self.old.verifier.limits }
@@ -108,7 +110,7 @@ impl CarBody {
         ensures heard { self.old.heard ≤ self.old.most
             → IfOk result (λ _. (self.new.heard ≡ self.old.heard + length piece.now)
             × (self.new.heard ≤ self.new.most)) }
-        ensures cause { self.old.verifier.refused ≡ None → MatchResult result
+        ensures cause { self.old.refused ≡ None → self.old.verifier.refused ≡ None → MatchResult result
             (λ _. (self.new.verifier.refused ≡ None) × OutputQuiet (into S.sink out.old out.new))
             (λ fault. HasOutCause (into S.sink out.old out.new) fault) }
         ensures stands { (heard : Items ℕ) (sections : Items Section) (written : Items ℕ)
@@ -116,7 +118,13 @@ impl CarBody {
             (λ _. WentOn self.new (heard ++ piece.now) written (into S.sink out.old out.new))
             (λ fault. IsStopped self.old.verifier.left.query self.old.verifier.limits (heard
             ++ piece.now) written (into S.sink out.old out.new) fault) }
+        ensures again { (fault : ClientFault) → self.old.refused ≡ Some fault
+            → (result ≡ Err fault) × (self.new ≡ self.old) × (out.new ≡ out.old) }
+        ensures refused { MatchResult result (λ _. self.new.refused ≡ None) (λ fault. self.new.refused ≡ Some fault) }
     {
+        if let Some(fault) = self.refused {
+            return Err(fault);
+        }
         let mut at = 0;
         while at < piece.len() {
             at += self.take(&piece[at..], out)?;
@@ -125,8 +133,26 @@ impl CarBody {
     }
 
     /// Says that no more bytes come. Errors: `Refused` with `Truncated` where a block is wanted, or the header isn't
-    /// whole, with the root.
+    /// whole, with the root. Each further call gives the same error and changes nothing.
     pub fn end(&mut self) -> Result<(), ClientFault>
+        ensures cause { self.old.refused ≡ None → self.old.verifier.refused ≡ None → IfErr result IsEndFault }
+        ensures stands { (heard : Items ℕ) (sections : Items Section) (written : Items ℕ)
+            → IsBody self.old heard sections written
+            → HasEnded self.old.verifier.left.query self.old.verifier.limits heard sections written result }
+        ensures again { (fault : ClientFault) → self.old.refused ≡ Some fault
+            → (result ≡ Err fault) × (self.new ≡ self.old) }
+        ensures refused { MatchResult result (λ _. self.new.refused ≡ None) (λ fault. self.new.refused ≡ Some fault) }
+    {
+        if let Some(fault) = self.refused {
+            return Err(fault);
+        }
+        let end = self.finish();
+        self.refused = fault_in(&end);
+        end
+    }
+
+    /// Says so to the verifier. Errors: those of `end`.
+    fn finish(&mut self) -> Result<(), ClientFault>
         ensures cause { self.old.verifier.refused ≡ None → IfErr result IsEndFault }
         ensures stands { (heard : Items ℕ) (sections : Items Section) (written : Items ℕ)
             → IsBody self.old heard sections written
@@ -138,12 +164,42 @@ impl CarBody {
     }
 
     /// Takes bytes of a piece that has some, up to the end of the header or of a section, and says how many. A byte
-    /// that is one too many isn't looked at. Errors: those of `feed`.
+    /// that is one too many isn't looked at. Errors: those of `feed`. Each further call gives the same error and changes
+    /// nothing.
     pub fn take<S: Sink>(&mut self, piece: &[u8], out: &mut S) -> Result<usize, ClientFault>
         requires { 0 < length piece.now }
         ensures query { self.new.verifier.left.query ≡ self.old.verifier.left.query }
         ensures limits { self.new.verifier.limits ≡ self.old.verifier.limits }
         ensures most { self.new.most ≡ self.old.most }
+        ensures taken { IfOk result (λ n. (0 < n) × (n ≤ length piece.now)) }
+        ensures heard { IfOk result (λ n. (self.new.heard ≡ self.old.heard + n) × (self.new.heard ≤ self.new.most)) }
+        ensures cause { self.old.refused ≡ None → self.old.verifier.refused ≡ None → MatchResult result
+            (λ _. (self.new.verifier.refused ≡ None) × OutputQuiet (into S.sink out.old out.new))
+            (λ fault. HasOutCause (into S.sink out.old out.new) fault) }
+        ensures stands { (heard : Items ℕ) (sections : Items Section) (written : Items ℕ)
+            → IsBody self.old heard sections written → MatchResult result
+            (λ n. WentOn self.new (heard ++ take n piece.now) written (into S.sink out.old out.new))
+            (λ fault. IsStopped self.old.verifier.left.query self.old.verifier.limits (heard
+            ++ piece.now) written (into S.sink out.old out.new) fault) }
+        ensures again { (fault : ClientFault) → self.old.refused ≡ Some fault
+            → (result ≡ Err fault) × (self.new ≡ self.old) × (out.new ≡ out.old) }
+        ensures refused { MatchResult result (λ _. self.new.refused ≡ None) (λ fault. self.new.refused ≡ Some fault) }
+    {
+        if let Some(fault) = self.refused {
+            return Err(fault);
+        }
+        let end = self.advance(piece, out);
+        self.refused = fault_in(&end);
+        end
+    }
+
+    /// Takes bytes so where nothing was refused. Errors: those of `feed`.
+    fn advance<S: Sink>(&mut self, piece: &[u8], out: &mut S) -> Result<usize, ClientFault>
+        requires { 0 < length piece.now }
+        ensures query { self.new.verifier.left.query ≡ self.old.verifier.left.query }
+        ensures limits { self.new.verifier.limits ≡ self.old.verifier.limits }
+        ensures most { self.new.most ≡ self.old.most }
+        ensures unrefused { self.new.refused ≡ self.old.refused }
         ensures taken { IfOk result (λ n. (0 < n) × (n ≤ length piece.now)) }
         ensures heard { IfOk result (λ n. (self.new.heard ≡ self.old.heard + n) × (self.new.heard ≤ self.new.most)) }
         ensures cause { self.old.verifier.refused ≡ None → MatchResult result
@@ -188,5 +244,15 @@ impl CarBody {
         ClientFault::Refused(Refusal::Extra {
             sections: self.verifier.sections(),
         })
+    }
+}
+
+/// The fault that an end has.
+fn fault_in<T>(end: &Result<T, ClientFault>) -> Option<ClientFault>
+    ensures { MatchResult end.now (λ _. result ≡ None) (λ fault. result ≡ Some fault) }
+{
+    match end {
+        Ok(_) => None,
+        Err(fault) => Some(*fault),
     }
 }

@@ -142,7 +142,8 @@ fn show(body: &mut CarBody, part: &[u8]) -> Result<(), FetchFault>
         (λ _. IsTakingAbsence q limits head body.new (given ++ part.now))
         (λ fault. (sections : Items Section) × BodyStops q limits head (given ++ part.now) sections [] fault
         × ForEachSound q (FrontAndSays q sections [] fault)) }
-    ensures cause { body.old.verifier.refused ≡ None → result ≡ Err (FetchFault.Refused Refusal.SinkFault) → ⊥ }
+    ensures cause { body.old.refused ≡ None → body.old.verifier.refused ≡ None
+        → result ≡ Err (FetchFault.Refused Refusal.SinkFault) → ⊥ }
 {
     tg_client::laws::standing_bodies();
     match body.feed(part, &mut Nowhere {}) {

@@ -22,6 +22,7 @@ loop-filled-init g c = record {
   query = refl;
   limits = refl;
   fresh = c.requires.fresh;
+  unrefused = c.requires.stands.unrefused;
   within = c.requires.within;
   heard_quiet = refl;
   put_quiet = refl;
@@ -64,7 +65,7 @@ pub returns-then-filled-eq0-clause-cause : goal.returns-then-filled-eq0-clause-c
 returns-then-filled-eq0-clause-cause g c =
     let inv = c.loop-filled.invariant in
     end_cause (through g.I.Source.source c.args.input.now c.take_piece.new.source) (into g.S.Sink.sink c.args.out.now c.loop-filled.out) c.end.result (c.in-Ok.ensures.quiet ∙ inv.heard_quiet) inv.put_quiet
-    (λ fault e. subst (λ (r : Result ⊤ ClientFault). IfErr r IsEndFault) e (c.end.ensures.cause inv.fresh))
+    (λ fault e. subst (λ (r : Result ⊤ ClientFault). IfErr r IsEndFault) e (c.end.ensures.cause inv.unrefused inv.fresh))
 
 pub loop-filled-smaller : goal.loop-filled-smaller
 loop-filled-smaller g c =
@@ -75,12 +76,13 @@ loop-filled-smaller g c =
 pub loop-filled-preserved : goal.loop-filled-preserved
 loop-filled-preserved g c =
     let inv = c.loop-filled.invariant in
-    let out = c.in_ok-feed.ensures.cause inv.fresh in
+    let out = c.in_ok-feed.ensures.cause inv.unrefused inv.fresh in
     record {
       room = omega arith;
       query = c.feed.ensures.query ∙ inv.query;
       limits = c.feed.ensures.limits ∙ inv.limits;
       fresh = out.0;
+      unrefused = c.in_ok-feed.ensures.refused;
       within = (c.in_ok-feed.ensures.heard inv.within).1;
       heard_quiet = c.in-Ok.ensures.quiet ∙ inv.heard_quiet;
       put_quiet = out.1 ∙ inv.put_quiet;
@@ -96,7 +98,7 @@ returns-in_err-feed-clause-cause g c =
     let p = err_from_is_err_and c.from_residual.result c.from_residual.ensures.1 in
     rw (p.1, p.2)
     (stop_cause (through g.I.Source.source c.args.input.now c.take_piece.new.source) (into g.S.Sink.sink c.args.out.now c.feed.new.out) c.in_err-feed.field-0.0 (c.in-Ok.ensures.quiet ∙ inv.heard_quiet)
-    (out_cause_from g.S.Sink.sink c.args.out.now c.loop-filled.out c.feed.new.out inv.put_quiet c.in_err-feed.field-0.0 (c.in_err-feed.ensures.cause inv.fresh)))
+    (out_cause_from g.S.Sink.sink c.args.out.now c.loop-filled.out c.feed.new.out inv.put_quiet c.in_err-feed.field-0.0 (c.in_err-feed.ensures.cause inv.unrefused inv.fresh)))
 
 pub returns-in_err-feed-clause-verifies : goal.returns-in_err-feed-clause-verifies
 returns-in_err-feed-clause-verifies g c =

@@ -10,6 +10,7 @@ invariant-loop-filled g l = record {
   query : l.body.verifier.left.query ≡ l.fn.body.verifier.left.query;
   limits : l.body.verifier.limits ≡ l.fn.body.verifier.limits;
   fresh : l.body.verifier.refused ≡ None;
+  unrefused : l.body.refused ≡ None;
   within : l.body.heard ≤ l.body.most;
   heard_quiet : InputQuiet (through g.I.Source.source l.fn.input l.input);
   put_quiet : OutputQuiet (into g.S.Sink.sink l.fn.out l.out);

@@ -20,10 +20,10 @@ returns-in-Ok-2-clause-shows c q limits head given h =
 pub returns-in-Err-clause-shows : goal.returns-in-Err-clause-shows
 returns-in-Err-clause-shows c q limits head given h =
     let e = c.in-Err.ensures in
-    let cause = e.cause h.is_body.fresh in
+    let cause = e.cause h.is_body.unrefused h.is_body.fresh in
     let stop = shows_stop q limits head c.args.body.now given h _ (given ++ c.args.part.now) c.in-Err.fault cause (never_of_sink c.in-Err.fault cause)
     (e.stands given h.sections h.said h.is_body) in
     rw c.shown_by.ensures stop
 
 pub returns-in-Err-clause-cause : goal.returns-in-Err-clause-cause
-returns-in-Err-clause-cause c fresh e = never_of_sink c.in-Err.fault (c.in-Err.ensures.cause fresh) (cc (e, c.shown_by.ensures))
+returns-in-Err-clause-cause c unrefused fresh e = never_of_sink c.in-Err.fault (c.in-Err.ensures.cause unrefused fresh) (cc (e, c.shown_by.ensures))

@@ -1,4 +1,4 @@
-use Rattle.std.proofs.Common.{◌≡◌, ◌+◌, ◌-◌, ◌++◌, ℕ, List, refl, ap, sym, subst, ◌∙◌, take, drop, length, append_assoc, arith}
+use Rattle.std.proofs.Common.{rules, ◌≡◌, ◌+◌, ◌-◌, ◌++◌, ℕ, List, refl, ap, sym, subst, ◌∙◌, take, drop, length, append_assoc, arith}
 use Rattle.std.proofs.lemmas.List.{length-drop, length-take, take_rest, take-append-drop, take_all}
 use Rattle.std.proofs.lemmas.Result.{err_from_is_err_and}
 use Rattle.std.proofs.Math.Seq.{take-add}
@@ -13,6 +13,7 @@ pub loop-at-init : goal.loop-at-init
 loop-at-init g c = record {
   query = refl;
   limits = refl;
+  unrefused = search rules;
   most = refl;
   within = omega arith;
   heard = λ e. (omega arith, e);
@@ -49,6 +50,7 @@ loop-at-preserved g c =
     record {
       query = c.take.ensures.query ∙ inv.query;
       limits = c.take.ensures.limits ∙ inv.limits;
+      unrefused = c.in_ok-at.ensures.refused;
       most = c.take.ensures.most ∙ inv.most;
       within = omega (arith, bounds.1, length-drop at piece, length-take (length piece - at) (drop at piece));
       heard = λ e.
@@ -57,7 +59,7 @@ loop-at-preserved g c =
           (omega (arith, before.0, after.0), after.1);
       cause = λ e.
           let before = inv.cause e in
-          let after = c.in_ok-at.ensures.cause before.0 in
+          let after = c.in_ok-at.ensures.cause inv.unrefused before.0 in
           (after.0, after.1 ∙ before.1);
       stands = λ heard sections written h.
           let w = inv.stands heard sections written h in

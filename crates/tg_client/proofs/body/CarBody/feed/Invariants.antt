@@ -9,6 +9,7 @@ abbrev pub invariant-loop-at : goal.invariant-loop-at
 invariant-loop-at g l = record {
   query : l.self.verifier.left.query ≡ l.fn.self.verifier.left.query;
   limits : l.self.verifier.limits ≡ l.fn.self.verifier.limits;
+  unrefused : l.self.refused ≡ None;
   most : l.self.most ≡ l.fn.self.most;
   within : l.at ≤ length l.piece;
   heard : l.fn.self.heard ≤ l.fn.self.most → (l.self.heard ≡ l.fn.self.heard + l.at) × (l.self.heard ≤ l.self.most);

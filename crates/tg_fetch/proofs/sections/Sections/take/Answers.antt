@@ -14,7 +14,7 @@ returns-in_err-feed-in-Answer-clause-takes g c q limits head given written takin
     let e = c.in_err-feed-in-Answer in
     rw (p.1, p.2)
     (stops q limits head c.in-Answer.body given written h (given ++ c.args.part.now) (into g.S.Sink.sink c.args.out.now c.feed.new.out) e.field-0.0
-    (e.ensures.cause h.is_body.fresh) (e.ensures.stands given h.sections written h.is_body))
+    (e.ensures.cause h.is_body.unrefused h.is_body.fresh) (e.ensures.stands given h.sections written h.is_body))
 
 pub returns-in_ok-feed-in-Answer-clause-takes : goal.returns-in_ok-feed-in-Answer-clause-takes
 returns-in_ok-feed-in-Answer-clause-takes g c q limits head given written taking =

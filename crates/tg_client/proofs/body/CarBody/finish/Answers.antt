@@ -6,7 +6,7 @@ use Rattle.tg_client.specs.Body.{HasEnded}
 use Rattle.tg_client.specs.Ends.{fault_of_refusal}
 use Rattle.tg_client.proofs.Closing.{accepted, cut_short}
 use Rattle.tg_client.proofs.Stepping.{some_of}
-use Rattle.tg_client.proofs.body.CarBody.end.Goals as goal
+use Rattle.tg_client.proofs.body.CarBody.finish.Goals as goal
 
 pub returns-in_err-finish-clause-cause : goal.returns-in_err-finish-clause-cause
 returns-in_err-finish-clause-cause c fresh =
