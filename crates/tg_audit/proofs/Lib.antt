@@ -1,1 +1,5 @@
+mod Addrs
+mod Asked
+mod AuditSteps
+mod Heard
 mod PackedTrees

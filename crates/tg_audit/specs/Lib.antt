@@ -1,2 +1,5 @@
 pub mod Faults
 pub mod Packing
+pub mod Hearing
+pub mod Asking
+pub mod Audits

@@ -46,12 +46,12 @@ IsUnpacked tree other = ⊥
 abbrev pub IsAttachedOf : PackState → PackStoreState PackState → Type 0
 IsAttachedOf pack store = IsAttachedIn pack.content (stored_in (mem_pack.content store.pack) store.places)
 
--- why it isn't attached: a cause of its content
+-- why it isn't attached: a cause of its content, as far as that is told; want of memory is free
 abbrev pub CauseIn : Option (List ℕ) → AuditFault → Type 0
 CauseIn told audits.OutOfMemory = ⊤
-CauseIn None other = ⊤
+CauseIn None (audits.Pack fault) = ⊤
 CauseIn (Some content) (audits.Pack fault) = HasPackCause content fault
-CauseIn (Some content) other = ⊥
+CauseIn told other = ⊥
 
 abbrev pub IsUnattached : PackState → AuditFault → Type 0
 IsUnattached pack fault = CauseIn pack.content fault

@@ -1,10 +1,12 @@
-//! Why an audit's folder isn't there as a store.
+//! Why an audit doesn't end well.
 use std::alloc::AllocError;
+use tg_fetch::FetchFault;
+use tg_gateway::GatewayFault;
 use tg_import_pack::ImportFault;
 use tg_store::PackFault;
 use thiserror::Error;
 
-/// Why an audit's folder isn't there as a store. No inner fault is one that was counted, or want of memory.
+/// Why an audit doesn't end well. No inner fault is want of memory.
 #[derive(Debug, Drop, Error)]
 pub enum AuditFault {
     /// The folder can't be imported: two of its names have one hash, say.
@@ -13,6 +15,18 @@ pub enum AuditFault {
     /// The pack that was made can't be attached.
     #[error("Pack")]
     Pack(PackFault),
+    /// The client refuses what the gateway's session sent.
+    #[error("{0}")]
+    Client(FetchFault),
+    /// The gateway's session refuses the request.
+    #[error("{0}")]
+    Gateway(GatewayFault),
+    /// The query with this number has another answer than the one that is expected of it.
+    #[error("Differs {query}")]
+    Differs { query: u64 },
+    /// A fault of out was counted. A front of the text was put.
+    #[error("SinkFault")]
+    SinkFault,
     /// No memory was found.
     #[error("OutOfMemory")]
     OutOfMemory,
@@ -66,6 +80,34 @@ impl From<PackFault> for AuditFault {
             | PackFault::Unfinished
             | PackFault::Truncated { .. }
             | PackFault::BlockLimit { .. } => AuditFault::Pack(fault),
+        }
+    }
+}
+
+impl From<FetchFault> for AuditFault {
+    ghost use Rattle.std.specs.Prelude.{◌≡◌};
+    ghost use Rattle.tg_audit.specs.Faults.{fault_of_fetch};
+
+    ghost from_gives = { λ fault given. given ≡ fault_of_fetch fault };
+
+    fn from(fault: FetchFault) -> AuditFault {
+        match fault {
+            FetchFault::OutOfMemory => AuditFault::OutOfMemory,
+            fault => AuditFault::Client(fault),
+        }
+    }
+}
+
+impl From<GatewayFault> for AuditFault {
+    ghost use Rattle.std.specs.Prelude.{◌≡◌};
+    ghost use Rattle.tg_audit.specs.Faults.{fault_of_gateway};
+
+    ghost from_gives = { λ fault given. given ≡ fault_of_gateway fault };
+
+    fn from(fault: GatewayFault) -> AuditFault {
+        match fault {
+            GatewayFault::OutOfMemory => AuditFault::OutOfMemory,
+            fault => AuditFault::Gateway(fault),
         }
     }
 }

@@ -46,7 +46,7 @@ const BLOCKS: &[(&[u8], bool)] = &[
 ];
 
 /// What was imported.
-fn packed(alloc: Global) -> Option<Packed> {
+pub(crate) fn packed(alloc: Global) -> Option<Packed> {
     match folder(alloc) {
         Ok(tree) => import_tree(alloc, tree).ok(),
         Err(_) => None,
