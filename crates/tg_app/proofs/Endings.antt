@@ -9,7 +9,7 @@ use Rattle.tg_cid.specs.declared.cid.HashKind.TheVariants.{Sha256, Identity}
 use Rattle.tg_words.specs.CommandLine.{CommandLine}
 use Rattle.tg_words.specs.ImportLines.{ImportParts}
 use Rattle.tg_words.specs.declared.Command.{Command}
-use Rattle.tg_words.specs.declared.Command.TheVariants.{Check, Node, CidToHex, CidToText, Export, Fetch, Import, Serve, Verify}
+use Rattle.tg_words.specs.declared.Command.TheVariants.{Audit, Check, Node, CidToHex, CidToText, Export, Fetch, Import, Serve, Verify}
 use Rattle.tg_export.specs.Cars.{CarEnds}
 use Rattle.tg_export.specs.Packed.{ExportEnds, HasPackedCause, IsExportedElse}
 use Rattle.tg_export.specs.declared.fault.ExportFault.{ExportFault}
@@ -39,6 +39,7 @@ use Rattle.tg_app.specs.Imports.{ImportAnswers, Imported, IsGoodFolder, IsImport
 use Rattle.tg_app.specs.Objects.{Files, Objects, SameFiles}
 use Rattle.tg_app.specs.declared.fault.CommandFault.{CommandFault}
 use Rattle.tg_app.specs.declared.fault.CommandFault.TheVariants.{Usage, BadDigest, BadBlock, BlockLimit, InputFault, SinkFault, OutOfMemory}
+use Rattle.tg_app.proofs.AuditEndings.{audit_quiet, no_audit_usage, unaudited}
 use Rattle.tg_app.proofs.ServeEndings.{no_serve_usage, serve_quiet}
 use Rattle.tg_app.proofs.FetchEndings.{fetch_fault, fetch_quiet, no_fetch_usage}
 use Rattle.tg_app.proofs.Statuses.{differs, not_zero}
@@ -66,6 +67,7 @@ memory_ends words (Verify q) objects uses line all = (all.files, unverified q ob
 memory_ends words (Serve parts) objects uses line all =
     (all.files.folder, all.streams.untaken, inr (inr (record { same = all.files.pack; unput = all.streams.unput; same_door = all.door; end_is = refl })))
 memory_ends words (Fetch parts) objects uses line all = absurd uses
+memory_ends words (Audit parts) objects uses line all = (all.files, all.streams.untaken, unaudited parts objects.out all.streams.unput)
 
 -- a command that is handed no dial ends as itself where no memory is found for its words
 pub ends_of : (words : List (List ℕ)) (command : Command) (objects : Objects) (end : Option CommandFault) → UsesNoDial command → CommandLine words command
@@ -178,6 +180,7 @@ no_usage (Import parts) objects ends = no_import_usage parts objects.files objec
 no_usage (Verify q) objects ends = no_verify_usage q objects.input objects.out ends.1
 no_usage (Serve parts) objects ends = no_serve_usage parts objects.files.pack objects.files.same_pack objects.out objects.door ends.2
 no_usage (Fetch parts) objects ends = no_fetch_usage parts objects.dial.dialling objects.out ends.2
+no_usage (Audit parts) objects ends = no_audit_usage parts objects.out ends.2
 
 memory_isnt_2 : (end : Option CommandFault) → end ≡ Some OutOfMemory → exit_status end ≡ 2 → ⊥
 memory_isnt_2 end e two = let eight : exit_status (Some OutOfMemory) ≡ 2 = sym (ap exit_status e) ∙ two in cc
@@ -210,6 +213,7 @@ command_kept (Export parts) objects end uses ends = absurd uses
 command_kept (Import parts) objects end uses ends = absurd uses
 command_kept (Serve parts) objects end uses ends = absurd uses
 command_kept (Fetch parts) objects end uses ends = ends.0
+command_kept (Audit parts) objects end uses ends = absurd uses
 
 pub kept_of : (words : List (List ℕ)) (command : Command) (objects : Objects) (end : Option CommandFault) → CommandLine words command → UsesNoFiles command
     → Ends words objects end → SameFiles objects.files
@@ -266,6 +270,7 @@ command_fault (Export parts) objects end uses e ends = absurd uses
 command_fault (Import parts) objects end uses e ends = absurd uses
 command_fault (Serve parts) objects end uses e ends = absurd uses
 command_fault (Fetch parts) objects end uses e ends = inr (fetch_fault parts objects.dial.dialling objects.out end e ends.2)
+command_fault (Audit parts) objects end uses e ends = absurd uses
 
 -- want of memory has status 8
 pub memory_isnt : (objects : Objects) (end : Option CommandFault) (n : ℕ) → nat_eq 8 n ≡ false → exit_status end ≡ n → NoMemoryEnds objects end → ⊥
@@ -306,6 +311,7 @@ command_passed (Import parts) objects end reads e ends = absurd reads
 command_passed (Verify q) objects end reads e ends = absurd reads
 command_passed (Serve parts) objects end reads e ends = absurd reads
 command_passed (Fetch parts) objects end reads e ends = absurd reads
+command_passed (Audit parts) objects end reads e ends = absurd reads
 
 pub passed_of : (words : List (List ℕ)) (command : Command) (objects : Objects) (end : Option CommandFault) → CommandLine words command → ReadsBlock command → exit_status end ≡ 7
     → Ends words objects end → PassedLimit objects.input × OutputUntouched objects.out
@@ -395,6 +401,7 @@ command_quiet (Import parts) objects end ne ends = (ends.0.quiet, import_quiet p
 command_quiet (Verify q) objects end ne ends = verify_quiet q objects.input objects.out end ne ends.1
 command_quiet (Serve parts) objects end ne ends = (ends.1.quiet, serve_quiet parts objects.files.pack objects.files.same_pack objects.out objects.door end ne ends.2)
 command_quiet (Fetch parts) objects end ne ends = (ends.1.quiet, fetch_quiet parts objects.dial.dialling objects.out end ne ends.2)
+command_quiet (Audit parts) objects end ne ends = (ends.1.quiet, audit_quiet parts objects.out end ne ends.2)
 
 pub quiet_of : (words : List (List ℕ)) (objects : Objects) (end : Option CommandFault) → exit_status end ≢ 6 → Ends words objects end
     → InputQuiet objects.input × OutputQuiet objects.out

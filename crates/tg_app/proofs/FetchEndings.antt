@@ -84,6 +84,10 @@ never_2 (faults.Refused (verifiers.Extra sections)) e = cc
 never_2 (faults.Refused fault) e = cc
 never_2 fault e = cc
 
+-- no refusal of a reply says that the words are no command
+pub no_fetch_refusal : (fault : FetchFault) → IsFetchRefusal fault refusals.Usage → ⊥
+no_fetch_refusal fault h = never_2 fault (by_status 2 fault refl (refusal_status fault refusals.Usage h))
+
 no_usage_by : (result : Result ⊤ FetchFault) → IsFetchEnd result (Some refusals.Usage) → ⊥
 no_usage_by (Ok done) is = done_is 2 done (Some refusals.Usage) refl refl is
 no_usage_by (Err fault) is = never_2 fault (fault_has 2 fault (Some refusals.Usage) refl refl is)

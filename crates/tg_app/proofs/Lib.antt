@@ -1,4 +1,5 @@
 mod Statuses
+mod AuditEndings
 mod Endings
 mod ExportSteps
 mod ImportSteps

@@ -1,5 +1,6 @@
 -- What a run says, from how its words end.
 use Rattle.std.proofs.Common.{Option, ap, inl, inr, refl, subst, sym, ◌∙◌, ◌≡◌, ◌⊎◌, ℕ}
+use Rattle.tg_app.proofs.AuditEndings.{audited_of, denied_of}
 use Rattle.tg_app.proofs.Endings.{agrees, answered_of, checked_of, did_of, ends_of, export_answered_of, exported_of, fault_of, import_answered_of, imported_of, kept_dial_of, kept_door_of, kept_of}
 use Rattle.tg_app.proofs.Endings.{memory_isnt, memory_of, node_answered_of, node_other_of, noded_of, nowhere_of, other_of, passed_of, printed_of, quiet_of, refused_of, untouched_of, usage_of}
 use Rattle.tg_app.proofs.FetchEndings.{fetch_answered_of, fetch_other_of, fetch_rose_of, fetch_vouched_of, fetched_of}
@@ -13,19 +14,20 @@ use Rattle.tg_app.specs.CidLines.{HexLine, TextLine}
 use Rattle.tg_app.specs.Commands.{CommandEnds, Ends, NoMemoryEnds, UsesNoDial}
 use Rattle.tg_app.specs.Lines.{Says, exit_status}
 use Rattle.tg_app.specs.Node.{NodeStatus}
-use Rattle.tg_app.specs.Runs.{Asks, CheckRun, CidHexRun, CidTextRun, ExportRun, FetchRun, ImportRun, NodeRun, Run, Runs, ServeRun, VerifyRun, WordsRun}
+use Rattle.tg_app.specs.Runs.{Asks, AuditRun, CheckRun, CidHexRun, CidTextRun, ExportRun, FetchRun, ImportRun, NodeRun, Run, Runs, ServeRun, VerifyRun, WordsRun}
 use Rattle.tg_app.specs.declared.fault.CommandFault.{CommandFault}
 use Rattle.tg_cid.specs.Cid.{CidParts}
 use Rattle.tg_model.specs.Queries.{QueryParts}
 use Rattle.tg_model_laws.specs.Depths.{CutsAtDepths, ShowsDownTo}
 use Rattle.tg_streams.specs.Streams.{Put}
 use Rattle.tg_verify.specs.Laws.{AnswerIsFront, ThroughFits}
+use Rattle.tg_words.specs.AuditLines.{AuditParts}
 use Rattle.tg_words.specs.ExportLines.{ExportParts}
 use Rattle.tg_words.specs.FetchLines.{FetchParts}
 use Rattle.tg_words.specs.ImportLines.{ImportParts}
 use Rattle.tg_words.specs.ServeLines.{ServeParts}
 use Rattle.tg_words.specs.declared.Command.{Command}
-use Rattle.tg_words.specs.declared.Command.TheVariants.{Check, CidToHex, CidToText, Export, Fetch, Import, Node, Serve, Verify}
+use Rattle.tg_words.specs.declared.Command.TheVariants.{Audit, Check, CidToHex, CidToText, Export, Fetch, Import, Node, Serve, Verify}
 
 -- how the words of a run end, its status and its line
 module _ (run : Run) (end : Option CommandFault) (through : ThroughFits) (front : AnswerIsFront)
@@ -167,6 +169,17 @@ module _ (run : Run) (end : Option CommandFault) (through : ThroughFits) (front 
             vouched_answer = λ d sound root. inr (fetch_vouched_of front parts d dial out run.err run.status end sound root status line did.2);
           }
 
+  audit_run : (parts : AuditParts) → Asks run (Audit parts) → AuditRun parts run
+  audit_run parts asked =
+      let did = by (Audit parts) tt asked in
+      record {
+        ends = (end, status, did, line);
+        files = did.0;
+        input = did.1;
+        audited = λ zero. audited_of parts run.objects.out end (has zero) did.2;
+        denied = λ three. denied_of parts run.objects.out end (has three) did.2;
+      }
+
   pub runs : Runs run
   runs = record {
     words = words_run;
@@ -179,4 +192,5 @@ module _ (run : Run) (end : Option CommandFault) (through : ThroughFits) (front 
     verify = verify_run;
     serve = serve_run;
     fetch = fetch_run;
+    audit = audit_run;
   }

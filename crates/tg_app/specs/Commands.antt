@@ -2,10 +2,11 @@
 use Rattle.std.specs.Prelude.{◌≡◌, ℕ, ◌⊎◌, ⊤, List, Option, Some}
 use Rattle.tg_words.specs.CommandLine.{CommandLine}
 use Rattle.tg_words.specs.declared.Command.{Command}
-use Rattle.tg_words.specs.declared.Command.TheVariants.{Check, Node, CidToHex, CidToText, Export, Fetch, Import, Serve, Verify}
+use Rattle.tg_words.specs.declared.Command.TheVariants.{Audit, Check, Node, CidToHex, CidToText, Export, Fetch, Import, Serve, Verify}
 use Rattle.tg_streams.specs.Streams.{Output}
 use Rattle.tg_app.specs.Lines.{exit_status, Says}
 use Rattle.tg_app.specs.Blocks.{InputUntouched, Untouched}
+use Rattle.tg_app.specs.Audits.{AuditAnswers}
 use Rattle.tg_app.specs.Check.{CheckEnds}
 use Rattle.tg_app.specs.Node.{NodeEnds}
 use Rattle.tg_app.specs.CidLines.{HexLine, TextLine, PrintEnds}
@@ -35,8 +36,9 @@ CommandEnds (Fetch parts) objects end =
     SameFiles objects.files × InputUntouched objects.input × FetchAnswers parts objects.dial.dialling objects.out end
 CommandEnds (Import parts) objects end =
     InputUntouched objects.input × ImportAnswers parts objects.files objects.out end
+CommandEnds (Audit parts) objects end = SameFiles objects.files × InputUntouched objects.input × AuditAnswers parts objects.out end
 
--- a command that neither reads nor writes files
+-- a command over blocks, which neither reads nor writes files, nor makes them in memory
 abbrev pub UsesNoFiles : Command → Type 0
 UsesNoFiles (Check cid) = ⊤
 UsesNoFiles (Node cid) = ⊤
@@ -47,6 +49,7 @@ UsesNoFiles (Export parts) = ⊥
 UsesNoFiles (Import parts) = ⊥
 UsesNoFiles (Serve parts) = ⊥
 UsesNoFiles (Fetch parts) = ⊤
+UsesNoFiles (Audit parts) = ⊥
 
 -- a command that is handed no door, and leaves it as it was
 abbrev pub UsesNoDoor : Command → Type 0
@@ -59,6 +62,7 @@ UsesNoDoor (Verify q) = ⊤
 UsesNoDoor (Export parts) = ⊤
 UsesNoDoor (Import parts) = ⊤
 UsesNoDoor (Fetch parts) = ⊤
+UsesNoDoor (Audit parts) = ⊤
 
 -- a command that is handed no dial, and leaves it as it was
 abbrev pub UsesNoDial : Command → Type 0
@@ -71,6 +75,7 @@ UsesNoDial (Verify q) = ⊤
 UsesNoDial (Export parts) = ⊤
 UsesNoDial (Import parts) = ⊤
 UsesNoDial (Serve parts) = ⊤
+UsesNoDial (Audit parts) = ⊤
 
 -- a command that reads a block from its input
 abbrev pub ReadsBlock : Command → Type 0

@@ -15,7 +15,7 @@ use Rattle.tg_app.specs.declared.fault.CommandFault.TheVariants.{BadReceived, Ba
 use Rattle.tg_app.specs.declared.fault.CommandFault.TheVariants.{NoRoot, NotThere, NotFolder, BadStored, Gone, Changed}
 use Rattle.tg_app.specs.declared.fault.CommandFault.TheVariants.{TooDeep, DeepFolder, BadName, LongName, SameHash}
 use Rattle.tg_app.specs.declared.fault.CommandFault.TheVariants.{BadFraming, BadReplyHead, BadType, DoorFault, NotPlain, PeerFault}
-use Rattle.tg_app.specs.declared.fault.CommandFault.TheVariants.{Status, StoreFault, TooBig}
+use Rattle.tg_app.specs.declared.fault.CommandFault.TheVariants.{Differs, Status, StoreFault, TooBig}
 use Rattle.tg_model.specs.declared.fault.BlockFault.{BlockFault}
 use Rattle.tg_model.specs.declared.fault.BlockFault.TheVariants as blocks
 use Rattle.tg_model.specs.declared.limits.LimitKind.{LimitKind}
@@ -72,6 +72,7 @@ status_of BadType = 3
 status_of BadReplyHead = 3
 status_of BadFraming = 3
 status_of PeerFault = 5
+status_of (Differs query) = 3
 
 -- what is at fault of a block, behind its CID
 abbrev pub cause_of : NodeFault → List ℕ
@@ -92,6 +93,7 @@ numbers_in (Extra sections) = (sections, 0)
 numbers_in (Limit kind number) = (number, 0)
 numbers_in (BadSize declared actual) = (declared, actual)
 numbers_in (Status status) = (status, 0)
+numbers_in (Differs query) = (query, 0)
 numbers_in other = (0, 0)
 
 -- the name of a kind of limit
@@ -168,6 +170,7 @@ word_of BadType = codes "BadType"
 word_of BadReplyHead = codes "BadReplyHead"
 word_of BadFraming = codes "BadFraming"
 word_of PeerFault = codes "PeerFault"
+word_of (Differs query) = codes "Differs " ++ decimal query
 
 -- the line: the program's name, the word with its detail, a line feed
 abbrev pub line_of : CommandFault → List ℕ

@@ -1,6 +1,7 @@
 -- What `run` says of one run: how the words end, and for each command what each exit status says.
 use Rattle.std.specs.Prelude.{List, Some, ℕ, ◌≡◌, ◌≢◌, ◌≤◌, ◌⊎◌}
-use Rattle.tg_app.specs.Blocks.{OutputUntouched, PassedLimit}
+use Rattle.tg_app.specs.Audits.{AuditDenied}
+use Rattle.tg_app.specs.Blocks.{InputUntouched, OutputUntouched, PassedLimit}
 use Rattle.tg_app.specs.Check.{Agrees, CheckEnds, CheckStatus, Checked, CheckedOther}
 use Rattle.tg_app.specs.CidLines.{HexLine, PutsLine, TextLine}
 use Rattle.tg_app.specs.Commands.{AllUntouched, Answers, CommandEnds, Ends, IsNoCommand, NoMemoryEnds, ReadsBlock, UsesNoDial, UsesNoDoor}
@@ -13,6 +14,7 @@ use Rattle.tg_app.specs.Node.{NodeEnds, NodeStatus, Noded, NodedOther}
 use Rattle.tg_app.specs.Objects.{Objects, SameFiles}
 use Rattle.tg_app.specs.Serves.{IsGoodPack, ServedWhole}
 use Rattle.tg_app.specs.Verify.{IsGoodCar, IsItsCar, VerifiedInput, Vouched}
+use Rattle.tg_audit.specs.Audits.{Audited}
 use Rattle.tg_cid.specs.Cid.{CidParts}
 use Rattle.tg_cid.specs.Names.{Names}
 use Rattle.tg_dials.specs.Dials.{DialRose}
@@ -28,13 +30,14 @@ use Rattle.tg_model.specs.Sound.{IsSound}
 use Rattle.tg_streams.specs.Streams.{InputQuiet, InputRose, Output, OutputQuiet, OutputRose, Put}
 use Rattle.tg_verify.specs.Laws.{IsWithinLimits}
 use Rattle.tg_walk.specs.Walks.{max_depth}
+use Rattle.tg_words.specs.AuditLines.{AuditParts}
 use Rattle.tg_words.specs.CommandLine.{CommandLine}
 use Rattle.tg_words.specs.ExportLines.{ExportParts}
 use Rattle.tg_words.specs.FetchLines.{FetchParts}
 use Rattle.tg_words.specs.ImportLines.{ImportParts}
 use Rattle.tg_words.specs.ServeLines.{ServeParts}
 use Rattle.tg_words.specs.declared.Command.{Command}
-use Rattle.tg_words.specs.declared.Command.TheVariants.{Check, CidToHex, CidToText, Export, Fetch, Import, Node, Serve, Verify}
+use Rattle.tg_words.specs.declared.Command.TheVariants.{Audit, Check, CidToHex, CidToText, Export, Fetch, Import, Node, Serve, Verify}
 
 -- a run: the words behind the program's name, what became of the objects and of err, and the exit status
 pub record Run : Type 1 where
@@ -189,6 +192,17 @@ pub record FetchRun (parts : FetchParts) (run : Run) : Type 0 where
   pub vouched_answer : (d : Dag) → IsSound d → root_cid d ≡ parts.query.root
       → ((run.status ≡ 8) × AllUntouched run.objects) ⊎ VouchedFetch parts d run.objects.dial.dialling run.objects.out run.err run.status
 
+-- `audit`: nothing but out and err changed
+pub record AuditRun (parts : AuditParts) (run : Run) : Type 0 where
+  pub ends : EndsAs (Audit parts) run
+  pub files : SameFiles run.objects.files
+  pub input : InputUntouched run.objects.input
+  -- at 0 the folder that the seed draws was imported, each query was asked of a session over its store by a client, every answer
+  -- was the expected one, the name that isn't there was shown to be absent, and out grew by the text that tells it
+  pub audited : run.status ≡ 0 → Audited parts.seed parts.files run.objects.out
+  -- at 3 an answer was refused, or was another one, and nothing was put
+  pub denied : run.status ≡ 3 → AuditDenied parts run.objects.out
+
 -- what a run says, by the command that its words spell
 pub record Runs (run : Run) : Type 0 where
   pub words : WordsRun run
@@ -201,3 +215,4 @@ pub record Runs (run : Run) : Type 0 where
   pub verify : (q : QueryParts) → Asks run (Verify q) → VerifyRun q run
   pub serve : (parts : ServeParts) → Asks run (Serve parts) → ServeRun parts run
   pub fetch : (parts : FetchParts) → Asks run (Fetch parts) → FetchRun parts run
+  pub audit : (parts : AuditParts) → Asks run (Audit parts) → AuditRun parts run

@@ -139,6 +139,9 @@ pub enum CommandFault {
     /// A fault of the dial or of its link was counted.
     #[error("PeerFault")]
     PeerFault,
+    /// The query of an audit with this number has another answer than the one that is expected of it.
+    #[error("Differs {query}")]
+    Differs { query: u64 },
 }
 
 impl From<AllocError> for CommandFault {
@@ -186,7 +189,8 @@ impl CommandFault {
             | CommandFault::BadCar
             | CommandFault::BadType
             | CommandFault::BadReplyHead
-            | CommandFault::BadFraming => 3,
+            | CommandFault::BadFraming
+            | CommandFault::Differs { .. } => 3,
             CommandFault::Status { .. } => 4,
             CommandFault::DoorFault | CommandFault::PeerFault => 5,
             CommandFault::InputFault
@@ -250,6 +254,7 @@ impl CommandFault {
             ),
             CommandFault::Limit { number, .. } => (*number, 0),
             CommandFault::Status { status } => (u64::from(*status), 0),
+            CommandFault::Differs { query } => (*query, 0),
             CommandFault::BadSize { declared, actual } => (*declared, *actual),
             _ => (0, 0),
         }
@@ -318,6 +323,7 @@ impl CommandFault {
             CommandFault::BadReplyHead => (b"BadReplyHead", b"", b"", b""),
             CommandFault::BadFraming => (b"BadFraming", b"", b"", b""),
             CommandFault::PeerFault => (b"PeerFault", b"", b"", b""),
+            CommandFault::Differs { .. } => (b"Differs ", first, b"", b""),
         }
     }
 }

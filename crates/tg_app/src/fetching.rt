@@ -36,12 +36,12 @@ pub fn fetch_answer<D: Dial, O: Sink, W: Watch>(
         watch,
     ) {
         Ok(()) => Ok(()),
-        Err(fault) => Err(refusal_of(alloc, fault)),
+        Err(fault) => Err(refusal_of_fetch(alloc, fault)),
     }
 }
 
 /// The refusal for a reply that isn't accepted.
-fn refusal_of(alloc: Global, fault: FetchFault) -> CommandFault
+pub(crate) fn refusal_of_fetch(alloc: Global, fault: FetchFault) -> CommandFault
     ensures { IsFetchRefusal fault result }
 {
     match fault {

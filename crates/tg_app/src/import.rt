@@ -75,7 +75,7 @@ fn import_into<F: Folder, P: Pack, O: Sink>(
     let (pack, end) = import_pack(alloc, folder, pack, options);
     match end {
         Ok(made) => (pack, put_lines(alloc, &made.0, &made.1, out)),
-        Err(fault) => (pack, Err(refusal_of(alloc, fault))),
+        Err(fault) => (pack, Err(refusal_of_import(alloc, fault))),
     }
 }
 
@@ -117,7 +117,7 @@ fn push_number(text: &mut Bytes, label: &[u8], number: u64) -> Result<(), AllocE
 }
 
 /// The refusal for the fault of an import.
-fn refusal_of(alloc: Global, fault: ImportFault) -> CommandFault
+pub(crate) fn refusal_of_import(alloc: Global, fault: ImportFault) -> CommandFault
     ensures { IsImportRefusal fault result }
 {
     match refusal_in(alloc, fault) {

@@ -1,6 +1,7 @@
 //! The program's commands.
 #![tactic(auto)]
 
+mod audit;
 mod blocks;
 mod check;
 mod cid;

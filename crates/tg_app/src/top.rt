@@ -7,6 +7,7 @@ ghost use Rattle.tg_app.specs.Objects.{objects_between};
 ghost use Rattle.tg_app.specs.Runs.{Run, Runs};
 ghost use Rattle.tg_app.specs.declared.fault.CommandFault.{CommandFault};
 
+use crate::audit::audit_build;
 use crate::check::check;
 use crate::cid::{cid_to_hex, cid_to_text};
 use crate::export::export;
@@ -27,7 +28,8 @@ use tg_words::Command;
 /// Does what the words ask for, the words being those after the program's name, and answers the exit status.
 ///
 /// 0 the command is done; 2 the words are no command; 3 the block on input isn't the CID's, or `node` finds a fault in
-/// it, or the CAR on input isn't what `verify` asks for, or a reply isn't what `fetch` asks for; 4 the reply to `fetch` has
+/// it, or the CAR on input isn't what `verify` asks for, or a reply isn't what `fetch` asks for, or `audit` has
+/// another answer than it expects; 4 the reply to `fetch` has
 /// another status than 200; 5 a fault of the door, of the dial or of a link was counted; 6 a fault of
 /// the folder, of the pack, of the input or of out was counted, or the pack's or the folder's content is refused, or a
 /// stored block has changed; 7 a limit is passed: a block of more than 2,097,152 bytes, a block more than 512 deep, an
@@ -110,6 +112,7 @@ fn command<F: Folder, P: Pack, L: Door, D: Dial, I: Source, O: Sink, W: Watch>(
         Command::Verify(query) => verify(alloc, &query, input, out),
         Command::Serve(asked) => serve(alloc, &asked, pack, door, out),
         Command::Fetch(asked) => fetch_answer(alloc, &asked, dial, out, watch),
+        Command::Audit(asked) => audit_build(alloc, &asked, out),
     }
 }
 

@@ -273,7 +273,9 @@ const OTHER_WORDS: &[&[&str]] = &[
     &["node", H, H],
     &["node", "--hex", H_HEX],
     &["nodes", H],
-    &["audit", "--seed", "0", "--files", "1"],
+    &["audit", "--seed", "0", "--files", "0"],
+    &["audit", "--seed", "0", "--files", "20001"],
+    &["audit", "--seed", "18446744073709551616", "--files", "1"],
 ];
 
 /// Whether the words are told as none of a command.

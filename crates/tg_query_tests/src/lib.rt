@@ -5,6 +5,8 @@
 #[cfg(test)]
 mod asked;
 #[cfg(test)]
+mod audits;
+#[cfg(test)]
 mod fetches;
 #[cfg(test)]
 mod lines;

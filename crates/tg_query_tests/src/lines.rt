@@ -63,7 +63,6 @@ const LINES: &[(&[&str], Option<Asked>)] = &[
     (&[], None),
     (&[""], None),
     (&["help"], None),
-    (&["audit", "--seed", "1", "--files", "3"], None),
     (&["--help"], None),
     (&["version"], None),
     (&["--", "check", HELLO_TEXT], None),

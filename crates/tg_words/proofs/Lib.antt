@@ -18,4 +18,5 @@ mod Addrs
 mod ImportAnswers
 mod VerifyAnswers
 mod ServeAnswers
+mod AuditAnswers
 mod Lines

@@ -8,6 +8,7 @@ use Rattle.tg_cid.specs.Cid.{CidParts}
 use Rattle.tg_cid.specs.Spelling.{CidText, CidBytes}
 use Rattle.tg_bytes.specs.Lists.{none_in, same_only}
 use Rattle.tg_words.specs.Words.{Given, StandOnce, WordsSpelling}
+use Rattle.tg_words.specs.AuditLines.{audit_names}
 use Rattle.tg_words.specs.CommandLine.{CommandLine, CidHexLine, CidLine, OneCidLine, no_names, cid_names}
 use Rattle.tg_model.specs.Queries.{QueryParts}
 use Rattle.tg_words.specs.FetchLines.{fetch_names}
@@ -16,12 +17,13 @@ use Rattle.tg_words.specs.QueryWords.{query_names}
 use Rattle.tg_words.specs.ServeLines.{serve_names}
 use Rattle.tg_words.specs.Operands.{Answers, Exact, OneCid, QueryBy, RawGiven, givens, texts_of, value_at}
 use Rattle.tg_words.specs.declared.Command.{Command}
-use Rattle.tg_words.specs.declared.Command.TheVariants.{Check, Node, CidToHex, CidToText, Export, Import, Verify, Serve, Fetch}
+use Rattle.tg_words.specs.declared.Command.TheVariants.{Check, Node, CidToHex, CidToText, Export, Import, Verify, Serve, Fetch, Audit}
 use Rattle.tg_words.specs.declared.WordsFault.{WordsFault}
 use Rattle.tg_words.specs.declared.WordsFault.TheVariants.{Usage, OutOfMemory}
 use Rattle.tg_words.specs.declared.operands.GivenOption.{GivenOption}
 use Rattle.tg_words.proofs.Readings.{one_spelling_of_words}
 use Rattle.tg_words.proofs.Positional.{IsOf, Lines, answer_of, exact_answer, one_of_form, the_line}
+use Rattle.tg_words.proofs.AuditAnswers.{audit_by, audit_form, audit_line, one_audit}
 use Rattle.tg_words.proofs.ExportAnswers.{export_by, export_form, export_line, one_export}
 use Rattle.tg_words.proofs.FetchAnswers.{fetch_by, fetch_form, fetch_line, one_fetch}
 use Rattle.tg_words.proofs.ImportAnswers.{import_by, import_form, import_line, one_import}
@@ -106,7 +108,8 @@ IsAsked name rest command =
     (Where (bytes_eq name (codes "import")) (IsOf import_form rest command)
     (Where (bytes_eq name (codes "verify")) (IsOf verify_form rest command)
     (Where (bytes_eq name (codes "serve")) (IsOf serve_form rest command)
-    (Where (bytes_eq name (codes "fetch")) (IsOf fetch_form rest command) ⊥)))))))
+    (Where (bytes_eq name (codes "fetch")) (IsOf fetch_form rest command)
+    (Where (bytes_eq name (codes "audit")) (IsOf audit_form rest command) ⊥))))))))
 
 named : (name other : List ℕ) (rest more : List (List ℕ)) (command : Command) → name ∷ rest ≡ other ∷ more
     → (CommandLine (other ∷ rest) command → IsAsked other rest command) → CommandLine (name ∷ rest) command → IsAsked name rest command
@@ -124,6 +127,7 @@ asked_by_line name rest (Import parts) line = named name (codes "import") rest l
 asked_by_line name rest (Verify query) line = named name (codes "verify") rest line.line.rest (Verify query) line.line.begins (verify_line rest query) line
 asked_by_line name rest (Serve parts) line = named name (codes "serve") rest line.line.rest (Serve parts) line.line.begins (serve_line rest parts) line
 asked_by_line name rest (Fetch parts) line = named name (codes "fetch") rest line.line.rest (Fetch parts) line.line.begins (fetch_line rest parts) line
+asked_by_line name rest (Audit parts) line = named name (codes "audit") rest line.line.rest (Audit parts) line.line.begins (audit_line rest parts) line
 
 pub export_lines : Lines export_form
 export_lines = record { reads = asked_by_line (codes "export"); writes = export_by }
@@ -139,6 +143,9 @@ serve_lines = record { reads = asked_by_line (codes "serve"); writes = serve_by 
 
 pub fetch_lines : Lines fetch_form
 fetch_lines = record { reads = asked_by_line (codes "fetch"); writes = fetch_by }
+
+pub audit_lines : Lines audit_form
+audit_lines = record { reads = asked_by_line (codes "audit"); writes = audit_by }
 
 -- the words are these operands, and no others
 pub record AreOperands (rest texts : List (List ℕ)) (options : List Given) : Type 0 where
@@ -258,6 +265,8 @@ one_line one_cid no_front one_query one_raw words (Serve parts) b line other =
     one_of_form serve_form words line.line.rest (Serve parts) b serve_lines (are_by serve_names refl) one_serve line.line.begins line other
 one_line one_cid no_front one_query one_raw words (Fetch parts) b line other =
     one_of_form fetch_form words line.line.rest (Fetch parts) b fetch_lines (are_by fetch_names refl) (one_fetch one_raw one_query) line.line.begins line other
+one_line one_cid no_front one_query one_raw words (Audit parts) b line other =
+    one_of_form audit_form words line.line.rest (Audit parts) b audit_lines (are_by audit_names refl) one_audit line.line.begins line other
 
 -- what is no command is refused
 pub refused : (words : List (List ℕ)) (answer : Result Command WordsFault) → IfOk answer (λ command. CommandLine words command)

@@ -1,6 +1,6 @@
--- The answers to the lines of a command whose positional words are of one form, as one word or two.
-use Rattle.std.proofs.Common.{◌≡◌, ℕ, List, [], ◌∷◌, Ok, Err, sym, ap, ap₂, ◌∙◌, subst}
-use Rattle.std.specs.Prelude.{Result}
+-- The answers to the lines of a command whose positional words are of one form, as none, one or two.
+use Rattle.std.proofs.Common.{◌≡◌, ℕ, List, [], ◌∷◌, Ok, Err, refl, sym, ap, ap₂, ◌∙◌, subst}
+use Rattle.std.specs.Prelude.{Result, ⊤}
 use Rattle.tg_bytes.specs.Lists.{same_only}
 use Rattle.tg_words.specs.Words.{Names, Given, Line, WordsSpelling}
 use Rattle.tg_words.specs.CommandLine.{CommandLine}
@@ -21,6 +21,9 @@ pub record Writing (Words : Type 0) : Type 0 where
 
 pub two_are : (a b c d : List ℕ) → a ∷ b ∷ [] ≡ c ∷ d ∷ [] → (a ≡ c) × (b ≡ d)
 two_are a b c d same = let first : a ≡ c = cc in let second : b ≡ d = cc in (first, second)
+
+abbrev pub no_words : Writing ⊤
+no_words = record { texts = λ none. []; one = λ a b same. refl }
 
 abbrev pub one_word : Writing (List ℕ)
 one_word = record { texts = λ word. word ∷ []; one = same_only }
@@ -104,6 +107,11 @@ answered form rest words options seen answer lines is spelled only exact =
     exact_answer form.make (form.asks words options) (form.name ∷ rest) answer
     (λ command line. let l = lines.reads rest command line in (l.parts, l.is, asked_here form rest words options command only l))
     (λ parts asked. lines.writes rest words options parts spelled asked) (subst (λ o. Exact (form.asks words o) answer) is exact)
+
+-- the same where there are no words
+pub none_only : (names : Names) (rest : List (List ℕ)) (options : List Given) → ((more : List Given) → WordsSpelling names rest [] more → options ≡ more)
+    → (none : ⊤) (more : List Given) → WordsSpelling names rest [] more → (tt ≡ none) × (options ≡ more)
+none_only names rest options only none more s = (refl, only more s)
 
 -- the same of two words said one by one
 pub two_only : (names : Names) (rest : List (List ℕ)) (first second : List ℕ) (options : List Given)

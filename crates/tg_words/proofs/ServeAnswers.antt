@@ -12,7 +12,7 @@ use Rattle.tg_words.proofs.Positional.{Form, IsOf, one_word, the_line}
 abbrev pub serve_form : Form (List ℕ) ServeParts
 serve_form = record { name = codes "serve"; names = serve_names; writing = one_word; make = Serve; asks = ServeGiven }
 
-one_value : (value : Option (List ℕ)) (low high a b : ℕ) → NumberNeeded value low high a → NumberNeeded value low high b → a ≡ b
+pub one_value : (value : Option (List ℕ)) (low high a b : ℕ) → NumberNeeded value low high a → NumberNeeded value low high b → a ≡ b
 one_value None low high a b p q = let no : Some a ≡ None = p.asked in absurd (cc)
 one_value (Some text) low high a b p q = p.asked.number_is ∙ sym q.asked.number_is
 
@@ -29,7 +29,7 @@ one_serve pack options a b p q =
     (one_value (value_at options (codes "port")) 0 65535 a.port b.port p.port q.port)
     (one_value (value_at options (codes "count")) 1 1000000 a.count b.count p.count q.count)
 
-required_by : (options : List Given) (name : List ℕ) (low high number : ℕ) → HaveValues options → NumberNeeded (value_at options name) low high number
+pub required_by : (options : List Given) (name : List ℕ) (low high number : ℕ) → HaveValues options → NumberNeeded (value_at options name) low high number
     → NumberRequired options name low high number
 required_by options name low high number have is = record {
   asked = value_gives NumberText options name (Some number) have is.asked;
@@ -37,7 +37,7 @@ required_by options name low high number have is = record {
   most = is.most;
 }
 
-needed_by : (options : List Given) (name : List ℕ) (low high number : ℕ) → StandOnce options → NumberRequired options name low high number
+pub needed_by : (options : List Given) (name : List ℕ) (low high number : ℕ) → StandOnce options → NumberRequired options name low high number
     → NumberNeeded (value_at options name) low high number
 needed_by options name low high number once is = record {
   asked = gives_value NumberText options name (Some number) once is.asked;

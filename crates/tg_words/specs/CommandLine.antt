@@ -4,7 +4,8 @@ use Rattle.hex.specs.Hex.{decode_of}
 use Rattle.tg_cid.specs.Cid.{CidParts}
 use Rattle.tg_cid.specs.Spelling.{CidText, CidBytes}
 use Rattle.tg_words.specs.declared.Command.{Command}
-use Rattle.tg_words.specs.declared.Command.TheVariants.{Check, Node, CidToHex, CidToText, Export, Import, Verify, Serve, Fetch}
+use Rattle.tg_words.specs.declared.Command.TheVariants.{Check, Node, CidToHex, CidToText, Export, Import, Verify, Serve, Fetch, Audit}
+use Rattle.tg_words.specs.AuditLines.{AuditLine}
 use Rattle.tg_words.specs.ExportLines.{ExportLine}
 use Rattle.tg_words.specs.FetchLines.{FetchLine}
 use Rattle.tg_words.specs.ImportLines.{ImportLine}
@@ -16,7 +17,7 @@ use Rattle.tg_words.specs.Words.{Names, Line}
 abbrev pub command_names : List (List ℕ)
 command_names =
     codes "check" ∷ codes "node" ∷ codes "cid" ∷ codes "export" ∷ codes "import" ∷ codes "verify" ∷ codes "serve"
-    ∷ codes "fetch" ∷ []
+    ∷ codes "fetch" ∷ codes "audit" ∷ []
 
 -- the first word is a command's name
 pub record BeginsCommand (words : List (List ℕ)) : Type 0 where
@@ -63,3 +64,4 @@ CommandLine words (Import parts) = ImportLine words parts
 CommandLine words (Verify query) = VerifyLine words query
 CommandLine words (Serve parts) = ServeLine words parts
 CommandLine words (Fetch parts) = FetchLine words parts
+CommandLine words (Audit parts) = AuditLine words parts

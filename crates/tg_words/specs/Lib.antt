@@ -5,6 +5,7 @@ pub mod ImportLines
 pub mod VerifyLines
 pub mod ServeLines
 pub mod FetchLines
+pub mod AuditLines
 pub mod CommandLine
 pub mod Operands
 pub mod Parsing

@@ -27,6 +27,7 @@ use Rattle.tg_path.specs.WordTexts.{WordText}
 use Rattle.tg_path.specs.declared.fault.QueryFault.{QueryFault}
 use Rattle.tg_path.specs.declared.fault.QueryFault.TheVariants as queries
 use Rattle.tg_query.specs.Requests.{IsAddr}
+use Rattle.tg_words.specs.AuditLines.{AuditParts}
 use Rattle.tg_words.specs.ExportLines.{ExportParts}
 use Rattle.tg_words.specs.FetchLines.{FetchParts}
 use Rattle.tg_words.specs.ImportLines.{ImportParts, NumberText}
@@ -145,6 +146,11 @@ pub record FetchGiven (addr target : List ℕ) (options : List Given) (parts : F
   pub addr_is : parts.addr ≡ addr
   pub is_addr : IsAddr addr
   pub query : FetchBy target options parts.query
+
+-- an audit with these options
+pub record AuditGiven (options : List Given) (parts : AuditParts) : Type 0 where
+  pub seed : NumberNeeded (value_at options (codes "seed")) 0 18446744073709551615 parts.seed
+  pub files : NumberNeeded (value_at options (codes "files")) 1 20000 parts.files
 
 -- the words are one CID and no options
 pub record OneCid (words : List (List ℕ)) (cid : CidParts) : Type 0 where

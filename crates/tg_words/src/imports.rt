@@ -120,10 +120,10 @@ fn number_given(value: Option<&str>, setting: Setting) -> Result<u32, WordsFault
 {
     let number = match value {
         Some(text) => number_of(text).ok_or(WordsFault::Usage)?,
-        None => setting.default,
+        None => u64::from(setting.default),
     };
-    if number < setting.low || setting.high < number {
+    if number < u64::from(setting.low) || u64::from(setting.high) < number {
         return Err(WordsFault::Usage);
     }
-    Ok(number)
+    Ok(number as u32)
 }

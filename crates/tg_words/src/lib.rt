@@ -1,7 +1,7 @@
 //! The words of the command line: the grammar of the program's commands, and its reader.
 //!
 //! A command is one line of `dispatch` and a constructor, which has the words behind the command's name read by
-//! `one_operand`, `two_operands` or, where they are of another form, `operands_of`.
+//! `no_operand`, `one_operand`, `two_operands` or, where they are of another form, `operands_of`.
 #![tactic(auto)]
 
 ghost use Rattle.std.specs.Prelude.{◌≡◌, ℕ, ◌⊎◌, List, ◌∷◌, map, string_bytes, codes, Contains, IfOk, IsErrOf};
@@ -14,6 +14,7 @@ ghost use Rattle.tg_words.specs.Operands.{Answers, OneCid};
 ghost use Rattle.tg_words.specs.declared.Command.{Command};
 ghost use Rattle.tg_words.specs.declared.WordsFault.{WordsFault};
 
+mod audits;
 mod exports;
 mod fetches;
 mod imports;
@@ -22,6 +23,8 @@ mod queries;
 mod serves;
 mod verifies;
 
+pub use audits::Audit;
+use audits::audit_of;
 use clap::error::ErrorKind;
 pub use exports::Export;
 use exports::export_of;
@@ -80,6 +83,12 @@ pub enum Command {
     /// ADDR is HOST:PORT: 3 to 255 visible bytes of ASCII, and behind the last colon one to five digits that write a
     /// port of 1 to 65,535. S, R, D and the scope are as in `export`; with `--raw` no other option stands, and no path.
     Fetch(Fetch),
+    /// `audit --seed N --files N`: the folder that a seed draws is imported in memory, and the answers to queries of it
+    /// are compared with what was drawn.
+    ///
+    /// Both options stand, and each N is 1 to 20 decimal digits. The seed is 0 to 2^64 - 1; the folder's folder `many`
+    /// has 1 to 20,000 files.
+    Audit(Audit),
 }
 
 /// Why words were not read as a command.
@@ -231,6 +240,8 @@ fn dispatch(alloc: Global, command: &str, words: &[String]) -> Result<Command, W
         serve_of(alloc, words)
     } else if command == "fetch" {
         fetch_of(alloc, words)
+    } else if command == "audit" {
+        audit_of(alloc, words)
     } else {
         Err(WordsFault::Usage)
     }

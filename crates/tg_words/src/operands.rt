@@ -6,7 +6,7 @@ ghost use Rattle.std.specs.Str.{bytes_eq};
 ghost use Rattle.clap.specs.Words.{app_of, found_of, rows_of};
 ghost use Rattle.tg_words.specs.CommandLine.{no_names};
 ghost use Rattle.tg_words.specs.ImportLines.{NumberText};
-ghost use Rattle.tg_words.specs.Operands.{given, givens, names_of, texts_of, value_at};
+ghost use Rattle.tg_words.specs.Operands.{Exact, NumberNeeded, given, givens, names_of, texts_of, value_at};
 ghost use Rattle.tg_words.specs.Parsing.{app_for, option_at, option_rule, options_in, positional_in, with_rules};
 ghost use Rattle.tg_words.specs.Words.{Given, WordsSpelling, are_names};
 ghost use Rattle.tg_words.specs.declared.WordsFault.{WordsFault};
@@ -62,6 +62,28 @@ pub fn operands_of<'a>(
     let command = command_of(alloc, names)?;
     let matches = command.try_get_matches_from(words)?;
     Ok(operands_in(alloc, &matches, names)?)
+}
+
+/// The options that words spell, where they have no positional word and the command has options of these names.
+///
+/// Errors: as in `one_operand`.
+pub fn no_operand<'a>(
+    alloc: Global,
+    words: &'a [String],
+    names: OptionNames<'a>,
+) -> Result<Vec<GivenOption<'a>>, WordsFault>
+    requires { IsTrue (are_names (names_of names)) }
+    ensures found { IfOk result (λ options. WordsSpelling (names_of names.entry) (map string_bytes words.now)
+        [] (givens options.items)) }
+    ensures only { (options : List Given)
+        → WordsSpelling (names_of names.entry) (map string_bytes words.now) [] options
+        → MatchResult result (λ found. givens found.items ≡ options) (λ e. e ≡ WordsFault.OutOfMemory) }
+{
+    let found = operands_of(alloc, words, names)?;
+    if !found.positional.is_empty() {
+        return Err(WordsFault::Usage);
+    }
+    Ok(found.options)
 }
 
 /// The one positional word and the options that words spell, where the command has options of these names.
@@ -248,13 +270,25 @@ fn find_option<'a>(options: &[GivenOption<'a>], name: &str) -> Option<GivenOptio
     None
 }
 
-/// The number below 2^32 that 1 to 20 decimal digits write.
-pub fn number_of(text: &str) -> Option<u32>
+/// The number from `low` to `high` that an option's value writes.
+pub fn number_needed(value: Option<&str>, low: u64, high: u64) -> Result<u64, WordsFault>
+    ensures { Exact (NumberNeeded (option_map (λ text. text.now) value.entry) low high) result }
+{
+    let text = value.ok_or(WordsFault::Usage)?;
+    let number = number_of(text).ok_or(WordsFault::Usage)?;
+    if number < low || high < number {
+        return Err(WordsFault::Usage);
+    }
+    Ok(number)
+}
+
+/// The number below 2^64 that 1 to 20 decimal digits write.
+pub fn number_of(text: &str) -> Option<u64>
     ensures some { IfSome result (λ number. NumberText text.now number) }
-    ensures none { IfNone result ((number : ℕ) → NumberText text.now number → 2 ^ 32 ≤ number) }
+    ensures none { IfNone result ((number : ℕ) → NumberText text.now number → 2 ^ 64 ≤ number) }
 {
     if text.len() > 20 || text.as_bytes().first() == Some(&b'+') {
         return None;
     }
-    text.parse::<u32>().ok()
+    text.parse::<u64>().ok()
 }

@@ -1,9 +1,9 @@
 //! The command `serve`.
 
-ghost use Rattle.std.specs.Prelude.{◌∷◌, map, string_bytes, codes, option_map};
+ghost use Rattle.std.specs.Prelude.{◌∷◌, map, string_bytes, codes};
 ghost use Rattle.tg_words.specs.Operands.{Answers, Exact, NumberNeeded, ServeGiven, givens, value_at};
 
-use crate::operands::{GivenOption, OptionNames, named, number_of, one_operand, value_of};
+use crate::operands::{GivenOption, OptionNames, named, number_needed, one_operand, value_of};
 use crate::{Command, WordsFault};
 use std::alloc::Global;
 use std::marker::Model;
@@ -48,7 +48,11 @@ fn serve_with(alloc: Global, pack: &str, options: &[GivenOption]) -> Result<Serv
     let pack = named(alloc, pack)?;
     let port = port_given(options)?;
     let count = number_needed(value_of(options, "count"), 1, 1_000_000)?;
-    Ok(Serve { pack, port, count })
+    Ok(Serve {
+        pack,
+        port,
+        count: count as u32,
+    })
 }
 
 /// The port that these options give.
@@ -57,16 +61,4 @@ fn port_given(options: &[GivenOption]) -> Result<u16, WordsFault>
 {
     let port = number_needed(value_of(options, "port"), 0, 65_535)?;
     Ok(port as u16)
-}
-
-/// The number from `low` to `high` that an option's value writes.
-fn number_needed(value: Option<&str>, low: u32, high: u32) -> Result<u32, WordsFault>
-    ensures { Exact (NumberNeeded (option_map (λ text. text.now) value.entry) low high) result }
-{
-    let text = value.ok_or(WordsFault::Usage)?;
-    let number = number_of(text).ok_or(WordsFault::Usage)?;
-    if number < low || high < number {
-        return Err(WordsFault::Usage);
-    }
-    Ok(number)
 }

@@ -1,13 +1,15 @@
 -- The end of a run of the program, as its streams show it.
 use Rattle.std.specs.Prelude.{◌≡◌, ◌≢◌, ℕ, ◌⊎◌, List, Option}
+use Rattle.tg_audit.specs.Audits.{Audited}
 use Rattle.tg_cid.specs.Cid.{CidParts}
 use Rattle.tg_model.specs.Queries.{QueryParts}
 use Rattle.tg_dials.specs.Dials.{Dialling}
 use Rattle.tg_serve.specs.Packed.{serving_line}
+use Rattle.tg_words.specs.AuditLines.{AuditParts}
 use Rattle.tg_words.specs.CommandLine.{CommandLine}
 use Rattle.tg_words.specs.FetchLines.{FetchParts}
 use Rattle.tg_words.specs.ServeLines.{ServeParts}
-use Rattle.tg_words.specs.declared.Command.TheVariants.{Check, Fetch, Node, CidToHex, CidToText, Serve, Verify}
+use Rattle.tg_words.specs.declared.Command.TheVariants.{Audit, Check, Fetch, Node, CidToHex, CidToText, Serve, Verify}
 use Rattle.tg_streams.specs.Streams.{Input, InputQuiet, Output, OutputQuiet, Put}
 use Rattle.tg_app.specs.Lines.{Says, exit_status}
 use Rattle.tg_app.specs.Check.{Checked}
@@ -35,3 +37,4 @@ pub record Ran (words : List (List ℕ)) (status : ℕ) (input : Input) (out : O
   pub verified : (q : QueryParts) → CommandLine words (Verify q) → status ≡ 0 → VerifiedInput q input out
   pub served : (parts : ServeParts) → CommandLine words (Serve parts) → status ≡ 0 → (port : ℕ) × Put (serving_line port) out
   pub fetched : (parts : FetchParts) → CommandLine words (Fetch parts) → status ≡ 0 → (dial : Dialling) × Fetched parts dial out
+  pub audited : (parts : AuditParts) → CommandLine words (Audit parts) → status ≡ 0 → Audited parts.seed parts.files out

@@ -49,7 +49,7 @@ fn answer<I: Source, O: Sink, E: Sink>(
     ensures line { Lined result (into E.sink err.old err.new) }
     ensures ran { ((words : List (List ℕ))
         × Ran words result (through I.source input.old input.new) (into O.sink out.old out.new))
-        ⊎ ((input.new ≡ input.old) × (out.new ≡ out.old)) }
+        ⊎ (((result ≡ 6) ⊎ (result ≡ 8)) × (input.new ≡ input.old) × (out.new ≡ out.old)) }
 {
     let holds = holds_streams(rt);
     if !holds {

@@ -62,3 +62,9 @@ returns-then-eq-8-clause-exact c = of_name _ (codes "fetch") _ _ _ c.eq-else-eq-
 
 pub returns-then-eq-8-clause-memory : goal.returns-then-eq-8-clause-memory
 returns-then-eq-8-clause-memory c = λ wants. (7, omega arith, same_name _ (codes "fetch") _ c.eq-else-eq-7.ensures c.if-eq-8.true)
+
+pub returns-then-eq-9-clause-exact : goal.returns-then-eq-9-clause-exact
+returns-then-eq-9-clause-exact c = of_name _ (codes "audit") _ _ _ c.eq-else-eq-8.ensures c.if-eq-9.true c.audit_of.ensures
+
+pub returns-then-eq-9-clause-memory : goal.returns-then-eq-9-clause-memory
+returns-then-eq-9-clause-memory c = λ wants. (8, omega arith, same_name _ (codes "audit") _ c.eq-else-eq-8.ensures c.if-eq-9.true)

@@ -18,4 +18,5 @@ returns-clause-ran g c =
       verified = λ q asked. (runs.verify q asked).verified;
       served = λ parts asked zero. let links = ((runs.serve parts asked).served zero).links in (links.served.port, links.served.line);
       fetched = λ parts asked zero. (_, (runs.fetch parts asked).fetched zero);
+      audited = λ parts asked. (runs.audit parts asked).audited;
     }

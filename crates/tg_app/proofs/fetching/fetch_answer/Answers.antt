@@ -21,8 +21,8 @@ pub returns-in-Err : goal.returns-in-Err
 returns-in-Err g c =
     let dial = at_dial g.D.Dial.dial c.args.dial.now c.fetch.new.dial in
     let out = into g.O.Sink.sink c.args.out.now c.fetch.new.out in
-    let end = Some c.refusal_of.result in
+    let end = Some c.refusal_of_fetch.result in
     subst (λ (p : FetchParts). FetchAnswers p dial out end) c.asked.view_is
     (subst (λ (addr : List ℕ). FetchAnswers (record { addr = addr; query = c.asked.inside.query }) dial out end) c.as_str.ensures.value
     (answers _ _ c.standard.result dial out c.fetch.result c.standard.ensures c.fetch.ensures.ends c.fetch.ensures.cause c.fetch.ensures.sound c.fetch.ensures.fitting c.fetch.ensures.own end
-    (subst (λ (r : Result ⊤ FetchFault). IsFetchEnd r end) (sym c.in-Err.is) (c.refusal_of.result, refl, c.refusal_of.ensures))))
+    (subst (λ (r : Result ⊤ FetchFault). IsFetchEnd r end) (sym c.in-Err.is) (c.refusal_of_fetch.result, refl, c.refusal_of_fetch.ensures))))

@@ -60,6 +60,6 @@ returns-in-Err g c =
     let cause = subst (λ r. IfErr r (λ fault. IsPackingCause options (fm.tree f) fault (folder_step fm f f') (pack_step m b p))) c.in-Err.is c.import_pack-pack.ensures.cause in
     let stopped = subst (λ r. OnErr r (StopsWriting (pack_step m b p))) c.in-Err.is c.import_pack-pack.ensures.stopped in
     let unfinished = subst (λ r. OnErr r (IfSome (m.content p) IsUnfinished)) c.in-Err.is c.import_pack-pack.ensures.unfinished in
-    subst (λ (asked : ImportParts). AttachedRefused asked (files_between fm m f f' (Some c.args.pack) (Some p)) out c.refusal_of.result) c.asked.view_is
-    (attached_refused fm m f f' c.args.pack b p parts g.met.P.Pack.joins c.requires.tells c.import_pack-pack.ensures.same at c.in-Ok.ensures.quiet attached c.in-Err.fault c.refusal_of.result out
-    c.refusal_of.ensures cause unfinished stopped (record { unput = record { moved = g.met.O.Sink.rests _; held = refl }; quiet = refl }))
+    subst (λ (asked : ImportParts). AttachedRefused asked (files_between fm m f f' (Some c.args.pack) (Some p)) out c.refusal_of_import.result) c.asked.view_is
+    (attached_refused fm m f f' c.args.pack b p parts g.met.P.Pack.joins c.requires.tells c.import_pack-pack.ensures.same at c.in-Ok.ensures.quiet attached c.in-Err.fault c.refusal_of_import.result out
+    c.refusal_of_import.ensures cause unfinished stopped (record { unput = record { moved = g.met.O.Sink.rests _; held = refl }; quiet = refl }))

@@ -1,12 +1,13 @@
-use Rattle.std.proofs.Common.{◌≡◌, Option, List, ℕ, inr, subst, refl}
+use Rattle.std.proofs.Common.{◌≡◌, ◌<◌, ◌≤◌, arith, Option, List, ℕ, inr, subst, refl}
 use Rattle.tg_app.specs.Commands.{CommandEnds, Ends, TheCommand, UsesNoDial, UsesNoDoor}
 use Rattle.tg_app.specs.Objects.{Objects}
 use Rattle.tg_app.specs.declared.fault.CommandFault.{CommandFault}
 use Rattle.tg_query.specs.Requests.{IsAddr}
+use Rattle.tg_words.specs.AuditLines.{AuditParts}
 use Rattle.tg_words.specs.CommandLine.{CommandLine}
 use Rattle.tg_words.specs.FetchLines.{FetchParts}
 use Rattle.tg_words.specs.declared.Command.{Command}
-use Rattle.tg_words.specs.declared.Command.TheVariants.{Fetch}
+use Rattle.tg_words.specs.declared.Command.TheVariants.{Audit, Fetch}
 use Rattle.tg_app.proofs.top.command.Goals as goal
 
 -- the words spell the command that was read alone, and it ended so
@@ -66,3 +67,22 @@ returns-in-Fetch-clause-ends g c =
     the_ends c.in_ok-cid.ensures.found c.in_ok-cid.ensures.only c.in-Fetch.is
     (record { folder = refl; pack = refl }, record { untaken = record { moved = g.met.I.Source.rests _; left = refl }; quiet = refl }, c.fetch_answer.ensures)
     (λ none. refl) (λ uses. absurd uses)
+
+-- the number of files of a spelled `audit`
+some_files : (words : List (List ℕ)) (read : Command) (parts : AuditParts) → CommandLine words read → read ≡ Audit parts → 0 < parts.files
+some_files words read parts spelled is = let line = subst (CommandLine words) is spelled in omega (arith, line.files.least)
+
+few_files : (words : List (List ℕ)) (read : Command) (parts : AuditParts) → CommandLine words read → read ≡ Audit parts → parts.files ≤ 20000
+few_files words read parts spelled is = let line = subst (CommandLine words) is spelled in line.files.most
+
+pub audit_build-requires-clause-some : goal.audit_build-requires-clause-some
+audit_build-requires-clause-some g c = some_files _ _ _ c.in_ok-cid.ensures.found c.in-Audit.is
+
+pub audit_build-requires-clause-few : goal.audit_build-requires-clause-few
+audit_build-requires-clause-few g c = few_files _ _ _ c.in_ok-cid.ensures.found c.in-Audit.is
+
+pub returns-in-Audit-clause-ends : goal.returns-in-Audit-clause-ends
+returns-in-Audit-clause-ends g c =
+    the_ends c.in_ok-cid.ensures.found c.in_ok-cid.ensures.only c.in-Audit.is
+    (record { folder = refl; pack = refl }, record { untaken = record { moved = g.met.I.Source.rests _; left = refl }; quiet = refl }, c.audit_build.ensures)
+    (λ none. refl) (λ none. refl)
