@@ -2,6 +2,7 @@
 ghost use Rattle.tg_query.specs.Requests.{IsAddr};
 
 use std::alloc::{AllocError, Global};
+use std::mem::drop;
 use tg_bytes::{Bytes, List};
 use tg_cid::Cid;
 use tg_fetch::{Client, FetchFault};
@@ -113,6 +114,7 @@ pub fn heard(
     let mut out = sink_of(alloc, pieces.1);
     let end = fed(&mut client, bytes, pieces.0, &mut out);
     let again = client.end(&mut out);
+    drop(client);
     if again != end {
         return None;
     }

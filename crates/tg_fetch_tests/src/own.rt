@@ -2,6 +2,7 @@
 use crate::answers::{FILE, SPAN};
 use crate::fed::{Asked, Ended, addr, query_of, says, sink_of};
 use std::alloc::Global;
+use std::mem::drop;
 use std::rt::HostRuntime;
 use tg_bytes::Bytes;
 use tg_fetch::Client;
@@ -73,7 +74,11 @@ fn reply_to(alloc: Global, request: &Bytes) -> Option<MemSink> {
 /// The request for a query.
 fn request_for(alloc: Global, query: &Query) -> Option<Bytes> {
     match Client::new(alloc, query, Limits::standard()) {
-        Ok(client) => client.request(addr()).ok(),
+        Ok(client) => {
+            let request = client.request(addr());
+            drop(client);
+            request.ok()
+        }
         Err(_) => None,
     }
 }

@@ -2,6 +2,7 @@
 use crate::answers::FILE;
 use crate::fed::{addr, query_of, sink_of};
 use std::alloc::Global;
+use std::mem::drop;
 use std::rt::HostRuntime;
 use tg_bytes::zeros;
 use tg_dials::{Dial, TcpDial};
@@ -93,7 +94,9 @@ fn is_fetched(rt: &HostRuntime) -> bool {
         return false;
     };
     let mut out = sink_of(alloc, 4096);
-    is_called(rt, &mut client, &mut store, &mut out) && out.held() == b"hello world".as_slice()
+    let is_answered = is_called(rt, &mut client, &mut store, &mut out);
+    drop(client);
+    is_answered && out.held() == b"hello world".as_slice()
 }
 
 #[test]
