@@ -6,6 +6,6 @@ pub record TcpDialState : Type 0 where
   pub missed : ℕ
   pub faults : ℕ
 
--- it doesn't tell what went through the links that were given back
+-- it tells neither what the peers will say nor what went through the links that were given back
 abbrev pub tcp_dial : DialMeaning TcpDialState
-tcp_dial = record { calls = λ _. None; missed = λ s. s.missed; faults = λ s. s.faults }
+tcp_dial = record { coming = λ _. None; calls = λ _. None; missed = λ s. s.missed; faults = λ s. s.faults }

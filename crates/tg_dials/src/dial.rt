@@ -1,6 +1,6 @@
 //! Dials that make links to peers.
 ghost use Rattle.std.specs.Prelude.{◌≤◌};
-ghost use Rattle.tg_dials.specs.Dials.{DialMeaning, IsDialled, IsHungUp, KeepsCalls, KeepsMissed, at_dial, dialled_link};
+ghost use Rattle.tg_dials.specs.Dials.{DialMeaning, IsDialled, IsHungUp, KeepsCalls, KeepsComing, KeepsMissed, at_dial, dialled_link};
 ghost use Rattle.tg_links.specs.Views.{view_of};
 
 use tg_faults::Failed;
@@ -8,9 +8,10 @@ use tg_links::Link;
 
 /// A dial, which makes links to peers.
 ///
-/// Its meaning is one record: `calls` is what went through the links that were given back, or `None` where that isn't
-/// told; `missed` counts the calls of `dial` that failed; `faults` counts those, the links that were given back with a
-/// fault of their own, and where no memory was found to tell of one. Both stand still at 2 ^ 64 - 1.
+/// Its meaning is one record: `coming` is what each peer will say that is dialled, or `None` where that isn't told;
+/// `calls` is what went through the links that were given back, or `None`; `missed` counts the calls of `dial` that
+/// failed; `faults` counts those, the links that were given back with a fault of their own, and where no memory was found
+/// to tell of one. Both stand still at 2 ^ 64 - 1.
 pub trait Dial {
     type Link: Link;
 
@@ -27,5 +28,6 @@ pub trait Dial {
     /// want of memory to tell of it, behind which nothing is told any more.
     fn done(&mut self, link: Self::Link)
         ensures done { IsHungUp (view_of Self.Link.link Self.Link.Source.source link) (at_dial dial self.old self.new) }
-        ensures missed { KeepsMissed (at_dial dial self.old self.new) };
+        ensures missed { KeepsMissed (at_dial dial self.old self.new) }
+        ensures coming { KeepsComing (at_dial dial self.old self.new) };
 }

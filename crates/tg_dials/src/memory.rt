@@ -1,6 +1,6 @@
 //! Dials in memory, which fail at the calls that they are given.
 ghost use Rattle.std.specs.Prelude.{◌≡◌, ◌⊎◌, ◌<◌, ◌≤◌, ◌∷◌, ℕ, List as Items, [], Contains, IfOk, IsErr, max, MatchOption, None, OnErr, OnOk, Some, false};
-ghost use Rattle.tg_dials.specs.Dials.{IsDialled, IsHungUp, KeepsCalls, KeepsMissed, at_dial, dialled_link};
+ghost use Rattle.tg_dials.specs.Dials.{IsDialled, IsHungUp, KeepsCalls, KeepsComing, KeepsMissed, at_dial, dialled_link};
 ghost use Rattle.tg_dials.specs.Memory.{IsLinkTo, mem_dial};
 ghost use Rattle.tg_faults.specs.Faults.{Rose, counted};
 ghost use Rattle.tg_links.specs.Memory.{mem_hearing, mem_link};
@@ -162,9 +162,10 @@ impl Dial for MemDial {
     fn done(&mut self, link: MemLink)
         ensures done { IsHungUp (view_of mem_link mem_hearing link) (at_dial mem_dial self.old self.new) }
         ensures missed { KeepsMissed (at_dial mem_dial self.old self.new) }
+        ensures coming { KeepsComing (at_dial mem_dial self.old self.new) }
 
         ensures call { self.new.made ≡ max self.old.made link.calls }
-        ensures others { (self.new.piece ≡ self.old.piece) × (self.new.fails ≡ self.old.fails) × (self.new.replies ≡ self.old.replies) }
+        ensures others { (self.new.piece ≡ self.old.piece) × (self.new.fails ≡ self.old.fails) }
     {
         let (call, calls) = link.into_call();
         self.calls.made = self.calls.made.max(calls.made);

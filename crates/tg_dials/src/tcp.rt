@@ -1,6 +1,6 @@
 //! Dials over TCP.
 ghost use Rattle.std.specs.Prelude.{◌≡◌, ◌+◌, ◌≤◌, IfOk, false};
-ghost use Rattle.tg_dials.specs.Dials.{IsDialled, IsHungUp, KeepsCalls, KeepsMissed, at_dial, dialled_link};
+ghost use Rattle.tg_dials.specs.Dials.{IsDialled, IsHungUp, KeepsCalls, KeepsComing, KeepsMissed, at_dial, dialled_link};
 ghost use Rattle.tg_dials.specs.Tcp.{tcp_dial};
 ghost use Rattle.tg_faults.specs.Faults.{Rose, counted};
 ghost use Rattle.tg_links.specs.Tcp.{tcp_hearing, tcp_link};
@@ -18,7 +18,8 @@ use tg_links::{Silence, TcpLink};
 /// How many seconds a connection to one address of a peer may take.
 const PATIENCE: u64 = 30;
 
-/// A dial to peers over TCP (RFC 9293). It doesn't tell what went through the links that were given back.
+/// A dial to peers over TCP (RFC 9293). It tells neither what they will say nor what went through the links that were
+/// given back.
 ///
 /// A host is an IPv4 address, an IPv6 address in brackets, or a name, whose addresses are tried in turn; each is given
 /// up after 30 seconds. A peer that says nothing for 60 seconds, or takes nothing, is a fault of its link.
@@ -95,6 +96,7 @@ impl<R: Net + Drop> Dial for TcpDial<R> {
         ensures done { IsHungUp (view_of tcp_link (tcp_hearing R.Stream.remaining) link)
             (at_dial tcp_dial self.old self.new) }
         ensures missed { KeepsMissed (at_dial tcp_dial self.old self.new) }
+        ensures coming { KeepsComing (at_dial tcp_dial self.old self.new) }
 
         // However many calls of the link failed, one fault is counted at most.
         ensures once { self.new.faults ≤ self.old.faults + 1 }

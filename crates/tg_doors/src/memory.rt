@@ -78,6 +78,13 @@ impl MemDoor {
         self.served.as_ref()
     }
 
+    /// The same, moved and not copied.
+    pub fn into_served(self) -> Option<List<Call>>
+        ensures { result ≡ self.served }
+    {
+        self.served
+    }
+
     /// How many calls failed.
     pub fn count(&self) -> u64
         ensures { result ≡ self.now.faults }

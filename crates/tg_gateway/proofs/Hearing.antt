@@ -1,7 +1,7 @@
 -- A session that is fed a piece of what is heard over a link: it goes on, or its last reply closes, or it is broken off.
 use Rattle.std.proofs.Common.{◌≡◌, ℕ, ◌≤◌, Bool, Err, Option, true, false, List, [], ◌++◌, refl, sym, subst, ◌∙◌, ap, arith}
 use Rattle.tg_gateway.proofs.Looking.{LooksJoin, looks_both, looks_nothing}
-use Rattle.tg_gateway.proofs.Serving.{HasHeard, sent_both, served_closed, served_ended, served_front, served_untaken, served_up_to, stands_new, quiet_put, rose_put, rose_take, spoke_nothing, spoke_put, spoke_same, spoke_took, spoke_untaken}
+use Rattle.tg_gateway.proofs.Serving.{HasHeard, sent_both, served_closed, served_ended, served_front, served_untaken, served_up_to, stands_new, quiet_put, rose_put, rose_take, spoke_put, spoke_same, spoke_took, spoke_untaken}
 use Rattle.tg_gateway.specs.Links.{LinkEnds, ServedAll, ServedFront, ServedUpTo, served_of}
 use Rattle.tg_links.specs.Steps.{LinkQuiet, Spoke, link_step}
 use Rattle.tg_gateway.specs.Sessions.{FedOn, FeedEnds, SessionView, new_session, next_of}
@@ -10,6 +10,7 @@ use Rattle.tg_gateway.specs.declared.fault.GatewayFault.TheVariants as faults
 use Rattle.tg_gateway.specs.declared.session.Next.{Next}
 use Rattle.tg_gateway.specs.declared.session.Next.TheVariants as nexts
 use Rattle.tg_gateway.specs.declared.session.Served.{Served}
+use Rattle.tg_links.specs.Joining.{spoke_nothing}
 use Rattle.tg_links.specs.Links.{CountsAreOne, EndsAreOver, LinkMeaning, PutsAreSaid, TakesAreHeard}
 use Rattle.tg_model.specs.Stores.{BlocksMeaning, Store, looked_in}
 use Rattle.tg_sent.specs.Laws.{BrokenIsFront, SentJoins, SentStays, SessionsGoOn, StandsForSent}

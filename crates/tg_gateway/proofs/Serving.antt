@@ -1,14 +1,13 @@
 -- How a session over a link ends, by what was heard and said so far.
 use Rattle.std.proofs.Common.{◌≡◌, ℕ, ◌+◌, ◌≤◌, Bool, Option, true, false, List, [], ◌∷◌, ◌++◌, length, take, inl, inr, refl, sym, ap, subst, ◌∙◌, append_assoc, append-nil, arith, length-append, take_at}
 use Rattle.std.proofs.lemmas.Grind.{flat_map-append}
-use Rattle.tg_bytes.specs.Told.{grown}
-use Rattle.tg_bytes.specs.ToldLaws.{grown-grown, grown-nothing}
 use Rattle.tg_faults.specs.Faults.{Rose}
 use Rattle.tg_gateway.proofs.Looking.{closed_append}
 use Rattle.tg_gateway.specs.Links.{IsServed, ServedAll, ServedFront, ServedUpTo, served_of}
 use Rattle.tg_links.specs.Steps.{LinkQuiet, LinkStep, Spoke, LinkRose, link_step}
 use Rattle.tg_gateway.specs.Sessions.{new_session}
 use Rattle.tg_http.specs.Heads.{IsWaiting}
+use Rattle.tg_links.specs.Joining.{spoke_hears, spoke_says}
 use Rattle.tg_links.specs.Links.{CountsAreOne, LinkMeaning, PutsAreSaid, TakesAreHeard}
 use Rattle.tg_model.specs.Stores.{Lookups, Store}
 use Rattle.tg_reply.specs.Replies.{reply_bytes}
@@ -21,10 +20,6 @@ use Rattle.tg_walk.specs.Walks.{HaveLookedUp}
 
 -- ---- links
 
--- nothing was heard, and nothing said
-pub spoke_nothing : {L : Type 0} (m : LinkMeaning L) (source : SourceMeaning L) (a : L) → Spoke (link_step m source a a) [] []
-spoke_nothing m source a = record { heard_is = grown-nothing (m.heard a); said_is = grown-nothing (m.said a) }
-
 -- what was said, written otherwise
 pub spoke_same : (link : LinkStep) (heard said other : List ℕ) → said ≡ other → Spoke link heard said → Spoke link heard other
 spoke_same link heard said other e spoke = subst (λ (bytes : List ℕ). Spoke link heard bytes) e spoke
@@ -32,12 +27,7 @@ spoke_same link heard said other e spoke = subst (λ (bytes : List ℕ). Spoke l
 -- bytes are taken
 pub spoke_took : {L : Type 0} (m : LinkMeaning L) (source : SourceMeaning L) (a b c : L) (heard said piece : List ℕ) → TakesAreHeard L m source
     → Spoke (link_step m source a b) heard said → source.took b c piece → Spoke (link_step m source a c) (heard ++ piece) said
-spoke_took m source a b c heard said piece hears spoke took =
-    let step = hears b c piece took in
-    record {
-      heard_is = step.heard ∙ ap (λ told. grown told piece) spoke.heard_is ∙ grown-grown (m.heard a) heard piece;
-      said_is = step.said ∙ spoke.said_is;
-    }
+spoke_took m source a b c heard said piece hears spoke took = spoke_hears m source a b c heard said spoke piece (hears b c piece took)
 
 -- nothing is taken
 pub spoke_untaken : {L : Type 0} (m : LinkMeaning L) (source : SourceMeaning L) (a b c : L) (heard said : List ℕ) → TakesAreHeard L m source
@@ -50,12 +40,7 @@ spoke_untaken m source a b c heard said hears spoke took =
 pub spoke_put : {L : Type 0} (m : LinkMeaning L) (source : SourceMeaning L) (sink : SinkMeaning L) (a b c : L) (heard said bytes : List ℕ)
     → PutsAreSaid L m sink → Spoke (link_step m source a b) heard said → Put bytes (into sink b c)
     → Spoke (link_step m source a c) heard (said ++ bytes)
-spoke_put m source sink a b c heard said bytes says spoke put =
-    let step = says b c bytes put.moved in
-    record {
-      heard_is = step.heard ∙ spoke.heard_is;
-      said_is = step.said ∙ ap (λ told. grown told bytes) spoke.said_is ∙ grown-grown (m.said a) said bytes;
-    }
+spoke_put m source sink a b c heard said bytes says spoke put = spoke_says m source a b c heard said spoke bytes (says b c bytes put.moved)
 
 -- no fault is counted where bytes are put
 pub quiet_put : {L : Type 0} (m : LinkMeaning L) (source : SourceMeaning L) (sink : SinkMeaning L) (a b c : L) → CountsAreOne L source sink

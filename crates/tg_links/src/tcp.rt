@@ -205,9 +205,9 @@ impl<T: Write> Sink for TcpLink<T> {
 impl<T: Read + Write> Link for TcpLink<T> {
     ghost link = { tcp_link };
 
-    ghost hears = { λ a b bytes t. record { heard = refl; said = refl; over = t.over } };
+    ghost hears = { λ a b bytes t. record { left = refl; heard = refl; said = refl; over = t.over; ended = λ was is. tt } };
 
-    ghost says = { λ a b bytes t. record { said = refl; heard = refl; over = t.over } };
+    ghost says = { λ a b bytes t. record { said = refl; left = refl; heard = refl; over = t.over } };
 
     ghost ends = { λ s over. over };
 

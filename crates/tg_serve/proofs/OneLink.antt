@@ -2,20 +2,21 @@
 use Rattle.std.proofs.Common.{Bool, Err, List, None, Ok, Option, Some, [], ap, arith, false, inl, inr, refl, suc, sym, true, zero, ℕ, ◌++◌, ◌∷◌, ◌∙◌, ◌≡◌, ◌≤◌, ◌⊎◌}
 use Rattle.std.specs.Option.{option_map}
 use Rattle.std.specs.Prelude.{IsSome, Result, drop, is_some, take, ⊤}
-use Rattle.tg_bytes.specs.Told.{IsNothing, grown}
-use Rattle.tg_doors.specs.Doors.{DoorMeaning, DoorRose, IsAdmitted, IsDone, IsFirst, KeepsComing, KeepsPort, KeepsServed, at_door}
-use Rattle.tg_links.specs.Views.{and_call, call_with, is_failed, told_call, view_of}
+use Rattle.tg_bytes.specs.Told.{IsNothing, after_front, grown}
+use Rattle.tg_doors.specs.Doors.{DoorMeaning, DoorRose, IsAdmitted, IsDone, KeepsComing, KeepsPort, KeepsServed, at_door}
+use Rattle.tg_links.specs.Views.{IsFirst, and_call, call_with, is_failed, told_call, view_of}
 use Rattle.tg_faults.specs.Faults.{Rose}
 use Rattle.tg_gateway.specs.Links.{LinkEnds}
 use Rattle.tg_links.specs.Steps.{LinkQuiet, LinkStep, Spoke, link_step}
 use Rattle.tg_gateway.specs.declared.fault.GatewayFault.{GatewayFault}
 use Rattle.tg_gateway.specs.declared.fault.GatewayFault.TheVariants as faults
 use Rattle.tg_gateway.specs.declared.session.Served.{Served}
+use Rattle.tg_links.specs.Joining.{heard_of}
 use Rattle.tg_links.specs.Links.{LinkMeaning}
 use Rattle.tg_links.specs.declared.call.Call.{Call}
 use Rattle.tg_model.specs.Stores.{Lookups, Store}
 use Rattle.tg_sent.specs.Sent.{sent_bytes}
-use Rattle.tg_serve.specs.Serving.{IsServedRun, LinkRun, LinksTell, ServesLink, call_of}
+use Rattle.tg_serve.specs.Serving.{AreHeardOf, IsServedRun, LinkRun, LinksTell, ServesLink, call_of}
 use Rattle.tg_streams.specs.Streams.{SourceMeaning}
 
 -- ---- a session over a link that was new
@@ -146,6 +147,14 @@ first_gone None new left is = is
 first_gone (Some []) new left is = absurd is
 first_gone (Some (first ∷ more)) new left is = is.0
 
+-- what was heard is a front of what its peer says
+first_heard : (coming now : Option (List (List ℕ))) (old new : Option (List ℕ)) (run : LinkRun) (over : Bool) → IsFirst coming now old
+    → old ≡ after_front run.heard new → run.over ≡ over → (over ≡ true → IsNothing new) → AreHeardOf coming (run ∷ [])
+first_heard None now old new run over is took same ended = tt
+first_heard (Some []) now old new run over is took same ended = absurd is
+first_heard (Some (first ∷ more)) now old new run over is took same ended =
+    (heard_of first run.heard old new run.over is.1 took (λ e. ended (sym same ∙ e)), tt)
+
 module _ {D L : Type 0} (m : DoorMeaning D) (links : LinkMeaning L) (source : SourceMeaning L) (a b c : D) (x y : L)
     (told : Option Store) (most : ℕ) (lookups : Lookups) (served : Served) (end : Result ⊤ GatewayFault)
     (admitted : IsAdmitted (at_door m a b) (Ok (Some (view_of links source x)))) (served_before : KeepsServed (at_door m a b)) (port_before : KeepsPort (at_door m a b))
@@ -191,7 +200,9 @@ module _ {D L : Type 0} (m : DoorMeaning D) (links : LinkMeaning L) (source : So
     now = ran.now;
     rises = rises;
     told_is = told_is;
-    coming = coming_behind ∙ first_gone (m.coming a) (m.coming b) (source.left x) admitted.1;
+    coming = coming_behind ∙ first_gone (m.coming a) (m.coming b) (links.left x) admitted.1;
+    heard = first_heard (m.coming a) (m.coming b) (links.left x) (links.left y) ran.run (links.over y) admitted.1 ran.spoke.left_is ran.over_is
+        (ran.spoke.ended admitted.0.over);
     failed = λ did. rose (done.failed (sym ran.failed_is ∙ did));
     port = port_behind ∙ port_before;
     counted = let quiet = admitted.3 in let more = done.counted in omega (arith, quiet, more);

@@ -16,7 +16,7 @@ use Rattle.tg_gateway.specs.declared.fault.GatewayFault.TheVariants as faults
 use Rattle.tg_gateway.specs.declared.session.Served.{Served}
 use Rattle.tg_links.specs.declared.call.Call.{Call}
 use Rattle.tg_model.specs.Stores.{BlocksMeaning, Store, looked_in}
-use Rattle.tg_serve.specs.Serving.{AreServed, HasHappened, IsServedRun, LinkRun, SaidBy, ServesLink, and_calls, call_of, happened_with, is_limit, is_link_fault, is_memory, is_positive}
+use Rattle.tg_serve.specs.Serving.{AreHeardOf, AreServed, HasHappened, IsServedRun, LinkRun, SaidBy, ServesLink, and_calls, call_of, happened_with, is_limit, is_link_fault, is_memory, is_positive}
 use Rattle.tg_serve.specs.declared.Happened.{Happened}
 use Rattle.tg_walk.specs.Walks.{HaveLookedUp}
 
@@ -61,6 +61,13 @@ coming_more (Some all) runs run =
     ap (λ (rest : List (List ℕ)). Some rest)
     (drop-drop 1 (length runs) all ∙ ap (λ (n : ℕ). drop n all) (sym (length-append runs (run ∷ []))))
 
+heard_more : (old : Option (List (List ℕ))) (runs : List LinkRun) (run : LinkRun) → AreHeardOf old runs
+    → AreHeardOf (option_map (drop (length runs)) old) (run ∷ []) → AreHeardOf old (runs ++ run ∷ [])
+heard_more None runs run before last = tt
+heard_more (Some coming) [] run before last = last
+heard_more (Some []) (first ∷ runs) run before last = absurd before
+heard_more (Some (said ∷ coming)) (first ∷ runs) run before last = (before.0, heard_more (Some coming) runs run before.1 last)
+
 -- a call of a link failed exactly where its session ended so
 failed_by : (told : Option Store) (most : ℕ) (run : LinkRun) (end : Result ⊤ GatewayFault) → SaidBy told most run end → run.failed ≡ is_link_fault end
 failed_by told most run (Ok done) said = said.unfailed
@@ -89,6 +96,7 @@ pub record HasServed (told : Option Store) (most count left : ℕ) (tell : Type 
   pub served : AreServed told most before runs now
   pub told_are : tell → (door.served_new ≡ and_calls door.served_old runs) ⊎ ((door.served_new ≡ None) × DoorRose door)
   pub coming : door.coming_new ≡ option_map (drop (length runs)) door.coming_old
+  pub heard : AreHeardOf door.coming_old runs
   pub has_happened : HasHappened runs false happened
   pub failed : happened.fault ≡ true → DoorRose door
   pub port : door.port_new ≡ door.port_old
@@ -144,6 +152,8 @@ module _ {S D : Type 0} (blocks : BlocksMeaning S) (m : DoorMeaning D) (p q r : 
       served = are_more (blocks.stored p) most (blocks.faults p) (blocks.faults q) (blocks.faults r) so.runs link.run so.served is_served link.before link.now link.rises;
       told_are = told_more;
       coming = link.coming ∙ ap (option_map (drop 1)) so.coming ∙ coming_more (m.coming a) so.runs link.run;
+      heard = heard_more (m.coming a) so.runs link.run so.heard
+          (subst (λ (coming : Option (List (List ℕ))). AreHeardOf coming (link.run ∷ [])) so.coming link.heard);
       has_happened = has_more;
       failed = fails;
       port = link.port ∙ so.port;

@@ -10,6 +10,7 @@ use Rattle.tg_gateway.specs.declared.fault.GatewayFault.{GatewayFault}
 use Rattle.tg_gateway.specs.declared.fault.GatewayFault.TheVariants as faults
 use Rattle.tg_gateway.specs.declared.session.Served.{Served}
 use Rattle.tg_links.specs.Links.{LinkMeaning}
+use Rattle.tg_links.specs.Steps.{IsHeardOf}
 use Rattle.tg_links.specs.declared.call.Call.{Call}
 use Rattle.tg_model.specs.Stores.{Lookups, LookupsQuiet, Store}
 use Rattle.tg_sent.specs.Sent.{CountsBetween, Sent, SentBy, SentInFull, closed_by, sent_bytes}
@@ -139,14 +140,23 @@ abbrev pub and_calls : Option (List Call) → List LinkRun → Option (List Call
 and_calls None runs = None
 and_calls (Some calls) runs = Some (calls ++ map call_of runs)
 
--- how links were served through a door that may give so many: these came, in order, and each was given back, which the door
--- tells where the links tell it, or else it counted a fault; so many came, or the door gave no more, as it failed or none is
--- to come; and the store's count went from one number to another
+-- on each link a front was heard of what its peer will say, in order, as far as that is told, and all of it where the peer said
+-- no more
+abbrev pub AreHeardOf : Option (List (List ℕ)) → List LinkRun → Type 0
+AreHeardOf None runs = ⊤
+AreHeardOf (Some coming) [] = ⊤
+AreHeardOf (Some []) (run ∷ runs) = ⊥
+AreHeardOf (Some (first ∷ coming)) (run ∷ runs) = IsHeardOf first run.heard run.over × AreHeardOf (Some coming) runs
+
+-- how links were served through a door that may give so many: these came, in order, on each a front was heard of what its
+-- peer says, and each was given back, which the door tells where the links tell it, or else it counted a fault; so many came,
+-- or the door gave no more, as it failed or none is to come; and the store's count went from one number to another
 pub record ServesDoor (told : Option Store) (most count : ℕ) (tell : Type 0) (before now : ℕ) (door : Doorway) (happened : Happened) : Type 0 where
   pub runs : List LinkRun
   pub served : AreServed told most before runs now
   pub told_are : tell → (door.served_new ≡ and_calls door.served_old runs) ⊎ ((door.served_new ≡ None) × DoorRose door)
   pub coming : door.coming_new ≡ option_map (drop (length runs)) door.coming_old
+  pub heard : AreHeardOf door.coming_old runs
   pub unadmitted : Bool
   pub shut : unadmitted ≡ true → (door.shut_new ≡ true) × DoorRose door
   pub ended : (length runs ≡ count) ⊎ ((length runs < count) × (door.shut_new ≡ true))
@@ -169,6 +179,7 @@ pub record ServesLink (told : Option Store) (most : ℕ) (tell : Type 0) (lookup
   pub rises : lookups.faults_old ≤ lookups.faults_new
   pub told_is : tell → (door.served_new ≡ and_call door.served_old (Some (call_of run))) ⊎ ((door.served_new ≡ None) × DoorRose door)
   pub coming : door.coming_new ≡ option_map (drop 1) door.coming_old
+  pub heard : AreHeardOf door.coming_old (run ∷ [])
   pub failed : run.failed ≡ true → DoorRose door
   pub port : door.port_new ≡ door.port_old
   pub counted : door.faults_old ≤ door.faults_new
