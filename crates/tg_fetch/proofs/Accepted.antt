@@ -6,12 +6,12 @@ use Rattle.tg_dials.specs.Dials.{DialRose, Dialling, IsHungUp}
 use Rattle.tg_exchange.specs.Exchanges.{HasOneBlockEach}
 use Rattle.tg_fetch.proofs.OwnExchanges.{OpenedCounts, OwnFits, fitting_within, one_each}
 use Rattle.tg_fetch.proofs.Receiving.{one_more, told_in}
-use Rattle.tg_fetch.specs.Calls.{FetchEnds, HeardBy, HeardRefused, IsUncalled, LinkCalled, new_link}
+use Rattle.tg_fetch.specs.Calls.{FetchEnds, HeardBy, HeardRefused, IsUncalled, LinkCalled}
 use Rattle.tg_fetch.specs.Laws.{CarriedIsAnswer, CarriedIsTaken, CarriesWithin, IsAcceptedElse, IsOwnFault, TellsCarried}
 use Rattle.tg_fetch.specs.declared.fault.FetchFault.{FetchFault}
 use Rattle.tg_fetch.specs.declared.fault.FetchFault.TheVariants as faults
 use Rattle.tg_links.specs.Steps.{LinkStep}
-use Rattle.tg_links.specs.Views.{LinkView, and_call, call_with, is_failed, told_call}
+use Rattle.tg_links.specs.Views.{LinkView, and_call, between, call_with, is_failed, told_call}
 use Rattle.tg_links.specs.declared.call.Call.{Call}
 use Rattle.tg_model.specs.Answer.{answer}
 use Rattle.tg_model.specs.Dag.{Dag, Section, root_cid}
@@ -64,18 +64,18 @@ module _ (taken : CarriedIsTaken) (answers : CarriedIsAnswer) (q : QueryParts) (
   by_uncalled link (Ok done) why = absurd why
 
   module _ (dial : Dialling) (t : TellsCarried q limits dial all) (addr : List ℕ) where
-    module _ (link : LinkView) (heard said : Option (List ℕ)) (nothing : IsNothing heard) (up : IsHungUp link dial) where
-      by_called : (result : Result ⊤ FetchFault) → LinkCalled q limits addr (new_link heard said link) out result → IsAcceptedElse text out result
+    module _ (made link : LinkView) (nothing : IsNothing made.heard) (up : IsHungUp link dial) where
+      by_called : (result : Result ⊤ FetchFault) → LinkCalled q limits addr (between made link) out result → IsAcceptedElse text out result
       by_called result (inl w) =
-          let heard_is = told_in link dial heard w.heard nothing w.spoke.heard_is up t.before t.call t.old t.new in
+          let heard_is = told_in link dial made.heard w.heard nothing w.spoke.heard_is up t.before t.call t.old t.new in
           let over_is = over_by link dial t.before t.call t.old t.new up.calls in
           by_heard w.heard link.over
           (subst (λ (l : List ℕ). CarriesWithin q limits l link.over all) heard_is
           (subst (λ (b : Bool). CarriesWithin q limits t.call.heard b all) over_is t.carries)) result w.ends
-      by_called result (inr w) = by_uncalled (new_link heard said link) result w.why
+      by_called result (inr w) = by_uncalled (between made link) result w.why
 
     fit_accepted : (result : Result ⊤ FetchFault) → FetchEnds q limits addr dial out result → IsAcceptedElse text out result
-    fit_accepted result (inl h) = by_called h.link h.heard h.said h.heard_nothing h.hung_up result h.called
+    fit_accepted result (inl h) = by_called h.made h.link h.is_new.heard h.hung_up result h.called
     fit_accepted result (inr m) = subst (λ (r : Result ⊤ FetchFault). IsAcceptedElse text out r) (sym m.result_is) tt
 
 module _ (taken : CarriedIsTaken) (answers : CarriedIsAnswer) (q : QueryParts) (limits : LimitNumbers) (addr : List ℕ) (dial : Dialling) (out : Output)

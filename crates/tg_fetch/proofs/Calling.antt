@@ -1,8 +1,6 @@
 -- A client that is fed what is heard over a link.
 use Rattle.std.proofs.Common.{◌≡◌, ℕ, Bool, Err, Ok, List, [], ◌++◌, ◌∷◌, Result, false, true, refl, sym, subst, ◌∙◌, ap, append_assoc, append-nil}
 use Rattle.std.specs.Prelude.{⊤, None, ◌≢◌}
-use Rattle.tg_bytes.specs.Told.{grown}
-use Rattle.tg_bytes.specs.ToldLaws.{grown-grown, grown-nothing}
 use Rattle.tg_client.specs.Body.{BodyStands}
 use Rattle.tg_faults.specs.Faults.{Rose}
 use Rattle.tg_fetch.proofs.HearingOn.{StandsOpen, refused_not, stands_open}
@@ -13,6 +11,7 @@ use Rattle.tg_fetch.specs.Replies.{IsRefused}
 use Rattle.tg_fetch.specs.declared.client.Client.{Client}
 use Rattle.tg_fetch.specs.declared.fault.FetchFault.{FetchFault}
 use Rattle.tg_fetch.specs.declared.fault.FetchFault.TheVariants as faults
+use Rattle.tg_links.specs.Joining.{spoke_hears, spoke_nothing}
 use Rattle.tg_links.specs.Links.{EndsAreOver, LinkMeaning, TakesAreHeard}
 use Rattle.tg_links.specs.Steps.{LinkQuiet, LinkStep, Spoke, link_step}
 use Rattle.tg_model.specs.LimitNumbers.{LimitNumbers}
@@ -104,7 +103,7 @@ module _ {L S : Type 0} (m : LinkMeaning L) (source : SourceMeaning L) (hears : 
     query = refl;
     limits_are = refl;
     stands = stands;
-    spoke = record { heard_is = grown-nothing (m.heard l); said_is = grown-nothing (m.said l) };
+    spoke = spoke_nothing m source l;
     quiet = refl;
     put = put_nothing S sink s rests;
     put_quiet = refl;
@@ -113,12 +112,7 @@ module _ {L S : Type 0} (m : LinkMeaning L) (source : SourceMeaning L) (hears : 
   -- bytes are taken
   spoke_took : (l₀ l₁ l₂ : L) (heard piece : List ℕ) → Spoke (link_step m source l₀ l₁) heard [] → source.took l₁ l₂ piece
       → Spoke (link_step m source l₀ l₂) (heard ++ piece) []
-  spoke_took l₀ l₁ l₂ heard piece spoke took =
-      let step = hears l₁ l₂ piece took in
-      record {
-        heard_is = step.heard ∙ ap (λ told. grown told piece) spoke.heard_is ∙ grown-grown (m.heard l₀) heard piece;
-        said_is = step.said ∙ spoke.said_is;
-      }
+  spoke_took l₀ l₁ l₂ heard piece spoke took = spoke_hears m source l₀ l₁ l₂ heard [] spoke piece (hears l₁ l₂ piece took)
 
   module _ (q : QueryParts) (limits : LimitNumbers) (l₀ l₁ l₂ : L) (s₀ s₁ : S) (old : Client)
       (h : HasHeard q limits old (link_step m source l₀ l₁) (into sink s₀ s₁)) where

@@ -383,7 +383,7 @@ passed stands client heard front tail piece written out e full some f short =
       put = f.put;
       sections = o.sections;
       refused = past refl (record { heard_is = full; some = some; is_open = o.is_open });
-      sound = λ d sound root. (o.front d sound root, inl tt);
+      sound = λ d sound root. (o.front d sound root, tt);
     }
 
 -- ---- the count of bytes

@@ -1,17 +1,16 @@
 -- A request that is put into a link, and a link that a dial made and took back.
 use Rattle.std.proofs.Common.{◌≡◌, ℕ, Err, Ok, List, [], Option, Result, inl, inr, refl, sym, subst, ◌∙◌, ap, arith}
 use Rattle.std.specs.Prelude.{None, take, ⊤, ◌⊎◌}
-use Rattle.tg_bytes.specs.Told.{grown}
-use Rattle.tg_bytes.specs.ToldLaws.{grown-nothing}
-use Rattle.tg_dials.specs.Dials.{DialMeaning, DialRose, IsDialled, IsHungUp, KeepsCalls, KeepsMissed, at_dial}
+use Rattle.tg_dials.specs.Dials.{DialMeaning, DialRose, IsDialled, IsHungUp, KeepsCalls, KeepsComing, KeepsMissed, at_dial}
 use Rattle.tg_faults.specs.Faults.{Rose}
 use Rattle.tg_faults.specs.declared.calls.Failed.{Failed}
 use Rattle.tg_fetch.specs.Calls.{FetchEnds, LinkCalled, LinkHeard, RoseAtPeerFault}
 use Rattle.tg_fetch.specs.declared.fault.FetchFault.{FetchFault}
 use Rattle.tg_fetch.specs.declared.fault.FetchFault.TheVariants as faults
+use Rattle.tg_links.specs.Joining.{spoke_behind, spoke_nothing, spoke_says}
 use Rattle.tg_links.specs.Links.{CountsAreOne, LinkMeaning, PutsAreSaid}
-use Rattle.tg_links.specs.Steps.{Spoke, link_step}
-use Rattle.tg_links.specs.Views.{and_call, told_call, view_of}
+use Rattle.tg_links.specs.Steps.{link_step}
+use Rattle.tg_links.specs.Views.{IsFirst, and_call, told_call, view_of}
 use Rattle.tg_links.specs.declared.call.Call.{Call}
 use Rattle.tg_model.specs.LimitNumbers.{LimitNumbers}
 use Rattle.tg_model.specs.Queries.{QueryParts}
@@ -27,17 +26,17 @@ module _ {L : Type 0} (m : LinkMeaning L) (source : SourceMeaning L) (sink : Sin
   pub called_not : {S : Type 0} (out : SinkMeaning S) (l : L) (s : S) → out.wrote s s []
       → LinkCalled q limits addr (link_step m source l l) (into out s s) (Err faults.OutOfMemory)
   called_not out l s rests =
-      let spoke : Spoke (link_step m source l l) [] [] = record { heard_is = grown-nothing (m.heard l); said_is = grown-nothing (m.said l) } in
+      let spoke = spoke_nothing m source l in
       inr (record { count = 0; spoke = spoke; unput = put_nothing _ out s rests; why = (refl, spoke) })
 
   -- the link failed where the request was put
   pub called_front : {S : Type 0} (out : SinkMeaning S) (l₀ l₁ : L) (s : S) → out.wrote s s [] → PutFront (request_text q addr) (into sink l₀ l₁)
       → LinkCalled q limits addr (link_step m source l₀ l₁) (into out s s) (Err faults.PeerFault)
   called_front out l₀ l₁ s rests front =
-      let step = says l₀ l₁ (take front.count (request_text q addr)) front.put.moved in
       inr (record {
         count = front.count;
-        spoke = record { heard_is = step.heard ∙ grown-nothing (m.heard l₀); said_is = step.said };
+        spoke = spoke_says m source l₀ l₀ l₁ [] [] (spoke_nothing m source l₀) (take front.count (request_text q addr))
+            (says l₀ l₁ (take front.count (request_text q addr)) front.put.moved);
         unput = put_nothing _ out s rests;
         why = subst (λ (n : ℕ). Rose n (source.faults l₁)) (sym (one l₀)) (subst (λ (n : ℕ). Rose (sink.faults l₀) n) (sym (one l₁)) front.rose);
       })
@@ -62,13 +61,9 @@ module _ {L : Type 0} (m : LinkMeaning L) (source : SourceMeaning L) (sink : Sin
     pub called_whole : (out : Output) (result : Result ⊤ FetchFault) → Put (request_text q addr) (into sink l₀ l₁)
         → LinkHeard q limits (link_step m source l₁ l₂) out result → LinkCalled q limits addr (link_step m source l₀ l₂) out result
     called_whole out result put h =
-        let step = says l₀ l₁ (request_text q addr) put.moved in
         inl (record {
           heard = h.heard;
-          spoke = record {
-            heard_is = subst (λ (o : Option (List ℕ)). m.heard l₂ ≡ grown o h.heard) step.heard h.spoke.heard_is;
-            said_is = h.spoke.said_is ∙ sym (grown-nothing (m.said l₁)) ∙ step.said;
-          };
+          spoke = spoke_behind m source l₀ l₁ l₂ (request_text q addr) (says l₀ l₁ (request_text q addr) put.moved) h.heard h.spoke;
           ends = h.ends;
           rose = rose_by result h.rose;
         })
@@ -80,11 +75,11 @@ pub fetch_missed : {D S : Type 0} (dial : DialMeaning D) (out : SinkMeaning S) (
     (fault : Failed) → out.wrote s s [] → IsDialled (at_dial dial a b) (Err fault) → KeepsCalls (at_dial dial a b)
     → FetchEnds q limits addr (at_dial dial a b) (into out s s) (Err faults.PeerFault)
 fetch_missed dial out q limits addr a b s fault rests dialled keeps =
-    inr (record { result_is = refl; missed = dialled.0; calls = keeps; rose = dialled.1; unput = put_nothing _ out s rests })
+    inr (record { result_is = refl; missed = dialled.0; calls = keeps; coming = dialled.2; rose = dialled.1; unput = put_nothing _ out s rests })
 
 module _ {D L : Type 0} (dial : DialMeaning D) (links : LinkMeaning L) (source : SourceMeaning L) (a b c : D) (x y : L)
     (dialled : IsDialled (at_dial dial a b) (Ok (view_of links source x))) (keeps : KeepsCalls (at_dial dial a b))
-    (done : IsHungUp (view_of links source y) (at_dial dial b c)) (missed : KeepsMissed (at_dial dial b c)) where
+    (done : IsHungUp (view_of links source y) (at_dial dial b c)) (missed : KeepsMissed (at_dial dial b c)) (stays : KeepsComing (at_dial dial b c)) where
   -- what rose behind the call of `dial` rose
   rose_behind : DialRose (at_dial dial b c) → DialRose (at_dial dial a c)
   rose_behind rose = subst (λ (n : ℕ). Rose n (dial.faults c)) dialled.2 rose
@@ -114,20 +109,11 @@ module _ {D L : Type 0} (dial : DialMeaning D) (links : LinkMeaning L) (source :
       → LinkCalled q limits addr (link_step links source x y) out result → FetchEnds q limits addr (at_dial dial a c) out result
   fetch_called q limits addr out result called =
       inl (record {
+        made = view_of links source x;
+        is_new = dialled.0;
+        comes = subst (λ (coming : Option (List (List ℕ))). IsFirst (dial.coming a) coming (links.left x)) (sym stays) dialled.3;
         link = view_of links source y;
         hung_up = hung_up;
         missed = missed ∙ dialled.1;
-        heard = links.heard x;
-        said = links.said x;
-        heard_nothing = dialled.0.heard;
-        said_nothing = dialled.0.said;
-        called = subst (λ (n : ℕ). LinkCalled q limits addr (record {
-          heard_old = links.heard x;
-          heard_new = links.heard y;
-          said_old = links.said x;
-          said_new = links.said y;
-          over_new = links.over y;
-          faults_old = n;
-          faults_new = source.faults y;
-        }) out result) dialled.0.faults called;
+        called = called;
       })

@@ -6,6 +6,7 @@ mod CarriedTaken
 mod Carriers
 mod OwnAbsences
 mod OwnExchanges
+mod PathCounts
 mod Receiving
 mod Taking
 mod TakingHeads

@@ -15,6 +15,7 @@ use Rattle.tg_fetch.proofs.CarriedAnswer.{longer_carries}
 use Rattle.tg_fetch.proofs.Carriers.{IsCarrier, IsRefusedFor, body_few, carrier_behind, framed, open_text, refused_for}
 use Rattle.tg_fetch.proofs.Feeding.{at_open}
 use Rattle.tg_fetch.proofs.OwnExchanges.{behind_front, closed_there, no_end, none_behind, one_each}
+use Rattle.tg_fetch.proofs.PathCounts.{OwnNowhere, same_counts}
 use Rattle.tg_fetch.specs.Bodies.{BodyFails, BodyStops, IsOpenBody}
 use Rattle.tg_fetch.specs.Clients.{IsAt, IsShortAt}
 use Rattle.tg_fetch.specs.Faults.{absence_fault}
@@ -209,12 +210,9 @@ any_open q limits heard sections text (inr s) = inr s.behind
 
 -- ---- the blocks on the path, for the query and for its path alone
 
--- for a CAR the same sections are sent, and the same is counted
+-- for a CAR the same sections are sent
 same_sent : (q : QueryParts) (sections : List Section) → q.form ≡ forms.Car → sent_of q sections ≡ sent_of (path_query q) sections
 same_sent q sections e = ap (λ (f : Form). sent_of (record q { form = f }) sections) e
-
-same_counts : (q : QueryParts) (t : Traversal) → q.form ≡ forms.Car → counts_of q t ≡ counts_of (path_query q) t
-same_counts q t e = ap (λ (f : Form). counts_of (record q { form = f }) t) e
 
 -- from the end of the path on
 abbrev from_path : QueryParts → List Section → PathEnd → Traversal
@@ -252,9 +250,6 @@ path_within limits n w none = record {
 }
 
 -- ---- what is sent
-
-abbrev pub OwnNowhere : Type 0
-OwnNowhere = (q : QueryParts) (d : Dag) (stop : Stop) → IsSound d → (traversal q d).end ≡ stopped stop → ((path_walk q.path d).end ≡ not_reached stop) × (answer q d ≡ None)
 
 abbrev pub OwnOpened : Type 0
 OwnOpened = (q : QueryParts) (d : Dag) (stop : Stop) → IsSound d → root_cid d ≡ q.root → IfOnce q.dups (HasOneBlockEach (opened_list q d)) → (traversal q d).end ≡ stopped stop

@@ -9,7 +9,7 @@ use Rattle.tg_client.specs.Received.{HasReceived}
 use Rattle.tg_dials.specs.Dials.{DialRose, Dialling, IsHungUp}
 use Rattle.tg_faults.specs.Faults.{Rose}
 use Rattle.tg_fetch.specs.Bodies.{AreHeard, BodyFails, BodyStops, IsBeforeBlock, IsOpenBody, SaysOf, root_section}
-use Rattle.tg_fetch.specs.Calls.{FetchEnds, HeardBy, HeardRefused, IsUncalled, LinkCalled, new_link}
+use Rattle.tg_fetch.specs.Calls.{FetchEnds, HeardBy, HeardRefused, IsUncalled, LinkCalled}
 use Rattle.tg_fetch.specs.Received.{AreReceived, HasBody, HeardIn, IsOfBody, SoundCall, block, car, carried, none}
 use Rattle.tg_fetch.specs.Replies.{IsOpenBefore, IsOpenReply, IsShortBehind, RefusedBy, at_end, at_head, bad_head, breaks, cut_body, cut_head, in_body, memory, past}
 use Rattle.tg_fetch.specs.declared.fault.FetchFault.{FetchFault}
@@ -20,7 +20,7 @@ use Rattle.tg_http.specs.declared.framing.Framing.{Framing}
 use Rattle.tg_http.specs.declared.framing.Framing.TheVariants as framings
 use Rattle.tg_http.specs.declared.reply.ReplyHead.{ReplyHead}
 use Rattle.tg_links.specs.Steps.{LinkRose, LinkStep}
-use Rattle.tg_links.specs.Views.{LinkView, and_call, call_with, is_failed, told_call}
+use Rattle.tg_links.specs.Views.{LinkView, and_call, between, call_with, is_failed, told_call}
 use Rattle.tg_links.specs.declared.call.Call.{Call}
 use Rattle.tg_model.specs.Answer.{answer}
 use Rattle.tg_model.specs.Dag.{Dag, Section}
@@ -197,14 +197,14 @@ module _ (q : QueryParts) (limits : LimitNumbers) (dial : Dialling) (out : Outpu
   by_uncalled told unput link (Err fault) why = absurd why
   by_uncalled told unput link (Ok done) why = absurd why
 
-  module _ (addr : List ℕ) (link : LinkView) (heard said : Option (List ℕ)) (nothing : IsNothing heard) (up : IsHungUp link dial) where
-    by_called : (result : Result ⊤ FetchFault) → LinkCalled q limits addr (new_link heard said link) out result → SoundCall q limits dial out result
-    by_called result (inl w) = by_heard w.heard (told_in link dial heard w.heard nothing w.spoke.heard_is up) link.over result w.ends
-    by_called result (inr w) = by_uncalled (told_in link dial heard [] nothing w.spoke.heard_is up) w.unput (new_link heard said link) result w.why
+  module _ (addr : List ℕ) (made link : LinkView) (nothing : IsNothing made.heard) (up : IsHungUp link dial) where
+    by_called : (result : Result ⊤ FetchFault) → LinkCalled q limits addr (between made link) out result → SoundCall q limits dial out result
+    by_called result (inl w) = by_heard w.heard (told_in link dial made.heard w.heard nothing w.spoke.heard_is up) link.over result w.ends
+    by_called result (inr w) = by_uncalled (told_in link dial made.heard [] nothing w.spoke.heard_is up) w.unput (between made link) result w.why
 
 pub sound_call : (q : QueryParts) (limits : LimitNumbers) (addr : List ℕ) (dial : Dialling) (out : Output) (result : Result ⊤ FetchFault) → FetchEnds q limits addr dial out result
     → SoundCall q limits dial out result
-sound_call q limits addr dial out result (inl h) = by_called q limits dial out addr h.link h.heard h.said h.heard_nothing h.hung_up result h.called
+sound_call q limits addr dial out result (inl h) = by_called q limits dial out addr h.made h.link h.is_new.heard h.hung_up result h.called
 sound_call q limits addr dial out result (inr m) =
     subst (λ (r : Result ⊤ FetchFault). SoundCall q limits dial out r) (sym m.result_is) (by_nothing q limits dial out (untold dial m.calls) m.unput faults.PeerFault (λ d. tt))
 
@@ -221,5 +221,6 @@ link_rose q limits addr link out (inr w) = w.why
 -- is one of the dial
 pub dial_rose : (q : QueryParts) (limits : LimitNumbers) (addr : List ℕ) (dial : Dialling) (out : Output) → FetchEnds q limits addr dial out (Err faults.PeerFault) → DialRose dial
 dial_rose q limits addr dial out (inl h) =
-    h.hung_up.failed (has_failed h.link.faults (link_rose q limits addr (new_link h.heard h.said h.link) out h.called))
+    let rose = link_rose q limits addr (between h.made h.link) out h.called in
+    h.hung_up.failed (has_failed h.link.faults (subst (λ (n : ℕ). Rose n h.link.faults) h.is_new.faults rose))
 dial_rose q limits addr dial out (inr m) = m.rose

@@ -1,13 +1,14 @@
 -- What is taken of a body, and why it isn't.
 use Rattle.std.proofs.Common.{◌≡◌, ℕ, List, [], ◌∷◌, ◌++◌, Option, Some, None, Ok, Err, Result, refl, ap, sym, subst, ◌∙◌, inl, inr, ap₂, append-nil, arith}
 use Rattle.std.specs.Prelude.{MatchResult, ⊤, ◌≢◌, ◌⊎◌}
-use Rattle.tg_client.specs.Body.{BodyStands, EndsAt, HasEnded, HasOutCause, IsBody, IsStopped, WentOn}
-use Rattle.tg_client.specs.Ends.{IsEndedShort, SaysFor}
+use Rattle.tg_client.specs.Body.{BodyStands, EndsAt, HasEnded, HasOutCause, IsBody, IsStopped, WentOn, unknown}
+use Rattle.tg_client.specs.Ends.{EndsBy, IsEndedShort, SaysFor}
 use Rattle.tg_client.specs.Received.{HasReceived}
 use Rattle.tg_client.specs.declared.body.CarBody.{CarBody}
 use Rattle.tg_client.specs.declared.fault.ClientFault.{ClientFault}
 use Rattle.tg_client.specs.declared.fault.ClientFault.TheVariants as clients
 use Rattle.tg_cid.specs.Cid.{CidParts}
+use Rattle.tg_fetch.proofs.PathCounts.{OwnNowhere, path_says}
 use Rattle.tg_fetch.specs.Bodies.{BodyFails, BodyStops, FailsTaking, FrontAndSays, IsBeforeBlock, IsBlockFault, IsTakingAbsence, IsTakingAnswer, IsTakingBlock}
 use Rattle.tg_fetch.specs.Bodies.{IsWholeAnswer, SaysOf, StopsTaking, TakesOn, TakesWhole, root_section}
 use Rattle.tg_fetch.specs.Faults.{QuietUnlessSink, absence_fault, fault_of_client, fault_of_refusal}
@@ -20,17 +21,19 @@ use Rattle.tg_http.specs.declared.reply.ReplyHead.{ReplyHead}
 use Rattle.tg_model.specs.Answer.{answer}
 use Rattle.tg_model.specs.Dag.{Dag, Section}
 use Rattle.tg_model.specs.Fits.{IsFrontOfAnswer}
-use Rattle.tg_model.specs.LimitNumbers.{LimitNumbers}
+use Rattle.tg_model.specs.LimitNumbers.{LimitNumbers, standard}
 use Rattle.tg_model.specs.Queries.{QueryParts}
+use Rattle.tg_model.specs.Sound.{IsSound}
 use Rattle.tg_model.specs.declared.limits.LimitKind.TheVariants as kinds
 use Rattle.tg_model.specs.declared.queries.Form.{Form}
+use Rattle.tg_model.specs.declared.queries.Form.TheVariants as forms
 use Rattle.tg_traversal.specs.Left.{WantedAt}
 use Rattle.tg_streams.specs.Joining.{SinkJoins, put_put}
 use Rattle.tg_streams.specs.Streams.{Output, OutputQuiet, Put, SinkMeaning, into}
 use Rattle.tg_verify.specs.Absences.{path_limits, path_query}
 use Rattle.tg_verify.specs.History.{HasPutCause, HasWritten, StandsBy, StandsFor}
 use Rattle.tg_verify.specs.Laws.{AnswerLaws}
-use Rattle.tg_verify.specs.Refusals.{HasRefused}
+use Rattle.tg_verify.specs.Refusals.{HasSectionCause, HasRefused}
 use Rattle.tg_verify.specs.Sound.{EndsFor, ForEachSound, IsItsFront, SaysOfDag}
 use Rattle.tg_verify.specs.State.{VerifierState, next_cid}
 use Rattle.tg_verify.specs.Steps.{section_with}
@@ -62,45 +65,57 @@ front_of None = refl
 pub nothing_front : (q : QueryParts) (d : Dag) (sections : List Section) → IsItsFront q d sections []
 nothing_front q d sections = inl (front_of (answer q d))
 
+-- what a verifier's refusal says
+refused_says : (q : QueryParts) (d : Dag) (sections : List Section) (fault : Refusal) → SaysOfDag q d sections fault → SaysOf q d sections (faults.Refused fault)
+refused_says q d sections (refusals.Limit kinds.Output number) says = inl says
+refused_says q d sections (refusals.Limit kind number) says = says
+refused_says q d sections fault says = says
+
 says_for : (q : QueryParts) (d : Dag) (sections : List Section) (text : List ℕ) (cause : ClientFault) → SaysFor q d sections text (Err cause)
     → FrontAndSays q sections text (fault_of_client cause) d
-says_for q d sections text (clients.Refused refusal) (front, says) = (front, inl says)
+says_for q d sections text (clients.Refused refusal) (front, says) = (front, refused_says q d sections refusal says)
 says_for q d sections text (clients.BadCar car) front = (front, tt)
 says_for q d sections text clients.InputFault front = (front, tt)
 says_for q d sections text clients.OutOfMemory front = (front, tt)
 
-says_refusal : (q : QueryParts) (d : Dag) (sections : List Section) (fault : Refusal) → SaysOfDag (path_query q) d sections fault
-    → SaysOf q d sections (absence_fault (clients.Refused fault))
-says_refusal q d sections (refusals.Extra number) says = tt
-says_refusal q d sections (refusals.Limit kind number) says = inr says
-says_refusal q d sections (refusals.BadDigest cid) says = inr says
-says_refusal q d sections (refusals.WrongBlock want got) says = inr says
-says_refusal q d sections (refusals.BadBlock cid fault) says = inr says
-says_refusal q d sections (refusals.BadSize declared actual) says = inr says
-says_refusal q d sections (refusals.NotFolder segment) says = inr says
-says_refusal q d sections (refusals.NotThere segment) says = inr says
-says_refusal q d sections refusals.SinkFault says = inr says
-says_refusal q d sections (refusals.Truncated want number) says = inr says
-says_refusal q d sections refusals.OutOfMemory says = inr says
+-- a text that is too large is larger than the limit
+passed_of : (q : QueryParts) (limits : LimitNumbers) (heard unheard : List ℕ) (sections : List Section) (text : List ℕ) (number : ℕ)
+    → EndsBy q limits unknown heard unheard sections text (Err (clients.Refused (refusals.Limit kinds.Output number))) → number ≡ limits.output
+passed_of q limits heard unheard sections text number (inl at) = by at.cause
+  where
+    by : HasSectionCause q limits at.up_to.given at.up_to.later at.at at.section (refusals.Limit kinds.Output number) → number ≡ limits.output
+    by (inl receipt) = absurd receipt
+    by (inr (wanted, over)) = over.number_is
+passed_of q limits heard unheard sections text number (inr behind) = behind.cause.number_is
 
-says_of_path : (q : QueryParts) (d : Dag) (sections : List Section) (said : List ℕ) (cause : ClientFault) → SaysFor (path_query q) d sections said (Err cause)
-    → FrontAndSays q sections [] (absence_fault cause) d
-says_of_path q d sections said (clients.Refused refusal) (front, says) = (nothing_front q d sections, says_refusal q d sections refusal says)
-says_of_path q d sections said (clients.BadCar car) front = (nothing_front q d sections, tt)
-says_of_path q d sections said clients.InputFault front = (nothing_front q d sections, tt)
-says_of_path q d sections said clients.OutOfMemory front = (nothing_front q d sections, tt)
+abbrev IsMostOutput : ClientFault → Type 0
+IsMostOutput cause = (number : ℕ) → cause ≡ clients.Refused (refusals.Limit kinds.Output number) → number ≡ standard.output
+
+most_output : (q : QueryParts) (limits : LimitNumbers) (heard unheard : List ℕ) (sections : List Section) (text : List ℕ) (cause : ClientFault) → limits.output ≡ standard.output
+    → EndsBy q limits unknown heard unheard sections text (Err cause) → IsMostOutput cause
+most_output q limits heard unheard sections text cause most ends number is =
+    passed_of q limits heard unheard sections text number (subst (λ (c : ClientFault). EndsBy q limits unknown heard unheard sections text (Err c)) is ends) ∙ most
+
+-- of the CAR that shows an absence
+says_of_path : OwnNowhere → (q : QueryParts) (d : Dag) → IsSound d → q.form ≡ forms.Car → (sections : List Section) (said : List ℕ) (cause : ClientFault) → IsMostOutput cause
+    → SaysFor (path_query q) d sections said (Err cause) → FrontAndSays q sections [] (absence_fault cause) d
+says_of_path nowhere q d sound car sections said (clients.Refused refusal) most (front, says) =
+    (nothing_front q d sections, path_says nowhere q d sound car sections refusal (λ number is. most number (ap clients.Refused is)) says)
+says_of_path nowhere q d sound car sections said (clients.BadCar fault) most front = (nothing_front q d sections, tt)
+says_of_path nowhere q d sound car sections said clients.InputFault most front = (nothing_front q d sections, tt)
+says_of_path nowhere q d sound car sections said clients.OutOfMemory most front = (nothing_front q d sections, tt)
 
 says_of_refusal : (q : QueryParts) (d : Dag) (sections : List Section) (fault : Refusal) → SaysOfDag q d sections fault → SaysOf q d sections (fault_of_refusal fault)
-says_of_refusal q d sections (refusals.Extra number) says = inl says
-says_of_refusal q d sections (refusals.Limit kind number) says = inl says
-says_of_refusal q d sections (refusals.BadDigest cid) says = inl says
-says_of_refusal q d sections (refusals.WrongBlock want got) says = inl says
-says_of_refusal q d sections (refusals.BadBlock cid fault) says = inl says
-says_of_refusal q d sections (refusals.BadSize declared actual) says = inl says
-says_of_refusal q d sections (refusals.NotFolder segment) says = inl says
-says_of_refusal q d sections (refusals.NotThere segment) says = inl says
-says_of_refusal q d sections refusals.SinkFault says = inl says
-says_of_refusal q d sections (refusals.Truncated want number) says = inl says
+says_of_refusal q d sections (refusals.Extra number) says = says
+says_of_refusal q d sections (refusals.Limit kind number) says = refused_says q d sections (refusals.Limit kind number) says
+says_of_refusal q d sections (refusals.BadDigest cid) says = says
+says_of_refusal q d sections (refusals.WrongBlock want got) says = says
+says_of_refusal q d sections (refusals.BadBlock cid fault) says = says
+says_of_refusal q d sections (refusals.BadSize declared actual) says = says
+says_of_refusal q d sections (refusals.NotFolder segment) says = says
+says_of_refusal q d sections (refusals.NotThere segment) says = says
+says_of_refusal q d sections refusals.SinkFault says = says
+says_of_refusal q d sections (refusals.Truncated want number) says = says
 says_of_refusal q d sections refusals.OutOfMemory says = tt
 
 -- no fault of a body is of the input
@@ -267,9 +282,9 @@ module _ (q : QueryParts) (limits : LimitNumbers) (head : ReplyHead) (body : Car
         λ d is root. (nothing_front q d w.sections, tt),
       )
 
-  shown : (m : Output) (bytes : List ℕ) (cause : ClientFault) → cause ≢ clients.InputFault → absence_fault cause ≢ faults.Refused refusals.SinkFault
+  shown : OwnNowhere → (m : Output) (bytes : List ℕ) (cause : ClientFault) → cause ≢ clients.InputFault → absence_fault cause ≢ faults.Refused refusals.SinkFault
       → IsStopped (path_query q) (path_limits limits) bytes h.said m cause → Stops bytes (absence_fault cause)
-  shown m bytes cause not_input not_sink s = (
+  shown nowhere m bytes cause not_input not_sink s = (
     s.sections,
     BodyStops.absence (record {
       is_head = h.is_head;
@@ -282,13 +297,14 @@ module _ (q : QueryParts) (limits : LimitNumbers) (head : ReplyHead) (body : Car
       ends = s.ends;
       no_text = refl;
     }),
-    λ d is root. says_of_path q d s.sections (h.said ++ s.text) cause (s.sound d is root),
+    λ d is root. says_of_path nowhere q d is h.is_head.car s.sections (h.said ++ s.text) cause
+        (most_output (path_query q) (path_limits limits) s.heard s.unheard s.sections (h.said ++ s.text) cause refl s.ends) (s.sound d is root),
   )
 
-  pub shows_stop : (m : Output) (bytes : List ℕ) (cause : ClientFault) → HasOutCause m cause → absence_fault cause ≢ faults.Refused refusals.SinkFault
+  pub shows_stop : OwnNowhere → (m : Output) (bytes : List ℕ) (cause : ClientFault) → HasOutCause m cause → absence_fault cause ≢ faults.Refused refusals.SinkFault
       → IsStopped body.verifier.left.query body.verifier.limits bytes h.said m cause → Stops bytes (absence_fault cause)
-  shows_stop m bytes cause has not_sink s =
-      shown m bytes cause (never_of_input m cause has) not_sink
+  shows_stop nowhere m bytes cause has not_sink s =
+      shown nowhere m bytes cause (never_of_input m cause has) not_sink
       (subst (λ (n : LimitNumbers). IsStopped (path_query q) n bytes h.said m cause) h.limits_are
       (subst (λ (p : QueryParts). IsStopped p body.verifier.limits bytes h.said m cause) h.query s))
 
@@ -328,7 +344,7 @@ module _ (q : QueryParts) (limits : LimitNumbers) (head : ReplyHead) (body : Car
           short = s.short;
           no_text = refl;
         });
-        sound = λ d is root. (nothing_front q d h.sections, subst (λ (f : FetchFault). SaysOf q d h.sections f) (sym fault_is) (inl tt));
+        sound = λ d is root. (nothing_front q d h.sections, subst (λ (f : FetchFault). SaysOf q d h.sections f) (sym fault_is) tt);
       })
 
   pub absence_reached : (written : List ℕ) → written ≡ [] → (out : Output) → Put [] out → HasEnded body.verifier.left.query body.verifier.limits given h.sections h.said (Ok tt)
@@ -482,7 +498,7 @@ module _ (q : QueryParts) (limits : LimitNumbers) (head : ReplyHead) (raw : RawB
           }
 
 says_of_block : (q : QueryParts) (limits : LimitNumbers) (d : Dag) (bytes : List ℕ) (fault : FetchFault) → IsBlockFault limits bytes fault → SaysOf q d [] fault
-says_of_block q limits d bytes (faults.Refused (refusals.Limit kinds.Block number)) is = inl tt
+says_of_block q limits d bytes (faults.Refused (refusals.Limit kinds.Block number)) is = tt
 says_of_block q limits d bytes (faults.Refused (refusals.Limit kinds.Depth number)) is = absurd is
 says_of_block q limits d bytes (faults.Refused (refusals.Limit kinds.Entries number)) is = absurd is
 says_of_block q limits d bytes (faults.Refused (refusals.Limit kinds.Names number)) is = absurd is

@@ -17,7 +17,7 @@ use Rattle.tg_fetch.specs.declared.sections.Sections.TheVariants as takings
 use Rattle.tg_heard.specs.Carried.{BodyCarries, IsAbsenceHead, IsAnswerHead}
 use Rattle.tg_http.specs.declared.reply.ReplyHead.{ReplyHead}
 use Rattle.tg_model.specs.Dag.{Dag, Section}
-use Rattle.tg_model.specs.LimitNumbers.{LimitNumbers}
+use Rattle.tg_model.specs.LimitNumbers.{LimitNumbers, standard}
 use Rattle.tg_model.specs.Queries.{QueryParts}
 use Rattle.tg_model.specs.declared.limits.LimitKind.TheVariants as kinds
 use Rattle.tg_model.specs.declared.queries.Form.TheVariants as forms
@@ -199,9 +199,13 @@ pub data BodyFails (q : QueryParts) (limits : LimitNumbers) (head : ReplyHead) (
 
 -- ---- what each says of each sound DAG with the query's root
 
--- what a refusal of a block says of the DAG, for the query or for the blocks on its path
+-- what a refusal of a block says of the DAG; where that comes on the path alone, whose blocks have no text before the terminal's,
+-- a text that is too large is more than 2^40 bytes of the terminal's block
 abbrev pub SaysOf : QueryParts → Dag → List Section → FetchFault → Type 0
-SaysOf q d sections (faults.Refused fault) = SaysOfDag q d sections fault ⊎ SaysOfDag (path_query q) d sections fault
+SaysOf q d sections (faults.Refused (refusals.Limit kinds.Output number)) =
+    SaysOfDag q d sections (refusals.Limit kinds.Output number)
+    ⊎ ((number ≡ standard.output) × SaysOfDag (path_query q) d sections (refusals.Limit kinds.Output number))
+SaysOf q d sections (faults.Refused fault) = SaysOfDag q d sections fault
 SaysOf q d sections other = ⊤
 
 -- what is written is a front of its answer, and what the refusal says of it holds; or there is a collision pair

@@ -1,14 +1,13 @@
 -- A call to a gateway: what was said, what was heard, and what was written (RFC 9112).
-use Rattle.std.specs.Prelude.{Bool, Err, List, Ok, Option, Result, [], take, true, ⊤, ℕ, ◌++◌, ◌≡◌, ◌⊎◌}
-use Rattle.tg_bytes.specs.Told.{IsNothing}
-use Rattle.tg_dials.specs.Dials.{DialRose, Dialling, IsHungUp, KeepsCalls, KeepsMissed}
+use Rattle.std.specs.Prelude.{Bool, Err, List, Ok, Result, [], take, true, ⊤, ℕ, ◌++◌, ◌≡◌, ◌⊎◌}
+use Rattle.tg_dials.specs.Dials.{DialRose, Dialling, IsHungUp, KeepsCalls, KeepsComing, KeepsMissed}
 use Rattle.tg_faults.specs.Faults.{counted}
 use Rattle.tg_fetch.specs.Bodies.{FrontAndSays}
 use Rattle.tg_fetch.specs.Replies.{IsAnswered, IsOpenReply, RefusedBy}
 use Rattle.tg_fetch.specs.declared.fault.FetchFault.{FetchFault}
 use Rattle.tg_fetch.specs.declared.fault.FetchFault.TheVariants as faults
 use Rattle.tg_links.specs.Steps.{LinkQuiet, LinkRose, LinkStep, Spoke}
-use Rattle.tg_links.specs.Views.{LinkView}
+use Rattle.tg_links.specs.Views.{IsFirst, IsNew, LinkView, between}
 use Rattle.tg_model.specs.Dag.{Section}
 use Rattle.tg_model.specs.LimitNumbers.{LimitNumbers}
 use Rattle.tg_model.specs.Queries.{QueryParts}
@@ -95,34 +94,22 @@ LinkCalled q limits addr link out result = CalledWhole q limits addr link out re
 
 -- ---- a call by a dial
 
--- a new link before and behind what went through it
-abbrev pub new_link : Option (List ℕ) → Option (List ℕ) → LinkView → LinkStep
-new_link heard said link = record {
-  heard_old = heard;
-  heard_new = link.heard;
-  said_old = said;
-  said_new = link.said;
-  over_new = link.over;
-  faults_old = 0;
-  faults_new = link.faults;
-}
-
--- the peer was dialled, and the link given back: what went through it is told behind the other calls
+-- a link was made, to the next of the peers to come, and given back: what went through it is told behind the other calls
 pub record HasCalled (q : QueryParts) (limits : LimitNumbers) (addr : List ℕ) (dial : Dialling) (out : Output) (result : Result ⊤ FetchFault) : Type 0 where
+  pub made : LinkView
+  pub is_new : IsNew made
+  pub comes : IsFirst dial.coming_old dial.coming_new made.left
   pub link : LinkView
   pub hung_up : IsHungUp link dial
   pub missed : KeepsMissed dial
-  pub heard : Option (List ℕ)
-  pub said : Option (List ℕ)
-  pub heard_nothing : IsNothing heard
-  pub said_nothing : IsNothing said
-  pub called : LinkCalled q limits addr (new_link heard said link) out result
+  pub called : LinkCalled q limits addr (between made link) out result
 
 -- the peer couldn't be dialled
 pub record IsMissed (dial : Dialling) (out : Output) (result : Result ⊤ FetchFault) : Type 0 where
   pub result_is : result ≡ Err faults.PeerFault
   pub missed : dial.missed_new ≡ counted dial.missed_old
   pub calls : KeepsCalls dial
+  pub coming : KeepsComing dial
   pub rose : DialRose dial
   pub unput : Put [] out
 

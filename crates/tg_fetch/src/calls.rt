@@ -22,6 +22,7 @@ use crate::fault::FetchFault;
 use crate::laws;
 use crate::watch::Watch;
 use std::alloc::{AllocError, Global};
+use std::mem::drop;
 use tg_bytes::zeros;
 use tg_dials::Dial;
 use tg_links::Link;
@@ -114,7 +115,10 @@ fn call<K: Link, S: Sink, W: Watch>(
     match begun(alloc, query, limits) {
         Ok((client, room)) => {
             let (mut client, mut room) = (client, room);
-            ask(&mut client, room.as_mut_slice(), addr, link, out, watch)
+            let end = ask(&mut client, room.as_mut_slice(), addr, link, out, watch);
+            // A client that goes at the end of its scope takes the prover minutes.
+            drop(client);
+            end
         }
         Err(AllocError) => Err(FetchFault::OutOfMemory),
     }
@@ -127,7 +131,8 @@ fn begun(alloc: Global, query: &Query, limits: Limits) -> Result<(Client, Vec<u8
     ensures stands { IfOk result (λ begun. StandsFor begun.0 [] []) }
     ensures room { IfOk result (λ begun. 0 < length begun.1.items) }
 {
-    Ok((Client::new(alloc, query, limits)?, zeros(alloc, PIECE_LEN)?))
+    let room = zeros(alloc, PIECE_LEN)?;
+    Ok((Client::new(alloc, query, limits)?, room))
 }
 
 /// Puts the request of a client, which is new, into a link, and feeds it the reply through this room. Errors: those of

@@ -146,6 +146,7 @@ fn show(body: &mut CarBody, part: &[u8]) -> Result<(), FetchFault>
         → result ≡ Err (FetchFault.Refused Refusal.SinkFault) → ⊥ }
 {
     tg_client::laws::standing_bodies();
+    tg_model_laws::own_absences();
     match body.feed(part, &mut Nowhere {}) {
         Ok(()) if body.is_whole() => Err(FetchFault::Status(404)),
         Ok(()) => Ok(()),

@@ -19,5 +19,5 @@ returns-in_err-link-clause-cause g c =
 pub returns-clause-ends : goal.returns-clause-ends
 returns-clause-ends g c =
     fetch_called g.D.Dial.dial g.D.Link.Link.link g.D.Link.Source.source c.args.dial.now c.dial.new.self c.done.new.self c.in_ok-link.link c.call-end.new.link
-    c.in_ok-link.ensures.dialled c.dial.ensures.calls c.done.ensures.done c.done.ensures.missed c.args.query.now c.args.limits c.args.addr.now
+    c.in_ok-link.ensures.dialled c.dial.ensures.calls c.done.ensures.done c.done.ensures.missed c.done.ensures.coming c.args.query.now c.args.limits c.args.addr.now
     (into g.S.Sink.sink c.args.out.now c.call-end.new.out) c.call-end.result c.call-end.ensures.called

@@ -21,7 +21,7 @@ pub returns-in-Err-clause-shows : goal.returns-in-Err-clause-shows
 returns-in-Err-clause-shows c q limits head given h =
     let e = c.in-Err.ensures in
     let cause = e.cause h.is_body.unrefused h.is_body.fresh in
-    let stop = shows_stop q limits head c.args.body.now given h _ (given ++ c.args.part.now) c.in-Err.fault cause (never_of_sink c.in-Err.fault cause)
+    let stop = shows_stop q limits head c.args.body.now given h c.own_absences.ensures.nowhere _ (given ++ c.args.part.now) c.in-Err.fault cause (never_of_sink c.in-Err.fault cause)
     (e.stands given h.sections h.said h.is_body) in
     rw c.shown_by.ensures stop
 
