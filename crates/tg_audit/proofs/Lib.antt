@@ -1,5 +1,4 @@
 mod Addrs
 mod Asked
 mod AuditSteps
-mod Heard
 mod PackedTrees

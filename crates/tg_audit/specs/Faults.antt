@@ -1,11 +1,9 @@
--- The faults of the crates below as faults of an audit: those of a folder, a pack and a store in memory come for want of memory
--- alone.
+-- The faults of the crates below as faults of an audit: those of a folder, a pack, a store and a dial in memory come for want of
+-- memory alone.
 use Rattle.tg_audit.specs.declared.fault.AuditFault.{AuditFault}
 use Rattle.tg_audit.specs.declared.fault.AuditFault.TheVariants as audits
 use Rattle.tg_fetch.specs.declared.fault.FetchFault.{FetchFault}
 use Rattle.tg_fetch.specs.declared.fault.FetchFault.TheVariants as fetches
-use Rattle.tg_gateway.specs.declared.fault.GatewayFault.{GatewayFault}
-use Rattle.tg_gateway.specs.declared.fault.GatewayFault.TheVariants as gateways
 use Rattle.tg_import.specs.declared.fault.ImportFault.{ImportFault}
 use Rattle.tg_import.specs.declared.fault.ImportFault.TheVariants as imports
 use Rattle.tg_store.specs.declared.fault.PackFault.{PackFault}
@@ -23,9 +21,6 @@ fault_of_pack packs.OutOfMemory = audits.OutOfMemory
 fault_of_pack fault = audits.Pack fault
 
 abbrev pub fault_of_fetch : FetchFault → AuditFault
+fault_of_fetch fetches.PeerFault = audits.OutOfMemory
 fault_of_fetch fetches.OutOfMemory = audits.OutOfMemory
 fault_of_fetch fault = audits.Client fault
-
-abbrev pub fault_of_gateway : GatewayFault → AuditFault
-fault_of_gateway gateways.OutOfMemory = audits.OutOfMemory
-fault_of_gateway fault = audits.Gateway fault

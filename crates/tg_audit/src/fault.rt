@@ -15,10 +15,10 @@ pub enum AuditFault {
     /// The pack that was made can't be attached.
     #[error("Pack")]
     Pack(PackFault),
-    /// The client refuses what the gateway's session sent.
+    /// The client refuses what the gateway said.
     #[error("{0}")]
     Client(FetchFault),
-    /// The gateway's session refuses the request.
+    /// The gateway's session refuses the request: it has more bytes than may be received.
     #[error("{0}")]
     Gateway(GatewayFault),
     /// The query with this number has another answer than the one that is expected of it.
@@ -90,24 +90,11 @@ impl From<FetchFault> for AuditFault {
 
     ghost from_gives = { λ fault given. given ≡ fault_of_fetch fault };
 
+    /// A fault of a dial in memory comes for want of memory alone.
     fn from(fault: FetchFault) -> AuditFault {
         match fault {
-            FetchFault::OutOfMemory => AuditFault::OutOfMemory,
+            FetchFault::PeerFault | FetchFault::OutOfMemory => AuditFault::OutOfMemory,
             fault => AuditFault::Client(fault),
-        }
-    }
-}
-
-impl From<GatewayFault> for AuditFault {
-    ghost use Rattle.std.specs.Prelude.{◌≡◌};
-    ghost use Rattle.tg_audit.specs.Faults.{fault_of_gateway};
-
-    ghost from_gives = { λ fault given. given ≡ fault_of_gateway fault };
-
-    fn from(fault: GatewayFault) -> AuditFault {
-        match fault {
-            GatewayFault::OutOfMemory => AuditFault::OutOfMemory,
-            fault => AuditFault::Gateway(fault),
         }
     }
 }

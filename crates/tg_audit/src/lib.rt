@@ -1,11 +1,11 @@
-//! An audit: a folder that a seed draws is imported into a pack in memory, which is attached as a store; a gateway's
-//! session over it is asked for each query by a client, and the answers are compared with what was drawn.
+//! An audit: a folder that a seed draws is imported into a pack in memory, which is attached as a store; it is served
+//! through a door in memory to the request of each query, the reply is fetched over a dial in memory, and the answers are
+//! compared with what was drawn.
 #![tactic(auto)]
 
 mod asking;
 mod auditing;
 mod fault;
-mod hearing;
 mod packing;
 
 pub use asking::ask;
