@@ -1,6 +1,7 @@
 -- What each exit status says, from how the words end.
 use Rattle.std.proofs.Common.{◌+◌, ◌≡◌, ◌≢◌, ℕ, ◌<◌, ◌≤◌, ◌⊎◌, inl, inr, List, [], ◌∷◌, ◌++◌, length, Option, Some, None, Err, refl, sym, ap, ◌∙◌, subst, arith, append-nil, length-append, nat_eq, false}
 use Rattle.std.proofs.lemmas.Bool.Decides.{eqb_tells}
+use Rattle.std.specs.Prelude.{IsSome}
 use Rattle.tg_bytes.specs.Told.{after_front, IsNothing}
 use Rattle.tg_cid.specs.Cid.{CidParts}
 use Rattle.tg_cid.specs.Names.{Names, IsDigestOf}
@@ -20,6 +21,7 @@ use Rattle.tg_import.specs.declared.fault.ImportFault.{ImportFault}
 use Rattle.tg_import.specs.declared.fault.ImportFault.TheVariants as imports
 use Rattle.tg_import.specs.declared.summary.Options.{Options}
 use Rattle.tg_import_pack.specs.Packing.{IsPackingCause}
+use Rattle.tg_model.specs.PathWalk.{not_folder, not_there}
 use Rattle.tg_model.specs.Queries.{QueryParts}
 use Rattle.tg_model.specs.Stores.{Store}
 use Rattle.tg_model.specs.declared.stores.BlocksFault.TheVariants as stores
@@ -42,6 +44,7 @@ use Rattle.tg_app.specs.declared.fault.CommandFault.TheVariants.{Usage, BadDiges
 use Rattle.tg_app.proofs.AuditEndings.{audit_quiet, no_audit_usage, unaudited}
 use Rattle.tg_app.proofs.ServeEndings.{no_serve_usage, serve_quiet}
 use Rattle.tg_app.proofs.FetchEndings.{fetch_fault, fetch_quiet, no_fetch_usage}
+use Rattle.tg_app.proofs.Segments.{no_segment}
 use Rattle.tg_app.proofs.Statuses.{differs, not_zero}
 use Rattle.tg_app.proofs.VerifyEndings.{no_verify_usage, unverified, verify_fault, verify_quiet}
 
@@ -454,6 +457,23 @@ nowhere_of path q step same out (Some refusal) e (inl refused) =
     record { fault = refused.fault; nowhere = nine_refused refused.fault refusal e refused.tells; ends = refused.ends }
 nowhere_of path q step same out (Some refusal) e (inr (inl none)) = let k = sym (ap status_of none.is) ∙ e in cc
 nowhere_of path q step same out (Some refusal) e (inr (inr unbegun)) = let k = sym (ap status_of unbegun.is) ∙ e in cc
+
+-- of a pack that tells its content nothing was put
+nothing_by : (q : QueryParts) (step : PackStep) (out : Output) (fault : ExportFault) → LeadsNowhere fault → IsSome step.content_old → ExportEnds q step out (Err fault) → OutputUntouched out
+nothing_by q step out (exports.Resolve paths.NoRoot) nowhere told ends = record { unput = ends.ends.0.unput; quiet = ends.ends.0.quiet }
+nothing_by q step out (exports.Resolve (paths.NotThere segment)) nowhere told ends = record { unput = ends.ends.0.unput; quiet = ends.ends.0.quiet }
+nothing_by q step out (exports.Resolve (paths.NotFolder segment)) nowhere told ends = record { unput = ends.ends.0.unput; quiet = ends.ends.0.quiet }
+nothing_by q step out (exports.Walk (walks.NotThere segment)) nowhere told ends =
+    absurd (no_segment q ends.ends.sections (not_there segment) step.content_old ends.told (λ at. at) told ends.attached ends.ends.is_so)
+nothing_by q step out (exports.Walk (walks.NotFolder segment)) nowhere told ends =
+    absurd (no_segment q ends.ends.sections (not_folder segment) step.content_old ends.told (λ at. at) told ends.attached ends.ends.is_so)
+nothing_by q step out fault nowhere told ends = absurd nowhere
+
+pub export_nothing_of : (path : List ℕ) (q : QueryParts) (step : PackStep) (same : Type 0) (out : Output) (end : Option CommandFault) → exit_status end ≡ 9 → IsSome step.content_old
+    → ExportAnswers path q step same out end → OutputUntouched out
+export_nothing_of path q step same out end e told ends =
+    let nothing = nowhere_of path q step same out end e ends in
+    nothing_by q step out nothing.fault nothing.nowhere told nothing.ends
 
 -- want of memory alone is left
 else_8 : (q : QueryParts) (step : PackStep) (out : Output) (fault : ExportFault) (refusal : CommandFault) → (IsRisen step → ⊥) → (OutputRose out → ⊥)

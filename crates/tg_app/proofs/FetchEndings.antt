@@ -1,33 +1,40 @@
 -- What each exit status says of `fetch`.
-use Rattle.std.proofs.Common.{◌+◌, ◌<◌, ◌≡◌, ◌≢◌, ◌⊎◌, ◌∙◌, Err, List, Ok, Option, Some, ap, arith, inl, inr, nat_eq, false, refl, suc, sym, subst, true, zero, ℕ}
+use Rattle.std.proofs.Common.{◌+◌, ◌<◌, ◌≡◌, ◌≢◌, ◌⊎◌, ◌∙◌, Bool, Err, List, [], Ok, Option, Some, ap, arith, inl, inr, nat_eq, false, refl, suc, sym, subst, true, zero, ℕ}
 use Rattle.std.specs.Prelude.{Result, ⊤, ◌^◌}
 use Rattle.tg_app.proofs.Statuses.{differs, not_zero}
-use Rattle.tg_app.proofs.VerifyEndings.{has_status, status_for}
+use Rattle.tg_app.proofs.VerifyEndings.{ended_none, has_status, refused_none, status_for, unput_of}
+use Rattle.tg_app.specs.Blocks.{OutputUntouched}
 use Rattle.tg_app.specs.Fetches.{Fetched, FetchedStatus, FetchAnswers, IsFetchEnd, IsFetchRefusal, IsGoodReply, SaysFetchLine, VouchedFetch}
 use Rattle.tg_app.specs.Lines.{Says, exit_status, status_of}
 use Rattle.tg_app.specs.Verify.{IsNoAnswer, ShowsSome}
 use Rattle.tg_app.specs.declared.fault.CommandFault.{CommandFault}
 use Rattle.tg_app.specs.declared.fault.CommandFault.TheVariants as refusals
+use Rattle.tg_client.specs.Body.{unknown}
+use Rattle.tg_client.specs.declared.fault.ClientFault.{ClientFault}
 use Rattle.tg_client.specs.declared.fault.ClientFault.TheVariants as clients
 use Rattle.tg_dials.specs.Dials.{DialRose, Dialling}
 use Rattle.tg_faults.specs.Faults.{Rose}
-use Rattle.tg_fetch.specs.Bodies.{SaysOf}
-use Rattle.tg_fetch.specs.Calls.{FetchEnds, LinkCalled}
-use Rattle.tg_fetch.specs.Faults.{QuietUnlessSink}
+use Rattle.tg_fetch.specs.Bodies.{BodyFails, BodyStops, SaysOf}
+use Rattle.tg_fetch.specs.Calls.{FetchEnds, HeardBy, LinkCalled}
+use Rattle.tg_fetch.specs.Faults.{QuietUnlessSink, fault_of_client, fault_of_refusal}
 use Rattle.tg_fetch.specs.Laws.{IsAcceptedElse}
 use Rattle.tg_fetch.specs.Received.{SaysOfCall}
+use Rattle.tg_fetch.specs.Replies.{RefusedBy}
 use Rattle.tg_fetch.specs.declared.fault.FetchFault.{FetchFault}
 use Rattle.tg_fetch.specs.declared.fault.FetchFault.TheVariants as faults
+use Rattle.tg_http.specs.declared.reply.ReplyHead.{ReplyHead}
 use Rattle.tg_links.specs.Steps.{LinkRose, LinkStep}
-use Rattle.tg_links.specs.Views.{is_failed}
+use Rattle.tg_links.specs.Views.{between, is_failed}
 use Rattle.tg_model.specs.Dag.{Dag, Section, root_cid}
 use Rattle.tg_model.specs.Fits.{CollisionPair}
 use Rattle.tg_model.specs.LimitNumbers.{LimitNumbers, standard}
 use Rattle.tg_model.specs.Queries.{QueryParts}
 use Rattle.tg_model.specs.Sound.{IsSound}
-use Rattle.tg_streams.specs.Streams.{Output, OutputQuiet, OutputRose, Put}
+use Rattle.tg_streams.specs.Streams.{Output, OutputQuiet, OutputRose, Put, Unput}
+use Rattle.tg_traversal_laws.specs.Verified.{VerifiedMisses}
 use Rattle.tg_verify.specs.Laws.{AnswerIsFront}
 use Rattle.tg_verify.specs.Sound.{IsItsAnswer, IsItsFront}
+use Rattle.tg_verify.specs.declared.fault.Refusal.{Refusal}
 use Rattle.tg_verify.specs.declared.fault.Refusal.TheVariants as verifiers
 use Rattle.tg_words.specs.FetchLines.{FetchParts}
 
@@ -172,7 +179,9 @@ link_rose q limits addr link out (inr front) = front.why
 
 -- a fault of the peer is one of the dial, or of the link that was given back to it
 peer_rose : (q : QueryParts) (limits : LimitNumbers) (addr : List ℕ) (dial : Dialling) (out : Output) → FetchEnds q limits addr dial out (Err faults.PeerFault) → DialRose dial
-peer_rose q limits addr dial out (inl call) = call.hung_up.failed (failed_by call.link.faults (link_rose q limits addr _ out call.called))
+peer_rose q limits addr dial out (inl call) =
+    let rose = link_rose q limits addr (between call.made call.link) out call.called in
+    call.hung_up.failed (failed_by call.link.faults (subst (λ (n : ℕ). Rose n call.link.faults) call.is_new.faults rose))
 peer_rose q limits addr dial out (inr missed) = missed.rose
 
 dial_by : (parts : FetchParts) (dial : Dialling) (out : Output) (result : Result ⊤ FetchFault) (end : Option CommandFault) → exit_status end ≡ 5 → IsFetchEnd result end
@@ -184,6 +193,71 @@ dial_by parts dial out (Err fault) end e is ends =
 
 pub fetch_rose_of : (parts : FetchParts) (dial : Dialling) (out : Output) (end : Option CommandFault) → exit_status end ≡ 5 → FetchAnswers parts dial out end → DialRose dial
 fetch_rose_of parts dial out end e h = dial_by parts dial out h.result end e h.end_is h.ends
+
+-- ---- status 9
+
+client_9 : (fault : ClientFault) → fetch_status (fault_of_client fault) ≡ 9 → status_for fault ≡ 9
+client_9 (clients.Refused fault) e = e
+client_9 fault e = cc
+
+refusal_9 : (fault : Refusal) → fetch_status (fault_of_refusal fault) ≡ 9 → status_for (clients.Refused fault) ≡ 9
+refusal_9 verifiers.OutOfMemory e = cc
+refusal_9 fault e = e
+
+-- a fault of another status
+not_9 : (fault other : FetchFault) → nat_eq (fetch_status other) 9 ≡ false → fetch_status fault ≡ 9 → fault ≡ other → ⊥
+not_9 fault other apart e is = differs (fetch_status other) 9 apart (sym (ap fetch_status is) ∙ e)
+
+module _ (misses : VerifiedMisses) (q : QueryParts) (limits : LimitNumbers) (sections : List Section) (text : List ℕ) (fault : FetchFault) (e : fetch_status fault ≡ 9) where
+  stopped_none : (head : ReplyHead) (bytes : List ℕ) → BodyStops q limits head bytes sections text fault → text ≡ []
+  stopped_none head bytes (BodyStops.answer h) =
+      ended_none misses q limits sections text unknown h.are_heard.heard h.are_heard.unheard h.cause (client_9 h.cause (sym (ap fetch_status h.fault_is) ∙ e)) h.ends
+  stopped_none head bytes (BodyStops.absence h) = h.no_text
+  stopped_none head bytes (BodyStops.reaches h) = h.no_text
+  stopped_none head bytes (BodyStops.block h) = h.no_text
+
+  failed_none : (head : ReplyHead) (body : List ℕ) → BodyFails q limits head body sections text fault → text ≡ []
+  failed_none head body (BodyFails.answer h) = absurd (not_9 fault _ refl e h.fault_is)
+  failed_none head body (BodyFails.absence h) = h.no_text
+  failed_none head body (BodyFails.reaches h) = h.no_text
+  failed_none head body (BodyFails.block h) =
+      refused_none misses q limits sections text h.cause (refusal_9 h.cause (sym (ap fetch_status h.fault_is) ∙ e)) h.refused
+
+  reply_none : (heard unheard : List ℕ) (ended : Bool) → RefusedBy q limits heard unheard ended sections text fault → text ≡ []
+  reply_none heard unheard ended (RefusedBy.bad_head is bad no_section no_text) = no_text
+  reply_none heard unheard ended (RefusedBy.cut_head is over no_more front no_section no_text) = no_text
+  reply_none heard unheard ended (RefusedBy.at_head stops no_section no_text) = no_text
+  reply_none heard unheard ended (RefusedBy.in_body h) = stopped_none h.head h.given h.stops
+  reply_none heard unheard ended (RefusedBy.at_end h) = failed_none h.head h.given h.fails
+  reply_none heard unheard ended (RefusedBy.breaks is h) = absurd (not_9 fault _ refl e is)
+  reply_none heard unheard ended (RefusedBy.cut_body is over no_more h) = absurd (not_9 fault _ refl e is)
+  reply_none heard unheard ended (RefusedBy.past is h) = absurd (not_9 fault _ refl e is)
+  reply_none heard unheard ended (RefusedBy.memory is h) = absurd (not_9 fault _ refl e is)
+
+module _ (misses : VerifiedMisses) (q : QueryParts) (limits : LimitNumbers) (out : Output) where
+  heard_none : (heard : List ℕ) (over : Bool) (fault : FetchFault) → fetch_status fault ≡ 9 → HeardBy q limits heard over out (Err fault) → Unput out
+  heard_none heard over (faults.Refused fault) e h =
+      unput_of h.text out (reply_none misses q limits h.sections h.text (faults.Refused fault) e h.front h.more h.ended h.refused) h.put
+  heard_none heard over fault e h = cc
+
+  link_none : (addr : List ℕ) (link : LinkStep) (fault : FetchFault) → fetch_status fault ≡ 9 → LinkCalled q limits addr link out (Err fault) → Unput out
+  link_none addr link fault e (inl whole) = heard_none whole.heard link.over_new fault e whole.ends
+  link_none addr link fault e (inr front) = unput_of [] out refl front.unput
+
+  dial_none : (addr : List ℕ) (dial : Dialling) (fault : FetchFault) → fetch_status fault ≡ 9 → FetchEnds q limits addr dial out (Err fault) → Unput out
+  dial_none addr dial fault e (inl call) = link_none addr _ fault e call.called
+  dial_none addr dial fault e (inr missed) = unput_of [] out refl missed.unput
+
+nothing_by : VerifiedMisses → (parts : FetchParts) (dial : Dialling) (out : Output) (result : Result ⊤ FetchFault) (end : Option CommandFault) → exit_status end ≡ 9 → IsFetchEnd result end
+    → FetchEnds parts.query standard parts.addr dial out result → Unput out
+nothing_by misses parts dial out (Ok done) end e is ends = absurd (done_is 9 done end refl e is)
+nothing_by misses parts dial out (Err fault) end e is ends = dial_none misses parts.query standard out parts.addr dial fault (fault_has 9 fault end refl e is) ends
+
+pub fetch_nothing_of : VerifiedMisses → (parts : FetchParts) (dial : Dialling) (out : Output) (end : Option CommandFault) → exit_status end ≡ 9 → FetchAnswers parts dial out end → OutputUntouched out
+fetch_nothing_of misses parts dial out end e h = record {
+  unput = nothing_by misses parts dial out h.result end e h.end_is h.ends;
+  quiet = fetch_quiet parts dial out end (λ six. differs 9 6 refl (sym e ∙ six)) h;
+}
 
 -- ---- a good reply
 
@@ -214,14 +288,10 @@ front_by law q d sections text (Ok done) says = law q d sections text says
 front_by law q d sections text (Err fault) says = says.0
 
 nowhere_at_9 : (q : QueryParts) (d : Dag) (sections : List Section) (fault : FetchFault) → fetch_status fault ≡ 9 → SaysOf q d sections fault → IsNoAnswer q d ⊎ CollisionPair sections d
-nowhere_at_9 q d sections (faults.Refused (verifiers.NotThere segment)) e (inl (inl leads)) = inl (inl (segment, leads))
-nowhere_at_9 q d sections (faults.Refused (verifiers.NotThere segment)) e (inl (inr pair)) = inr pair
-nowhere_at_9 q d sections (faults.Refused (verifiers.NotThere segment)) e (inr (inl leads)) = inl (inl (segment, leads))
-nowhere_at_9 q d sections (faults.Refused (verifiers.NotThere segment)) e (inr (inr pair)) = inr pair
-nowhere_at_9 q d sections (faults.Refused (verifiers.NotFolder segment)) e (inl (inl leads)) = inl (inr (segment, leads))
-nowhere_at_9 q d sections (faults.Refused (verifiers.NotFolder segment)) e (inl (inr pair)) = inr pair
-nowhere_at_9 q d sections (faults.Refused (verifiers.NotFolder segment)) e (inr (inl leads)) = inl (inr (segment, leads))
-nowhere_at_9 q d sections (faults.Refused (verifiers.NotFolder segment)) e (inr (inr pair)) = inr pair
+nowhere_at_9 q d sections (faults.Refused (verifiers.NotThere segment)) e (inl leads) = inl (inl (segment, leads))
+nowhere_at_9 q d sections (faults.Refused (verifiers.NotThere segment)) e (inr pair) = inr pair
+nowhere_at_9 q d sections (faults.Refused (verifiers.NotFolder segment)) e (inl leads) = inl (inr (segment, leads))
+nowhere_at_9 q d sections (faults.Refused (verifiers.NotFolder segment)) e (inr pair) = inr pair
 nowhere_at_9 q d sections (faults.Refused fault) e says = cc
 nowhere_at_9 q d sections fault e says = cc
 

@@ -2,6 +2,7 @@ mod Statuses
 mod AuditEndings
 mod Endings
 mod ExportSteps
+mod Segments
 mod ImportSteps
 mod VerifyEndings
 mod FetchEndings

@@ -1,14 +1,14 @@
 -- What a run says, from how its words end.
 use Rattle.std.proofs.Common.{Option, ap, inl, inr, refl, subst, sym, ◌∙◌, ◌≡◌, ◌⊎◌, ℕ}
 use Rattle.tg_app.proofs.AuditEndings.{audited_of, denied_of}
-use Rattle.tg_app.proofs.Endings.{agrees, answered_of, checked_of, did_of, ends_of, export_answered_of, exported_of, fault_of, import_answered_of, imported_of, kept_dial_of, kept_door_of, kept_of}
+use Rattle.tg_app.proofs.Endings.{agrees, answered_of, checked_of, did_of, ends_of, export_answered_of, export_nothing_of, exported_of, fault_of, import_answered_of, imported_of, kept_dial_of, kept_door_of, kept_of}
 use Rattle.tg_app.proofs.Endings.{memory_isnt, memory_of, node_answered_of, node_other_of, noded_of, nowhere_of, other_of, passed_of, printed_of, quiet_of, refused_of, untouched_of, usage_of}
-use Rattle.tg_app.proofs.FetchEndings.{fetch_answered_of, fetch_other_of, fetch_rose_of, fetch_vouched_of, fetched_of}
+use Rattle.tg_app.proofs.FetchEndings.{fetch_answered_of, fetch_nothing_of, fetch_other_of, fetch_rose_of, fetch_vouched_of, fetched_of}
 use Rattle.tg_app.proofs.OwnCars.{AttachAlike, own_car_of}
 use Rattle.tg_app.proofs.OwnAnswers.{AnswerTexts, own_answer_of}
 use Rattle.tg_app.proofs.OwnDone.{DoneLaws, has_answer}
 use Rattle.tg_app.proofs.ServeEndings.{NoneCaused, door_fault_of, serve_answered_of, served_of}
-use Rattle.tg_app.proofs.VerifyEndings.{verified_of, verify_answered_of, vouched_of}
+use Rattle.tg_app.proofs.VerifyEndings.{verified_of, verify_answered_of, verify_nothing_of, vouched_of}
 use Rattle.tg_app.specs.Check.{CheckStatus}
 use Rattle.tg_app.specs.CidLines.{HexLine, TextLine}
 use Rattle.tg_app.specs.Commands.{CommandEnds, Ends, NoMemoryEnds, UsesNoDial}
@@ -20,6 +20,7 @@ use Rattle.tg_cid.specs.Cid.{CidParts}
 use Rattle.tg_model.specs.Queries.{QueryParts}
 use Rattle.tg_model_laws.specs.Depths.{CutsAtDepths, ShowsDownTo}
 use Rattle.tg_streams.specs.Streams.{Put}
+use Rattle.tg_traversal_laws.specs.Verified.{VerifiedMisses}
 use Rattle.tg_verify.specs.Laws.{AnswerIsFront, ThroughFits}
 use Rattle.tg_words.specs.AuditLines.{AuditParts}
 use Rattle.tg_words.specs.ExportLines.{ExportParts}
@@ -30,7 +31,7 @@ use Rattle.tg_words.specs.declared.Command.{Command}
 use Rattle.tg_words.specs.declared.Command.TheVariants.{Audit, Check, CidToHex, CidToText, Export, Fetch, Import, Node, Serve, Verify}
 
 -- how the words of a run end, its status and its line
-module _ (run : Run) (end : Option CommandFault) (through : ThroughFits) (front : AnswerIsFront)
+module _ (run : Run) (end : Option CommandFault) (through : ThroughFits) (front : AnswerIsFront) (misses : VerifiedMisses)
     (cuts : CutsAtDepths) (shows : ShowsDownTo) (alike : AttachAlike) (uncaused : NoneCaused) (texts : AnswerTexts) (dones : DoneLaws)
     (status : run.status ≡ exit_status end) (line : Says end run.err) (ends : Ends run.words run.objects end) where
   by : (command : Command) → UsesNoDial command → Asks run command → CommandEnds command run.objects end
@@ -98,6 +99,7 @@ module _ (run : Run) (end : Option CommandFault) (through : ThroughFits) (front 
         ends = (end, status, did, line);
         exported = λ zero. exported_of parts.pack parts.query pack same run.objects.out end (has zero) did.2;
         nowhere = λ nine. nowhere_of parts.pack parts.query pack same run.objects.out end (has nine) did.2;
+        nothing = λ nine told. export_nothing_of parts.pack parts.query pack same run.objects.out end (has nine) told did.2;
         answered = λ answer no_pack no_out. subst (λ (n : ℕ). (n ≡ 8) ⊎ (n ≡ 0)) (sym status)
             (export_answered_of parts.pack parts.query pack same run.objects.out end answer no_pack no_out did.2);
         own_car = λ d text held sound root answers few zero. own_car_of dones.beside cuts shows parts.query d sound root alike text answers few run.objects.out parts.pack pack held
@@ -123,6 +125,7 @@ module _ (run : Run) (end : Option CommandFault) (through : ThroughFits) (front 
       record {
         ends = (end, status, did, line);
         verified = λ zero. verified_of q run.objects.input run.objects.out end through (has zero) did.1;
+        nothing = λ nine. verify_nothing_of misses q run.objects.input run.objects.out end (has nine) did.1;
         answered = λ bytes told good none. subst (λ (n : ℕ). (n ≡ 8) ⊎ (n ≡ 0)) (sym status)
             (verify_answered_of q bytes run.objects.input run.objects.out end told good none.input none.out did.1);
         own_answer = λ d text bytes told its zero. own_answer_of texts q d text bytes run.objects.input run.objects.out end (has zero) did.1 told its;
@@ -153,6 +156,7 @@ module _ (run : Run) (end : Option CommandFault) (through : ThroughFits) (front 
             fetched = λ zero. absurd (memory_isnt run.objects end 0 refl (has zero) memory);
             other = λ four. absurd (memory_isnt run.objects end 4 refl (has four) memory);
             dial_fault = λ five. absurd (memory_isnt run.objects end 5 refl (has five) memory);
+            nothing = λ nine. absurd (memory_isnt run.objects end 9 refl (has nine) memory);
             answered = λ text good no_dial no_out. inl eight;
             vouched_answer = λ d sound root. inl (eight, memory.untouched);
           }
@@ -164,6 +168,7 @@ module _ (run : Run) (end : Option CommandFault) (through : ThroughFits) (front 
             fetched = λ zero. fetched_of parts dial out end (has zero) did.2;
             other = λ four. fetch_other_of parts dial out end (has four) did.2;
             dial_fault = λ five. fetch_rose_of parts dial out end (has five) did.2;
+            nothing = λ nine. fetch_nothing_of misses parts dial out end (has nine) did.2;
             answered = λ text good no_dial no_out. subst (λ (n : ℕ). (n ≡ 8) ⊎ ((n ≡ 0) × Put text out)) (sym status)
                 (fetch_answered_of parts dial out end text good no_dial no_out did.2);
             vouched_answer = λ d sound root. inr (fetch_vouched_of front parts d dial out run.err run.status end sound root status line did.2);

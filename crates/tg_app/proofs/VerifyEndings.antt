@@ -1,28 +1,33 @@
 -- What each exit status says of `verify`.
 use Rattle.std.proofs.Common.{◌≡◌, ◌≢◌, ℕ, ◌⊎◌, inl, inr, List, [], ◌∷◌, ◌++◌, Option, Some, None, Err, refl, sym, ap, ◌∙◌, subst, append-nil, arith, rules}
 use Rattle.std.specs.Prelude.{Ok, Result, ⊤}
-use Rattle.tg_app.specs.Blocks.{Untouched}
+use Rattle.tg_app.specs.Blocks.{OutputUntouched, Untouched}
 use Rattle.tg_app.specs.Lines.{Says, exit_status, status_of}
 use Rattle.tg_app.specs.Verify.{IsGoodCar, IsNoAnswer, IsVerifyRefusal, NotAccepted, SaysLine, ShowsSome, TellsVerify, VerifiedInput, VerifyEnds, Vouched}
 use Rattle.tg_app.specs.declared.fault.CommandFault.{CommandFault}
 use Rattle.tg_app.specs.declared.fault.CommandFault.TheVariants.{OutOfMemory, Usage}
-use Rattle.tg_app.proofs.Statuses.{not_zero}
+use Rattle.tg_app.proofs.Statuses.{differs, not_zero}
 use Rattle.tg_bytes.specs.Told.{after_front, grown}
 use Rattle.tg_car.specs.CarText.{header_map}
 use Rattle.tg_car.specs.Fronts.{IsInHeader}
-use Rattle.tg_client.specs.Ends.{HasStreamCause, IsOwnEnd, SaysFor, Verifies}
+use Rattle.tg_client.specs.Ends.{EndsBy, HasStreamCause, IsOwnEnd, SaysFor, Verifies}
 use Rattle.tg_client.specs.declared.fault.ClientFault.{ClientFault}
 use Rattle.tg_client.specs.declared.fault.ClientFault.TheVariants as clients
 use Rattle.tg_model.specs.Answer.{answer}
 use Rattle.tg_model.specs.Dag.{Dag, Section, root_cid}
 use Rattle.tg_model.specs.Fits.{CollisionPair, IsFrontOfAnswer}
-use Rattle.tg_model.specs.LimitNumbers.{standard}
+use Rattle.tg_model.specs.LimitNumbers.{LimitNumbers, standard}
 use Rattle.tg_model.specs.Queries.{QueryParts}
 use Rattle.tg_model.specs.Sound.{IsSound}
 use Rattle.tg_model.specs.declared.limits.LimitKind.TheVariants as kinds
-use Rattle.tg_streams.specs.Streams.{Input, InputQuiet, InputRose, Output, OutputQuiet, OutputRose, Took}
+use Rattle.tg_streams.specs.Streams.{Input, InputQuiet, InputRose, Output, OutputQuiet, OutputRose, Put, Took, Unput}
+use Rattle.tg_traversal_laws.specs.Tasks.{Miss, no_directory, no_entry}
+use Rattle.tg_traversal_laws.specs.Verified.{VerifiedMisses}
 use Rattle.tg_verify.specs.Laws.{AnswerIsFront, ThroughFits}
+use Rattle.tg_verify.specs.Refusals.{HasRefused}
 use Rattle.tg_verify.specs.Sound.{IsItsAnswer, IsItsFront}
+use Rattle.tg_verify.specs.Taken.{IsNowhere}
+use Rattle.tg_verify.specs.declared.fault.Refusal.{Refusal}
 use Rattle.tg_verify.specs.declared.fault.Refusal.TheVariants as verifiers
 
 -- ---- the status of each fault
@@ -136,6 +141,48 @@ verified_of q input out None law e ends =
       sound = did.sound;
     }
 verified_of q input out (Some refusal) law e ends = absurd (not_zero refusal e)
+
+-- ---- status 9
+
+-- bytes that are none
+none_held : (old new : Option (List ℕ)) → new ≡ grown old [] → new ≡ old
+none_held None new e = e
+none_held (Some held) new e = e ∙ ap Some (append-nil held)
+
+pub unput_of : (text : List ℕ) (out : Output) → text ≡ [] → Put text out → Unput out
+unput_of text out none put =
+    let nothing : Put [] out = subst (λ (bytes : List ℕ). Put bytes out) none put in
+    record { moved = nothing.moved; held = none_held out.held_old out.held_new nothing.held }
+
+-- where a segment leads nowhere no text was given before it
+module _ (misses : VerifiedMisses) (q : QueryParts) (limits : LimitNumbers) (sections : List Section) (text : List ℕ) where
+  no_text : (miss : Miss) → IsNowhere q sections text miss → text ≡ []
+  no_text miss h = h.text ∙ (misses q sections h.given miss h.later h.verified).nothing
+
+  pub refused_none : (fault : Refusal) → status_for (clients.Refused fault) ≡ 9 → HasRefused q limits sections text fault → text ≡ []
+  refused_none (verifiers.NotThere segment) e h = no_text (no_entry segment) h
+  refused_none (verifiers.NotFolder segment) e h = no_text (no_directory segment) h
+  refused_none fault e h = cc
+
+  pub ended_none : (input : Input) (heard unheard : List ℕ) (fault : ClientFault) → status_for fault ≡ 9 → EndsBy q limits input heard unheard sections text (Err fault) → text ≡ []
+  ended_none input heard unheard (clients.Refused (verifiers.NotThere segment)) e h = no_text (no_entry segment) h
+  ended_none input heard unheard (clients.Refused (verifiers.NotFolder segment)) e h = no_text (no_directory segment) h
+  ended_none input heard unheard (clients.Refused fault) e h = cc
+  ended_none input heard unheard fault e h = cc
+
+nine_for : (fault : ClientFault) (refusal : CommandFault) → status_of refusal ≡ 9 → HasStatus fault refusal → status_for fault ≡ 9
+nine_for fault refusal e (inl h) = sym h ∙ e
+nine_for fault refusal e (inr h) = let k = sym h.1 ∙ e in cc
+
+pub verify_nothing_of : VerifiedMisses → (q : QueryParts) (input : Input) (out : Output) (end : Option CommandFault) → exit_status end ≡ 9 → VerifyEnds q input out end → OutputUntouched out
+verify_nothing_of misses q input out None e ends = cc
+verify_nothing_of misses q input out (Some refusal) e ends =
+    let did = ends.verifies in
+    let nine = nine_for ends.fault refusal e (has_status ends.fault refusal ends.tells) in
+    record {
+      unput = unput_of did.text out (ended_none misses q standard did.sections did.text input did.heard did.unheard ends.fault nine did.ends) did.put;
+      quiet = (verify_quiet q input out (Some refusal) (λ six. differs 9 6 refl (sym e ∙ six)) ends).1;
+    }
 
 -- ---- a good CAR
 

@@ -87,7 +87,7 @@ pub record FetchedStatus (parts : FetchParts) (dial : Dialling) (out : Output) :
   pub status : ℕ
   pub ends : FetchEnds parts.query standard parts.addr dial out (Err (faults.Status status))
 
--- what the line on err says of a DAG: of blocks that were received, as for `verify`, for the query or for those on its path
+-- what the line on err says of a DAG: of blocks that were received, as for `verify`
 abbrev pub SaysFetchLine : QueryParts → Dag → List Section → Result ⊤ FetchFault → Type 0
 SaysFetchLine q d sections (Ok done) = ⊤
 SaysFetchLine q d sections (Err fault) = SaysOf q d sections fault

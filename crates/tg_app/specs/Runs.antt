@@ -1,5 +1,5 @@
 -- What `run` says of one run: how the words end, and for each command what each exit status says.
-use Rattle.std.specs.Prelude.{List, Some, ℕ, ◌≡◌, ◌≢◌, ◌≤◌, ◌⊎◌}
+use Rattle.std.specs.Prelude.{IsSome, List, Some, ℕ, ◌≡◌, ◌≢◌, ◌≤◌, ◌⊎◌}
 use Rattle.tg_app.specs.Audits.{AuditDenied}
 use Rattle.tg_app.specs.Blocks.{InputUntouched, OutputUntouched, PassedLimit}
 use Rattle.tg_app.specs.Check.{Agrees, CheckEnds, CheckStatus, Checked, CheckedOther}
@@ -118,6 +118,8 @@ pub record ExportRun (parts : ExportParts) (run : Run) : Type 0 where
   pub ends : EndsAs (Export parts) run
   pub exported : run.status ≡ 0 → Exported parts.pack parts.query run.objects.files.pack run.objects.out
   pub nowhere : run.status ≡ 9 → ExportedNothing parts.query run.objects.files.pack run.objects.out
+  -- and of a pack that tells its content nothing was put then
+  pub nothing : run.status ≡ 9 → IsSome run.objects.files.pack.content_old → OutputUntouched run.objects.out
   -- where the content has all of it, none too deep, no fault is counted and memory is found, it is 0
   pub answered : HasAnswer parts.query run.objects.files.pack.content_old → (IsRisen run.objects.files.pack → ⊥)
       → (OutputRose run.objects.out → ⊥) → (run.status ≡ 8) ⊎ (run.status ≡ 0)
@@ -147,6 +149,8 @@ pub record ImportRun (parts : ImportParts) (run : Run) : Type 0 where
 pub record VerifyRun (q : QueryParts) (run : Run) : Type 0 where
   pub ends : EndsAs (Verify q) run
   pub verified : run.status ≡ 0 → VerifiedInput q run.objects.input run.objects.out
+  -- at 9 the path leads nowhere, and nothing was put
+  pub nothing : run.status ≡ 9 → OutputUntouched run.objects.out
   -- a good CAR, where no fault is counted and memory is found, is accepted
   pub answered : (bytes : List ℕ) → run.objects.input.left_old ≡ Some bytes → IsGoodCar q bytes → NoStreamRose run
       → (run.status ≡ 8) ⊎ (run.status ≡ 0)
@@ -182,6 +186,8 @@ pub record FetchRun (parts : FetchParts) (run : Run) : Type 0 where
   -- at 4 it is a reply of another status; at 5 a fault of the dial or of its link was counted
   pub other : run.status ≡ 4 → FetchedStatus parts run.objects.dial.dialling run.objects.out
   pub dial_fault : run.status ≡ 5 → DialRose run.objects.dial.dialling
+  -- at 9 the path leads nowhere, and nothing was put
+  pub nothing : run.status ≡ 9 → OutputUntouched run.objects.out
   -- a reply that carries the sections of a sound DAG's own traversal, or sections that fit, is accepted where no fault is
   -- counted and memory is found, and out grows by their text
   pub answered : (text : List ℕ) → IsGoodReply parts.query run.objects.dial.dialling text → (DialRose run.objects.dial.dialling → ⊥)

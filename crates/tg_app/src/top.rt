@@ -78,6 +78,7 @@ pub fn run<F: Folder, P: Pack, L: Door, D: Dial, I: Source, O: Sink, E: Sink, W:
     tg_store::laws::one_cause();
     tg_traversal_laws::beside_dags();
     tg_traversal_laws::store_walks();
+    tg_traversal_laws::verified_sections();
     tg_verify::laws::verified_answers();
     let end = command(alloc, words, folder, pack, door, dial, input, out, watch);
     tell(&end, err)
