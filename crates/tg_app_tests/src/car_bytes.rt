@@ -1,11 +1,11 @@
 //! `verify` over the CAR of the file `hello world` in chunks of 4 bytes, of which bytes are cut, changed or added,
 //! and over streams that fail.
 use crate::cars::{car_of, sent_of};
-use crate::known::{BLOCK_LIMIT, F, HELLO, INPUT_FAULT, SINK_FAULT};
+use crate::known::{BLOCK_LIMIT, F, HELLO};
 use std::alloc::{AllocError, Global};
 use std::rt::HostRuntime;
 use tg_bytes::Bytes;
-use tg_runs::{Failing, NONE, Outcome, run_over_streams};
+use tg_runs::{NONE, run_over_streams};
 use tg_test_dags::{Shape, raw_cid};
 
 /// The file's CAR of 363 bytes: a header of 59, then sections up to 241, 282, 323 and 363. There is none for want of
@@ -207,84 +207,5 @@ fn all_end_so(alloc: Global, car: &[u8], cut: &Cut) -> bool {
 fn each_cut_ends_so(rt: HostRuntime) {
     for cut in CUTS {
         assert!(rt; cuts_end_so(rt.alloc(), cut), "{cut:?}");
-    }
-}
-
-/// The calls of a run: takes of the input, or puts into out.
-#[derive(Clone, Copy, Debug)]
-enum Calls {
-    Takes,
-    Puts,
-}
-
-/// A run over the CAR in pieces of 16 bytes, in which the call with this number fails.
-fn run_failing(
-    alloc: Global,
-    car: &[u8],
-    calls: Calls,
-    number: u64,
-) -> Result<Outcome, AllocError> {
-    run_over_streams(alloc, &["verify", F], car, 16, failing_of(calls, &[number]))
-}
-
-/// The calls with these numbers fail.
-fn failing_of(calls: Calls, numbers: &[u64]) -> Failing<'_> {
-    match calls {
-        Calls::Takes => [numbers, &[], &[]],
-        Calls::Puts => [&[], numbers, &[]],
-    }
-}
-
-/// The calls, how many there are, and what stands on err where one of them fails.
-type FaultRow = (Calls, u64, &'static str);
-
-// 23 takes of 16 bytes at most give the CAR, and the one behind them its end; three puts give the answer.
-const FAULTS: &[FaultRow] = &[
-    (Calls::Takes, 24, INPUT_FAULT),
-    (Calls::Puts, 3, SINK_FAULT),
-];
-
-/// Whether the call with this number that fails is told with a front of the answer.
-fn is_told(alloc: Global, car: &[u8], calls: Calls, number: u64, line: &str) -> bool {
-    match run_failing(alloc, car, calls, number) {
-        Ok(done) => {
-            done.status == 6
-                && done.err.as_slice() == line.as_bytes()
-                && HELLO.starts_with(done.out.as_slice())
-        }
-        Err(_) => false,
-    }
-}
-
-/// Whether a run has no call with this number.
-fn is_no_call(alloc: Global, car: &[u8], calls: Calls, number: u64) -> bool {
-    match run_failing(alloc, car, calls, number) {
-        Ok(done) => done.is(0, HELLO, ""),
-        Err(_) => false,
-    }
-}
-
-/// Whether each call that fails is told, and there is no further one.
-fn faults_are_told(alloc: Global, row: &FaultRow) -> bool {
-    match hello_car(alloc) {
-        Some(car) => each_is_told(alloc, car.as_slice(), row),
-        None => false,
-    }
-}
-
-fn each_is_told(alloc: Global, car: &[u8], row: &FaultRow) -> bool {
-    let (calls, count, line) = *row;
-    for number in 0..count {
-        if !is_told(alloc, car, calls, number, line) {
-            return false;
-        }
-    }
-    is_no_call(alloc, car, calls, count)
-}
-
-#[test]
-fn each_call_fails_in_turn(rt: HostRuntime) {
-    for row in FAULTS {
-        assert!(rt; faults_are_told(rt.alloc(), row), "{row:?}");
     }
 }

@@ -193,51 +193,6 @@ fn ends_so(alloc: Global, row: &Row, piece: usize) -> bool {
     }
 }
 
-/// How many calls of the door and its links the row takes at most.
-const CALLS: u64 = 60;
-
-/// Whether each link was said a front of this, and all of it where none of its calls failed.
-fn are_fronts(served: &Served, said: &[(&str, bool)]) -> bool {
-    match served.calls() {
-        Some(calls) => calls.as_slice().iter().zip(said).all(|(call, (said, _))| {
-            said.as_bytes().starts_with(call.said.as_slice())
-                && (call.failed || call.said.as_slice().len() == said.len())
-        }),
-        None => false,
-    }
-}
-
-/// How a run ends where the call of the door or of a link with this number fails: 0 where none did.
-fn ends_in(alloc: Global, call: u64, piece: usize) -> Option<u8> {
-    let words = ["serve", "pack", "--port", "8080", "--count", "2"];
-    let failing: Failing<'_> = [&[call], &[], &[]];
-    match run_over_door(alloc, &words, E_CAR, WHOLE.links, piece, failing) {
-        Ok(served) if are_fronts(&served, WHOLE.said) => Some(served.outcome.status),
-        Ok(_) => None,
-        Err(_) => None,
-    }
-}
-
-/// Whether each call that fails in turn gives status 5 until none fails, which gives 0.
-fn each_fails(alloc: Global, piece: usize) -> bool {
-    let mut failed: u64 = 0;
-    for call in 0..CALLS {
-        match ends_in(alloc, call, piece) {
-            Some(5) => failed = failed.saturating_add(1),
-            Some(0) => return failed == call && failed > 4,
-            _ => return false,
-        }
-    }
-    false
-}
-
-#[test]
-fn each_call_of_door_and_links_fails_in_turn(rt: HostRuntime) {
-    for piece in [100, 4096] {
-        assert!(rt; each_fails(rt.alloc(), piece), "pieces of {} bytes", piece);
-    }
-}
-
 #[test]
 fn links_are_served(rt: HostRuntime) {
     for row in ROWS {

@@ -41,14 +41,30 @@ impl Outcome {
     }
 }
 
-/// What a run over a door and a dial left: what every run leaves, and what went through the links.
+/// What a run over a door and a dial left: what every run leaves, what went through the links, and how many calls failed.
 #[derive(Drop)]
 pub struct Served {
     pub outcome: Outcome,
     streams: Streams,
+    /// Of the folder, and of the pack.
+    faults: [u64; 2],
 }
 
 impl Served {
+    /// How many calls of this object failed, of the door and of the dial those of their links too.
+    pub fn faults(&self, object: Object) -> u64 {
+        let [folder, pack] = self.faults;
+        match object {
+            Object::Folder => folder,
+            Object::Pack => pack,
+            Object::Input => self.streams.input.count(),
+            Object::Out => self.streams.out.count(),
+            Object::Err => self.streams.err.count(),
+            Object::Door => self.streams.door.count(),
+            Object::Dial => self.streams.dial.count(),
+        }
+    }
+
     /// What went through the links that were given back, in order; none where no memory was found for one of them.
     pub fn calls(&self) -> Option<&List<Call>> {
         self.streams.door.served()
@@ -67,17 +83,110 @@ pub type Failing<'a> = [&'a [u64]; 3];
 /// No call fails.
 pub const NONE: Failing<'static> = [&[], &[], &[]];
 
-/// What a run is over besides its words and the folder: the pack's content, the input, what each peer says whose link
-/// comes through the door, and each that is dialled, how many bytes a call of a stream or of a link moves at most, and the
-/// numbers of the calls that fail, of the folder, of the pack, of the input, of out, of err, of the door and of the dial.
+/// What a run is over besides the folder: its words, the pack's content, the input, what each peer says whose link comes
+/// through the door, and each that is dialled, and how many bytes a call of a stream or of a link moves at most.
 #[derive(Clone, Copy)]
-struct Given<'a, 'f> {
-    content: &'a [u8],
-    input: &'a [u8],
-    links: &'a [&'a [u8]],
-    replies: &'a [&'a [u8]],
-    piece: usize,
-    fails: [&'f [u64]; 7],
+pub struct Given<'a> {
+    pub words: &'a [&'a str],
+    pub content: &'a [u8],
+    pub input: &'a [u8],
+    pub links: &'a [&'a [u8]],
+    pub replies: &'a [&'a [u8]],
+    pub piece: usize,
+}
+
+/// An object of a run, of which calls may fail.
+#[derive(Clone, Copy, Debug)]
+pub enum Object {
+    Folder,
+    Pack,
+    Input,
+    Out,
+    Err,
+    /// The door and its links, whose calls are numbered in one sequence.
+    Door,
+    /// The dial and its links, likewise.
+    Dial,
+}
+
+/// The numbers of the calls that fail, counted from 0, of each object of a run.
+#[derive(Clone, Copy)]
+pub struct Fails<'f> {
+    folder: &'f [u64],
+    pack: &'f [u64],
+    input: &'f [u64],
+    out: &'f [u64],
+    err: &'f [u64],
+    door: &'f [u64],
+    dial: &'f [u64],
+}
+
+impl<'f> Fails<'f> {
+    /// No call fails but those of this object that have these numbers.
+    pub fn of(object: Object, numbers: &'f [u64]) -> Fails<'f> {
+        let none = Fails {
+            folder: &[],
+            pack: &[],
+            input: &[],
+            out: &[],
+            err: &[],
+            door: &[],
+            dial: &[],
+        };
+        none.with(object, numbers)
+    }
+
+    /// Of this object the calls with these numbers fail, of the others as before.
+    pub fn with(self, object: Object, numbers: &'f [u64]) -> Fails<'f> {
+        match object {
+            Object::Folder => Fails {
+                folder: numbers,
+                ..self
+            },
+            Object::Pack => Fails {
+                pack: numbers,
+                ..self
+            },
+            Object::Input => Fails {
+                input: numbers,
+                ..self
+            },
+            Object::Out => Fails {
+                out: numbers,
+                ..self
+            },
+            Object::Err => Fails {
+                err: numbers,
+                ..self
+            },
+            Object::Door => Fails {
+                door: numbers,
+                ..self
+            },
+            Object::Dial => Fails {
+                dial: numbers,
+                ..self
+            },
+        }
+    }
+}
+
+/// Runs what is given over the folder of a tree, with these calls that fail. A tree that is no folder whose names differ
+/// gives the status 255. The error is want of memory.
+pub fn run_failing(
+    alloc: Global,
+    given: &Given<'_>,
+    tree: Tree,
+    fails: Fails<'_>,
+) -> Result<Served, AllocError> {
+    match folder_of(alloc, tree, fails.folder)? {
+        Some(mut folder) => run_given(alloc, given, &mut folder, fails),
+        None => Ok(Served {
+            outcome: Outcome::of_no_folder(alloc),
+            streams: streams_of(alloc, given, fails)?,
+            faults: [0, 0],
+        }),
+    }
 }
 
 /// Runs the words over an input in memory, by pieces of this size, an empty folder and an empty pack. The calls that
@@ -91,14 +200,17 @@ pub fn run_over_streams(
 ) -> Result<Outcome, AllocError> {
     let [input_fails, out_fails, err_fails] = failing;
     let given = Given {
+        words,
         content: &[],
         input,
         links: &[],
         replies: &[],
         piece,
-        fails: [&[], &[], input_fails, out_fails, err_fails, &[], &[]],
     };
-    let ran = run_over(alloc, words, Tree::Folder(Vec::new(alloc)), &given)?;
+    let fails = Fails::of(Object::Input, input_fails)
+        .with(Object::Out, out_fails)
+        .with(Object::Err, err_fails);
+    let ran = run_failing(alloc, &given, Tree::Folder(Vec::new(alloc)), fails)?;
     Ok(ran.outcome)
 }
 
@@ -114,14 +226,17 @@ pub fn run_over_files(
 ) -> Result<Outcome, AllocError> {
     let [folder_fails, pack_fails, out_fails] = failing;
     let given = Given {
+        words,
         content,
         input: &[],
         links: &[],
         replies: &[],
         piece: 4096,
-        fails: [folder_fails, pack_fails, &[], out_fails, &[], &[], &[]],
     };
-    let ran = run_over(alloc, words, tree, &given)?;
+    let fails = Fails::of(Object::Folder, folder_fails)
+        .with(Object::Pack, pack_fails)
+        .with(Object::Out, out_fails);
+    let ran = run_failing(alloc, &given, tree, fails)?;
     Ok(ran.outcome)
 }
 
@@ -138,14 +253,17 @@ pub fn run_over_door(
 ) -> Result<Served, AllocError> {
     let [door_fails, pack_fails, out_fails] = failing;
     let given = Given {
+        words,
         content,
         input: &[],
         links,
         replies: &[],
         piece,
-        fails: [&[], pack_fails, &[], out_fails, &[], door_fails, &[]],
     };
-    run_over(alloc, words, Tree::Folder(Vec::new(alloc)), &given)
+    let fails = Fails::of(Object::Door, door_fails)
+        .with(Object::Pack, pack_fails)
+        .with(Object::Out, out_fails);
+    run_failing(alloc, &given, Tree::Folder(Vec::new(alloc)), fails)
 }
 
 /// Runs the words over a dial in memory, to peers that say these bytes, by pieces of this size, no input, an empty folder
@@ -160,14 +278,17 @@ pub fn run_over_dial(
 ) -> Result<Served, AllocError> {
     let [dial_fails, out_fails, err_fails] = failing;
     let given = Given {
+        words,
         content: &[],
         input: &[],
         links: &[],
         replies,
         piece,
-        fails: [&[], &[], &[], out_fails, err_fails, &[], dial_fails],
     };
-    run_over(alloc, words, Tree::Folder(Vec::new(alloc)), &given)
+    let fails = Fails::of(Object::Dial, dial_fails)
+        .with(Object::Out, out_fails)
+        .with(Object::Err, err_fails);
+    run_failing(alloc, &given, Tree::Folder(Vec::new(alloc)), fails)
 }
 
 /// A list of call numbers.
@@ -267,21 +388,12 @@ struct Streams {
 }
 
 /// The door, the dial and the streams that are given.
-fn streams_of(alloc: Global, given: &Given<'_, '_>) -> Result<Streams, AllocError> {
-    let [
-        _,
-        _,
-        input_fails,
-        out_fails,
-        err_fails,
-        door_fails,
-        dial_fails,
-    ] = given.fails;
-    let door = door_of(alloc, given.links, given.piece, door_fails)?;
-    let dial = dial_of(alloc, given.replies, given.piece, dial_fails)?;
-    let out = sink_of(alloc, given.piece, out_fails)?;
-    let err = sink_of(alloc, given.piece, err_fails)?;
-    let input = source_of(alloc, given.input, given.piece, input_fails)?;
+fn streams_of(alloc: Global, given: &Given<'_>, fails: Fails<'_>) -> Result<Streams, AllocError> {
+    let door = door_of(alloc, given.links, given.piece, fails.door)?;
+    let dial = dial_of(alloc, given.replies, given.piece, fails.dial)?;
+    let out = sink_of(alloc, given.piece, fails.out)?;
+    let err = sink_of(alloc, given.piece, fails.err)?;
+    let input = source_of(alloc, given.input, given.piece, fails.input)?;
     Ok(Streams {
         door,
         dial,
@@ -361,44 +473,40 @@ fn run_in(
     outcome_of(alloc, status, pack, streams)
 }
 
+/// How many calls of a pack failed; none where there is no pack.
+fn faults_of(pack: &Option<MemPack>) -> u64 {
+    match pack {
+        Some(pack) => pack.count(),
+        None => 0,
+    }
+}
+
 /// Runs the words over a folder and what else is given.
 fn run_words(
     alloc: Global,
     words: &[String],
     folder: &mut MemFolder,
-    given: &Given<'_, '_>,
+    given: &Given<'_>,
+    fails: Fails<'_>,
 ) -> Result<Served, AllocError> {
-    let [_, pack_fails, _, _, _, _, _] = given.fails;
-    let mut streams = streams_of(alloc, given)?;
-    let mut pack = Some(pack_of(alloc, given.content, pack_fails)?);
+    let mut streams = streams_of(alloc, given, fails)?;
+    let mut pack = Some(pack_of(alloc, given.content, fails.pack)?);
     let outcome = run_in(alloc, words, folder, &mut pack, &mut streams)?;
-    Ok(Served { outcome, streams })
+    let faults = [folder.count(), faults_of(&pack)];
+    Ok(Served {
+        outcome,
+        streams,
+        faults,
+    })
 }
 
-/// The same with words that aren't owned.
+/// The same with the words that are given, which aren't owned.
 fn run_given(
     alloc: Global,
-    words: &[&str],
+    given: &Given<'_>,
     folder: &mut MemFolder,
-    given: &Given<'_, '_>,
+    fails: Fails<'_>,
 ) -> Result<Served, AllocError> {
-    let words = owned_words(alloc, words)?;
-    run_words(alloc, words.as_slice(), folder, given)
-}
-
-/// Runs the words over the folder of a tree and what else is given.
-fn run_over(
-    alloc: Global,
-    words: &[&str],
-    tree: Tree,
-    given: &Given<'_, '_>,
-) -> Result<Served, AllocError> {
-    let [folder_fails, _, _, _, _, _, _] = given.fails;
-    match folder_of(alloc, tree, folder_fails)? {
-        Some(mut folder) => run_given(alloc, words, &mut folder, given),
-        None => Ok(Served {
-            outcome: Outcome::of_no_folder(alloc),
-            streams: streams_of(alloc, given)?,
-        }),
-    }
+    let words = owned_words(alloc, given.words)?;
+    run_words(alloc, words.as_slice(), folder, given, fails)
 }
