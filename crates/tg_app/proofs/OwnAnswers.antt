@@ -51,6 +51,6 @@ own_answer_of laws q d text bytes input out None zero ends told its =
     laws.received.whole standard.block did.heard (block_list q d) (subst (λ (l : List ℕ). IsCarOf l (block_list q d)) (sym all) its.is_car) (all_within (block_list q d) standard.block its.within.block) in
     let same : did.sections ≡ block_list q d = laws.received.one standard.block did.heard did.sections (block_list q d) did.received own in
     let mine = laws.own q d text its.sound its.root its.one_each its.answers in
-    let theirs = laws.through q did.sections did.text did.ends.1.through in
+    let theirs = laws.through q standard did.sections did.text did.ends.1.through in
     let fits : Fits theirs.s q (block_list q d) did.text = subst (λ (l : List Section). Fits theirs.s q l did.text) same theirs.fits in
     subst (λ (l : List ℕ). Put l out) (laws.alike q (block_list q d) theirs.s mine.0 did.text text fits mine.1).1 did.put

@@ -135,7 +135,7 @@ verified_of q input out None law e ends =
       sections = did.sections;
       is_car = did.ends.1.is_car;
       text = did.text;
-      fits = law q did.sections did.text did.ends.1.through;
+      fits = law q _ did.sections did.text did.ends.1.through;
       put = did.put;
       no_fault = ends.cause.1;
       sound = did.sound;
@@ -156,7 +156,7 @@ unput_of text out none put =
 
 -- where a segment leads nowhere no text was given before it
 module _ (misses : VerifiedMisses) (q : QueryParts) (limits : LimitNumbers) (sections : List Section) (text : List ℕ) where
-  no_text : (miss : Miss) → IsNowhere q sections text miss → text ≡ []
+  no_text : (miss : Miss) → IsNowhere q limits sections text miss → text ≡ []
   no_text miss h = h.text ∙ (misses q sections h.given miss h.later h.verified).nothing
 
   pub refused_none : (fault : Refusal) → status_for (clients.Refused fault) ≡ 9 → HasRefused q limits sections text fault → text ≡ []

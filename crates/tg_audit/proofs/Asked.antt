@@ -204,6 +204,7 @@ module _ (q : QueryParts) (reply : List ℕ) (dial : Dialling) (before now : Has
     over = λ e. none_left r.more h.left (r.is_over e).1 (h.ended (r.is_over e).0);
     sections = r.sections;
     text = r.text;
+    within = r.within;
     refused = r.refused;
     of_reply = not;
   }

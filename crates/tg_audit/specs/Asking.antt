@@ -1,6 +1,6 @@
 -- A query that is asked of a gateway over a store, by a client that hashes the answer (RFC 9112; Trustless Gateway
 -- specification; FIPS 180-4).
-use Rattle.std.specs.Prelude.{Bool, List, Option, [], codes, length, true, ⊤, ℕ, ◌++◌, ◌<◌, ◌≡◌}
+use Rattle.std.specs.Prelude.{Bool, List, Option, [], codes, length, true, ⊤, ℕ, ◌++◌, ◌<◌, ◌≡◌, ◌≤◌}
 use Rattle.tg_audit.specs.declared.fault.AuditFault.{AuditFault}
 use Rattle.tg_audit.specs.declared.fault.AuditFault.TheVariants as audits
 use Rattle.tg_audit_texts.specs.Hashing.{IsHashOf}
@@ -51,7 +51,7 @@ pub record IsHeardAnswer (q : QueryParts) (limits : LimitNumbers) (reply : List 
   pub answered : IsAnswered q limits front ended sections text
   pub hash : IsHashOf text hashed
 
--- or it is refused for this, which is no fault of out, of the link or of memory
+-- or it is refused for this, behind no more than may be received, which is no fault of out, of the link or of memory
 pub record IsHeardRefusal (q : QueryParts) (limits : LimitNumbers) (reply : List ℕ) (fault : FetchFault) : Type 0 where
   pub front : List ℕ
   pub next : List ℕ
@@ -62,6 +62,7 @@ pub record IsHeardRefusal (q : QueryParts) (limits : LimitNumbers) (reply : List
   pub over : ended ≡ true → next ++ more ≡ []
   pub sections : List Section
   pub text : List ℕ
+  pub within : length front ≤ limits.received
   pub refused : RefusedBy q limits front next ended sections text fault
   pub of_reply : IsOwnFault fault → ⊥
 

@@ -41,8 +41,8 @@ pub none_settled : (q : QueryParts) (sections : List Section) → AreSettled q s
 none_settled q sections w cid more e = absurd (cc e)
 
 -- none is wanted only behind the last of these sections
-abbrev pub ThroughAll : QueryParts → List Section → Type 0
-ThroughAll q all = (front rest : List Section) (section : Section) (text : List ℕ) → all ≡ front ++ section ∷ rest → IsThrough q front text → ⊥
+abbrev pub ThroughAll : QueryParts → LimitNumbers → List Section → Type 0
+ThroughAll q limits all = (front rest : List Section) (section : Section) (text : List ℕ) → all ≡ front ++ section ∷ rest → IsThrough q limits front text → ⊥
 
 -- no front of these sections is refused for what it is
 abbrev pub AreTaken : QueryParts → LimitNumbers → List Section → Type 0
@@ -59,7 +59,7 @@ none_but q limits all taken front rest text fault e h = inr (taken front rest te
 -- ---- an input of which a front was heard
 
 module _ (received : ReceivedLaws) (q : QueryParts) (limits : LimitNumbers) (input : Input) (bytes : List ℕ) (all : List Section) (here : HasReceived limits.block bytes all)
-    (few : length bytes ≤ limits.received) (ends : ThroughAll q all) (Missed : Refusal → Type 0) (taken : AreTakenBut Missed q limits all)
+    (few : length bytes ≤ limits.received) (ends : ThroughAll q limits all) (Missed : Refusal → Type 0) (taken : AreTakenBut Missed q limits all)
     (heard unheard : List ℕ) (sections : List Section) (text : List ℕ) (l : IsLeft bytes heard unheard input) (got : HasReceived limits.block heard sections) where
   behind : (rest : List Section) × (all ≡ sections ++ rest)
   behind = received.front limits.block heard (unheard ++ l.left) sections all got (subst (λ (b : List ℕ). HasReceived limits.block b all) l.whole here)
@@ -69,7 +69,7 @@ module _ (received : ReceivedLaws) (q : QueryParts) (limits : LimitNumbers) (inp
   all_came e = received.one limits.block bytes sections all (subst (λ (b : List ℕ). HasReceived limits.block b sections) e got) here
 
   -- none is wanted before the last
-  pub through_all : IsThrough q sections text → sections ≡ all
+  pub through_all : IsThrough q limits sections text → sections ≡ all
   through_all h = by behind.0 behind.1
     where
       by : (rest : List Section) → all ≡ sections ++ rest → sections ≡ all
@@ -126,26 +126,26 @@ module _ (received : ReceivedLaws) (q : QueryParts) (limits : LimitNumbers) (inp
 -- ---- sections that fit
 
 module _ (verified : VerifiedLaws) (q : QueryParts) (d : Dag) (all : List Section) (answer : List ℕ) (fits : Fits d q all answer) where
-  pub fitting_through : ThroughAll q all
+  pub fitting_through : {limits : LimitNumbers} → ThroughAll q limits all
   fitting_through front rest section text e h =
       none_next q section (verified.fitting q d front rest section answer h.given [] (none_settled q front) (subst (λ (l : List Section). Fits d q l answer) e fits) h.verified)
 
-  pub fitting_done : (text : List ℕ) (at : WantedAt) → IsUpTo q all text at → ⊥
+  pub fitting_done : {limits : LimitNumbers} → (text : List ℕ) (at : WantedAt) → IsUpTo q limits all text at → ⊥
   fitting_done text at h =
       let (none, _) = verified.fitting_ends q d all answer h.given (open_block at.want at.cid ∷ h.later) (settled q all at h.later h.sends) fits h.verified in absurd (cc none)
 
 -- ---- sections in progress
 
 module _ (verified : VerifiedLaws) (q : QueryParts) (d : Dag) (all : List Section) (wanted : Spot) (progress : IsInProgress d q all wanted) where
-  pub progress_by : ThroughAll q all
+  pub progress_by : {limits : LimitNumbers} → ThroughAll q limits all
   progress_by front rest section text e h =
       none_next q section (verified.in_progress q d front rest section wanted h.given [] (none_settled q front) (subst (λ (l : List Section). IsInProgress d q l wanted) e progress) h.verified)
 
-  pub progress_through : (text : List ℕ) → IsThrough q all text → ⊥
+  pub progress_through : {limits : LimitNumbers} → (text : List ℕ) → IsThrough q limits all text → ⊥
   progress_through text h =
       let (wants, _) = verified.in_progress_ends q d all wanted h.given [] (none_settled q all) progress h.verified in let e = wants.then_is in absurd (cc e)
 
-  pub progress_waits : (text : List ℕ) (at : WantedAt) → IsUpTo q all text at → at.cid ≡ wanted.cid
+  pub progress_waits : {limits : LimitNumbers} → (text : List ℕ) (at : WantedAt) → IsUpTo q limits all text at → at.cid ≡ wanted.cid
   progress_waits text at h =
       let (wants, _) = verified.in_progress_ends q d all wanted h.given (open_block at.want at.cid ∷ h.later) (settled q all at h.later h.sends) progress h.verified in
       let e = wants.then_is in
@@ -156,12 +156,12 @@ module _ (verified : VerifiedLaws) (q : QueryParts) (d : Dag) (all : List Sectio
 
 -- each section is taken, and with all of them nothing is wanted
 module _ (cars : CarLaws) (received : ReceivedLaws) (q : QueryParts) (limits : LimitNumbers) (input : Input) (out : Output) (bytes : List ℕ) (all : List Section) (here : HasReceived limits.block bytes all)
-    (is_car : IsCarOf bytes all) (few : length bytes ≤ limits.received) (ends : ThroughAll q all) (taken : AreTaken q limits all) (done : (text : List ℕ) (at : WantedAt) → IsUpTo q all text at → ⊥)
+    (is_car : IsCarOf bytes all) (few : length bytes ≤ limits.received) (ends : ThroughAll q limits all) (taken : AreTaken q limits all) (done : (text : List ℕ) (at : WantedAt) → IsUpTo q limits all text at → ⊥)
     (told : input.left_old ≡ Some bytes) where
   -- all was heard
   not_short : (heard : List ℕ) (sections : List Section) (text : List ℕ) (want : CidParts) (number : ℕ) → heard ≡ bytes → sections ≡ all → IsEndedShort q limits heard sections text want number → ⊥
   not_short heard sections text want number same are (inl (before, _, _)) = no_header cars limits.block all bytes [] heard is_car (same ∙ sym (append-nil bytes)) before.goes_on
-  not_short heard sections text want number same are (inr (at, is, cut)) = done text at (subst (λ (s : List Section). IsUpTo q s text at) are cut.up_to)
+  not_short heard sections text want number same are (inr (at, is, cut, header)) = done text at (subst (λ (s : List Section). IsUpTo q limits s text at) are cut.up_to)
 
   but : AreTakenBut (λ fault. ⊥) q limits all
   but = none_but q limits all taken
@@ -185,14 +185,14 @@ module _ (cars : CarLaws) (received : ReceivedLaws) (q : QueryParts) (limits : L
 
 -- each section is taken, and with all of them a block is wanted
 module _ (cars : CarLaws) (received : ReceivedLaws) (q : QueryParts) (limits : LimitNumbers) (input : Input) (out : Output) (bytes : List ℕ) (all : List Section) (here : HasReceived limits.block bytes all)
-    (header : HasHeader limits.block bytes) (few : length bytes ≤ limits.received) (ends : ThroughAll q all) (taken : AreTaken q limits all) (through : (text : List ℕ) → IsThrough q all text → ⊥) (cid : CidParts)
-    (waits : (text : List ℕ) (at : WantedAt) → IsUpTo q all text at → at.cid ≡ cid) (told : input.left_old ≡ Some bytes) where
+    (header : HasHeader limits.block bytes) (few : length bytes ≤ limits.received) (ends : ThroughAll q limits all) (taken : AreTaken q limits all) (through : (text : List ℕ) → IsThrough q limits all text → ⊥) (cid : CidParts)
+    (waits : (text : List ℕ) (at : WantedAt) → IsUpTo q limits all text at → at.cid ≡ cid) (told : input.left_old ≡ Some bytes) where
   -- all was heard
   is_short : (heard : List ℕ) (sections : List Section) (text : List ℕ) (want : CidParts) (number : ℕ) → heard ≡ bytes → sections ≡ all → IsEndedShort q limits heard sections text want number
       → faults.Refused (refusals.Truncated want number) ≡ faults.Refused (refusals.Truncated cid (count_of all))
   is_short heard sections text want number same are (inl (before, _, _)) = absurd (header_inside cars limits.block bytes [] heard header (same ∙ sym (append-nil bytes)) before.goes_on)
-  is_short heard sections text want number same are (inr (at, is, cut)) =
-      let wanted : want ≡ cid = is ∙ waits text at (subst (λ (s : List Section). IsUpTo q s text at) are cut.up_to) in
+  is_short heard sections text want number same are (inr (at, is, cut, header)) =
+      let wanted : want ≡ cid = is ∙ waits text at (subst (λ (s : List Section). IsUpTo q limits s text at) are cut.up_to) in
       let counted : number ≡ count_of all = cut.number_is ∙ ap (λ (s : List Section). count_of s) are in
       cc (wanted, counted)
 
@@ -203,7 +203,7 @@ module _ (cars : CarLaws) (received : ReceivedLaws) (q : QueryParts) (limits : L
   cuts (Ok end) v =
       let l = left_of bytes v.heard v.unheard input told v.took in
       let same = through_all received q limits input bytes all here few ends (λ fault. ⊥) but_cut v.heard v.unheard v.sections v.text l v.received v.ends.1.through in
-      through v.text (subst (λ (s : List Section). IsThrough q s v.text) same v.ends.1.through)
+      through v.text (subst (λ (s : List Section). IsThrough q limits s v.text) same v.ends.1.through)
   cuts (Err fault) v =
       let l = left_of bytes v.heard v.unheard input told v.took in
       only received q limits input bytes all here few ends (λ fault. ⊥) but_cut v.heard v.unheard v.sections v.text l v.received
@@ -214,5 +214,5 @@ module _ (cars : CarLaws) (received : ReceivedLaws) (q : QueryParts) (limits : L
       inl (is_short v.heard v.sections v.text want number whole same short))
       (λ number h.
       let same = through_all received q limits input bytes all here few ends (λ fault. ⊥) but_cut v.heard v.unheard v.sections v.text l v.received h.through in
-      absurd (through v.text (subst (λ (s : List Section). IsThrough q s v.text) same h.through)))
+      absurd (through v.text (subst (λ (s : List Section). IsThrough q limits s v.text) same h.through)))
       fault v.ends

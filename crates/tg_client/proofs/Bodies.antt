@@ -56,9 +56,9 @@ not_ended q limits heard sections text faults.OutOfMemory short h = h
 
 -- of a CAR that came whole the header is, and a block is wanted only where one is behind all sections
 not_short : CarLaws → (q : QueryParts) (limits : LimitNumbers) (car : List ℕ) (all : List Section) (text : List ℕ) → IsCarOf car all
-    → ((at : WantedAt) → IsUpTo q all text at → ⊥) → (want : CidParts) (number : ℕ) → IsEndedShort q limits car all text want number → ⊥
+    → ((at : WantedAt) → IsUpTo q limits all text at → ⊥) → (want : CidParts) (number : ℕ) → IsEndedShort q limits car all text want number → ⊥
 not_short cars q limits car all text is_car done want number (inl (before, _, _)) = no_header cars limits.block all car [] car is_car (sym (append-nil car)) before.goes_on
-not_short cars q limits car all text is_car done want number (inr (at, _, cut)) = done at cut.up_to
+not_short cars q limits car all text is_car done want number (inr (at, _, cut, _)) = done at cut.up_to
 
 module _ (cars : CarLaws) (received : ReceivedLaws) (verified : VerifiedLaws) (answers : AnswerLaws) where
   -- ---- sections that fit
@@ -75,7 +75,7 @@ module _ (cars : CarLaws) (received : ReceivedLaws) (verified : VerifiedLaws) (a
 
     pub fit_goes_on : (text : List ℕ) (fault : ClientFault) → EndsBy q limits unknown heard unheard sections text (Err fault) → IsOwnEnd fault
     fit_goes_on text fault h =
-        let ends = fitting_through verified q d all answer fits in
+        let ends : ThroughAll q limits all = fitting_through verified q d all answer fits in
         let l = front_left limits car all heard unheard sections f in
         only received q limits unknown car all fit_whole f.few ends (λ fault. ⊥) fit_but heard unheard sections text l f.received IsOwnEnd (λ fault own. own) (λ fault none. absurd none)
         (λ want number ended short. absurd ended.ended.ended)
@@ -99,7 +99,7 @@ module _ (cars : CarLaws) (received : ReceivedLaws) (verified : VerifiedLaws) (a
 
       by : (result : Result ⊤ ClientFault) → EndsAt q limits car sections text result → IsTheAnswer all answer sections text result
       by (Ok done) h =
-          let whole = answers.through q all text (subst (λ (s : List Section). IsThrough q s text) same h.through) in
+          let whole = answers.through q limits all text (subst (λ (s : List Section). IsThrough q limits s text) same h.through) in
           let (_, is) = once q all whole.s d text answer whole.fits fits in
           (same, is)
       by (Err fault) h =
@@ -110,15 +110,15 @@ module _ (cars : CarLaws) (received : ReceivedLaws) (verified : VerifiedLaws) (a
   -- ---- those on a path that leads nowhere
 
   module _ (q : QueryParts) (d : Dag) (miss : Miss) (right : IsOpenedFor d q) (end : (traversal q d).end ≡ stopped (stop_of miss)) where
-    nowhere_by : ThroughAll q (block_list q d)
+    nowhere_by : {limits : LimitNumbers} → ThroughAll q limits (block_list q d)
     nowhere_by front rest section text e h =
         none_next q section (verified.nowhere q d front rest section miss h.given [] (none_settled q front) right e end h.verified)
 
-    nowhere_through : (text : List ℕ) → IsThrough q (block_list q d) text → ⊥
+    nowhere_through : {limits : LimitNumbers} → (text : List ℕ) → IsThrough q limits (block_list q d) text → ⊥
     nowhere_through text h =
         let (_, stops) = verified.nowhere_ends q d (block_list q d) miss h.given [] (none_settled q (block_list q d)) right refl end h.verified in absurd (cc stops)
 
-    nowhere_waits : (text : List ℕ) (at : WantedAt) → IsUpTo q (block_list q d) text at → ⊥
+    nowhere_waits : {limits : LimitNumbers} → (text : List ℕ) (at : WantedAt) → IsUpTo q limits (block_list q d) text at → ⊥
     nowhere_waits text at h =
         let (_, stops) = verified.nowhere_ends q d (block_list q d) miss h.given (open_block at.want at.cid ∷ h.later) (settled q (block_list q d) at h.later h.sends) right refl end h.verified in
         absurd (cc stops)
@@ -146,7 +146,7 @@ module _ (cars : CarLaws) (received : ReceivedLaws) (verified : VerifiedLaws) (a
           (λ want number ended short. absurd ended.ended.ended)
           (λ number h.
           let same = through_all received q limits unknown car all whole f.few nowhere_by (IsMissOf miss) nowhere_but heard unheard sections text l f.received h.through in
-          absurd (nowhere_through text (subst (λ (s : List Section). IsThrough q s text) same h.through)))
+          absurd (nowhere_through text (subst (λ (s : List Section). IsThrough q limits s text) same h.through)))
           fault h
 
       pub nowhere_end : (sections : List Section) (text : List ℕ) (result : Result ⊤ ClientFault) → IsFrontOfCar limits car (block_list q d) car [] sections
@@ -157,7 +157,7 @@ module _ (cars : CarLaws) (received : ReceivedLaws) (verified : VerifiedLaws) (a
           same = received.one limits.block car sections (block_list q d) f.received (nowhere_whole f.is_car)
 
           by : (result : Result ⊤ ClientFault) → EndsAt q limits car sections text result → ⊥
-          by (Ok done) h = nowhere_through text (subst (λ (s : List Section). IsThrough q s text) same h.through)
+          by (Ok done) h = nowhere_through text (subst (λ (s : List Section). IsThrough q limits s text) same h.through)
           by (Err fault) h =
               not_ended q limits car sections text fault (λ want number short.
               not_short cars q limits car (block_list q d) text f.is_car (nowhere_waits text) want number

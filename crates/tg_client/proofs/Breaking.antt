@@ -1,5 +1,6 @@
 -- How a body is refused: by the reader of the CAR, or by the verifier.
-use Rattle.std.proofs.Common.{◌≡◌, ℕ, ◌<◌, ◌≤◌, List, [], ◌∷◌, ◌++◌, length, All, Err, refl, ap, sym, subst, ◌∙◌, inl, inr, append_assoc, arith}
+use Rattle.std.specs.Prelude.{⊤}
+use Rattle.std.proofs.Common.{◌≡◌, ℕ, ◌⊎◌, ◌<◌, ◌≤◌, List, [], ◌∷◌, ◌++◌, length, All, Err, refl, ap, sym, subst, ◌∙◌, inl, inr, append_assoc, arith}
 use Rattle.std.proofs.lemmas.List.{length-append}
 use Rattle.tg_car.specs.Faults.{Brings, PassesLimit}
 use Rattle.tg_car.specs.History.{IsAmongSections}
@@ -7,21 +8,24 @@ use Rattle.tg_car.specs.declared.event.Event.{Event}
 use Rattle.tg_car.specs.declared.fault.CarFault.{CarFault}
 use Rattle.tg_car.specs.declared.fault.CarFault.TheVariants as cars
 use Rattle.tg_traversal.specs.Left.{WantedAt}
+use Rattle.tg_traversal_laws.specs.Stages.{Given}
+use Rattle.tg_traversal_laws.specs.Tasks.{Task}
+use Rattle.tg_cid.specs.Cid.{CidParts}
 use Rattle.tg_model.specs.Dag.{Dag, Section}
 use Rattle.tg_model.specs.LimitNumbers.{LimitNumbers}
 use Rattle.tg_model.specs.Queries.{QueryParts}
 use Rattle.tg_model.specs.declared.limits.LimitKind.TheVariants as kinds
 use Rattle.tg_streams.specs.Streams.{Output, Put}
-use Rattle.tg_verify.specs.History.{HasPutCause}
+use Rattle.tg_verify.specs.History.{HasPutCause, IsCounted, one_more}
 use Rattle.tg_verify.specs.Laws.{AnswerLaws}
-use Rattle.tg_verify.specs.Refusals.{HasRefused, HasSectionCause, IsSurplus}
+use Rattle.tg_verify.specs.Refusals.{HasRefused, HasSectionCause, IsRefusedAt, IsSurplus}
 use Rattle.tg_verify.specs.Sound.{AnswersFor, ForEachSound}
 use Rattle.tg_verify.specs.State.{count_of}
 use Rattle.tg_verify.specs.Taken.{IsThrough, IsUpTo}
 use Rattle.tg_verify.specs.declared.fault.Refusal.{Refusal}
 use Rattle.tg_verify.specs.declared.fault.Refusal.TheVariants as refusals
 use Rattle.tg_bytes.specs.Lists.{All-split_push}
-use Rattle.tg_client.specs.Body.{IsAfterWanted, IsBehindHeader, IsLastWanted, IsStopped, unknown}
+use Rattle.tg_client.specs.Body.{IsAfterWanted, IsBehindHeader, IsLastWanted, IsOneLess, IsStopped, IsTakenBy, unknown}
 use Rattle.tg_client.specs.Ends.{EndsBy, IsBrokenBy, IsWaiting, IsWithinReceived, SaysFor, fault_of_car, fault_of_refusal}
 use Rattle.tg_client.specs.Received.{HasHeader, HasReceived, sections_given}
 use Rattle.tg_client.specs.ReceivedLaws.{ReceivedLaws}
@@ -56,6 +60,13 @@ car_wants q limits heard sections (cars.BlockLimit place number) = tt
 car_wants q limits heard sections (cars.Torn place) = tt
 car_wants q limits heard sections cars.OutOfMemory = tt
 
+pub car_taken : (sections : List Section) (taken : ℕ) → taken ≡ count_of sections → (fault : CarFault) → IsTakenBy (fault_of_car fault) sections taken
+car_taken sections taken all (cars.BadHeader place) = all
+car_taken sections taken all (cars.BadSection place) = all
+car_taken sections taken all (cars.BlockLimit place number) = all
+car_taken sections taken all (cars.Torn place) = all
+car_taken sections taken all cars.OutOfMemory = inl all
+
 -- ---- by the verifier
 
 pub last_same : (a b : List Section) (s t : Section) → a ++ s ∷ [] ≡ b ++ t ∷ [] → (a ≡ b) × (s ≡ t)
@@ -85,13 +96,83 @@ refusal_says q d sections text refusals.SinkFault h = h
 refusal_says q d sections text (refusals.Truncated want number) h = h
 refusal_says q d sections text refusals.OutOfMemory h = h.0
 
+-- how many sections are told as taken then, of so many before; of the refusals that don't come so nothing is said
+abbrev pub TakenAs : List Section → ℕ → ℕ → Refusal → Type 0
+TakenAs sections before taken (refusals.Extra number) = taken ≡ before
+TakenAs sections before taken (refusals.Limit kinds.Block number) = ⊤
+TakenAs sections before taken (refusals.Limit kinds.Received number) = ⊤
+TakenAs sections before taken (refusals.Truncated want number) = ⊤
+TakenAs sections before taken fault = IsTakenBy (fault_of_refusal fault) sections taken
+
+module _ (sections : List Section) (section : Section) (before now : ℕ) (all : before ≡ count_of sections) where
+  one_less : now ≡ before → IsOneLess (sections ++ section ∷ []) now
+  one_less same = record { before = sections; last = section; sections_are = refl; number_is = same ∙ all }
+
+  either : (now ≡ before) ⊎ (now ≡ one_more before) → (now ≡ count_of (sections ++ section ∷ [])) ⊎ IsOneLess (sections ++ section ∷ []) now
+  either (inl same) = inr (one_less same)
+  either (inr more) = inl (omega (arith, all, more, length-append sections (section ∷ [])))
+
+  -- as a section counts them
+  pub taken_behind : (fault : Refusal) → IsCounted before now (Err fault) → TakenAs (sections ++ section ∷ []) before now fault
+  taken_behind (refusals.Extra number) c = c
+  taken_behind (refusals.Limit kinds.Block number) c = tt
+  taken_behind (refusals.Limit kinds.Received number) c = tt
+  taken_behind (refusals.Limit kinds.Depth number) c = either c
+  taken_behind (refusals.Limit kinds.Entries number) c = either c
+  taken_behind (refusals.Limit kinds.Names number) c = either c
+  taken_behind (refusals.Limit kinds.Output number) c = either c
+  taken_behind (refusals.Limit kinds.SeenBlocks number) c = either c
+  taken_behind (refusals.Limit kinds.SeenBytes number) c = either c
+  taken_behind (refusals.Limit kinds.Reused number) c = either c
+  taken_behind (refusals.BadDigest cid) c = one_less c
+  taken_behind (refusals.WrongBlock want got) c = one_less c
+  taken_behind (refusals.BadBlock cid fault) c = either c
+  taken_behind (refusals.BadSize declared actual) c = either c
+  taken_behind (refusals.NotFolder segment) c = either c
+  taken_behind (refusals.NotThere segment) c = either c
+  taken_behind refusals.SinkFault c = either c
+  taken_behind (refusals.Truncated want number) c = tt
+  taken_behind refusals.OutOfMemory c = either c
+
+-- before the first none is
+module _ (q : QueryParts) (limits : LimitNumbers) (written : List ℕ) (now : ℕ) (none : now ≡ 0) where
+  none_at : (why : Given → List (Task CidParts) → WantedAt → Section → Type 0) → IsRefusedAt q limits [] written why → ⊥
+  none_at why h = let size : 0 ≡ length (h.taken ++ h.section ∷ []) = ap length h.received in omega (arith, size, length-append h.taken (h.section ∷ []))
+
+  all_of_none : now ≡ count_of []
+  all_of_none = omega (arith, none)
+
+  pub taken_first : (fault : Refusal) → HasRefused q limits [] written fault → TakenAs [] 0 now fault
+  taken_first (refusals.Extra number) h = none
+  taken_first (refusals.Limit kinds.Block number) h = tt
+  taken_first (refusals.Limit kinds.Received number) h = tt
+  taken_first (refusals.Limit kinds.Depth number) h = inl all_of_none
+  taken_first (refusals.Limit kinds.Entries number) h = inl all_of_none
+  taken_first (refusals.Limit kinds.Names number) h = inl all_of_none
+  taken_first (refusals.Limit kinds.Output number) h = inl all_of_none
+  taken_first (refusals.Limit kinds.SeenBlocks number) h = inl all_of_none
+  taken_first (refusals.Limit kinds.SeenBytes number) h = inl all_of_none
+  taken_first (refusals.Limit kinds.Reused number) h = inl all_of_none
+  taken_first (refusals.BadDigest cid) (inl h) = absurd (none_at _ h)
+  taken_first (refusals.BadDigest cid) (inr h) = absurd h.cause
+  taken_first (refusals.WrongBlock want got) (inl h) = absurd (none_at _ h)
+  taken_first (refusals.WrongBlock want got) (inr h) = absurd h.cause
+  taken_first (refusals.BadBlock cid fault) h = inl all_of_none
+  taken_first (refusals.BadSize declared actual) h = inl all_of_none
+  taken_first (refusals.NotFolder segment) h = inl all_of_none
+  taken_first (refusals.NotThere segment) h = inl all_of_none
+  taken_first refusals.SinkFault h = inl all_of_none
+  taken_first (refusals.Truncated want number) h = tt
+  taken_first refusals.OutOfMemory h = inl all_of_none
+
 -- at a place behind the header, or a section
 module _ (received : ReceivedLaws) (q : QueryParts) (limits : LimitNumbers) (bytes heard rest : List ℕ) (whole : bytes ≡ heard ++ rest) (within : IsWithinReceived limits heard) (sections : List Section)
     (after : HasReceived limits.block heard sections) (behind : IsBehindHeader q limits heard sections) (written text : List ℕ) (out : Output) (put : Put text out)
-    (extra : (number : ℕ) → IsSurplus q sections (written ++ text) number → IsStopped q limits bytes written out (faults.Refused (refusals.Extra number))) where
+    (before taken : ℕ)
+    (extra : (number : ℕ) → IsSurplus q limits sections (written ++ text) number → taken ≡ before → IsStopped q limits taken bytes written out (faults.Refused (refusals.Extra number))) where
   there : (fault : ClientFault) → EndsBy q limits unknown heard rest sections (written ++ text) (Err fault)
-      → ForEachSound q (λ d. SaysFor q d sections (written ++ text) (Err fault)) → IsAfterWanted q limits heard sections fault → IsStopped q limits bytes written out fault
-  there fault ends sound wanted = record {
+      → ForEachSound q (λ d. SaysFor q d sections (written ++ text) (Err fault)) → IsAfterWanted q limits heard sections fault → IsTakenBy fault sections taken → IsStopped q limits taken bytes written out fault
+  there fault ends sound wanted counted = record {
     heard = heard;
     unheard = rest;
     whole = whole;
@@ -103,6 +184,7 @@ module _ (received : ReceivedLaws) (q : QueryParts) (limits : LimitNumbers) (byt
     ends = ends;
     sound = sound;
     wanted = wanted;
+    counted = counted;
   }
 
   -- no block that was received is above the limit
@@ -129,44 +211,44 @@ module _ (received : ReceivedLaws) (q : QueryParts) (limits : LimitNumbers) (byt
       by (inr (wanted, none)) = none
 
   pub refused_there : (fault : Refusal) → HasRefused q limits sections (written ++ text) fault → HasPutCause (Err fault) out
-      → ForEachSound q (λ d. AnswersFor q d sections (written ++ text) (Err fault)) → IsStopped q limits bytes written out (fault_of_refusal fault)
-  refused_there (refusals.Extra number) h cause sound = extra number h
-  refused_there (refusals.Limit kinds.Block number) h cause sound = absurd (none_large number h)
-  refused_there (refusals.Limit kinds.Received number) h cause sound = absurd (none_received number h)
-  refused_there (refusals.Truncated want number) h cause sound = absurd cause
-  refused_there refusals.OutOfMemory h cause sound = there faults.OutOfMemory (inl h) (λ d s root. (sound d s root).0) tt
-  refused_there refusals.SinkFault h cause sound = there (faults.Refused refusals.SinkFault) h sound behind
-  refused_there (refusals.Limit kinds.Depth number) h cause sound = there (faults.Refused (refusals.Limit kinds.Depth number)) h sound behind
-  refused_there (refusals.Limit kinds.Entries number) h cause sound = there (faults.Refused (refusals.Limit kinds.Entries number)) h sound behind
-  refused_there (refusals.Limit kinds.Names number) h cause sound = there (faults.Refused (refusals.Limit kinds.Names number)) h sound behind
-  refused_there (refusals.Limit kinds.Output number) h cause sound = there (faults.Refused (refusals.Limit kinds.Output number)) h sound behind
-  refused_there (refusals.Limit kinds.SeenBlocks number) h cause sound = there (faults.Refused (refusals.Limit kinds.SeenBlocks number)) h sound behind
-  refused_there (refusals.Limit kinds.SeenBytes number) h cause sound = there (faults.Refused (refusals.Limit kinds.SeenBytes number)) h sound behind
-  refused_there (refusals.Limit kinds.Reused number) h cause sound = there (faults.Refused (refusals.Limit kinds.Reused number)) h sound behind
-  refused_there (refusals.BadDigest cid) h cause sound = there (faults.Refused (refusals.BadDigest cid)) h sound behind
-  refused_there (refusals.WrongBlock want got) h cause sound = there (faults.Refused (refusals.WrongBlock want got)) h sound behind
-  refused_there (refusals.BadBlock cid fault) h cause sound = there (faults.Refused (refusals.BadBlock cid fault)) h sound behind
-  refused_there (refusals.BadSize declared actual) h cause sound = there (faults.Refused (refusals.BadSize declared actual)) h sound behind
-  refused_there (refusals.NotFolder segment) h cause sound = there (faults.Refused (refusals.NotFolder segment)) h sound behind
-  refused_there (refusals.NotThere segment) h cause sound = there (faults.Refused (refusals.NotThere segment)) h sound behind
+      → ForEachSound q (λ d. AnswersFor q d sections (written ++ text) (Err fault)) → TakenAs sections before taken fault → IsStopped q limits taken bytes written out (fault_of_refusal fault)
+  refused_there (refusals.Extra number) h cause sound c = extra number h c
+  refused_there (refusals.Limit kinds.Block number) h cause sound c = absurd (none_large number h)
+  refused_there (refusals.Limit kinds.Received number) h cause sound c = absurd (none_received number h)
+  refused_there (refusals.Truncated want number) h cause sound c = absurd cause
+  refused_there refusals.OutOfMemory h cause sound c = there faults.OutOfMemory (inl h) (λ d s root. (sound d s root).0) tt c
+  refused_there refusals.SinkFault h cause sound c = there (faults.Refused refusals.SinkFault) h sound behind c
+  refused_there (refusals.Limit kinds.Depth number) h cause sound c = there (faults.Refused (refusals.Limit kinds.Depth number)) h sound behind c
+  refused_there (refusals.Limit kinds.Entries number) h cause sound c = there (faults.Refused (refusals.Limit kinds.Entries number)) h sound behind c
+  refused_there (refusals.Limit kinds.Names number) h cause sound c = there (faults.Refused (refusals.Limit kinds.Names number)) h sound behind c
+  refused_there (refusals.Limit kinds.Output number) h cause sound c = there (faults.Refused (refusals.Limit kinds.Output number)) h sound behind c
+  refused_there (refusals.Limit kinds.SeenBlocks number) h cause sound c = there (faults.Refused (refusals.Limit kinds.SeenBlocks number)) h sound behind c
+  refused_there (refusals.Limit kinds.SeenBytes number) h cause sound c = there (faults.Refused (refusals.Limit kinds.SeenBytes number)) h sound behind c
+  refused_there (refusals.Limit kinds.Reused number) h cause sound c = there (faults.Refused (refusals.Limit kinds.Reused number)) h sound behind c
+  refused_there (refusals.BadDigest cid) h cause sound c = there (faults.Refused (refusals.BadDigest cid)) h sound behind c
+  refused_there (refusals.WrongBlock want got) h cause sound c = there (faults.Refused (refusals.WrongBlock want got)) h sound behind c
+  refused_there (refusals.BadBlock cid fault) h cause sound c = there (faults.Refused (refusals.BadBlock cid fault)) h sound behind c
+  refused_there (refusals.BadSize declared actual) h cause sound c = there (faults.Refused (refusals.BadSize declared actual)) h sound behind c
+  refused_there (refusals.NotFolder segment) h cause sound c = there (faults.Refused (refusals.NotFolder segment)) h sound behind c
+  refused_there (refusals.NotThere segment) h cause sound c = there (faults.Refused (refusals.NotThere segment)) h sound behind c
 
 -- before the first section
-no_surplus : (q : QueryParts) (written : List ℕ) (number : ℕ) → IsSurplus q [] written number → ⊥
-no_surplus q written number h =
+no_surplus : (q : QueryParts) (limits : LimitNumbers) (written : List ℕ) (number : ℕ) → IsSurplus q limits [] written number → ⊥
+no_surplus q limits written number h =
     let none : 0 ≡ length (h.taken ++ h.section ∷ []) = ap length h.received in omega (arith, none, length-append h.taken (h.section ∷ []))
 
 -- at a section where a block was wanted
 module _ (laws : AnswerLaws) (received : ReceivedLaws) (q : QueryParts) (limits : LimitNumbers) (heard part rest : List ℕ) (given : List Event) (sections : List Section) (section : Section)
     (before : HasReceived limits.block heard sections) (after : HasReceived limits.block (heard ++ part) (sections ++ section ∷ []))
-    (past : (bytes : List ℕ) × IsAmongSections limits.block heard given bytes) (are : sections_given given ≡ sections) (some : 0 < length (part ++ rest)) (written text : List ℕ) (out : Output) (put : Put text out) (at : WantedAt) (up_to : IsUpTo q sections written at)
-    (few : length heard < limits.received) (within : IsWithinReceived limits (heard ++ part)) (header : HasHeader limits.block (heard ++ part)) where
-  last_wanted : IsLastWanted q (sections ++ section ∷ [])
+    (past : (bytes : List ℕ) × IsAmongSections limits.block heard given bytes) (are : sections_given given ≡ sections) (some : 0 < length (part ++ rest)) (written text : List ℕ) (out : Output) (put : Put text out) (at : WantedAt) (up_to : IsUpTo q limits sections written at)
+    (few : length heard < limits.received) (within : IsWithinReceived limits (heard ++ part)) (header : HasHeader limits.block (heard ++ part)) (old now : ℕ) (counted : old ≡ count_of sections) where
+  last_wanted : IsLastWanted q limits (sections ++ section ∷ [])
   last_wanted = record { taken = sections; section = section; sections_are = refl; text = written; at = at; up_to = up_to }
 
-  extra_ends : (number : ℕ) → IsSurplus q (sections ++ section ∷ []) (written ++ text) number → IsStopped q limits (heard ++ (part ++ rest)) written out (faults.Refused (refusals.Extra number))
-  extra_ends number h =
+  extra_ends : (number : ℕ) → IsSurplus q limits (sections ++ section ∷ []) (written ++ text) number → now ≡ old → IsStopped q limits now (heard ++ (part ++ rest)) written out (faults.Refused (refusals.Extra number))
+  extra_ends number h stays =
       let (same, _) = last_same sections h.taken section h.section h.received in
-      let through : IsThrough q sections (written ++ text) = subst (λ (l : List Section). IsThrough q l (written ++ text)) (sym same) h.through in
+      let through : IsThrough q limits sections (written ++ text) = subst (λ (l : List Section). IsThrough q limits l (written ++ text)) (sym same) h.through in
       let number_is = h.number_is ∙ ap (λ (l : List Section). count_of l) (sym same) in
       let more : 0 < length (past.0 ++ (part ++ rest)) = omega (arith, some, length-append past.0 (part ++ rest)) in
       record {
@@ -179,19 +261,21 @@ module _ (laws : AnswerLaws) (received : ReceivedLaws) (q : QueryParts) (limits 
         text = text;
         put = put;
         ends = surplus_of q limits limits.block heard (part ++ rest) given sections (written ++ text) number past are more (omega (arith, few)) through number_is;
-        sound = λ d sound root. (laws.answer_front q d sections (written ++ text) (laws.sound_through q d sections (written ++ text) sound root through), tt);
+        sound = λ d sound root. (laws.answer_front q d sections (written ++ text) (laws.sound_through q limits d sections (written ++ text) sound root through), tt);
         wanted = tt;
+        counted = stays ∙ counted;
       }
 
   pub refused_now : (fault : Refusal) → HasRefused q limits (sections ++ section ∷ []) (written ++ text) fault → HasPutCause (Err fault) out
-      → ForEachSound q (λ d. AnswersFor q d (sections ++ section ∷ []) (written ++ text) (Err fault)) → IsStopped q limits (heard ++ (part ++ rest)) written out (fault_of_refusal fault)
+      → ForEachSound q (λ d. AnswersFor q d (sections ++ section ∷ []) (written ++ text) (Err fault)) → TakenAs (sections ++ section ∷ []) old now fault
+      → IsStopped q limits now (heard ++ (part ++ rest)) written out (fault_of_refusal fault)
   refused_now = refused_there received q limits (heard ++ (part ++ rest)) (heard ++ part) rest (sym (append_assoc heard part rest)) within (sections ++ section ∷ []) after
-      (record { header = header; last = inr last_wanted }) written text out put extra_ends
+      (record { header = header; last = inr last_wanted }) written text out put old now extra_ends
 
 -- where the header is whole
 module _ (received : ReceivedLaws) (q : QueryParts) (limits : LimitNumbers) (bytes heard rest : List ℕ) (whole : bytes ≡ heard ++ rest) (within : IsWithinReceived limits heard)
-    (after : HasReceived limits.block heard []) (header : HasHeader limits.block heard) (written text : List ℕ) (out : Output) (put : Put text out) where
+    (after : HasReceived limits.block heard []) (header : HasHeader limits.block heard) (written text : List ℕ) (out : Output) (put : Put text out) (now : ℕ) where
   pub refused_first : (fault : Refusal) → HasRefused q limits [] (written ++ text) fault → HasPutCause (Err fault) out
-      → ForEachSound q (λ d. AnswersFor q d [] (written ++ text) (Err fault)) → IsStopped q limits bytes written out (fault_of_refusal fault)
-  refused_first = refused_there received q limits bytes heard rest whole within [] after (record { header = header; last = inl refl }) written text out put
-      (λ number h. absurd (no_surplus q (written ++ text) number h))
+      → ForEachSound q (λ d. AnswersFor q d [] (written ++ text) (Err fault)) → TakenAs [] 0 now fault → IsStopped q limits now bytes written out (fault_of_refusal fault)
+  refused_first = refused_there received q limits bytes heard rest whole within [] after (record { header = header; last = inl refl }) written text out put 0 now
+      (λ number h none. absurd (no_surplus q limits (written ++ text) number h))

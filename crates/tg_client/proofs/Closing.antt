@@ -38,8 +38,8 @@ module _ (laws : AnswerLaws) (body : CarBody) (heard : List ℕ) (sections : Lis
       let up_to = laws.going_up_to body.verifier sections written going at wanted in
       record {
         received = is_received body heard sections written h;
-        ends = inr (at, refl, record { up_to = up_to; number_is = going.keeps.count });
-        sound = λ d sound root. (held_front laws body.verifier.left.query body.verifier.limits heard sections written (inl (inr (at, up_to))) d sound root, tt);
+        ends = inr (at, refl, record { up_to = up_to; number_is = going.keeps.count }, record { event = event; given = given; goes_on = on });
+        sound = λ d sound root. (held_front laws body.verifier.left.query body.verifier.limits heard sections written (inl (inr (at, up_to, record { event = event; given = given; goes_on = on }))) d sound root, tt);
         wanted = λ fault e.
             let same : faults.Refused (refusals.Truncated at.cid body.verifier.taken) ≡ fault = cc e in
             subst (λ (f : ClientFault). IsAfterWanted body.verifier.left.query body.verifier.limits heard sections f) same (inr (record { event = event; given = given; goes_on = on }));
@@ -57,6 +57,6 @@ module _ (laws : AnswerLaws) (body : CarBody) (heard : List ℕ) (sections : Lis
       record {
         received = is_received body heard sections written h;
         ends = record { is_car = is_car; through = through; within = omega (arith, most, h.within) };
-        sound = λ d sound root. laws.sound_through body.verifier.left.query d sections written sound root through;
+        sound = λ d sound root. laws.sound_through body.verifier.left.query body.verifier.limits d sections written sound root through;
         wanted = λ fault e. absurd (cc e);
       }

@@ -23,9 +23,9 @@ went_nothing {S} m a stays body heard sections written h = record {
 }
 
 module _ {S : Type 0} (m : SinkMeaning S) (joins : SinkJoins S m) (a b c : S) (written text : List ℕ) (put : Put text (into m a b)) where
-  pub stopped_on : (q : QueryParts) (limits : LimitNumbers) (bytes : List ℕ) (fault : ClientFault) → IsStopped q limits bytes (written ++ text) (into m b c) fault
-      → IsStopped q limits bytes written (into m a c) fault
-  stopped_on q limits bytes fault s =
+  pub stopped_on : (q : QueryParts) (limits : LimitNumbers) (taken : ℕ) (bytes : List ℕ) (fault : ClientFault) → IsStopped q limits taken bytes (written ++ text) (into m b c) fault
+      → IsStopped q limits taken bytes written (into m a c) fault
+  stopped_on q limits taken bytes fault s =
       let same : (written ++ text) ++ s.text ≡ written ++ (text ++ s.text) = append_assoc written text s.text in
       record {
         heard = s.heard;
@@ -39,6 +39,7 @@ module _ {S : Type 0} (m : SinkMeaning S) (joins : SinkJoins S m) (a b c : S) (w
         ends = subst (λ (t : List ℕ). EndsBy q limits unknown s.heard s.unheard s.sections t (Err fault)) same s.ends;
         sound = subst (λ (t : List ℕ). ForEachSound q (λ d. SaysFor q d s.sections t (Err fault))) same s.sound;
         wanted = s.wanted;
+        counted = s.counted;
       }
 
   pub went_further : (body : CarBody) (heard : List ℕ) → WentOn body heard (written ++ text) (into m b c) → WentOn body heard written (into m a c)
@@ -57,8 +58,8 @@ kept_so body refused heard written out e w = subst (λ (r : Option ClientFault).
 
 pub taken_so : (result : Result ℕ ClientFault) (old body : CarBody) (refused : Option ClientFault) (heard piece written : List ℕ) (out : Output)
     → old.refused ≡ None → body.refused ≡ old.refused → MatchResult result (λ _. refused ≡ None) (λ fault. refused ≡ Some fault)
-    → MatchResult result (λ n. WentOn body (heard ++ take n piece) written out) (λ fault. IsStopped old.verifier.left.query old.verifier.limits (heard ++ piece) written out fault)
+    → MatchResult result (λ n. WentOn body (heard ++ take n piece) written out) (λ fault. IsStopped old.verifier.left.query old.verifier.limits body.verifier.taken (heard ++ piece) written out fault)
     → MatchResult result (λ n. WentOn (record body { refused = refused }) (heard ++ take n piece) written out)
-    (λ fault. IsStopped old.verifier.left.query old.verifier.limits (heard ++ piece) written out fault)
+    (λ fault. IsStopped old.verifier.left.query old.verifier.limits body.verifier.taken (heard ++ piece) written out fault)
 taken_so (Ok n) old body refused heard piece written out none same is on = kept_so body refused (heard ++ take n piece) written out (is ∙ sym (same ∙ none)) on
 taken_so (Err fault) old body refused heard piece written out none same is stopped = stopped

@@ -18,7 +18,7 @@ use Rattle.tg_verify.specs.Laws.{AnswerLaws}
 use Rattle.tg_verify.specs.Sound.{ForEachSound, IsItsFront}
 use Rattle.tg_verify.specs.State.{count_of}
 use Rattle.tg_verify.specs.Taken.{IsGoing, IsThrough}
-use Rattle.tg_client.specs.Body.{IsAfterWanted, IsBody, IsBodyAt, IsStopped, unknown}
+use Rattle.tg_client.specs.Body.{IsAfterWanted, IsBody, IsBodyAt, IsStopped, IsTakenBy, unknown}
 use Rattle.tg_client.specs.Ends.{EndsBy, HasSurplus, IsBeforeHeader, IsHeld, IsHeldExactly, IsWaiting, IsWithinReceived, SaysFor}
 use Rattle.tg_client.specs.Received.{HasReceived, IsCarOf, in_car, out_of_car, sections_given}
 use Rattle.tg_client.specs.declared.body.CarBody.{CarBody}
@@ -40,6 +40,15 @@ pub is_within : (body : CarBody) (heard : List ℕ) (sections : List Section) (w
 is_within body heard sections written h =
     let most : body.most ≡ body.verifier.limits.received = h.most in omega (arith, most, h.within)
 
+-- how many sections were taken
+taken_at : (body : CarBody) (given : List Event) (sections : List Section) (written : List ℕ) → sections_given given ≡ sections → IsBodyAt body given sections written
+    → body.verifier.taken ≡ count_of sections
+taken_at body [] sections written are (fresh, none) = omega (arith, fresh.taken, ap length are)
+taken_at body (event ∷ given) sections written are going = going.keeps.count
+
+pub taken_so_far : (body : CarBody) (heard : List ℕ) (sections : List Section) (written : List ℕ) → IsBody body heard sections written → body.verifier.taken ≡ count_of sections
+taken_so_far body heard sections written h = taken_at body h.given sections written h.sections_are h.at
+
 -- ---- whether a block is wanted
 
 -- before the header is whole
@@ -51,7 +60,7 @@ module _ (laws : AnswerLaws) (body : CarBody) (bytes : List ℕ) (sections : Lis
   pub is_waiting : (given : List Event) → GoesOn body.verifier.limits.block bytes given → sections_given given ≡ sections → IsBodyAt body given sections written
       → (at : WantedAt) → body.verifier.left.wanted ≡ Some at → IsWaiting body.verifier.left.query body.verifier.limits bytes sections written
   is_waiting [] on are h at e = inl (before_header body bytes sections written on are h.1)
-  is_waiting (event ∷ given) on are h at e = inr (at, laws.going_up_to body.verifier sections written h at e)
+  is_waiting (event ∷ given) on are h at e = inr (at, laws.going_up_to body.verifier sections written h at e, record { event = event; given = given; goes_on = on })
 
   held_by : (given : List Event) → GoesOn body.verifier.limits.block bytes given → sections_given given ≡ sections → IsBodyAt body given sections written
       → (wanted : Option WantedAt) → body.verifier.left.wanted ≡ wanted → IsHeld body.verifier.left.query body.verifier.limits bytes sections written
@@ -73,15 +82,15 @@ front_nothing text None e = e
 pub held_front : AnswerLaws → (q : QueryParts) (limits : LimitNumbers) (heard : List ℕ) (sections : List Section) (written : List ℕ) → IsHeld q limits heard sections written
     → ForEachSound q (λ d. IsItsFront q d sections written)
 held_front laws q limits heard sections written (inl (inl before)) d sound root = inl (front_nothing written (answer q d) before.no_text)
-held_front laws q limits heard sections written (inl (inr (at, up_to))) d sound root = laws.sound_up_to q d sections written at sound root up_to
-held_front laws q limits heard sections written (inr through) d sound root = laws.answer_front q d sections written (laws.sound_through q d sections written sound root through)
+held_front laws q limits heard sections written (inl (inr (at, up_to, header))) d sound root = laws.sound_up_to q limits d sections written at sound root up_to
+held_front laws q limits heard sections written (inr through) d sound root = laws.answer_front q d sections written (laws.sound_through q limits d sections written sound root through)
 
 -- ---- a refusal with which nothing more is put
 
-pub stopped_here : (q : QueryParts) (limits : LimitNumbers) (bytes heard unheard : List ℕ) (sections : List Section) (written : List ℕ) (out : Output) (fault : ClientFault) → bytes ≡ heard ++ unheard
+pub stopped_here : (q : QueryParts) (limits : LimitNumbers) (taken : ℕ) (bytes heard unheard : List ℕ) (sections : List Section) (written : List ℕ) (out : Output) (fault : ClientFault) → bytes ≡ heard ++ unheard
     → IsWithinReceived limits heard → HasReceived limits.block heard sections → Put [] out → EndsBy q limits unknown heard unheard sections written (Err fault)
-    → ForEachSound q (λ d. SaysFor q d sections written (Err fault)) → IsAfterWanted q limits heard sections fault → IsStopped q limits bytes written out fault
-stopped_here q limits bytes heard unheard sections written out fault whole within received put ends sound wanted = record {
+    → ForEachSound q (λ d. SaysFor q d sections written (Err fault)) → IsAfterWanted q limits heard sections fault → IsTakenBy fault sections taken → IsStopped q limits taken bytes written out fault
+stopped_here q limits taken bytes heard unheard sections written out fault whole within received put ends sound wanted counted = record {
   heard = heard;
   unheard = unheard;
   whole = whole;
@@ -93,6 +102,7 @@ stopped_here q limits bytes heard unheard sections written out fault whole withi
   ends = subst (λ (text : List ℕ). EndsBy q limits unknown heard unheard sections text (Err fault)) (sym (append-nil written)) ends;
   sound = subst (λ (text : List ℕ). ForEachSound q (λ d. SaysFor q d sections text (Err fault))) (sym (append-nil written)) sound;
   wanted = wanted;
+  counted = counted;
 }
 
 -- ---- bytes behind the last wanted section
@@ -160,7 +170,7 @@ module _ (laws : AnswerLaws) (body : CarBody) (heard : List ℕ) (sections : Lis
 
 pub surplus_of : (q : QueryParts) (limits : LimitNumbers) (limit : ℕ) (heard piece : List ℕ) (given : List Event) (sections : List Section) (written : List ℕ) (number : ℕ)
     → (a : (rest : List ℕ) × IsAmongSections limit heard given rest) → sections_given given ≡ sections → 0 < length (a.0 ++ piece) → length heard < limits.received + length a.0
-    → IsThrough q sections written → number ≡ count_of sections → HasSurplus q limits (heard ++ piece) sections written number
+    → IsThrough q limits sections written → number ≡ count_of sections → HasSurplus q limits (heard ++ piece) sections written number
 surplus_of q limits limit heard piece given sections written number (rest, a) are some few through number_is =
     let own = a.reaches in
     let size : length heard ≡ length (own.header ++ (own.done ++ rest)) = ap length own.whole in

@@ -150,9 +150,9 @@ known q limits input heard unheard sections text (faults.BadCar car) h = h
 known q limits input heard unheard sections text faults.InputFault h = h
 known q limits input heard unheard sections text faults.OutOfMemory h = h
 
-pub stop_heard : (limits : LimitNumbers) (q : QueryParts) (input : Input) (out : Output) (bytes : List ℕ) (fault : ClientFault) → Took bytes input → IsStopped q limits bytes [] out fault
+pub stop_heard : (limits : LimitNumbers) (q : QueryParts) (input : Input) (out : Output) (bytes : List ℕ) (fault : ClientFault) → Took bytes input → (taken : ℕ) → IsStopped q limits taken bytes [] out fault
     → IsVerified q limits input out (Err fault)
-stop_heard limits q input out bytes fault took s = record { verifies = stop_verifies; wanted = λ other e. subst (λ (f : ClientFault). IsAfterWanted q limits s.heard s.sections f) (cc e) s.wanted }
+stop_heard limits q input out bytes fault took taken s = record { verifies = stop_verifies; wanted = λ other e. subst (λ (f : ClientFault). IsAfterWanted q limits s.heard s.sections f) (cc e) s.wanted }
   where
     stop_verifies : Verifies q limits input out (Err fault)
     stop_verifies = record {

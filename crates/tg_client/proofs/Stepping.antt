@@ -14,7 +14,7 @@ use Rattle.tg_model.specs.LimitNumbers.{LimitNumbers}
 use Rattle.tg_model.specs.Queries.{QueryParts}
 use Rattle.tg_model.specs.declared.limits.LimitKind.TheVariants as kinds
 use Rattle.tg_streams.specs.Streams.{Output, Put}
-use Rattle.tg_verify.specs.History.{HasPutCause, HasWritten, StandsBy, StandsFor as VerifierStands}
+use Rattle.tg_verify.specs.History.{HasPutCause, HasWritten, IsCounted, StandsBy, StandsFor as VerifierStands}
 use Rattle.tg_verify.specs.Laws.{AnswerLaws}
 use Rattle.tg_verify.specs.Refusals.{HasRefused}
 use Rattle.tg_verify.specs.Sound.{AnswersFor, ForEachSound}
@@ -29,8 +29,8 @@ use Rattle.tg_client.specs.Received.{HasHeader, HasReceived, out_of_car, section
 use Rattle.tg_client.specs.ReceivedLaws.{ReceivedLaws}
 use Rattle.tg_client.specs.declared.body.CarBody.{CarBody}
 use Rattle.tg_client.specs.declared.fault.ClientFault.TheVariants as faults
-use Rattle.tg_client.proofs.Breaking.{car_ends, car_says, car_wants, refused_first, refused_now}
-use Rattle.tg_client.proofs.Going.{held_front, is_held, is_held_exactly, is_waiting, is_received, is_within, past_header, past_header_then, stopped_here, surplus_of}
+use Rattle.tg_client.proofs.Breaking.{car_ends, car_says, car_taken, car_wants, refused_first, refused_now, taken_behind, taken_first}
+use Rattle.tg_client.proofs.Going.{held_front, is_held, is_held_exactly, is_waiting, is_received, is_within, past_header, past_header_then, stopped_here, surplus_of, taken_so_far}
 
 -- ---- whether a block is wanted
 
@@ -99,31 +99,32 @@ module _ (laws : AnswerLaws) (body : CarBody) (heard : List ℕ) (sections : Lis
   -- ---- before a byte is looked at
 
   pub past_received : (piece : List ℕ) (out : Output) → body.most ≤ body.heard → 0 < length piece → Put [] out
-      → IsStopped body.verifier.left.query body.verifier.limits (heard ++ piece) written out (faults.Refused (refusals.Limit kinds.Received body.most))
+      → IsStopped body.verifier.left.query body.verifier.limits body.verifier.taken (heard ++ piece) written out (faults.Refused (refusals.Limit kinds.Received body.most))
   past_received piece out full some put =
       let all : length heard ≡ body.most = omega (arith, full, h.within, h.count) in
-      stopped_here body.verifier.left.query body.verifier.limits (heard ++ piece) heard piece sections written out (faults.Refused (refusals.Limit kinds.Received body.most)) refl
+      stopped_here body.verifier.left.query body.verifier.limits body.verifier.taken (heard ++ piece) heard piece sections written out (faults.Refused (refusals.Limit kinds.Received body.most)) refl
       (is_within body heard sections written h) (is_received body heard sections written h) put
       (record { number_is = h.most; heard_is = all; some = some; held = is_held_exactly laws body heard sections written h })
       (λ d sound root. (held_front laws body.verifier.left.query body.verifier.limits heard sections written (is_held laws body heard sections written h) d sound root, tt)) tt
+      (taken_so_far body heard sections written h)
 
   behind_by : (piece : List ℕ) (out : Output) → body.heard < body.most → body.verifier.left.wanted ≡ None → 0 < length piece → Put [] out
       → (given : List Event) → GoesOn body.reader.limit heard given → sections_given given ≡ sections → IsBodyAt body given sections written
-      → IsStopped body.verifier.left.query body.verifier.limits (heard ++ piece) written out (faults.Refused (refusals.Extra body.verifier.taken))
+      → IsStopped body.verifier.left.query body.verifier.limits body.verifier.taken (heard ++ piece) written out (faults.Refused (refusals.Extra body.verifier.taken))
   behind_by piece out few none some put [] on are (fresh, nothing) = absurd (fresh.wanted none)
   behind_by piece out few none some put (event ∷ given) on are going =
       let through = laws.going_through body.verifier sections written going none in
       let past = past_header body.reader.limit heard event given on in
       let most : body.most ≡ body.verifier.limits.received = h.most in
       let more : 0 < length (past.0 ++ piece) = omega (arith, some, length-append past.0 piece) in
-      stopped_here body.verifier.left.query body.verifier.limits (heard ++ piece) heard piece sections written out (faults.Refused (refusals.Extra body.verifier.taken)) refl
+      stopped_here body.verifier.left.query body.verifier.limits body.verifier.taken (heard ++ piece) heard piece sections written out (faults.Refused (refusals.Extra body.verifier.taken)) refl
       (is_within body heard sections written h) (is_received body heard sections written h) put
       (surplus_of body.verifier.left.query body.verifier.limits body.reader.limit heard piece (event ∷ given) sections written body.verifier.taken past are more
       (omega (arith, few, most, h.count)) through going.keeps.count)
-      (λ d sound root. (laws.answer_front body.verifier.left.query d sections written (laws.sound_through body.verifier.left.query d sections written sound root through), tt)) tt
+      (λ d sound root. (laws.answer_front body.verifier.left.query d sections written (laws.sound_through body.verifier.left.query body.verifier.limits d sections written sound root through), tt)) tt going.keeps.count
 
   pub behind_last : (piece : List ℕ) (out : Output) → body.heard < body.most → body.verifier.left.wanted ≡ None → 0 < length piece → Put [] out
-      → IsStopped body.verifier.left.query body.verifier.limits (heard ++ piece) written out (faults.Refused (refusals.Extra body.verifier.taken))
+      → IsStopped body.verifier.left.query body.verifier.limits body.verifier.taken (heard ++ piece) written out (faults.Refused (refusals.Extra body.verifier.taken))
   behind_last piece out few none some put = behind_by piece out few none some put h.given h.reads.exact.goes_on h.sections_are h.at
 
   -- ---- the reader refuses
@@ -136,7 +137,7 @@ module _ (laws : AnswerLaws) (body : CarBody) (heard : List ℕ) (sections : Lis
 
   pub reader_stops : (reader : ReaderState) (piece : List ℕ) (room : ℕ) (out : Output) (fault : CarFault) (at : WantedAt) → body.heard + room ≤ body.most → body.verifier.left.wanted ≡ Some at
       → StandsFor reader (with_feed (going_on heard h.given) (take room piece) (Err fault)) → reader.limit ≡ body.reader.limit → Put [] out
-      → IsStopped body.verifier.left.query body.verifier.limits (heard ++ piece) written out (fault_of_car fault)
+      → IsStopped body.verifier.left.query body.verifier.limits body.verifier.taken (heard ++ piece) written out (fault_of_car fault)
   reader_stops reader piece room out fault at fits wanted stands limit put =
       let same : reader.limit ≡ body.verifier.limits.block = limit ∙ h.limit in
       let stop : StopsAt body.verifier.limits.block heard h.given (take room piece) fault = subst (λ (n : ℕ). StopsAt n heard h.given (take room piece) fault) same stands.exact.stopped in
@@ -146,12 +147,13 @@ module _ (laws : AnswerLaws) (body : CarBody) (heard : List ℕ) (sections : Lis
       let size : length (take room piece) ≡ length (stop.front ++ stop.last ∷ stop.more) = ap length stop.whole in
       let few : length (heard ++ stop.front) < body.verifier.limits.received =
       omega (arith, fits, most, h.count, size, length-append heard stop.front, length-append stop.front (stop.last ∷ stop.more), length-take room piece) in
-      stopped_here body.verifier.left.query body.verifier.limits (heard ++ piece) (heard ++ stop.front) (stop.last ∷ rest) sections written out (fault_of_car fault)
+      stopped_here body.verifier.left.query body.verifier.limits body.verifier.taken (heard ++ piece) (heard ++ stop.front) (stop.last ∷ rest) sections written out (fault_of_car fault)
       (split_at piece stop.front stop.more stop.last room stop.whole) (omega (arith, few))
       (record { given = h.given; goes_on = stop.went_on; sections_are = h.sections_are }) put
       (car_ends body.verifier.left.query body.verifier.limits (heard ++ stop.front) stop.last rest sections written waits few fault stop.brings)
       (car_says body.verifier.left.query body.verifier.limits (heard ++ stop.front) stop.last rest sections written waits laws fault stop.brings)
       (car_wants body.verifier.left.query body.verifier.limits (heard ++ stop.front) sections fault)
+      (car_taken sections body.verifier.taken (taken_so_far body heard sections written h) fault)
 
   -- ---- it goes on
 
@@ -209,10 +211,10 @@ module _ (laws : AnswerLaws) (body : CarBody) (heard : List ℕ) (sections : Lis
     }
 
     pub section_refused : (wanted_at : WantedAt) → body.verifier.left.wanted ≡ Some wanted_at → (fault : Refusal) → HasWritten verifier (sections ++ out_of_car section ∷ []) written out (Err fault) → verifier.refused ≡ Some fault
-        → HasPutCause (Err fault) out → 0 < length piece
+        → HasPutCause (Err fault) out → IsCounted body.verifier.taken verifier.taken (Err fault) → 0 < length piece
         → taken ≤ length piece → body.heard < body.most → body.heard + taken ≤ body.most
-        → IsStopped body.verifier.left.query body.verifier.limits (heard ++ piece) written out (fault_of_refusal fault)
-    section_refused wanted_at wanted fault w is cause some bound few fits =
+        → IsStopped body.verifier.left.query body.verifier.limits verifier.taken (heard ++ piece) written out (fault_of_refusal fault)
+    section_refused wanted_at wanted fault w is cause counted some bound few fits =
         let all : List Section = sections ++ out_of_car section ∷ [] in
         let refused : HasRefused verifier.left.query verifier.limits all (written ++ w.text) fault =
         subst (λ (r : Option Refusal). StandsBy r verifier all (written ++ w.text)) is w.stands in
@@ -233,13 +235,15 @@ module _ (laws : AnswerLaws) (body : CarBody) (heard : List ℕ) (sections : Lis
         let past = past_header_then body.verifier.limits.block body.verifier.limits.block heard (heard ++ take taken piece) h.given at size section on after.goes_on in
         let going : IsGoing body.verifier sections written = subst (λ (g : List Event). IsBodyAt body g sections written) past.1.given_is h.at in
         let some_left : 0 < length (take taken piece ++ drop taken piece) = subst (λ (l : List ℕ). 0 < length l) (sym whole) some in
-        subst (λ (l : List ℕ). IsStopped body.verifier.left.query body.verifier.limits (heard ++ l) written out (fault_of_refusal fault)) whole
+        subst (λ (l : List ℕ). IsStopped body.verifier.left.query body.verifier.limits verifier.taken (heard ++ l) written out (fault_of_refusal fault)) whole
         (refused_now laws received body.verifier.left.query body.verifier.limits heard (take taken piece) (drop taken piece) h.given sections (out_of_car section)
         (is_received body heard sections written h) after
         past
         h.sections_are some_left written w.text out w.put wanted_at (laws.going_up_to body.verifier sections written going wanted_at wanted)
         (omega (arith, few, most, h.count)) (omega (arith, fits, most, h.count, length-append heard (take taken piece), length-take-le taken piece bound))
-        (header_whole body.verifier.limits.block (heard ++ take taken piece) h.given (events.Section at size section ∷ []) _ _ past.1.given_is after.goes_on) fault refused_here cause sound)
+        (header_whole body.verifier.limits.block (heard ++ take taken piece) h.given (events.Section at size section ∷ []) _ _ past.1.given_is after.goes_on)
+        body.verifier.taken verifier.taken (taken_so_far body heard sections written h) fault refused_here cause sound
+        (taken_behind sections (out_of_car section) body.verifier.taken verifier.taken (taken_so_far body heard sections written h) fault counted))
 
   -- with the header, as the verifier starts
   module _ (received : ReceivedLaws) (reader : ReaderState) (verifier : VerifierState) (piece : List ℕ) (taken : ℕ) (header : List ℕ) (out : Output)
@@ -280,9 +284,9 @@ module _ (laws : AnswerLaws) (body : CarBody) (heard : List ℕ) (sections : Lis
     }
 
     pub header_refused : (fault : Refusal) → HasWritten verifier [] [] out (Err fault) → verifier.refused ≡ Some fault → HasPutCause (Err fault) out
-        → taken ≤ length piece → body.heard + taken ≤ body.most
-        → IsStopped body.verifier.left.query body.verifier.limits (heard ++ piece) written out (fault_of_refusal fault)
-    header_refused fault w is cause bound fits =
+        → verifier.taken ≡ body.verifier.taken → taken ≤ length piece → body.heard + taken ≤ body.most
+        → IsStopped body.verifier.left.query body.verifier.limits verifier.taken (heard ++ piece) written out (fault_of_refusal fault)
+    header_refused fault w is cause stays bound fits =
         let refused : HasRefused verifier.left.query verifier.limits [] w.text fault = subst (λ (r : Option Refusal). StandsBy r verifier [] w.text) is w.stands in
         let refused_here : HasRefused body.verifier.left.query body.verifier.limits [] w.text fault =
         subst (λ (l : LimitNumbers). HasRefused body.verifier.left.query l [] w.text fault) same_limits
@@ -294,11 +298,12 @@ module _ (laws : AnswerLaws) (body : CarBody) (heard : List ℕ) (sections : Lis
         let most : body.most ≡ body.verifier.limits.received = h.most in
         let whole : heard ++ piece ≡ (heard ++ take taken piece) ++ drop taken piece =
         ap (λ (l : List ℕ). heard ++ l) (sym (take-append-drop taken piece)) ∙ sym (append_assoc heard (take taken piece) (drop taken piece)) in
-        subst (λ (t : List ℕ). IsStopped body.verifier.left.query body.verifier.limits (heard ++ piece) t out (fault_of_refusal fault)) (sym fresh_then.1)
+        subst (λ (t : List ℕ). IsStopped body.verifier.left.query body.verifier.limits verifier.taken (heard ++ piece) t out (fault_of_refusal fault)) (sym fresh_then.1)
         (refused_first received body.verifier.left.query body.verifier.limits (heard ++ piece) (heard ++ take taken piece) (drop taken piece) whole
         (omega (arith, fits, most, h.count, length-append heard (take taken piece), length-take-le taken piece bound))
         (record { given = events.Header header ∷ []; goes_on = on; sections_are = refl }) (record { event = events.Header header; given = []; goes_on = on }) [] w.text out w.put
-        fault refused_here cause sound)
+        verifier.taken fault refused_here cause sound
+        (taken_first body.verifier.left.query body.verifier.limits w.text verifier.taken (stays ∙ fresh_then.0.taken) fault refused_here))
 
   -- with nothing whole
   pub step_taken : (reader : ReaderState) (piece : List ℕ) (taken count : ℕ) (out : Output)

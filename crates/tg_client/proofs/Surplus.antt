@@ -59,23 +59,23 @@ before_last (s ∷ all) rest (t ∷ taken) next section e =
 
 module _ (laws : AnswerLaws) (verified : VerifiedLaws) (fronts : FitsByFronts) (progresses : ProgressByFronts) (q : QueryParts) (d : Dag) (all : List Section) (answer : List ℕ)
     (either : (sections : List Section) (a b : Dag) (x : List ℕ) (w : Spot) → Fits a q sections x → IsInProgress b q sections w → ⊥) (fits : Fits d q all answer) where
-  pub up_to_behind : (rest : List Section) (text : List ℕ) (at : WantedAt) → IsUpTo q (all ++ rest) text at → ⊥
-  up_to_behind [] text at h = fitting_done verified q d all answer fits text at (subst (λ (l : List Section). IsUpTo q l text at) (append-nil all) h)
-  up_to_behind (next ∷ rest) text at h =
-      let p = laws.up_to q (all ++ next ∷ rest) text at h in
+  pub up_to_behind : {limits : LimitNumbers} → (rest : List Section) (text : List ℕ) (at : WantedAt) → IsUpTo q limits (all ++ rest) text at → ⊥
+  up_to_behind {limits} [] text at h = fitting_done verified q d all answer fits text at (subst (λ (l : List Section). IsUpTo q limits l text at) (append-nil all) h)
+  up_to_behind {limits} (next ∷ rest) text at h =
+      let p = laws.up_to q _ (all ++ next ∷ rest) text at h in
       let f = progresses q p.s all rest next _ p.progress in
       either all d f.partial answer f.spot fits f.progress
 
-  pub through_behind : (rest : List Section) (next : Section) (text : List ℕ) → IsThrough q (all ++ next ∷ rest) text → ⊥
+  pub through_behind : {limits : LimitNumbers} → (rest : List Section) (next : Section) (text : List ℕ) → IsThrough q limits (all ++ next ∷ rest) text → ⊥
   through_behind rest next text h =
-      let p = laws.through q (all ++ next ∷ rest) text h in
+      let p = laws.through q _ (all ++ next ∷ rest) text h in
       let f = fronts q p.s all rest next text p.fits in
       either all d f.partial answer f.spot fits f.progress
 
-  pub last_behind : (rest : List Section) (next : Section) → IsLastWanted q (all ++ next ∷ rest) → ⊥
-  last_behind rest next h =
+  pub last_behind : {limits : LimitNumbers} → (rest : List Section) (next : Section) → IsLastWanted q limits (all ++ next ∷ rest) → ⊥
+  last_behind {limits} rest next h =
       let (some, is) = before_last all rest h.taken next h.section h.sections_are in
-      up_to_behind some h.text h.at (subst (λ (l : List Section). IsUpTo q l h.text h.at) is h.up_to)
+      up_to_behind some h.text h.at (subst (λ (l : List Section). IsUpTo q limits l h.text h.at) is h.up_to)
 
   -- ---- by what was heard
 
@@ -103,31 +103,31 @@ module _ (laws : AnswerLaws) (verified : VerifiedLaws) (fronts : FitsByFronts) (
     past_end : heard ≡ car ++ more → (rest : List Section) × (sections ≡ all ++ rest)
     past_end e = received.behind limits.block car more all sections is_car (subst (λ (b : List ℕ). HasReceived limits.block b sections) e got)
 
-    through_over : (rest : List Section) → sections ≡ all ++ rest → IsThrough q sections text → sections ≡ all
+    through_over : (rest : List Section) → sections ≡ all ++ rest → IsThrough q limits sections text → sections ≡ all
     through_over [] e h = e ∙ append-nil all
-    through_over (next ∷ rest) e h = absurd (through_behind rest next text (subst (λ (s : List Section). IsThrough q s text) e h))
+    through_over (next ∷ rest) e h = absurd (through_behind rest next text (subst (λ (s : List Section). IsThrough q limits s text) e h))
 
-    through_under : (rest : List Section) → all ≡ sections ++ rest → IsThrough q sections text → sections ≡ all
+    through_under : (rest : List Section) → all ≡ sections ++ rest → IsThrough q limits sections text → sections ≡ all
     through_under [] e h = sym (e ∙ append-nil sections)
     through_under (next ∷ rest) e h = absurd (fitting_through verified q d all answer fits sections rest next text e h)
 
-    through_here : Order → IsThrough q sections text → sections ≡ all
+    through_here : Order → IsThrough q limits sections text → sections ≡ all
     through_here (past z rest is e) h = through_over rest e h
     through_here (before y z rest e is) h = through_under rest is h
 
     -- behind the CAR no block is wanted, and the header is whole
     waits_over : (z : List ℕ) (rest : List Section) (w : List ℕ) → heard ≡ car ++ z → sections ≡ all ++ rest → IsWaiting q limits heard sections w → ⊥
     waits_over z rest w is e (inl early) = no_header cars limits.block all car z heard is_car is early.goes_on
-    waits_over z rest w is e (inr (at, h)) = up_to_behind rest w at (subst (λ (s : List Section). IsUpTo q s w at) e h)
+    waits_over z rest w is e (inr (at, h, header)) = up_to_behind rest w at (subst (λ (s : List Section). IsUpTo q limits s w at) e h)
 
     short_over : (z : List ℕ) (rest : List Section) (want : CidParts) (number : ℕ) → heard ≡ car ++ z → sections ≡ all ++ rest → IsEndedShort q limits heard sections text want number → ⊥
     short_over z rest want number is e (inl (early, _, _)) = waits_over z rest text is e (inl early)
-    short_over z rest want number is e (inr (at, _, cut)) = waits_over z rest text is e (inr (at, cut.up_to))
+    short_over z rest want number is e (inr (at, _, cut, header)) = waits_over z rest text is e (inr (at, cut.up_to, header))
 
-    none_over : (rest : List Section) (next : Section) → sections ≡ all ++ next ∷ rest → (sections ≡ []) ⊎ IsLastWanted q sections → ⊥
+    none_over : (rest : List Section) (next : Section) → sections ≡ all ++ next ∷ rest → (sections ≡ []) ⊎ IsLastWanted q limits sections → ⊥
     none_over rest next e (inl none) =
         let size : 0 ≡ length (all ++ next ∷ rest) = ap length (sym none ∙ e) in absurd (omega (arith, size, length-append all (next ∷ rest)))
-    none_over rest next e (inr last) = last_behind rest next (subst (λ (s : List Section). IsLastWanted q s) e last)
+    none_over rest next e (inr last) = last_behind rest next (subst (λ (s : List Section). IsLastWanted q limits s) e last)
 
     refused_by : Order → (fault : Refusal) → HasRefused q limits sections text fault → IsBehindHeader q limits heard sections → IsOwnFault fault
     refused_by (before y z rest e is) fault h w = taken sections rest text fault is h
@@ -192,7 +192,7 @@ module _ (laws : AnswerLaws) (verified : VerifiedLaws) (fronts : FitsByFronts) (
     over faults.OutOfMemory h w = inr tt
 
     -- it isn't accepted
-    pub not_accepted : heard ≡ car ++ more → IsCarOf heard sections → IsThrough q sections text → ⊥
+    pub not_accepted : heard ≡ car ++ more → IsCarOf heard sections → IsThrough q limits sections text → ⊥
     not_accepted e heard_is through =
         let (rest, is) = past_end e in
         let same = through_over rest is through in

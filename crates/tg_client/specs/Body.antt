@@ -16,6 +16,7 @@ use Rattle.tg_model.specs.Queries.{QueryParts}
 use Rattle.tg_model.specs.declared.limits.LimitKind.TheVariants as kinds
 use Rattle.tg_streams.specs.Streams.{Input, Output, OutputQuiet, OutputRose, Put}
 use Rattle.tg_verify.specs.Sound.{ForEachSound, IsItsFront}
+use Rattle.tg_verify.specs.State.{count_of}
 use Rattle.tg_verify.specs.Taken.{IsFresh, IsGoing, IsThrough, IsUpTo}
 use Rattle.tg_verify.specs.declared.fault.Refusal.TheVariants as refusals
 
@@ -52,18 +53,18 @@ pub record WentOn (body : CarBody) (heard written : List ℕ) (out : Output) : T
   pub is_body : IsBody body heard sections (written ++ text)
 
 -- the last of them was wanted
-pub record IsLastWanted (q : QueryParts) (sections : List Section) : Type 0 where
+pub record IsLastWanted (q : QueryParts) (limits : LimitNumbers) (sections : List Section) : Type 0 where
   pub taken : List Section
   pub section : Section
   pub sections_are : sections ≡ taken ++ section ∷ []
   pub text : List ℕ
   pub at : WantedAt
-  pub up_to : IsUpTo q taken text at
+  pub up_to : IsUpTo q limits taken text at
 
 -- the header is whole, and no section was taken, or the last of them was wanted
 pub record IsBehindHeader (q : QueryParts) (limits : LimitNumbers) (heard : List ℕ) (sections : List Section) : Type 0 where
   pub header : HasHeader limits.block heard
-  pub last : (sections ≡ []) ⊎ IsLastWanted q sections
+  pub last : (sections ≡ []) ⊎ IsLastWanted q limits sections
 
 -- nothing is taken before the header is whole, nor behind the last wanted section; and where it isn't whole the root is
 -- wanted
@@ -80,8 +81,29 @@ IsAfterWanted q limits heard sections other = ⊤
 abbrev pub unknown : Input
 unknown = record { took = λ _. ⊥; ended = ⊥; left_old = None; left_new = None; faults_old = 0; faults_new = 0 }
 
--- in these bytes there was a refusal, and a text was put before
-pub record IsStopped (q : QueryParts) (limits : LimitNumbers) (bytes written : List ℕ) (out : Output) (fault : ClientFault) : Type 0 where
+-- one of these sections fewer was taken
+pub record IsOneLess (sections : List Section) (taken : ℕ) : Type 0 where
+  pub before : List Section
+  pub last : Section
+  pub sections_are : sections ≡ before ++ last ∷ []
+  pub number_is : taken ≡ count_of before
+
+-- how many of these sections are told as taken at a refusal: all; all but the last, which isn't the wanted one; or either,
+-- as the refusal comes at the last one's place or behind it
+abbrev pub IsTakenBy : ClientFault → List Section → ℕ → Type 0
+IsTakenBy (faults.Refused (refusals.Extra number)) sections taken = taken ≡ count_of sections
+IsTakenBy (faults.Refused (refusals.Limit kinds.Block number)) sections taken = taken ≡ count_of sections
+IsTakenBy (faults.Refused (refusals.Limit kinds.Received number)) sections taken = taken ≡ count_of sections
+IsTakenBy (faults.Refused (refusals.Truncated want number)) sections taken = taken ≡ count_of sections
+IsTakenBy (faults.Refused (refusals.BadDigest cid)) sections taken = IsOneLess sections taken
+IsTakenBy (faults.Refused (refusals.WrongBlock want got)) sections taken = IsOneLess sections taken
+IsTakenBy (faults.Refused fault) sections taken = (taken ≡ count_of sections) ⊎ IsOneLess sections taken
+IsTakenBy (faults.BadCar fault) sections taken = taken ≡ count_of sections
+IsTakenBy faults.InputFault sections taken = taken ≡ count_of sections
+IsTakenBy faults.OutOfMemory sections taken = (taken ≡ count_of sections) ⊎ IsOneLess sections taken
+
+-- in these bytes there was a refusal, with so many sections told as taken, and a text was put before
+pub record IsStopped (q : QueryParts) (limits : LimitNumbers) (taken : ℕ) (bytes written : List ℕ) (out : Output) (fault : ClientFault) : Type 0 where
   pub heard : List ℕ
   pub unheard : List ℕ
   pub whole : bytes ≡ heard ++ unheard
@@ -93,6 +115,7 @@ pub record IsStopped (q : QueryParts) (limits : LimitNumbers) (bytes written : L
   pub ends : EndsBy q limits unknown heard unheard sections (written ++ text) (Err fault)
   pub sound : ForEachSound q (λ d. SaysFor q d sections (written ++ text) (Err fault))
   pub wanted : IsAfterWanted q limits heard sections fault
+  pub counted : IsTakenBy fault sections taken
 
 -- how the verification of a CAR ends, and nothing was taken behind the last wanted section
 pub record IsVerified (q : QueryParts) (limits : LimitNumbers) (input : Input) (out : Output) (result : Result ⊤ ClientFault) : Type 0 where
@@ -131,7 +154,7 @@ pub record StandsSo (q : QueryParts) (limits : LimitNumbers) (wanted : Option Wa
   pub received : HasReceived limits.block heard sections
   pub held : IsHeldExactly q limits heard sections written
   pub waits : wanted ≢ None → IsWaiting q limits heard sections written
-  pub through : wanted ≡ None → IsThrough q sections written × IsCarOf heard sections
+  pub through : wanted ≡ None → IsThrough q limits sections written × IsCarOf heard sections
   pub front : ForEachSound q (λ d. IsItsFront q d sections written)
 
 abbrev pub BodyStands : Type 0

@@ -5,7 +5,7 @@ use Rattle.tg_car.specs.History.{GoesOn}
 use Rattle.tg_cid.specs.Cid.{CidParts}
 use Rattle.tg_car.specs.declared.fault.CarFault.{CarFault}
 use Rattle.tg_car.specs.declared.fault.CarFault.TheVariants as cars
-use Rattle.tg_client.specs.Received.{HasReceived, IsCarOf}
+use Rattle.tg_client.specs.Received.{HasHeader, HasReceived, IsCarOf}
 use Rattle.tg_client.specs.ReceivedLaws.{IsNoCar}
 use Rattle.tg_client.specs.declared.fault.ClientFault.{ClientFault}
 use Rattle.tg_client.specs.declared.fault.ClientFault.TheVariants as faults
@@ -30,29 +30,29 @@ pub record IsBeforeHeader (limits : LimitNumbers) (heard : List ℕ) (sections :
   pub no_section : sections ≡ []
   pub no_text : text ≡ []
 
--- the sections were taken, nothing was refused, and a block is wanted; or the header isn't whole
+-- the header is whole, the sections were taken, nothing was refused, and a block is wanted; or the header isn't whole
 abbrev pub IsWaiting : QueryParts → LimitNumbers → List ℕ → List Section → List ℕ → Type 0
 IsWaiting q limits heard sections text =
-    IsBeforeHeader limits heard sections text ⊎ ((at : WantedAt) × IsUpTo q sections text at)
+    IsBeforeHeader limits heard sections text ⊎ ((at : WantedAt) × IsUpTo q limits sections text at × HasHeader limits.block heard)
 
 -- or all came
 abbrev pub IsHeld : QueryParts → LimitNumbers → List ℕ → List Section → List ℕ → Type 0
-IsHeld q limits heard sections text = IsWaiting q limits heard sections text ⊎ IsThrough q sections text
+IsHeld q limits heard sections text = IsWaiting q limits heard sections text ⊎ IsThrough q limits sections text
 
 -- or all came, and what was heard is the CAR of these sections, with no byte behind the last of them
 abbrev pub IsHeldExactly : QueryParts → LimitNumbers → List ℕ → List Section → List ℕ → Type 0
 IsHeldExactly q limits heard sections text =
-    IsWaiting q limits heard sections text ⊎ (IsThrough q sections text × IsCarOf heard sections)
+    IsWaiting q limits heard sections text ⊎ (IsThrough q limits sections text × IsCarOf heard sections)
 
 -- no more bytes come: a block is wanted, or the header isn't whole, where the root is
 abbrev pub IsEndedShort : QueryParts → LimitNumbers → List ℕ → List Section → List ℕ → CidParts → ℕ → Type 0
 IsEndedShort q limits heard sections text want number =
     (IsBeforeHeader limits heard sections text × (want ≡ q.root) × (number ≡ 0))
-    ⊎ ((at : WantedAt) × (want ≡ at.cid) × IsCutShort q sections text at number)
+    ⊎ ((at : WantedAt) × (want ≡ at.cid) × IsCutShort q limits sections text at number × HasHeader limits.block heard)
 
 -- all sections came, and bytes behind them, of which the first may be received
 pub record HasSurplus (q : QueryParts) (limits : LimitNumbers) (bytes : List ℕ) (sections : List Section) (text : List ℕ) (number : ℕ) : Type 0 where
-  pub through : IsThrough q sections text
+  pub through : IsThrough q limits sections text
   pub number_is : number ≡ count_of sections
   pub car : List ℕ
   pub more : List ℕ
@@ -88,7 +88,7 @@ pub record IsAllHeard (unheard : List ℕ) (input : Input) : Type 0 where
 -- accepted: the input is a CAR of all sections that the query asks for, and their text is what was put
 pub record IsAccepted (q : QueryParts) (limits : LimitNumbers) (heard : List ℕ) (sections : List Section) (text : List ℕ) : Type 0 where
   pub is_car : IsCarOf heard sections
-  pub through : IsThrough q sections text
+  pub through : IsThrough q limits sections text
   pub within : length heard ≤ limits.received
 
 abbrev pub EndsBy : QueryParts → LimitNumbers → Input → List ℕ → List ℕ → List Section → List ℕ → Result ⊤ ClientFault

@@ -76,14 +76,14 @@ impl CarBody {
         }
     }
 
-    /// Whether all sections came that the query asks for: no block is wanted.
+    /// Whether no block is wanted: all sections came that the query asks for, or the verifier refused one.
     pub fn is_whole(&self) -> bool
         ensures { IsTrue result ↔ (next_cid self.now.verifier.refused self.now.verifier.left.wanted ≡ None) }
     {
         self.verifier.want().is_none()
     }
 
-    /// How many sections were taken.
+    /// How many sections were taken, as `Verifier::sections` counts them.
     pub fn sections(&self) -> u64
         ensures { result ≡ self.now.verifier.taken }
     {
@@ -116,8 +116,8 @@ impl CarBody {
         ensures stands { (heard : Items ℕ) (sections : Items Section) (written : Items ℕ)
             → IsBody self.old heard sections written → MatchResult result
             (λ _. WentOn self.new (heard ++ piece.now) written (into S.sink out.old out.new))
-            (λ fault. IsStopped self.old.verifier.left.query self.old.verifier.limits (heard
-            ++ piece.now) written (into S.sink out.old out.new) fault) }
+            (λ fault. IsStopped self.old.verifier.left.query self.old.verifier.limits
+            self.new.verifier.taken (heard ++ piece.now) written (into S.sink out.old out.new) fault) }
         ensures again { (fault : ClientFault) → self.old.refused ≡ Some fault
             → (result ≡ Err fault) × (self.new ≡ self.old) × (out.new ≡ out.old) }
         ensures refused { MatchResult result (λ _. self.new.refused ≡ None) (λ fault. self.new.refused ≡ Some fault) }
@@ -139,6 +139,13 @@ impl CarBody {
         ensures stands { (heard : Items ℕ) (sections : Items Section) (written : Items ℕ)
             → IsBody self.old heard sections written
             → HasEnded self.old.verifier.left.query self.old.verifier.limits heard sections written result }
+        // Nothing but the refusals changes.
+        ensures rest { self.new ≡ record self.old {
+          verifier = record self.old.verifier {
+            refused = self.new.verifier.refused;
+          };
+          refused = self.new.refused;
+        } }
         ensures again { (fault : ClientFault) → self.old.refused ≡ Some fault
             → (result ≡ Err fault) × (self.new ≡ self.old) }
         ensures refused { MatchResult result (λ _. self.new.refused ≡ None) (λ fault. self.new.refused ≡ Some fault) }
@@ -157,6 +164,11 @@ impl CarBody {
         ensures stands { (heard : Items ℕ) (sections : Items Section) (written : Items ℕ)
             → IsBody self.old heard sections written
             → HasEnded self.old.verifier.left.query self.old.verifier.limits heard sections written result }
+        ensures rest { self.new ≡ record self.old {
+          verifier = record self.old.verifier {
+            refused = self.new.verifier.refused;
+          };
+        } }
     {
         tg_verify::laws::verified_answers();
         self.verifier.finish()?;
@@ -179,8 +191,8 @@ impl CarBody {
         ensures stands { (heard : Items ℕ) (sections : Items Section) (written : Items ℕ)
             → IsBody self.old heard sections written → MatchResult result
             (λ n. WentOn self.new (heard ++ take n piece.now) written (into S.sink out.old out.new))
-            (λ fault. IsStopped self.old.verifier.left.query self.old.verifier.limits (heard
-            ++ piece.now) written (into S.sink out.old out.new) fault) }
+            (λ fault. IsStopped self.old.verifier.left.query self.old.verifier.limits
+            self.new.verifier.taken (heard ++ piece.now) written (into S.sink out.old out.new) fault) }
         ensures again { (fault : ClientFault) → self.old.refused ≡ Some fault
             → (result ≡ Err fault) × (self.new ≡ self.old) × (out.new ≡ out.old) }
         ensures refused { MatchResult result (λ _. self.new.refused ≡ None) (λ fault. self.new.refused ≡ Some fault) }
@@ -208,8 +220,8 @@ impl CarBody {
         ensures stands { (heard : Items ℕ) (sections : Items Section) (written : Items ℕ)
             → IsBody self.old heard sections written → MatchResult result
             (λ n. WentOn self.new (heard ++ take n piece.now) written (into S.sink out.old out.new))
-            (λ fault. IsStopped self.old.verifier.left.query self.old.verifier.limits (heard
-            ++ piece.now) written (into S.sink out.old out.new) fault) }
+            (λ fault. IsStopped self.old.verifier.left.query self.old.verifier.limits
+            self.new.verifier.taken (heard ++ piece.now) written (into S.sink out.old out.new) fault) }
     {
         tg_verify::laws::verified_answers();
         laws::received_sections();

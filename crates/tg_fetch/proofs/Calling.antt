@@ -155,6 +155,7 @@ module _ {L S : Type 0} (m : LinkMeaning L) (source : SourceMeaning L) (hears : 
               sections = r.sections;
               text = h.written ++ r.text;
               put = put_put S sink s₀ s₁ s₂ h.written r.text joins h.put r.put;
+              within = r.within;
               refused = r.refused;
               sound = r.sound;
             });

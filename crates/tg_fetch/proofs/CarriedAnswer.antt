@@ -70,5 +70,5 @@ pub carried_is_answer : OneCarried → AnswerLaws → FitOnce → CarriedIsAnswe
 carried_is_answer one answers once q limits d all answer heard more ended over sections text fits carries none a =
     let same = one (heard ++ more) ended true q sections all (any_head q (heard ++ more) ended sections (longer_carries (IsAnswerHead q) q heard more ended sections none a.carries))
     (carrier_carries q limits (heard ++ more) all (carrier q limits (heard ++ more) over all carries)) in
-    let fit = answers.through q all text (subst (λ (s : List Section). IsThrough q s text) same a.through) in
+    let fit = answers.through q limits all text (subst (λ (s : List Section). IsThrough q limits s text) same a.through) in
     (same, (once q all fit.s d text answer fit.fits fits).1)

@@ -80,7 +80,7 @@ settled q sections at later sends w cid more e =
 module _ (stays : ReplyStays) (one_head : OneFinalHead) (fronts : BodyFronts) (bodies : BodyLaws) (cars : CarLaws) (answers : AnswerLaws) (verified : VerifiedLaws)
     (q : QueryParts) (limits : LimitNumbers) (d : Dag) (all : List Section) (answer : List ℕ) (fits : Fits d q all answer) (within : IsWithinLimits q limits d) where
   -- no block is wanted behind all sections
-  none_wanted : (text : List ℕ) (at : WantedAt) → IsUpTo q all text at → ⊥
+  none_wanted : (text : List ℕ) (at : WantedAt) → IsUpTo q limits all text at → ⊥
   none_wanted text at h =
       let (none, _) = verified.fitting_ends q d all answer h.given (open_block at.want at.cid ∷ h.later) (settled q all at h.later h.sends) fits h.verified in absurd (cc none)
 
@@ -135,7 +135,7 @@ module _ (stays : ReplyStays) (one_head : OneFinalHead) (fronts : BodyFronts) (b
         all_short : sections ≡ all → (want : CidParts) (number : ℕ) → r.cause ≡ refusals.Truncated want number → ⊥
         all_short are want number e =
             let (at, _, cut) = subst (λ (c : Refusal). HasRefused q limits sections text c) e r.refused in
-            none_wanted text at (subst (λ (s : List Section). IsUpTo q s text at) are cut.up_to)
+            none_wanted text at (subst (λ (s : List Section). IsUpTo q limits s text at) are cut.up_to)
 
         by : ((sections ≡ []) × IsBeforeBlock r.cause) ⊎ (sections ≡ root_section q n.body ∷ []) → IsOwnFault (fault_of_refusal r.cause)
         by (inl (none, before)) =

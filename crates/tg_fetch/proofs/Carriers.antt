@@ -130,8 +130,10 @@ module _ (stays : ReplyStays) (one_head : OneFinalHead) (fronts : BodyFronts) (b
   breaks : (sections : List Section) (text : List ℕ) → BreaksFraming q limits heard unheard sections text → ⊥
   breaks sections text r =
       let (same, bytes) = same_head r.head r.rest r.final in
-      let cause = subst (λ (h : ReplyHead). HasFeedCause h.framing r.rest r.given unheard https.BadFraming) same r.breaks in
-      unbroken bodies n.head.framing n.body n.rest r.rest r.given unheard more n.tail n.body_is cause bytes
+      let cause = subst (λ (h : ReplyHead). HasFeedCause h.framing r.rest r.given r.looked https.BadFraming) same r.breaks in
+      let whole : r.rest ++ (r.looked ++ (r.more ++ more)) ≡ r.rest ++ (unheard ++ more) =
+      ap (λ (l : List ℕ). r.rest ++ l) (sym (append_assoc r.looked r.more more) ∙ ap (λ (l : List ℕ). l ++ more) (sym r.whole)) in
+      unbroken bodies n.head.framing n.body n.rest r.rest r.given r.looked (r.more ++ more) n.tail n.body_is cause (whole ∙ bytes)
 
   -- ---- what is open of it is behind this head
 
@@ -146,9 +148,6 @@ module _ (stays : ReplyStays) (one_head : OneFinalHead) (fronts : BodyFronts) (b
       → IsRefusedFor q limits n.head n.body sections text fault
   memory sections text fault is (inl none) = IsRefusedFor.before_body is none
   memory sections text fault is (inr (given, body)) = IsRefusedFor.amid_body is given body
-
-  no_bad : (heard ++ unheard) ++ more ≡ heard ++ (unheard ++ more)
-  no_bad = append_assoc heard unheard more
 
   -- ---- nor is it cut
 
@@ -167,7 +166,7 @@ module _ (stays : ReplyStays) (one_head : OneFinalHead) (fronts : BodyFronts) (b
     pub refused_for : (sections : List Section) (text : List ℕ) (fault : FetchFault) → RefusedBy q limits heard unheard ended sections text fault
         → IsRefusedFor q limits n.head n.body sections text fault
     refused_for sections text fault (RefusedBy.bad_head is bad _ _) =
-        absurd (no_bad_head stays more (heard ++ unheard) (n.rest ++ n.tail) n.head bad (subst (λ (l : List ℕ). FinalHead l n.head (n.rest ++ n.tail)) (sym no_bad) total))
+        absurd (no_bad_head stays (unheard ++ more) heard (n.rest ++ n.tail) n.head bad total)
     refused_for sections text fault (RefusedBy.cut_head is end _ is_open _ _) = absurd (no_open_head heard (n.rest ++ n.tail) n.head is_open (cut_head end))
     refused_for sections text fault (RefusedBy.at_head r _ none) =
         IsRefusedFor.at_head (subst (λ (h : ReplyHead). HeadStops q h fault) (same_head r.head [] r.final).0 r.stops) none

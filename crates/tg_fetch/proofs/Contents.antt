@@ -1,5 +1,5 @@
 -- The body of a reply goes on, is refused, or is the answer.
-use Rattle.std.proofs.Common.{◌≡◌, ℕ, Bool, true, false, List, [], ◌++◌, None, Ok, Err, refl, sym, ap, subst, ◌∙◌, inr, append-nil, length, arith}
+use Rattle.std.proofs.Common.{◌≡◌, ◌+◌, ◌≤◌, ℕ, Bool, true, false, List, [], ◌++◌, None, Ok, Err, refl, sym, ap, subst, ◌∙◌, inr, append-nil, length, arith}
 use Rattle.std.specs.Prelude.{Result, ⊤, ◌≢◌}
 use Rattle.tg_body.specs.Bodies.{BodyFront, BodyText}
 use Rattle.tg_body.specs.History.{HasEndCause, HasFeedCause, History, with_body}
@@ -52,7 +52,7 @@ no_end taken told need end = cc (need, ap said end)
 
 -- where the body is whole and accepted the reply is the answer
 pub answered : (q : QueryParts) (limits : LimitNumbers) (heard rest given written : List ℕ) (head : ReplyHead) (out : Output) (ended : Bool) → FinalHead heard head rest
-    → BodyText head.framing given rest → (head.framing ≡ framings.UntilClose → ended ≡ true) → TakesWhole q limits head given written out → HasAnswered q heard ended written out
+    → BodyText head.framing given rest → (head.framing ≡ framings.UntilClose → ended ≡ true) → TakesWhole q limits head given written out → HasAnswered q limits heard ended written out
 answered q limits heard rest given written head out ended final body_is closed t = record {
   text = t.text;
   put = t.put;
@@ -76,15 +76,16 @@ answered q limits heard rest given written head out ended final body_is closed t
 
 -- where it is whole and isn't accepted
 pub failed : (q : QueryParts) (limits : LimitNumbers) (heard front more piece rest given written : List ℕ) (head : ReplyHead) (out : Output) (ended : Bool) (fault : FetchFault)
-    → piece ≡ front ++ more → FinalHead (heard ++ front) head rest → BodyText head.framing given rest → (head.framing ≡ framings.UntilClose → ended ≡ true)
+    → piece ≡ front ++ more → length (heard ++ front) ≤ limits.received → FinalHead (heard ++ front) head rest → BodyText head.framing given rest → (head.framing ≡ framings.UntilClose → ended ≡ true)
     → FailsTaking q limits head given written out fault → IsRefused q limits heard piece ended written out fault
-failed q limits heard front more piece rest given written head out ended fault whole final body_is closed t = record {
+failed q limits heard front more piece rest given written head out ended fault whole within final body_is closed t = record {
   front = front;
   more = more;
   whole = whole;
   text = t.text;
   put = t.put;
   sections = t.sections;
+  within = within;
   refused = at_end (record { head = head; rest = rest; final = final; given = given; body_is = body_is; closed = closed; fails = t.fails });
   sound = t.sound;
 }
@@ -144,20 +145,22 @@ module _ (q : QueryParts) (limits : LimitNumbers) (old : Content) (heard written
       rw rest_is (omega (arith, was.1, open_yet))
 
   -- a part of it is refused
-  pub part_refused : ReplyStays → (reader : BodyReader) (given front more piece : List ℕ) (out : Output) (fault : FetchFault) → piece ≡ front ++ more
+  pub part_refused : ReplyStays → (reader : BodyReader) (given front more piece : List ℕ) (out : Output) (fault : FetchFault) → piece ≡ front ++ more → length (heard ++ front) ≤ limits.received
       → reader.framing ≡ old.reader.framing → StandsFor reader (record { fed = h.rest ++ front; given = given; ended = false; stop = None })
       → StopsTaking q limits h.head given written out fault → IsRefused q limits heard piece false written out fault
-  part_refused stays reader given front more piece out fault whole same reads t = record {
+  part_refused stays reader given front more piece out fault whole within same reads t = record {
     front = front;
     more = more;
     whole = whole;
     text = t.text;
     put = t.put;
     sections = t.sections;
+    within = within;
     refused = in_body (record {
       head = h.head;
       rest = h.rest ++ front;
       final = final_longer stays heard front h.rest h.head h.final;
+      framed = h.framed;
       given = given;
       front = front_by reader given (h.rest ++ front) same reads;
       stops = t.stops;
@@ -166,18 +169,19 @@ module _ (q : QueryParts) (limits : LimitNumbers) (old : Content) (heard written
   }
 
   -- the link ended behind it
-  pub has_ended : BodyText h.head.framing h.given h.rest → (out : Output) (result : Result ⊤ FetchFault) → EndsTaking q limits h.head h.given written out result
+  pub has_ended : BodyText h.head.framing h.given h.rest → length heard ≤ limits.received → (out : Output) (result : Result ⊤ FetchFault) → EndsTaking q limits h.head h.given written out result
       → ContentEnds q limits heard written out result
-  has_ended text out (Ok done) t = answered q limits heard h.rest h.given written h.head out true h.final text (λ e. refl) t
-  has_ended text out (Err fault) t =
-      failed q limits heard [] [] [] h.rest h.given written h.head out true fault refl (subst (λ (l : List ℕ). FinalHead l h.head h.rest) (sym (append-nil heard)) h.final) text (λ e. refl) t
+  has_ended text within out (Ok done) t = answered q limits heard h.rest h.given written h.head out true h.final text (λ e. refl) t
+  has_ended text within out (Err fault) t =
+      failed q limits heard [] [] [] h.rest h.given written h.head out true fault refl (subst (λ (l : List ℕ). length l ≤ limits.received) (sym (append-nil heard)) within)
+      (subst (λ (l : List ℕ). FinalHead l h.head h.rest) (sym (append-nil heard)) h.final) text (λ e. refl) t
 
   module _ (stands : BodyStands) (S : Type 0) (m : SinkMeaning S) (a : S) (rests : m.wrote a a []) where
     -- it is refused before its next byte
-    here : (piece : List ℕ) (ended : Bool) (fault : FetchFault)
+    here : (piece : List ℕ) (ended : Bool) (fault : FetchFault) → length heard ≤ limits.received
         → ((sections : List Section) → IsOpenBody q limits h.head h.given sections written → RefusedBy q limits heard piece ended sections written fault)
         → ((d : Dag) (sections : List Section) → SaysOf q d sections fault) → IsRefused q limits heard piece ended written (into m a a) fault
-    here piece ended fault refused says =
+    here piece ended fault within refused says =
         let o = taking_is_open stands q limits h.head old.sections h.given written h.taking in
         record {
           front = [];
@@ -186,6 +190,7 @@ module _ (q : QueryParts) (limits : LimitNumbers) (old : Content) (heard written
           text = [];
           put = put_nothing S m a rests;
           sections = o.sections;
+          within = subst (λ (l : List ℕ). length l ≤ limits.received) (sym (append-nil heard)) within;
           refused = subst (λ (l : List ℕ). RefusedBy q limits l piece ended o.sections (written ++ []) fault) (sym (append-nil heard))
               (subst (λ (t : List ℕ). RefusedBy q limits heard piece ended o.sections t fault) (sym (append-nil written)) (refused o.sections o.body));
           sound = subst (λ (t : List ℕ). ForEachSound q (FrontAndSays q o.sections t fault)) (sym (append-nil written)) (λ d sound root. (o.front d sound root, says d o.sections));
@@ -195,22 +200,37 @@ module _ (q : QueryParts) (limits : LimitNumbers) (old : Content) (heard written
     front = front_by old.reader h.given h.rest refl h.reads
 
     -- the framing is broken, or memory is wanted
-    pub framing_refused : (piece : List ℕ) (fault : HttpFault) → HasFeedCause h.head.framing h.rest h.given piece fault
+    pub framing_refused : (piece : List ℕ) (fault : HttpFault) → length heard + length piece ≤ limits.received → HasFeedCause h.head.framing h.rest h.given piece fault
         → IsRefused q limits heard piece false written (into m a a) (fault_of_http fault)
-    framing_refused piece https.BadHead cause = absurd cause
-    framing_refused piece https.HeadLimit cause = absurd cause
-    framing_refused piece https.BadFraming cause =
-        here piece false faults.BadFraming
-        (λ sections body. breaks refl (record { head = h.head; rest = h.rest; final = h.final; given = h.given; front = front; body = body; breaks = cause })) (λ d sections. tt)
-    framing_refused piece https.OutOfMemory cause =
-        here piece false faults.OutOfMemory
-        (λ sections body. memory refl (inr (record { head = h.head; rest = h.rest; final = h.final; given = h.given; front = front; body = body }))) (λ d sections. tt)
+    framing_refused piece https.BadHead few cause = absurd cause
+    framing_refused piece https.HeadLimit few cause = absurd cause
+    framing_refused piece https.BadFraming few cause =
+        here piece false faults.BadFraming (omega (arith, few))
+        (λ sections body. breaks refl
+        (record {
+          head = h.head;
+          rest = h.rest;
+          final = h.final;
+          framed = h.framed;
+          given = h.given;
+          front = front;
+          body = body;
+          looked = piece;
+          more = [];
+          whole = sym (append-nil piece);
+          few = few;
+          breaks = cause;
+        }))
+        (λ d sections. tt)
+    framing_refused piece https.OutOfMemory few cause =
+        here piece false faults.OutOfMemory (omega (arith, few))
+        (λ sections body. memory refl (inr (record { head = h.head; rest = h.rest; final = h.final; framed = h.framed; given = h.given; front = front; body = body }))) (λ d sections. tt)
 
     -- the link ended inside of it
-    pub cut_refused : (fault : HttpFault) → HasEndCause h.head.framing h.rest h.given fault → IsRefused q limits heard [] true written (into m a a) (fault_of_http fault)
-    cut_refused https.BadHead cause = absurd cause
-    cut_refused https.HeadLimit cause = absurd cause
-    cut_refused https.OutOfMemory cause = absurd cause
-    cut_refused https.BadFraming cause =
-        here [] true faults.BadFraming
-        (λ sections body. cut_body refl refl refl (record { head = h.head; rest = h.rest; final = h.final; given = h.given; inside = cause; body = body })) (λ d sections. tt)
+    pub cut_refused : (fault : HttpFault) → length heard ≤ limits.received → HasEndCause h.head.framing h.rest h.given fault → IsRefused q limits heard [] true written (into m a a) (fault_of_http fault)
+    cut_refused https.BadHead few cause = absurd cause
+    cut_refused https.HeadLimit few cause = absurd cause
+    cut_refused https.OutOfMemory few cause = absurd cause
+    cut_refused https.BadFraming few cause =
+        here [] true faults.BadFraming few
+        (λ sections body. cut_body refl refl refl (record { head = h.head; rest = h.rest; final = h.final; framed = h.framed; given = h.given; inside = cause; body = body })) (λ d sections. tt)

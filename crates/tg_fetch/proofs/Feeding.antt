@@ -46,8 +46,8 @@ front_none : (q : QueryParts) (d : Dag) (sections : List Section) (text : List �
 front_none q d sections text none = subst (λ (t : List ℕ). IsItsFront q d sections t) (sym none) (inl (front_of (answer q d)))
 
 pub refused_none : (q : QueryParts) (limits : LimitNumbers) (heard piece written : List ℕ) (ended : Bool) (out : Output) (fault : FetchFault) (front more : List ℕ) → piece ≡ front ++ more → Put [] out
-    → written ≡ [] → RefusedBy q limits (heard ++ front) more ended [] [] fault → ((d : Dag) → SaysOf q d [] fault) → IsRefused q limits heard piece ended written out fault
-refused_none q limits heard piece written ended out fault front more whole put none refused says =
+    → written ≡ [] → length (heard ++ front) ≤ limits.received → RefusedBy q limits (heard ++ front) more ended [] [] fault → ((d : Dag) → SaysOf q d [] fault) → IsRefused q limits heard piece ended written out fault
+refused_none q limits heard piece written ended out fault front more whole put none within refused says =
     let same : written ++ [] ≡ [] = append-nil written ∙ none in
     record {
       front = front;
@@ -56,6 +56,7 @@ refused_none q limits heard piece written ended out fault front more whole put n
       text = [];
       put = put;
       sections = [];
+      within = within;
       refused = subst (λ (t : List ℕ). RefusedBy q limits (heard ++ front) more ended [] t fault) (sym same) refused;
       sound = λ d sound root. (front_none q d [] (written ++ []) same, says d);
     }
@@ -76,31 +77,31 @@ in_heads q limits stage heads heard written e h = subst (λ (s : Stage). IsAt q 
 
 -- the heads are refused
 heads_refused : (q : QueryParts) (limits : LimitNumbers) (heard piece written : List ℕ) (out : Output) (fault : FetchFault) → IsOpenHead heard → written ≡ [] → Put [] out
-    → HeadsStop (heard ++ piece) fault → IsRefused q limits heard piece false written out fault
-heads_refused q limits heard piece written out faults.BadReplyHead h none put stop =
-    refused_none q limits heard piece written false out faults.BadReplyHead [] piece refl put none
-    (bad_head refl (subst (λ (l : List ℕ). HasBadHead (l ++ piece)) (sym (append-nil heard)) stop) refl refl) (λ d. tt)
-heads_refused q limits heard piece written out faults.OutOfMemory h none put stop =
-    refused_none q limits heard piece written false out faults.OutOfMemory [] piece refl put none
+    → length heard + length piece ≤ limits.received → HeadsStop (heard ++ piece) fault → IsRefused q limits heard piece false written out fault
+heads_refused q limits heard piece written out faults.BadReplyHead h none put few stop =
+    refused_none q limits heard piece written false out faults.BadReplyHead piece [] (sym (append-nil piece)) put none (omega (arith, few, length-append heard piece))
+    (bad_head refl stop refl refl) (λ d. tt)
+heads_refused q limits heard piece written out faults.OutOfMemory h none put few stop =
+    refused_none q limits heard piece written false out faults.OutOfMemory [] piece refl put none (omega (arith, few, ap (λ (l : List ℕ). length l) (append-nil heard)))
     (memory refl (inl (record { is_open = open_here heard h; no_section = refl; no_text = refl }))) (λ d. tt)
-heads_refused q limits heard piece written out (faults.Refused refusal) h none put stop = absurd stop
-heads_refused q limits heard piece written out (faults.Status status) h none put stop = absurd stop
-heads_refused q limits heard piece written out faults.BadType h none put stop = absurd stop
-heads_refused q limits heard piece written out faults.BadFraming h none put stop = absurd stop
-heads_refused q limits heard piece written out (faults.BadCar car) h none put stop = absurd stop
-heads_refused q limits heard piece written out faults.PeerFault h none put stop = absurd stop
+heads_refused q limits heard piece written out (faults.Refused refusal) h none put few stop = absurd stop
+heads_refused q limits heard piece written out (faults.Status status) h none put few stop = absurd stop
+heads_refused q limits heard piece written out faults.BadType h none put few stop = absurd stop
+heads_refused q limits heard piece written out faults.BadFraming h none put few stop = absurd stop
+heads_refused q limits heard piece written out (faults.BadCar car) h none put few stop = absurd stop
+heads_refused q limits heard piece written out faults.PeerFault h none put few stop = absurd stop
 
 pub heads_stop : (client : Client) (heads : HeadsState) (heard piece written : List ℕ) (out : Output) (fault : FetchFault) → client.stage ≡ stages.Heads heads → IsOpen client heard written → Put [] out
-    → HeadsStop (heard ++ piece) fault → IsRefused client.query client.limits heard piece false written out fault
-heads_stop client heads heard piece written out fault e h put stop =
+    → length heard + length piece ≤ client.limits.received → HeadsStop (heard ++ piece) fault → IsRefused client.query client.limits heard piece false written out fault
+heads_stop client heads heard piece written out fault e h put few stop =
     let (inside, none) = in_heads client.query client.limits client.stage heads heard written e h.at in
-    heads_refused client.query client.limits heard piece written out fault (open_head heads heard inside) none put stop
+    heads_refused client.query client.limits heard piece written out fault (open_head heads heard inside) none put few stop
 
 pub heads_cut : (client : Client) (heads : HeadsState) (heard written : List ℕ) (out : Output) → client.stage ≡ stages.Heads heads → IsOpen client heard written → Put [] out
     → IsRefused client.query client.limits heard [] true written out faults.BadReplyHead
 heads_cut client heads heard written out e h put =
     let (inside, none) = in_heads client.query client.limits client.stage heads heard written e h.at in
-    refused_none client.query client.limits heard [] written true out faults.BadReplyHead [] [] refl put none
+    refused_none client.query client.limits heard [] written true out faults.BadReplyHead [] [] refl put none (omega (arith, h.within, ap (λ (l : List ℕ). length l) (append-nil heard)))
     (cut_head refl refl refl (open_here heard (open_head heads heard inside)) refl refl) (λ d. tt)
 
 none_taken : (taken : ℕ) → 0 < taken → taken ≡ 0 → ⊥
@@ -118,6 +119,11 @@ pub all_or_none : (taken size : ℕ) → (0 < size → 0 < taken) → taken ≡ 
 all_or_none taken zero some e = e
 all_or_none taken (suc n) some e = absurd (none_taken taken (some (omega arith)) e)
 
+-- what was taken is no more than came
+pub front_few : (heard piece : List ℕ) (taken most : ℕ) → length heard + length piece ≤ most → length (heard ++ take taken piece) ≤ most
+front_few heard piece taken most few =
+    omega (arith, few, length-append heard (take taken piece), length-append (take taken piece) (drop taken piece), ap (λ (l : List ℕ). length l) (take-append-drop taken piece))
+
 -- the final head is
 says_nothing : (q : QueryParts) (head : ReplyHead) (fault : FetchFault) → HeadStops q head fault → (d : Dag) → SaysOf q d [] fault
 says_nothing q head (faults.Refused refusal) stops d = absurd stops
@@ -130,11 +136,11 @@ says_nothing q head faults.PeerFault stops d = tt
 says_nothing q head faults.OutOfMemory stops d = tt
 
 pub head_stops : (client : Client) (heads : HeadsState) (heard piece written : List ℕ) (out : Output) (taken : ℕ) (head : ReplyHead) (fault : FetchFault) → client.stage ≡ stages.Heads heads
-    → IsOpen client heard written → Put [] out → FinalHead (heard ++ take taken piece) head [] → HeadStops client.query head fault
+    → IsOpen client heard written → Put [] out → FinalHead (heard ++ take taken piece) head [] → length heard + length piece ≤ client.limits.received → HeadStops client.query head fault
     → IsRefused client.query client.limits heard piece false written out fault
-head_stops client heads heard piece written out taken head fault e h put final stops =
+head_stops client heads heard piece written out taken head fault e h put final few stops =
     let (inside, none) = in_heads client.query client.limits client.stage heads heard written e h.at in
-    refused_none client.query client.limits heard piece written false out fault (take taken piece) (drop taken piece) (sym (take-append-drop taken piece)) put none
+    refused_none client.query client.limits heard piece written false out fault (take taken piece) (drop taken piece) (sym (take-append-drop taken piece)) put none (front_few heard piece taken client.limits.received few)
     (at_head (record { head = head; final = final; stops = stops }) refl refl) (says_nothing client.query head fault stops)
 
 -- ---- a step goes on
@@ -218,15 +224,15 @@ module _ {S : Type 0} (m : SinkMeaning S) (joins : SinkJoins S m) (a b c : S) (w
     is_open = subst (λ (t : List ℕ). IsOpen client heard t) (append_assoc written text f.text) f.is_open;
   }
 
-  pub answered_after : (q : QueryParts) (heard : List ℕ) → HasAnswered q heard false (written ++ text) (into m b c) → HasAnswered q heard false written (into m a c)
-  answered_after q heard h =
+  pub answered_after : (q : QueryParts) (limits : LimitNumbers) (heard : List ℕ) → HasAnswered q limits heard false (written ++ text) (into m b c) → HasAnswered q limits heard false written (into m a c)
+  answered_after q limits heard h =
       let same : (written ++ text) ++ h.text ≡ written ++ (text ++ h.text) = append_assoc written text h.text in
       record {
         text = text ++ h.text;
         put = put_put S m a b c text h.text joins put h.put;
         sections = h.sections;
         carries = h.carries;
-        through = subst (λ (t : List ℕ). IsThrough q h.sections t) same h.through;
+        through = subst (λ (t : List ℕ). IsThrough q limits h.sections t) same h.through;
         sound = subst (λ (t : List ℕ). ForEachSound q (λ d. IsItsAnswer q d h.sections t)) same h.sound;
       }
 
@@ -241,6 +247,7 @@ module _ {S : Type 0} (m : SinkMeaning S) (joins : SinkJoins S m) (a b c : S) (w
         text = text ++ r.text;
         put = put_put S m a b c text r.text joins put r.put;
         sections = r.sections;
+        within = r.within;
         refused = subst (λ (t : List ℕ). RefusedBy q limits (heard ++ r.front) r.more false r.sections t fault) same r.refused;
         sound = subst (λ (t : List ℕ). ForEachSound q (FrontAndSays q r.sections t fault)) same r.sound;
       }
@@ -268,12 +275,13 @@ refused_behind q limits heard bytes front rest written out fault e r = record {
   text = r.text;
   put = r.put;
   sections = r.sections;
+  within = subst (λ (l : List ℕ). length l ≤ limits.received) (append_assoc heard front r.front) r.within;
   refused = subst (λ (l : List ℕ). RefusedBy q limits l r.more false r.sections (written ++ r.text) fault) (append_assoc heard front r.front) r.refused;
   sound = r.sound;
 }
 
 pub answered_all : (q : QueryParts) (limits : LimitNumbers) (heard bytes front rest written : List ℕ) (out : Output) (taken : ℕ) → bytes ≡ front ++ rest
-    → length (heard ++ front) + length rest ≤ limits.received → HasAnswered q ((heard ++ front) ++ take taken rest) false written out → FedAll q limits heard bytes written out
+    → length (heard ++ front) + length rest ≤ limits.received → HasAnswered q limits ((heard ++ front) ++ take taken rest) false written out → FedAll q limits heard bytes written out
 answered_all q limits heard bytes front rest written out taken e few h =
     let taken_is : rest ≡ take taken rest ++ drop taken rest = sym (take-append-drop taken rest) in
     record {
@@ -308,7 +316,7 @@ module _ (client : Client) (heard bytes written : List ℕ) (out : Output) (take
   pub wait_more : told ≡ moves.Wait → FedMore client (heard ++ bytes) written out
   wait_more e = (subst (λ (t : Move). StepEnds client heard bytes written out (Ok (taken, t))) e s).1
 
-  pub done_all : told ≡ moves.Done → HasAnswered client.query (heard ++ take taken bytes) false written out × (client.stage ≡ stages.Done)
+  pub done_all : told ≡ moves.Done → HasAnswered client.query client.limits (heard ++ take taken bytes) false written out × (client.stage ≡ stages.Done)
   done_all e = subst (λ (t : Move). StepEnds client heard bytes written out (Ok (taken, t))) e s
 
 -- behind the answer no step goes on
@@ -359,6 +367,7 @@ at_open stands q limits (stages.Content content) heard written t short =
           head = t.head;
           rest = t.rest;
           final = t.final;
+          framed = t.framed;
           given = t.given;
           front = subst (λ (f : Framing). BodyFront f t.given t.rest) t.framing t.reads.exact.so_far;
           body = o.body;
@@ -382,6 +391,7 @@ passed stands client heard front tail piece written out e full some f short =
       text = f.text;
       put = f.put;
       sections = o.sections;
+      within = omega (arith, full);
       refused = past refl (record { heard_is = full; some = some; is_open = o.is_open });
       sound = λ d sound root. (o.front d sound root, tt);
     }
@@ -422,11 +432,14 @@ fed_all told client heard piece written out e f = subst (λ (t : Progress). Feed
 
 -- what the step says where the reply is the answer
 pub done_step : (told : Move) (client : Client) (q : QueryParts) (limits : LimitNumbers) (content : Content) (heard bytes written : List ℕ) (out : Output) (taken : ℕ) → told ≡ moves.Done
-    → client.query ≡ q → client.stage ≡ stages.Done → ContentSteps q limits content (heard ++ take taken bytes) written out told → StepEnds client heard bytes written out (Ok (taken, told))
-done_step moves.Done client q limits content heard bytes written out taken e same stage s =
-    (subst (λ (asked : QueryParts). HasAnswered asked (heard ++ take taken bytes) false written out) (sym same) s, stage)
-done_step moves.On client q limits content heard bytes written out taken e same stage s = absurd (on_done e)
-done_step moves.Wait client q limits content heard bytes written out taken e same stage s = absurd (wait_done e)
+    → client.query ≡ q → client.limits ≡ limits → client.stage ≡ stages.Done → ContentSteps q limits content (heard ++ take taken bytes) written out told → StepEnds client heard bytes written out (Ok (taken, told))
+done_step moves.Done client q limits content heard bytes written out taken e same most stage s = (
+  subst (λ (asked : QueryParts). HasAnswered asked client.limits (heard ++ take taken bytes) false written out) (sym same)
+      (subst (λ (l : LimitNumbers). HasAnswered q l (heard ++ take taken bytes) false written out) (sym most) s),
+  stage,
+)
+done_step moves.On client q limits content heard bytes written out taken e same most stage s = absurd (on_done e)
+done_step moves.Wait client q limits content heard bytes written out taken e same most stage s = absurd (wait_done e)
 
 -- where it isn't the answer more is wanted
 pub more_told : (told : Progress) → (told ≡ progresses.Done → ⊥) → ◌≡◌ {A = Result Progress FetchFault} (Ok told) (Ok progresses.More)

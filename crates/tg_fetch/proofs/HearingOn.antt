@@ -161,6 +161,7 @@ open_at stand q limits (stages.Content content) heard written h =
         head = h.head;
         rest = h.rest;
         final = h.final;
+        framed = h.framed;
         given = h.given;
         front = subst (λ (f : Framing). BodyFront f h.given h.rest) h.framing h.reads.exact.so_far;
         body = b.body;

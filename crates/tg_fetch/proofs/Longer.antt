@@ -53,7 +53,7 @@ module _ (stays : ReplyStays) (tail : List ℕ) where
 
   module _ (q : QueryParts) (limits : LimitNumbers) (heard unheard : List ℕ) (sections : List Section) (text : List ℕ) (fault : FetchFault) where
     refused_longer : RefusedBy q limits heard unheard false sections text fault → RefusedBy q limits heard (unheard ++ tail) false sections text fault
-    refused_longer (bad_head f h s t) = bad_head f (subst HasBadHead (append_assoc heard unheard tail) (bad_longer (heard ++ unheard) h)) s t
+    refused_longer (bad_head f h s t) = bad_head f h s t
     refused_longer (cut_head f e u o s t) = absurd (false_true e)
     refused_longer (at_head r s t) = at_head r s t
     refused_longer (in_body r) = in_body r
@@ -62,10 +62,15 @@ module _ (stays : ReplyStays) (tail : List ℕ) where
       head = b.head;
       rest = b.rest;
       final = b.final;
+      framed = b.framed;
       given = b.given;
       front = b.front;
       body = b.body;
-      breaks = breaks_longer b.head.framing b.rest b.given unheard b.breaks;
+      looked = b.looked;
+      more = b.more ++ tail;
+      whole = ap (λ (l : List ℕ). l ++ tail) b.whole ∙ append_assoc b.looked b.more tail;
+      few = b.few;
+      breaks = b.breaks;
     })
     refused_longer (cut_body f e u b) = absurd (false_true e)
     refused_longer (past f p) = past f (record { heard_is = p.heard_is; some = omega (arith, length-append unheard tail, p.some); is_open = p.is_open })
@@ -81,6 +86,7 @@ refused_front stays q limits heard front tail piece written out fault e r = reco
   text = r.text;
   put = r.put;
   sections = r.sections;
+  within = r.within;
   refused = refused_longer stays tail q limits (heard ++ r.front) r.more r.sections (written ++ r.text) fault r.refused;
   sound = r.sound;
 }

@@ -133,7 +133,7 @@ module _ (stays : ReplyStays) (one_head : OneFinalHead) (fronts : BodyFronts) (b
 
     -- the terminal isn't among the sections of a front
     not_through : (given left h u : List ℕ) (sections : List Section) (said : List ℕ) → n.body ≡ given ++ left → given ≡ h ++ u → HasReceived limits.block h sections
-        → IsThrough (path_query q) sections said → ⊥
+        → IsThrough (path_query q) (path_limits limits) sections said → ⊥
     not_through given left h u sections said whole parts got through = by behind.0 behind.1
       where
         all_got : HasReceived limits.block n.body all

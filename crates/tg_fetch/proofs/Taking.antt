@@ -140,9 +140,9 @@ module _ (q : QueryParts) (limits : LimitNumbers) (head : ReplyHead) (body : Car
     };
   }
 
-  stopped : (bytes : List ℕ) (out : Output) (cause : ClientFault) → cause ≢ clients.InputFault → IsStopped q limits bytes written out cause
+  stopped : (taken : ℕ) (bytes : List ℕ) (out : Output) (cause : ClientFault) → cause ≢ clients.InputFault → IsStopped q limits taken bytes written out cause
       → StopsTaking q limits head bytes written out (fault_of_client cause)
-  stopped bytes out cause not_input s = record {
+  stopped taken bytes out cause not_input s = record {
     text = s.text;
     put = s.put;
     sections = s.sections;
@@ -154,16 +154,17 @@ module _ (q : QueryParts) (limits : LimitNumbers) (head : ReplyHead) (body : Car
       not_input = not_input;
       fault_is = refl;
       ends = s.ends;
+      wanted = s.wanted;
     });
     sound = λ d is root. says_for q d s.sections (written ++ s.text) cause (s.sound d is root);
   }
 
-  pub stops : (bytes : List ℕ) (out : Output) (cause : ClientFault) → HasOutCause out cause
-      → IsStopped body.verifier.left.query body.verifier.limits bytes written out cause → StopsTaking q limits head bytes written out (fault_of_client cause)
-  stops bytes out cause has s =
-      stopped bytes out cause (never_of_input out cause has)
-      (subst (λ (n : LimitNumbers). IsStopped q n bytes written out cause) h.limits_are
-      (subst (λ (p : QueryParts). IsStopped p body.verifier.limits bytes written out cause) h.query s))
+  pub stops : {taken : ℕ} → (bytes : List ℕ) (out : Output) (cause : ClientFault) → HasOutCause out cause
+      → IsStopped body.verifier.left.query body.verifier.limits taken bytes written out cause → StopsTaking q limits head bytes written out (fault_of_client cause)
+  stops {taken} bytes out cause has s =
+      stopped taken bytes out cause (never_of_input out cause has)
+      (subst (λ (n : LimitNumbers). IsStopped q n taken bytes written out cause) h.limits_are
+      (subst (λ (p : QueryParts). IsStopped p body.verifier.limits taken bytes written out cause) h.query s))
 
 -- where no more bytes come only a block that is wanted, or the header, is why it isn't accepted
 record IsShort (q : QueryParts) (limits : LimitNumbers) (heard : List ℕ) (sections : List Section) (text : List ℕ) (cause : ClientFault) : Type 0 where
@@ -228,7 +229,7 @@ module _ (q : QueryParts) (limits : LimitNumbers) (head : ReplyHead) (body : Car
         text = [];
         put = put;
         sections = h.sections;
-        whole = subst (λ (t : List ℕ). IsWholeAnswer q head given h.sections t) (sym (append-nil written)) (record {
+        whole = subst (λ (t : List ℕ). IsWholeAnswer q limits head given h.sections t) (sym (append-nil written)) (record {
           is_head = h.is_head;
           carries = subst (λ (f : Form). BodyCarries f q given h.sections) (sym h.form) e.ends.is_car;
           through = e.ends.through;
@@ -275,16 +276,18 @@ module _ (q : QueryParts) (limits : LimitNumbers) (head : ReplyHead) (body : Car
             received = subst (λ (n : ℕ). HasReceived n bytes w.sections) block s.received;
           };
           said = h.said ++ w.text;
-          through = subst (λ (p : QueryParts). IsThrough p w.sections (h.said ++ w.text)) (query ∙ h.query) (s.through none).0;
+          is_car = (s.through none).1;
+          through = subst (λ (l : LimitNumbers). IsThrough (path_query q) l w.sections (h.said ++ w.text)) (limits_are ∙ h.limits_are)
+              (subst (λ (p : QueryParts). IsThrough p new.verifier.limits w.sections (h.said ++ w.text)) (query ∙ h.query) (s.through none).0);
           fault_is = refl;
           no_text = refl;
         }),
         λ d is root. (nothing_front q d w.sections, tt),
       )
 
-  shown : OwnNowhere → (m : Output) (bytes : List ℕ) (cause : ClientFault) → cause ≢ clients.InputFault → absence_fault cause ≢ faults.Refused refusals.SinkFault
-      → IsStopped (path_query q) (path_limits limits) bytes h.said m cause → Stops bytes (absence_fault cause)
-  shown nowhere m bytes cause not_input not_sink s = (
+  shown : OwnNowhere → (m : Output) (taken : ℕ) (bytes : List ℕ) (cause : ClientFault) → cause ≢ clients.InputFault → absence_fault cause ≢ faults.Refused refusals.SinkFault
+      → IsStopped (path_query q) (path_limits limits) taken bytes h.said m cause → Stops bytes (absence_fault cause)
+  shown nowhere m taken bytes cause not_input not_sink s = (
     s.sections,
     BodyStops.absence (record {
       is_head = h.is_head;
@@ -295,18 +298,19 @@ module _ (q : QueryParts) (limits : LimitNumbers) (head : ReplyHead) (body : Car
       fault_is = refl;
       not_sink = not_sink;
       ends = s.ends;
+      wanted = s.wanted;
       no_text = refl;
     }),
     λ d is root. says_of_path nowhere q d is h.is_head.car s.sections (h.said ++ s.text) cause
         (most_output (path_query q) (path_limits limits) s.heard s.unheard s.sections (h.said ++ s.text) cause refl s.ends) (s.sound d is root),
   )
 
-  pub shows_stop : OwnNowhere → (m : Output) (bytes : List ℕ) (cause : ClientFault) → HasOutCause m cause → absence_fault cause ≢ faults.Refused refusals.SinkFault
-      → IsStopped body.verifier.left.query body.verifier.limits bytes h.said m cause → Stops bytes (absence_fault cause)
-  shows_stop nowhere m bytes cause has not_sink s =
-      shown nowhere m bytes cause (never_of_input m cause has) not_sink
-      (subst (λ (n : LimitNumbers). IsStopped (path_query q) n bytes h.said m cause) h.limits_are
-      (subst (λ (p : QueryParts). IsStopped p body.verifier.limits bytes h.said m cause) h.query s))
+  pub shows_stop : {taken : ℕ} → OwnNowhere → (m : Output) (bytes : List ℕ) (cause : ClientFault) → HasOutCause m cause → absence_fault cause ≢ faults.Refused refusals.SinkFault
+      → IsStopped body.verifier.left.query body.verifier.limits taken bytes h.said m cause → Stops bytes (absence_fault cause)
+  shows_stop {taken} nowhere m bytes cause has not_sink s =
+      shown nowhere m taken bytes cause (never_of_input m cause has) not_sink
+      (subst (λ (n : LimitNumbers). IsStopped (path_query q) n taken bytes h.said m cause) h.limits_are
+      (subst (λ (p : QueryParts). IsStopped p body.verifier.limits taken bytes h.said m cause) h.query s))
 
   -- what is taken of it, with what was put before
   pub absence_takes : (written : List ℕ) → written ≡ [] → (out : Output) → Put [] out → (new : CarBody) (bytes : List ℕ) (result : Result ⊤ FetchFault)
@@ -360,6 +364,7 @@ module _ (q : QueryParts) (limits : LimitNumbers) (head : ReplyHead) (body : Car
           is_head = h.is_head;
           are_heard = record { heard = given; unheard = []; whole = sym (append-nil given); received = e.received };
           said = h.said;
+          is_car = e.ends.is_car;
           through = e.ends.through;
           fault_is = refl;
           no_text = refl;
@@ -483,8 +488,9 @@ module _ (q : QueryParts) (limits : LimitNumbers) (head : ReplyHead) (raw : RawB
           let text : List ℕ = first ++ w.text in
           let sections : List Section = section_with cid block ∷ [] in
           let going : IsGoing state sections text = subst (λ (r : Option Refusal). StandsBy r state sections text) unrefused w.stands in
-          let through : IsThrough q sections text =
-          subst (λ (p : QueryParts). IsThrough p sections text) (query ∙ h.query) (laws.going_through state sections text going none) in
+          let through : IsThrough q limits sections text =
+          subst (λ (l : LimitNumbers). IsThrough q l sections text) (limits_are ∙ h.limits_are)
+          (subst (λ (p : QueryParts). IsThrough p state.limits sections text) (query ∙ h.query) (laws.going_through state sections text going none)) in
           record {
             text = text;
             put = put_put S m a b c first w.text joins put w.put;
@@ -493,7 +499,7 @@ module _ (q : QueryParts) (limits : LimitNumbers) (head : ReplyHead) (raw : RawB
               is_head = h.is_head;
               carries = subst (λ (f : Form). BodyCarries f q given sections) (sym h.form) (ap (λ (s : Section). s ∷ []) (root_here cid block root bytes));
               through = through;
-              sound = λ d is root. laws.sound_through q d sections text is root through;
+              sound = λ d is root. laws.sound_through q limits d sections text is root through;
             };
           }
 

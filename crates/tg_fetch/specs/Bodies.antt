@@ -1,9 +1,9 @@
 -- The body of a reply while it comes: what is taken of it, and why it isn't (Trustless Gateway specification, response
 -- types and CAR responses).
 use Rattle.std.specs.Prelude.{Err, List, None, Ok, Result, [], length, ⊤, ℕ, ◌++◌, ◌<◌, ◌∷◌, ◌≡◌, ◌≢◌, ◌≤◌, ◌⊎◌}
-use Rattle.tg_client.specs.Body.{IsBody, unknown}
+use Rattle.tg_client.specs.Body.{IsAfterWanted, IsBody, unknown}
 use Rattle.tg_client.specs.Ends.{EndsBy, IsEndedShort, IsHeldExactly, IsWaiting}
-use Rattle.tg_client.specs.Received.{HasReceived}
+use Rattle.tg_client.specs.Received.{HasReceived, IsCarOf}
 use Rattle.tg_client.specs.declared.body.CarBody.{CarBody}
 use Rattle.tg_client.specs.declared.fault.ClientFault.{ClientFault}
 use Rattle.tg_client.specs.declared.fault.ClientFault.TheVariants as clients
@@ -111,6 +111,7 @@ pub record AnswerStops (q : QueryParts) (limits : LimitNumbers) (head : ReplyHea
   pub not_input : cause ≢ clients.InputFault
   pub fault_is : fault ≡ fault_of_client cause
   pub ends : EndsBy q limits unknown are_heard.heard are_heard.unheard sections text (Err cause)
+  pub wanted : IsAfterWanted q limits are_heard.heard sections cause
 
 -- the CAR that would show an absence is refused, or shows that a segment of the path leads nowhere; out has no part in it
 pub record AbsenceStops (q : QueryParts) (limits : LimitNumbers) (head : ReplyHead) (bytes : List ℕ) (sections : List Section) (text : List ℕ) (fault : FetchFault) : Type 0 where
@@ -122,14 +123,16 @@ pub record AbsenceStops (q : QueryParts) (limits : LimitNumbers) (head : ReplyHe
   pub fault_is : fault ≡ absence_fault cause
   pub not_sink : fault ≢ faults.Refused refusals.SinkFault
   pub ends : EndsBy (path_query q) (path_limits limits) unknown are_heard.heard are_heard.unheard sections said (Err cause)
+  pub wanted : IsAfterWanted (path_query q) (path_limits limits) are_heard.heard sections cause
   pub no_text : text ≡ []
 
--- it shows the terminal
+-- it shows the terminal: a front of it is the CAR of all that is asked on the path
 pub record AbsenceReaches (q : QueryParts) (limits : LimitNumbers) (head : ReplyHead) (bytes : List ℕ) (sections : List Section) (text : List ℕ) (fault : FetchFault) : Type 0 where
   pub is_head : IsAbsenceHead q head
   pub are_heard : AreHeard limits bytes sections
   pub said : List ℕ
-  pub through : IsThrough (path_query q) sections said
+  pub is_car : IsCarOf are_heard.heard sections
+  pub through : IsThrough (path_query q) (path_limits limits) sections said
   pub fault_is : fault ≡ faults.Status 404
   pub no_text : text ≡ []
 
@@ -229,17 +232,17 @@ pub record StopsTaking (q : QueryParts) (limits : LimitNumbers) (head : ReplyHea
   pub sound : ForEachSound q (FrontAndSays q sections (written ++ text) fault)
 
 -- the body is whole: its sections are the answer's, and their text is written
-pub record IsWholeAnswer (q : QueryParts) (head : ReplyHead) (given : List ℕ) (sections : List Section) (text : List ℕ) : Type 0 where
+pub record IsWholeAnswer (q : QueryParts) (limits : LimitNumbers) (head : ReplyHead) (given : List ℕ) (sections : List Section) (text : List ℕ) : Type 0 where
   pub is_head : IsAnswerHead q head
   pub carries : BodyCarries q.form q given sections
-  pub through : IsThrough q sections text
+  pub through : IsThrough q limits sections text
   pub sound : ForEachSound q (λ d. IsItsAnswer q d sections text)
 
 pub record TakesWhole (q : QueryParts) (limits : LimitNumbers) (head : ReplyHead) (given written : List ℕ) (out : Output) : Type 0 where
   pub text : List ℕ
   pub put : Put text out
   pub sections : List Section
-  pub whole : IsWholeAnswer q head given sections (written ++ text)
+  pub whole : IsWholeAnswer q limits head given sections (written ++ text)
 
 pub record FailsTaking (q : QueryParts) (limits : LimitNumbers) (head : ReplyHead) (given written : List ℕ) (out : Output) (fault : FetchFault) : Type 0 where
   pub text : List ℕ

@@ -1,5 +1,5 @@
 -- A call to a gateway: what was said, what was heard, and what was written (RFC 9112).
-use Rattle.std.specs.Prelude.{Bool, Err, List, Ok, Result, [], take, true, ⊤, ℕ, ◌++◌, ◌≡◌, ◌⊎◌}
+use Rattle.std.specs.Prelude.{Bool, Err, List, Ok, Result, [], length, take, true, ⊤, ℕ, ◌++◌, ◌≡◌, ◌≤◌, ◌⊎◌}
 use Rattle.tg_dials.specs.Dials.{DialRose, Dialling, IsHungUp, KeepsCalls, KeepsComing, KeepsMissed}
 use Rattle.tg_faults.specs.Faults.{counted}
 use Rattle.tg_fetch.specs.Bodies.{FrontAndSays}
@@ -30,7 +30,7 @@ pub record HeardAnswer (q : QueryParts) (limits : LimitNumbers) (heard : List �
   pub answered : IsAnswered q limits front ended sections text
   pub sound : ForEachSound q (λ d. IsItsAnswer q d sections text)
 
--- the reply is refused behind a front of what was heard, and this text was put before
+-- the reply is refused behind a front of what was heard, which is no more than may be received, and this text was put before
 pub record HeardRefused (q : QueryParts) (limits : LimitNumbers) (heard : List ℕ) (over : Bool) (out : Output) (fault : FetchFault) : Type 0 where
   pub front : List ℕ
   pub more : List ℕ
@@ -40,6 +40,7 @@ pub record HeardRefused (q : QueryParts) (limits : LimitNumbers) (heard : List �
   pub sections : List Section
   pub text : List ℕ
   pub put : Put text out
+  pub within : length front ≤ limits.received
   pub refused : RefusedBy q limits front more ended sections text fault
   pub sound : ForEachSound q (FrontAndSays q sections text fault)
 

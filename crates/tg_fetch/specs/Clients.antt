@@ -69,7 +69,7 @@ abbrev pub StepEnds : Client → List ℕ → List ℕ → List ℕ → Output �
 StepEnds client heard bytes written out (Ok (taken, moves.On)) = FedMore client (heard ++ take taken bytes) written out
 StepEnds client heard bytes written out (Ok (taken, moves.Wait)) = (taken ≡ length bytes) × FedMore client (heard ++ bytes) written out
 StepEnds client heard bytes written out (Ok (taken, moves.Done)) =
-    HasAnswered client.query (heard ++ take taken bytes) false written out × (client.stage ≡ stages.Done)
+    HasAnswered client.query client.limits (heard ++ take taken bytes) false written out × (client.stage ≡ stages.Done)
 StepEnds client heard bytes written out (Err fault) = IsRefused client.query client.limits heard bytes false written out fault
 
 -- ---- the link has ended

@@ -1,5 +1,5 @@
 -- How a reply goes on and how it ends, by the bytes that came of it (RFC 9110, section 15; RFC 9112, sections 2 to 8).
-use Rattle.std.specs.Prelude.{Bool, Err, List, None, Ok, Result, [], false, length, true, ⊤, ℕ, ◌++◌, ◌<◌, ◌≡◌, ◌≢◌, ◌≤◌, ◌⊎◌}
+use Rattle.std.specs.Prelude.{Bool, ◌+◌, Err, List, None, Ok, Result, [], false, length, true, ⊤, ℕ, ◌++◌, ◌<◌, ◌≡◌, ◌≢◌, ◌≤◌, ◌⊎◌}
 use Rattle.tg_body.specs.Bodies.{BodyFront, BodyText}
 use Rattle.tg_body.specs.History.{EndsInside, HasFeedCause}
 use Rattle.tg_body.specs.State.{StandsFor}
@@ -32,6 +32,7 @@ pub record IsOpenBehind (q : QueryParts) (limits : LimitNumbers) (heard : List �
   pub head : ReplyHead
   pub rest : List ℕ
   pub final : FinalHead heard head rest
+  pub framed : head.framing ≢ framings.Broken
   pub given : List ℕ
   pub front : BodyFront head.framing given rest
   pub body : IsOpenBody q limits head given sections text
@@ -55,7 +56,7 @@ IsOpenReply q limits heard sections text = IsOpenBefore heard sections text ⊎ 
 -- received
 pub record IsAnswered (q : QueryParts) (limits : LimitNumbers) (heard : List ℕ) (ended : Bool) (sections : List Section) (text : List ℕ) : Type 0 where
   pub carries : Carries heard ended q sections
-  pub through : IsThrough q sections text
+  pub through : IsThrough q limits sections text
   pub within : length heard ≤ limits.received
 
 -- ---- a final head behind which no body is taken
@@ -82,6 +83,7 @@ pub record RefusedInBody (q : QueryParts) (limits : LimitNumbers) (heard : List 
   pub head : ReplyHead
   pub rest : List ℕ
   pub final : FinalHead heard head rest
+  pub framed : head.framing ≢ framings.Broken
   pub given : List ℕ
   pub front : BodyFront head.framing given rest
   pub stops : BodyStops q limits head given sections text fault
@@ -96,20 +98,26 @@ pub record RefusedAtEnd (q : QueryParts) (limits : LimitNumbers) (heard : List �
   pub closed : head.framing ≡ framings.UntilClose → ended ≡ true
   pub fails : BodyFails q limits head given sections text fault
 
--- a byte behind these breaks the framing; or the link ended inside the body
+-- a byte behind these, one of those that may be received, breaks the framing; or the link ended inside the body
 pub record BreaksFraming (q : QueryParts) (limits : LimitNumbers) (heard unheard : List ℕ) (sections : List Section) (text : List ℕ) : Type 0 where
   pub head : ReplyHead
   pub rest : List ℕ
   pub final : FinalHead heard head rest
+  pub framed : head.framing ≢ framings.Broken
   pub given : List ℕ
   pub front : BodyFront head.framing given rest
   pub body : IsOpenBody q limits head given sections text
-  pub breaks : HasFeedCause head.framing rest given unheard https.BadFraming
+  pub looked : List ℕ
+  pub more : List ℕ
+  pub whole : unheard ≡ looked ++ more
+  pub few : length heard + length looked ≤ limits.received
+  pub breaks : HasFeedCause head.framing rest given looked https.BadFraming
 
 pub record EndsInBody (q : QueryParts) (limits : LimitNumbers) (heard : List ℕ) (sections : List Section) (text : List ℕ) : Type 0 where
   pub head : ReplyHead
   pub rest : List ℕ
   pub final : FinalHead heard head rest
+  pub framed : head.framing ≢ framings.Broken
   pub given : List ℕ
   pub inside : EndsInside head.framing given rest
   pub body : IsOpenBody q limits head given sections text
@@ -124,7 +132,7 @@ pub record IsPastReceived (q : QueryParts) (limits : LimitNumbers) (heard unhear
 -- why; or the link ended behind them. No bytes but those that may be received are in the first. Want of memory comes in
 -- heads and for a line of chunks too.
 pub data RefusedBy (q : QueryParts) (limits : LimitNumbers) (heard unheard : List ℕ) (ended : Bool) (sections : List Section) (text : List ℕ) (fault : FetchFault) : Type 0 where
-  bad_head : fault ≡ faults.BadReplyHead → HasBadHead (heard ++ unheard) → sections ≡ [] → text ≡ []
+  bad_head : fault ≡ faults.BadReplyHead → HasBadHead heard → sections ≡ [] → text ≡ []
       → RefusedBy q limits heard unheard ended sections text fault
   cut_head : fault ≡ faults.BadReplyHead → ended ≡ true → unheard ≡ [] → IsOpenHead heard → sections ≡ [] → text ≡ []
       → RefusedBy q limits heard unheard ended sections text fault
@@ -172,20 +180,20 @@ pub record ContentGoesOn (q : QueryParts) (limits : LimitNumbers) (content : Con
   pub in_content : IsInContent q limits content heard (written ++ text)
 
 -- or the reply is the answer
-pub record HasAnswered (q : QueryParts) (heard : List ℕ) (ended : Bool) (written : List ℕ) (out : Output) : Type 0 where
+pub record HasAnswered (q : QueryParts) (limits : LimitNumbers) (heard : List ℕ) (ended : Bool) (written : List ℕ) (out : Output) : Type 0 where
   pub text : List ℕ
   pub put : Put text out
   pub sections : List Section
   pub carries : Carries heard ended q sections
-  pub through : IsThrough q sections (written ++ text)
+  pub through : IsThrough q limits sections (written ++ text)
   pub sound : ForEachSound q (λ d. IsItsAnswer q d sections (written ++ text))
 
 abbrev pub ContentSteps : QueryParts → LimitNumbers → Content → List ℕ → List ℕ → Output → Move → Type 0
 ContentSteps q limits content heard written out moves.On = ContentGoesOn q limits content heard written out
 ContentSteps q limits content heard written out moves.Wait = ContentGoesOn q limits content heard written out
-ContentSteps q limits content heard written out moves.Done = HasAnswered q heard false written out
+ContentSteps q limits content heard written out moves.Done = HasAnswered q limits heard false written out
 
--- a text was put, and the reply is refused in a piece behind what was heard
+-- a text was put, and the reply is refused in a piece behind what was heard, which is no more than may be received
 pub record IsRefused (q : QueryParts) (limits : LimitNumbers) (heard piece : List ℕ) (ended : Bool) (written : List ℕ) (out : Output) (fault : FetchFault) : Type 0 where
   pub front : List ℕ
   pub more : List ℕ
@@ -193,6 +201,7 @@ pub record IsRefused (q : QueryParts) (limits : LimitNumbers) (heard piece : Lis
   pub text : List ℕ
   pub put : Put text out
   pub sections : List Section
+  pub within : length (heard ++ front) ≤ limits.received
   pub refused : RefusedBy q limits (heard ++ front) more ended sections (written ++ text) fault
   pub sound : ForEachSound q (FrontAndSays q sections (written ++ text) fault)
 
@@ -200,5 +209,5 @@ abbrev pub ContentStops : QueryParts → LimitNumbers → List ℕ → List ℕ 
 ContentStops q limits heard piece written out fault = IsRefused q limits heard piece false written out fault
 
 abbrev pub ContentEnds : QueryParts → LimitNumbers → List ℕ → List ℕ → Output → Result ⊤ FetchFault → Type 0
-ContentEnds q limits heard written out (Ok done) = HasAnswered q heard true written out
+ContentEnds q limits heard written out (Ok done) = HasAnswered q limits heard true written out
 ContentEnds q limits heard written out (Err fault) = IsRefused q limits heard [] true written out fault

@@ -1,5 +1,5 @@
 //! The body of a reply behind its final head, while it comes.
-ghost use Rattle.std.specs.Prelude.{◌≡◌, ◌↔◌, ◌++◌, ◌<◌, ◌≤◌, ℕ, List as Items, IfOk, IfSome, IsTrue, MatchResult, true, length, take};
+ghost use Rattle.std.specs.Prelude.{◌≡◌, ◌↔◌, ◌++◌, ◌+◌, ◌<◌, ◌≤◌, ℕ, List as Items, IfOk, IfSome, IsTrue, MatchResult, true, length, take};
 ghost use Rattle.tg_fetch.specs.Faults.{QuietUnlessSink};
 ghost use Rattle.tg_fetch.specs.Replies.{ContentEnds, ContentSteps, ContentStops, HeadStops, IsInContent, IsShortIn, MovesOn};
 ghost use Rattle.tg_fetch.specs.Watched.{told_in};
@@ -91,7 +91,8 @@ impl Content {
         ensures moves { IfOk result (λ told. told.1 ≡ Move.On → 0 < told.0) }
         ensures waits { IfOk result (λ told. told.1 ≡ Move.Wait → told.0 ≡ length bytes.now) }
         ensures takes { (q : QueryParts) (limits : LimitNumbers) (heard written : Items ℕ)
-            → IsInContent q limits self.old heard written → MatchResult result
+            → IsInContent q limits self.old heard written → length heard + length bytes.now ≤ limits.received
+            → MatchResult result
             (λ told. ContentSteps q limits self.new (heard ++ take told.0 bytes.now) written (into S.sink out.old out.new) told.1)
             (λ fault. ContentStops q limits heard bytes.now written (into S.sink out.old out.new) fault) }
         // Where more is wanted a body of stated length isn't whole.
@@ -130,7 +131,7 @@ impl Content {
     /// Errors: `BadFraming` where the bytes end inside a body of stated length or in chunks; and those of `Sections`.
     pub(crate) fn end<S: Sink>(&mut self, out: &mut S) -> Result<(), FetchFault>
         ensures ends { (q : QueryParts) (limits : LimitNumbers) (heard written : Items ℕ)
-            → IsInContent q limits self.old heard written
+            → IsInContent q limits self.old heard written → length heard ≤ limits.received
             → ContentEnds q limits heard written (into S.sink out.old out.new) result }
         ensures cause { (q : QueryParts) (limits : LimitNumbers) (heard written : Items ℕ)
             → IsInContent q limits self.old heard written → QuietUnlessSink (into S.sink out.old out.new) result }

@@ -24,7 +24,7 @@ module _ (laws : AnswerLaws) (state : VerifierState) (sections : List Section) (
       → ForEachSound state.left.query (λ d. EndsFor state.left.query d sections written result)
   ended_sound result e done cut None w d sound root =
       subst (λ (r : Result ⊤ Refusal). EndsFor state.left.query d sections written r) (sym (done w))
-      (laws.sound_through state.left.query d sections written sound root (going_through state sections written (is_going state sections written e h) w))
+      (laws.sound_through state.left.query state.limits d sections written sound root (going_through state sections written (is_going state sections written e h) w))
   ended_sound result e done cut (Some at) w d sound root =
       let going = is_going state sections written e h in
       subst (λ (r : Result ⊤ Refusal). EndsFor state.left.query d sections written r) (sym (cut at w))

@@ -19,6 +19,7 @@ mod Passing
 mod Pieces
 mod Placed
 mod Puts
+mod Reaching
 mod Refused
 mod Remembered
 mod Sections

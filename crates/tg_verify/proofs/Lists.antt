@@ -95,10 +95,10 @@ module _ (q : QueryParts) (limits : LimitNumbers) where
       → AllEnd q limits all out (Ok (cid_wanted wanted))
   ends_by state all out None e h =
       let p = h.stands in
-      (record { text = p.text; put = p.put; is_so = subst (λ (q : QueryParts). IsThrough q all p.text) h.query (going_through state all p.text p.is_so e) }, h.quiet)
+      (record { text = p.text; put = p.put; is_so = subst (λ (l : LimitNumbers). IsThrough q l all p.text) h.limits_are (subst (λ (q : QueryParts). IsThrough q state.limits all p.text) h.query (going_through state all p.text p.is_so e)) }, h.quiet)
   ends_by state all out (Some at) e h =
       let p = h.stands in
-      (record { text = p.text; put = p.put; is_so = (at, refl, subst (λ (q : QueryParts). IsUpTo q all p.text at) h.query (going_up_to state all p.text p.is_so at e)) }, h.quiet)
+      (record { text = p.text; put = p.put; is_so = (at, refl, subst (λ (l : LimitNumbers). IsUpTo q l all p.text at) h.limits_are (subst (λ (q : QueryParts). IsUpTo q state.limits all p.text at) h.query (going_up_to state all p.text p.is_so at e))) }, h.quiet)
 
   pub ends_all : (state : VerifierState) (all : List Section) (out : Output) (want : Option CidParts) → want ≡ next_cid state.refused state.left.wanted → AreTaken q limits state all out
       → AllEnd q limits all out (Ok want)

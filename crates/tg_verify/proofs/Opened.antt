@@ -1,5 +1,5 @@
 -- What stands once a block was opened at its place, or wasn't.
-use Rattle.std.proofs.Common.{[], Err, List, None, Option, Some, ap, append-nil, append_assoc, map, refl, subst, sym, ℕ, ◌++◌, ◌∙◌, ◌∷◌, ◌≡◌}
+use Rattle.std.proofs.Common.{[], Err, length, true, ◌≤◌, List, None, Option, Some, ap, append-nil, append_assoc, map, refl, subst, sym, ℕ, ◌++◌, ◌∙◌, ◌∷◌, ◌≡◌}
 use Rattle.std.proofs.lemmas.List.{map-append}
 use Rattle.std.specs.Bool.{⊤}
 use Rattle.tg_cid.specs.Cid.{CidParts}
@@ -8,7 +8,7 @@ use Rattle.tg_listing.specs.declared.line.ListingLine.{ListingLine}
 use Rattle.tg_model.specs.Dag.{Section}
 use Rattle.tg_model.specs.LimitNumbers.{LimitNumbers}
 use Rattle.tg_model.specs.Queries.{QueryParts}
-use Rattle.tg_model.specs.Traversal.{ListedEntry, named_met, sent}
+use Rattle.tg_model.specs.Traversal.{ListedEntry, is_sent_behind, named_met, sent}
 use Rattle.tg_model.specs.declared.kinds.Kind.{Kind}
 use Rattle.tg_model.specs.declared.limits.LimitKind.TheVariants as kinds
 use Rattle.tg_model.specs.declared.limits.LimitKind.{LimitKind}
@@ -26,10 +26,13 @@ use Rattle.tg_verify.proofs.Counting.{IsFrom, counted_on, is_passed, is_unpassed
 use Rattle.tg_verify.proofs.Misread.{Computes}
 use Rattle.tg_verify.specs.Counting.{AreUnpassed, HasCounted, counts_given}
 use Rattle.tg_verify.specs.History.{HasPutCause, IsPlaceFault}
-use Rattle.tg_verify.specs.Refusals.{HasPlaceCause, IsOver, PassesAs, given_with, tasks_behind, text_of}
+use Rattle.tg_verify.specs.Opening.{IsNamed, PassesAs, given_with, tasks_behind, text_of}
+use Rattle.tg_verify.specs.Refusals.{HasPlaceCause, IsOver}
+use Rattle.tg_verify.proofs.Reaching.{never_stops, reached_next}
+use Rattle.tg_verify.specs.Reached.{IsOpenedAt, IsReached, stage_of}
 use Rattle.tg_verify.specs.State.{OpenerState, listed_lines, listed_of}
 use Rattle.tg_verify.specs.Steps.{HasOpenCause, IsMissedBehind, IsOverBehind, IsPlaced, IsPlacedAt, IsUnopened, behind}
-use Rattle.tg_verify.specs.Taken.{IsFrontWritten, IsNamed, IsNowhere, most_text}
+use Rattle.tg_verify.specs.Taken.{IsFrontWritten, IsNowhere, most_text}
 use Rattle.tg_verify.specs.declared.counts.Source.{Source}
 use Rattle.tg_verify.specs.declared.fault.Refusal.{Refusal}
 use Rattle.tg_verify.specs.declared.fault.Refusal.TheVariants as refusals
@@ -67,10 +70,12 @@ front_of q sections given tasks written rest verified e =
 -- the place is wanted behind these sections, and this is its block
 pub record IsAtPlace (state : OpenerState) (sections : List Section) (given : Given) (at : WantedAt) (section : Section) (source : Source) : Type 0 where
   pub verified : Verified state.left.query sections given (open_block at.want at.cid ∷ state.left.later)
+  pub reached : IsReached state.left.query state.limits (stage_of sections given (open_block at.want at.cid ∷ state.left.later))
   pub is_named : IsNamed section
   pub same : section.cid ≡ at.cid
   pub from : IsFrom state.left.query sections section source
   pub known : IsKnown state.left.query sections section
+  pub small : is_sent_behind state.left.query sections section.cid ≡ true → length section.block ≤ state.limits.block
   pub counted : HasCounted state.left.query state.counts given
   pub lines : state.lines ≡ listed_lines state.left.query.scope given.met
 
@@ -78,6 +83,7 @@ pub record IsAtPlace (state : OpenerState) (sections : List Section) (given : Gi
 pub record IsOpenedUpTo (old : OpenerState) (sections : List Section) (given : Given) (said : List ℕ) (new : OpenerState) : Type 0 where
   pub next : Given
   pub verified : Verified old.left.query sections next (tasks_left new.left)
+  pub reached : IsReached old.left.query old.limits (stage_of sections next (tasks_left new.left))
   pub counted : HasCounted old.left.query new.counts next
   pub within : AreUnpassed old.limits (counts_given old.left.query next)
   pub text : next.text ≡ given.text ++ said
@@ -135,6 +141,27 @@ module _ (v : VerifiedLaws) (computes : Computes) where
         (takes_block old.left.query old.limits sections given at old.left.later section kind h.is_named h.known passes
         (subst (λ (cid : CidParts). Verified old.left.query sections given (open_block at.want cid ∷ old.left.later)) (sym h.same) h.verified))
 
+    -- it is opened there
+    opened_at : (kind : Option Kind) → PassesAs old.left.query old.limits at section kind
+        → IsOpenedAt old.left.query old.limits (stage_of sections given (open_block at.want at.cid ∷ old.left.later))
+        (stage_of (taken_as old.left.query sections section) (given_with old.left.query given old.left.later at section kind) (tasks_then (behind old at section kind)))
+    opened_at kind passes = record {
+      at = at;
+      later = old.left.later;
+      wanted = refl;
+      verified = h.verified;
+      section = section;
+      same = h.same;
+      is_named = h.is_named;
+      known = h.known;
+      small = h.small;
+      kind = kind;
+      passes = passes;
+      sections_are = refl;
+      given_is = refl;
+      tasks_are = refl;
+    }
+
     -- where it is sent from
     from_opened : IsFrom old.left.query (sent old.left.query (opened_by given)) section source
     from_opened = subst (λ (all : List Section). IsFrom old.left.query all section source) (sym h.verified.sent_are) h.from
@@ -144,13 +171,19 @@ module _ (v : VerifiedLaws) (computes : Computes) where
     opens_up_to said new p =
         let q = old.left.query in
         let next = given_with q given old.left.later at section p.kind in
+        let all = taken_as q sections section in
         let counted : HasCounted q new.counts next =
         counted_on q given at section (text_of q at section p.kind) said (behind old at section p.kind) source old.counts new.counts from_opened p.said_is h.counted p.counted in
+        let within : AreUnpassed old.limits (counts_given q next) = is_unpassed q old.limits p.small new.counts next counted p.within in
+        let reached : IsReached q old.limits (stage_of all next (tasks_then (behind old at section p.kind))) =
+        reached_next q old.limits (stage_of sections given (open_block at.want at.cid ∷ old.left.later)) (stage_of all next (tasks_then (behind old at section p.kind))) h.reached (opened_at p.kind p.passes)
+        (record { within = within; no_stop = λ miss more e. never_stops new.left p.last miss more (p.left ∙ e) }) in
         record {
           next = next;
-          verified = subst (λ (tasks : List (Task CidParts)). Verified q (taken_as q sections section) next tasks) (sym p.left) (takes_next p.kind p.passes);
+          verified = subst (λ (tasks : List (Task CidParts)). Verified q all next tasks) (sym p.left) (takes_next p.kind p.passes);
+          reached = subst (λ (tasks : List (Task CidParts)). IsReached q old.limits (stage_of all next tasks)) (sym p.left) reached;
           counted = counted;
-          within = is_unpassed q old.limits p.small new.counts next counted p.within;
+          within = within;
           text = append_assoc given.text (text_of q at section p.kind) (text_now (behind old at section p.kind)) ∙ ap (λ (t : List ℕ). given.text ++ t) (sym p.said_is);
           lines = p.lines ∙ ap (λ (ls : List ListingLine). ls ++ listed_lines q.scope (entries_now (behind old at section p.kind))) h.lines
               ∙ sym (lines_both q.scope given.met (entries_now (behind old at section p.kind)));
@@ -160,7 +193,7 @@ module _ (v : VerifiedLaws) (computes : Computes) where
 
     -- a segment leads nowhere behind it: before it no text is given
     pub misses_behind : (written : List ℕ) (miss : Miss) → written ≡ given.text → IsMissedBehind old at section miss
-        → IsNowhere old.left.query (taken_as old.left.query sections section) written miss
+        → IsNowhere old.left.query old.limits (taken_as old.left.query sections section) written miss
     misses_behind written miss text m =
         let q = old.left.query in
         let (more, stops) = m.stops in
@@ -171,6 +204,11 @@ module _ (v : VerifiedLaws) (computes : Computes) where
           given = next;
           later = more;
           verified = verified;
+          reached = record {
+            before = stage_of sections given (open_block at.want at.cid ∷ old.left.later);
+            reached = h.reached;
+            opened = subst (λ (tasks : List (Task CidParts)). IsOpenedAt q old.limits (stage_of sections given (open_block at.want at.cid ∷ old.left.later)) (stage_of (taken_as q sections section) next tasks)) stops (opened_at m.kind m.passes);
+          };
           text = text ∙ both_nothing given.text (text_of q at section m.kind) (text_now (behind old at section m.kind)) none ∙ sym none;
         }
       where
@@ -187,6 +225,7 @@ module _ (v : VerifiedLaws) (computes : Computes) where
         record {
           kind = o.kind;
           passes = o.passes;
+          no_stop = λ miss more e. o.no_stop miss (more, e);
           number_is = o.number_is;
           over = is_passed q old.limits o.small o.counts (given_with q given old.left.later at section o.kind) counted limit o.over;
         }
@@ -218,8 +257,8 @@ module _ (v : VerifiedLaws) (computes : Computes) where
 
     -- the refusals of which this holds
     pub record Ends (all : List Section) (written : List ℕ) (P : List ℕ → Refusal → Type 0) : Type 0 where
-      pub no_entry_there : (segment : ℕ) → IsNowhere old.left.query all written (no_entry segment) → P written (refusals.NotThere segment)
-      pub no_directory_there : (segment : ℕ) → IsNowhere old.left.query all written (no_directory segment) → P written (refusals.NotFolder segment)
+      pub no_entry_there : (segment : ℕ) → IsNowhere old.left.query old.limits all written (no_entry segment) → P written (refusals.NotThere segment)
+      pub no_directory_there : (segment : ℕ) → IsNowhere old.left.query old.limits all written (no_directory segment) → P written (refusals.NotFolder segment)
       pub front : (text : List ℕ) → IsFrontWritten old.left.query all text → P text refusals.SinkFault
       pub refused : (fault : Refusal) → HasPlaceCause old.left.query old.limits given old.left.later at section fault → P written fault
 

@@ -26,7 +26,8 @@ use Rattle.tg_verify.proofs.Limits.{not_passed, within_both}
 use Rattle.tg_verify.proofs.Misread.{Computes, bad_isnt_read, missized_isnt_read}
 use Rattle.tg_verify.specs.Counting.{counts_given}
 use Rattle.tg_verify.specs.Laws.{IsMissOf, IsOwnFault, IsWithinLimits}
-use Rattle.tg_verify.specs.Refusals.{HasPlaceCause, HasReceiptCause, HasRefused, HasSectionCause, IsBadBlock, IsMissized, IsOver, IsRefusedAt, IsRefusedBehind, PassesAs, given_with}
+use Rattle.tg_verify.specs.Opening.{PassesAs, given_with}
+use Rattle.tg_verify.specs.Refusals.{HasPlaceCause, HasReceiptCause, HasRefused, HasSectionCause, IsBadBlock, IsMissized, IsOver, IsRefusedAt, IsRefusedBehind}
 use Rattle.tg_verify.specs.Taken.{IsNowhere}
 use Rattle.tg_verify.specs.WantsLaws.{none_next}
 use Rattle.tg_verify.specs.declared.fault.Refusal.{Refusal}
@@ -184,7 +185,7 @@ module _ (v : VerifiedLaws) (b : BesideLaws) (computes : Computes) (q : QueryPar
     last_of : (taken : List Section) (section : Section) → sections ≡ taken ++ section ∷ [] → block_list q d ≡ taken ++ section ∷ rest
     last_of taken section e = list ∙ ap (λ (some : List Section). some ++ rest) e ∙ append_assoc taken (section ∷ []) rest
 
-    refused_at : (fault : Refusal) → IsRefusedAt q sections written (λ given later at section. HasSectionCause q limits given later at section fault) → IsOwnFault fault
+    refused_at : (fault : Refusal) → IsRefusedAt q limits sections written (λ given later at section. HasSectionCause q limits given later at section fault) → IsOwnFault fault
     refused_at fault h = by h.cause
       where
         given : Given
@@ -235,13 +236,13 @@ module _ (v : VerifiedLaws) (b : BesideLaws) (computes : Computes) (q : QueryPar
         no_place_cause sections rest h.given h.at h.later h.section h.is_named.are_bytes passes known here whole fault h.cause
 
     -- a segment that leads nowhere is where the traversal ends
-    leads : (miss : Miss) → IsNowhere q sections written miss → (traversal q d).end ≡ stopped (stop_of miss)
+    leads : (miss : Miss) → IsNowhere q limits sections written miss → (traversal q d).end ≡ stopped (stop_of miss)
     leads miss h =
         let (more, opened) = h.verified.opens d rest other list in
         ap (λ (t : Traversal). t.end) (b.miss q d h.given miss h.later (h.verified.beside d more other.checked other.root opened))
 
     either : (fault : Refusal)
-        → IsRefusedAt q sections written (λ given later at section. HasSectionCause q limits given later at section fault) ⊎ IsRefusedBehind q limits sections written fault
+        → IsRefusedAt q limits sections written (λ given later at section. HasSectionCause q limits given later at section fault) ⊎ IsRefusedBehind q limits sections written fault
         → IsOwnFault fault
     either fault (inl h) = refused_at fault h
     either fault (inr h) = refused_behind fault h

@@ -15,7 +15,8 @@ use Rattle.tg_traversal.specs.BlocksLeft.{HasFewer, blocks_over, then_keeps}
 use Rattle.tg_traversal.specs.Left.{LeftState, WantedAt, tasks_left}
 use Rattle.tg_traversal_laws.specs.Tasks.{Task, entries_now, tasks_then, text_now}
 use Rattle.tg_verify.specs.Counting.{HasMet, IsCountedOn, IsFirstPassed, blocks_added, bytes_added, numbers_of, reused_added}
-use Rattle.tg_verify.specs.Refusals.{PassesAs, text_of}
+use Rattle.tg_verify.specs.Opening.{PassesAs, text_of}
+use Rattle.tg_verify.proofs.Reaching.{never_stops}
 use Rattle.tg_verify.specs.State.{OpenerState, told}
 use Rattle.tg_verify.specs.Steps.{HasOpenCause, IsGathered, IsOpenedHere, IsOverBehind, IsSameOpener, behind, left_of}
 use Rattle.tg_verify.specs.declared.counts.Counts.{Counts}
@@ -96,6 +97,7 @@ module _ (old opened gathered new : OpenerState) (at : WantedAt) (section : Sect
   over limit passes small first = record {
     kind = kind;
     passes = passes;
+    no_stop = λ miss (more, e). never_stops gathered.left g.last miss more (g.left ∙ ap (λ (ts : List (Task CidParts)). tasks_then ts) left_is ∙ e);
     counts = new.counts;
     counted = subst (λ (t : List ℕ). IsCountedOn old.left.query.dups source section.block t (entries_now tasks) old.counts new.counts) said_is counted;
     small = subst (λ (l : LimitNumbers). AreWithin standard l) limits_are small;

@@ -27,7 +27,8 @@ use Rattle.tg_verify.proofs.Limits.{is_above, number_within}
 use Rattle.tg_verify.proofs.Misread.{Computes, bad_isnt_read, missized_isnt_read}
 use Rattle.tg_verify.proofs.Shown.{PeerLaws, answer_front, given_front, no_directory_says, no_entry_says, nowhere_front, through_sound, unlisted_front, up_to_sound, written_front}
 use Rattle.tg_verify.specs.Counting.{counts_given}
-use Rattle.tg_verify.specs.Refusals.{HasPlaceCause, HasReceiptCause, HasRefused, HasSectionCause, IsOver, IsRefusedAt, IsRefusedBehind, PassesAs, given_with}
+use Rattle.tg_verify.specs.Opening.{PassesAs, given_with}
+use Rattle.tg_verify.specs.Refusals.{HasPlaceCause, HasReceiptCause, HasRefused, HasSectionCause, IsOver, IsRefusedAt, IsRefusedBehind}
 use Rattle.tg_verify.specs.Sound.{IsItsFront, SaysOfDag}
 use Rattle.tg_verify.specs.declared.fault.Refusal.{Refusal}
 use Rattle.tg_verify.specs.declared.fault.Refusal.TheVariants as refusals
@@ -140,11 +141,11 @@ module _ (v : VerifiedLaws) (p : PeerLaws) (b : BesideLaws) (computes : Computes
   module _ (written : List ℕ) where
     -- the last of the sections was refused: what is written was written for those before it
 
-    at_front : (why : Given → List (Task CidParts) → WantedAt → Section → Type 0) → IsRefusedAt q sections written why → IsItsFront q d sections written
+    at_front : (why : Given → List (Task CidParts) → WantedAt → Section → Type 0) → IsRefusedAt q limits sections written why → IsItsFront q d sections written
     at_front why h =
         or_pair_more v.pair_of_some (IsFrontOfAnswer written (answer q d)) h.taken sections (h.section ∷ []) d h.received (up_to_sound v p q d sound root h.taken written h.at h.up_to)
 
-    at_says : (fault : Refusal) → IsRefusedAt q sections written (λ given later at section. HasSectionCause q limits given later at section fault) → SaysOfDag q d sections fault
+    at_says : (fault : Refusal) → IsRefusedAt q limits sections written (λ given later at section. HasSectionCause q limits given later at section fault) → SaysOfDag q d sections fault
     at_says fault h = by h.cause
       where
         of_all : CollisionPair (h.taken ++ h.section ∷ []) d → CollisionPair sections d
@@ -184,7 +185,7 @@ module _ (v : VerifiedLaws) (p : PeerLaws) (b : BesideLaws) (computes : Computes
         fault h.cause
 
     either : (fault : Refusal)
-        → IsRefusedAt q sections written (λ given later at section. HasSectionCause q limits given later at section fault) ⊎ IsRefusedBehind q limits sections written fault
+        → IsRefusedAt q limits sections written (λ given later at section. HasSectionCause q limits given later at section fault) ⊎ IsRefusedBehind q limits sections written fault
         → IsItsFront q d sections written × SaysOfDag q d sections fault
     either fault (inl h) = (at_front _ h, at_says fault h)
     either fault (inr h) = (behind_front fault h, behind_says fault h)

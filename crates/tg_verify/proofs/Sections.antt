@@ -25,7 +25,7 @@ is_going state sections written e h = subst (λ (r : Option Refusal). StandsBy r
 
 wants_some : (state : VerifierState) (sections : List Section) (written : List ℕ) → IsGoing state sections written → (wanted : Option WantedAt) → state.left.wanted ≡ wanted
     → state.left.wanted ≢ None
-    → (at : WantedAt) × (state.left.wanted ≡ Some at) × IsUpTo state.left.query sections written at
+    → (at : WantedAt) × (state.left.wanted ≡ Some at) × IsUpTo state.left.query state.limits sections written at
 wants_some state sections written h None e more = absurd (more e)
 wants_some state sections written h (Some at) e more = (at, e, going_up_to state sections written h at e)
 
@@ -33,10 +33,10 @@ module _ (laws : AnswerLaws) (state : VerifierState) (sections : List Section) (
   shows_of : (result : Result Progress Refusal) → StandsAfter result state sections written → IfOk result (λ progress. IsProgress progress state)
       → ShowsFor state.left.query state.left.wanted sections written result
   shows_of (Ok progresses.More) h progress =
-      let (at, e, up_to) = wants_some state sections written h state.left.wanted refl progress in (at, e, laws.up_to state.left.query sections written at up_to)
-  shows_of (Ok progresses.Done) h progress = laws.through state.left.query sections written (going_through state sections written h progress)
-  shows_of (Err (refusals.NotThere segment)) h progress = laws.nowhere state.left.query sections written (no_entry segment) h
-  shows_of (Err (refusals.NotFolder segment)) h progress = laws.nowhere state.left.query sections written (no_directory segment) h
+      let (at, e, up_to) = wants_some state sections written h state.left.wanted refl progress in (at, e, laws.up_to state.left.query state.limits sections written at up_to)
+  shows_of (Ok progresses.Done) h progress = laws.through state.left.query state.limits sections written (going_through state sections written h progress)
+  shows_of (Err (refusals.NotThere segment)) h progress = laws.nowhere state.left.query state.limits sections written (no_entry segment) h
+  shows_of (Err (refusals.NotFolder segment)) h progress = laws.nowhere state.left.query state.limits sections written (no_directory segment) h
   shows_of (Err (refusals.Extra number)) h progress = tt
   shows_of (Err (refusals.Limit kind number)) h progress = tt
   shows_of (Err (refusals.BadDigest cid)) h progress = tt
@@ -50,8 +50,8 @@ module _ (laws : AnswerLaws) (state : VerifierState) (sections : List Section) (
   sound_of : (result : Result Progress Refusal) → StandsAfter result state sections written → IfOk result (λ progress. IsProgress progress state)
       → ForEachSound state.left.query (λ d. AnswersFor state.left.query d sections written result)
   sound_of (Ok progresses.More) h progress d sound root =
-      let (at, e, up_to) = wants_some state sections written h state.left.wanted refl progress in laws.sound_up_to state.left.query d sections written at sound root up_to
-  sound_of (Ok progresses.Done) h progress d sound root = laws.sound_through state.left.query d sections written sound root (going_through state sections written h progress)
+      let (at, e, up_to) = wants_some state sections written h state.left.wanted refl progress in laws.sound_up_to state.left.query state.limits d sections written at sound root up_to
+  sound_of (Ok progresses.Done) h progress d sound root = laws.sound_through state.left.query state.limits d sections written sound root (going_through state sections written h progress)
   sound_of (Err fault) h progress d sound root = laws.sound_refused state.left.query state.limits d sections written fault sound root h
 
   -- with the refusal kept
@@ -62,6 +62,7 @@ module _ (laws : AnswerLaws) (state : VerifierState) (sections : List Section) (
       (record {
         given = h.given;
         verified = h.verified;
+        reached = h.reached;
         sends = h.sends;
         keeps = record { named = h.keeps.named; remembers = h.keeps.remembers; count = h.keeps.count };
         counted = record { counted = h.counted.counted; within = h.counted.within };

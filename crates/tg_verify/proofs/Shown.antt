@@ -15,7 +15,8 @@ use Rattle.tg_model.specs.Sound.{IsSound}
 use Rattle.tg_model.specs.Traversal.{Traversal, block_list, traversal}
 use Rattle.tg_traversal_laws.specs.Stages.{Given, up_to_next}
 use Rattle.tg_traversal_laws.specs.Openings.{opened_by}
-use Rattle.tg_traversal_laws.specs.Tasks.{Miss, Task, Want, no_directory, no_entry, open_block, spot_of, tasks_then, text_now}
+use Rattle.tg_model.specs.LimitNumbers.{LimitNumbers}
+use Rattle.tg_traversal_laws.specs.Tasks.{Miss, Task, Want, no_directory, no_entry, open_block, spot_of, stop_at, tasks_then, text_now}
 use Rattle.tg_traversal_laws.specs.Verified.{GoesOn, IsAccepted, LeadsNowhere, Then, Verified, VerifiedLaws, listing_at_end, then_block, then_none, then_stop, written_whole}
 use Rattle.tg_verify.proofs.EachAsked.{each_asked, each_verified}
 use Rattle.tg_verify.proofs.Fronts.{front_of_front, whole_is_front}
@@ -44,21 +45,28 @@ answer_front q d sections written (inr pair) = inr pair
 module _ (v : VerifiedLaws) where
   -- ---- what the sections are
 
-  pub up_to_progress : (q : QueryParts) (sections : List Section) (written : List ℕ) (at : WantedAt) → IsUpTo q sections written at
+  pub up_to_progress : (q : QueryParts) {limits : LimitNumbers} (sections : List Section) (written : List ℕ) (at : WantedAt) → IsUpTo q limits sections written at
       → IsProgressOf q sections written (spot_of at.want at.cid)
   up_to_progress q sections written at h =
       let goes : GoesOn q sections h.given (spot_of at.want at.cid) = v.goes q sections h.given at.want at.cid h.later h.sends h.verified in
       record { s = goes.s; progress = goes.progress; output = goes.output ∙ sym h.text }
 
-  pub through_fits : (q : QueryParts) (sections : List Section) (written : List ℕ) → IsThrough q sections written → IsFitOf q sections written
-  through_fits q sections written h =
-      let accepted : IsAccepted q sections h.given = v.fits q sections h.given h.verified in
-      record { s = accepted.s; fits = subst (Fits accepted.s q sections) (sym h.text) accepted.fits }
+  fits_whole : (q : QueryParts) (sections : List Section) (written : List ℕ) (given : Given) → Verified q sections given [] → written ≡ written_whole q given → IsFitOf q sections written
+  fits_whole q sections written given verified text =
+      let accepted : IsAccepted q sections given = v.fits q sections given verified in
+      record { s = accepted.s; fits = subst (Fits accepted.s q sections) (sym text) accepted.fits }
 
-  pub nowhere_leads : (q : QueryParts) (sections : List Section) (written : List ℕ) (miss : Miss) → IsNowhere q sections written miss → IsNowhereOf q sections written miss
-  nowhere_leads q sections written miss h =
-      let leads : LeadsNowhere q sections h.given miss = v.misses q sections h.given miss h.later h.verified in
-      record { s = leads.s; opened = leads.right; list = leads.list; end = ap (λ (t : Traversal). t.end) leads.gives; output = leads.output ∙ sym h.text }
+  pub through_fits : (q : QueryParts) {limits : LimitNumbers} (sections : List Section) (written : List ℕ) → IsThrough q limits sections written → IsFitOf q sections written
+  through_fits q sections written h = fits_whole q sections written h.given h.verified h.text
+
+  stops_nowhere : (q : QueryParts) (sections : List Section) (written : List ℕ) (miss : Miss) (given : Given) (later : List (Task CidParts)) → Verified q sections given (stop_at miss ∷ later)
+      → written ≡ given.text → IsNowhereOf q sections written miss
+  stops_nowhere q sections written miss given later verified text =
+      let leads : LeadsNowhere q sections given miss = v.misses q sections given miss later verified in
+      record { s = leads.s; opened = leads.right; list = leads.list; end = ap (λ (t : Traversal). t.end) leads.gives; output = leads.output ∙ sym text }
+
+  pub nowhere_leads : (q : QueryParts) {limits : LimitNumbers} (sections : List Section) (written : List ℕ) (miss : Miss) → IsNowhere q limits sections written miss → IsNowhereOf q sections written miss
+  nowhere_leads q sections written miss h = stops_nowhere q sections written miss h.given h.later h.verified h.text
 
   -- ---- beside a sound DAG
 
@@ -76,30 +84,31 @@ module _ (v : VerifiedLaws) where
         (λ pair. inr (v.pair_had (opened_by given) sections d h.received pair))
         (p.meanwhile all d goes.s (opened_by given) (spot_of w cid) sound root goes.progress)
 
-    pub up_to_sound : (written : List ℕ) (at : WantedAt) → IsUpTo q sections written at → IsItsFront q d sections written
+    pub up_to_sound : {limits : LimitNumbers} → (written : List ℕ) (at : WantedAt) → IsUpTo q limits sections written at → IsItsFront q d sections written
     up_to_sound written at h =
         subst (λ (out : List ℕ). IsItsFront q d sections out) (sym h.text) (given_front h.given at.want at.cid h.later h.verified)
 
-    pub through_sound : (written : List ℕ) → IsThrough q sections written → IsItsAnswer q d sections written
-    through_sound written h =
-        let fit : IsFitOf q sections written = through_fits q sections written h in
-        ⊎_elim (λ both. inl both.1) (λ pair. inr pair) (p.accepted q d fit.s sections written sound root fit.fits)
+    fit_sound : (written : List ℕ) → IsFitOf q sections written → IsItsAnswer q d sections written
+    fit_sound written fit = ⊎_elim (λ both. inl both.1) (λ pair. inr pair) (p.accepted q d fit.s sections written sound root fit.fits)
+
+    pub through_sound : {limits : LimitNumbers} → (written : List ℕ) → IsThrough q limits sections written → IsItsAnswer q d sections written
+    through_sound written h = fit_sound written (through_fits q sections written h)
 
     -- where a segment leads nowhere
 
-    module _ (written : List ℕ) (miss : Miss) (h : IsNowhere q sections written miss) where
-      leads : IsNowhereOf q sections written miss
-      leads = nowhere_leads q sections written miss h
-
+    module _ (written : List ℕ) (miss : Miss) (leads : IsNowhereOf q sections written miss) where
       -- what was sent are those sections
       of_sections : CollisionPair (block_list q leads.s) d → CollisionPair sections d
       of_sections pair = subst (λ (some : List Section). CollisionPair some d) leads.list pair
 
-      pub nowhere_front : IsItsFront q d sections written
-      nowhere_front = ⊎_elim
+      nowhere_front_of : IsItsFront q d sections written
+      nowhere_front_of = ⊎_elim
           (λ front. inl (subst (λ (out : List ℕ). IsFrontOfAnswer out (answer q d)) leads.output front))
           (λ pair. inr (of_sections pair))
           (p.written q d leads.s sound root leads.opened)
+
+    pub nowhere_front : {limits : LimitNumbers} → (written : List ℕ) (miss : Miss) → IsNowhere q limits sections written miss → IsItsFront q d sections written
+    nowhere_front written miss h = nowhere_front_of written miss (nowhere_leads q sections written miss h)
 
     not_there_alike : (i : ℕ) (end : LookupEnd) → StopsAlike (not_there i) end → end ≡ lookups.not_there i
     not_there_alike i (lookups.found t) h = absurd h
@@ -111,20 +120,20 @@ module _ (v : VerifiedLaws) where
     not_folder_alike i (lookups.not_there j) h = absurd h
     not_folder_alike i (lookups.not_folder j) h = ap lookups.not_folder (sym h)
 
-    pub no_entry_says : (written : List ℕ) (i : ℕ) → IsNowhere q sections written (no_entry i) → (lookup_path q.path d ≡ lookups.not_there i) ⊎ CollisionPair sections d
+    pub no_entry_says : {limits : LimitNumbers} → (written : List ℕ) (i : ℕ) → IsNowhere q limits sections written (no_entry i) → (lookup_path q.path d ≡ lookups.not_there i) ⊎ CollisionPair sections d
     no_entry_says written i h =
-        let led : IsNowhereOf q sections written (no_entry i) = leads written (no_entry i) h in
+        let led : IsNowhereOf q sections written (no_entry i) = nowhere_leads q sections written (no_entry i) h in
         ⊎_elim
         (λ alike. inl (not_there_alike i (lookup_path q.path d) alike))
-        (λ pair. inr (of_sections written (no_entry i) h pair))
+        (λ pair. inr (of_sections written (no_entry i) led pair))
         (p.absent q d led.s i sound root led.opened led.end)
 
-    pub no_directory_says : (written : List ℕ) (i : ℕ) → IsNowhere q sections written (no_directory i) → (lookup_path q.path d ≡ lookups.not_folder i) ⊎ CollisionPair sections d
+    pub no_directory_says : {limits : LimitNumbers} → (written : List ℕ) (i : ℕ) → IsNowhere q limits sections written (no_directory i) → (lookup_path q.path d ≡ lookups.not_folder i) ⊎ CollisionPair sections d
     no_directory_says written i h =
-        let led : IsNowhereOf q sections written (no_directory i) = leads written (no_directory i) h in
+        let led : IsNowhereOf q sections written (no_directory i) = nowhere_leads q sections written (no_directory i) h in
         ⊎_elim
         (λ alike. inl (not_folder_alike i (lookup_path q.path d) alike))
-        (λ pair. inr (of_sections written (no_directory i) h pair))
+        (λ pair. inr (of_sections written (no_directory i) led pair))
         (p.not_folder q d led.s i sound root led.opened led.end)
 
     -- ---- a front of what the sections say
@@ -139,27 +148,20 @@ module _ (v : VerifiedLaws) where
         → IsItsFront q d sections (given.text ++ text_now tasks)
     front_by given tasks verified (then_none e) =
         let next = up_to_next tasks given in
-        let through : IsThrough q sections (written_whole q next) = record {
-          given = next;
-          verified = subst (λ (xs : List (Task CidParts)). Verified q sections next xs) e verified;
-          text = refl;
-        } in
+        let fit : IsFitOf q sections (written_whole q next) =
+        fits_whole q sections (written_whole q next) next (subst (λ (xs : List (Task CidParts)). Verified q sections next xs) e verified) refl in
         shorter (written_whole q next) (given.text ++ text_now tasks) (listing_at_end q.scope next.met) refl
-        (answer_front q d sections (written_whole q next) (through_sound (written_whole q next) through))
+        (answer_front q d sections (written_whole q next) (fit_sound (written_whole q next) fit))
     front_by given tasks verified (then_block w cid more e) =
         given_front (up_to_next tasks given) w cid more (subst (λ (xs : List (Task CidParts)). Verified q sections (up_to_next tasks given) xs) e verified)
     front_by given tasks verified (then_stop miss more e) =
         let next = up_to_next tasks given in
-        nowhere_front (given.text ++ text_now tasks) miss (record {
-          given = next;
-          later = more;
-          verified = subst (λ (xs : List (Task CidParts)). Verified q sections next xs) e verified;
-          text = refl;
-        })
+        nowhere_front_of (given.text ++ text_now tasks) miss
+        (stops_nowhere q sections (given.text ++ text_now tasks) miss next more (subst (λ (xs : List (Task CidParts)). Verified q sections next xs) e verified) refl)
 
     most_by : (given : Given) (tasks : List (Task CidParts)) → Verified q sections given tasks → IsItsFront q d sections (most_text q given tasks)
     most_by given [] verified =
-        answer_front q d sections (written_whole q given) (through_sound (written_whole q given) (record { given = given; verified = verified; text = refl }))
+        answer_front q d sections (written_whole q given) (fit_sound (written_whole q given) (fits_whole q sections (written_whole q given) given verified refl))
     most_by given (task ∷ tasks) verified =
         let all = task ∷ tasks in
         shorter (given.text ++ text_now all) given.text (text_now all) refl (front_by given all (v.up_to_next q sections given all verified) (v.how_then all))

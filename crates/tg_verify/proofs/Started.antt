@@ -14,6 +14,7 @@ use Rattle.tg_traversal_laws.specs.Stages.{nothing_given}
 use Rattle.tg_traversal_laws.specs.Tasks.{Task}
 use Rattle.tg_traversal_laws.specs.Verified.{Verified, VerifiedLaws}
 use Rattle.tg_verify.specs.Counting.{AreUnpassed, counts_given}
+use Rattle.tg_verify.specs.Reached.{IsReached, stage_of}
 use Rattle.tg_verify.specs.State.{VerifierState, listed_of}
 use Rattle.tg_verify.specs.Taken.{IsFresh, IsOn, Remembers}
 
@@ -53,6 +54,7 @@ pub starts : (v : VerifiedLaws) (state : VerifierState) → IsFresh state → Is
 starts v state fresh = record {
   given = nothing_given;
   verified = subst (λ (tasks : List (Task CidParts)). Verified state.left.query [] nothing_given tasks) (sym fresh.left) (v.start state.left.query);
+  reached = subst (λ (tasks : List (Task CidParts)). IsReached state.left.query state.limits (stage_of [] nothing_given tasks)) (sym fresh.left) (record { stages = []; leads = refl });
   ends = λ none. absurd (fresh.wanted none);
   keeps = record {
     named = λ section h. absurd (omega (arith, h.1));

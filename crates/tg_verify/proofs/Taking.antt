@@ -23,9 +23,11 @@ use Rattle.tg_verify.proofs.Turning.{kept_section, known_if, pair_of}
 use Rattle.tg_verify.specs.Counting.{AreUnpassed, HasCounted, counts_given}
 use Rattle.tg_verify.specs.History.{HasOn, HasTaken, PutsFor, one_more}
 use Rattle.tg_verify.specs.Refusals.{HasRefused, HasSectionCause, IsRefusedAt, IsWantedBlock}
+use Rattle.tg_verify.specs.Reached.{IsReached, stage_of}
 use Rattle.tg_verify.specs.State.{OpenerState, VerifierState, count_of, listed_lines}
 use Rattle.tg_verify.specs.Steps.{IsPlacedAt, IsReceivedAt, IsSameOpener, section_with}
-use Rattle.tg_verify.specs.Taken.{AreNamed, IsFrontWritten, IsGoing, IsNamed, IsNowhere, IsOn, IsSentFor, IsWrittenAt, Remembers}
+use Rattle.tg_verify.specs.Opening.{IsNamed}
+use Rattle.tg_verify.specs.Taken.{AreNamed, IsFrontWritten, IsGoing, IsNowhere, IsOn, IsSentFor, IsWrittenAt, Remembers}
 use Rattle.tg_verify.specs.declared.counts.Source.TheVariants as sources
 use Rattle.tg_verify.specs.declared.fault.Refusal.{Refusal}
 use Rattle.tg_verify.specs.declared.fault.Refusal.TheVariants as refusals
@@ -101,18 +103,21 @@ module _ (state : VerifierState) (sections : List Section) (written : List ℕ) 
     verified_at : Verified state.left.query sections h.given (open_block at.want at.cid ∷ state.left.later)
     verified_at = subst (λ (w : Option WantedAt). Verified state.left.query sections h.given (wanted_tasks w ++ state.left.later)) wanted h.verified
 
+    reached_at : IsReached state.left.query state.limits (stage_of sections h.given (open_block at.want at.cid ∷ state.left.later))
+    reached_at = subst (λ (w : Option WantedAt). IsReached state.left.query state.limits (stage_of sections h.given (wanted_tasks w ++ state.left.later))) wanted h.reached
+
     sends_at : is_sent_behind state.left.query sections at.cid ≡ true
     sends_at = subst (λ (w : Option WantedAt). IsSentFor state.left.query sections w) wanted h.sends
 
     refused_as : (why : Given → List (Task CidParts) → WantedAt → Section → Type 0) → why h.given state.left.later at section
-        → IsRefusedAt state.left.query (sections ++ section ∷ []) written why
+        → IsRefusedAt state.left.query state.limits (sections ++ section ∷ []) written why
     refused_as why cause = record {
       taken = sections;
       section = section;
       received = refl;
       are_bytes = bytes;
       at = at;
-      up_to = record { given = h.given; later = state.left.later; verified = verified_at; sends = sends_at; text = writes_at.0 };
+      up_to = record { given = h.given; later = state.left.later; verified = verified_at; reached = reached_at; sends = sends_at; text = writes_at.0 };
       cause = cause;
     }
 
@@ -170,10 +175,12 @@ module _ (state : VerifierState) (sections : List Section) (written : List ℕ) 
     at_place : IsAtPlace opener sections h.given there.at section sources.Section
     at_place = record {
       verified = verified_at there.at there.wanted;
+      reached = reached_at there.at there.wanted;
       is_named = named_it;
       same = there.block.same;
       from = sends_it;
       known = known_if state.left.query sections section true sends_it tt;
+      small = λ sends. there.block.block.small;
       counted = h.counted.counted;
       lines = (writes_at there.at there.wanted).1;
     }
@@ -187,8 +194,8 @@ module _ (state : VerifierState) (sections : List Section) (written : List ℕ) 
         let q = state.left.query in
         let all = sections ++ section ∷ [] in
         let ends : Ends v computes opener sections h.given there.at section sources.Section at_place (taken_as q sections section) written (λ text fault. HasRefused q state.limits all text fault) = record {
-          no_entry_there = λ segment nowhere. subst (λ (all : List Section). IsNowhere q all written (no_entry segment)) all_sections nowhere;
-          no_directory_there = λ segment nowhere. subst (λ (all : List Section). IsNowhere q all written (no_directory segment)) all_sections nowhere;
+          no_entry_there = λ segment nowhere. subst (λ (all : List Section). IsNowhere q state.limits all written (no_entry segment)) all_sections nowhere;
+          no_directory_there = λ segment nowhere. subst (λ (all : List Section). IsNowhere q state.limits all written (no_directory segment)) all_sections nowhere;
           front = λ text front. subst (λ (all : List Section). IsFrontWritten q all text) all_sections front;
           refused = λ fault cause. section_refused there.at there.wanted fault (inr (there.block, cause));
         } in
@@ -226,6 +233,10 @@ module _ (state : VerifierState) (sections : List Section) (written : List ℕ) 
               verified = subst (λ (p : QueryParts). Verified p (sections ++ section ∷ []) o.next (tasks_left after.left)) (sym query)
                   (subst (λ (tasks : List (Task CidParts)). Verified state.left.query (sections ++ section ∷ []) o.next tasks) (sym (ap (λ l. tasks_left l) left))
                   (subst (λ (ss : List Section). Verified state.left.query ss o.next (tasks_left new.left)) e o.verified));
+              reached = subst (λ (p : QueryParts). IsReached p after.limits (stage_of (sections ++ section ∷ []) o.next (tasks_left after.left))) (sym query)
+                  (subst (λ (l : LimitNumbers). IsReached state.left.query l (stage_of (sections ++ section ∷ []) o.next (tasks_left after.left))) (sym limits_are)
+                  (subst (λ (tasks : List (Task CidParts)). IsReached state.left.query state.limits (stage_of (sections ++ section ∷ []) o.next tasks)) (sym (ap (λ l. tasks_left l) left))
+                  (subst (λ (ss : List Section). IsReached state.left.query state.limits (stage_of ss o.next (tasks_left new.left))) e o.reached)));
               ends = λ none. ap (λ l. l.later) left ∙ last (sym (ap (λ l. l.wanted) left) ∙ none);
               keeps = record {
                 named = named_more sections section h.keeps.named named_it;

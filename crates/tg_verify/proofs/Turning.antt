@@ -26,9 +26,11 @@ use Rattle.tg_verify.proofs.Misread.{Computes}
 use Rattle.tg_verify.proofs.Opened.{Ends, IsAtPlace, IsOpenedUpTo, opens_up_to, placed_ends}
 use Rattle.tg_verify.specs.History.{HasGone, HasOn, HasStopped}
 use Rattle.tg_verify.specs.Refusals.{HasPlaceCause, IsRefusedBehind}
+use Rattle.tg_verify.specs.Reached.{IsReached, stage_of}
 use Rattle.tg_verify.specs.State.{OpenerState, VerifierState, listed_lines, listed_of}
 use Rattle.tg_verify.specs.Steps.{IsKnownBlock, IsPlacedAt, IsSameOpener, PutOrWants, section_with, source_of}
-use Rattle.tg_verify.specs.Taken.{IsFrontWritten, IsNamed, IsNowhere, IsOn, IsSentFor, IsUnlisted, IsWrittenAt, Remembers}
+use Rattle.tg_verify.specs.Opening.{IsNamed}
+use Rattle.tg_verify.specs.Taken.{IsFrontWritten, IsNowhere, IsOn, IsSentFor, IsUnlisted, IsWrittenAt, Remembers}
 use Rattle.tg_verify.specs.declared.counts.Source.{Source}
 use Rattle.tg_verify.specs.declared.counts.Source.TheVariants as sources
 use Rattle.tg_verify.specs.declared.fault.Refusal.{Refusal}
@@ -196,6 +198,7 @@ module _ (v : VerifiedLaws) (computes : Computes) (state : VerifierState) (secti
     stands = record {
       given = h.given;
       verified = h.verified;
+      reached = h.reached;
       sends = subst (λ (w : Option WantedAt). IsSentFor state.left.query sections w) (sym none) tt;
       keeps = record { named = h.keeps.named; remembers = h.keeps.remembers; count = h.keeps.count };
       counted = record { counted = h.counted.counted; within = h.counted.within };
@@ -226,6 +229,7 @@ module _ (v : VerifiedLaws) (computes : Computes) (state : VerifierState) (secti
     stands = record {
       given = h.given;
       verified = h.verified;
+      reached = h.reached;
       sends = subst (λ (w : Option WantedAt). IsSentFor state.left.query sections w) (sym wanted) sends;
       keeps = h.keeps;
       counted = h.counted;
@@ -240,16 +244,21 @@ module _ (v : VerifiedLaws) (computes : Computes) (state : VerifierState) (secti
     verified_at : Verified state.left.query sections h.given (open_block at.want at.cid ∷ state.left.later)
     verified_at = subst (λ (w : Option WantedAt). Verified state.left.query sections h.given (wanted_tasks w ++ state.left.later)) wanted h.verified
 
+    reached_at : IsReached state.left.query state.limits (stage_of sections h.given (open_block at.want at.cid ∷ state.left.later))
+    reached_at = subst (λ (w : Option WantedAt). IsReached state.left.query state.limits (stage_of sections h.given (wanted_tasks w ++ state.left.later))) wanted h.reached
+
     named_here : IsNamed section
     named_here = is_named state.left.query sections section source known h.keeps.named bytes
 
     at_place : IsAtPlace opener sections h.given at section source
     at_place = record {
       verified = verified_at;
+      reached = reached_at;
       is_named = named_here;
       same = same;
       from = known.from;
       known = known_if state.left.query sections section false known.unsent known.had;
+      small = λ sends. let both : false ≡ true = sym known.unsent ∙ sends in absurd (cc both);
       counted = h.counted.counted;
       lines = h.lines;
     }
@@ -267,6 +276,7 @@ module _ (v : VerifiedLaws) (computes : Computes) (state : VerifierState) (secti
       at = at;
       later = state.left.later;
       verified = verified_at;
+      reached = reached_at;
       text = h.text;
       known = unsent_at;
       section = section;
@@ -303,8 +313,8 @@ module _ (v : VerifiedLaws) (computes : Computes) (state : VerifierState) (secti
     place_refused out new fault same_opener placed =
         let q = state.left.query in
         let ends : Ends v computes opener sections h.given at section source at_place (taken_as q sections section) written (λ text fault. HasStopped q state.limits sections text fault) = record {
-          no_entry_there = λ segment there. subst (λ (all : List Section). IsNowhere q all written (no_entry segment)) same_sections there;
-          no_directory_there = λ segment there. subst (λ (all : List Section). IsNowhere q all written (no_directory segment)) same_sections there;
+          no_entry_there = λ segment there. subst (λ (all : List Section). IsNowhere q state.limits all written (no_entry segment)) same_sections there;
+          no_directory_there = λ segment there. subst (λ (all : List Section). IsNowhere q state.limits all written (no_directory segment)) same_sections there;
           front = λ text there. subst (λ (all : List Section). IsFrontWritten q all text) same_sections there;
           refused = refuses;
         } in
@@ -336,6 +346,9 @@ module _ (v : VerifiedLaws) (computes : Computes) (state : VerifierState) (secti
           given = o.next;
           verified = subst (λ (p : QueryParts). Verified p sections o.next (tasks_left new.left)) (sym same_opener.query)
               (subst (λ (ss : List Section). Verified state.left.query ss o.next (tasks_left new.left)) e o.verified);
+          reached = subst (λ (p : QueryParts). IsReached p new.limits (stage_of sections o.next (tasks_left new.left))) (sym same_opener.query)
+              (subst (λ (l : LimitNumbers). IsReached state.left.query l (stage_of sections o.next (tasks_left new.left))) (sym same_opener.limits)
+              (subst (λ (ss : List Section). IsReached state.left.query state.limits (stage_of ss o.next (tasks_left new.left))) e o.reached));
           ends = last;
           keeps = record {
             named = h.keeps.named;

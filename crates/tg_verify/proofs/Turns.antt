@@ -111,7 +111,7 @@ module _ (v : VerifiedLaws) (q : QueryParts) (limits : LimitNumbers) (sections :
   stopped_refused written (refusals.BadSize declared actual) h = inr h
 
   -- where a segment leads nowhere nothing was ever written
-  nothing_before : (written text : List ℕ) (miss : Miss) → IsNowhere q sections (written ++ text) miss → text ≡ []
+  nothing_before : (written text : List ℕ) (miss : Miss) → IsNowhere q limits sections (written ++ text) miss → text ≡ []
   nothing_before written text miss h = second written text (h.text ∙ (v.misses q sections h.given miss h.later h.verified).nothing)
     where
       second : (a b : List ℕ) → a ++ b ≡ [] → b ≡ []

@@ -95,8 +95,8 @@ pub record HasTaken (state : VerifierState) (sections : List Section) (written :
 -- why it stops behind these sections: at a place whose block no section brings, or of a segment that leads nowhere; or
 -- memory was wanted there or for a listing; or out failed behind a front of what they say
 abbrev pub HasStopped : QueryParts → LimitNumbers → List Section → List ℕ → Refusal → Type 0
-HasStopped q limits sections written (refusals.NotFolder segment) = IsNowhere q sections written (no_directory segment)
-HasStopped q limits sections written (refusals.NotThere segment) = IsNowhere q sections written (no_entry segment)
+HasStopped q limits sections written (refusals.NotFolder segment) = IsNowhere q limits sections written (no_directory segment)
+HasStopped q limits sections written (refusals.NotThere segment) = IsNowhere q limits sections written (no_entry segment)
 HasStopped q limits sections written refusals.SinkFault = IsFrontWritten q sections written
 HasStopped q limits sections written refusals.OutOfMemory = HasWantedBehind q limits sections written
 HasStopped q limits sections written fault = IsRefusedBehind q limits sections written fault
@@ -170,8 +170,8 @@ pub record HasRefusedFront (q : QueryParts) (limits : LimitNumbers) (sections : 
 
 -- how a list of sections ends: all came; or a block is wanted behind them; or one of them was refused
 abbrev pub AllEnd : QueryParts → LimitNumbers → List Section → Output → Result (Option CidParts) Refusal → Type 0
-AllEnd q limits sections out (Ok None) = HasPut out (λ text. IsThrough q sections text) × OutputQuiet out
+AllEnd q limits sections out (Ok None) = HasPut out (λ text. IsThrough q limits sections text) × OutputQuiet out
 AllEnd q limits sections out (Ok (Some want)) =
-    HasPut out (λ text. (at : WantedAt) × (want ≡ at.cid) × IsUpTo q sections text at) × OutputQuiet out
+    HasPut out (λ text. (at : WantedAt) × (want ≡ at.cid) × IsUpTo q limits sections text at) × OutputQuiet out
 AllEnd q limits sections out (Err fault) =
     HasPut out (λ text. HasRefusedFront q limits sections text fault) × HasPutCause (Err fault) out

@@ -39,23 +39,23 @@ pub record IsNowhereOf (q : QueryParts) (sections : List Section) (written : Lis
   pub output : output_so_far q s ≡ written
 
 abbrev pub UpToProgress : Type 0
-UpToProgress = (q : QueryParts) (sections : List Section) (written : List ℕ) (at : WantedAt) → IsUpTo q sections written at → IsProgressOf q sections written (spot_of at.want at.cid)
+UpToProgress = (q : QueryParts) (limits : LimitNumbers) (sections : List Section) (written : List ℕ) (at : WantedAt) → IsUpTo q limits sections written at → IsProgressOf q sections written (spot_of at.want at.cid)
 
 abbrev pub ThroughFits : Type 0
-ThroughFits = (q : QueryParts) (sections : List Section) (written : List ℕ) → IsThrough q sections written → IsFitOf q sections written
+ThroughFits = (q : QueryParts) (limits : LimitNumbers) (sections : List Section) (written : List ℕ) → IsThrough q limits sections written → IsFitOf q sections written
 
 abbrev pub NowhereLeads : Type 0
-NowhereLeads = (q : QueryParts) (sections : List Section) (written : List ℕ) (miss : Miss) → IsNowhere q sections written miss → IsNowhereOf q sections written miss
+NowhereLeads = (q : QueryParts) (limits : LimitNumbers) (sections : List Section) (written : List ℕ) (miss : Miss) → IsNowhere q limits sections written miss → IsNowhereOf q sections written miss
 
 -- ---- a verifier that goes on, by whether a block is wanted
 
 abbrev pub GoingUpTo : Type 0
 GoingUpTo = (state : VerifierState) (sections : List Section) (written : List ℕ) → IsGoing state sections written → (at : WantedAt) → state.left.wanted ≡ Some at
-    → IsUpTo state.left.query sections written at
+    → IsUpTo state.left.query state.limits sections written at
 
 abbrev pub GoingThrough : Type 0
 GoingThrough = (state : VerifierState) (sections : List Section) (written : List ℕ) → IsGoing state sections written → state.left.wanted ≡ None
-    → IsThrough state.left.query sections written
+    → IsThrough state.left.query state.limits sections written
 
 -- ---- beside each sound DAG of the query's root
 
@@ -64,12 +64,12 @@ abbrev pub AnswerIsFront : Type 0
 AnswerIsFront = (q : QueryParts) (d : Dag) (sections : List Section) (written : List ℕ) → IsItsAnswer q d sections written → IsItsFront q d sections written
 
 abbrev pub UpToSound : Type 0
-UpToSound = (q : QueryParts) (d : Dag) (sections : List Section) (written : List ℕ) (at : WantedAt) → IsSound d → root_cid d ≡ q.root
-    → IsUpTo q sections written at → IsItsFront q d sections written
+UpToSound = (q : QueryParts) (limits : LimitNumbers) (d : Dag) (sections : List Section) (written : List ℕ) (at : WantedAt) → IsSound d → root_cid d ≡ q.root
+    → IsUpTo q limits sections written at → IsItsFront q d sections written
 
 abbrev pub ThroughSound : Type 0
-ThroughSound = (q : QueryParts) (d : Dag) (sections : List Section) (written : List ℕ) → IsSound d → root_cid d ≡ q.root
-    → IsThrough q sections written → IsItsAnswer q d sections written
+ThroughSound = (q : QueryParts) (limits : LimitNumbers) (d : Dag) (sections : List Section) (written : List ℕ) → IsSound d → root_cid d ≡ q.root
+    → IsThrough q limits sections written → IsItsAnswer q d sections written
 
 abbrev pub RefusedSound : Type 0
 RefusedSound = (q : QueryParts) (limits : LimitNumbers) (d : Dag) (sections : List Section) (written : List ℕ) (fault : Refusal) → IsSound d → root_cid d ≡ q.root

@@ -5,6 +5,8 @@ pub mod Refusals
 pub mod History
 pub mod Sound
 pub mod Laws
+pub mod Opening
+pub mod Reached
 pub mod Steps
 pub mod Own
 pub mod WantsLaws

@@ -16,13 +16,14 @@ use Rattle.tg_model.specs.declared.kinds.Kind.{Kind}
 use Rattle.tg_model.specs.declared.limits.LimitKind.TheVariants as kinds
 use Rattle.tg_model.specs.declared.limits.LimitKind.{LimitKind}
 use Rattle.tg_model.specs.Traversal.{is_sent_behind}
-use Rattle.tg_traversal_laws.specs.Stages.{Given, up_to_next, with_place}
-use Rattle.tg_traversal_laws.specs.Tasks.{Task, depth_of, fault_at, is_read_at, no_directory, no_entry, open_block}
-use Rattle.tg_traversal_laws.specs.Tasks.{position_of, tasks_of, text_at}
+use Rattle.tg_traversal_laws.specs.Stages.{Given}
+use Rattle.tg_traversal_laws.specs.Tasks.{Miss, Task, depth_of, fault_at, is_read_at, no_directory, no_entry, open_block, position_of, stop_at, tasks_then}
 use Rattle.tg_traversal_laws.specs.Verified.{IsHad, Verified}
 use Rattle.tg_verify.specs.Counting.{IsFirstPassed, counts_given}
 use Rattle.tg_verify.specs.State.{count_of}
-use Rattle.tg_verify.specs.Taken.{IsFrontWritten, IsNamed, IsNowhere, IsThrough, IsUnlisted, IsUpTo}
+use Rattle.tg_verify.specs.Opening.{IsNamed, IsReadBlock, PassesAs, given_with, tasks_behind}
+use Rattle.tg_verify.specs.Reached.{IsReached, stage_of}
+use Rattle.tg_verify.specs.Taken.{IsFrontWritten, IsNowhere, IsThrough, IsUnlisted, IsUpTo}
 use Rattle.tg_verify.specs.declared.fault.Refusal.{Refusal}
 use Rattle.tg_verify.specs.declared.fault.Refusal.TheVariants as refusals
 
@@ -39,13 +40,6 @@ pub record IsWantedBlock (limits : LimitNumbers) (at : WantedAt) (section : Sect
   pub same : section.cid ≡ at.cid
 
 -- ---- the checks of a block at a place, where a section brought it or none need to
-
--- the place lies no deeper than the limit, and the block is read there as a kind that may stand there
-pub record IsReadBlock (q : QueryParts) (limits : LimitNumbers) (at : WantedAt) (section : Section) (kind : Kind) : Type 0 where
-  pub shallow : depth_of at.want ≤ limits.depth
-  pub is_read : is_read_at q at.want ≡ true
-  pub reads : read section.cid section.block ≡ Ok kind
-  pub fits : fault_at q at.want kind ≡ None
 
 -- ---- and why one fails
 
@@ -85,32 +79,12 @@ HasReceiptCause limits at section (refusals.WrongBlock want got) =
     (want ≡ at.cid) × (got ≡ section.cid) × IsAnother limits at section
 HasReceiptCause limits at section other = ⊥
 
--- the block passes at the place: it is read there as this kind with right sizes; or it isn't read there, where no kind is
--- given
-abbrev pub PassesAs : QueryParts → LimitNumbers → WantedAt → Section → Option Kind → Type 0
-PassesAs q limits at section None = (depth_of at.want ≤ limits.depth) × (is_read_at q at.want ≡ false)
-PassesAs q limits at section (Some kind) =
-    IsReadBlock q limits at section kind × IsSizeFault (position_of at.want) section kind None
-
--- what the block says there itself, and the tasks that it leaves
-abbrev pub text_of : QueryParts → WantedAt → Section → Option Kind → List ℕ
-text_of q at section None = section.block
-text_of q at section (Some kind) = text_at q at.want section kind
-
-abbrev pub tasks_behind : QueryParts → WantedAt → Section → Option Kind → List (Task CidParts)
-tasks_behind q at section None = []
-tasks_behind q at section (Some kind) = tasks_of q at.want section kind (links_of kind)
-
--- what was given with the block opened at the place, up to the next place
-abbrev pub given_with : QueryParts → Given → List (Task CidParts) → WantedAt → Section → Option Kind → Given
-given_with q given later at section kind =
-    up_to_next (tasks_behind q at section kind ++ later) (with_place at.want section (text_of q at section kind) given)
-
--- with the block opened at the place, up to the next place, more is counted of this kind than its limit, which is the
--- first that is passed
+-- with the block opened at the place, up to the next place, to which the path leads on, more is counted of this kind than its
+-- limit, which is the first that is passed
 pub record IsOver (q : QueryParts) (limits : LimitNumbers) (given : Given) (later : List (Task CidParts)) (at : WantedAt) (section : Section) (limit : LimitKind) (number : ℕ) : Type 0 where
   pub kind : Option Kind
   pub passes : PassesAs q limits at section kind
+  pub no_stop : (miss : Miss) (more : List (Task CidParts)) → tasks_then (tasks_behind q at section kind ++ later) ≡ stop_at miss ∷ more → ⊥
   pub number_is : number ≡ number_of limit limits
   pub over : IsFirstPassed limits (counts_given q (given_with q given later at section kind)) limit
 
@@ -131,26 +105,26 @@ HasPlaceCause q limits given later at section other = ⊥
 -- ---- what was received and taken when a verifier refused
 
 -- the last of these sections was refused, and what was written for those before it stays
-pub record IsRefusedAt (q : QueryParts) (sections : List Section) (written : List ℕ) (why : Given → List (Task CidParts) → WantedAt → Section → Type 0) : Type 0 where
+pub record IsRefusedAt (q : QueryParts) (limits : LimitNumbers) (sections : List Section) (written : List ℕ) (why : Given → List (Task CidParts) → WantedAt → Section → Type 0) : Type 0 where
   pub taken : List Section
   pub section : Section
   pub received : sections ≡ taken ++ section ∷ []
   pub are_bytes : All (λ b. b < 256) section.block
   pub at : WantedAt
-  pub up_to : IsUpTo q taken written at
+  pub up_to : IsUpTo q limits taken written at
   pub cause : why up_to.given up_to.later at section
 
 -- all came before the last of them
-pub record IsSurplus (q : QueryParts) (sections : List Section) (written : List ℕ) (number : ℕ) : Type 0 where
+pub record IsSurplus (q : QueryParts) (limits : LimitNumbers) (sections : List Section) (written : List ℕ) (number : ℕ) : Type 0 where
   pub taken : List Section
   pub section : Section
   pub received : sections ≡ taken ++ section ∷ []
-  pub through : IsThrough q taken written
+  pub through : IsThrough q limits taken written
   pub number_is : number ≡ count_of taken
 
 -- no more come, and a block is wanted
-pub record IsCutShort (q : QueryParts) (sections : List Section) (written : List ℕ) (at : WantedAt) (number : ℕ) : Type 0 where
-  pub up_to : IsUpTo q sections written at
+pub record IsCutShort (q : QueryParts) (limits : LimitNumbers) (sections : List Section) (written : List ℕ) (at : WantedAt) (number : ℕ) : Type 0 where
+  pub up_to : IsUpTo q limits sections written at
   pub number_is : number ≡ count_of sections
 
 -- why a section is refused where a block is wanted: it isn't the wanted one, or it is refused at its place
@@ -166,6 +140,7 @@ pub record IsRefusedBehind (q : QueryParts) (limits : LimitNumbers) (sections : 
   pub at : WantedAt
   pub later : List (Task CidParts)
   pub verified : Verified q sections given (open_block at.want at.cid ∷ later)
+  pub reached : IsReached q limits (stage_of sections given (open_block at.want at.cid ∷ later))
   pub text : written ≡ given.text
   pub known : is_sent_behind q sections at.cid ≡ false
   pub section : Section
@@ -182,17 +157,17 @@ HasWantedBehind q limits sections written =
 
 -- each refusal, by the sections that were received and what is written
 abbrev pub HasRefused : QueryParts → LimitNumbers → List Section → List ℕ → Refusal → Type 0
-HasRefused q limits sections written (refusals.Extra number) = IsSurplus q sections written number
-HasRefused q limits sections written (refusals.NotFolder segment) = IsNowhere q sections written (no_directory segment)
-HasRefused q limits sections written (refusals.NotThere segment) = IsNowhere q sections written (no_entry segment)
+HasRefused q limits sections written (refusals.Extra number) = IsSurplus q limits sections written number
+HasRefused q limits sections written (refusals.NotFolder segment) = IsNowhere q limits sections written (no_directory segment)
+HasRefused q limits sections written (refusals.NotThere segment) = IsNowhere q limits sections written (no_entry segment)
 HasRefused q limits sections written (refusals.Truncated want number) =
-    (at : WantedAt) × (want ≡ at.cid) × IsCutShort q sections written at number
+    (at : WantedAt) × (want ≡ at.cid) × IsCutShort q limits sections written at number
 HasRefused q limits sections written refusals.SinkFault = IsFrontWritten q sections written
 HasRefused q limits sections written refusals.OutOfMemory =
-    IsRefusedAt q sections written (λ given later at section. HasSectionCause q limits given later at section refusals.OutOfMemory)
+    IsRefusedAt q limits sections written (λ given later at section. HasSectionCause q limits given later at section refusals.OutOfMemory)
     ⊎ HasWantedBehind q limits sections written
 HasRefused q limits sections written fault =
-    IsRefusedAt q sections written (λ given later at section. HasSectionCause q limits given later at section fault)
+    IsRefusedAt q limits sections written (λ given later at section. HasSectionCause q limits given later at section fault)
     ⊎ IsRefusedBehind q limits sections written fault
 
 -- the refusal at a block with this fault; want of memory is the verifier's own

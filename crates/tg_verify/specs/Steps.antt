@@ -27,8 +27,8 @@ use Rattle.tg_traversal.specs.declared.position.Miss.TheVariants as misses
 use Rattle.tg_traversal.specs.declared.position.Miss.{Miss as FrameMiss}
 use Rattle.tg_traversal_laws.specs.Tasks.{Miss, Task, entries_now, no_directory, no_entry, stop_at, tasks_then, text_now}
 use Rattle.tg_verify.specs.Counting.{AreUnpassed, HasMet, IsCountedOn, IsFirstPassed, numbers_of}
-use Rattle.tg_verify.specs.Refusals.{HasReceiptCause, IsBadBlock, IsMissized, IsTooDeep, IsWantedBlock, PassesAs}
-use Rattle.tg_verify.specs.Refusals.{tasks_behind, text_of}
+use Rattle.tg_verify.specs.Opening.{PassesAs, tasks_behind, text_of}
+use Rattle.tg_verify.specs.Refusals.{HasReceiptCause, IsBadBlock, IsMissized, IsTooDeep, IsWantedBlock}
 use Rattle.tg_verify.specs.State.{OpenerState, listed_lines, told}
 use Rattle.tg_verify.specs.declared.counts.Counts.{Counts}
 use Rattle.tg_verify.specs.declared.counts.Source.TheVariants as sources
@@ -187,6 +187,7 @@ pub record IsOverBehind (old : OpenerState) (at : WantedAt) (section : Section) 
   pub counts : Counts
   pub counted : IsCountedOn old.left.query.dups source section.block (text_of old.left.query at section kind ++ text_now (behind old at section kind))
       (entries_now (behind old at section kind)) old.counts counts
+  pub no_stop : (miss : Miss) → StopsThere (behind old at section kind) miss → ⊥
   pub small : AreWithin standard old.limits
   pub number_is : number ≡ number_of limit old.limits
   pub over : IsFirstPassed old.limits (numbers_of counts) limit

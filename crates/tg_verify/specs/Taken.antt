@@ -11,27 +11,34 @@ use Rattle.tg_traversal_laws.specs.Stages.{Given, nothing_given}
 use Rattle.tg_traversal_laws.specs.Tasks.{Miss, Task, open_block, start, stop_at}
 use Rattle.tg_traversal_laws.specs.Verified.{Verified, written_whole}
 use Rattle.tg_verify.specs.Counting.{AreUnpassed, HasCounted, counts_given}
+use Rattle.tg_model.specs.LimitNumbers.{LimitNumbers}
+use Rattle.tg_verify.specs.Opening.{IsNamed}
+use Rattle.tg_verify.specs.Reached.{IsReached, IsReachedBefore, stage_of}
 use Rattle.tg_verify.specs.State.{VerifierState, count_of, listed_lines}
 
--- these sections were taken, this is written for them, and a block that is sent behind them is wanted here
-pub record IsUpTo (q : QueryParts) (sections : List Section) (written : List ℕ) (at : WantedAt) : Type 0 where
+-- these sections were taken, no limit is passed by them, this is written for them, and a block that is sent behind them is wanted
+-- here
+pub record IsUpTo (q : QueryParts) (limits : LimitNumbers) (sections : List Section) (written : List ℕ) (at : WantedAt) : Type 0 where
   pub given : Given
   pub later : List (Task CidParts)
   pub verified : Verified q sections given (open_block at.want at.cid ∷ later)
+  pub reached : IsReached q limits (stage_of sections given (open_block at.want at.cid ∷ later))
   pub sends : is_sent_behind q sections at.cid ≡ true
   pub text : written ≡ given.text
 
--- these are all sections of the query, and all is written
-pub record IsThrough (q : QueryParts) (sections : List Section) (written : List ℕ) : Type 0 where
+-- these are all sections of the query, no limit is passed by them, and all is written
+pub record IsThrough (q : QueryParts) (limits : LimitNumbers) (sections : List Section) (written : List ℕ) : Type 0 where
   pub given : Given
   pub verified : Verified q sections given []
+  pub reached : IsReached q limits (stage_of sections given [])
   pub text : written ≡ written_whole q given
 
--- these sections were taken, and a segment of the path leads nowhere
-pub record IsNowhere (q : QueryParts) (sections : List Section) (written : List ℕ) (miss : Miss) : Type 0 where
+-- these sections were taken, no limit is passed before the last block of them, and a segment of the path leads nowhere
+pub record IsNowhere (q : QueryParts) (limits : LimitNumbers) (sections : List Section) (written : List ℕ) (miss : Miss) : Type 0 where
   pub given : Given
   pub later : List (Task CidParts)
   pub verified : Verified q sections given (stop_at miss ∷ later)
+  pub reached : IsReachedBefore q limits (stage_of sections given (stop_at miss ∷ later))
   pub text : written ≡ given.text
 
 -- these are all sections of the query, and all is written but for the listing at the end, of which nothing is
@@ -78,11 +85,6 @@ IsWrittenAt state given written (Some at) =
     (written ≡ given.text) × (state.lines ≡ listed_lines state.left.query.scope given.met)
 IsWrittenAt state given written None = (state.left.later ≡ []) × (written ≡ written_whole state.left.query given)
 
--- a section of bytes, which its CID names
-pub record IsNamed (section : Section) : Type 0 where
-  pub named : Names section.cid section.block
-  pub are_bytes : All (λ b. b < 256) section.block
-
 abbrev pub AreNamed : List Section → Type 0
 AreNamed sections = (section : Section) → Contains sections section → IsNamed section
 
@@ -111,6 +113,7 @@ IsSentFor q sections (Some at) = is_sent_behind q sections at.cid ≡ true
 pub record IsGoing (state : VerifierState) (sections : List Section) (written : List ℕ) : Type 0 where
   pub given : Given
   pub verified : Verified state.left.query sections given (tasks_left state.left)
+  pub reached : IsReached state.left.query state.limits (stage_of sections given (tasks_left state.left))
   pub sends : IsSentFor state.left.query sections state.left.wanted
   pub keeps : Keeps state sections
   pub counted : IsCountedWithin state given
@@ -120,6 +123,7 @@ pub record IsGoing (state : VerifierState) (sections : List Section) (written : 
 pub record IsOn (state : VerifierState) (sections : List Section) (written : List ℕ) : Type 0 where
   pub given : Given
   pub verified : Verified state.left.query sections given (tasks_left state.left)
+  pub reached : IsReached state.left.query state.limits (stage_of sections given (tasks_left state.left))
   pub ends : state.left.wanted ≡ None → state.left.later ≡ []
   pub keeps : Keeps state sections
   pub counted : IsCountedWithin state given

@@ -148,7 +148,8 @@ impl Verifier {
     }
 
     /// How many bytes of the answer were put, a number that stands still at 2 ^ 64 - 1; none while the lines of a listing
-    /// are kept, which is put once it is whole. It takes no memory.
+    /// are kept, which is put once it is whole. Behind a refusal with `Limit` or `SinkFault` the bytes of the place at which
+    /// it came are counted too, which weren't put, or not all. It takes no memory.
     pub fn written(&self) -> u64
         ensures { result ≡ written_count self.now.lines self.now.counts.output }
     {
@@ -217,6 +218,8 @@ impl Verifier {
         ensures limits { self.new.limits ≡ self.old.limits }
         ensures stands { (sections : Items Section) (written : Items ℕ) → StandsFor self.old sections written
             → StandsFor self.new sections written }
+        // Nothing but the refusal changes.
+        ensures rest { self.new ≡ record self.old { refused = self.new.refused } }
         // On Ok the sections fit; and what the answer says of each sound DAG with the query's root.
         ensures fits { (sections : Items Section) (written : Items ℕ) → StandsFor self.old sections written
             → OnOk result (IsFitOf self.new.left.query sections written) }

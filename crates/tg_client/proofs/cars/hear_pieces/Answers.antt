@@ -112,7 +112,7 @@ returns-in_err-feed-clause-verifies g c =
     let old = c.loop-filled.body in
     rw (p.1, p.2)
     (stop_heard c.args.body.now.verifier.limits c.args.body.now.verifier.left.query (through g.I.Source.source c.args.input.now c.take_piece.new.source) (into g.S.Sink.sink c.args.out.now c.feed.new.out) bytes fault
-    (took_took _ g.I.Source.source c.args.input.now c.loop-filled.input c.take_piece.new.source come.heard (take c.in-Ok.filled c.take_piece.new.buf) g.met.I.Source.joins come.took c.in-Ok.ensures.took)
-    (stopped_on g.S.Sink.sink g.met.S.Sink.joins c.args.out.now c.loop-filled.out c.feed.new.out [] w.text w.put c.args.body.now.verifier.left.query c.args.body.now.verifier.limits bytes fault
-    (subst (λ (n : LimitNumbers). IsStopped c.args.body.now.verifier.left.query n bytes w.text after fault) inv.limits
-    (subst (λ (q : QueryParts). IsStopped q old.verifier.limits bytes w.text after fault) inv.query (c.in_err-feed.ensures.stands come.heard w.sections w.text w.is_body)))))
+    (took_took _ g.I.Source.source c.args.input.now c.loop-filled.input c.take_piece.new.source come.heard (take c.in-Ok.filled c.take_piece.new.buf) g.met.I.Source.joins come.took c.in-Ok.ensures.took) c.feed.new.self.verifier.taken
+    (stopped_on g.S.Sink.sink g.met.S.Sink.joins c.args.out.now c.loop-filled.out c.feed.new.out [] w.text w.put c.args.body.now.verifier.left.query c.args.body.now.verifier.limits c.feed.new.self.verifier.taken bytes fault
+    (subst (λ (n : LimitNumbers). IsStopped c.args.body.now.verifier.left.query n c.feed.new.self.verifier.taken bytes w.text after fault) inv.limits
+    (subst (λ (q : QueryParts). IsStopped q old.verifier.limits c.feed.new.self.verifier.taken bytes w.text after fault) inv.query (c.in_err-feed.ensures.stands come.heard w.sections w.text w.is_body)))))

@@ -18,11 +18,11 @@ returns c =
       not_folder = c.against_every_peer.ensures.not_folder;
     } in
     record {
-      up_to = up_to_progress v;
-      through = through_fits v;
-      nowhere = nowhere_leads v;
-      sound_up_to = λ q d sections written at sound root h. up_to_sound v p q d sound root sections written at h;
-      sound_through = λ q d sections written sound root h. through_sound v p q d sound root sections written h;
+      up_to = λ q limits sections written at h. up_to_progress v q sections written at h;
+      through = λ q limits sections written h. through_fits v q sections written h;
+      nowhere = λ q limits sections written miss h. nowhere_leads v q sections written miss h;
+      sound_up_to = λ q limits d sections written at sound root h. up_to_sound v p q d sound root sections written at h;
+      sound_through = λ q limits d sections written sound root h. through_sound v p q d sound root sections written h;
       sound_refused = λ q limits d sections written fault sound root h. refused_sound v p b computes q limits d sound root sections written fault h;
       fit_taken = fit_taken v b computes;
       progress_taken = progress_taken v b computes;

@@ -46,7 +46,7 @@ returns-in_err-start-in-Header-clause-stands g c heard sections written h =
     reads c.in_ok-taken.ensures.limit e.ensures.query e.ensures.limits in
     rw (p.1, p.2)
     (header_refused c.verified_answers.ensures c.args.self.now heard sections written h c.received_sections.ensures c.feed.new.self c.start.new.self c.args.piece.now c.in_ok-taken.taken header out
-    reads c.in_ok-taken.ensures.limit e.ensures.query e.ensures.limits e.field-0.0 (e.ensures.stands fresh) e.ensures.refused (e.ensures.cause h.fresh) bounds.1 (omega arith))
+    reads c.in_ok-taken.ensures.limit e.ensures.query e.ensures.limits e.field-0.0 (e.ensures.stands fresh) e.ensures.refused (e.ensures.cause h.fresh) c.start.ensures.taken bounds.1 (omega arith))
 
 pub returns-in_err-section-in-Section-clause-stands : goal.returns-in_err-section-in-Section-clause-stands
 returns-in_err-section-in-Section-clause-stands g c heard sections written h =
@@ -65,7 +65,7 @@ returns-in_err-section-in-Section-clause-stands g c heard sections written h =
     rw (p.1, p.2)
     (section_refused c.verified_answers.ensures c.args.self.now heard sections written h c.received_sections.ensures c.feed.new.self c.section.new.self c.args.piece.now c.in_ok-taken.taken s.at s.size s.section
     out reads c.in_ok-taken.ensures.limit e.ensures.query e.ensures.limits at wanted e.field-0.0
-    (e.ensures.stands sections written h.fresh stands) e.ensures.refused (e.ensures.cause h.fresh) c.requires bounds.1 (omega arith) (omega arith))
+    (e.ensures.stands sections written h.fresh stands) e.ensures.refused (e.ensures.cause h.fresh) (e.ensures.counted h.fresh) c.requires bounds.1 (omega arith) (omega arith))
 
 pub returns-clause-stands : goal.returns-clause-stands
 returns-clause-stands g c heard sections written h =

@@ -35,10 +35,10 @@ returns-in_err-at-clause-stands g c heard sections written h =
     let fault = c.in_err-at.field-0.0 in
     let stopped = c.in_err-at.ensures.stands (heard ++ take at piece) w.sections (written ++ w.text) w.is_body in
     rw (p.1, p.2)
-    (stopped_on g.S.Sink.sink g.met.S.Sink.joins c.args.out.now c.loop-at.out c.take.new.out written w.text w.put c.args.self.now.verifier.left.query c.args.self.now.verifier.limits (heard ++ piece) fault
-    (subst (λ (l : List ℕ). IsStopped c.args.self.now.verifier.left.query c.args.self.now.verifier.limits l (written ++ w.text) out fault) all
-    (subst (λ (n : LimitNumbers). IsStopped c.args.self.now.verifier.left.query n ((heard ++ take at piece) ++ rest) (written ++ w.text) out fault) c.loop-at.invariant.limits
-    (subst (λ (q : QueryParts). IsStopped q c.loop-at.self.verifier.limits ((heard ++ take at piece) ++ rest) (written ++ w.text) out fault) c.loop-at.invariant.query stopped))))
+    (stopped_on g.S.Sink.sink g.met.S.Sink.joins c.args.out.now c.loop-at.out c.take.new.out written w.text w.put c.args.self.now.verifier.left.query c.args.self.now.verifier.limits c.take.new.self.verifier.taken (heard ++ piece) fault
+    (subst (λ (l : List ℕ). IsStopped c.args.self.now.verifier.left.query c.args.self.now.verifier.limits c.take.new.self.verifier.taken l (written ++ w.text) out fault) all
+    (subst (λ (n : LimitNumbers). IsStopped c.args.self.now.verifier.left.query n c.take.new.self.verifier.taken ((heard ++ take at piece) ++ rest) (written ++ w.text) out fault) c.loop-at.invariant.limits
+    (subst (λ (q : QueryParts). IsStopped q c.loop-at.self.verifier.limits c.take.new.self.verifier.taken ((heard ++ take at piece) ++ rest) (written ++ w.text) out fault) c.loop-at.invariant.query stopped))))
 
 pub loop-at-preserved : goal.loop-at-preserved
 loop-at-preserved g c =

@@ -88,6 +88,6 @@ returns-in-Done-clause-ends g c heard written h few =
     (c.in_ok-taken.ensures.ends (heard ++ i.front) (written ++ w.text) w.is_open few_left) c.in-Done.is in
     let few_now = still_few heard c.args.bytes.now i.front rest c.args.self.now.limits new.limits i.bytes_are (c.step.ensures.limits ∙ i.limits) few in (
       answered_all new.query new.limits heard c.args.bytes.now i.front rest written (into g.S.Sink.sink c.args.out.now c.step.new.out) taken i.bytes_are few_now
-          (answered_after g.S.Sink.sink g.met.S.Sink.joins c.args.out.now c.loop-taken.out c.step.new.out written w.text w.put new.query ((heard ++ i.front) ++ take taken rest) done.0),
+          (answered_after g.S.Sink.sink g.met.S.Sink.joins c.args.out.now c.loop-taken.out c.step.new.out written w.text w.put new.query new.limits ((heard ++ i.front) ++ take taken rest) done.0),
       done.1,
     )

@@ -17,7 +17,7 @@ returns-in_err-taken-in-Heads-clause-ends g c heard written h few =
     let inside = in_heads old.query old.limits old.stage c.in-Heads.heads heard written c.in-Heads.is h.at in
     rw (p.1, p.2)
     (heads_stop old c.in-Heads.heads heard c.args.bytes.now written (into g.S.Sink.sink c.args.out.now c.args.out.now) c.in_err-taken-in-Heads.field-0.0 c.in-Heads.is h
-    (put_nothing _ g.S.Sink.sink c.args.out.now (g.met.S.Sink.rests c.args.out.now)) (c.in_err-taken-in-Heads.ensures.takes heard inside.0))
+    (put_nothing _ g.S.Sink.sink c.args.out.now (g.met.S.Sink.rests c.args.out.now)) few (c.in_err-taken-in-Heads.ensures.takes heard inside.0))
 
 pub returns-in_default-clause-ends : goal.returns-in_default-clause-ends
 returns-in_default-clause-ends g c heard written h few =
@@ -45,7 +45,7 @@ returns-in_err-content-in-Heads-clause-ends g c heard written h few =
     let final = heads_some c.take.new.self (heard ++ take taken bytes) c.in_ok-taken-in-Heads.head c.in-Some.head c.in-Some.is (c.in_ok-taken-in-Heads.ensures.takes heard inside.0) in
     rw (p.1, p.2)
     (head_stops old c.in-Heads.heads heard bytes written (into g.S.Sink.sink c.args.out.now c.args.out.now) taken c.in-Some.head c.in_err-content-in-Heads.field-0.0 c.in-Heads.is h
-    (put_nothing _ g.S.Sink.sink c.args.out.now (g.met.S.Sink.rests c.args.out.now)) final c.in_err-content-in-Heads.ensures.begins)
+    (put_nothing _ g.S.Sink.sink c.args.out.now (g.met.S.Sink.rests c.args.out.now)) final few c.in_err-content-in-Heads.ensures.begins)
 
 pub returns-then-ne-clause-ends : goal.returns-then-ne-clause-ends
 returns-then-ne-clause-ends g c heard written h few =
@@ -59,7 +59,7 @@ returns-then-ne-clause-ends g c heard written h few =
     let e = c.in_ok-taken-in-Content.ensures in
     let count = counted old.heard new.heard (length heard) taken (length bytes) old.limits.received h.count c.saturating_add-self-in-Content.ensures e.within few c.requires.most in
     content_step told new content heard bytes written (into g.S.Sink.sink c.args.out.now c.take-in-Content.new.out) taken old.limits.received refl e.within few refl count e.waits
-    (λ (done : told ≡ moves.Done). false_true (sym (rw done at c.if-ne.ensures))) (e.takes old.query old.limits heard written inside)
+    (λ (done : told ≡ moves.Done). false_true (sym (rw done at c.if-ne.ensures))) (e.takes old.query old.limits heard written inside few)
 
 pub returns-then-ne-clause-short : goal.returns-then-ne-clause-short
 returns-then-ne-clause-short g c heard written h =
@@ -91,5 +91,5 @@ returns-else-ne-clause-ends g c heard written h few =
     let new : Client = record old { heard = c.saturating_add-self-in-Content.result; stage = stages.Done } in
     let inside = in_content old.query old.limits old.stage c.in-Content.content heard written c.in-Content.is h.at in
     let done : told ≡ moves.Done = same_true the_type (search rules) _ _ (not_false _ c.if-ne.ensures) in
-    done_step told new old.query old.limits c.take-in-Content.new.self heard bytes written (into g.S.Sink.sink c.args.out.now c.take-in-Content.new.out) c.in_ok-taken-in-Content.taken done refl refl
-    (c.in_ok-taken-in-Content.ensures.takes old.query old.limits heard written inside)
+    done_step told new old.query old.limits c.take-in-Content.new.self heard bytes written (into g.S.Sink.sink c.args.out.now c.take-in-Content.new.out) c.in_ok-taken-in-Content.taken done refl refl refl
+    (c.in_ok-taken-in-Content.ensures.takes old.query old.limits heard written inside few)

@@ -8,16 +8,16 @@ use Rattle.tg_fetch.proofs.Contents.{cut_refused, has_ended}
 use Rattle.tg_fetch.proofs.content.Content.end.Goals as goal
 
 pub returns-in_err-end-clause-ends : goal.returns-in_err-end-clause-ends
-returns-in_err-end-clause-ends g c q limits heard written h =
+returns-in_err-end-clause-ends g c q limits heard written h within =
     let p = err_from_is_err_and c.from_residual.result c.from_residual.ensures.1 in
     let stopped = c.in_err-end.ensures.stands _ h.reads in
     let fault = c.in_err-end.field-0.0 in
     let cause : HasEndCause h.head.framing h.rest h.given fault =
     subst (λ (f : Framing). HasEndCause f h.rest h.given fault) (c.in_err-end.ensures.framing ∙ h.framing) stopped.exact.stopped.1 in
     rw (p.1, p.2)
-    (cut_refused q limits c.args.self.now heard written h c.standing_bodies.ensures _ g.S.Sink.sink c.args.out.now (g.met.S.Sink.rests c.args.out.now) fault cause)
+    (cut_refused q limits c.args.self.now heard written h c.standing_bodies.ensures _ g.S.Sink.sink c.args.out.now (g.met.S.Sink.rests c.args.out.now) fault within cause)
 
 pub returns-clause-ends : goal.returns-clause-ends
-returns-clause-ends g c q limits heard written h =
-    has_ended q limits c.args.self.now heard written h (subst (λ (f : Framing). BodyText f h.given h.rest) h.framing (c.in_ok-end.ensures.whole _ h.reads))
+returns-clause-ends g c q limits heard written h within =
+    has_ended q limits c.args.self.now heard written h (subst (λ (f : Framing). BodyText f h.given h.rest) h.framing (c.in_ok-end.ensures.whole _ h.reads)) within
     (into g.S.Sink.sink c.args.out.now c.end-2.new.out) c.end-2.result (c.end-2.ensures.ends q limits h.head h.given written h.taking)

@@ -9,21 +9,22 @@ use Rattle.tg_body.specs.declared.body.Body.TheVariants as bodies
 use Rattle.tg_http.specs.declared.framing.Framing.{Framing}
 use Rattle.tg_streams.specs.Streams.{into}
 use Rattle.tg_fetch.proofs.Contents.{answered, closed_by, failed, framing_refused, goes_on, is_short, no_end, part_refused, takes_nothing, text_by, told_as}
+use Rattle.tg_fetch.proofs.Feeding.{front_few}
 use Rattle.tg_fetch.proofs.Final.{final_longer}
 use Rattle.tg_fetch.proofs.content.Content.take.Goals as goal
 
 pub returns-in_err-taken-clause-takes : goal.returns-in_err-taken-clause-takes
-returns-in_err-taken-clause-takes g c q limits heard written h =
+returns-in_err-taken-clause-takes g c q limits heard written h few =
     let p = err_from_is_err_and c.from_residual.result c.from_residual.ensures.1 in
     let stopped = c.in_err-taken.ensures.stands _ h.reads in
     let fault = c.in_err-taken.field-0.0 in
     let cause : HasFeedCause h.head.framing h.rest h.given c.args.bytes.now fault =
     subst (λ (f : Framing). HasFeedCause f h.rest h.given c.args.bytes.now fault) (c.in_err-taken.ensures.framing ∙ h.framing) stopped.exact.stopped.1 in
     rw (p.1, p.2)
-    (framing_refused q limits c.args.self.now heard written h c.standing_bodies.ensures _ g.S.Sink.sink c.args.out.now (g.met.S.Sink.rests c.args.out.now) c.args.bytes.now fault cause)
+    (framing_refused q limits c.args.self.now heard written h c.standing_bodies.ensures _ g.S.Sink.sink c.args.out.now (g.met.S.Sink.rests c.args.out.now) c.args.bytes.now fault few cause)
 
 pub returns-in_err-take-in-Part-clause-takes : goal.returns-in_err-take-in-Part-clause-takes
-returns-in_err-take-in-Part-clause-takes g c q limits heard written h =
+returns-in_err-take-in-Part-clause-takes g c q limits heard written h few =
     let p = err_from_is_err_and c.from_residual-in_err-take-in-Part.result c.from_residual-in_err-take-in-Part.ensures.1 in
     let piece : List ℕ = c.args.bytes.now in
     let part : List ℕ = slice_range piece c.in-Part.start c.in-Part.end in
@@ -31,11 +32,12 @@ returns-in_err-take-in-Part-clause-takes g c q limits heard written h =
     (bodies.Part c.in-Part.start c.in-Part.end) c.in-Part.is (c.in_ok-taken.ensures.stands _ h.reads) in
     rw (p.1, p.2)
     (part_refused q limits c.args.self.now heard written h c.longer_bytes.ensures.reply c.feed.new.self (h.given ++ part) (take c.in_ok-taken.taken piece) (drop c.in_ok-taken.taken piece) piece
-    (into g.S.Sink.sink c.args.out.now c.take.new.out) c.in_err-take-in-Part.field-0.0 (sym (take-append-drop c.in_ok-taken.taken piece)) c.in_ok-taken.ensures.framing reads
+    (into g.S.Sink.sink c.args.out.now c.take.new.out) c.in_err-take-in-Part.field-0.0 (sym (take-append-drop c.in_ok-taken.taken piece))
+    (front_few heard piece c.in_ok-taken.taken limits.received few) c.in_ok-taken.ensures.framing reads
     (c.in_err-take-in-Part.ensures.takes q limits h.head h.given written h.taking))
 
 pub returns-in_err-end-in-End-clause-takes : goal.returns-in_err-end-in-End-clause-takes
-returns-in_err-end-in-End-clause-takes g c q limits heard written h =
+returns-in_err-end-in-End-clause-takes g c q limits heard written h few =
     let p = err_from_is_err_and c.from_residual-in_err-end-in-End.result c.from_residual-in_err-end-in-End.ensures.1 in
     let piece : List ℕ = c.args.bytes.now in
     let front : List ℕ = take c.in_ok-taken.taken piece in
@@ -44,12 +46,12 @@ returns-in_err-end-in-End-clause-takes g c q limits heard written h =
     let text = text_by q limits c.args.self.now heard written h c.feed.new.self h.given (h.rest ++ front) c.in_ok-taken.ensures.framing reads in
     rw (p.1, p.2)
     (failed q limits heard front (drop c.in_ok-taken.taken piece) piece (h.rest ++ front) h.given written h.head (into g.S.Sink.sink c.args.out.now c.end.new.out) false
-    c.in_err-end-in-End.field-0.0 (sym (take-append-drop c.in_ok-taken.taken piece)) (final_longer c.longer_bytes.ensures.reply heard front h.rest h.head h.final) text
+    c.in_err-end-in-End.field-0.0 (sym (take-append-drop c.in_ok-taken.taken piece)) (front_few heard piece c.in_ok-taken.taken limits.received few) (final_longer c.longer_bytes.ensures.reply heard front h.rest h.head h.final) text
     (closed_by q limits c.args.self.now heard written h c.feed.new.self h.given (h.rest ++ front) false c.in_ok-taken.ensures.framing reads)
     (c.in_err-end-in-End.ensures.ends q limits h.head h.given written h.taking))
 
 pub returns-in-Need-clause-takes : goal.returns-in-Need-clause-takes
-returns-in-Need-clause-takes g c q limits heard written h =
+returns-in-Need-clause-takes g c q limits heard written h few =
     let piece : List ℕ = c.args.bytes.now in
     let reads = told_as q limits c.args.self.now heard written h c.feed.new.self piece c.in_ok-taken.taken c.in_ok-taken.told
     bodies.Need c.in-Need.is (c.in_ok-taken.ensures.stands _ h.reads) in
@@ -68,7 +70,7 @@ returns-in-Need-clause-short g c q limits heard written h e =
     (λ text until. no_end c.in_ok-taken.taken c.in_ok-taken.told c.in-Need.is (c.in_ok-taken.ensures.whole _ h.reads refl text until))
 
 pub returns-in_ok-take-in-Part-clause-takes : goal.returns-in_ok-take-in-Part-clause-takes
-returns-in_ok-take-in-Part-clause-takes g c q limits heard written h =
+returns-in_ok-take-in-Part-clause-takes g c q limits heard written h few =
     let piece : List ℕ = c.args.bytes.now in
     let part : List ℕ = slice_range piece c.in-Part.start c.in-Part.end in
     let reads = told_as q limits c.args.self.now heard written h c.feed.new.self piece c.in_ok-taken.taken c.in_ok-taken.told
@@ -78,7 +80,7 @@ returns-in_ok-take-in-Part-clause-takes g c q limits heard written h =
     (c.in_ok-take-in-Part.ensures.takes q limits h.head h.given written h.taking)
 
 pub returns-in_ok-end-in-End-clause-takes : goal.returns-in_ok-end-in-End-clause-takes
-returns-in_ok-end-in-End-clause-takes g c q limits heard written h =
+returns-in_ok-end-in-End-clause-takes g c q limits heard written h few =
     let piece : List ℕ = c.args.bytes.now in
     let front : List ℕ = take c.in_ok-taken.taken piece in
     let reads = told_as q limits c.args.self.now heard written h c.feed.new.self piece c.in_ok-taken.taken c.in_ok-taken.told
