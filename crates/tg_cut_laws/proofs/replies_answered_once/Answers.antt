@@ -1,0 +1,6 @@
+use Rattle.tg_cut_laws.proofs.ReplyOnce.{replies_once}
+use Rattle.tg_cut_laws.proofs.replies_answered_once.Goals as goal
+
+pub returns : goal.returns
+returns c =
+    replies_once c.longer_bytes.ensures.reply c.heard_is_one.ensures.head c.bodies_go_on.ensures c.body_laws.ensures c.bodies_answered_once.ensures

@@ -1,0 +1,5 @@
+pub mod Sections
+pub mod Cars
+pub mod Bodies
+pub mod Replies
+pub mod Clients
