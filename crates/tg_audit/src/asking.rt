@@ -1,26 +1,19 @@
 //! A query that is asked of a gateway behind a door, over a dial, and the client's answer.
 ghost use Rattle.std.specs.Prelude.{◌≡◌, ◌++◌, ◌∷◌, [], List as Items, MatchResult, Some};
-ghost use Rattle.tg_audit.specs.Asking.{IsAnsweredBy, IsHeardAnswer, IsReplied, IsUnanswered, IsUnheard, IsUnreplied, audit_addr};
+ghost use Rattle.tg_audit.specs.Asking.{IsAnsweredBy, IsHeardAnswer, IsReplied, IsUnanswered, IsUnheard, IsUnreplied};
 ghost use Rattle.tg_audit.specs.declared.fault.AuditFault.TheVariants.{OutOfMemory};
-ghost use Rattle.tg_audit_texts.specs.Hashing.{hashing_sink};
-ghost use Rattle.tg_dials.specs.Dials.{at_dial};
-ghost use Rattle.tg_dials.specs.Memory.{mem_dial};
-ghost use Rattle.tg_fetch.specs.Calls.{FetchEnds};
-ghost use Rattle.tg_fetch.specs.Faults.{QuietUnlessSink};
 ghost use Rattle.tg_links.specs.declared.call.Call.{Call};
 ghost use Rattle.tg_model.specs.LimitNumbers.{standard};
 ghost use Rattle.tg_model.specs.Stores.{looked_in};
-ghost use Rattle.tg_streams.specs.Streams.{into};
 ghost use Rattle.tg_walk.specs.Walks.{HaveLookedUp};
 
 use crate::fault::AuditFault;
 use std::alloc::Global;
-use std::mem::drop;
 use tg_audit_texts::{Hashed, Hashing};
 use tg_bytes::{Bytes, List};
 use tg_dials::MemDial;
 use tg_doors::MemDoor;
-use tg_fetch::{FetchFault, Unwatched, fetch};
+use tg_fetch::{Unwatched, fetch};
 use tg_gateway::GatewayFault;
 use tg_model::{Blocks, LimitKind, Limits, Query};
 use tg_query::print_request;
@@ -100,23 +93,14 @@ fn hear(alloc: Global, query: &Query, limits: Limits, reply: Bytes) -> Result<Ha
     coming.push(reply)?;
     let mut dial = MemDial::new(alloc, coming, PIECE, List::new(alloc));
     let mut hashing = Hashing::new();
-    let end = fetch_hashed(alloc, query, limits, &mut dial, &mut hashing);
-    // A dial that goes at the end of its scope takes the prover minutes.
-    drop(dial);
-    end?;
+    fetch(
+        alloc,
+        query,
+        limits,
+        ADDR,
+        &mut dial,
+        &mut hashing,
+        &mut Unwatched,
+    )?;
     Ok(hashing.hashed())
-}
-
-/// Fetches a query over a dial, and hashes the answer. Errors: those of `fetch`.
-fn fetch_hashed(
-    alloc: Global,
-    query: &Query,
-    limits: Limits,
-    dial: &mut MemDial,
-    hashing: &mut Hashing,
-) -> Result<(), FetchFault>
-    ensures ends { FetchEnds query.now limits audit_addr (at_dial mem_dial dial.old dial.new) (into hashing_sink hashing.old hashing.new) result }
-    ensures cause { QuietUnlessSink (into hashing_sink hashing.old hashing.new) result }
-{
-    fetch(alloc, query, limits, ADDR, dial, hashing, &mut Unwatched)
 }

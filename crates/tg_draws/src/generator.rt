@@ -11,6 +11,9 @@ const FACTOR: u64 = 6_364_136_223_846_793_005;
 /// What is added then.
 const TERM: u64 = 1_442_695_040_888_963_407;
 
+/// How many bytes of room drawn bytes get at least: a room of so many lies by itself, and goes back to the system with them.
+const LEAST_ROOM: usize = 131_072;
+
 /// A linear congruential generator modulo 2^64, of whose states the upper 31 bits are given.
 #[derive(Clone, Copy, Debug, PartialEq, Eq)]
 pub struct Generator {
@@ -33,7 +36,7 @@ impl Generator {
     pub fn bytes(&mut self, alloc: Global, count: usize) -> Result<Bytes, AllocError>
         ensures { IfOk result (λ bytes. Draws self.old.state count bytes self.new.state) }
     {
-        let mut bytes = Vec::with_capacity(alloc, count)?;
+        let mut bytes = Vec::with_capacity(alloc, count.max(LEAST_ROOM))?;
         for _ in 0..count {
             bytes.push((self.next() % 256) as u8)?;
         }
