@@ -1,9 +1,10 @@
 -- What holds of the sections that stand whole in bytes that were heard.
-use Rattle.std.specs.Prelude.{All, List, [], length, ⊤, ℕ, ◌++◌, ◌∷◌, ◌≡◌, ◌≤◌}
+use Rattle.std.specs.Prelude.{All, List, [], length, ⊤, ℕ, ◌++◌, ◌<◌, ◌∷◌, ◌≡◌, ◌≤◌}
 use Rattle.tg_car.specs.Faults.{Brings, PassesLimit}
+use Rattle.tg_car.specs.History.{GoesOn}
 use Rattle.tg_car.specs.declared.fault.CarFault.{CarFault}
 use Rattle.tg_car.specs.declared.fault.CarFault.TheVariants as cars
-use Rattle.tg_client.specs.Received.{HasReceived, IsCarOf}
+use Rattle.tg_client.specs.Received.{HasHeader, HasReceived, IsCarOf}
 use Rattle.tg_model.specs.Dag.{Section}
 
 -- the bytes are no CAR: a fault of its header or of a section
@@ -37,3 +38,11 @@ pub record ReceivedLaws : Type 0 where
   pub unpassed : (limit : ℕ) (heard more : List ℕ) (last place : ℕ) (sections : List Section)
       → HasReceived limit (heard ++ last ∷ more) sections
       → PassesLimit limit (heard ++ last ∷ []) place → ⊥
+  -- a CAR of the same sections doesn't go on
+  pub once : (sections : List Section) (bytes car more : List ℕ) → IsCarOf bytes sections → IsCarOf car sections
+      → bytes ≡ car ++ more → 0 < length more → ⊥
+  -- the header is whole in bytes that begin with a CAR, or with bytes in which it is whole
+  pub headed : (limit : ℕ) (sections : List Section) (car more bytes : List ℕ) → IsCarOf car sections → bytes ≡ car ++ more
+      → GoesOn limit bytes [] → ⊥
+  pub stays_headed : (limit : ℕ) (heard more bytes : List ℕ) → HasHeader limit heard → bytes ≡ heard ++ more
+      → GoesOn limit bytes [] → ⊥

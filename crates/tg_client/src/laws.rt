@@ -4,7 +4,8 @@ ghost use Rattle.tg_client.specs.BodyLaws.{BodyLaws};
 ghost use Rattle.tg_client.specs.ReceivedLaws.{ReceivedLaws};
 
 /// The sections that stand whole in the bytes of a CAR are determined by the bytes; of a front of them fewer stand
-/// whole; and where a CAR goes on with the bytes none of their fronts is refused.
+/// whole; and where a CAR goes on with the bytes none of their fronts is refused. A CAR of the same sections doesn't go
+/// on, and behind one the header is whole.
 ///
 /// CARv1 specification, Data.
 pub fn received_sections()

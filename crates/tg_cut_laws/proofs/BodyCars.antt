@@ -2,9 +2,6 @@
 use Rattle.std.proofs.Common.{◌≡◌, ℕ, ◌≤◌, List, [], ◌∷◌, ◌++◌, length, refl, ap, ap₂, sym, subst, ◌∙◌, inl, inr, append_assoc, arith}
 use Rattle.std.proofs.lemmas.List.{length-append}
 use Rattle.std.specs.Prelude.{◌⊎◌}
-use Rattle.tg_car.specs.History.{GoesOn}
-use Rattle.tg_car.specs.LawLemmas.{none_in_header}
-use Rattle.tg_car.specs.Laws.{CarLaws}
 use Rattle.tg_cid.specs.Cid.{CidParts}
 use Rattle.tg_client.specs.Ends.{IsEndedShort, IsWaiting}
 use Rattle.tg_client.specs.Received.{HasReceived, IsCarOf}
@@ -124,25 +121,18 @@ pub short_waits : (q : QueryParts) (limits : LimitNumbers) (heard : List ℕ) (s
 short_waits q limits heard sections text want number (inl (before, root, none)) = inl before
 short_waits q limits heard sections text want number (inr (at, wanted, cut, header)) = inr (at, cut.up_to, header)
 
--- behind a CAR the header is whole
-no_header : CarLaws → (limit : ℕ) (sections : List Section) (car more bytes : List ℕ) → IsCarOf car sections → bytes ≡ car ++ more → GoesOn limit bytes [] → ⊥
-no_header laws limit sections car more bytes (roots, text) same (inl b) =
-    let whole : text.header ++ (text.rest ++ more) ≡ bytes = sym (same ∙ (ap (λ (l : List ℕ). l ++ more) text.whole ∙ append_assoc text.header text.rest more)) in
-    none_in_header laws roots text.header (text.rest ++ more) bytes text.header_is whole b.inside
-no_header laws limit sections car more bytes is_car same (inr (rest, a)) = let is = a.given_is in absurd (cc is)
-
 -- where a front of the bytes is the CAR of all sections none is wanted behind them
-pub none_behind : CarLaws → ReceivedLaws → SectionLaws → (q : QueryParts) (limits : LimitNumbers) (bytes car more : List ℕ) (a b : List Section) (x y : List ℕ) → bytes ≡ car ++ more
+pub none_behind : ReceivedLaws → SectionLaws → (q : QueryParts) (limits : LimitNumbers) (bytes car more : List ℕ) (a b : List Section) (x y : List ℕ) → bytes ≡ car ++ more
     → IsCarOf car a → IsThrough q limits a x → HasReceived limits.block bytes b → IsWaiting q limits bytes b y → ⊥
-none_behind laws received sections q limits bytes car more a b x y whole is_car through got (inl before) = no_header laws limits.block a car more bytes is_car whole before.goes_on
-none_behind laws received sections q limits bytes car more a b x y whole is_car through got (inr (at, up_to, header)) =
+none_behind received sections q limits bytes car more a b x y whole is_car through got (inl before) = received.headed limits.block a car more bytes is_car whole before.goes_on
+none_behind received sections q limits bytes car more a b x y whole is_car through got (inr (at, up_to, header)) =
     let (rest, is) = received.behind limits.block car more a b is_car (subst (λ (l : List ℕ). HasReceived limits.block l b) whole got) in
     sections.through_up_to q limits a rest b x y at (sym is) through up_to
 
 -- so where the terminal is reached in a front of the bytes
-pub reached_waits : CarLaws → ReceivedLaws → SectionLaws → (q : QueryParts) (limits : LimitNumbers) (head : ReplyHead) (bytes given rest : List ℕ) (a b : List Section) (x said : List ℕ)
+pub reached_waits : ReceivedLaws → SectionLaws → (q : QueryParts) (limits : LimitNumbers) (head : ReplyHead) (bytes given rest : List ℕ) (a b : List Section) (x said : List ℕ)
     (f : FetchFault) → bytes ≡ given ++ rest → AbsenceReaches q limits head given a x f → HasReceived limits.block bytes b → IsWaiting (path_query q) (path_limits limits) bytes b said → ⊥
-reached_waits laws received sections q limits head bytes given rest a b x said f whole s got waits =
+reached_waits received sections q limits head bytes given rest a b x said f whole s got waits =
     let h = s.are_heard in
-    none_behind laws received sections (path_query q) (path_limits limits) bytes h.heard (h.unheard ++ rest) a b s.said said (heard_in bytes given rest h.heard h.unheard whole h.whole)
+    none_behind received sections (path_query q) (path_limits limits) bytes h.heard (h.unheard ++ rest) a b s.said said (heard_in bytes given rest h.heard h.unheard whole h.whole)
     s.is_car s.through got waits

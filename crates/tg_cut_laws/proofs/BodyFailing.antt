@@ -1,6 +1,5 @@
 -- A body that isn't accepted at its end: so it is at each other refusal there, and it isn't the answer.
 use Rattle.std.proofs.Common.{◌≡◌, ℕ, List, [], ap₂, sym, ◌∙◌, append-nil}
-use Rattle.tg_car.specs.Laws.{CarLaws}
 use Rattle.tg_cid.specs.Cid.{CidParts}
 use Rattle.tg_client.specs.ReceivedLaws.{ReceivedLaws}
 use Rattle.tg_cut_laws.proofs.BodyAnswers.{car_of, car_received, root_of}
@@ -28,11 +27,11 @@ same_short : (f g : FetchFault) (want other : CidParts) (number count : ℕ) →
 same_short f g want other number count f_is g_is wants numbers =
     f_is ∙ (ap₂ (λ (w : CidParts) (n : ℕ). faults.Refused (refusals.Truncated w n)) wants numbers ∙ sym g_is)
 
-module _ (cut : CarCutLaws) (laws : CarLaws) (received : ReceivedLaws) (sections : SectionLaws) (q : QueryParts) (limits : LimitNumbers) (head : ReplyHead) (body : List ℕ) where
+module _ (cut : CarCutLaws) (received : ReceivedLaws) (sections : SectionLaws) (q : QueryParts) (limits : LimitNumbers) (head : ReplyHead) (body : List ℕ) where
   -- where the terminal is reached none is wanted
   reached_short : (a b : List Section) (x y : List ℕ) (f g : FetchFault) → AbsenceReaches q limits head body a x f → AbsenceShort q limits head body b y g → ⊥
   reached_short a b x y f g s t =
-      reached_waits laws received sections q limits head body body [] a b x t.said f (sym (append-nil body)) s t.received
+      reached_waits received sections q limits head body body [] a b x t.said f (sym (append-nil body)) s t.received
       (short_waits (path_query q) (path_limits limits) body b t.said t.want t.number t.short)
 
   module _ (a b : List Section) (x y : List ℕ) (f g : FetchFault) (f_due : IsDueFault f) (g_due : IsDueFault g) where
@@ -65,8 +64,8 @@ module _ (cut : CarCutLaws) (laws : CarLaws) (received : ReceivedLaws) (sections
     both_fail (BodyFails.block s) (BodyFails.reaches t) = absurd (not_both q head s.is_head t.is_head)
     both_fail (BodyFails.block s) (BodyFails.block t) = blocks_once sections q limits body head a b x y f g f_due g_due s t
 
-pub fails_once : CarCutLaws → CarLaws → ReceivedLaws → SectionLaws → FailsOnce
-fails_once cut laws received sections q limits head body a b x y f g few f_due g_due s t = both_fail cut laws received sections q limits head body a b x y f g f_due g_due s t
+pub fails_once : CarCutLaws → ReceivedLaws → SectionLaws → FailsOnce
+fails_once cut received sections q limits head body a b x y f g few f_due g_due s t = both_fail cut received sections q limits head body a b x y f g f_due g_due s t
 
 -- ---- nor is it the answer
 

@@ -2,7 +2,6 @@
 use Rattle.std.proofs.Common.{◌≡◌, ℕ, ◌≤◌, List, [], ◌++◌, length, refl, sym, ◌∙◌, inl, inr, append-nil, arith}
 use Rattle.std.proofs.lemmas.List.{length-append}
 use Rattle.std.specs.Prelude.{◌⊎◌}
-use Rattle.tg_car.specs.Laws.{CarLaws}
 use Rattle.tg_client.specs.ReceivedLaws.{ReceivedLaws}
 use Rattle.tg_cut_laws.proofs.BodyAnswers.{car_of, car_received, root_of}
 use Rattle.tg_cut_laws.proofs.BodyBlocks.{answer_small}
@@ -71,24 +70,24 @@ above q limits head given rest a x f due s few =
     let (_, more) = block_fault limits given f due s.cause in
     omega (arith, more, few, length-append given rest)
 
-pub stops_is_not_open : CarCutLaws → CarLaws → ReceivedLaws → SectionLaws → StopsIsNotOpen
-stops_is_not_open cut laws received sections q limits head given rest a b x y f few due (BodyStops.answer s) (IsOpenBody.answer o) =
+pub stops_is_not_open : CarCutLaws → ReceivedLaws → SectionLaws → StopsIsNotOpen
+stops_is_not_open cut received sections q limits head given rest a b x y f few due (BodyStops.answer s) (IsOpenBody.answer o) =
     cut.refused_held q limits (given ++ rest) a b x y s.cause (answer_due q limits head given a x f due s) (answer_refused q limits head (given ++ rest) given rest few refl a x f s)
     o.received few o.held
-stops_is_not_open cut laws received sections q limits head given rest a b x y f few due (BodyStops.answer s) (IsOpenBody.absence o) = not_both q head s.is_head o.is_head
-stops_is_not_open cut laws received sections q limits head given rest a b x y f few due (BodyStops.answer s) (IsOpenBody.block o) = not_forms q s.form o.form
-stops_is_not_open cut laws received sections q limits head given rest a b x y f few due (BodyStops.absence s) (IsOpenBody.answer o) = not_both q head o.is_head s.is_head
-stops_is_not_open cut laws received sections q limits head given rest a b x y f few due (BodyStops.absence s) (IsOpenBody.absence o) =
+stops_is_not_open cut received sections q limits head given rest a b x y f few due (BodyStops.answer s) (IsOpenBody.absence o) = not_both q head s.is_head o.is_head
+stops_is_not_open cut received sections q limits head given rest a b x y f few due (BodyStops.answer s) (IsOpenBody.block o) = not_forms q s.form o.form
+stops_is_not_open cut received sections q limits head given rest a b x y f few due (BodyStops.absence s) (IsOpenBody.answer o) = not_both q head o.is_head s.is_head
+stops_is_not_open cut received sections q limits head given rest a b x y f few due (BodyStops.absence s) (IsOpenBody.absence o) =
     cut.refused_held (path_query q) (path_limits limits) (given ++ rest) a b s.said o.said s.cause (absence_due q limits head given a x f due s)
     (absence_refused q limits head (given ++ rest) given rest few refl a x f s) o.received few (inl o.waits)
-stops_is_not_open cut laws received sections q limits head given rest a b x y f few due (BodyStops.absence s) (IsOpenBody.block o) = not_both q head o.is_head s.is_head
-stops_is_not_open cut laws received sections q limits head given rest a b x y f few due (BodyStops.reaches s) (IsOpenBody.answer o) = not_both q head o.is_head s.is_head
-stops_is_not_open cut laws received sections q limits head given rest a b x y f few due (BodyStops.reaches s) (IsOpenBody.absence o) =
-    reached_waits laws received sections q limits head (given ++ rest) given rest a b x o.said f refl s o.received o.waits
-stops_is_not_open cut laws received sections q limits head given rest a b x y f few due (BodyStops.reaches s) (IsOpenBody.block o) = not_both q head o.is_head s.is_head
-stops_is_not_open cut laws received sections q limits head given rest a b x y f few due (BodyStops.block s) (IsOpenBody.answer o) = not_forms q o.form s.form
-stops_is_not_open cut laws received sections q limits head given rest a b x y f few due (BodyStops.block s) (IsOpenBody.absence o) = not_both q head s.is_head o.is_head
-stops_is_not_open cut laws received sections q limits head given rest a b x y f few due (BodyStops.block s) (IsOpenBody.block o) = above q limits head given rest a x f due s o.few
+stops_is_not_open cut received sections q limits head given rest a b x y f few due (BodyStops.absence s) (IsOpenBody.block o) = not_both q head o.is_head s.is_head
+stops_is_not_open cut received sections q limits head given rest a b x y f few due (BodyStops.reaches s) (IsOpenBody.answer o) = not_both q head o.is_head s.is_head
+stops_is_not_open cut received sections q limits head given rest a b x y f few due (BodyStops.reaches s) (IsOpenBody.absence o) =
+    reached_waits received sections q limits head (given ++ rest) given rest a b x o.said f refl s o.received o.waits
+stops_is_not_open cut received sections q limits head given rest a b x y f few due (BodyStops.reaches s) (IsOpenBody.block o) = not_both q head o.is_head s.is_head
+stops_is_not_open cut received sections q limits head given rest a b x y f few due (BodyStops.block s) (IsOpenBody.answer o) = not_forms q o.form s.form
+stops_is_not_open cut received sections q limits head given rest a b x y f few due (BodyStops.block s) (IsOpenBody.absence o) = not_both q head s.is_head o.is_head
+stops_is_not_open cut received sections q limits head given rest a b x y f few due (BodyStops.block s) (IsOpenBody.block o) = above q limits head given rest a x f due s o.few
 
 -- a CAR that is the answer is held, and refused in no front
 answer_stops : CarCutLaws → ReceivedLaws → SectionLaws → (q : QueryParts) (limits : LimitNumbers) (head : ReplyHead) (given rest : List ℕ) (a b : List Section) (x y : List ℕ) (f : FetchFault)
@@ -106,7 +105,7 @@ stops_is_no_answer cut received sections q limits head given rest a b x y f few 
 
 -- ---- as it fails
 
-module _ (cut : CarCutLaws) (laws : CarLaws) (received : ReceivedLaws) (sections : SectionLaws) (q : QueryParts) (limits : LimitNumbers) (head : ReplyHead) (given rest : List ℕ)
+module _ (cut : CarCutLaws) (received : ReceivedLaws) (sections : SectionLaws) (q : QueryParts) (limits : LimitNumbers) (head : ReplyHead) (given rest : List ℕ)
     (a b : List Section) (x y : List ℕ) (f g : FetchFault) (few : length (given ++ rest) ≤ limits.received) (due : IsDueFault f) where
   stops_as : BodyStops q limits head given a x f → BodyFails q limits head (given ++ rest) b y g → (x ≡ y) × (f ≡ g)
   stops_as (BodyStops.answer s) (BodyFails.answer t) =
@@ -125,7 +124,7 @@ module _ (cut : CarCutLaws) (laws : CarLaws) (received : ReceivedLaws) (sections
   stops_as (BodyStops.absence s) (BodyFails.block t) = absurd (not_both q head t.is_head s.is_head)
   stops_as (BodyStops.reaches s) (BodyFails.answer t) = absurd (not_both q head t.is_head s.is_head)
   stops_as (BodyStops.reaches s) (BodyFails.absence t) =
-      absurd (reached_waits laws received sections q limits head (given ++ rest) given rest a b x t.said f refl s t.received
+      absurd (reached_waits received sections q limits head (given ++ rest) given rest a b x t.said f refl s t.received
       (short_waits (path_query q) (path_limits limits) (given ++ rest) b t.said t.want t.number t.short))
   stops_as (BodyStops.reaches s) (BodyFails.reaches t) = reached_once q limits head given (given ++ rest) a b x y f g s t
   stops_as (BodyStops.reaches s) (BodyFails.block t) = absurd (not_both q head t.is_head s.is_head)
@@ -134,5 +133,5 @@ module _ (cut : CarCutLaws) (laws : CarLaws) (received : ReceivedLaws) (sections
   stops_as (BodyStops.block s) (BodyFails.reaches t) = absurd (not_both q head s.is_head t.is_head)
   stops_as (BodyStops.block s) (BodyFails.block t) = absurd (above q limits head given rest a x f due s t.few)
 
-pub stops_as_it_fails : CarCutLaws → CarLaws → ReceivedLaws → SectionLaws → StopsAsItFails
-stops_as_it_fails cut laws received sections q limits head given rest a b x y f g few f_due g_due s t = stops_as cut laws received sections q limits head given rest a b x y f g few f_due s t
+pub stops_as_it_fails : CarCutLaws → ReceivedLaws → SectionLaws → StopsAsItFails
+stops_as_it_fails cut received sections q limits head given rest a b x y f g few f_due g_due s t = stops_as cut received sections q limits head given rest a b x y f g few f_due s t

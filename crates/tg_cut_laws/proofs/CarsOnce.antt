@@ -26,7 +26,7 @@ use Rattle.tg_verify.specs.Taken.{IsThrough}
 use Rattle.tg_verify.specs.declared.fault.Refusal.{Refusal}
 use Rattle.tg_verify.specs.declared.fault.Refusal.TheVariants as refusals
 use Rattle.tg_cut_laws.proofs.CarEnds.{IsBroken, IsOfSections, IsRefusedAs, broken, past, refused, refused_as, surplus}
-use Rattle.tg_cut_laws.proofs.CarTexts.{car_once, compare, header_inside, missed, no_header}
+use Rattle.tg_cut_laws.proofs.CarTexts.{compare, missed}
 
 -- a reader that was handed this byte behind these bytes, and refused it
 abbrev stopped_at : List ℕ → List Event → ℕ → CarFault → History
@@ -56,12 +56,12 @@ module _ (laws : SectionLaws) (cars : CarLaws) (received : ReceivedLaws) (q : Qu
 
   held_text : (bytes : List ℕ) (sections : List Section) (x y : List ℕ) → IsHeldExactly q limits bytes sections x → IsHeldExactly q limits bytes sections y → x ≡ y
   held_text bytes sections x y (inl (inl early)) (inl (inl also)) = early.no_text ∙ sym also.no_text
-  held_text bytes sections x y (inl (inl early)) (inl (inr (at, up_to, header))) = absurd (header_inside cars limits.block bytes [] bytes header (itself bytes) early.goes_on)
-  held_text bytes sections x y (inl (inl early)) (inr (through, is_car)) = absurd (no_header cars limits.block sections bytes [] bytes is_car (itself bytes) early.goes_on)
-  held_text bytes sections x y (inl (inr (at, up_to, header))) (inl (inl early)) = absurd (header_inside cars limits.block bytes [] bytes header (itself bytes) early.goes_on)
+  held_text bytes sections x y (inl (inl early)) (inl (inr (at, up_to, header))) = absurd (received.stays_headed limits.block bytes [] bytes header (itself bytes) early.goes_on)
+  held_text bytes sections x y (inl (inl early)) (inr (through, is_car)) = absurd (received.headed limits.block sections bytes [] bytes is_car (itself bytes) early.goes_on)
+  held_text bytes sections x y (inl (inr (at, up_to, header))) (inl (inl early)) = absurd (received.stays_headed limits.block bytes [] bytes header (itself bytes) early.goes_on)
   held_text bytes sections x y (inl (inr (at, up_to, header))) (inl (inr (other, also, whole))) = (laws.up_to q limits sections x y at other up_to also).0
   held_text bytes sections x y (inl (inr (at, up_to, header))) (inr (through, is_car)) = absurd (laws.through_up_to q limits sections [] sections y x at (append-nil sections) through up_to)
-  held_text bytes sections x y (inr (through, is_car)) (inl (inl early)) = absurd (no_header cars limits.block sections bytes [] bytes is_car (itself bytes) early.goes_on)
+  held_text bytes sections x y (inr (through, is_car)) (inl (inl early)) = absurd (received.headed limits.block sections bytes [] bytes is_car (itself bytes) early.goes_on)
   held_text bytes sections x y (inr (through, is_car)) (inl (inr (at, up_to, header))) = absurd (laws.through_up_to q limits sections [] sections x y at (append-nil sections) through up_to)
   held_text bytes sections x y (inr (through, is_car)) (inr (also, is)) = (laws.through q limits sections sections x y (both sections) through also).1
 
@@ -81,7 +81,7 @@ module _ (laws : SectionLaws) (cars : CarLaws) (received : ReceivedLaws) (q : Qu
   -- no block is wanted
   waits_behind : (car z heard : List ℕ) (a b : List Section) (x y : List ℕ) → IsCarOf car a → IsThrough q limits a x → heard ≡ car ++ z → HasReceived limits.block heard b
       → IsWaiting q limits heard b y → ⊥
-  waits_behind car z heard a b x y is_car through e got (inl early) = no_header cars limits.block a car z heard is_car e early.goes_on
+  waits_behind car z heard a b x y is_car through e got (inl early) = received.headed limits.block a car z heard is_car e early.goes_on
   waits_behind car z heard a b x y is_car through e got (inr (at, up_to, header)) =
       let (rest, is) = received.behind limits.block car z a b is_car (subst (λ (bytes : List ℕ). HasReceived limits.block bytes b) e got) in
       laws.through_up_to q limits a rest b x y at (sym is) through up_to
@@ -94,7 +94,7 @@ module _ (laws : SectionLaws) (cars : CarLaws) (received : ReceivedLaws) (q : Qu
       let (rest, behind) = received.behind limits.block car z a b is_car (subst (λ (bytes : List ℕ). HasReceived limits.block bytes b) e got) in
       let begins : BeginOne a b = record { a_more = rest; b_more = []; one = sym behind ∙ sym (append-nil b) } in
       let same : a ≡ b = (laws.through q limits a b x y begins through also).0 in
-      car_once cars a heard car z (subst (λ (s : List Section). IsCarOf heard s) (sym same) is) is_car e some
+      received.once a heard car z (subst (λ (s : List Section). IsCarOf heard s) (sym same) is) is_car e some
 
   -- ---- behind a refusal of the sections
 
@@ -106,7 +106,7 @@ module _ (laws : SectionLaws) (cars : CarLaws) (received : ReceivedLaws) (q : Qu
   -- no block is wanted, nor did all come
   refused_behind : (heard z more : List ℕ) (a b : List Section) (x y : List ℕ) (fault : ClientFault) → IsOfSections q limits heard a x fault → more ≡ heard ++ z → HasReceived limits.block heard a
       → HasReceived limits.block more b → IsHeldExactly q limits more b y → ⊥
-  refused_behind heard z more a b x y fault k e got also (inl (inl early)) = header_inside cars limits.block heard z more k.behind.header e early.goes_on
+  refused_behind heard z more a b x y fault k e got also (inl (inl early)) = received.stays_headed limits.block heard z more k.behind.header e early.goes_on
   refused_behind heard z more a b x y fault k e got also (inl (inr (at, up_to, header))) =
       let (rest, is) = received.front limits.block heard z a b got (subst (λ (bytes : List ℕ). HasReceived limits.block bytes b) e also) in
       laws.refused_up_to q limits a rest b x y k.refusal at (sym is) k.due k.refused up_to
@@ -307,7 +307,7 @@ module _ (laws : SectionLaws) (cars : CarLaws) (received : ReceivedLaws) (q : Qu
         by z is k.waits
       where
         by : (z : List ℕ) → r.heard ≡ heard ++ z → IsWaiting q limits r.heard a x → ⊥
-        by z is (inl early) = header_inside cars limits.block heard z r.heard header is early.goes_on
+        by z is (inl early) = received.stays_headed limits.block heard z r.heard header is early.goes_on
         by z is (inr (at, up_to, whole)) =
             let (rest, on) = received.front limits.block heard z b a got (subst (λ (l : List ℕ). HasReceived limits.block l a) is r.received) in
             laws.through_up_to q limits b rest a y x at (sym on) through up_to
@@ -331,9 +331,9 @@ module _ (laws : SectionLaws) (cars : CarLaws) (received : ReceivedLaws) (q : Qu
   short_text bytes sections x y want other number count (inl (early, root, none)) (inl (also, is, nothing)) =
       (early.no_text ∙ sym also.no_text, root ∙ sym is, none ∙ sym nothing)
   short_text bytes sections x y want other number count (inl (early, root, none)) (inr (at, is, cut, header)) =
-      absurd (header_inside cars limits.block bytes [] bytes header (itself bytes) early.goes_on)
+      absurd (received.stays_headed limits.block bytes [] bytes header (itself bytes) early.goes_on)
   short_text bytes sections x y want other number count (inr (at, is, cut, header)) (inl (early, root, none)) =
-      absurd (header_inside cars limits.block bytes [] bytes header (itself bytes) early.goes_on)
+      absurd (received.stays_headed limits.block bytes [] bytes header (itself bytes) early.goes_on)
   short_text bytes sections x y want other number count (inr (at, is, cut, header)) (inr (place, also, short, whole)) =
       let (text, same) = laws.up_to q limits sections x y at place cut.up_to short.up_to in
       (text, is ∙ (ap (λ p. p.cid) same ∙ sym also), cut.number_is ∙ sym short.number_is)
@@ -348,7 +348,7 @@ module _ (laws : SectionLaws) (cars : CarLaws) (received : ReceivedLaws) (q : Qu
   -- not all came, where the header is whole
   short_by : (bytes : List ℕ) (sections : List Section) (x y : List ℕ) (want : CidParts) (number : ℕ) → HasHeader limits.block bytes → IsEndedShort q limits bytes sections x want number
       → IsThrough q limits sections y → ⊥
-  short_by bytes sections x y want number header (inl (early, root, none)) through = header_inside cars limits.block bytes [] bytes header (itself bytes) early.goes_on
+  short_by bytes sections x y want number header (inl (early, root, none)) through = received.stays_headed limits.block bytes [] bytes header (itself bytes) early.goes_on
   short_by bytes sections x y want number header (inr (at, is, cut, whole)) through = laws.through_up_to q limits sections [] sections y x at (append-nil sections) through cut.up_to
 
   pub short_not_through : (bytes : List ℕ) (a b : List Section) (x y : List ℕ) (want : CidParts) (number : ℕ) → HasReceived limits.block bytes a → HasReceived limits.block bytes b

@@ -10,9 +10,7 @@ mod CarEnds
 mod CarTexts
 mod CarsOnce
 mod Causes
-mod FramingsChunks
-mod FramingsFronts
-mod HeadsFinal
+mod Insides
 mod Outcomes
 mod Passed
 mod Presented

@@ -2,12 +2,12 @@
 use Rattle.std.proofs.Common.{◌≡◌, ◌≢◌, ℕ, ◌<◌, ◌≤◌, Bool, true, false, List, [], ◌∷◌, ◌++◌, length, refl, sym, ap, subst, ◌∙◌, inl, inr, arith}
 use Rattle.std.proofs.lemmas.List.{append-nil, length-append}
 use Rattle.std.specs.Prelude.{◌⊎◌}
-use Rattle.tg_body.specs.Bodies.{BodyFront, BodyText}
-use Rattle.tg_body.specs.Laws.{BodyLaws}
+use Rattle.tg_body.specs.Bodies.{BodyFront, BodyText, ChunkedFront}
+use Rattle.tg_body.specs.History.{BreaksChunked}
 use Rattle.tg_bytes.specs.Lists.{same_front}
-use Rattle.tg_cut_laws.proofs.FramingsFronts.{IsShort, body_fits, either_longer, front_fits, front_front, not_broken, not_on, one_body, one_front, whole_unbroken}
+use Rattle.tg_cut_laws.proofs.Insides.{either_longer}
 use Rattle.tg_cut_laws.proofs.ReplyPlaces.{BreaksAt, EndsAt, FailsAt, IsFar, OpenAt, Place, RefusedBehind, StopsAt, WholeAt}
-use Rattle.tg_cut_laws.proofs.ReplyPlaces.{all_received, came_fits, none_left, one_behind, one_sooner, sooner}
+use Rattle.tg_cut_laws.proofs.ReplyPlaces.{all_received, none_left, one_behind, one_sooner, sooner}
 use Rattle.tg_cut_laws.specs.Bodies.{BodyCutLaws, IsAnswerBody, IsDueFault}
 use Rattle.tg_cut_laws.specs.Sections.{BeginOne}
 use Rattle.tg_fetch.specs.Bodies.{BodyFails, BodyStops}
@@ -17,7 +17,7 @@ use Rattle.tg_fetch.specs.declared.fault.FetchFault.{FetchFault}
 use Rattle.tg_fetch.specs.declared.fault.FetchFault.TheVariants as faults
 use Rattle.tg_heard.specs.Carried.{IsAbsenceHead}
 use Rattle.tg_heard.specs.Got.{IsTakenHead}
-use Rattle.tg_heard.specs.GotLaws.{BodyFronts}
+use Rattle.tg_heard.specs.FrontLaws.{BodyPieceLaws, HeadLaws, IsShort}
 use Rattle.tg_http.specs.declared.framing.Framing.{Framing}
 use Rattle.tg_http.specs.declared.framing.Framing.TheVariants as framings
 use Rattle.tg_http.specs.declared.reply.ReplyHead.{ReplyHead}
@@ -106,7 +106,11 @@ head_once q head faults.PeerFault g due also s t = absurd s
 
 -- ---- two places behind one head
 
-module _ (bodies : BodyLaws) (fronts : BodyFronts) (laws : BodyCutLaws) (q : QueryParts) (limits : LimitNumbers) (bytes : List ℕ) (head : ReplyHead) (rest : List ℕ) where
+module _ (heads : HeadLaws) (pieces : BodyPieceLaws) (laws : BodyCutLaws) (q : QueryParts) (limits : LimitNumbers) (bytes : List ℕ) (head : ReplyHead) (rest : List ℕ) where
+  -- what came of the body may be received
+  came_fits : (place : Place limits bytes head rest) → length place.came ≤ limits.received
+  came_fits place = omega (arith, heads.rest_fits place.heard place.came head place.final, place.within)
+
   -- at one place one text is written for what is open
   pub same_open : (x y : List ℕ) (o : OpenAt q limits bytes head rest x) (p : OpenAt q limits bytes head rest y) → length o.place.heard ≤ length p.place.heard
       → length p.place.heard ≤ length o.place.heard → x ≡ y
@@ -117,7 +121,7 @@ module _ (bodies : BodyLaws) (fronts : BodyFronts) (laws : BodyCutLaws) (q : Que
       (same_front o.place.came p.place.came o.place.left p.place.left
       (omega (arith, ap length l.first, length-append o.place.came l.middle, ap length m.first, length-append p.place.came m.middle))
       (one_behind limits bytes head rest o.place p.place)).0 in
-      let given : o.given ≡ p.given = one_front bodies head.framing o.given p.given p.place.came (subst (BodyFront head.framing o.given) came o.front) p.front in
+      let given : o.given ≡ p.given = pieces.one_front head.framing o.given p.given p.place.came (subst (BodyFront head.framing o.given) came o.front) p.front in
       laws.is_open q limits head p.given o.sections p.sections x y (subst (λ (g : List ℕ). IsOpenBody q limits head g o.sections x) given o.body) p.body
 
   -- no later place is open where the framing is broken
@@ -125,23 +129,23 @@ module _ (bodies : BodyLaws) (fronts : BodyFronts) (laws : BodyCutLaws) (q : Que
       → length a.heard < length p.place.heard → ⊥
   not_behind y a b p less =
       let l = one_sooner limits bytes head rest a p.place b.last b.more b.left_is less in
-      not_broken bodies head.framing p.given p.place.came (a.came ++ b.last ∷ []) l.middle p.front b.chunked l.first b.breaks
+      pieces.not_broken head.framing p.given p.place.came (a.came ++ b.last ∷ []) l.middle p.front b.chunked l.first b.breaks
 
   -- nor is what came refused there
   pub not_stopped_behind : (y : List ℕ) (g : FetchFault) (a : Place limits bytes head rest) (b : BreaksAt limits bytes head rest a) (s : StopsAt q limits bytes head rest y g)
       → length a.heard < length s.place.heard → ⊥
   not_stopped_behind y g a b s less =
       let l = one_sooner limits bytes head rest a s.place b.last b.more b.left_is less in
-      not_broken bodies head.framing s.given s.place.came (a.came ++ b.last ∷ []) l.middle s.front b.chunked l.first b.breaks
+      pieces.not_broken head.framing s.given s.place.came (a.came ++ b.last ∷ []) l.middle s.front b.chunked l.first b.breaks
 
   -- what is open is refused nowhere before
   pub stops_open : (x y : List ℕ) (f : FetchFault) → IsDueFault f → (s : StopsAt q limits bytes head rest x f) (p : OpenAt q limits bytes head rest y)
       → length s.place.heard ≤ length p.place.heard → ⊥
   stops_open x y f due s p less =
       let l = sooner limits bytes head rest s.place p.place less in
-      let more = front_front bodies head.framing s.place.came l.middle s.given p.given s.front (subst (BodyFront head.framing p.given) l.first p.front) in
+      let more = pieces.grows head.framing s.place.came l.middle s.given p.given s.front (subst (BodyFront head.framing p.given) l.first p.front) in
       let fits : length (s.given ++ more.0) ≤ limits.received =
-      omega (arith, ap length more.1, front_fits head.framing p.given p.place.came p.front, came_fits limits bytes head rest p.place) in
+      omega (arith, ap length more.1, pieces.front_fits head.framing p.given p.place.came p.front, came_fits p.place) in
       laws.stops_open q limits head s.given more.0 s.sections p.sections x y f fits due s.stops (subst (λ (g : List ℕ). IsOpenBody q limits head g p.sections y) more.1 p.body)
 
   -- two refusals while it comes are one
@@ -149,12 +153,12 @@ module _ (bodies : BodyLaws) (fronts : BodyFronts) (laws : BodyCutLaws) (q : Que
       → length s.place.heard ≤ length t.place.heard → (x ≡ y) × (f ≡ g)
   stops_sooner x y f g due also s t less =
       let l = sooner limits bytes head rest s.place t.place less in
-      let more = front_front bodies head.framing s.place.came l.middle s.given t.given s.front (subst (BodyFront head.framing t.given) l.first t.front) in
+      let more = pieces.grows head.framing s.place.came l.middle s.given t.given s.front (subst (BodyFront head.framing t.given) l.first t.front) in
       let both : BeginOne s.given t.given = record { a_more = more.0; b_more = []; one = sym more.1 ∙ sym (append-nil t.given) } in
       let given_fits : length s.given ≤ limits.received =
-      omega (arith, front_fits head.framing s.given s.place.came s.front, came_fits limits bytes head rest s.place) in
+      omega (arith, pieces.front_fits head.framing s.given s.place.came s.front, came_fits s.place) in
       let came_few : length t.given ≤ limits.received =
-      omega (arith, front_fits head.framing t.given t.place.came t.front, came_fits limits bytes head rest t.place) in
+      omega (arith, pieces.front_fits head.framing t.given t.place.came t.front, came_fits t.place) in
       laws.stops q limits head s.given t.given s.sections t.sections x y f g both given_fits came_few due also s.stops t.stops
 
   -- both are the same the other way round
@@ -174,7 +178,7 @@ module _ (bodies : BodyLaws) (fronts : BodyFronts) (laws : BodyCutLaws) (q : Que
 
   -- it may be received
   pub body_few : (w : WholeAt limits bytes head rest) → length w.body ≤ limits.received
-  body_few w = omega (arith, body_fits head.framing w.body w.place.came w.body_is, came_fits limits bytes head rest w.place)
+  body_few w = omega (arith, pieces.body_fits head.framing w.body w.place.came w.body_is, came_fits w.place)
 
   -- its framing isn't broken
   pub whole_framed : WholeAt limits bytes head rest → head.framing ≢ framings.Broken
@@ -183,25 +187,36 @@ module _ (bodies : BodyLaws) (fronts : BodyFronts) (laws : BodyCutLaws) (q : Que
   -- it is one
   pub one_whole : (w v : WholeAt limits bytes head rest) → w.body ≡ v.body
   one_whole w v =
-      one_body bodies head.framing w.body v.body w.place.came v.place.came w.place.left v.place.left w.body_is v.body_is (one_behind limits bytes head rest w.place v.place)
-      w.closed v.closed
+      pieces.one_body head.framing w.body v.body w.place.came v.place.came w.place.left v.place.left w.body_is v.body_is (one_behind limits bytes head rest w.place v.place)
+      (λ e. (w.closed e, v.closed e))
 
   -- what came of it is its front
   pub stops_front : (x : List ℕ) (f : FetchFault) (s : StopsAt q limits bytes head rest x f) (w : WholeAt limits bytes head rest) → (left : List ℕ) × (w.body ≡ s.given ++ left)
   stops_front x f s w =
-      fronts head.framing s.given w.body s.place.came w.place.came s.place.left w.place.left s.front w.body_is (one_behind limits bytes head rest s.place w.place) w.closed
+      pieces.fronts head.framing s.given w.body s.place.came w.place.came s.place.left w.place.left s.front w.body_is (one_behind limits bytes head rest s.place w.place) w.closed
 
   -- it doesn't go on behind it
   pub whole_far : (y : List ℕ) (w : WholeAt limits bytes head rest) (p : OpenAt q limits bytes head rest y) → IsFar limits bytes head rest p.place
       → IsShort head.framing p.place.came → head.framing ≢ framings.UntilClose → ⊥
   whole_far y w p far short ends =
       let l = sooner limits bytes head rest w.place p.place (far w.place) in
-      not_on bodies head.framing w.body w.place.came p.place.came p.given l.middle w.body_is p.front short ends l.first
+      pieces.not_on head.framing w.body w.place.came p.place.came p.given l.middle w.body_is p.front short ends l.first
 
   -- nor is it broken
   pub whole_breaks : (y : List ℕ) (w : WholeAt limits bytes head rest) (p : OpenAt q limits bytes head rest y) → BreaksAt limits bytes head rest p.place → ⊥
   whole_breaks y w p b =
-      whole_unbroken bodies head.framing w.body w.place.came p.place.came p.given b.more w.place.left b.last w.body_is p.front b.chunked b.breaks
+      pieces.unbroken head.framing w.body w.place.came p.place.came p.given (b.last ∷ []) b.more w.place.left w.body_is
+      (inr (
+        b.chunked,
+        record {
+          front = [];
+          last = b.last;
+          more = [];
+          whole = refl;
+          went_on = subst (ChunkedFront p.given) (sym (append-nil p.place.came)) (subst (λ (f : Framing). BodyFront f p.given p.place.came) b.chunked p.front);
+          breaks = subst (λ (l : List ℕ). BreaksChunked (l ++ b.last ∷ [])) (sym (append-nil p.place.came)) b.breaks;
+        },
+      ))
       (ap (λ (l : List ℕ). p.place.came ++ l) (sym b.left_is) ∙ one_behind limits bytes head rest p.place w.place)
 
   -- where more bytes are than may be received, it ends by itself

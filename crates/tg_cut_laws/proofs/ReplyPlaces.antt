@@ -4,13 +4,12 @@ use Rattle.std.proofs.lemmas.List.{length-append}
 use Rattle.tg_body.specs.Bodies.{BodyFront, BodyText}
 use Rattle.tg_body.specs.History.{BreaksChunked}
 use Rattle.tg_bytes.specs.Lists.{Longer, longer}
-use Rattle.tg_cut_laws.proofs.FramingsFronts.{IsShort}
-use Rattle.tg_cut_laws.proofs.HeadsFinal.{rest_fits}
 use Rattle.tg_fetch.specs.Bodies.{BodyFails, BodyStops, IsOpenBody}
 use Rattle.tg_fetch.specs.Replies.{HeadStops}
 use Rattle.tg_fetch.specs.declared.fault.FetchFault.{FetchFault}
 use Rattle.tg_fetch.specs.declared.fault.FetchFault.TheVariants as faults
 use Rattle.tg_heard.specs.FinalHeads.{FinalHead}
+use Rattle.tg_heard.specs.FrontLaws.{IsShort}
 use Rattle.tg_http.specs.declared.framing.Framing.TheVariants as framings
 use Rattle.tg_http.specs.declared.reply.ReplyHead.{ReplyHead}
 use Rattle.tg_model.specs.Dag.{Section}
@@ -143,7 +142,3 @@ module _ (limits : LimitNumbers) (bytes : List ℕ) (head : ReplyHead) (rest : L
   -- and where as much was heard as may be received
   pub all_received : (place : Place limits bytes head rest) → length place.heard ≡ limits.received → IsFar limits bytes head rest place
   all_received place full other = omega (arith, full, other.within)
-
-  -- what came of the body may be received
-  pub came_fits : (place : Place limits bytes head rest) → length place.came ≤ limits.received
-  came_fits place = omega (arith, rest_fits place.heard place.came head place.final, place.within)

@@ -4,17 +4,15 @@ use Rattle.std.proofs.lemmas.List.{append-nil, length-append}
 use Rattle.std.specs.Prelude.{◌⊎◌}
 use Rattle.tg_body.specs.Bodies.{BodyFront}
 use Rattle.tg_body.specs.History.{HasFeedCause, StopsAtByte}
-use Rattle.tg_cut_laws.proofs.FramingsFronts.{inside_ends, inside_front, inside_short}
-use Rattle.tg_cut_laws.proofs.HeadsFinal.{final_longer}
+use Rattle.tg_cut_laws.proofs.Insides.{inside_ends, inside_front, inside_short}
 use Rattle.tg_cut_laws.proofs.ReplyPlaces.{BreaksAt, EndsAt, OpenAt, Place, RefusedBehind, WholeAt}
 use Rattle.tg_cut_laws.specs.Bodies.{IsAnswerBody, IsDueFault}
 use Rattle.tg_cut_laws.specs.Replies.{IsAnsweredIn, IsRefusedIn}
-use Rattle.tg_fetch.specs.Heads.{HasBadHead, IsOpenHead}
 use Rattle.tg_fetch.specs.Replies.{BreaksFraming, EndsInBody, IsOpenBefore, IsOpenBehind, IsShortBehind, RefusedBy}
 use Rattle.tg_fetch.specs.declared.fault.FetchFault.{FetchFault}
 use Rattle.tg_fetch.specs.declared.fault.FetchFault.TheVariants as faults
-use Rattle.tg_heard.specs.FinalHeads.{FinalHead}
-use Rattle.tg_http.specs.Heads.{ReplyStays}
+use Rattle.tg_heard.specs.FinalHeads.{FinalHead, HasBadHead, IsOpenHead}
+use Rattle.tg_heard.specs.FrontLaws.{HeadLaws}
 use Rattle.tg_http.specs.declared.fault.HttpFault.TheVariants as https
 use Rattle.tg_http.specs.declared.framing.Framing.{Framing}
 use Rattle.tg_http.specs.declared.framing.Framing.TheVariants as framings
@@ -60,12 +58,12 @@ pub record AnsweredAfter (q : QueryParts) (limits : LimitNumbers) (bytes : List 
 not_memory : (fault : FetchFault) → fault ≡ faults.OutOfMemory → IsDueFault fault → ⊥
 not_memory fault is due = subst IsDueFault is due
 
-module _ (stays : ReplyStays) (q : QueryParts) (limits : LimitNumbers) (bytes heard left : List ℕ) (whole : bytes ≡ heard ++ left) (within : length heard ≤ limits.received) where
+module _ (heads : HeadLaws) (q : QueryParts) (limits : LimitNumbers) (bytes heard left : List ℕ) (whole : bytes ≡ heard ++ left) (within : length heard ≤ limits.received) where
   -- ---- places
 
   -- a final head of what was heard is that of all bytes
   pub total : (head : ReplyHead) (came : List ℕ) → FinalHead heard head came → FinalHead bytes head (came ++ left)
-  total head came f = subst (λ (l : List ℕ). FinalHead l head (came ++ left)) (sym whole) (final_longer stays left heard came head f)
+  total head came f = subst (λ (l : List ℕ). FinalHead l head (came ++ left)) (sym whole) (heads.final_stays heard left came head f)
 
   -- what was heard is a place
   abbrev pub here : (head : ReplyHead) (came : List ℕ) → FinalHead heard head came → Place limits bytes head (came ++ left)
@@ -107,7 +105,7 @@ module _ (stays : ReplyStays) (q : QueryParts) (limits : LimitNumbers) (bytes he
       whole = whole ∙ (ap (λ (l : List ℕ). heard ++ l) looked_is ∙ sym (append_assoc heard s.front (s.last ∷ behind)));
       behind = ap (λ (l : List ℕ). r.rest ++ l) looked_is ∙ sym (append_assoc r.rest s.front (s.last ∷ behind));
       within = omega (arith, r.few, ap length s.whole, length-append s.front (s.last ∷ s.more), length-append heard s.front);
-      final = final_longer stays s.front heard r.rest r.head r.final;
+      final = heads.final_stays heard s.front r.rest r.head r.final;
     }
 
     -- and is open there
@@ -223,11 +221,11 @@ module _ (stays : ReplyStays) (q : QueryParts) (limits : LimitNumbers) (bytes he
 
 -- ---- in all bytes
 
-module _ (stays : ReplyStays) (q : QueryParts) (limits : LimitNumbers) (bytes text : List ℕ) where
+module _ (heads : HeadLaws) (q : QueryParts) (limits : LimitNumbers) (bytes text : List ℕ) where
   -- a refusal is seen
   pub seen : (fault : FetchFault) → IsDueFault fault → (r : IsRefusedIn q limits bytes text fault) → IsSeen q limits bytes r.ended text fault
   seen fault due r =
-      seen_by stays q limits bytes r.heard (r.unheard ++ r.more) r.whole r.within r.unheard r.more refl r.ended r.is_over r.sections text fault due r.refused
+      seen_by heads q limits bytes r.heard (r.unheard ++ r.more) r.whole r.within r.unheard r.more refl r.ended r.is_over r.sections text fault due r.refused
 
   -- nothing and nothing
   none_both : (a b : List ℕ) → a ≡ [] → b ≡ [] → a ++ b ≡ []
@@ -243,9 +241,9 @@ module _ (stays : ReplyStays) (q : QueryParts) (limits : LimitNumbers) (bytes te
       record {
         head = c.head;
         rest = c.rest ++ left;
-        final = total stays q limits bytes c.front left whole within c.head c.rest c.final;
+        final = total heads q limits bytes c.front left whole within c.head c.rest c.final;
         whole = record {
-          place = here stays q limits bytes c.front left whole within c.head c.rest c.final;
+          place = here heads q limits bytes c.front left whole within c.head c.rest c.final;
           body = c.body;
           body_is = c.body_is;
           closed = λ e. let close = c.closed e in none_both c.more a.more close.1 (a.is_over close.0);

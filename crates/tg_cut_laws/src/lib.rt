@@ -44,7 +44,6 @@ pub fn bodies_answered_once()
 {
     sections_answered_once();
     cars_answered_once();
-    tg_car::laws::car_laws();
     tg_client::laws::received_sections();
 }
 
@@ -57,10 +56,8 @@ pub fn replies_answered_once()
     ensures { ReplyCutLaws }
 {
     bodies_answered_once();
-    tg_heard::heard_is_one();
+    tg_heard::heads_go_on();
     tg_heard::bodies_go_on();
-    tg_http::laws::longer_bytes();
-    tg_body::laws::body_laws();
 }
 
 /// However the bytes of a reply are cut, clients of one query and limits answer the same and have put the same: by what

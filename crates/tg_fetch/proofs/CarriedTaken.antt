@@ -3,7 +3,6 @@ use Rattle.std.proofs.Common.{◌≡◌, ℕ, ◌≤◌, Bool, true, List, [], �
 use Rattle.std.proofs.Common.{append-nil, append_assoc, arith}
 use Rattle.std.proofs.lemmas.List.{length-append}
 use Rattle.std.specs.Prelude.{◌⊎◌}
-use Rattle.tg_body.specs.Laws.{BodyLaws}
 use Rattle.tg_cid.specs.Cid.{CidParts}
 use Rattle.tg_client.specs.BodyLaws.{BodyLaws as CarLaws, IsFrontOfCar}
 use Rattle.tg_client.specs.Ends.{IsOwnEnd}
@@ -18,9 +17,8 @@ use Rattle.tg_fetch.specs.Replies.{HeadStops, RefusedBy}
 use Rattle.tg_fetch.specs.declared.fault.FetchFault.{FetchFault}
 use Rattle.tg_fetch.specs.declared.fault.FetchFault.TheVariants as faults
 use Rattle.tg_heard.specs.Carried.{BodyCarries, IsAnswerHead}
-use Rattle.tg_heard.specs.GotLaws.{BodyFronts}
+use Rattle.tg_heard.specs.FrontLaws.{BodyPieceLaws, HeadLaws}
 use Rattle.tg_heard.specs.Laws.{OneFinalHead}
-use Rattle.tg_http.specs.Heads.{ReplyStays}
 use Rattle.tg_http.specs.declared.framing.Framing.TheVariants as framings
 use Rattle.tg_http.specs.declared.reply.ReplyHead.{ReplyHead}
 use Rattle.tg_model.specs.Counts.{greatest}
@@ -77,7 +75,7 @@ settled : (q : QueryParts) (sections : List Section) (at : WantedAt) (later : Li
 settled q sections at later sends w cid more e =
     let same : at.cid ≡ cid = cc e in subst (λ (c : CidParts). is_sent_behind q sections c ≡ true) same sends
 
-module _ (stays : ReplyStays) (one_head : OneFinalHead) (fronts : BodyFronts) (bodies : BodyLaws) (cars : CarLaws) (answers : AnswerLaws) (verified : VerifiedLaws)
+module _ (heads : HeadLaws) (one_head : OneFinalHead) (pieces : BodyPieceLaws) (cars : CarLaws) (answers : AnswerLaws) (verified : VerifiedLaws)
     (q : QueryParts) (limits : LimitNumbers) (d : Dag) (all : List Section) (answer : List ℕ) (fits : Fits d q all answer) (within : IsWithinLimits q limits d) where
   -- no block is wanted behind all sections
   none_wanted : (text : List ℕ) (at : WantedAt) → IsUpTo q limits all text at → ⊥
@@ -104,7 +102,7 @@ module _ (stays : ReplyStays) (one_head : OneFinalHead) (fronts : BodyFronts) (b
         → IsFrontOfCar limits n.body all h u sections
     of_car given left h u sections whole parts form received = record {
       is_car = is_car form;
-      few = body_few stays one_head fronts bodies (IsAnswerHead q) q limits all heard unheard more n;
+      few = body_few heads one_head pieces (IsAnswerHead q) q limits all heard unheard more n;
       more = left;
       whole = whole ∙ (ap (λ (l : List ℕ). l ++ left) parts ∙ append_assoc h u left);
       received = received;
@@ -160,16 +158,16 @@ module _ (stays : ReplyStays) (one_head : OneFinalHead) (fronts : BodyFronts) (b
     taken : (ended over : Bool) (sections : List Section) (text : List ℕ) (fault : FetchFault) → (ended ≡ true → (over ≡ true) × (unheard ≡ []) × (more ≡ []))
         → RefusedBy q limits heard unheard ended sections text fault → IsOwnFault fault
     taken ended over sections text fault ends r =
-        by (refused_for stays one_head fronts bodies (IsAnswerHead q) q limits all heard unheard more n ended (λ e. none_both unheard more (ends e).1 (ends e).2) sections text fault r)
+        by (refused_for heads one_head pieces (IsAnswerHead q) q limits all heard unheard more n ended (λ e. none_both unheard more (ends e).1 (ends e).2) sections text fault r)
       where
         by : IsRefusedFor q limits n.head n.body sections text fault → IsOwnFault fault
-        by (IsRefusedFor.at_head s _) = own_head q n.head fault n.is_head (framed stays one_head fronts bodies (IsAnswerHead q) q limits all heard unheard more n) s
+        by (IsRefusedFor.at_head s _) = own_head q n.head fault n.is_head (framed heads one_head pieces (IsAnswerHead q) q limits all heard unheard more n) s
         by (IsRefusedFor.in_body given left whole s) = stops given left sections text fault whole s
         by (IsRefusedFor.at_end s) = fails sections text fault s
         by (IsRefusedFor.before_body is _) = subst IsOwnFault (sym is) tt
         by (IsRefusedFor.amid_body is _ _) = subst IsOwnFault (sym is) tt
 
-pub carried_is_taken : ReplyStays → OneFinalHead → BodyFronts → BodyLaws → CarLaws → AnswerLaws → VerifiedLaws → CarriedIsTaken
-carried_is_taken stays one_head fronts bodies cars answers verified q limits d all answer heard unheard more ended over sections text fault fits within carries ends r =
-    taken stays one_head fronts bodies cars answers verified q limits d all answer fits within heard unheard more
+pub carried_is_taken : HeadLaws → OneFinalHead → BodyPieceLaws → CarLaws → AnswerLaws → VerifiedLaws → CarriedIsTaken
+carried_is_taken heads one_head pieces cars answers verified q limits d all answer heard unheard more ended over sections text fault fits within carries ends r =
+    taken heads one_head pieces cars answers verified q limits d all answer fits within heard unheard more
     (carrier q limits (heard ++ (unheard ++ more)) over all carries) ended over sections text fault ends r

@@ -4,10 +4,7 @@ use Rattle.std.proofs.lemmas.List.{length-append}
 use Rattle.std.specs.Prelude.{◌⊎◌}
 use Rattle.tg_body.specs.Bodies.{BodyFront, BodyText}
 use Rattle.tg_body.specs.History.{EndsInside, HasFeedCause}
-use Rattle.tg_body.specs.Laws.{BodyLaws}
 use Rattle.tg_bytes.specs.Lists.{longer}
-use Rattle.tg_fetch.proofs.CarriedBodies.{body_fits, not_inside, not_on, one_body, unbroken}
-use Rattle.tg_fetch.proofs.CarriedHeads.{final_longer, no_bad_head, no_open_head, rest_fits}
 use Rattle.tg_fetch.specs.Bodies.{BodyFails, BodyStops, IsOpenBody}
 use Rattle.tg_fetch.specs.Laws.{CarriesWithin}
 use Rattle.tg_fetch.specs.Replies.{BreaksFraming, EndsInBody, HeadStops, IsOpenBefore, IsOpenReply, IsPastReceived, IsShortBehind, RefusedBy}
@@ -15,9 +12,8 @@ use Rattle.tg_fetch.specs.declared.fault.FetchFault.{FetchFault}
 use Rattle.tg_fetch.specs.declared.fault.FetchFault.TheVariants as faults
 use Rattle.tg_heard.specs.Carried.{BodyCarries, CarriesBehind, IsAnswerHead}
 use Rattle.tg_heard.specs.FinalHeads.{FinalHead}
-use Rattle.tg_heard.specs.GotLaws.{BodyFronts}
+use Rattle.tg_heard.specs.FrontLaws.{BodyPieceLaws, HeadLaws}
 use Rattle.tg_heard.specs.Laws.{OneFinalHead}
-use Rattle.tg_http.specs.Heads.{ReplyStays}
 use Rattle.tg_http.specs.declared.fault.HttpFault.TheVariants as https
 use Rattle.tg_http.specs.declared.framing.Framing.{Framing}
 use Rattle.tg_http.specs.declared.framing.Framing.TheVariants as framings
@@ -85,10 +81,10 @@ pub data IsRefusedFor (q : QueryParts) (limits : LimitNumbers) (head : ReplyHead
   amid_body : fault ≡ faults.OutOfMemory → (given : List ℕ) → IsOpenBody q limits head given sections text
       → IsRefusedFor q limits head body sections text fault
 
-module _ (stays : ReplyStays) (one_head : OneFinalHead) (fronts : BodyFronts) (bodies : BodyLaws) (IsHead : ReplyHead → Type 0) (q : QueryParts) (limits : LimitNumbers)
+module _ (heads : HeadLaws) (one_head : OneFinalHead) (pieces : BodyPieceLaws) (IsHead : ReplyHead → Type 0) (q : QueryParts) (limits : LimitNumbers)
     (all : List Section) (heard unheard more : List ℕ) (n : IsCarrier IsHead q limits (heard ++ (unheard ++ more)) all) where
   pub body_few : length n.body ≤ limits.received
-  body_few = omega (arith, body_fits n.head.framing n.body n.rest n.body_is, rest_fits n.text n.rest n.head n.final, n.few)
+  body_few = omega (arith, pieces.body_fits n.head.framing n.body n.rest n.body_is, heads.rest_fits n.text n.rest n.head n.final, n.few)
 
   pub framed : n.head.framing ≡ framings.Broken → ⊥
   framed e = subst (λ (f : Framing). BodyText f n.body n.rest) e n.body_is
@@ -96,7 +92,7 @@ module _ (stays : ReplyStays) (one_head : OneFinalHead) (fronts : BodyFronts) (b
   -- ---- a final head that was heard is this one
 
   total : FinalHead (heard ++ (unheard ++ more)) n.head (n.rest ++ n.tail)
-  total = subst (λ (l : List ℕ). FinalHead l n.head (n.rest ++ n.tail)) (sym n.whole) (final_longer stays n.tail n.text n.rest n.head n.final)
+  total = subst (λ (l : List ℕ). FinalHead l n.head (n.rest ++ n.tail)) (sym n.whole) (heads.final_stays n.text n.tail n.rest n.head n.final)
 
   same_head : (head : ReplyHead) (rest : List ℕ) → FinalHead heard head rest → (head ≡ n.head) × (rest ++ (unheard ++ more) ≡ n.rest ++ n.tail)
   same_head head rest f =
@@ -108,13 +104,13 @@ module _ (stays : ReplyStays) (one_head : OneFinalHead) (fronts : BodyFronts) (b
   pub not_open : (middle : List ℕ) → heard ≡ n.text ++ middle → (n.head.framing ≡ framings.UntilClose → ⊥) → (sections : List Section) (text : List ℕ)
       → IsOpenBefore heard sections text ⊎ IsShortBehind q limits heard sections text → ⊥
   not_open middle e open_end sections text (inl before) =
-      no_open_head heard (n.rest ++ middle) n.head before.is_open
-      (subst (λ (l : List ℕ). FinalHead l n.head (n.rest ++ middle)) (sym e) (final_longer stays middle n.text n.rest n.head n.final))
+      heads.open_not_final heard (n.rest ++ middle) n.head before.is_open
+      (subst (λ (l : List ℕ). FinalHead l n.head (n.rest ++ middle)) (sym e) (heads.final_stays n.text middle n.rest n.head n.final))
   not_open middle e open_end sections text (inr s) =
       let b = s.behind in
       let same = one_head n.text middle n.rest b.rest n.head b.head n.final (subst (λ (l : List ℕ). FinalHead l b.head b.rest) e b.final) in
       let framing : b.head.framing ≡ n.head.framing = ap (λ (h : ReplyHead). h.framing) (sym same.0) in
-      not_on bodies n.head.framing n.body n.rest b.rest b.given middle n.body_is (subst (λ (f : Framing). BodyFront f b.given b.rest) framing b.front)
+      pieces.not_on n.head.framing n.body n.rest b.rest b.given middle n.body_is (subst (λ (f : Framing). BodyFront f b.given b.rest) framing b.front)
       (λ number e. s.short number (framing ∙ e)) open_end same.1
 
   -- so it is no longer than may be received
@@ -133,7 +129,7 @@ module _ (stays : ReplyStays) (one_head : OneFinalHead) (fronts : BodyFronts) (b
       let cause = subst (λ (h : ReplyHead). HasFeedCause h.framing r.rest r.given r.looked https.BadFraming) same r.breaks in
       let whole : r.rest ++ (r.looked ++ (r.more ++ more)) ≡ r.rest ++ (unheard ++ more) =
       ap (λ (l : List ℕ). r.rest ++ l) (sym (append_assoc r.looked r.more more) ∙ ap (λ (l : List ℕ). l ++ more) (sym r.whole)) in
-      unbroken bodies n.head.framing n.body n.rest r.rest r.given r.looked (r.more ++ more) n.tail n.body_is cause (whole ∙ bytes)
+      pieces.unbroken n.head.framing n.body n.rest r.rest r.given r.looked (r.more ++ more) n.tail n.body_is cause (whole ∙ bytes)
 
   -- ---- what is open of it is behind this head
 
@@ -156,7 +152,7 @@ module _ (stays : ReplyStays) (one_head : OneFinalHead) (fronts : BodyFronts) (b
     cut_body sections text end r =
         let (same, bytes) = same_head r.head r.rest r.final in
         let inside : EndsInside n.head.framing r.given r.rest = subst (λ (h : ReplyHead). EndsInside h.framing r.given r.rest) same r.inside in
-        not_inside bodies n.head.framing n.body n.rest r.rest r.given n.tail n.body_is inside
+        pieces.not_inside n.head.framing n.body n.rest r.rest r.given n.tail n.body_is inside
         (sym (append-nil r.rest) ∙ (ap (λ (l : List ℕ). r.rest ++ l) (sym (none_left end)) ∙ bytes))
 
     cut_head : ended ≡ true → FinalHead heard n.head (n.rest ++ n.tail)
@@ -166,19 +162,19 @@ module _ (stays : ReplyStays) (one_head : OneFinalHead) (fronts : BodyFronts) (b
     pub refused_for : (sections : List Section) (text : List ℕ) (fault : FetchFault) → RefusedBy q limits heard unheard ended sections text fault
         → IsRefusedFor q limits n.head n.body sections text fault
     refused_for sections text fault (RefusedBy.bad_head is bad _ _) =
-        absurd (no_bad_head stays (unheard ++ more) heard (n.rest ++ n.tail) n.head bad total)
-    refused_for sections text fault (RefusedBy.cut_head is end _ is_open _ _) = absurd (no_open_head heard (n.rest ++ n.tail) n.head is_open (cut_head end))
+        absurd (heads.bad_not_final (heard ++ (unheard ++ more)) (n.rest ++ n.tail) n.head (heads.bad_stays heard (unheard ++ more) bad) total)
+    refused_for sections text fault (RefusedBy.cut_head is end _ is_open _ _) = absurd (heads.open_not_final heard (n.rest ++ n.tail) n.head is_open (cut_head end))
     refused_for sections text fault (RefusedBy.at_head r _ none) =
         IsRefusedFor.at_head (subst (λ (h : ReplyHead). HeadStops q h fault) (same_head r.head [] r.final).0 r.stops) none
     refused_for sections text fault (RefusedBy.in_body r) =
         let (same, bytes) = same_head r.head r.rest r.final in
         let front : BodyFront n.head.framing r.given r.rest = subst (λ (h : ReplyHead). BodyFront h.framing r.given r.rest) same r.front in
-        let (left, whole) = fronts n.head.framing r.given n.body r.rest n.rest (unheard ++ more) n.tail front n.body_is bytes n.closed in
+        let (left, whole) = pieces.fronts n.head.framing r.given n.body r.rest n.rest (unheard ++ more) n.tail front n.body_is bytes n.closed in
         IsRefusedFor.in_body r.given left whole (subst (λ (h : ReplyHead). BodyStops q limits h r.given sections text fault) same r.stops)
     refused_for sections text fault (RefusedBy.at_end r) =
         let (same, bytes) = same_head r.head r.rest r.final in
         let body_is : BodyText n.head.framing r.given r.rest = subst (λ (h : ReplyHead). BodyText h.framing r.given r.rest) same r.body_is in
-        let body = one_body bodies n.head.framing r.given n.body r.rest n.rest (unheard ++ more) n.tail body_is n.body_is bytes
+        let body = pieces.one_body n.head.framing r.given n.body r.rest n.rest (unheard ++ more) n.tail body_is n.body_is bytes
         (λ e. (none_left (r.closed (ap (λ (h : ReplyHead). h.framing) same ∙ e)), n.closed e)) in
         IsRefusedFor.at_end
         (subst (λ (b : List ℕ). BodyFails q limits n.head b sections text fault) body (subst (λ (h : ReplyHead). BodyFails q limits h r.given sections text fault) same r.fails))

@@ -17,7 +17,7 @@ use Rattle.tg_fetch.specs.declared.fault.FetchFault.TheVariants as faults
 use Rattle.tg_fetch.specs.declared.sections.Sections.{Sections}
 use Rattle.tg_heard.specs.FinalHeads.{FinalHead}
 use Rattle.tg_heard.specs.Laws.{OneFinalHead}
-use Rattle.tg_http.specs.Heads.{ReplyStays}
+use Rattle.tg_heard.specs.FrontLaws.{HeadLaws}
 use Rattle.tg_http.specs.declared.fault.HttpFault.{HttpFault}
 use Rattle.tg_http.specs.declared.fault.HttpFault.TheVariants as https
 use Rattle.tg_http.specs.declared.framing.Framing.{Framing}
@@ -29,7 +29,6 @@ use Rattle.tg_model.specs.Queries.{QueryParts}
 use Rattle.tg_verify.specs.Sound.{ForEachSound}
 use Rattle.tg_streams.specs.Joining.{put_nothing}
 use Rattle.tg_streams.specs.Streams.{Output, SinkMeaning, into}
-use Rattle.tg_fetch.proofs.Final.{final_longer}
 use Rattle.tg_fetch.proofs.Standing.{taking_is_open}
 
 -- nothing was put
@@ -113,16 +112,16 @@ module _ (q : QueryParts) (limits : LimitNumbers) (old : Content) (heard written
   closed_by reader given rest ended same reads e = absurd (reads.exact.so_far.1 (same ∙ h.framing ∙ e))
 
   -- more of it was taken
-  pub goes_on : ReplyStays → (reader : BodyReader) (sections : Sections) (given front : List ℕ) (out : Output) → reader.framing ≡ old.reader.framing
+  pub goes_on : HeadLaws → (reader : BodyReader) (sections : Sections) (given front : List ℕ) (out : Output) → reader.framing ≡ old.reader.framing
       → StandsFor reader (record { fed = h.rest ++ front; given = given; ended = false; stop = None })
       → TakesOn q limits h.head sections given written out → ContentGoesOn q limits (record { reader = reader; sections = sections }) (heard ++ front) written out
-  goes_on stays reader sections given front out same reads t = record {
+  goes_on heads reader sections given front out same reads t = record {
     text = t.text;
     put = t.put;
     in_content = record {
       head = h.head;
       rest = h.rest ++ front;
-      final = final_longer stays heard front h.rest h.head h.final;
+      final = heads.final_stays heard front h.rest h.head h.final;
       framing = same ∙ h.framing;
       framed = h.framed;
       given = given;
@@ -145,10 +144,10 @@ module _ (q : QueryParts) (limits : LimitNumbers) (old : Content) (heard written
       rw rest_is (omega (arith, was.1, open_yet))
 
   -- a part of it is refused
-  pub part_refused : ReplyStays → (reader : BodyReader) (given front more piece : List ℕ) (out : Output) (fault : FetchFault) → piece ≡ front ++ more → length (heard ++ front) ≤ limits.received
+  pub part_refused : HeadLaws → (reader : BodyReader) (given front more piece : List ℕ) (out : Output) (fault : FetchFault) → piece ≡ front ++ more → length (heard ++ front) ≤ limits.received
       → reader.framing ≡ old.reader.framing → StandsFor reader (record { fed = h.rest ++ front; given = given; ended = false; stop = None })
       → StopsTaking q limits h.head given written out fault → IsRefused q limits heard piece false written out fault
-  part_refused stays reader given front more piece out fault whole within same reads t = record {
+  part_refused heads reader given front more piece out fault whole within same reads t = record {
     front = front;
     more = more;
     whole = whole;
@@ -159,7 +158,7 @@ module _ (q : QueryParts) (limits : LimitNumbers) (old : Content) (heard written
     refused = in_body (record {
       head = h.head;
       rest = h.rest ++ front;
-      final = final_longer stays heard front h.rest h.head h.final;
+      final = heads.final_stays heard front h.rest h.head h.final;
       framed = h.framed;
       given = given;
       front = front_by reader given (h.rest ++ front) same reads;

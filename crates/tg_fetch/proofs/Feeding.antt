@@ -6,7 +6,7 @@ use Rattle.tg_body.specs.Bodies.{BodyFront}
 use Rattle.tg_client.specs.Body.{BodyStands}
 use Rattle.tg_fetch.specs.Bodies.{FrontAndSays, SaysOf}
 use Rattle.tg_fetch.specs.Clients.{FedAll, FedMore, FeedEnds, IsAt, IsOpen, IsShortAt, StepEnds}
-use Rattle.tg_fetch.specs.Heads.{HasBadHead, HeadsGo, HeadsStop, IsInHeads, IsOpenHead}
+use Rattle.tg_fetch.specs.Heads.{HeadsGo, HeadsStop, IsInHeads}
 use Rattle.tg_fetch.specs.HeadsStates.{HeadsState}
 use Rattle.tg_fetch.specs.Replies.{ContentSteps, HasAnswered, HeadStops, IsInContent, IsOpenBefore, IsRefused, IsShortBehind, MovesOn, RefusedBy, at_head, bad_head, cut_head, memory, past}
 use Rattle.tg_fetch.specs.declared.client.Client.{Client}
@@ -19,7 +19,7 @@ use Rattle.tg_fetch.specs.declared.fault.FetchFault.{FetchFault}
 use Rattle.tg_fetch.specs.declared.fault.FetchFault.TheVariants as faults
 use Rattle.tg_fetch.proofs.Standing.{taking_is_open}
 use Rattle.tg_heard.specs.Carried.{Carries}
-use Rattle.tg_heard.specs.FinalHeads.{FinalHead}
+use Rattle.tg_heard.specs.FinalHeads.{FinalHead, IsOpenHead}
 use Rattle.tg_http.specs.declared.framing.Framing.{Framing}
 use Rattle.tg_http.specs.declared.reply.ReplyHead.{ReplyHead}
 use Rattle.tg_model.specs.Answer.{answer}

@@ -1,7 +1,5 @@
 mod Accepted
 mod CarriedAnswer
-mod CarriedBodies
-mod CarriedHeads
 mod CarriedTaken
 mod Carriers
 mod OwnAbsences
@@ -10,7 +8,6 @@ mod PathCounts
 mod Receiving
 mod Taking
 mod TakingHeads
-mod Final
 mod Standing
 mod Contents
 mod HearingOn

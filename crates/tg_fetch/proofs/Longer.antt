@@ -1,14 +1,7 @@
 -- A refusal in a front of a piece is one in the piece.
-use Rattle.std.proofs.Common.{◌≡◌, ℕ, true, false, ◌+◌, List, ◌∷◌, ◌++◌, ap, subst, ◌∙◌, inl, inr, append_assoc, length-append, arith}
-use Rattle.tg_body.specs.History.{HasFeedCause}
-use Rattle.tg_fetch.specs.Heads.{HasBadHead, no_head, too_many}
+use Rattle.std.proofs.Common.{◌≡◌, ℕ, true, false, List, ◌++◌, ap, ◌∙◌, append_assoc, length-append, arith}
 use Rattle.tg_fetch.specs.Replies.{IsRefused, RefusedBy, at_end, at_head, bad_head, breaks, cut_body, cut_head, in_body, memory, past}
 use Rattle.tg_fetch.specs.declared.fault.FetchFault.{FetchFault}
-use Rattle.tg_heard.specs.FinalHeads.{BeginsReply, Interims, more, none}
-use Rattle.tg_http.specs.Heads.{ReplyStays}
-use Rattle.tg_http.specs.declared.fault.HttpFault.TheVariants as https
-use Rattle.tg_http.specs.declared.framing.Framing.{Framing}
-use Rattle.tg_http.specs.declared.reply.ReplyHead.{ReplyHead}
 use Rattle.tg_model.specs.Dag.{Section}
 use Rattle.tg_model.specs.LimitNumbers.{LimitNumbers}
 use Rattle.tg_model.specs.Queries.{QueryParts}
@@ -17,40 +10,7 @@ use Rattle.tg_streams.specs.Streams.{Output}
 false_true : false ≡ true → ⊥
 false_true e = cc
 
-module _ (stays : ReplyStays) (tail : List ℕ) where
-  begins_longer : (bytes rest : List ℕ) (head : ReplyHead) → BeginsReply bytes head rest → BeginsReply (bytes ++ tail) head (rest ++ tail)
-  begins_longer bytes rest head h = record {
-    text = h.text;
-    tree = h.tree;
-    is_reply = stays.0 bytes tail h.text h.tree h.is_reply;
-    told = h.told;
-    whole = ap (λ (l : List ℕ). l ++ tail) h.whole ∙ append_assoc h.text rest tail;
-  }
-
-  interims_longer : (n : ℕ) (bytes behind : List ℕ) → Interims n bytes behind → Interims n (bytes ++ tail) (behind ++ tail)
-  interims_longer n bytes behind (none b) = none (b ++ tail)
-  interims_longer n bytes behind (more i b r z head begins interim below) =
-      more i (b ++ tail) (r ++ tail) (z ++ tail) head (begins_longer b r head begins) interim (interims_longer i r z below)
-
-  bad_longer : (bytes : List ℕ) → HasBadHead bytes → HasBadHead (bytes ++ tail)
-  bad_longer bytes (no_head count behind fault before few cause) =
-      no_head count (behind ++ tail) fault (interims_longer count bytes behind before) few (stays.1 behind tail fault cause)
-  bad_longer bytes (too_many behind before) = too_many (behind ++ tail) (interims_longer 17 bytes behind before)
-
-  breaks_longer : (framing : Framing) (fed given unheard : List ℕ) → HasFeedCause framing fed given unheard https.BadFraming → HasFeedCause framing fed given (unheard ++ tail) https.BadFraming
-  breaks_longer framing fed given unheard (inl broken) = inl broken
-  breaks_longer framing fed given unheard (inr (chunked, s)) = inr (
-    chunked,
-    record {
-      front = s.front;
-      last = s.last;
-      more = s.more ++ tail;
-      whole = ap (λ (l : List ℕ). l ++ tail) s.whole ∙ append_assoc s.front (s.last ∷ s.more) tail;
-      went_on = s.went_on;
-      breaks = s.breaks;
-    },
-  )
-
+module _ (tail : List ℕ) where
   module _ (q : QueryParts) (limits : LimitNumbers) (heard unheard : List ℕ) (sections : List Section) (text : List ℕ) (fault : FetchFault) where
     refused_longer : RefusedBy q limits heard unheard false sections text fault → RefusedBy q limits heard (unheard ++ tail) false sections text fault
     refused_longer (bad_head f h s t) = bad_head f h s t
@@ -77,9 +37,9 @@ module _ (stays : ReplyStays) (tail : List ℕ) where
     refused_longer (memory f o) = memory f o
 
 -- so is one that says where in it
-pub refused_front : ReplyStays → (q : QueryParts) (limits : LimitNumbers) (heard front tail piece written : List ℕ) (out : Output) (fault : FetchFault) → piece ≡ front ++ tail
+pub refused_front : (q : QueryParts) (limits : LimitNumbers) (heard front tail piece written : List ℕ) (out : Output) (fault : FetchFault) → piece ≡ front ++ tail
     → IsRefused q limits heard front false written out fault → IsRefused q limits heard piece false written out fault
-refused_front stays q limits heard front tail piece written out fault e r = record {
+refused_front q limits heard front tail piece written out fault e r = record {
   front = r.front;
   more = r.more ++ tail;
   whole = e ∙ (ap (λ (l : List ℕ). l ++ tail) r.whole ∙ append_assoc r.front r.more tail);
@@ -87,6 +47,6 @@ refused_front stays q limits heard front tail piece written out fault e r = reco
   put = r.put;
   sections = r.sections;
   within = r.within;
-  refused = refused_longer stays tail q limits (heard ++ r.front) r.more r.sections (written ++ r.text) fault r.refused;
+  refused = refused_longer tail q limits (heard ++ r.front) r.more r.sections (written ++ r.text) fault r.refused;
   sound = r.sound;
 }

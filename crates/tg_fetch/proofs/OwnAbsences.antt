@@ -1,8 +1,7 @@
 -- What a gateway's session sends for a client's request whose path leads nowhere is refused by it for that segment alone.
-use Rattle.std.proofs.Common.{◌≡◌, ℕ, ◌+◌, ◌≤◌, All, Bool, false, Err, Ok, Result, None, List, [], ◌∷◌, ◌++◌, length, map, max, refl, sym, ap, subst, subst₂, ◌∙◌, inl, inr, append-nil, append_assoc, arith}
+use Rattle.std.proofs.Common.{◌≡◌, ℕ, ◌+◌, ◌≤◌, All, Bool, false, Err, Ok, Result, List, [], ◌∷◌, ◌++◌, length, map, max, refl, sym, ap, subst, subst₂, ◌∙◌, inl, inr, append-nil, append_assoc, arith}
 use Rattle.std.specs.Prelude.{◌⊎◌, ◌≢◌}
 use Rattle.std.proofs.lemmas.List.Elements.{All-cons, All-nil}
-use Rattle.tg_body.specs.Laws.{BodyLaws}
 use Rattle.tg_client.specs.Body.{BodyStands}
 use Rattle.tg_client.specs.BodyLaws.{BodyLaws as CarLaws, IsFrontOfCar, IsMissOrOwnEnd}
 use Rattle.tg_client.specs.Received.{HasReceived, IsCarOf}
@@ -25,9 +24,8 @@ use Rattle.tg_fetch.specs.declared.client.Client.{Client}
 use Rattle.tg_fetch.specs.declared.fault.FetchFault.{FetchFault}
 use Rattle.tg_fetch.specs.declared.fault.FetchFault.TheVariants as faults
 use Rattle.tg_heard.specs.Carried.{BodyCarries, Carries, CarriesAbsence, IsAbsenceHead, IsAnswerHead}
-use Rattle.tg_heard.specs.GotLaws.{BodyFronts}
+use Rattle.tg_heard.specs.FrontLaws.{BodyPieceLaws, HeadLaws}
 use Rattle.tg_heard.specs.Laws.{CarriedBy, NotBoth, OneFinalHead}
-use Rattle.tg_http.specs.Heads.{ReplyStays}
 use Rattle.tg_http.specs.declared.framing.Framing.TheVariants as framings
 use Rattle.tg_http.specs.declared.reply.ReplyHead.{ReplyHead}
 use Rattle.tg_model.specs.Answer.{answer}
@@ -107,7 +105,7 @@ none_left q sections w cid more e = absurd (cc e)
 
 -- ---- a reply that shows that a segment of the path leads nowhere
 
-module _ (stays : ReplyStays) (one_head : OneFinalHead) (fronts : BodyFronts) (bodies : BodyLaws) (cars : CarLaws) (received : ReceivedLaws) (verified : VerifiedLaws)
+module _ (heads : HeadLaws) (one_head : OneFinalHead) (pieces : BodyPieceLaws) (cars : CarLaws) (received : ReceivedLaws) (verified : VerifiedLaws)
     (q : QueryParts) (limits : LimitNumbers) (s : Dag) (miss : Miss) (right : IsOpenedFor s (path_query q)) (end : (traversal (path_query q) s).end ≡ stopped (stop_of miss))
     (within : IsWithinLimits (path_query q) (path_limits limits) s) where
   -- the sections that the DAG opens
@@ -125,7 +123,7 @@ module _ (stays : ReplyStays) (one_head : OneFinalHead) (fronts : BodyFronts) (b
         → IsFrontOfCar (path_limits limits) n.body all h u sections
     of_car given left h u sections whole parts got = record {
       is_car = is_car;
-      few = body_few stays one_head fronts bodies (IsAbsenceHead q) q limits all heard unheard more n;
+      few = body_few heads one_head pieces (IsAbsenceHead q) q limits all heard unheard more n;
       more = left;
       whole = whole ∙ (ap (λ (l : List ℕ). l ++ left) parts ∙ append_assoc h u left);
       received = got;
@@ -185,18 +183,18 @@ module _ (stays : ReplyStays) (one_head : OneFinalHead) (fronts : BodyFronts) (b
     open_none given sections text (IsOpenBody.block b) = b.no_text
 
     pub missed : (sections : List Section) (text : List ℕ) (fault : FetchFault) → RefusedBy q limits heard unheard false sections text fault → IsMissed text fault
-    missed sections text fault r = by (refused_for stays one_head fronts bodies (IsAbsenceHead q) q limits all heard unheard more n false no_end sections text fault r)
+    missed sections text fault r = by (refused_for heads one_head pieces (IsAbsenceHead q) q limits all heard unheard more n false no_end sections text fault r)
       where
         by : IsRefusedFor q limits n.head n.body sections text fault → IsMissed text fault
         by (IsRefusedFor.at_head h none) =
-            (absence_head miss q n.head fault n.is_head (framed stays one_head fronts bodies (IsAbsenceHead q) q limits all heard unheard more n) h, none)
+            (absence_head miss q n.head fault n.is_head (framed heads one_head pieces (IsAbsenceHead q) q limits all heard unheard more n) h, none)
         by (IsRefusedFor.in_body given left whole b) = stops given left sections text fault whole b
         by (IsRefusedFor.at_end b) = fails sections text fault b
         by (IsRefusedFor.before_body is none) = (subst (IsMissOrMemory miss) (sym is) tt, none)
         by (IsRefusedFor.amid_body is given b) = (subst (IsMissOrMemory miss) (sym is) tt, open_none given sections text b)
 
     pub open_unwritten : (sections : List Section) (text : List ℕ) → IsOpenReply q limits heard sections text → text ≡ []
-    open_unwritten sections text o = by (open_text stays one_head fronts bodies (IsAbsenceHead q) q limits all heard unheard more n sections text o)
+    open_unwritten sections text o = by (open_text heads one_head pieces (IsAbsenceHead q) q limits all heard unheard more n sections text o)
       where
         by : (text ≡ []) ⊎ ((given : List ℕ) × IsOpenBody q limits n.head given sections text) → text ≡ []
         by (inl none) = none
@@ -291,7 +289,7 @@ own_absence sends nowhere opened store q d limits addr next rest sent held withi
 
 -- ---- it is fed to the client
 
-module _ (stays : ReplyStays) (one_head : OneFinalHead) (not_both : NotBoth) (fronts : BodyFronts) (bodies : BodyLaws) (standing : BodyStands) (cars : CarLaws) (received : ReceivedLaws)
+module _ (heads : HeadLaws) (one_head : OneFinalHead) (not_both : NotBoth) (pieces : BodyPieceLaws) (standing : BodyStands) (cars : CarLaws) (received : ReceivedLaws)
     (verified : VerifiedLaws) (q : QueryParts) (limits : LimitNumbers) (miss : Miss) (bytes : List ℕ) (own : IsOwnAbsence q limits miss bytes) where
   abbrev sections_sent : List Section
   sections_sent = block_list (path_query q) own.s
@@ -316,9 +314,9 @@ module _ (stays : ReplyStays) (one_head : OneFinalHead) (not_both : NotBoth) (fr
       subst₂ (λ (p : QueryParts) (l : LimitNumbers). IsShortAt p l client.stage (heard ++ piece)) query limits_are (fed.short refl) in
       let o = at_open standing q limits client.stage (heard ++ piece) (written ++ text) at short in
       let n = carried_by ((heard ++ piece) ++ ([] ++ more)) (same ∙ sym (append_assoc heard piece more)) in
-      let none = open_unwritten stays one_head fronts bodies cars received verified q limits own.s miss own.right own.end own.within (heard ++ piece) [] more n o.sections (written ++ text)
+      let none = open_unwritten heads one_head pieces cars received verified q limits own.s miss own.right own.end own.within (heard ++ piece) [] more n o.sections (written ++ text)
       (any_open q limits (heard ++ piece) o.sections (written ++ text) o.is_open) in (
-        λ last. closed_there stays one_head fronts bodies standing (IsAbsenceHead q) q limits sections_sent bytes client.stage (heard ++ piece) (written ++ text) own.few own.carries
+        λ last. closed_there heads one_head pieces standing (IsAbsenceHead q) q limits sections_sent bytes client.stage (heard ++ piece) (written ++ text) own.few own.carries
             (none_behind bytes heard piece more same last) at short,
         writes_nothing written text out fed.ends.put none,
       )
@@ -335,6 +333,6 @@ module _ (stays : ReplyStays) (one_head : OneFinalHead) (not_both : NotBoth) (fr
       let is : RefusedBy q limits (heard ++ r.front) r.more false r.sections (written ++ r.text) fault =
       subst₂ (λ (p : QueryParts) (l : LimitNumbers). RefusedBy p l (heard ++ r.front) r.more false r.sections (written ++ r.text) fault) query limits_are r.refused in
       let n = carried_by ((heard ++ r.front) ++ (r.more ++ more)) (behind_front bytes heard piece more r.front r.more same r.whole) in
-      let (fault_is, none) = missed stays one_head fronts bodies cars received verified q limits own.s miss own.right own.end own.within (heard ++ r.front) r.more more n r.sections (written ++ r.text)
+      let (fault_is, none) = missed heads one_head pieces cars received verified q limits own.s miss own.right own.end own.within (heard ++ r.front) r.more more n r.sections (written ++ r.text)
       fault is in
       (fault_is, writes_nothing written r.text out r.put none)

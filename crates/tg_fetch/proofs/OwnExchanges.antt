@@ -2,7 +2,6 @@
 use Rattle.std.proofs.Common.{◌≡◌, ℕ, ◌≤◌, Bool, true, false, Contains, Err, Ok, Result, Some, List, [], ◌∷◌, ◌++◌, length, refl, sym, ap, subst, subst₂, ◌∙◌, inl, inr, append-nil, append_assoc, arith}
 use Rattle.std.specs.Prelude.{◌⊎◌}
 use Rattle.std.proofs.lemmas.List.Elements.{All-contains, Contains-append_left, Contains-append_right, Contains-push}
-use Rattle.tg_body.specs.Laws.{BodyLaws}
 use Rattle.tg_client.specs.Body.{BodyStands}
 use Rattle.tg_exchange.specs.Exchanges.{HasOneBlockEach as HasOneBlock, IsHeld, IsWithin, is_answer}
 use Rattle.tg_exchange.specs.Sessions.{SentCarries}
@@ -18,9 +17,8 @@ use Rattle.tg_fetch.specs.declared.client.Stage.{Stage}
 use Rattle.tg_fetch.specs.declared.fault.FetchFault.{FetchFault}
 use Rattle.tg_fetch.specs.declared.fault.FetchFault.TheVariants as faults
 use Rattle.tg_heard.specs.Carried.{Carries, CarriesBehind, IsAnswerHead}
-use Rattle.tg_heard.specs.GotLaws.{BodyFronts}
+use Rattle.tg_heard.specs.FrontLaws.{BodyPieceLaws, HeadLaws}
 use Rattle.tg_heard.specs.Laws.{CarriedBy, OneFinalHead}
-use Rattle.tg_http.specs.Heads.{ReplyStays}
 use Rattle.tg_http.specs.declared.framing.Framing.{Framing}
 use Rattle.tg_http.specs.declared.framing.Framing.TheVariants as framings
 use Rattle.tg_http.specs.declared.reply.ReplyHead.{ReplyHead}
@@ -165,14 +163,14 @@ pub none_behind : (bytes heard piece more : List ℕ) → bytes ≡ heard ++ (pi
 none_behind bytes heard piece more same none =
     same ∙ (ap (λ (l : List ℕ). heard ++ (piece ++ l)) none ∙ sym (append_assoc heard piece []))
 
-module _ (stays : ReplyStays) (one_head : OneFinalHead) (fronts : BodyFronts) (bodies : BodyLaws) (standing : BodyStands) where
+module _ (heads : HeadLaws) (one_head : OneFinalHead) (pieces : BodyPieceLaws) (standing : BodyStands) where
   -- where all of a reply came that carries sections the client doesn't stand open
   pub closed_there : (IsHead : ReplyHead → Type 0) (q : QueryParts) (limits : LimitNumbers) (all : List Section) (bytes : List ℕ) (stage : Stage) (heard written : List ℕ) → length bytes ≤ limits.received
       → CarriesBehind IsHead bytes false q all → bytes ≡ heard ++ ([] ++ []) → IsAt q limits stage heard written → IsShortAt q limits stage heard → ⊥
   closed_there IsHead q limits all bytes stage heard written few c same at short =
       let n = carrier_behind IsHead q limits (heard ++ ([] ++ [])) all bytes [] false (sym (same) ∙ sym (append-nil bytes)) few no_end c in
       let o = at_open standing q limits stage heard written at short in
-      not_open stays one_head fronts bodies IsHead q limits all heard [] [] n n.tail (sym (append-nil heard) ∙ n.whole) (no_close c.head.framing c.more c.closed) o.sections written o.is_open
+      not_open heads one_head pieces IsHead q limits all heard [] [] n n.tail (sym (append-nil heard) ∙ n.whole) (no_close c.head.framing c.more c.closed) o.sections written o.is_open
 
   module _ (taken : CarriedIsTaken) (answered : CarriedIsAnswer) (q : QueryParts) (limits : LimitNumbers) (d : Dag) (bytes text : List ℕ) (own : IsOwnAnswer q limits d bytes text) where
     -- bytes that carry the sections, whether or not the link ended

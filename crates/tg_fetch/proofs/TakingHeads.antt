@@ -6,11 +6,12 @@ use Rattle.std.proofs.lemmas.Bool.{cases_lt}
 use Rattle.std.proofs.lemmas.List.{length-append, length-take-le, take-append-drop, take-append-le, take-take, take_at}
 use Rattle.std.proofs.Math.Seq.{take-append-add}
 use Rattle.tg_fetch.specs.Faults.{fault_of_http}
-use Rattle.tg_fetch.specs.Heads.{HasBadHead, HeadsStop, IsInHeads, no_head, too_many}
+use Rattle.tg_fetch.specs.Heads.{HeadsStop, IsInHeads}
 use Rattle.tg_fetch.specs.HeadsStates.{HeadsState}
-use Rattle.tg_heard.specs.FinalHeads.{BeginsReply, FinalHead, Interims, IsInterim, more, none}
+use Rattle.tg_heard.specs.FinalHeads.{BeginsReply, FinalHead, HasBadHead, Interims, IsInterim, more, no_head, none, too_many}
+use Rattle.tg_heard.specs.FrontLaws.{HeadLaws}
 use Rattle.tg_http.specs.HeadText.{BeginsHead}
-use Rattle.tg_http.specs.Heads.{FindsReply, HasHeadCause, IsNoReply, IsWaiting, ReplyStays}
+use Rattle.tg_http.specs.Heads.{FindsReply, HasHeadCause, IsNoReply, IsWaiting}
 use Rattle.tg_http.specs.declared.fault.HttpFault.{HttpFault}
 use Rattle.tg_http.specs.declared.fault.HttpFault.TheVariants as faults
 use Rattle.tg_http.specs.declared.reply.ReplyHead.{ReplyHead}
@@ -35,23 +36,6 @@ one_more : (n : ℕ) (bytes behind rest : List ℕ) (head : ReplyHead) → Inter
 one_more n bytes behind rest head (none b) begins interim = more zero b rest rest head begins interim (none rest)
 one_more n bytes behind rest head (more i b r z first starts inside below) begins interim =
     more (suc i) b r rest first starts inside (one_more i r z rest head below begins interim)
-
-module _ (stays : ReplyStays) (tail : List ℕ) where
-  -- with more behind a head
-  begins_longer : (bytes rest : List ℕ) (head : ReplyHead) → BeginsReply bytes head rest → BeginsReply (bytes ++ tail) head (rest ++ tail)
-  begins_longer bytes rest head h = record {
-    text = h.text;
-    tree = h.tree;
-    is_reply = stays.0 bytes tail h.text h.tree h.is_reply;
-    told = h.told;
-    whole = ap (λ (l : List ℕ). l ++ tail) h.whole ∙ append_assoc h.text rest tail;
-  }
-
-  -- with more behind them
-  interims_longer : (n : ℕ) (bytes behind : List ℕ) → Interims n bytes behind → Interims n (bytes ++ tail) (behind ++ tail)
-  interims_longer n bytes behind (none b) = none (b ++ tail)
-  interims_longer n bytes behind (more i b r z head begins interim below) =
-      more i (b ++ tail) (r ++ tail) (z ++ tail) head (begins_longer b r head begins) interim (interims_longer i r z below)
 
 -- ---- the head that a piece makes whole
 
@@ -138,11 +122,12 @@ pub came_as : (interims : ℕ) (came bytes heard : List ℕ) → came ≡ bytes 
     → IsInHeads (record { interims = interims; came = came }) heard
 came_as interims came bytes heard e h = subst (λ (l : List ℕ). IsInHeads (record { interims = interims; came = l }) heard) (sym e) h
 
-module _ (stays : ReplyStays) (heads : HeadsState) (heard piece : List ℕ) (room : ℕ) (old : IsInHeads heads heard) where
+module _ (laws : HeadLaws) (heads : HeadsState) (heard piece : List ℕ) (room : ℕ) (old : IsInHeads heads heard) where
   no_reply_there : (fault : HttpFault) → HasHeadCause IsNoReply (heads.came ++ take room piece) fault → HasBadHead (heard ++ piece)
   no_reply_there fault cause =
-      no_head heads.interims (heads.came ++ piece) fault (interims_longer stays piece heads.interims heard heads.came old.interims) old.few
-      (subst (λ (l : List ℕ). HasHeadCause IsNoReply l fault) (parts room heads.came piece) (stays.1 (heads.came ++ take room piece) (drop room piece) fault cause))
+      subst HasBadHead (parts room heard piece)
+      (laws.bad_stays (heard ++ take room piece) (drop room piece)
+      (no_head heads.interims (heads.came ++ take room piece) fault (laws.interims_stay heads.interims heard heads.came (take room piece) old.interims) old.few cause))
 
   -- no head of a reply is there
   pub no_reply : (fault : HttpFault) → (fault ≡ faults.OutOfMemory) ⊎ HasHeadCause IsNoReply (heads.came ++ take room piece) fault → HeadsStop (heard ++ piece) (fault_of_http fault)
@@ -156,7 +141,7 @@ module _ (stays : ReplyStays) (heads : HeadsState) (heard piece : List ℕ) (roo
 
   pub still_waits : IsWaiting (heads.came ++ take room piece) → IsInHeads (record { interims = heads.interims; came = heads.came ++ take room piece }) (heard ++ take room piece)
   still_waits waiting = record {
-    interims = interims_longer stays (take room piece) heads.interims heard heads.came old.interims;
+    interims = laws.interims_stay heads.interims heard heads.came (take room piece) old.interims;
     few = old.few;
     waiting = waiting;
   }
@@ -174,7 +159,7 @@ module _ (stays : ReplyStays) (heads : HeadsState) (heard piece : List ℕ) (roo
     ends_final final = record {
       count = heads.interims;
       behind = heads.came ++ take size piece;
-      interims = interims_longer stays (take size piece) heads.interims heard heads.came old.interims;
+      interims = laws.interims_stay heads.interims heard heads.came (take size piece) old.interims;
       few = old.few;
       begins = begins_there;
       final = final;
@@ -183,7 +168,7 @@ module _ (stays : ReplyStays) (heads : HeadsState) (heard piece : List ℕ) (roo
     another : IsInterim head → Interims (suc heads.interims) (heard ++ take size piece) []
     another interim =
         one_more heads.interims (heard ++ take size piece) (heads.came ++ take size piece) [] head
-        (interims_longer stays (take size piece) heads.interims heard heads.came old.interims)
+        (laws.interims_stay heads.interims heard heads.came (take size piece) old.interims)
         begins_there interim
 
     -- the seventeenth
@@ -191,7 +176,7 @@ module _ (stays : ReplyStays) (heads : HeadsState) (heard piece : List ℕ) (roo
     one_too_many interim many =
         too_many (drop size piece) (subst (λ (n : ℕ). Interims n (heard ++ piece) (drop size piece)) (omega (arith, many, old.few))
         (subst (λ (l : List ℕ). Interims (suc heads.interims) l (drop size piece)) (parts size heard piece)
-        (interims_longer stays (drop size piece) (suc heads.interims) (heard ++ take size piece) [] (another interim))))
+        (laws.interims_stay (suc heads.interims) (heard ++ take size piece) [] (drop size piece) (another interim))))
 
     pub goes_on : IsInterim head → heads.interims < 16 → IsInHeads (record { interims = heads.interims + 1; came = [] }) (heard ++ take size piece)
     goes_on interim few = record {

@@ -3,9 +3,8 @@ use Rattle.std.specs.Prelude.{List, None, Option, Some, [], ⊤, ℕ, ◌≤◌}
 use Rattle.tg_fetch.specs.HeadsStates.{HeadsState}
 use Rattle.tg_fetch.specs.declared.fault.FetchFault.{FetchFault}
 use Rattle.tg_fetch.specs.declared.fault.FetchFault.TheVariants as faults
-use Rattle.tg_heard.specs.FinalHeads.{FinalHead, Interims}
-use Rattle.tg_http.specs.Heads.{HasHeadCause, IsNoReply, IsWaiting}
-use Rattle.tg_http.specs.declared.fault.HttpFault.{HttpFault}
+use Rattle.tg_heard.specs.FinalHeads.{FinalHead, HasBadHead, Interims}
+use Rattle.tg_http.specs.Heads.{IsWaiting}
 use Rattle.tg_http.specs.declared.reply.ReplyHead.{ReplyHead}
 
 -- so many interim heads came, and behind them these bytes, in which no head is whole
@@ -13,20 +12,6 @@ pub record IsInHeads (heads : HeadsState) (heard : List ℕ) : Type 0 where
   pub interims : Interims heads.interims heard heads.came
   pub few : heads.interims ≤ 16
   pub waiting : IsWaiting heads.came
-
--- no reply begins with these bytes: at the place of a head they hold none, or a seventeenth interim head came
-pub data HasBadHead (bytes : List ℕ) : Type 0 where
-  no_head : (count : ℕ) (behind : List ℕ) (fault : HttpFault) → Interims count bytes behind → count ≤ 16
-      → HasHeadCause IsNoReply behind fault → HasBadHead bytes
-  too_many : (behind : List ℕ) → Interims 17 bytes behind → HasBadHead bytes
-
--- the final head isn't whole in these bytes
-pub record IsOpenHead (bytes : List ℕ) : Type 0 where
-  pub count : ℕ
-  pub behind : List ℕ
-  pub interims : Interims count bytes behind
-  pub few : count ≤ 16
-  pub waiting : IsWaiting behind
 
 -- behind these bytes it goes on, or the final head is whole
 abbrev pub HeadsGo : HeadsState → List ℕ → Option ReplyHead → Type 0

@@ -4,14 +4,13 @@ use Rattle.tg_body.specs.Bodies.{BodyFront, BodyText}
 use Rattle.tg_body.specs.History.{EndsInside, HasFeedCause}
 use Rattle.tg_body.specs.State.{StandsFor}
 use Rattle.tg_fetch.specs.Bodies.{BodyFails, BodyStops, FrontAndSays, IsOpenBody, IsTaking}
-use Rattle.tg_fetch.specs.Heads.{HasBadHead, IsOpenHead}
 use Rattle.tg_fetch.specs.declared.content.Content.{Content}
 use Rattle.tg_fetch.specs.declared.content.Move.{Move}
 use Rattle.tg_fetch.specs.declared.content.Move.TheVariants as moves
 use Rattle.tg_fetch.specs.declared.fault.FetchFault.{FetchFault}
 use Rattle.tg_fetch.specs.declared.fault.FetchFault.TheVariants as faults
 use Rattle.tg_heard.specs.Carried.{Carries, HasAskedType, IsAbsenceHead}
-use Rattle.tg_heard.specs.FinalHeads.{FinalHead}
+use Rattle.tg_heard.specs.FinalHeads.{FinalHead, HasBadHead, IsOpenHead}
 use Rattle.tg_http.specs.declared.fault.HttpFault.TheVariants as https
 use Rattle.tg_http.specs.declared.framing.Framing.TheVariants as framings
 use Rattle.tg_http.specs.declared.reply.ReplyHead.{ReplyHead}

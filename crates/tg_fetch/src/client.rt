@@ -169,7 +169,6 @@ impl Client {
         ensures done { self.old.stage ≡ Stage.Done
             → (result ≡ Ok Progress.Done) × (self.new ≡ self.old) × (out.new ≡ out.old) }
     {
-        tg_http::laws::longer_bytes();
         tg_client::laws::standing_bodies();
         let most = self.limits.number(LimitKind::Received);
         let may = most - self.heard.min(most);

@@ -102,7 +102,7 @@ impl Content {
         ensures cause { (q : QueryParts) (limits : LimitNumbers) (heard written : Items ℕ)
             → IsInContent q limits self.old heard written → QuietUnlessSink (into S.sink out.old out.new) result }
     {
-        tg_http::laws::longer_bytes();
+        tg_heard::heads_go_on();
         tg_client::laws::standing_bodies();
         tg_heard::heard_is_one();
         let (taken, told) = self.reader.feed(bytes)?;

@@ -62,7 +62,7 @@ impl Heads {
             (λ fault. HeadsStop (heard ++ piece.now) fault) }
     {
         tg_http::laws::sought_heads();
-        tg_http::laws::longer_bytes();
+        tg_heard::heads_go_on();
         let before = self.came.as_slice().len();
         let room = MAX_TEXT.saturating_sub(before).min(piece.len());
         self.came.push_all(&piece[..room])?;

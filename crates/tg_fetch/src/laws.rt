@@ -14,9 +14,8 @@ pub fn carried_replies()
     ensures answer { CarriedIsAnswer }
 {
     tg_heard::heard_is_one();
+    tg_heard::heads_go_on();
     tg_heard::bodies_go_on();
-    tg_http::laws::longer_bytes();
-    tg_body::laws::body_laws();
     tg_client::laws::bodies();
     tg_model_laws::one_fit();
     tg_verify::laws::verified_answers();
@@ -36,9 +35,8 @@ pub fn own_exchanges<S: Sink>()
     carried_replies();
     tg_exchange::own_sessions();
     tg_heard::heard_is_one();
+    tg_heard::heads_go_on();
     tg_heard::bodies_go_on();
-    tg_http::laws::longer_bytes();
-    tg_body::laws::body_laws();
     tg_client::laws::bodies();
     tg_client::laws::standing_bodies();
     tg_client::laws::received_sections();

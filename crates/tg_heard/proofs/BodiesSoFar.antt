@@ -14,11 +14,11 @@ use Rattle.tg_heard.proofs.Single.{one_body}
 
 module _ (laws : BodyLaws) where
   -- a reader that took the bytes and was not ended
-  abbrev taken : List ℕ → List ℕ → History
+  abbrev pub taken : List ℕ → List ℕ → History
   taken bytes body = record { fed = bytes; given = body; ended = false; stop = None }
 
   -- with the same bytes a body goes on as one front, since readers of the same bytes gave the same
-  one_front : (framing : Framing) (body other bytes : List ℕ) → BodyFront framing body bytes → BodyFront framing other bytes → body ≡ other
+  pub one_front : (framing : Framing) (body other bytes : List ℕ) → BodyFront framing body bytes → BodyFront framing other bytes → body ≡ other
   one_front framing body other bytes f g =
       laws.one_division framing (taken bytes body) (taken bytes other) (record { so_far = f; stopped = tt }) (record { so_far = g; stopped = tt }) refl
 
@@ -88,7 +88,7 @@ module _ (laws : BodyLaws) where
   front_whole ended framings.Broken rest tail body other f w = absurd w.body_is
 
   -- a front came, and then a longer one
-  front_front : (framing : Framing) (rest tail body other : List ℕ) → BodyFront framing body rest → BodyFront framing other (rest ++ tail) → Grows body other
+  pub front_front : (framing : Framing) (rest tail body other : List ℕ) → BodyFront framing body rest → BodyFront framing other (rest ++ tail) → Grows body other
   front_front (framings.Length n) rest tail body other f g = (tail, g.0 ∙ ap (λ (b : List ℕ). b ++ tail) (sym f.0))
   front_front framings.Chunked rest tail body other f g = from_cut body other rest f (cut_front other rest tail g)
   front_front framings.UntilClose rest tail body other f g = (tail, g ∙ ap (λ (b : List ℕ). b ++ tail) (sym f))

@@ -31,7 +31,7 @@ one_told used status fields head other t u =
     (one_framing fields head.framing other.framing t.framing_is u.framing_is)
 
 -- bytes begin with one head of a reply, and one rest follows it
-one_reply : (bytes rest left : List ℕ) (head other : ReplyHead) → BeginsReply bytes head rest → BeginsReply bytes other left → (head ≡ other) × (rest ≡ left)
+pub one_reply : (bytes rest left : List ℕ) (head other : ReplyHead) → BeginsReply bytes head rest → BeginsReply bytes other left → (head ≡ other) × (rest ≡ left)
 one_reply bytes rest left head other h k =
     let text = (one_beginning bytes h.text k.text h.is_reply.count k.is_reply.count h.is_reply.begins k.is_reply.begins).0 in
     let tree = (response_unique k.text h.tree k.tree [] [] (subst (λ (l : List ℕ). ReadsResponse l h.tree []) text h.is_reply.reads) k.is_reply.reads).0 in
@@ -42,7 +42,7 @@ one_reply bytes rest left head other h k =
     )
 
 -- the same head is interim or not
-interim_same : (head other : ReplyHead) → head ≡ other → IsInterim head → IsInterim other
+pub interim_same : (head other : ReplyHead) → head ≡ other → IsInterim head → IsInterim other
 interim_same head other e i = subst IsInterim e i
 
 -- behind interim heads that follow one another stands one final head
@@ -71,7 +71,7 @@ module _ (stays : ReplyStays) (tail : List ℕ) where
   }
 
   -- so do interim heads
-  interims_longer : (n : ℕ) (bytes behind : List ℕ) → Interims n bytes behind → Interims n (bytes ++ tail) (behind ++ tail)
+  pub interims_longer : (n : ℕ) (bytes behind : List ℕ) → Interims n bytes behind → Interims n (bytes ++ tail) (behind ++ tail)
   interims_longer n bytes behind (none b) = none (b ++ tail)
   interims_longer n bytes behind (more i b r z head begins interim below) =
       more i (b ++ tail) (r ++ tail) (z ++ tail) head (begins_longer b r head begins) interim (interims_longer i r z below)

@@ -1,5 +1,6 @@
 mod Framings
 mod Heads
+mod HeadsFinal
 mod Carrying
 mod Cutting
 mod Refusing
@@ -7,5 +8,6 @@ mod Asked
 mod Single
 mod ChunkFronts
 mod BodiesSoFar
+mod BodyPieces
 mod Receiving
 mod Worked

@@ -2,7 +2,8 @@
 -- 2.1).
 use Rattle.httparse.specs.Grammar.{ResponseHead as ReplyTree}
 use Rattle.std.specs.Prelude.{List, length, suc, zero, ℕ, ◌++◌, ◌<◌, ◌≡◌, ◌≤◌}
-use Rattle.tg_http.specs.Heads.{IsReply, TellsReply}
+use Rattle.tg_http.specs.Heads.{HasHeadCause, IsNoReply, IsReply, IsWaiting, TellsReply}
+use Rattle.tg_http.specs.declared.fault.HttpFault.{HttpFault}
 use Rattle.tg_http.specs.declared.reply.ReplyHead.{ReplyHead}
 
 -- the bytes begin with the head of a reply, and this follows it
@@ -30,3 +31,17 @@ pub record FinalHead (bytes : List ℕ) (head : ReplyHead) (rest : List ℕ) : T
   pub few : count ≤ 16
   pub begins : BeginsReply behind head rest
   pub final : IsInterim head → ⊥
+
+-- no reply begins with these bytes: at the place of a head they hold none, or a seventeenth interim head came
+pub data HasBadHead (bytes : List ℕ) : Type 0 where
+  no_head : (count : ℕ) (behind : List ℕ) (fault : HttpFault) → Interims count bytes behind → count ≤ 16
+      → HasHeadCause IsNoReply behind fault → HasBadHead bytes
+  too_many : (behind : List ℕ) → Interims 17 bytes behind → HasBadHead bytes
+
+-- the final head isn't whole in these bytes
+pub record IsOpenHead (bytes : List ℕ) : Type 0 where
+  pub count : ℕ
+  pub behind : List ℕ
+  pub interims : Interims count bytes behind
+  pub few : count ≤ 16
+  pub waiting : IsWaiting behind

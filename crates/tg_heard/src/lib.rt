@@ -4,7 +4,8 @@
 
 mod examples;
 
-ghost use Rattle.tg_heard.specs.GotLaws.{BodyFronts, CarriedIsGot, GotFronts, OneGot};
+ghost use Rattle.tg_heard.specs.FrontLaws.{BodyPieceLaws, HeadLaws};
+ghost use Rattle.tg_heard.specs.GotLaws.{CarriedIsGot, GotFronts, OneGot};
 ghost use Rattle.tg_heard.specs.Laws.{AskedAbsencesCarry, AskedAnswersCarry, CarsCarry, CutsCarryNothing, NotBoth};
 ghost use Rattle.tg_heard.specs.Laws.{OneCarried, OneCarriedBy, OneFinalHead, RawsCarry, RefusalsCarryNothing};
 
@@ -68,11 +69,21 @@ pub fn received_so_far()
     tg_client::laws::received_sections();
 }
 
-/// What came of a body is a front of the whole one.
+/// The heads of a reply, of which more may come: a final head, and that no reply begins with the bytes, stay with more of
+/// them, and of the three, with that the final head isn't whole, no two hold of the same bytes.
+///
+/// RFC 9110, section 15; RFC 9112, section 2.
+pub fn heads_go_on()
+    ensures { HeadLaws }
+{
+    tg_http::laws::longer_bytes();
+}
+
+/// What came of a body is one, grows with the bytes, and is a front of the whole one, behind which no body goes on.
 ///
 /// RFC 9112, sections 6 and 7.
 pub fn bodies_go_on()
-    ensures { BodyFronts }
+    ensures { BodyPieceLaws }
 {
     tg_body::laws::body_laws();
     tg_http::laws::line_laws();

@@ -8,12 +8,11 @@ returns c =
     let cut = c.cars_answered_once.ensures in
     let sections = c.sections_answered_once.ensures in
     let received = c.received_sections.ensures in
-    let laws = c.car_laws.ensures in
     record {
       stops = stops_once cut;
-      stops_open = stops_is_not_open cut laws received sections;
-      stops_fails = stops_as_it_fails cut laws received sections;
-      fails = fails_once cut laws received sections;
+      stops_open = stops_is_not_open cut received sections;
+      stops_fails = stops_as_it_fails cut received sections;
+      fails = fails_once cut received sections;
       stops_answer = stops_is_no_answer cut received sections;
       fails_answer = fails_is_no_answer cut received sections;
       is_open = open_once cut;

@@ -11,9 +11,9 @@ returns c =
       refused = car_refused_once laws cars received;
       refused_held = car_refused_not_held laws cars received;
       refused_through = λ q limits bytes heard more a b x y f due r e few got is_car through. car_refused_is_surplus laws cars received q limits bytes heard more a b x y f due r e few got
-          (header_of_car cars limits.block heard b b got is_car) through;
+          (header_of_car received limits.block heard b b got is_car) through;
       held = car_held_once laws cars received;
       short = car_short_once laws cars received;
       short_through = λ q limits bytes a b x y want number got also is_car short through. car_short_is_not_through laws cars received q limits bytes a b x y want number got also
-          (header_of_car cars limits.block bytes b b also is_car) short through;
+          (header_of_car received limits.block bytes b b also is_car) short through;
     }

@@ -3,4 +3,4 @@ use Rattle.tg_cut_laws.proofs.replies_answered_once.Goals as goal
 
 pub returns : goal.returns
 returns c =
-    replies_once c.longer_bytes.ensures.reply c.heard_is_one.ensures.head c.bodies_go_on.ensures c.body_laws.ensures c.bodies_answered_once.ensures
+    replies_once c.heads_go_on.ensures c.bodies_go_on.ensures c.bodies_answered_once.ensures

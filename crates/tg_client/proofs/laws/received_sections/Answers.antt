@@ -1,6 +1,7 @@
 use Rattle.tg_client.proofs.Fronts.{front, behind}
 use Rattle.tg_client.proofs.Whole.{whole, within}
 use Rattle.tg_client.proofs.Refusals.{one, unbroken, unpassed}
+use Rattle.tg_client.proofs.Told.{car_once, header_inside, no_header}
 use Rattle.tg_client.proofs.laws.received_sections.Goals as goal
 
 pub returns : goal.returns
@@ -14,4 +15,7 @@ returns c =
       behind = behind laws;
       unbroken = unbroken laws;
       unpassed = unpassed laws;
+      once = car_once laws;
+      headed = no_header laws;
+      stays_headed = header_inside laws;
     }

@@ -21,7 +21,7 @@ returns-in_err-look-clause-ends g c heard written h =
     let few : length heard + length front ≤ c.args.self.now.limits.received =
     omega (arith, h.count, h.within, c.number-most.ensures.number, c.min.ensures, c.min-room.ensures, c.split_at.ensures.front_len) in
     rw (p.1, p.2)
-    (refused_front c.longer_bytes.ensures.reply new.query new.limits heard front c.split_at.result.1.now c.args.piece.now written (into g.S.Sink.sink c.args.out.now c.look.new.out) c.in_err-look.field-0.0
+    (refused_front new.query new.limits heard front c.split_at.result.1.now c.args.piece.now written (into g.S.Sink.sink c.args.out.now c.look.new.out) c.in_err-look.field-0.0
     c.split_at.ensures.by_index.0 (c.in_err-look.ensures.ends heard written h few))
 
 pub returns-then-eq-clause-ends : goal.returns-then-eq-clause-ends

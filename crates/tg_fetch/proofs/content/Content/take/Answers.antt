@@ -10,7 +10,6 @@ use Rattle.tg_http.specs.declared.framing.Framing.{Framing}
 use Rattle.tg_streams.specs.Streams.{into}
 use Rattle.tg_fetch.proofs.Contents.{answered, closed_by, failed, framing_refused, goes_on, is_short, no_end, part_refused, takes_nothing, text_by, told_as}
 use Rattle.tg_fetch.proofs.Feeding.{front_few}
-use Rattle.tg_fetch.proofs.Final.{final_longer}
 use Rattle.tg_fetch.proofs.content.Content.take.Goals as goal
 
 pub returns-in_err-taken-clause-takes : goal.returns-in_err-taken-clause-takes
@@ -31,7 +30,7 @@ returns-in_err-take-in-Part-clause-takes g c q limits heard written h few =
     let reads = told_as q limits c.args.self.now heard written h c.feed.new.self piece c.in_ok-taken.taken c.in_ok-taken.told
     (bodies.Part c.in-Part.start c.in-Part.end) c.in-Part.is (c.in_ok-taken.ensures.stands _ h.reads) in
     rw (p.1, p.2)
-    (part_refused q limits c.args.self.now heard written h c.longer_bytes.ensures.reply c.feed.new.self (h.given ++ part) (take c.in_ok-taken.taken piece) (drop c.in_ok-taken.taken piece) piece
+    (part_refused q limits c.args.self.now heard written h c.heads_go_on.ensures c.feed.new.self (h.given ++ part) (take c.in_ok-taken.taken piece) (drop c.in_ok-taken.taken piece) piece
     (into g.S.Sink.sink c.args.out.now c.take.new.out) c.in_err-take-in-Part.field-0.0 (sym (take-append-drop c.in_ok-taken.taken piece))
     (front_few heard piece c.in_ok-taken.taken limits.received few) c.in_ok-taken.ensures.framing reads
     (c.in_err-take-in-Part.ensures.takes q limits h.head h.given written h.taking))
@@ -46,7 +45,7 @@ returns-in_err-end-in-End-clause-takes g c q limits heard written h few =
     let text = text_by q limits c.args.self.now heard written h c.feed.new.self h.given (h.rest ++ front) c.in_ok-taken.ensures.framing reads in
     rw (p.1, p.2)
     (failed q limits heard front (drop c.in_ok-taken.taken piece) piece (h.rest ++ front) h.given written h.head (into g.S.Sink.sink c.args.out.now c.end.new.out) false
-    c.in_err-end-in-End.field-0.0 (sym (take-append-drop c.in_ok-taken.taken piece)) (front_few heard piece c.in_ok-taken.taken limits.received few) (final_longer c.longer_bytes.ensures.reply heard front h.rest h.head h.final) text
+    c.in_err-end-in-End.field-0.0 (sym (take-append-drop c.in_ok-taken.taken piece)) (front_few heard piece c.in_ok-taken.taken limits.received few) (c.heads_go_on.ensures.final_stays heard front h.rest h.head h.final) text
     (closed_by q limits c.args.self.now heard written h c.feed.new.self h.given (h.rest ++ front) false c.in_ok-taken.ensures.framing reads)
     (c.in_err-end-in-End.ensures.ends q limits h.head h.given written h.taking))
 
@@ -55,7 +54,7 @@ returns-in-Need-clause-takes g c q limits heard written h few =
     let piece : List ℕ = c.args.bytes.now in
     let reads = told_as q limits c.args.self.now heard written h c.feed.new.self piece c.in_ok-taken.taken c.in_ok-taken.told
     bodies.Need c.in-Need.is (c.in_ok-taken.ensures.stands _ h.reads) in
-    goes_on q limits c.args.self.now heard written h c.longer_bytes.ensures.reply c.feed.new.self c.args.self.now.sections h.given (take c.in_ok-taken.taken piece)
+    goes_on q limits c.args.self.now heard written h c.heads_go_on.ensures c.feed.new.self c.args.self.now.sections h.given (take c.in_ok-taken.taken piece)
     (into g.S.Sink.sink c.args.out.now c.args.out.now) c.in_ok-taken.ensures.framing reads
     (takes_nothing _ g.S.Sink.sink c.args.out.now (g.met.S.Sink.rests c.args.out.now) q limits h.head c.args.self.now.sections h.given written h.taking)
 
@@ -75,7 +74,7 @@ returns-in_ok-take-in-Part-clause-takes g c q limits heard written h few =
     let part : List ℕ = slice_range piece c.in-Part.start c.in-Part.end in
     let reads = told_as q limits c.args.self.now heard written h c.feed.new.self piece c.in_ok-taken.taken c.in_ok-taken.told
     (bodies.Part c.in-Part.start c.in-Part.end) c.in-Part.is (c.in_ok-taken.ensures.stands _ h.reads) in
-    goes_on q limits c.args.self.now heard written h c.longer_bytes.ensures.reply c.feed.new.self c.take.new.self (h.given ++ part) (take c.in_ok-taken.taken piece)
+    goes_on q limits c.args.self.now heard written h c.heads_go_on.ensures c.feed.new.self c.take.new.self (h.given ++ part) (take c.in_ok-taken.taken piece)
     (into g.S.Sink.sink c.args.out.now c.take.new.out) c.in_ok-taken.ensures.framing reads
     (c.in_ok-take-in-Part.ensures.takes q limits h.head h.given written h.taking)
 
@@ -86,7 +85,7 @@ returns-in_ok-end-in-End-clause-takes g c q limits heard written h few =
     let reads = told_as q limits c.args.self.now heard written h c.feed.new.self piece c.in_ok-taken.taken c.in_ok-taken.told
     bodies.End c.in-End.is (c.in_ok-taken.ensures.stands _ h.reads) in
     answered q limits (heard ++ front) (h.rest ++ front) h.given written h.head (into g.S.Sink.sink c.args.out.now c.end.new.out) false
-    (final_longer c.longer_bytes.ensures.reply heard front h.rest h.head h.final)
+    (c.heads_go_on.ensures.final_stays heard front h.rest h.head h.final)
     (text_by q limits c.args.self.now heard written h c.feed.new.self h.given (h.rest ++ front) c.in_ok-taken.ensures.framing reads)
     (closed_by q limits c.args.self.now heard written h c.feed.new.self h.given (h.rest ++ front) false c.in_ok-taken.ensures.framing reads)
     (c.in_ok-end-in-End.ensures.ends q limits h.head h.given written h.taking)

@@ -12,35 +12,35 @@ returns-in_err-head-clause-takes c heard h =
     let p = err_from_is_err_and c.from_residual-in_err-head.result c.from_residual-in_err-head.ensures.1 in
     let fault = c.in_err-head.field-0.0 in
     let cause = subst (λ (l : List ℕ). (fault ≡ OutOfMemory) ⊎ HasHeadCause IsNoReply l fault) (c.as_slice.ensures ∙ c.in_ok-push_all.ensures.ok) c.in_err-head.ensures.cause in
-    rw (p.1, p.2) (no_reply c.longer_bytes.ensures.reply _ heard c.args.piece.now c.min-room.result (seen_as _ _ heard c.self.view_is h) fault cause)
+    rw (p.1, p.2) (no_reply c.heads_go_on.ensures _ heard c.args.piece.now c.min-room.result (seen_as _ _ heard c.self.view_is h) fault cause)
 
 pub returns-in_default-clause-takes : goal.returns-in_default-clause-takes
 returns-in_default-clause-takes c heard h =
     let held = c.as_slice.ensures ∙ c.in_ok-push_all.ensures.ok in
     let waiting : IsWaiting (c.self.inside.came ++ take c.min-room.result c.args.piece.now) =
     subst IsWaiting held (waits_in _ _ c.in_default.is c.in_ok-head.ensures.found) in
-    came_as _ _ _ _ c.in_ok-push_all.ensures.ok (still_waits c.longer_bytes.ensures.reply _ heard c.args.piece.now c.min-room.result (seen_as _ _ heard c.self.view_is h) waiting)
+    came_as _ _ _ _ c.in_ok-push_all.ensures.ok (still_waits c.heads_go_on.ensures _ heard c.args.piece.now c.min-room.result (seen_as _ _ heard c.self.view_is h) waiting)
 
 pub returns-then-not-is_interim-clause-moves : goal.returns-then-not-is_interim-clause-moves
 returns-then-not-is_interim-clause-moves c heard h some =
     let old = seen_as _ _ heard c.self.view_is h in
     let found = found_in _ _ _ _ (c.as_slice.ensures ∙ c.in_ok-push_all.ensures.ok) c.in-Some.is c.in_ok-head.ensures.found in
     let size = c.saturating_sub-taken.ensures ∙ ap (λ (l : List ℕ). c.in-Some.head.used - length l) c.as_slice-before.ensures in
-    moves_on c.longer_bytes.ensures.reply _ heard c.args.piece.now c.min-room.result old c.in-Some.head (omega (arith, c.min-room.ensures)) found _ size
+    moves_on c.heads_go_on.ensures _ heard c.args.piece.now c.min-room.result old c.in-Some.head (omega (arith, c.min-room.ensures)) found _ size
 
 pub returns-then-not-is_interim-clause-some : goal.returns-then-not-is_interim-clause-some
 returns-then-not-is_interim-clause-some c heard h =
     let old = seen_as _ _ heard c.self.view_is h in
     let found = found_in _ _ _ _ (c.as_slice.ensures ∙ c.in_ok-push_all.ensures.ok) c.in-Some.is c.in_ok-head.ensures.found in
     let size = c.saturating_sub-taken.ensures ∙ ap (λ (l : List ℕ). c.in-Some.head.used - length l) c.as_slice-before.ensures in
-    moves_on c.longer_bytes.ensures.reply _ heard c.args.piece.now c.min-room.result old c.in-Some.head (omega (arith, c.min-room.ensures)) found _ size
+    moves_on c.heads_go_on.ensures _ heard c.args.piece.now c.min-room.result old c.in-Some.head (omega (arith, c.min-room.ensures)) found _ size
 
 pub returns-then-not-is_interim-clause-takes : goal.returns-then-not-is_interim-clause-takes
 returns-then-not-is_interim-clause-takes c heard h =
     let old = seen_as _ _ heard c.self.view_is h in
     let found = found_in _ _ _ _ (c.as_slice.ensures ∙ c.in_ok-push_all.ensures.ok) c.in-Some.is c.in_ok-head.ensures.found in
     let size = c.saturating_sub-taken.ensures ∙ ap (λ (l : List ℕ). c.in-Some.head.used - length l) c.as_slice-before.ensures in
-    ends_final c.longer_bytes.ensures.reply _ heard c.args.piece.now c.min-room.result old c.in-Some.head (omega (arith, c.min-room.ensures)) found _ size
+    ends_final c.heads_go_on.ensures _ heard c.args.piece.now c.min-room.result old c.in-Some.head (omega (arith, c.min-room.ensures)) found _ size
     (λ i. false≢true (c.if-not-is_interim.ensures.1 i))
 
 pub returns-then-self-ge-MAX_INTERIMS-clause-takes : goal.returns-then-self-ge-MAX_INTERIMS-clause-takes
@@ -48,7 +48,7 @@ returns-then-self-ge-MAX_INTERIMS-clause-takes c heard h =
     let old = seen_as _ _ heard c.self.view_is h in
     let found = found_in _ _ _ _ (c.as_slice.ensures ∙ c.in_ok-push_all.ensures.ok) c.in-Some.is c.in_ok-head.ensures.found in
     let size = c.saturating_sub-taken.ensures ∙ ap (λ (l : List ℕ). c.in-Some.head.used - length l) c.as_slice-before.ensures in
-    one_too_many c.longer_bytes.ensures.reply _ heard c.args.piece.now c.min-room.result old c.in-Some.head (omega (arith, c.min-room.ensures)) found _ size
+    one_too_many c.heads_go_on.ensures _ heard c.args.piece.now c.min-room.result old c.in-Some.head (omega (arith, c.min-room.ensures)) found _ size
     (c.if-not-is_interim.ensures.0 refl) c.if-self-ge-MAX_INTERIMS.true
 
 pub returns-clause-moves : goal.returns-clause-moves
@@ -56,12 +56,12 @@ returns-clause-moves c heard h some =
     let old = seen_as _ _ heard c.self.view_is h in
     let found = found_in _ _ _ _ (c.as_slice.ensures ∙ c.in_ok-push_all.ensures.ok) c.in-Some.is c.in_ok-head.ensures.found in
     let size = c.saturating_sub-taken.ensures ∙ ap (λ (l : List ℕ). c.in-Some.head.used - length l) c.as_slice-before.ensures in
-    moves_on c.longer_bytes.ensures.reply _ heard c.args.piece.now c.min-room.result old c.in-Some.head (omega (arith, c.min-room.ensures)) found _ size
+    moves_on c.heads_go_on.ensures _ heard c.args.piece.now c.min-room.result old c.in-Some.head (omega (arith, c.min-room.ensures)) found _ size
 
 pub returns-clause-takes : goal.returns-clause-takes
 returns-clause-takes c heard h =
     let old = seen_as _ _ heard c.self.view_is h in
     let found = found_in _ _ _ _ (c.as_slice.ensures ∙ c.in_ok-push_all.ensures.ok) c.in-Some.is c.in_ok-head.ensures.found in
     let size = c.saturating_sub-taken.ensures ∙ ap (λ (l : List ℕ). c.in-Some.head.used - length l) c.as_slice-before.ensures in
-    came_as _ _ _ _ c.clear.ensures (goes_on c.longer_bytes.ensures.reply _ heard c.args.piece.now c.min-room.result old c.in-Some.head (omega (arith, c.min-room.ensures)) found _ size
+    came_as _ _ _ _ c.clear.ensures (goes_on c.heads_go_on.ensures _ heard c.args.piece.now c.min-room.result old c.in-Some.head (omega (arith, c.min-room.ensures)) found _ size
     (c.if-not-is_interim.ensures.0 refl) (omega (arith, c.if-self-ge-MAX_INTERIMS.false)))
