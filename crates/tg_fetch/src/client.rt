@@ -14,6 +14,7 @@ use crate::fault::FetchFault;
 use crate::heads::Heads;
 use crate::watch::Told;
 use std::alloc::{AllocError, Global};
+use std::mem::{self, drop};
 use tg_bytes::Bytes;
 use tg_model::{Form, LimitKind, Limits, Query, well_formed};
 use tg_query::print_request;
@@ -46,6 +47,16 @@ pub(crate) enum Stage {
     Content(Content),
     /// The reply is whole and accepted.
     Done,
+}
+
+impl Stage {
+    /// Goes on with the next stage. This one is let go by `drop`: one that goes where the next is assigned takes the prover
+    /// minutes in each function.
+    fn enter(&mut self, next: Stage)
+        ensures { self.new ≡ next }
+    {
+        drop(mem::replace(self, next));
+    }
 }
 
 impl Client {
@@ -246,7 +257,7 @@ impl Client {
                     return Ok((taken, told));
                 };
                 let content = Content::behind(self.alloc, &self.query, self.limits, &head)?;
-                self.stage = Stage::Content(content);
+                self.stage.enter(Stage::Content(content));
                 Ok((taken, told))
             }
             Stage::Content(content) => {
@@ -255,7 +266,7 @@ impl Client {
                 if told != Move::Done {
                     return Ok((taken, told));
                 }
-                self.stage = Stage::Done;
+                self.stage.enter(Stage::Done);
                 Ok((taken, told))
             }
             Stage::Done => Ok((0, Move::Done)),
@@ -280,7 +291,7 @@ impl Client {
             Stage::Heads(_) => Err(FetchFault::BadReplyHead),
             Stage::Content(content) => {
                 content.end(out)?;
-                self.stage = Stage::Done;
+                self.stage.enter(Stage::Done);
                 Ok(())
             }
             Stage::Done => Ok(()),

@@ -1,9 +1,11 @@
-use Rattle.std.proofs.Common.{rules, ◌≡◌, ◌++◌, [], length, refl, sym, take}
+use Rattle.std.proofs.Common.{rules, ◌≡◌, ◌++◌, [], length, refl, subst, sym, take}
 use denote.Enum.Bare.{same_true}
 use Rattle.std.proofs.lemmas.Result.{err_from_is_err_and}
 use Rattle.tg_streams.specs.Joining.{put_nothing}
 use Rattle.tg_streams.specs.Streams.{into}
+use Rattle.tg_fetch.specs.Clients.{IsAt}
 use Rattle.tg_fetch.specs.declared.client.Client.{Client}
+use Rattle.tg_fetch.specs.declared.client.Stage.{Stage}
 use Rattle.tg_fetch.specs.declared.client.Stage.TheVariants as stages
 use Rattle.tg_fetch.specs.contracts.content.Move.{the_type}
 use Rattle.tg_fetch.specs.declared.content.Move.TheVariants as moves
@@ -72,7 +74,7 @@ returns-in_ok-content-in-Heads-clause-ends g c heard written h few =
     let bytes = c.args.bytes.now in
     let taken = c.in_ok-taken-in-Heads.taken in
     let content = c.in_ok-content-in-Heads.content in
-    let new : Client = record old { heard = c.saturating_add-self.result; stage = stages.Content content } in
+    let new : Client = record old { heard = c.saturating_add-self.result; stage = c.enter.new.self } in
     let out = into g.S.Sink.sink c.args.out.now c.args.out.now in
     let inside = in_heads old.query old.limits old.stage c.in-Heads.heads heard written c.in-Heads.is h.at in
     let e = c.in_ok-taken-in-Heads.ensures in
@@ -81,15 +83,16 @@ returns-in_ok-content-in-Heads-clause-ends g c heard written h few =
     heads_step c.behind_heads-told.result new heard bytes written out taken
     (λ w. all_or_none taken (length bytes) (e.moves heard inside.0) (c.behind_heads-told.ensures.wait w)) c.behind_heads-told.ensures.done
     (goes_on new heard bytes written [] out taken old.limits.received e.within few refl count (put_nothing _ g.S.Sink.sink c.args.out.now (g.met.S.Sink.rests c.args.out.now))
-    (content_at old.query old.limits content c.in-Some.head (heard ++ take taken bytes) written final c.in_ok-content-in-Heads.ensures.begins inside.1))
+    (subst (λ (s : Stage). IsAt old.query old.limits s (heard ++ take taken bytes) (written ++ [])) (sym c.enter.ensures)
+    (content_at old.query old.limits content c.in-Some.head (heard ++ take taken bytes) written final c.in_ok-content-in-Heads.ensures.begins inside.1)))
 
 pub returns-else-ne-clause-ends : goal.returns-else-ne-clause-ends
 returns-else-ne-clause-ends g c heard written h few =
     let old = c.args.self.now in
     let bytes = c.args.bytes.now in
     let told = c.in_ok-taken-in-Content.told in
-    let new : Client = record old { heard = c.saturating_add-self-in-Content.result; stage = stages.Done } in
+    let new : Client = record old { heard = c.saturating_add-self-in-Content.result; stage = c.enter-in-Content.new.self } in
     let inside = in_content old.query old.limits old.stage c.in-Content.content heard written c.in-Content.is h.at in
     let done : told ≡ moves.Done = same_true the_type (search rules) _ _ (not_false _ c.if-ne.ensures) in
-    done_step told new old.query old.limits c.take-in-Content.new.self heard bytes written (into g.S.Sink.sink c.args.out.now c.take-in-Content.new.out) c.in_ok-taken-in-Content.taken done refl refl refl
+    done_step told new old.query old.limits c.take-in-Content.new.self heard bytes written (into g.S.Sink.sink c.args.out.now c.take-in-Content.new.out) c.in_ok-taken-in-Content.taken done refl refl c.enter-in-Content.ensures
     (c.in_ok-taken-in-Content.ensures.takes old.query old.limits heard written inside few)
