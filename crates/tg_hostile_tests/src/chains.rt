@@ -2,6 +2,7 @@
 //! that. A node has 52 bytes, so its section has 89, and that of the leaf, which is `x`, 38.
 use crate::cars::{is_added, sink_of};
 use std::alloc::{AllocError, Global};
+use std::mem::drop;
 use std::rt::HostRuntime;
 use tg_bytes::{Bytes, List};
 use tg_car::header;
@@ -99,7 +100,9 @@ fn ends_so(
         return false;
     };
     let mut out = sink_of(alloc);
-    heard(&mut client, reply, &mut out) == end && out.held() == text
+    let ended = heard(&mut client, reply, &mut out);
+    drop(client);
+    ended == end && out.held() == text
 }
 
 /// How the client ends.
@@ -113,13 +116,13 @@ fn heard(client: &mut Client, reply: &[u8], out: &mut MemSink) -> Result<(), Fet
 
 /// Whether a session over the file's blocks sends this reply and answers so.
 fn is_replied(alloc: Global, stored: &Stored, reply: &[u8], next: Next, broken: u64) -> bool {
-    let (Some(mut store), Ok(mut session)) = (
+    let (Ok(request), Some(mut store)) = (
+        request_of(alloc, stored),
         store_of(alloc, stored.blocks.as_slice()),
-        Session::new(alloc, Limits::standard()),
     ) else {
         return false;
     };
-    let Ok(request) = request_of(alloc, stored) else {
+    let Ok(mut session) = Session::new(alloc, Limits::standard()) else {
         return false;
     };
     let mut out = sink_of(alloc);
@@ -128,9 +131,10 @@ fn is_replied(alloc: Global, stored: &Stored, reply: &[u8], next: Next, broken: 
         broken,
         store: 0,
     };
-    session.feed(request.as_bytes(), &mut store, &mut out) == Ok(next)
-        && session.served() == served
-        && out.held() == reply
+    let last = session.feed(request.as_bytes(), &mut store, &mut out);
+    let told = session.served();
+    drop(session);
+    last == Ok(next) && told == served && out.held() == reply
 }
 
 /// The blocks of a file of so many nodes.

@@ -1,6 +1,7 @@
 //! A reply in chunks with two bytes of a file, cut behind each of its bytes.
 use crate::cars::sink_of;
 use std::alloc::{AllocError, Global};
+use std::mem::drop;
 use std::rt::HostRuntime;
 use tg_bytes::{Bytes, List};
 use tg_cid::Cid;
@@ -96,8 +97,9 @@ fn ends_so(alloc: Global, query: &Query, front: &[u8], head: usize, piece: usize
         return false;
     };
     let mut out = sink_of(alloc);
-    heard(&mut client, front, piece, &mut out) == wanted(front.len(), head)
-        && out.held() == put_of(front.len(), head)
+    let ended = heard(&mut client, front, piece, &mut out);
+    drop(client);
+    ended == wanted(front.len(), head) && out.held() == put_of(front.len(), head)
 }
 
 /// Whether a client ends so wherever the reply is cut.

@@ -2,6 +2,7 @@
 //! of 1,000 parts `a`. The lengths are counted.
 use crate::cars::{Text, is_added, sink_of};
 use std::alloc::{AllocError, Global};
+use std::mem::drop;
 use std::rt::HostRuntime;
 use tg_bytes::{Bytes, List};
 use tg_car::header;
@@ -113,11 +114,12 @@ fn are_accepted(alloc: Global) -> bool {
         return false;
     };
     let mut out = sink_of(alloc);
-    is_taken(&mut body, &peer, &mut out)
+    let is_accepted = is_taken(&mut body, &peer, &mut out)
         && body.is_whole()
         && body.sections() == 1_001_001
-        && body.end() == Ok(())
-        && Text::Letters(1_000_000).is(out.held())
+        && body.end() == Ok(());
+    drop(body);
+    is_accepted && Text::Letters(1_000_000).is(out.held())
 }
 
 #[test]
