@@ -119,7 +119,7 @@ impl Client {
             return Err(fault);
         }
         let end = self.hear(piece, out);
-        self.refused = fault_in(&end);
+        self.refused = end.as_ref().err().copied();
         end
     }
 
@@ -161,7 +161,7 @@ impl Client {
             return Err(fault);
         }
         let end = self.finish(out);
-        self.refused = fault_in(&end);
+        self.refused = end.as_ref().err().copied();
         end
     }
 
@@ -325,15 +325,5 @@ fn copied_query(alloc: Global, query: &Query) -> Result<Query, AllocError>
                 query.dups(),
             ))
         }
-    }
-}
-
-/// The fault, where a call gave one.
-fn fault_in<T>(end: &Result<T, FetchFault>) -> Option<FetchFault>
-    ensures { MatchResult end.now (λ _. result ≡ None) (λ fault. result ≡ Some fault) }
-{
-    match end {
-        Ok(_) => None,
-        Err(fault) => Some(*fault),
     }
 }
