@@ -6,9 +6,9 @@ use Rattle.tg_model.specs.Dag.{Section}
 use Rattle.tg_model.specs.Traversal.{Place, Traversal, sections_of, sent}
 use Rattle.tg_model_laws.specs.SentSections.{sent_front}
 use Rattle.tg_traversal.specs.Left.{tasks_left}
-use Rattle.tg_traversal_laws.specs.Openings.{opened_by}
-use Rattle.tg_traversal_laws.specs.Stages.{tasks_give}
-use Rattle.tg_traversal_laws.specs.StoreWalks.{cut_at, shown_tasks}
+use Rattle.tg_model_laws.specs.TakenBlocks.{opened_by}
+use Rattle.tg_model_laws.specs.Stages.{tasks_give}
+use Rattle.tg_model_laws.specs.StoreWalks.{cut_at, shown_tasks}
 use Rattle.tg_walk.specs.Walks.{max_depth}
 
 -- the cut traversal gives what was given, and behind it what the tasks that are left give

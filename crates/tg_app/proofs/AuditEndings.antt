@@ -4,12 +4,12 @@ use Rattle.std.specs.Prelude.{Result, ⊤}
 use Rattle.tg_app.proofs.FetchEndings.{no_fetch_refusal}
 use Rattle.tg_app.proofs.Statuses.{differs, not_zero}
 use Rattle.tg_app.specs.Audits.{AuditAnswers, AuditDenied, IsAuditEnd, IsAuditRefusal}
-use Rattle.tg_app.specs.Blocks.{OutputUntouched}
-use Rattle.tg_app.specs.Exports.{IsExportRefusal, TellsExport}
-use Rattle.tg_app.specs.Imports.{IsImportRefusal, refusal_of_import}
-use Rattle.tg_app.specs.Lines.{exit_status, status_of}
-use Rattle.tg_app.specs.declared.fault.CommandFault.{CommandFault}
-use Rattle.tg_app.specs.declared.fault.CommandFault.TheVariants as refusals
+use Rattle.tg_commands.specs.Blocks.{OutputUntouched}
+use Rattle.tg_commands.specs.Exports.{IsExportRefusal, TellsExport}
+use Rattle.tg_commands.specs.Imports.{IsImportRefusal, refusal_of_import}
+use Rattle.tg_commands.specs.Lines.{exit_status, status_of}
+use Rattle.tg_commands.specs.declared.fault.CommandFault.{CommandFault}
+use Rattle.tg_commands.specs.declared.fault.CommandFault.TheVariants as refusals
 use Rattle.tg_audit.specs.Audits.{AuditEnds, Audited}
 use Rattle.tg_audit.specs.declared.fault.AuditFault.{AuditFault}
 use Rattle.tg_audit.specs.declared.fault.AuditFault.TheVariants as faults

@@ -20,7 +20,7 @@ use Rattle.tg_files.specs.Packs.{PackRose, PackStep}
 use Rattle.tg_import.specs.declared.fault.ImportFault.{ImportFault}
 use Rattle.tg_import.specs.declared.fault.ImportFault.TheVariants as imports
 use Rattle.tg_import.specs.declared.summary.Options.{Options}
-use Rattle.tg_import_pack.specs.Packing.{IsPackingCause}
+use Rattle.tg_import.specs.Packing.{IsPackingCause}
 use Rattle.tg_model.specs.PathWalk.{not_folder, not_there}
 use Rattle.tg_model.specs.Queries.{QueryParts}
 use Rattle.tg_model.specs.Stores.{Store}
@@ -30,17 +30,18 @@ use Rattle.tg_walk.specs.declared.fault.ResolveFault.TheVariants as paths
 use Rattle.tg_walk.specs.declared.fault.WalkFault.TheVariants as walks
 use Rattle.tg_streams.specs.Streams.{Input, InputQuiet, Output, InputRose, OutputQuiet, OutputRose}
 use Rattle.tg_cid.specs.Limits.{max_block_len}
-use Rattle.tg_app.specs.Lines.{status_of, exit_status}
-use Rattle.tg_app.specs.Blocks.{OutputUntouched, PassedLimit, TookBlock}
-use Rattle.tg_app.specs.Check.{Checked, CheckedOther, CheckEnds, CollisionPair, Agrees, CheckStatus}
-use Rattle.tg_app.specs.Node.{Noded, NodedOther, NodeEnds, HasText, HasNoText, NodeStatus}
-use Rattle.tg_app.specs.CidLines.{HexLine, PrintEnds, PutsLine, TextLine}
+use Rattle.tg_commands.specs.Lines.{status_of, exit_status}
+use Rattle.tg_commands.specs.Blocks.{OutputUntouched, PassedLimit, TookBlock}
+use Rattle.tg_commands.specs.Check.{Checked, CheckedOther, CheckEnds, CollisionPair, Agrees, CheckStatus}
+use Rattle.tg_commands.specs.Node.{Noded, NodedOther, NodeEnds, HasText, HasNoText, NodeStatus}
+use Rattle.tg_commands.specs.CidLines.{HexLine, PrintEnds, PutsLine, TextLine}
 use Rattle.tg_app.specs.Commands.{AllUntouched, CommandEnds, Ends, IsNoCommand, NoCommandEnds, NoMemoryEnds, ReadsBlock, UsesNoDial, UsesNoDoor, UsesNoFiles, WantsMemory}
-use Rattle.tg_app.specs.Exports.{ExportAnswers, Exported, ExportedNothing, HasAnswer, IsExportRefusal, IsRisen, LeadsNowhere, TellsExport}
-use Rattle.tg_app.specs.Imports.{ImportAnswers, Imported, IsGoodFolder, IsImportRefusal, options_of, refusal_of_import}
-use Rattle.tg_app.specs.Objects.{Files, Objects, SameFiles}
-use Rattle.tg_app.specs.declared.fault.CommandFault.{CommandFault}
-use Rattle.tg_app.specs.declared.fault.CommandFault.TheVariants.{Usage, BadDigest, BadBlock, BlockLimit, InputFault, SinkFault, OutOfMemory}
+use Rattle.tg_commands.specs.Exports.{ExportAnswers, Exported, ExportedNothing, HasAnswer, IsExportRefusal, IsRisen, LeadsNowhere, TellsExport}
+use Rattle.tg_commands.specs.Imports.{ImportAnswers, Imported, IsGoodFolder, IsImportRefusal, options_of, refusal_of_import}
+use Rattle.tg_commands.specs.Files.{Files, SameFiles}
+use Rattle.tg_app.specs.Objects.{Objects}
+use Rattle.tg_commands.specs.declared.fault.CommandFault.{CommandFault}
+use Rattle.tg_commands.specs.declared.fault.CommandFault.TheVariants.{Usage, BadDigest, BadBlock, BlockLimit, InputFault, SinkFault, OutOfMemory}
 use Rattle.tg_app.proofs.AuditEndings.{audit_quiet, no_audit_usage, unaudited}
 use Rattle.tg_app.proofs.ServeEndings.{no_serve_usage, serve_quiet}
 use Rattle.tg_app.proofs.FetchEndings.{fetch_fault, fetch_quiet, no_fetch_usage}

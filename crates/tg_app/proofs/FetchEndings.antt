@@ -3,12 +3,12 @@ use Rattle.std.proofs.Common.{◌+◌, ◌<◌, ◌≡◌, ◌≢◌, ◌⊎◌,
 use Rattle.std.specs.Prelude.{Result, ⊤, ◌^◌}
 use Rattle.tg_app.proofs.Statuses.{differs, not_zero}
 use Rattle.tg_app.proofs.VerifyEndings.{ended_none, has_status, refused_none, status_for, unput_of}
-use Rattle.tg_app.specs.Blocks.{OutputUntouched}
+use Rattle.tg_commands.specs.Blocks.{OutputUntouched}
 use Rattle.tg_app.specs.Fetches.{Fetched, FetchedStatus, FetchAnswers, IsFetchEnd, IsFetchRefusal, IsGoodReply, SaysFetchLine, VouchedFetch}
-use Rattle.tg_app.specs.Lines.{Says, exit_status, status_of}
-use Rattle.tg_app.specs.Verify.{IsNoAnswer, ShowsSome}
-use Rattle.tg_app.specs.declared.fault.CommandFault.{CommandFault}
-use Rattle.tg_app.specs.declared.fault.CommandFault.TheVariants as refusals
+use Rattle.tg_commands.specs.Lines.{Says, exit_status, status_of}
+use Rattle.tg_commands.specs.Verify.{IsNoAnswer, ShowsSome}
+use Rattle.tg_commands.specs.declared.fault.CommandFault.{CommandFault}
+use Rattle.tg_commands.specs.declared.fault.CommandFault.TheVariants as refusals
 use Rattle.tg_client.specs.Body.{unknown}
 use Rattle.tg_client.specs.declared.fault.ClientFault.{ClientFault}
 use Rattle.tg_client.specs.declared.fault.ClientFault.TheVariants as clients
@@ -31,7 +31,7 @@ use Rattle.tg_model.specs.LimitNumbers.{LimitNumbers, standard}
 use Rattle.tg_model.specs.Queries.{QueryParts}
 use Rattle.tg_model.specs.Sound.{IsSound}
 use Rattle.tg_streams.specs.Streams.{Output, OutputQuiet, OutputRose, Put, Unput}
-use Rattle.tg_traversal_laws.specs.Verified.{VerifiedMisses}
+use Rattle.tg_model_laws.specs.Verified.{VerifiedMisses}
 use Rattle.tg_verify.specs.Laws.{AnswerIsFront}
 use Rattle.tg_verify.specs.Sound.{IsItsAnswer, IsItsFront}
 use Rattle.tg_verify.specs.declared.fault.Refusal.{Refusal}
@@ -141,6 +141,15 @@ fetched_by parts dial out (Err fault) end e is ends cause = absurd (never_0 faul
 
 pub fetched_of : (parts : FetchParts) (dial : Dialling) (out : Output) (end : Option CommandFault) → exit_status end ≡ 0 → FetchAnswers parts dial out end → Fetched parts dial out
 fetched_of parts dial out end e h = fetched_by parts dial out h.result end e h.end_is h.ends h.cause
+
+-- ---- whom it called
+
+pub dialled_of : (parts : FetchParts) (dial : Dialling) (out : Output) (end : Option CommandFault) → FetchAnswers parts dial out end → dial.dialled parts.addr
+dialled_of parts dial out end h = by h.ends
+  where
+    by : FetchEnds parts.query standard parts.addr dial out h.result → dial.dialled parts.addr
+    by (inl called) = called.dialled
+    by (inr missed) = missed.dialled
 
 -- ---- status 4
 

@@ -2,9 +2,9 @@
 use Rattle.std.proofs.Common.{◌≡◌, ℕ, inl, inr, List, Option, Some, sym, subst}
 use Rattle.std.specs.Prelude.{Result, ⊤}
 use Rattle.tg_app.specs.Fetches.{FetchAnswers, IsFetchEnd, IsGoodReply}
-use Rattle.tg_app.specs.declared.fault.CommandFault.{CommandFault}
+use Rattle.tg_commands.specs.declared.fault.CommandFault.{CommandFault}
 use Rattle.tg_dials.specs.Dials.{Dialling}
-use Rattle.tg_exchange.specs.Exchanges.{HasOneBlockEach}
+use Rattle.tg_heard.specs.Exchanges.{HasOneBlockEach}
 use Rattle.tg_fetch.specs.Calls.{FetchEnds}
 use Rattle.tg_fetch.specs.Faults.{QuietUnlessSink}
 use Rattle.tg_fetch.specs.Laws.{IsAcceptedElse, TellsCarried}

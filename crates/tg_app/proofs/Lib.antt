@@ -1,12 +1,9 @@
 mod Statuses
 mod AuditEndings
 mod Endings
-mod ExportSteps
 mod Segments
-mod ImportSteps
 mod VerifyEndings
 mod FetchEndings
-mod VerifySteps
 mod OwnBlocks
 mod OwnCars
 mod OwnAnswers

@@ -3,9 +3,9 @@ use Rattle.std.proofs.Common.{All, List, append-nil, length, None, Option, Some,
 use Rattle.std.proofs.lemmas.List.Elements.{All-cons, All-nil}
 use Rattle.tg_app.proofs.Endings.{whole_is}
 use Rattle.tg_app.proofs.Statuses.{not_zero}
-use Rattle.tg_app.specs.Lines.{exit_status}
-use Rattle.tg_app.specs.Verify.{IsItsCar, VerifyEnds}
-use Rattle.tg_app.specs.declared.fault.CommandFault.{CommandFault}
+use Rattle.tg_commands.specs.Lines.{exit_status}
+use Rattle.tg_commands.specs.Verify.{IsItsCar, VerifyEnds}
+use Rattle.tg_commands.specs.declared.fault.CommandFault.{CommandFault}
 use Rattle.tg_client.specs.Received.{HasReceived, IsCarOf}
 use Rattle.tg_client.specs.ReceivedLaws.{ReceivedLaws}
 use Rattle.tg_model.specs.Answer.{answer}

@@ -12,10 +12,10 @@ use Rattle.tg_model.specs.StoreView.{block_at}
 use Rattle.tg_model.specs.Stores.{Store}
 use Rattle.tg_model.specs.Traversal.{Place, Traversal, opened_list, sections_of, traversal}
 use Rattle.tg_model_laws.specs.Stores.{Holds}
-use Rattle.tg_traversal_laws.specs.BesideSound.{BesideLaws, IsBeside}
-use Rattle.tg_traversal_laws.specs.Openings.{opened_by}
-use Rattle.tg_traversal_laws.specs.Stages.{Given, nothing_given, place_of, up_to_next, with_place}
-use Rattle.tg_traversal_laws.specs.Tasks.{Task, give_entries, give_text, open_block, start, stop_at, tasks_of, tasks_then, text_at}
+use Rattle.tg_model_laws.specs.BesideSound.{BesideLaws, IsBeside}
+use Rattle.tg_model_laws.specs.TakenBlocks.{opened_by}
+use Rattle.tg_model_laws.specs.Stages.{Given, nothing_given, place_of, up_to_next, with_place}
+use Rattle.tg_model_laws.specs.Tasks.{Task, give_entries, give_text, open_block, start, stop_at, tasks_of, tasks_then, text_at}
 
 if_once : (dups : Bool) (P : Type 0) → P → IfOnce dups P
 if_once true P h = tt

@@ -2,8 +2,8 @@
 use Rattle.std.proofs.Common.{List, None, Ok, Option, Some, ap, arith, inl, inr, subst, sym, ℕ, [], ◌∙◌, ◌∷◌, ◌≡◌}
 use Rattle.std.specs.Prelude.{⊤}
 use Rattle.tg_app.proofs.OwnBlocks.{one_each_of}
-use Rattle.tg_app.specs.Exports.{Exported, HoldsDag}
-use Rattle.tg_app.specs.Verify.{IsItsCar}
+use Rattle.tg_commands.specs.Exports.{Exported, HoldsDag}
+use Rattle.tg_commands.specs.Verify.{IsItsCar}
 use Rattle.tg_cid.specs.Cid.{CidParts}
 use Rattle.tg_client.specs.Received.{IsCarOf}
 use Rattle.tg_export.specs.Cars.{CarEnds}
@@ -23,9 +23,9 @@ use Rattle.tg_model_laws.specs.Stores.{Holds}
 use Rattle.tg_store.specs.AttachedPacks.{IsAttachedIn}
 use Rattle.tg_store.specs.Attaching.{IsAttached}
 use Rattle.tg_streams.specs.Streams.{Output, Put}
-use Rattle.tg_traversal_laws.specs.BesideSound.{BesideLaws}
-use Rattle.tg_traversal_laws.specs.Stages.{Given, ending}
-use Rattle.tg_traversal_laws.specs.StoreWalks.{WalkEnds}
+use Rattle.tg_model_laws.specs.BesideSound.{BesideLaws}
+use Rattle.tg_model_laws.specs.Stages.{Given, ending}
+use Rattle.tg_model_laws.specs.StoreWalks.{WalkEnds}
 use Rattle.tg_verify.specs.Laws.{IsWithinLimits}
 use Rattle.tg_walk.specs.Walks.{HasEnded, max_depth}
 

@@ -1,7 +1,7 @@
 -- A store that holds a sound DAG, none of what is asked of it too deep, has the whole answer.
 use Rattle.std.proofs.Common.{All, List, Ok, None, Option, Some, [], ap, arith, length, length-append, map, refl, suc, subst, sym, zero, ℕ, ◌++◌, ◌+◌, ◌<◌, ◌∙◌, ◌∷◌, ◌≡◌, ◌≤◌, ◌↔◌}
 use Rattle.std.specs.Prelude.{⊤}
-use Rattle.tg_app.specs.Exports.{HasAnswer, HoldsDag}
+use Rattle.tg_commands.specs.Exports.{HasAnswer, HoldsDag}
 use Rattle.tg_cid.specs.Cid.{CidParts}
 use Rattle.tg_model.specs.Answer.{answer, answer_at}
 use Rattle.tg_model.specs.Computed.{read}
@@ -21,11 +21,11 @@ use Rattle.tg_model.specs.declared.kinds.Kind.{Kind}
 use Rattle.tg_model.specs.declared.queries.Scope.{Scope}
 use Rattle.tg_model.specs.declared.queries.Scope.TheVariants as scopes
 use Rattle.tg_model_laws.specs.Stores.{Holds}
-use Rattle.tg_traversal_laws.specs.BesideSound.{BesideLaws, IsBeside}
-use Rattle.tg_traversal_laws.specs.Openings.{opened_by}
-use Rattle.tg_traversal_laws.specs.Stages.{Given, nothing_given, place_of, up_to_next, with_place}
-use Rattle.tg_traversal_laws.specs.StoreWalks.{IsWalked, WalkEnds, WalkLaws}
-use Rattle.tg_traversal_laws.specs.Tasks.{Task, Want, depth_of, fault_at, give_entries, give_text, node_want, open_block, position_of, segment_want, start, stop_at, stop_of, tasks_of, tasks_then, terminal_fault, terminal_want, text_at}
+use Rattle.tg_model_laws.specs.BesideSound.{BesideLaws, IsBeside}
+use Rattle.tg_model_laws.specs.TakenBlocks.{opened_by}
+use Rattle.tg_model_laws.specs.Stages.{Given, nothing_given, place_of, up_to_next, with_place}
+use Rattle.tg_model_laws.specs.StoreWalks.{IsWalked, WalkEnds, WalkLaws}
+use Rattle.tg_model_laws.specs.Tasks.{Task, Want, depth_of, fault_at, give_entries, give_text, node_want, open_block, position_of, segment_want, start, stop_at, stop_of, tasks_of, tasks_then, terminal_fault, terminal_want, text_at}
 use Rattle.tg_walk.specs.Walks.{max_depth}
 
 -- the laws of walks over a store and beside a DAG, and of sound DAGs

@@ -3,24 +3,24 @@ use Rattle.std.proofs.Common.{Option, ap, inl, inr, refl, subst, sym, ◌∙◌,
 use Rattle.tg_app.proofs.AuditEndings.{audited_of, denied_of}
 use Rattle.tg_app.proofs.Endings.{agrees, answered_of, checked_of, did_of, ends_of, export_answered_of, export_nothing_of, exported_of, fault_of, import_answered_of, imported_of, kept_dial_of, kept_door_of, kept_of}
 use Rattle.tg_app.proofs.Endings.{memory_isnt, memory_of, node_answered_of, node_other_of, noded_of, nowhere_of, other_of, passed_of, printed_of, quiet_of, refused_of, untouched_of, usage_of}
-use Rattle.tg_app.proofs.FetchEndings.{fetch_answered_of, fetch_nothing_of, fetch_other_of, fetch_rose_of, fetch_vouched_of, fetched_of}
+use Rattle.tg_app.proofs.FetchEndings.{dialled_of, fetch_answered_of, fetch_nothing_of, fetch_other_of, fetch_rose_of, fetch_vouched_of, fetched_of}
 use Rattle.tg_app.proofs.OwnCars.{AttachAlike, own_car_of}
 use Rattle.tg_app.proofs.OwnAnswers.{AnswerTexts, own_answer_of}
 use Rattle.tg_app.proofs.OwnDone.{DoneLaws, has_answer}
 use Rattle.tg_app.proofs.ServeEndings.{NoneCaused, door_fault_of, serve_answered_of, served_of}
 use Rattle.tg_app.proofs.VerifyEndings.{verified_of, verify_answered_of, verify_nothing_of, vouched_of}
-use Rattle.tg_app.specs.Check.{CheckStatus}
-use Rattle.tg_app.specs.CidLines.{HexLine, TextLine}
+use Rattle.tg_commands.specs.Check.{CheckStatus}
+use Rattle.tg_commands.specs.CidLines.{HexLine, TextLine}
 use Rattle.tg_app.specs.Commands.{CommandEnds, Ends, NoMemoryEnds, UsesNoDial}
-use Rattle.tg_app.specs.Lines.{Says, exit_status}
-use Rattle.tg_app.specs.Node.{NodeStatus}
+use Rattle.tg_commands.specs.Lines.{Says, exit_status}
+use Rattle.tg_commands.specs.Node.{NodeStatus}
 use Rattle.tg_app.specs.Runs.{Asks, AuditRun, CheckRun, CidHexRun, CidTextRun, ExportRun, FetchRun, ImportRun, NodeRun, Run, Runs, ServeRun, VerifyRun, WordsRun}
-use Rattle.tg_app.specs.declared.fault.CommandFault.{CommandFault}
+use Rattle.tg_commands.specs.declared.fault.CommandFault.{CommandFault}
 use Rattle.tg_cid.specs.Cid.{CidParts}
 use Rattle.tg_model.specs.Queries.{QueryParts}
 use Rattle.tg_model_laws.specs.Depths.{CutsAtDepths, ShowsDownTo}
 use Rattle.tg_streams.specs.Streams.{Put}
-use Rattle.tg_traversal_laws.specs.Verified.{VerifiedMisses}
+use Rattle.tg_model_laws.specs.Verified.{VerifiedMisses}
 use Rattle.tg_verify.specs.Laws.{AnswerIsFront, ThroughFits}
 use Rattle.tg_words.specs.AuditLines.{AuditParts}
 use Rattle.tg_words.specs.ExportLines.{ExportParts}
@@ -153,6 +153,7 @@ module _ (run : Run) (end : Option CommandFault) (through : ThroughFits) (front 
           let eight = status ∙ ap exit_status memory.end_is in
           record {
             ends = (end, status, inl memory, line);
+            dialled = λ other. absurd (other eight);
             fetched = λ zero. absurd (memory_isnt run.objects end 0 refl (has zero) memory);
             other = λ four. absurd (memory_isnt run.objects end 4 refl (has four) memory);
             dial_fault = λ five. absurd (memory_isnt run.objects end 5 refl (has five) memory);
@@ -165,6 +166,7 @@ module _ (run : Run) (end : Option CommandFault) (through : ThroughFits) (front 
           let out = run.objects.out in
           record {
             ends = (end, status, inr did, line);
+            dialled = λ other. dialled_of parts dial out end did.2;
             fetched = λ zero. fetched_of parts dial out end (has zero) did.2;
             other = λ four. fetch_other_of parts dial out end (has four) did.2;
             dial_fault = λ five. fetch_rose_of parts dial out end (has five) did.2;

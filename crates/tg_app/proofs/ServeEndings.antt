@@ -5,12 +5,12 @@ use Rattle.std.proofs.lemmas.List.Elements.{All-cons, All-nil}
 use Rattle.std.specs.List.{list_any}
 use Rattle.std.specs.Prelude.{Result, if◌then◌else◌, take, ⊤, ◌^◌, ◌||◌}
 use Rattle.tg_app.proofs.Statuses.{not_zero}
-use Rattle.tg_app.specs.Exports.{IsAttachedPack}
-use Rattle.tg_app.specs.Lines.{exit_status, status_of}
+use Rattle.tg_commands.specs.Exports.{IsAttachedPack, pack_refusal}
+use Rattle.tg_commands.specs.Lines.{exit_status, status_of}
 use Rattle.tg_app.specs.Objects.{Entrance}
-use Rattle.tg_app.specs.Serves.{IsGoodPack, ServeAnswers, ServedWhole, pack_refusal, serve_end}
-use Rattle.tg_app.specs.declared.fault.CommandFault.{CommandFault}
-use Rattle.tg_app.specs.declared.fault.CommandFault.TheVariants as refusals
+use Rattle.tg_app.specs.Serves.{IsGoodPack, ServeAnswers, ServedWhole, serve_end}
+use Rattle.tg_commands.specs.declared.fault.CommandFault.{CommandFault}
+use Rattle.tg_commands.specs.declared.fault.CommandFault.TheVariants as refusals
 use Rattle.tg_doors.specs.Doors.{DoorRose, Doorway}
 use Rattle.tg_faults.specs.Faults.{Rose}
 use Rattle.tg_files.specs.Packs.{PackRose, PackStep}
@@ -20,8 +20,8 @@ use Rattle.tg_http.specs.declared.request.RequestHead.{RequestHead}
 use Rattle.tg_model.specs.LimitNumbers.{standard}
 use Rattle.tg_model.specs.Stores.{Store}
 use Rattle.tg_model.specs.declared.limits.LimitKind.TheVariants as kinds
-use Rattle.tg_sent.specs.Sent.{CountsBetween, Sent, SentBy, SentFor, bad_head, before_head, behind_sections, count_if, exact, failed_in, is_broken, last, limit, next, no_more}
-use Rattle.tg_serve.specs.Packed.{PackServed}
+use Rattle.tg_reply.specs.Sent.{CountsBetween, Sent, SentBy, SentFor, bad_head, before_head, behind_sections, count_if, exact, failed_in, is_broken, last, limit, next, no_more}
+use Rattle.tg_serve.specs.Packed.{AskedBy, PackServed}
 use Rattle.tg_serve.specs.Serving.{AreServed, LinkRun, SaidAll, SaidBy, SaidFront, is_limit, is_memory, is_positive}
 use Rattle.tg_serve.specs.declared.Happened.{Happened}
 use Rattle.tg_serve.specs.declared.packed.ServeFault.{ServeFault}
@@ -145,24 +145,26 @@ each_said told most before (run ∷ runs) now served no_memory unfailed no_limit
 
 whole_by : (parts : ServeParts) (step : PackStep) (out : Output) (door : Entrance) (result : Result Happened ServeFault)
     → IsAttachedPack parts.pack step → exit_status (serve_end result) ≡ 0
-    → PackServed standard.received parts.port parts.count door.links_tell step out door.doorway door.same_door result → ServedWhole parts step out door
-whole_by parts step out door (Ok happened) attached e h =
+    → PackServed standard.received parts.port parts.count door.links_tell step out door.doorway door.same_door result
+    → AskedBy (door.asked parts.port) result → ServedWhole parts step out door
+whole_by parts step out door (Ok happened) attached e h asked =
     let none = zero_by happened.memory happened.store happened.fault happened.limit e in
     let serves = h.served.serves in
     let has = serves.has_happened in
     let fault = or_parts serves.unadmitted (list_any (λ run. run.failed) serves.runs) (sym has.fault ∙ none.no_fault) in
     record {
-      links = record { attached = attached; told = h.told; store = h.attached; happened = happened; served = h.served };
+      links = record { attached = attached; told = h.told; store = h.attached; happened = happened; asked = asked; served = h.served };
       each = each_said h.told standard.received step.faults_old serves.runs step.faults_new serves.served (sym has.memory ∙ none.no_memory) fault.1 (sym has.limit ∙ none.no_limit);
+      quiet = serves.quiet none.no_fault;
     }
-whole_by parts step out door (Err (faults.Pack fault)) attached e h = absurd (not_zero (pack_refusal fault) e)
-whole_by parts step out door (Err faults.DoorFault) attached e h = cc
-whole_by parts step out door (Err faults.SinkFault) attached e h = cc
-whole_by parts step out door (Err faults.OutOfMemory) attached e h = cc
+whole_by parts step out door (Err (faults.Pack fault)) attached e h asked = absurd (not_zero (pack_refusal fault) e)
+whole_by parts step out door (Err faults.DoorFault) attached e h asked = cc
+whole_by parts step out door (Err faults.SinkFault) attached e h asked = cc
+whole_by parts step out door (Err faults.OutOfMemory) attached e h asked = cc
 
 pub served_of : (parts : ServeParts) (step : PackStep) (same_pack : Type 0) (out : Output) (door : Entrance) (end : Option CommandFault) → exit_status end ≡ 0
     → ServeAnswers parts step same_pack out door end → ServedWhole parts step out door
-served_of parts step same_pack out door end e (inl ended) = whole_by parts step out door ended.result ended.attached (sym (ap exit_status ended.end_is) ∙ e) ended.served
+served_of parts step same_pack out door end e (inl ended) = whole_by parts step out door ended.result ended.attached (sym (ap exit_status ended.end_is) ∙ e) ended.served ended.asked
 served_of parts step same_pack out door end e (inr (inl none)) = absurd (not_zero none.refusal (sym (ap exit_status none.end_is) ∙ e))
 served_of parts step same_pack out door end e (inr (inr unbegun)) = absurd (not_zero refusals.OutOfMemory (sym (ap exit_status unbegun.end_is) ∙ e))
 

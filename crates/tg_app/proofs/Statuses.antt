@@ -1,9 +1,9 @@
 -- The statuses of refusals.
 use Rattle.std.proofs.Common.{◌≡◌, false, nat_eq, true, ℕ}
 use Rattle.std.proofs.lemmas.Bool.{eq-eqb}
-use Rattle.tg_app.specs.Lines.{status_of}
-use Rattle.tg_app.specs.declared.fault.CommandFault.{CommandFault}
-use Rattle.tg_app.specs.declared.fault.CommandFault.TheVariants.{Usage}
+use Rattle.tg_commands.specs.Lines.{status_of}
+use Rattle.tg_commands.specs.declared.fault.CommandFault.{CommandFault}
+use Rattle.tg_commands.specs.declared.fault.CommandFault.TheVariants.{Usage}
 
 -- none has that of a command that is done
 pub not_zero : (refusal : CommandFault) → status_of refusal ≡ 0 → ⊥

@@ -1,11 +1,11 @@
 -- What each exit status says of `verify`.
 use Rattle.std.proofs.Common.{◌≡◌, ◌≢◌, ℕ, ◌⊎◌, inl, inr, List, [], ◌∷◌, ◌++◌, Option, Some, None, Err, refl, sym, ap, ◌∙◌, subst, append-nil, arith, rules}
 use Rattle.std.specs.Prelude.{Ok, Result, ⊤}
-use Rattle.tg_app.specs.Blocks.{OutputUntouched, Untouched}
-use Rattle.tg_app.specs.Lines.{Says, exit_status, status_of}
-use Rattle.tg_app.specs.Verify.{IsGoodCar, IsNoAnswer, IsVerifyRefusal, NotAccepted, SaysLine, ShowsSome, TellsVerify, VerifiedInput, VerifyEnds, Vouched}
-use Rattle.tg_app.specs.declared.fault.CommandFault.{CommandFault}
-use Rattle.tg_app.specs.declared.fault.CommandFault.TheVariants.{OutOfMemory, Usage}
+use Rattle.tg_commands.specs.Blocks.{OutputUntouched, Untouched}
+use Rattle.tg_commands.specs.Lines.{Says, exit_status, status_of}
+use Rattle.tg_commands.specs.Verify.{IsGoodCar, IsNoAnswer, IsVerifyRefusal, NotAccepted, SaysLine, ShowsSome, TellsVerify, VerifiedInput, VerifyEnds, Vouched}
+use Rattle.tg_commands.specs.declared.fault.CommandFault.{CommandFault}
+use Rattle.tg_commands.specs.declared.fault.CommandFault.TheVariants.{OutOfMemory, Usage}
 use Rattle.tg_app.proofs.Statuses.{differs, not_zero}
 use Rattle.tg_bytes.specs.Told.{after_front, grown}
 use Rattle.tg_car.specs.CarText.{header_map}
@@ -21,8 +21,8 @@ use Rattle.tg_model.specs.Queries.{QueryParts}
 use Rattle.tg_model.specs.Sound.{IsSound}
 use Rattle.tg_model.specs.declared.limits.LimitKind.TheVariants as kinds
 use Rattle.tg_streams.specs.Streams.{Input, InputQuiet, InputRose, Output, OutputQuiet, OutputRose, Put, Took, Unput}
-use Rattle.tg_traversal_laws.specs.Tasks.{Miss, no_directory, no_entry}
-use Rattle.tg_traversal_laws.specs.Verified.{VerifiedMisses}
+use Rattle.tg_model_laws.specs.Tasks.{Miss, no_directory, no_entry}
+use Rattle.tg_model_laws.specs.Verified.{VerifiedMisses}
 use Rattle.tg_verify.specs.Laws.{AnswerIsFront, ThroughFits}
 use Rattle.tg_verify.specs.Refusals.{HasRefused}
 use Rattle.tg_verify.specs.Sound.{IsItsAnswer, IsItsFront}

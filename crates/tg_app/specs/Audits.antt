@@ -1,10 +1,10 @@
 -- `audit`: a folder that a seed draws is imported, served and fetched in memory, and the text that tells it goes to out.
 use Rattle.std.specs.Prelude.{Err, None, Ok, Option, Result, Some, ⊤, ℕ, ◌≡◌}
-use Rattle.tg_app.specs.Exports.{IsExportRefusal}
+use Rattle.tg_commands.specs.Exports.{IsExportRefusal}
 use Rattle.tg_app.specs.Fetches.{IsFetchRefusal}
-use Rattle.tg_app.specs.Imports.{IsImportRefusal}
-use Rattle.tg_app.specs.declared.fault.CommandFault.{CommandFault}
-use Rattle.tg_app.specs.declared.fault.CommandFault.TheVariants as refusals
+use Rattle.tg_commands.specs.Imports.{IsImportRefusal}
+use Rattle.tg_commands.specs.declared.fault.CommandFault.{CommandFault}
+use Rattle.tg_commands.specs.declared.fault.CommandFault.TheVariants as refusals
 use Rattle.tg_audit.specs.Audits.{AuditEnds}
 use Rattle.tg_audit.specs.declared.fault.AuditFault.{AuditFault}
 use Rattle.tg_audit.specs.declared.fault.AuditFault.TheVariants as faults

@@ -4,20 +4,21 @@ use Rattle.tg_words.specs.CommandLine.{CommandLine}
 use Rattle.tg_words.specs.declared.Command.{Command}
 use Rattle.tg_words.specs.declared.Command.TheVariants.{Audit, Check, Node, CidToHex, CidToText, Export, Fetch, Import, Serve, Verify}
 use Rattle.tg_streams.specs.Streams.{Output}
-use Rattle.tg_app.specs.Lines.{exit_status, Says}
-use Rattle.tg_app.specs.Blocks.{InputUntouched, Untouched}
+use Rattle.tg_commands.specs.Lines.{exit_status, Says}
+use Rattle.tg_commands.specs.Blocks.{InputUntouched, Untouched}
 use Rattle.tg_app.specs.Audits.{AuditAnswers}
-use Rattle.tg_app.specs.Check.{CheckEnds}
-use Rattle.tg_app.specs.Node.{NodeEnds}
-use Rattle.tg_app.specs.CidLines.{HexLine, TextLine, PrintEnds}
-use Rattle.tg_app.specs.Exports.{ExportAnswers}
+use Rattle.tg_commands.specs.Check.{CheckEnds}
+use Rattle.tg_commands.specs.Node.{NodeEnds}
+use Rattle.tg_commands.specs.CidLines.{HexLine, TextLine, PrintEnds}
+use Rattle.tg_commands.specs.Exports.{ExportAnswers}
 use Rattle.tg_app.specs.Fetches.{FetchAnswers}
-use Rattle.tg_app.specs.Imports.{ImportAnswers}
-use Rattle.tg_app.specs.Objects.{Objects, SameFiles}
+use Rattle.tg_commands.specs.Imports.{ImportAnswers}
+use Rattle.tg_commands.specs.Files.{SameFiles}
+use Rattle.tg_app.specs.Objects.{Objects}
 use Rattle.tg_app.specs.Serves.{ServeAnswers}
-use Rattle.tg_app.specs.Verify.{VerifyEnds}
-use Rattle.tg_app.specs.declared.fault.CommandFault.{CommandFault}
-use Rattle.tg_app.specs.declared.fault.CommandFault.TheVariants.{Usage, OutOfMemory}
+use Rattle.tg_commands.specs.Verify.{VerifyEnds}
+use Rattle.tg_commands.specs.declared.fault.CommandFault.{CommandFault}
+use Rattle.tg_commands.specs.declared.fault.CommandFault.TheVariants.{Usage, OutOfMemory}
 
 -- how a command ends
 abbrev pub CommandEnds : Command → Objects → Option CommandFault → Type 0

@@ -1,12 +1,12 @@
 -- `fetch`: a reply is fetched from a gateway, and what it says goes to out.
 use Rattle.std.specs.Prelude.{Err, List, None, Ok, Option, Result, Some, ⊤, ℕ, ◌≡◌, ◌⊎◌}
-use Rattle.tg_app.specs.Lines.{Says, exit_status}
-use Rattle.tg_app.specs.Verify.{IsNoAnswer, IsVerifyRefusal}
-use Rattle.tg_app.specs.declared.fault.CommandFault.{CommandFault}
-use Rattle.tg_app.specs.declared.fault.CommandFault.TheVariants as refusals
+use Rattle.tg_commands.specs.Lines.{Says, exit_status}
+use Rattle.tg_commands.specs.Verify.{IsNoAnswer, IsVerifyRefusal}
+use Rattle.tg_commands.specs.declared.fault.CommandFault.{CommandFault}
+use Rattle.tg_commands.specs.declared.fault.CommandFault.TheVariants as refusals
 use Rattle.tg_client.specs.declared.fault.ClientFault.TheVariants as clients
 use Rattle.tg_dials.specs.Dials.{Dialling}
-use Rattle.tg_exchange.specs.Exchanges.{HasOneBlockEach}
+use Rattle.tg_heard.specs.Exchanges.{HasOneBlockEach}
 use Rattle.tg_fetch.specs.Bodies.{SaysOf}
 use Rattle.tg_fetch.specs.Calls.{FetchEnds}
 use Rattle.tg_fetch.specs.Faults.{QuietUnlessSink}

@@ -1,20 +1,23 @@
 -- What `run` says of one run: how the words end, and for each command what each exit status says.
 use Rattle.std.specs.Prelude.{IsSome, List, Some, ℕ, ◌≡◌, ◌≢◌, ◌≤◌, ◌⊎◌}
 use Rattle.tg_app.specs.Audits.{AuditDenied}
-use Rattle.tg_app.specs.Blocks.{InputUntouched, OutputUntouched, PassedLimit}
-use Rattle.tg_app.specs.Check.{Agrees, CheckEnds, CheckStatus, Checked, CheckedOther}
-use Rattle.tg_app.specs.CidLines.{HexLine, PutsLine, TextLine}
+use Rattle.tg_commands.specs.Blocks.{InputUntouched, OutputUntouched, PassedLimit}
+use Rattle.tg_commands.specs.Check.{Agrees, CheckEnds, CheckStatus, Checked, CheckedOther}
+use Rattle.tg_commands.specs.CidLines.{HexLine, PutsLine, TextLine}
 use Rattle.tg_app.specs.Commands.{AllUntouched, Answers, CommandEnds, Ends, IsNoCommand, NoMemoryEnds, ReadsBlock, UsesNoDial, UsesNoDoor}
 use Rattle.tg_app.specs.Commands.{UsesNoFiles}
 use Rattle.tg_app.specs.Commands.{WantsMemory}
-use Rattle.tg_app.specs.Exports.{Exported, ExportedNothing, HasAnswer, HoldsDag, IsRisen}
+use Rattle.tg_commands.specs.Exports.{Exported, ExportedNothing, HasAnswer, HoldsDag, IsRisen}
 use Rattle.tg_app.specs.Fetches.{Fetched, FetchedStatus, IsGoodReply, VouchedFetch}
-use Rattle.tg_app.specs.Imports.{Imported, IsGoodFolder, options_of}
-use Rattle.tg_app.specs.Node.{NodeEnds, NodeStatus, Noded, NodedOther}
-use Rattle.tg_app.specs.Objects.{Objects, SameFiles}
+use Rattle.tg_commands.specs.Imports.{Imported, IsGoodFolder, options_of}
+use Rattle.tg_commands.specs.Lines.{Says}
+use Rattle.tg_commands.specs.Node.{NodeEnds, NodeStatus, Noded, NodedOther}
+use Rattle.tg_commands.specs.Files.{SameFiles}
+use Rattle.tg_app.specs.Objects.{Objects}
 use Rattle.tg_app.specs.Serves.{IsGoodPack, ServedWhole}
-use Rattle.tg_app.specs.Verify.{IsGoodCar, IsItsCar, VerifiedInput, Vouched}
+use Rattle.tg_commands.specs.Verify.{IsGoodCar, IsItsCar, VerifiedInput, Vouched}
 use Rattle.tg_audit.specs.Audits.{Audited}
+use Rattle.tg_commands.specs.declared.fault.CommandFault.TheVariants.{FolderFault, OutOfMemory}
 use Rattle.tg_cid.specs.Cid.{CidParts}
 use Rattle.tg_cid.specs.Names.{Names}
 use Rattle.tg_dials.specs.Dials.{DialRose}
@@ -167,7 +170,8 @@ pub record VerifyRun (q : QueryParts) (run : Run) : Type 0 where
 -- more, in order, each by a session over what the pack's content holds, as far as it is told, and given back
 pub record ServeRun (parts : ServeParts) (run : Run) : Type 0 where
   pub ends : EndsAs (Serve parts) run
-  -- at 0 on each link all that is sent for what was heard was said, and the peer said no more or the last reply closes
+  -- at 0 the door was asked to bind the port, on each link all that is sent for what was heard was said, and the peer said no more or the
+  -- last reply closes, and no fault of the door was counted, but where it tells links and found no memory to tell of one
   pub served : run.status ≡ 0 → ServedWhole parts run.objects.files.pack run.objects.out run.objects.door
   -- at 5 the door couldn't be bound, or gave a link, or took one back, with a counted fault
   pub door_fault : run.status ≡ 5 → DoorRose run.objects.door.doorway
@@ -181,6 +185,8 @@ pub record ServeRun (parts : ServeParts) (run : Run) : Type 0 where
 pub record FetchRun (parts : FetchParts) (run : Run) : Type 0 where
   -- no memory was found for the words, and nothing was done; or the call was made, and ended so
   pub ends : Answers (λ end. NoMemoryEnds run.objects end ⊎ CommandEnds (Fetch parts) run.objects end) run.status run.err
+  -- but for want of memory the peer at the address was dialled, answered or not
+  pub dialled : run.status ≢ 8 → run.objects.dial.dialling.dialled parts.addr
   -- at 0 what was heard begins with a reply that is the answer, and out grew by its text
   pub fetched : run.status ≡ 0 → Fetched parts run.objects.dial.dialling run.objects.out
   -- at 4 it is a reply of another status; at 5 a fault of the dial or of its link was counted
@@ -222,3 +228,15 @@ pub record Runs (run : Run) : Type 0 where
   pub serve : (parts : ServeParts) → Asks run (Serve parts) → ServeRun parts run
   pub fetch : (parts : FetchParts) → Asks run (Fetch parts) → FetchRun parts run
   pub audit : (parts : AuditParts) → Asks run (Audit parts) → AuditRun parts run
+
+-- ---- the program
+
+-- nothing was done, as a standard stream is missing and can't be held, or no memory was found for the words, and err says so
+pub record IsUnrun (objects : Objects) (err : Output) (status : ℕ) : Type 0 where
+  pub untouched : AllUntouched objects
+  pub why : ((status ≡ 6) × Says (Some FolderFault) err) ⊎ ((status ≡ 8) × Says (Some OutOfMemory) err)
+
+-- these words were run over these objects, or nothing was done
+abbrev pub Answered : List (List ℕ) → Objects → Output → ℕ → Type 0
+Answered words objects err status =
+    Runs (record { words = words; objects = objects; err = err; status = status }) ⊎ IsUnrun objects err status

@@ -1,35 +1,23 @@
 -- `serve`: a pack is served through a door.
 use Rattle.std.specs.Prelude.{All, Err, List, None, Ok, Option, Result, Some, if◌then◌else◌, ℕ, ◌≡◌, ◌⊎◌}
-use Rattle.tg_app.specs.Blocks.{OutputUntouched}
-use Rattle.tg_app.specs.Exports.{IsAttachedPack, NotAttached}
+use Rattle.tg_commands.specs.Blocks.{OutputUntouched}
+use Rattle.tg_commands.specs.Exports.{IsAttachedPack, NotAttached, pack_refusal}
 use Rattle.tg_app.specs.Objects.{Entrance}
-use Rattle.tg_app.specs.declared.fault.CommandFault.{CommandFault}
-use Rattle.tg_app.specs.declared.fault.CommandFault.TheVariants as refusals
+use Rattle.tg_commands.specs.declared.fault.CommandFault.{CommandFault}
+use Rattle.tg_commands.specs.declared.fault.CommandFault.TheVariants as refusals
 use Rattle.tg_files.specs.Packs.{PackStep}
 use Rattle.tg_model.specs.LimitNumbers.{standard}
 use Rattle.tg_model.specs.Stores.{Store}
 use Rattle.tg_model.specs.declared.limits.LimitKind.TheVariants as kinds
-use Rattle.tg_serve.specs.Packed.{HasServed, PackServed}
-use Rattle.tg_serve.specs.Serving.{SaidAll}
+use Rattle.tg_serve.specs.Packed.{AskedBy, HasServed, PackServed}
+use Rattle.tg_serve.specs.Serving.{QuietWhileTold, SaidAll}
 use Rattle.tg_serve.specs.declared.Happened.{Happened}
 use Rattle.tg_serve.specs.declared.packed.ServeFault.{ServeFault}
 use Rattle.tg_serve.specs.declared.packed.ServeFault.TheVariants as faults
 use Rattle.tg_store.specs.AttachedPacks.{IsAttachedIn}
 use Rattle.tg_store.specs.Attaching.{IsAttached}
-use Rattle.tg_store.specs.declared.fault.PackFault.{PackFault}
-use Rattle.tg_store.specs.declared.fault.PackFault.TheVariants as packs
 use Rattle.tg_streams.specs.Streams.{Output}
 use Rattle.tg_words.specs.ServeLines.{ServeParts}
-
--- the refusal for a pack that can't be attached
-abbrev pub pack_refusal : PackFault → CommandFault
-pack_refusal (packs.NotCar at) = refusals.NotCar at
-pack_refusal (packs.BadDigest at) = refusals.BadPack at
-pack_refusal packs.Unfinished = refusals.Unfinished
-pack_refusal (packs.Truncated at) = refusals.TornPack at
-pack_refusal packs.Failed = refusals.PackFault
-pack_refusal (packs.BlockLimit at) = refusals.PackLimit at
-pack_refusal packs.OutOfMemory = refusals.OutOfMemory
 
 -- what happened behind the line, by the first of these: want of memory, a reply that the store broke off, a fault of the door or
 -- of a link, a link that gave more than may be received
@@ -52,6 +40,7 @@ pub record ServeEnded (parts : ServeParts) (step : PackStep) (out : Output) (doo
   pub attached : IsAttachedPack parts.pack step
   pub result : Result Happened ServeFault
   pub served : PackServed standard.received parts.port parts.count door.links_tell step out door.doorway door.same_door result
+  pub asked : AskedBy (door.asked parts.port) result
   pub end_is : end ≡ serve_end result
 
 -- the pack can't be attached at its path
@@ -73,18 +62,21 @@ abbrev pub ServeAnswers : ServeParts → PackStep → Type 0 → Output → Entr
 ServeAnswers parts step same_pack out door end =
     ServeEnded parts step out door end ⊎ (ServeUnattached step out door end ⊎ ServeUnbegun same_pack out door end)
 
--- the line was written and links were served, over what the pack's content holds as far as it is told
+-- the door was asked to bind the port, the line was written and links were served, over what the pack's content holds as far as it is told
 pub record ServedLinks (parts : ServeParts) (step : PackStep) (out : Output) (door : Entrance) : Type 0 where
   pub attached : IsAttachedPack parts.pack step
   pub told : Option Store
   pub store : IsAttachedIn step.content_old told
   pub happened : Happened
+  pub asked : door.asked parts.port
   pub served : HasServed told standard.received parts.port parts.count door.links_tell step.faults_old step.faults_new out door.doorway happened
 
--- and on each link all that is sent for what was heard was said
+-- and on each link all that is sent for what was heard was said; and no fault of the door was counted, but where it tells the links
+-- that were given back and no memory was found to tell of one
 pub record ServedWhole (parts : ServeParts) (step : PackStep) (out : Output) (door : Entrance) : Type 0 where
   pub links : ServedLinks parts step out door
   pub each : All (SaidAll links.told) links.served.serves.runs
+  pub quiet : QuietWhileTold door.doorway
 
 -- the content is told, and can be attached as a store
 abbrev pub IsGoodPack : Option (List ℕ) → Type 0

@@ -1,15 +1,15 @@
 //! `audit`.
 ghost use Rattle.std.specs.Prelude.{◌<◌, ◌≤◌};
 ghost use Rattle.tg_app.specs.Audits.{AuditAnswers, IsAuditRefusal};
-ghost use Rattle.tg_app.specs.Lines.{end_of};
+ghost use Rattle.tg_commands.specs.Lines.{end_of};
 ghost use Rattle.tg_streams.specs.Streams.{into};
 
-use crate::export::refusal_of_pack;
-use crate::fault::CommandFault;
 use crate::fetching::refusal_of_fetch;
-use crate::import::refusal_of_import;
 use std::alloc::Global;
 use tg_audit::{AuditFault, audit};
+use tg_commands::CommandFault;
+use tg_commands::export::refusal_of_pack;
+use tg_commands::import::refusal_of_import;
 use tg_gateway::GatewayFault;
 use tg_model::LimitKind;
 use tg_streams::Sink;

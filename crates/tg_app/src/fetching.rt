@@ -1,13 +1,13 @@
 //! `fetch`.
 ghost use Rattle.tg_app.specs.Fetches.{FetchAnswers, IsFetchRefusal};
-ghost use Rattle.tg_app.specs.Lines.{end_of};
+ghost use Rattle.tg_commands.specs.Lines.{end_of};
 ghost use Rattle.tg_dials.specs.Dials.{at_dial};
 ghost use Rattle.tg_query.specs.Requests.{IsAddr};
 ghost use Rattle.tg_streams.specs.Streams.{into};
 
-use crate::fault::CommandFault;
-use crate::verify::refusal_of_verifier;
 use std::alloc::Global;
+use tg_commands::CommandFault;
+use tg_commands::verify::refusal_of_verifier;
 use tg_dials::Dial;
 use tg_fetch::{FetchFault, Watch, fetch};
 use tg_model::Limits;

@@ -1,18 +1,11 @@
-//! The program's commands.
+//! The program's commands, by the words that ask for them.
 #![tactic(auto)]
 
 mod audit;
-mod blocks;
-mod check;
-mod cid;
-mod export;
-mod fault;
 mod fetching;
-mod import;
-mod node;
 mod serve;
 mod top;
-mod verify;
 
-pub use fault::CommandFault;
-pub use top::{out_of_memory, run};
+pub use tg_commands::CommandFault;
+pub use tg_fetch::{Told, Watch};
+pub use top::{no_streams, out_of_memory, run};

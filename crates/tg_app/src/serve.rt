@@ -1,14 +1,15 @@
 //! `serve`.
 ghost use Rattle.std.specs.Prelude.{◌≡◌, IsSome, Some};
-ghost use Rattle.tg_app.specs.Lines.{end_of};
-ghost use Rattle.tg_app.specs.Objects.{entrance_between, given_back};
+ghost use Rattle.tg_commands.specs.Lines.{end_of};
+ghost use Rattle.tg_commands.specs.Files.{given_back};
+ghost use Rattle.tg_app.specs.Objects.{entrance_between};
 ghost use Rattle.tg_app.specs.Serves.{ServeAnswers, happened_end, serve_end};
 ghost use Rattle.tg_files.specs.Packs.{pack_step};
 ghost use Rattle.tg_streams.specs.Streams.{into};
 
-use crate::export::refusal_of_pack;
-use crate::fault::CommandFault;
 use std::alloc::Global;
+use tg_commands::CommandFault;
+use tg_commands::export::refusal_of_pack;
 use tg_doors::Door;
 use tg_files::Pack;
 use tg_model::{LimitKind, Limits};

@@ -2,22 +2,22 @@
 ghost use Rattle.std.specs.Prelude.{◌≡◌, IsSome, map, string_bytes};
 ghost use Rattle.tg_streams.specs.Streams.{into};
 ghost use Rattle.tg_app.specs.Commands.{Ends};
-ghost use Rattle.tg_app.specs.Lines.{Says, end_of, exit_status};
+ghost use Rattle.tg_commands.specs.Lines.{Says, end_of, exit_status};
 ghost use Rattle.tg_app.specs.Objects.{objects_between};
 ghost use Rattle.tg_app.specs.Runs.{Run, Runs};
-ghost use Rattle.tg_app.specs.declared.fault.CommandFault.{CommandFault};
+ghost use Rattle.tg_commands.specs.declared.fault.CommandFault.{CommandFault};
 
 use crate::audit::audit_build;
-use crate::check::check;
-use crate::cid::{cid_to_hex, cid_to_text};
-use crate::export::export;
-use crate::fault::CommandFault;
 use crate::fetching::fetch_answer;
-use crate::import::import;
-use crate::node::node;
 use crate::serve::serve;
-use crate::verify::verify;
 use std::alloc::Global;
+use tg_commands::CommandFault;
+use tg_commands::check::check;
+use tg_commands::cid::{cid_to_hex, cid_to_text};
+use tg_commands::export::export;
+use tg_commands::import::import;
+use tg_commands::node::node;
+use tg_commands::verify::verify;
 use tg_dials::Dial;
 use tg_doors::Door;
 use tg_fetch::Watch;
@@ -76,9 +76,9 @@ pub fn run<F: Folder, P: Pack, L: Door, D: Dial, I: Source, O: Sink, E: Sink, W:
     tg_model_laws::traversals();
     tg_store::laws::finished_packs::<P>();
     tg_store::laws::one_cause();
-    tg_traversal_laws::beside_dags();
-    tg_traversal_laws::store_walks();
-    tg_traversal_laws::verified_sections();
+    tg_model_laws::beside_dags();
+    tg_model_laws::store_walks();
+    tg_model_laws::verified_sections();
     tg_verify::laws::verified_answers();
     let end = command(alloc, words, folder, pack, door, dial, input, out, watch);
     tell(&end, err)
@@ -138,4 +138,14 @@ pub fn out_of_memory<E: Sink>(err: &mut E) -> u8
 {
     let _ = CommandFault::OutOfMemory.report(err);
     CommandFault::OutOfMemory.status()
+}
+
+/// Says on err that a standard stream is missing and can't be held, and answers the exit status 6.
+pub fn no_streams<E: Sink>(err: &mut E) -> u8
+    ensures status { result ≡ 6 }
+    ensures line { Says (Some CommandFault.FolderFault) (into E.sink err.old err.new) }
+{
+    let fault = CommandFault::FolderFault;
+    let _ = fault.report(err);
+    fault.status()
 }

@@ -28,9 +28,9 @@ use Rattle.tg_model.specs.LimitNumbers.{standard}
 use Rattle.tg_model.specs.Queries.{QueryParts}
 use Rattle.tg_model.specs.Stores.{Store}
 use Rattle.tg_query.specs.Requests.{request_text}
-use Rattle.tg_sent.specs.Laws.{SentStays}
-use Rattle.tg_sent.specs.Sent.{Sent, SentBy, SentInFull, closed_by}
-use Rattle.tg_sent.specs.Shapes.{SentOver}
+use Rattle.tg_reply.specs.SentLaws.{SentStays}
+use Rattle.tg_reply.specs.Sent.{Sent, SentBy, SentInFull, closed_by}
+use Rattle.tg_reply.specs.Shapes.{SentOver}
 use Rattle.tg_serve.specs.Serving.{AreHeardOf, AreServed, HasHappened, LinkRun, SaidAll, SaidBy, ServesDoor, and_calls, call_of, is_limit, is_memory}
 use Rattle.tg_serve.specs.declared.Happened.{Happened}
 use Rattle.tg_streams.specs.Streams.{into}

@@ -14,8 +14,8 @@ use Rattle.tg_model.specs.LimitNumbers.{LimitNumbers, standard}
 use Rattle.tg_model.specs.Queries.{QueryParts}
 use Rattle.tg_model.specs.Stores.{Store}
 use Rattle.tg_query.specs.Requests.{request_text}
-use Rattle.tg_sent.specs.Sent.{Sent, SentInFull, sent_bytes}
-use Rattle.tg_sent.specs.Shapes.{SentOver}
+use Rattle.tg_reply.specs.Sent.{Sent, SentInFull, sent_bytes}
+use Rattle.tg_reply.specs.Shapes.{SentOver}
 
 -- the address that the requests name
 abbrev pub audit_addr : List ℕ

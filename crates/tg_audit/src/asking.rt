@@ -53,7 +53,7 @@ fn reply_to<B: Blocks>(
     ensures told { MatchResult result (IsReplied (B.blocks.stored blocks.old) query.now) (IsUnreplied query.now) }
     ensures looked { HaveLookedUp (looked_in B.blocks blocks.old blocks.new) }
 {
-    tg_sent::sent_joins();
+    tg_reply::sent_joins();
     let mut coming = List::new(alloc);
     coming.push(print_request(alloc, query, ADDR)?)?;
     let mut door = MemDoor::new(alloc, coming, PIECE, List::new(alloc));

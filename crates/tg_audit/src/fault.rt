@@ -2,7 +2,7 @@
 use std::alloc::AllocError;
 use tg_fetch::FetchFault;
 use tg_gateway::GatewayFault;
-use tg_import_pack::ImportFault;
+use tg_import::ImportFault;
 use tg_store::PackFault;
 use thiserror::Error;
 

@@ -8,7 +8,7 @@ use std::alloc::Global;
 use tg_bytes::{Bytes, List};
 use tg_cid::Cid;
 use tg_files::{MemFolder, MemPack};
-use tg_import_pack::{Options, Summary, import_pack};
+use tg_import::{Options, Summary, import_pack};
 use tg_store::PackStore;
 use tg_tree::Tree;
 

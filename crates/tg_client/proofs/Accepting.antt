@@ -13,8 +13,8 @@ use Rattle.tg_model.specs.Queries.{QueryParts}
 use Rattle.tg_model.specs.Traversal.{is_sent_behind}
 use Rattle.tg_model.specs.declared.limits.LimitKind.TheVariants as kinds
 use Rattle.tg_streams.specs.Streams.{Input, Output}
-use Rattle.tg_traversal_laws.specs.Tasks.{Task, open_block}
-use Rattle.tg_traversal_laws.specs.Verified.{AreSettled, VerifiedLaws}
+use Rattle.tg_model_laws.specs.Tasks.{Task, open_block}
+use Rattle.tg_model_laws.specs.Verified.{AreSettled, VerifiedLaws}
 use Rattle.tg_verify.specs.Laws.{IsOwnFault}
 use Rattle.tg_verify.specs.Refusals.{HasRefused}
 use Rattle.tg_verify.specs.State.{count_of}

@@ -10,8 +10,8 @@ use Rattle.tg_model.specs.LimitNumbers.{LimitNumbers}
 use Rattle.tg_model.specs.PathWalk.{stopped}
 use Rattle.tg_model.specs.Queries.{QueryParts}
 use Rattle.tg_model.specs.Traversal.{block_list, traversal}
-use Rattle.tg_traversal_laws.specs.Tasks.{Miss, open_block, stop_of}
-use Rattle.tg_traversal_laws.specs.Verified.{VerifiedLaws}
+use Rattle.tg_model_laws.specs.Tasks.{Miss, open_block, stop_of}
+use Rattle.tg_model_laws.specs.Verified.{VerifiedLaws}
 use Rattle.tg_traversal.specs.Left.{WantedAt}
 use Rattle.tg_verify.specs.Laws.{AnswerLaws, IsMissOf, IsWithinLimits}
 use Rattle.tg_verify.specs.Taken.{IsThrough, IsUpTo}

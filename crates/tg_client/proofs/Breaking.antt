@@ -8,8 +8,8 @@ use Rattle.tg_car.specs.declared.event.Event.{Event}
 use Rattle.tg_car.specs.declared.fault.CarFault.{CarFault}
 use Rattle.tg_car.specs.declared.fault.CarFault.TheVariants as cars
 use Rattle.tg_traversal.specs.Left.{WantedAt}
-use Rattle.tg_traversal_laws.specs.Stages.{Given}
-use Rattle.tg_traversal_laws.specs.Tasks.{Task}
+use Rattle.tg_model_laws.specs.Stages.{Given}
+use Rattle.tg_model_laws.specs.Tasks.{Task}
 use Rattle.tg_cid.specs.Cid.{CidParts}
 use Rattle.tg_model.specs.Dag.{Dag, Section}
 use Rattle.tg_model.specs.LimitNumbers.{LimitNumbers}

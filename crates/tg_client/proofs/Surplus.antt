@@ -13,7 +13,7 @@ use Rattle.tg_model.specs.PathWalk.{Spot}
 use Rattle.tg_model.specs.Queries.{QueryParts}
 use Rattle.tg_model.specs.declared.limits.LimitKind.TheVariants as kinds
 use Rattle.tg_streams.specs.Streams.{Input, Output}
-use Rattle.tg_traversal_laws.specs.Verified.{VerifiedLaws}
+use Rattle.tg_model_laws.specs.Verified.{VerifiedLaws}
 use Rattle.tg_verify.specs.Laws.{AnswerLaws, IsOwnFault, IsWithinLimits}
 use Rattle.tg_verify.specs.Refusals.{HasRefused}
 use Rattle.tg_verify.specs.State.{count_of}

@@ -11,7 +11,7 @@ use Rattle.tg_model.specs.LimitNumbers.{LimitNumbers}
 use Rattle.tg_model.specs.PathWalk.{stopped}
 use Rattle.tg_model.specs.Queries.{QueryParts}
 use Rattle.tg_model.specs.Traversal.{block_list, traversal}
-use Rattle.tg_traversal_laws.specs.Tasks.{Miss, stop_of}
+use Rattle.tg_model_laws.specs.Tasks.{Miss, stop_of}
 use Rattle.tg_verify.specs.Laws.{IsMissOf, IsWithinLimits}
 
 -- a front of a CAR of these sections, which has no more bytes than may be received: these bytes were heard, in which those

@@ -80,7 +80,7 @@ pub fn verify_car<I: Source, S: Sink>(
     tg_model_laws::one_fit();
     tg_model_laws::front_sections();
     tg_model_laws::own_sections();
-    tg_traversal_laws::verified_sections();
+    tg_model_laws::verified_sections();
     tg_verify::laws::verified_answers();
     tg_verify::laws::own_sections_taken();
     laws::received_sections();

@@ -27,7 +27,7 @@ pub fn bodies()
     received_sections();
     tg_car::laws::car_laws();
     tg_model_laws::one_fit();
-    tg_traversal_laws::verified_sections();
+    tg_model_laws::verified_sections();
     tg_verify::laws::verified_answers();
 }
 

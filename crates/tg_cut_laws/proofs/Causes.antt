@@ -13,7 +13,7 @@ use Rattle.tg_model.specs.declared.fault.BlockFault.{BlockFault}
 use Rattle.tg_model.specs.declared.kinds.Kind.{Kind}
 use Rattle.tg_model.specs.declared.kinds.Kind.TheVariants.{Basic, File, Raw, Shard, Symlink}
 use Rattle.tg_model.specs.declared.limits.LimitKind.TheVariants as kinds
-use Rattle.tg_traversal_laws.specs.Tasks.{depth_of, fault_at, position_of}
+use Rattle.tg_model_laws.specs.Tasks.{depth_of, fault_at, position_of}
 use Rattle.tg_verify.specs.Opening.{IsReadBlock, PassesAs}
 use Rattle.tg_verify.specs.Refusals.{HasReceiptCause, IsBadBlock, IsMissized, IsNamedBlock, IsWantedBlock}
 use Rattle.tg_verify.specs.declared.fault.Refusal.{Refusal}

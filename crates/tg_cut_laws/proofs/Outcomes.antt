@@ -11,9 +11,9 @@ use Rattle.tg_model.specs.LimitNumbers.{LimitNumbers, number_of}
 use Rattle.tg_model.specs.Queries.{QueryParts}
 use Rattle.tg_model.specs.declared.kinds.Kind.{Kind}
 use Rattle.tg_model.specs.declared.limits.LimitKind.{LimitKind}
-use Rattle.tg_traversal_laws.specs.Stages.{Given}
-use Rattle.tg_traversal_laws.specs.Tasks.{Miss, Task, no_directory, no_entry, stop_at, tasks_then}
-use Rattle.tg_traversal_laws.specs.Verified.{written_whole}
+use Rattle.tg_model_laws.specs.Stages.{Given}
+use Rattle.tg_model_laws.specs.Tasks.{Miss, Task, no_directory, no_entry, stop_at, tasks_then}
+use Rattle.tg_model_laws.specs.Verified.{written_whole}
 use Rattle.tg_verify.specs.Counting.{AreUnpassed, IsFirstPassed, counts_given}
 use Rattle.tg_verify.specs.Opening.{PassesAs, given_with, tasks_behind}
 use Rattle.tg_verify.specs.Reached.{Stage, stage_of}

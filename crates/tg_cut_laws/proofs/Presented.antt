@@ -12,9 +12,9 @@ use Rattle.tg_model.specs.Fits.{HasOneBlockEach}
 use Rattle.tg_model.specs.Queries.{QueryParts}
 use Rattle.tg_model.specs.Traversal.{is_asked, is_sent_behind}
 use Rattle.tg_model_laws.specs.SentSections.{known_behind, once, sent_held, unasked_identity}
-use Rattle.tg_traversal_laws.specs.Openings.{opened_by}
-use Rattle.tg_traversal_laws.specs.Tasks.{Task, open_block}
-use Rattle.tg_traversal_laws.specs.Verified.{IsHad, Verified}
+use Rattle.tg_model_laws.specs.TakenBlocks.{opened_by}
+use Rattle.tg_model_laws.specs.Tasks.{Task, open_block}
+use Rattle.tg_model_laws.specs.Verified.{IsHad, Verified}
 use Rattle.tg_verify.specs.Reached.{Stage}
 
 -- ---- lists that begin one list

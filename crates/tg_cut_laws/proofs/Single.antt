@@ -11,8 +11,8 @@ use Rattle.tg_model.specs.Dag.{Section}
 use Rattle.tg_model.specs.LimitNumbers.{LimitNumbers}
 use Rattle.tg_model.specs.Queries.{QueryParts}
 use Rattle.tg_model.specs.Traversal.{is_sent_behind}
-use Rattle.tg_traversal_laws.specs.Tasks.{open_block}
-use Rattle.tg_traversal_laws.specs.Verified.{written_whole}
+use Rattle.tg_model_laws.specs.Tasks.{open_block}
+use Rattle.tg_model_laws.specs.Verified.{written_whole}
 use Rattle.tg_verify.specs.Reached.{Stage, stage_of}
 use Rattle.tg_verify.specs.Taken.{IsThrough, IsUpTo}
 use Rattle.tg_verify.specs.declared.fault.Refusal.{Refusal}

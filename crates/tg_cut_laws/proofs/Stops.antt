@@ -14,9 +14,9 @@ use Rattle.tg_model.specs.Traversal.{is_sent_behind}
 use Rattle.tg_model.specs.declared.limits.LimitKind.TheVariants as kinds
 use Rattle.tg_model.specs.declared.limits.LimitKind.{LimitKind}
 use Rattle.tg_model_laws.specs.SentSections.{taken_if}
-use Rattle.tg_traversal_laws.specs.Stages.{Given}
-use Rattle.tg_traversal_laws.specs.Tasks.{Miss, Task, no_directory, no_entry, open_block, stop_at}
-use Rattle.tg_traversal_laws.specs.Verified.{IsKnownIf}
+use Rattle.tg_model_laws.specs.Stages.{Given}
+use Rattle.tg_model_laws.specs.Tasks.{Miss, Task, no_directory, no_entry, open_block, stop_at}
+use Rattle.tg_model_laws.specs.Verified.{IsKnownIf}
 use Rattle.tg_verify.specs.Counting.{AreUnpassed, counts_given}
 use Rattle.tg_verify.specs.Reached.{IsOpenedAt, IsReached, LeadsOn, Stage, stage_of}
 use Rattle.tg_verify.specs.Refusals.{HasPlaceCause, HasRefused, HasSectionCause, IsOver, IsRefusedAt, IsRefusedBehind, IsSurplus, IsWantedBlock}

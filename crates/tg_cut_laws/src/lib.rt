@@ -18,7 +18,7 @@ use tg_streams::Sink;
 pub fn sections_answered_once()
     ensures { SectionLaws }
 {
-    tg_traversal_laws::verified_sections();
+    tg_model_laws::verified_sections();
 }
 
 /// The bytes of a CAR have one answer for a query and limits, however they are cut: two refusals of what they are are the

@@ -8,16 +8,17 @@ use Rattle.tg_links.specs.declared.call.Call.{Call}
 use Rattle.tg_streams.specs.Streams.{SourceMeaning}
 
 -- what a kind of dial says of its values: what each peer will say that is dialled, told or not; what went through the links
--- that were given back, told or not; how many calls of `dial` failed, a number that stands still at 2 ^ 64 - 1; and how many
--- faults there were
+-- that were given back, told or not; how many calls of `dial` failed, a number that stands still at 2 ^ 64 - 1; how many
+-- faults there were; and that between two moments the peer at an address was dialled, answered or not
 pub record DialMeaning (D : Type 0) : Type 1 where
   pub coming : D → Option (List (List ℕ))
   pub calls : D → Option (List Call)
   pub missed : D → ℕ
   pub faults : D → ℕ
+  pub dialled : D → D → List ℕ → Type 0
 
--- a dial before and after a call
-pub record Dialling : Type 0 where
+-- a dial before and after a call, and the addresses whose peers were dialled between
+pub record Dialling : Type 1 where
   pub coming_old : Option (List (List ℕ))
   pub coming_new : Option (List (List ℕ))
   pub calls_old : Option (List Call)
@@ -26,6 +27,7 @@ pub record Dialling : Type 0 where
   pub missed_new : ℕ
   pub faults_old : ℕ
   pub faults_new : ℕ
+  pub dialled : List ℕ → Type 0
 
 abbrev pub at_dial : {D : Type 0} → DialMeaning D → D → D → Dialling
 at_dial m old new = record {
@@ -37,6 +39,7 @@ at_dial m old new = record {
   missed_new = m.missed new;
   faults_old = m.faults old;
   faults_new = m.faults new;
+  dialled = m.dialled old new;
 }
 
 abbrev pub DialQuiet : Dialling → Type 0

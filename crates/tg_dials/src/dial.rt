@@ -1,5 +1,5 @@
 //! Dials that make links to peers.
-ghost use Rattle.std.specs.Prelude.{◌≤◌};
+ghost use Rattle.std.specs.Prelude.{◌≤◌, ℕ, List};
 ghost use Rattle.tg_dials.specs.Dials.{DialMeaning, IsDialled, IsHungUp, KeepsCalls, KeepsComing, KeepsMissed, at_dial, dialled_link};
 ghost use Rattle.tg_links.specs.Views.{view_of};
 
@@ -11,7 +11,8 @@ use tg_links::Link;
 /// Its meaning is one record: `coming` is what each peer will say that is dialled, or `None` where that isn't told;
 /// `calls` is what went through the links that were given back, or `None`; `missed` counts the calls of `dial` that
 /// failed; `faults` counts those, the links that were given back with a fault of their own, and where no memory was found
-/// to tell of one. Both stand still at 2 ^ 64 - 1.
+/// to tell of one. Both stand still at 2 ^ 64 - 1. `dialled` says that between two of its moments the peer at an address
+/// was dialled: only a `dial` of that address shows it.
 pub trait Dial {
     type Link: Link;
 
@@ -22,6 +23,7 @@ pub trait Dial {
         ensures dialled { IsDialled (at_dial dial self.old self.new)
             (dialled_link Self.Link.link Self.Link.Source.source result) }
         ensures calls { KeepsCalls (at_dial dial self.old self.new) }
+        ensures address { dial.dialled self.old self.new addr.now }
         ensures counted { dial.faults self.old ≤ dial.faults self.new };
 
     /// Takes back a link that it made, and tells what went through it. A fault of the link is one of the dial; so is
@@ -29,5 +31,6 @@ pub trait Dial {
     fn done(&mut self, link: Self::Link)
         ensures done { IsHungUp (view_of Self.Link.link Self.Link.Source.source link) (at_dial dial self.old self.new) }
         ensures missed { KeepsMissed (at_dial dial self.old self.new) }
-        ensures coming { KeepsComing (at_dial dial self.old self.new) };
+        ensures coming { KeepsComing (at_dial dial self.old self.new) }
+        ensures address { (before : Self) (addr : List ℕ) → dial.dialled before self.old addr → dial.dialled before self.new addr };
 }

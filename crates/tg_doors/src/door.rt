@@ -1,5 +1,5 @@
 //! Doors through which links come.
-ghost use Rattle.std.specs.Prelude.{◌≤◌};
+ghost use Rattle.std.specs.Prelude.{◌≤◌, ℕ};
 ghost use Rattle.tg_doors.specs.Doors.{DoorMeaning, IsAdmitted, IsAskedPort, IsBound, IsDone, KeepsComing, KeepsPort, KeepsServed, KeepsShut};
 ghost use Rattle.tg_doors.specs.Doors.{at_door, given_link};
 ghost use Rattle.tg_links.specs.Views.{view_of};
@@ -13,7 +13,8 @@ use tg_links::Link;
 /// told; `served` is what went through the links that were given back, or `None`; `port` is what the last `bind` that
 /// succeeded gave; `shut` says that the last `admit` since then gave no link; `faults` counts the calls that failed, the
 /// links that were given back with a fault of their own, and where no memory was found to tell of one, and stands still
-/// at 2 ^ 64 - 1.
+/// at 2 ^ 64 - 1; `asked` says that between two of its moments it was asked to bind a port, which only a `bind` with that
+/// number shows.
 pub trait Door {
     type Link: Link;
 
@@ -24,6 +25,7 @@ pub trait Door {
     fn bind(&mut self, port: u16) -> Result<u16, Failed>
         ensures bound { IsBound (at_door door self.old self.new) result }
         ensures port { IsAskedPort port result }
+        ensures asks { door.asked self.old self.new port }
         ensures coming { KeepsComing (at_door door self.old self.new) }
         ensures served { KeepsServed (at_door door self.old self.new) }
         ensures counted { door.faults self.old ≤ door.faults self.new };
@@ -33,6 +35,7 @@ pub trait Door {
     fn admit(&mut self) -> Result<Option<Self::Link>, Failed>
         ensures admitted { IsAdmitted (at_door door self.old self.new)
             (given_link Self.Link.link Self.Link.Source.source result) }
+        ensures asks { (before : Self) (port : ℕ) → door.asked before self.old port → door.asked before self.new port }
         ensures served { KeepsServed (at_door door self.old self.new) }
         ensures port { KeepsPort (at_door door self.old self.new) }
         ensures counted { door.faults self.old ≤ door.faults self.new };
@@ -43,5 +46,6 @@ pub trait Door {
         ensures done { IsDone (view_of Self.Link.link Self.Link.Source.source link) (at_door door self.old self.new) }
         ensures coming { KeepsComing (at_door door self.old self.new) }
         ensures port { KeepsPort (at_door door self.old self.new) }
-        ensures shut { KeepsShut (at_door door self.old self.new) };
+        ensures shut { KeepsShut (at_door door self.old self.new) }
+        ensures asks { (before : Self) (port : ℕ) → door.asked before self.old port → door.asked before self.new port };
 }

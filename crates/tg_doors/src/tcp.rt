@@ -1,5 +1,5 @@
 //! Doors over TCP.
-ghost use Rattle.std.specs.Prelude.{◌≡◌, ◌+◌, ◌⊎◌, ◌≤◌, ◌≢◌, ◌↔◌, IfErr, IfOk, IfSome, IsErr, IsTrue, None, false};
+ghost use Rattle.std.specs.Prelude.{◌≡◌, ◌+◌, ◌⊎◌, ◌≤◌, ◌≢◌, ◌↔◌, ℕ, IfErr, IfOk, IfSome, IsErr, IsTrue, None, false};
 ghost use Rattle.std.specs.IoError.{error_kind};
 ghost use Rattle.tg_doors.specs.Doors.{IsAdmitted, IsDone, KeepsComing, KeepsPort, KeepsServed, KeepsShut};
 ghost use Rattle.tg_doors.specs.Doors.{at_door, given_link};
@@ -150,7 +150,10 @@ impl<R: Net + Drop> Door for TcpDoor<R> {
 }
 
 /// Listens at an address, and says at which port. Errors: those of the system, such as a port that is in use.
-fn listen<R: Net>(net: &R, address: SocketAddr) -> io::Result<Bound<R::Listener>> {
+fn listen<R: Net>(net: &R, address: SocketAddr) -> io::Result<Bound<R::Listener>>
+    // Nobody but this machine can connect.
+    requires { (port : ℕ) × (address ≡ loopback port) }
+{
     let listener = net.bind(address)?;
     let port = listener.local_addr()?.port();
     Ok(Bound { listener, port })

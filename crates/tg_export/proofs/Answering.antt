@@ -16,8 +16,8 @@ use Rattle.tg_model.specs.Traversal.{Traversal, traversal}
 use Rattle.tg_model.specs.declared.fault.BlockFault.{BlockFault}
 use Rattle.tg_model.specs.declared.stores.BlocksFault.TheVariants as store_faults
 use Rattle.tg_streams.specs.Streams.{Output}
-use Rattle.tg_traversal_laws.specs.StoreWalks.{cut_view}
-use Rattle.tg_traversal_laws.specs.Tasks.{spot_of}
+use Rattle.tg_model_laws.specs.StoreWalks.{cut_view}
+use Rattle.tg_model_laws.specs.Tasks.{spot_of}
 use Rattle.tg_walk.specs.Resolving.{IsResolvedTo, StopsAt, end_over}
 use Rattle.tg_walk.specs.Walks.{HasEnded, HasStoppedDeep, HasWalkCause, max_depth}
 use Rattle.tg_walk.specs.declared.fault.ResolveFault.TheVariants as refusals

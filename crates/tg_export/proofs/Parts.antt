@@ -24,8 +24,8 @@ use Rattle.tg_store.specs.Packs.{in_car}
 use Rattle.tg_streams.specs.Gathering.{Gave, gave_front, gave_front_out, gave_gave, gave_nothing, gave_put}
 use Rattle.tg_streams.specs.Joining.{SinkJoins}
 use Rattle.tg_streams.specs.Streams.{Output, PutFront, SinkMeaning, into}
-use Rattle.tg_traversal_laws.specs.Stages.{Given, ending, nothing_given}
-use Rattle.tg_traversal_laws.specs.StoreWalks.{WalkLaws, section_of}
+use Rattle.tg_model_laws.specs.Stages.{Given, ending, nothing_given}
+use Rattle.tg_model_laws.specs.StoreWalks.{WalkLaws, section_of}
 use Rattle.tg_walk.specs.Resolving.{IsResolvedTo}
 use Rattle.tg_walk.specs.Walks.{HasEnded, HasStepped, HasWalkCause, IsFront, IsNamedFound, IsOnWalk, StandsBy, StandsFor, WalkState, max_depth}
 use Rattle.tg_walk.specs.declared.fault.ResolveFault.{ResolveFault}

@@ -8,7 +8,7 @@ ghost use Rattle.tg_model.specs.Dag.{Section};
 ghost use Rattle.tg_model.specs.PathWalk.{TraversalEnd, whole};
 ghost use Rattle.tg_model.specs.Stores.{Store, looked_in};
 ghost use Rattle.tg_streams.specs.Streams.{into};
-ghost use Rattle.tg_traversal_laws.specs.StoreWalks.{section_of};
+ghost use Rattle.tg_model_laws.specs.StoreWalks.{section_of};
 ghost use Rattle.tg_walk.specs.Walks.{HasEnded, HaveLookedUp, StandsFor, max_depth};
 
 use crate::fault::ExportFault;
@@ -76,7 +76,7 @@ fn give_all<B: Blocks, S: Sink>(
     ensures cause { HasCarCause (B.blocks.stored blocks.old) (looked_in B.blocks blocks.old blocks.new) result }
     ensures memory { HasOwnMemory result }
 {
-    tg_traversal_laws::store_walks();
+    tg_model_laws::store_walks();
     gathering.give(out, header)?;
     give_sections(walk, blocks, gathering, out)
 }
@@ -98,7 +98,7 @@ fn give_sections<B: Blocks, S: Sink>(
     ensures cause { HasCarCause (B.blocks.stored blocks.old) (looked_in B.blocks blocks.old blocks.new) result }
     ensures memory { HasOwnMemory result }
 {
-    tg_traversal_laws::store_walks();
+    tg_model_laws::store_walks();
     while let Some((cid, block)) = walk.next(blocks)? {
         give_section(cid, block.as_slice(), gathering, out)?;
     }

@@ -3,7 +3,7 @@ use Rattle.std.proofs.Common.{◌≡◌, ℕ, ◌⊎◌, Bool, List, [], ◌∷�
 use Rattle.std.specs.Prelude.{Result, ⊤}
 use Rattle.tg_bytes.specs.Told.{IsNothing}
 use Rattle.tg_dials.specs.Dials.{DialRose, Dialling, IsHungUp}
-use Rattle.tg_exchange.specs.Exchanges.{HasOneBlockEach}
+use Rattle.tg_heard.specs.Exchanges.{HasOneBlockEach}
 use Rattle.tg_fetch.proofs.OwnExchanges.{OpenedCounts, OwnFits, fitting_within, one_each}
 use Rattle.tg_fetch.proofs.Receiving.{one_more, told_in}
 use Rattle.tg_fetch.specs.Calls.{FetchEnds, HeardBy, HeardRefused, IsUncalled, LinkCalled}

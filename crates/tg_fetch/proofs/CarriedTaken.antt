@@ -31,8 +31,8 @@ use Rattle.tg_model.specs.declared.limits.LimitKind.TheVariants as kinds
 use Rattle.tg_model.specs.declared.queries.Form.{Form}
 use Rattle.tg_model.specs.declared.queries.Form.TheVariants as forms
 use Rattle.tg_traversal.specs.Left.{WantedAt}
-use Rattle.tg_traversal_laws.specs.Tasks.{Task, open_block}
-use Rattle.tg_traversal_laws.specs.Verified.{AreSettled, VerifiedLaws}
+use Rattle.tg_model_laws.specs.Tasks.{Task, open_block}
+use Rattle.tg_model_laws.specs.Verified.{AreSettled, VerifiedLaws}
 use Rattle.tg_verify.specs.Laws.{AnswerLaws, IsOwnFault as IsOwnRefusal, IsWithinLimits}
 use Rattle.tg_verify.specs.Refusals.{HasRefused}
 use Rattle.tg_verify.specs.Taken.{IsUpTo}

@@ -72,10 +72,10 @@ module _ {L : Type 0} (m : LinkMeaning L) (source : SourceMeaning L) (sink : Sin
 
 -- the peer couldn't be dialled
 pub fetch_missed : {D S : Type 0} (dial : DialMeaning D) (out : SinkMeaning S) (q : QueryParts) (limits : LimitNumbers) (addr : List ℕ) (a b : D) (s : S)
-    (fault : Failed) → out.wrote s s [] → IsDialled (at_dial dial a b) (Err fault) → KeepsCalls (at_dial dial a b)
+    (fault : Failed) → out.wrote s s [] → dial.dialled a b addr → IsDialled (at_dial dial a b) (Err fault) → KeepsCalls (at_dial dial a b)
     → FetchEnds q limits addr (at_dial dial a b) (into out s s) (Err faults.PeerFault)
-fetch_missed dial out q limits addr a b s fault rests dialled keeps =
-    inr (record { result_is = refl; missed = dialled.0; calls = keeps; coming = dialled.2; rose = dialled.1; unput = put_nothing _ out s rests })
+fetch_missed dial out q limits addr a b s fault rests to dialled keeps =
+    inr (record { dialled = to; result_is = refl; missed = dialled.0; calls = keeps; coming = dialled.2; rose = dialled.1; unput = put_nothing _ out s rests })
 
 module _ {D L : Type 0} (dial : DialMeaning D) (links : LinkMeaning L) (source : SourceMeaning L) (a b c : D) (x y : L)
     (dialled : IsDialled (at_dial dial a b) (Ok (view_of links source x))) (keeps : KeepsCalls (at_dial dial a b))
@@ -106,9 +106,10 @@ module _ {D L : Type 0} (dial : DialMeaning D) (links : LinkMeaning L) (source :
   }
 
   pub fetch_called : (q : QueryParts) (limits : LimitNumbers) (addr : List ℕ) (out : Output) (result : Result ⊤ FetchFault)
-      → LinkCalled q limits addr (link_step links source x y) out result → FetchEnds q limits addr (at_dial dial a c) out result
-  fetch_called q limits addr out result called =
+      → dial.dialled a c addr → LinkCalled q limits addr (link_step links source x y) out result → FetchEnds q limits addr (at_dial dial a c) out result
+  fetch_called q limits addr out result to called =
       inl (record {
+        dialled = to;
         made = view_of links source x;
         is_new = dialled.0;
         comes = subst (λ (coming : Option (List (List ℕ))). IsFirst (dial.coming a) coming (links.left x)) (sym stays) dialled.3;

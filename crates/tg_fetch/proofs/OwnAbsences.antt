@@ -8,8 +8,8 @@ use Rattle.tg_client.specs.Received.{HasReceived, IsCarOf}
 use Rattle.tg_client.specs.ReceivedLaws.{ReceivedLaws}
 use Rattle.tg_client.specs.declared.fault.ClientFault.{ClientFault}
 use Rattle.tg_client.specs.declared.fault.ClientFault.TheVariants as clients
-use Rattle.tg_exchange.specs.Exchanges.{IsHeld, IsWithin, is_answer}
-use Rattle.tg_exchange.specs.Sessions.{SentCarries}
+use Rattle.tg_heard.specs.Exchanges.{IsHeld, IsWithin, is_answer}
+use Rattle.tg_heard.specs.Sessions.{SentCarries}
 use Rattle.tg_fetch.proofs.CarriedAnswer.{longer_carries}
 use Rattle.tg_fetch.proofs.Carriers.{IsCarrier, IsRefusedFor, body_few, carrier_behind, framed, open_text, refused_for}
 use Rattle.tg_fetch.proofs.Feeding.{at_open}
@@ -42,10 +42,10 @@ use Rattle.tg_model.specs.declared.queries.Form.{Form}
 use Rattle.tg_model.specs.declared.queries.Form.TheVariants as forms
 use Rattle.tg_query.specs.Laws.{IsPrintable}
 use Rattle.tg_query.specs.Requests.{request_text}
-use Rattle.tg_sent.specs.Sent.{Sent, SentFor, SentInFull, failed_in, sent_bytes}
+use Rattle.tg_reply.specs.Sent.{Sent, SentFor, SentInFull, failed_in, sent_bytes}
 use Rattle.tg_streams.specs.Streams.{Output, Put}
-use Rattle.tg_traversal_laws.specs.Tasks.{Miss, no_directory, no_entry, stop_of}
-use Rattle.tg_traversal_laws.specs.Verified.{AreSettled, VerifiedLaws}
+use Rattle.tg_model_laws.specs.Tasks.{Miss, no_directory, no_entry, stop_of}
+use Rattle.tg_model_laws.specs.Verified.{AreSettled, VerifiedLaws}
 use Rattle.tg_verify.specs.Absences.{path_limits, path_query}
 use Rattle.tg_verify.specs.Laws.{IsMissOf, IsWithinLimits}
 use Rattle.tg_verify.specs.Taken.{IsThrough}

@@ -3,8 +3,8 @@ use Rattle.std.proofs.Common.{◌≡◌, ℕ, ◌≤◌, Bool, true, false, Cont
 use Rattle.std.specs.Prelude.{◌⊎◌}
 use Rattle.std.proofs.lemmas.List.Elements.{All-contains, Contains-append_left, Contains-append_right, Contains-push}
 use Rattle.tg_client.specs.Body.{BodyStands}
-use Rattle.tg_exchange.specs.Exchanges.{HasOneBlockEach as HasOneBlock, IsHeld, IsWithin, is_answer}
-use Rattle.tg_exchange.specs.Sessions.{SentCarries}
+use Rattle.tg_heard.specs.Exchanges.{HasOneBlockEach as HasOneBlock, IsHeld, IsWithin, is_answer}
+use Rattle.tg_heard.specs.Sessions.{SentCarries}
 use Rattle.tg_fetch.proofs.Carriers.{carrier_behind, not_open}
 use Rattle.tg_fetch.proofs.Feeding.{at_open}
 use Rattle.tg_fetch.proofs.HearingOn.{refused_not}
@@ -35,7 +35,7 @@ use Rattle.tg_model_laws.specs.OpenedSections.{Opened, OpenedChildren, traversal
 use Rattle.tg_model_laws.specs.SentSections.{sent_held}
 use Rattle.tg_query.specs.Laws.{IsPrintable}
 use Rattle.tg_query.specs.Requests.{request_text}
-use Rattle.tg_sent.specs.Sent.{Sent, SentFor, SentInFull, failed_in, sent_bytes}
+use Rattle.tg_reply.specs.Sent.{Sent, SentFor, SentInFull, failed_in, sent_bytes}
 use Rattle.tg_streams.specs.Streams.{Output}
 use Rattle.tg_verify.specs.Laws.{IsWithinLimits}
 use Rattle.tg_verify.specs.declared.fault.Refusal.TheVariants as refusals

@@ -95,8 +95,10 @@ LinkCalled q limits addr link out result = CalledWhole q limits addr link out re
 
 -- ---- a call by a dial
 
--- a link was made, to the next of the peers to come, and given back: what went through it is told behind the other calls
+-- the peer at the address was dialled, and a link was made, to the next of the peers to come, and given back: what went through
+-- it is told behind the other calls
 pub record HasCalled (q : QueryParts) (limits : LimitNumbers) (addr : List ℕ) (dial : Dialling) (out : Output) (result : Result ⊤ FetchFault) : Type 0 where
+  pub dialled : dial.dialled addr
   pub made : LinkView
   pub is_new : IsNew made
   pub comes : IsFirst dial.coming_old dial.coming_new made.left
@@ -105,8 +107,9 @@ pub record HasCalled (q : QueryParts) (limits : LimitNumbers) (addr : List ℕ) 
   pub missed : KeepsMissed dial
   pub called : LinkCalled q limits addr (between made link) out result
 
--- the peer couldn't be dialled
-pub record IsMissed (dial : Dialling) (out : Output) (result : Result ⊤ FetchFault) : Type 0 where
+-- the peer at the address was dialled, and didn't answer
+pub record IsMissed (addr : List ℕ) (dial : Dialling) (out : Output) (result : Result ⊤ FetchFault) : Type 0 where
+  pub dialled : dial.dialled addr
   pub result_is : result ≡ Err faults.PeerFault
   pub missed : dial.missed_new ≡ counted dial.missed_old
   pub calls : KeepsCalls dial
@@ -115,4 +118,4 @@ pub record IsMissed (dial : Dialling) (out : Output) (result : Result ⊤ FetchF
   pub unput : Put [] out
 
 abbrev pub FetchEnds : QueryParts → LimitNumbers → List ℕ → Dialling → Output → Result ⊤ FetchFault → Type 0
-FetchEnds q limits addr dial out result = HasCalled q limits addr dial out result ⊎ IsMissed dial out result
+FetchEnds q limits addr dial out result = HasCalled q limits addr dial out result ⊎ IsMissed addr dial out result

@@ -1,7 +1,7 @@
 -- A client that is fed what a gateway's session sends for its own request (RFC 9112, sections 2 to 7; Path Gateway and
 -- Trustless Gateway specifications).
 use Rattle.std.specs.Prelude.{Err, List, Ok, Result, Some, [], ⊤, ℕ, ◌++◌, ◌≡◌, ◌≢◌}
-use Rattle.tg_exchange.specs.Exchanges.{IsHeld, IsWithin}
+use Rattle.tg_heard.specs.Exchanges.{IsHeld, IsWithin}
 use Rattle.tg_fetch.specs.Clients.{FeedEnds, IsShortAt}
 use Rattle.tg_fetch.specs.declared.client.Client.{Client}
 use Rattle.tg_fetch.specs.declared.fault.FetchFault.{FetchFault}
@@ -16,9 +16,9 @@ use Rattle.tg_model.specs.Traversal.{traversal}
 use Rattle.tg_model.specs.declared.queries.Form.TheVariants as forms
 use Rattle.tg_query.specs.Laws.{IsPrintable}
 use Rattle.tg_query.specs.Requests.{request_text}
-use Rattle.tg_sent.specs.Sent.{Sent, SentFor, SentInFull, failed_in, sent_bytes}
+use Rattle.tg_reply.specs.Sent.{Sent, SentFor, SentInFull, failed_in, sent_bytes}
 use Rattle.tg_streams.specs.Streams.{Output, Put}
-use Rattle.tg_traversal_laws.specs.Tasks.{Miss, stop_of}
+use Rattle.tg_model_laws.specs.Tasks.{Miss, stop_of}
 use Rattle.tg_verify.specs.Laws.{IsMissOf}
 use Rattle.tg_verify.specs.declared.fault.Refusal.TheVariants as refusals
 use Rattle.tg_verify.specs.declared.verifier.Progress.{Progress}

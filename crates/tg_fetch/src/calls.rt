@@ -1,7 +1,7 @@
 //! A reply that is fetched over a dial.
 ghost use Rattle.std.specs.Prelude.{◌≡◌, ◌<◌, [], ℕ, List as Items, IfOk, Some, length};
 ghost use Rattle.tg_dials.specs.Dials.{at_dial};
-ghost use Rattle.tg_exchange.specs.Exchanges.{HasOneBlockEach};
+ghost use Rattle.tg_heard.specs.Exchanges.{HasOneBlockEach};
 ghost use Rattle.tg_fetch.specs.Calls.{FetchEnds, LinkCalled, LinkHeard};
 ghost use Rattle.tg_fetch.specs.Clients.{StandsFor};
 ghost use Rattle.tg_fetch.specs.Faults.{QuietUnlessSink};

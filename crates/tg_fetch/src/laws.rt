@@ -19,7 +19,7 @@ pub fn carried_replies()
     tg_client::laws::bodies();
     tg_model_laws::one_fit();
     tg_verify::laws::verified_answers();
-    tg_traversal_laws::verified_sections();
+    tg_model_laws::verified_sections();
 }
 
 /// What a gateway's session sends for a client's request, over a store that holds the blocks of a sound DAG and breaks
@@ -33,7 +33,7 @@ pub fn own_exchanges<S: Sink>()
     ensures { (old new : S) → OwnIsFed (into S.sink old new) }
 {
     carried_replies();
-    tg_exchange::own_sessions();
+    tg_heard::own_sessions();
     tg_heard::heard_is_one();
     tg_heard::heads_go_on();
     tg_heard::bodies_go_on();
@@ -43,5 +43,5 @@ pub fn own_exchanges<S: Sink>()
     tg_model_laws::own_sections();
     tg_model_laws::own_absences();
     tg_model_laws::against_every_peer();
-    tg_traversal_laws::verified_sections();
+    tg_model_laws::verified_sections();
 }

@@ -14,9 +14,9 @@ use Rattle.tg_replying.specs.Replying.{HasReply, PutQuiet, ReplyEnds, TellsOf, i
 use Rattle.tg_replying.specs.declared.fault.ReplyFault.{ReplyFault}
 use Rattle.tg_replying.specs.declared.fault.ReplyFault.TheVariants as replies
 use Rattle.tg_replying.specs.declared.reply.Replied.{Replied}
-use Rattle.tg_sent.specs.Sent.{Sent, SentBy, count_if, is_broken, last, next, no_more, quiet, sent_bytes}
-use Rattle.tg_sent.specs.Sessions.{IsOpen, NumbersGoOn, SessionState}
-use Rattle.tg_sent.specs.Shapes.{SentOver}
+use Rattle.tg_reply.specs.Sent.{Sent, SentBy, count_if, is_broken, last, next, no_more, quiet, sent_bytes}
+use Rattle.tg_reply.specs.Sessions.{IsOpen, NumbersGoOn, SessionState}
+use Rattle.tg_reply.specs.Shapes.{SentOver}
 use Rattle.tg_streams.specs.Streams.{Output, OutputRose, Put, SinkMeaning, into}
 use Rattle.tg_streams.specs.Joining.{put_nothing}
 

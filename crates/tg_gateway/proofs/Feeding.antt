@@ -5,7 +5,7 @@ use Rattle.tg_gateway.specs.Steps.{BreaksOff, TakeEnds}
 use Rattle.tg_gateway.specs.declared.fault.GatewayFault.{GatewayFault}
 use Rattle.tg_gateway.specs.declared.fault.GatewayFault.TheVariants as faults
 use Rattle.tg_model.specs.Stores.{Lookups, Store}
-use Rattle.tg_sent.specs.Sessions.{SessionState}
+use Rattle.tg_reply.specs.Sessions.{SessionState}
 use Rattle.tg_streams.specs.Streams.{Output}
 
 -- ---- a piece of which the front may be received

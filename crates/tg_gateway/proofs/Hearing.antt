@@ -13,10 +13,10 @@ use Rattle.tg_gateway.specs.declared.session.Served.{Served}
 use Rattle.tg_links.specs.Joining.{spoke_nothing}
 use Rattle.tg_links.specs.Links.{CountsAreOne, EndsAreOver, LinkMeaning, PutsAreSaid, TakesAreHeard}
 use Rattle.tg_model.specs.Stores.{BlocksMeaning, Store, looked_in}
-use Rattle.tg_sent.specs.Laws.{BrokenIsFront, SentJoins, SentStays, SessionsGoOn, StandsForSent}
-use Rattle.tg_sent.specs.Sent.{sent_bytes}
-use Rattle.tg_sent.specs.Sessions.{SessionState}
-use Rattle.tg_sent.specs.Shapes.{SentOver}
+use Rattle.tg_reply.specs.SentLaws.{BrokenIsFront, SentJoins, SentStays, SessionsGoOn, StandsForSent}
+use Rattle.tg_reply.specs.Sent.{sent_bytes}
+use Rattle.tg_reply.specs.Sessions.{SessionState}
+use Rattle.tg_reply.specs.Shapes.{SentOver}
 use Rattle.tg_streams.specs.Streams.{Ended, InputQuiet, InputRose, SinkMeaning, SourceMeaning, Took, Untaken, into, through}
 use Rattle.tg_walk.specs.Walks.{HaveLookedUp}
 

@@ -15,10 +15,10 @@ use Rattle.tg_gateway.specs.declared.fault.GatewayFault.TheVariants as faults
 use Rattle.tg_model.specs.Stores.{BlocksMeaning, Lookups, Store, looked_in}
 use Rattle.tg_reply.specs.Replies.{reply_bytes}
 use Rattle.tg_replying.specs.Replying.{PutQuiet}
-use Rattle.tg_sent.specs.Laws.{SentJoins}
-use Rattle.tg_sent.specs.Sent.{CountsBetween, CountsFollow, Sent, SentBy, broken_in, closed_by, count_if, failed_in, is_broken, is_server_error, no_more, sent_bytes}
-use Rattle.tg_sent.specs.Sessions.{IsOpen, NumbersGoOn, SessionState}
-use Rattle.tg_sent.specs.Shapes.{SentOver}
+use Rattle.tg_reply.specs.SentLaws.{SentJoins}
+use Rattle.tg_reply.specs.Sent.{CountsBetween, CountsFollow, Sent, SentBy, broken_in, closed_by, count_if, failed_in, is_broken, is_server_error, no_more, sent_bytes}
+use Rattle.tg_reply.specs.Sessions.{IsOpen, NumbersGoOn, SessionState}
+use Rattle.tg_reply.specs.Shapes.{SentOver}
 use Rattle.tg_streams.specs.Joining.{SinkJoins, put_put}
 use Rattle.tg_streams.specs.Streams.{Output, OutputRose, Put, SinkMeaning, into}
 use Rattle.tg_walk.specs.Walks.{HaveLookedUp}

@@ -11,10 +11,10 @@ use Rattle.tg_links.specs.Joining.{spoke_hears, spoke_says}
 use Rattle.tg_links.specs.Links.{CountsAreOne, LinkMeaning, PutsAreSaid, TakesAreHeard}
 use Rattle.tg_model.specs.Stores.{Lookups, Store}
 use Rattle.tg_reply.specs.Replies.{reply_bytes}
-use Rattle.tg_sent.specs.Laws.{BrokenIsFront, SentJoins, SentStays, SessionsGoOn, StandsForSent}
-use Rattle.tg_sent.specs.Sent.{Answering, CountsBetween, IsSettled, Sent, SentBy, SentInFull, closed_by, no_more, sent_bytes}
-use Rattle.tg_sent.specs.Sessions.{BrokeOff, HasNumbers, IsOpen, IsWaitingFor, PassedLimit, SessionState, StandsFor, WentOn}
-use Rattle.tg_sent.specs.Shapes.{SentOver}
+use Rattle.tg_reply.specs.SentLaws.{BrokenIsFront, SentJoins, SentStays, SessionsGoOn, StandsForSent}
+use Rattle.tg_reply.specs.Sent.{Answering, CountsBetween, IsSettled, Sent, SentBy, SentInFull, closed_by, no_more, sent_bytes}
+use Rattle.tg_reply.specs.Sessions.{BrokeOff, HasNumbers, IsOpen, IsWaitingFor, PassedLimit, SessionState, StandsFor, WentOn}
+use Rattle.tg_reply.specs.Shapes.{SentOver}
 use Rattle.tg_streams.specs.Streams.{InputRose, OutputQuiet, OutputRose, Put, SinkMeaning, SourceMeaning, into, through}
 use Rattle.tg_walk.specs.Walks.{HaveLookedUp}
 

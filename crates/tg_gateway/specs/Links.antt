@@ -5,9 +5,9 @@ use Rattle.tg_gateway.specs.declared.fault.GatewayFault.TheVariants as faults
 use Rattle.tg_gateway.specs.declared.session.Served.{Served}
 use Rattle.tg_links.specs.Steps.{LinkQuiet, LinkRose, LinkStep, Spoke}
 use Rattle.tg_model.specs.Stores.{Lookups, Store}
-use Rattle.tg_sent.specs.Sent.{CountsBetween, Sent, SentBy, SentInFull, broken_in, closed_by, failed_in, sent_bytes}
-use Rattle.tg_sent.specs.Sessions.{SessionState}
-use Rattle.tg_sent.specs.Shapes.{SentOver}
+use Rattle.tg_reply.specs.Sent.{CountsBetween, Sent, SentBy, SentInFull, broken_in, closed_by, failed_in, sent_bytes}
+use Rattle.tg_reply.specs.Sessions.{SessionState}
+use Rattle.tg_reply.specs.Shapes.{SentOver}
 
 -- the numbers of what was sent
 pub record IsServed (served : Served) (sent : List Sent) : Type 0 where

@@ -6,9 +6,9 @@ use Rattle.tg_gateway.specs.declared.session.Next.{Next}
 use Rattle.tg_gateway.specs.declared.session.Next.TheVariants as nexts
 use Rattle.tg_model.specs.Stores.{Lookups, Store}
 use Rattle.tg_replying.specs.Replying.{PutQuiet}
-use Rattle.tg_sent.specs.Sent.{Sent, sent_bytes}
-use Rattle.tg_sent.specs.Sessions.{BrokeOff, PassedLimit, SessionState, WentOn}
-use Rattle.tg_sent.specs.Shapes.{SentOver}
+use Rattle.tg_reply.specs.Sent.{Sent, sent_bytes}
+use Rattle.tg_reply.specs.Sessions.{BrokeOff, PassedLimit, SessionState, WentOn}
+use Rattle.tg_reply.specs.Shapes.{SentOver}
 use Rattle.tg_streams.specs.Streams.{Output, OutputRose, Put}
 
 -- a session, and why it goes on no more

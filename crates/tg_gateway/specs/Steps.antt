@@ -12,9 +12,9 @@ use Rattle.tg_reply.specs.declared.refusal.Refusal.{Refusal}
 use Rattle.tg_replying.specs.declared.fault.ReplyFault.{ReplyFault}
 use Rattle.tg_replying.specs.declared.fault.ReplyFault.TheVariants as replies
 use Rattle.tg_replying.specs.declared.reply.Replied.{Replied}
-use Rattle.tg_sent.specs.Sent.{CountsBetween, CountsFollow, Sent, SentBy, closed_by, count_if, sent_bytes}
-use Rattle.tg_sent.specs.Sessions.{NumbersGoOn, SessionState}
-use Rattle.tg_sent.specs.Shapes.{SentOver}
+use Rattle.tg_reply.specs.Sent.{CountsBetween, CountsFollow, Sent, SentBy, closed_by, count_if, sent_bytes}
+use Rattle.tg_reply.specs.Sessions.{NumbersGoOn, SessionState}
+use Rattle.tg_reply.specs.Shapes.{SentOver}
 use Rattle.tg_streams.specs.Streams.{Output, OutputRose, Put, PutFront}
 
 abbrev pub fault_of_reply : ReplyFault → GatewayFault

@@ -66,8 +66,8 @@ fn hear<B: Blocks, K: Link>(
     ensures looked { HaveLookedUp (looked_in B.blocks blocks.old blocks.new) }
     ensures counted { B.blocks.faults blocks.old ≤ B.blocks.faults blocks.new }
 {
-    tg_sent::sent_joins();
-    tg_sent::sessions_go_on();
+    tg_reply::sent_joins();
+    tg_reply::sessions_go_on();
     loop {
         let size = link.take(room)?;
         if size == 0 {

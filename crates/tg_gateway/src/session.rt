@@ -7,7 +7,7 @@ ghost use Rattle.tg_reply.specs.Refusals.{ends_connection};
 ghost use Rattle.tg_gateway.specs.declared.fault.GatewayFault.{GatewayFault};
 ghost use Rattle.tg_gateway.specs.declared.session.Next.{Next};
 ghost use Rattle.tg_model.specs.Stores.{looked_in};
-ghost use Rattle.tg_sent.specs.Sessions.{IsOpen};
+ghost use Rattle.tg_reply.specs.Sessions.{IsOpen};
 ghost use Rattle.tg_streams.specs.Streams.{into};
 ghost use Rattle.tg_walk.specs.Walks.{HaveLookedUp};
 
@@ -211,7 +211,7 @@ impl Session {
         ensures looked { HaveLookedUp (looked_in B.blocks blocks.old blocks.new) }
         ensures counted { B.blocks.faults blocks.old ≤ B.blocks.faults blocks.new }
     {
-        tg_sent::sent_joins();
+        tg_reply::sent_joins();
         let mut rest = bytes;
         loop {
             self.answer(blocks, out)?;
@@ -251,7 +251,7 @@ impl Session {
         ensures looked { HaveLookedUp (looked_in B.blocks blocks.old blocks.new) }
         ensures counted { B.blocks.faults blocks.old ≤ B.blocks.faults blocks.new }
     {
-        tg_sent::sent_joins();
+        tg_reply::sent_joins();
         while self.answer_next(blocks, out)? {}
         Ok(())
     }

@@ -11,3 +11,7 @@ mod BodiesSoFar
 mod BodyPieces
 mod Receiving
 mod Worked
+mod Carried
+mod Held
+mod OwnRequests
+mod OwnSent

@@ -5,3 +5,5 @@ pub mod Laws
 pub mod GotLaws
 pub mod FrontLaws
 pub mod Examples
+pub mod Exchanges
+pub mod Sessions

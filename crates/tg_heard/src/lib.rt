@@ -1,8 +1,9 @@
-//! What a client hears of a gateway: interim heads and the final one, and the sections that a reply carries for a query.
-//! Each law is the contract of a function that does nothing.
+//! What a client hears of a gateway: interim heads and the final one, the sections that a reply carries for a query, and
+//! the gateway's own reply to the client's request. Each law is the contract of a function that does nothing.
 #![tactic(auto)]
 
 mod examples;
+mod own;
 
 ghost use Rattle.tg_heard.specs.FrontLaws.{BodyPieceLaws, HeadLaws};
 ghost use Rattle.tg_heard.specs.GotLaws.{CarriedIsGot, GotFronts, OneGot};
@@ -10,6 +11,7 @@ ghost use Rattle.tg_heard.specs.Laws.{AskedAbsencesCarry, AskedAnswersCarry, Car
 ghost use Rattle.tg_heard.specs.Laws.{OneCarried, OneCarriedBy, OneFinalHead, RawsCarry, RefusalsCarryNothing};
 
 pub use examples::heard_examples;
+pub use own::{own_replies, own_replies_carry, own_requests, own_sessions};
 
 /// What is heard of a reply is one: its final head, also when more bytes come, and the sections that it carries for a
 /// query; and it is no answer and no absence at once.

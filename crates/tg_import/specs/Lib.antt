@@ -2,3 +2,4 @@ pub mod Counting
 pub mod Imported
 pub mod Refused
 pub mod Steps
+pub mod Packing

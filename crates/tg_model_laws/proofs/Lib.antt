@@ -34,3 +34,14 @@ mod Through
 mod Trimmed
 mod VisitPlaces
 mod WholeTraversals
+mod BesideSteps
+mod FilledChildren
+mod OpeningSteps
+mod Outputs
+mod PathSteps
+mod ResolveSteps
+mod Rooted
+mod StageSteps
+mod StoreSteps
+mod TaskMaps
+mod VerifySteps

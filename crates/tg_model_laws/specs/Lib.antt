@@ -13,3 +13,10 @@ pub mod SentSections
 pub mod Standing
 pub mod Steps
 pub mod Stores
+pub mod BesideSound
+pub mod TakenBlocks
+pub mod PathStages
+pub mod Stages
+pub mod StoreWalks
+pub mod Tasks
+pub mod Verified

@@ -11,7 +11,7 @@ use Rattle.std.proofs.lemmas.Slice.Eq.{bytes_eq-Decides}
 use Rattle.tg_http.specs.Fields.{first as first_of}
 use Rattle.tg_model.specs.declared.queries.Form.{Form}
 use Rattle.tg_model.specs.declared.queries.Form.TheVariants.{Car, Raw}
-use Rattle.tg_path.specs.Cuts.{IsCut, cut_first}
+use Rattle.tg_query.specs.Cuts.{IsCut, cut_first}
 use Rattle.tg_query.specs.Accepts.{accepted_of, car_type, choice_of, first_car, first_form, first_param, form_of_range, form_of_type, is_car_form, param_in, param_of, param_value, params_in, ranges_of, raw_type}
 use Rattle.tg_query.specs.AcceptTexts.{AcceptText, AsksFor, CarText, FirstSaid, ParamOr, ParamText, RangeText, SaysNothing, type_of}
 use Rattle.tg_query.specs.Requests.{dups_word}

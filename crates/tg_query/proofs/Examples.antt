@@ -9,9 +9,9 @@ use Rattle.tg_cid.specs.declared.cid.Codec.TheVariants.{DagPb}
 use Rattle.tg_cid.specs.declared.cid.HashKind.TheVariants.{Sha256}
 use Rattle.tg_model.specs.declared.queries.Form.TheVariants.{Car}
 use Rattle.tg_model.specs.declared.queries.Scope.TheVariants.{Entity}
-use Rattle.tg_path.specs.CidAnswers.{bytes_of_letters, cid_answer}
-use Rattle.tg_path.specs.Paths.{names_of}
-use Rattle.tg_path.specs.declared.fault.QueryFault.TheVariants.{BadParam}
+use Rattle.tg_query.specs.CidAnswers.{bytes_of_letters, cid_answer}
+use Rattle.tg_query.specs.Paths.{names_of}
+use Rattle.tg_query.specs.declared.fault.QueryFault.TheVariants.{BadParam}
 use Rattle.tg_query.specs.Accepts.{form_of_range, param_of}
 use Rattle.tg_query.specs.Laws.{asked_by}
 

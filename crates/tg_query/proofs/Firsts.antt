@@ -8,7 +8,7 @@ use Rattle.std.proofs.lemmas.List.Elements.{filter_map-append}
 use Rattle.std.proofs.lemmas.List.Folds.{find-append}
 use Rattle.tg_http.specs.Fields.{first as first_of}
 use Rattle.tg_model.specs.declared.queries.Form.{Form}
-use Rattle.tg_path.specs.Cuts.{cut_at, cut_first}
+use Rattle.tg_query.specs.Cuts.{cut_at, cut_first}
 use Rattle.tg_query.specs.Accepts.{first_car, first_form, first_param, form_of_range, is_car_form, param_of, params_in, ranges_of}
 
 -- the element at n and those behind it

@@ -8,14 +8,14 @@ use Rattle.tg_model.specs.EntryNames.{IsGoodName}
 use Rattle.tg_model.specs.Queries.{IsSpan, SpanParts}
 use Rattle.tg_model.specs.declared.queries.Form.{Form}
 use Rattle.tg_model.specs.declared.queries.Scope.{Scope}
-use Rattle.tg_path.specs.AnswerLaws.{bind_ok}
-use Rattle.tg_path.specs.Answers.{Gives, unless, ◌>>=◌}
-use Rattle.tg_path.specs.Cuts.{behind_front, cut_first}
-use Rattle.tg_path.specs.Paths.{PathBehind}
-use Rattle.tg_path.specs.Spans.{SpanText, span_of}
-use Rattle.tg_path.specs.WordTexts.{Rooted, RootedText, ipfs, rooted_of}
-use Rattle.tg_path.specs.declared.fault.QueryFault.{QueryFault}
-use Rattle.tg_path.specs.declared.fault.QueryFault.TheVariants.{Doubled}
+use Rattle.tg_query.specs.AnswerLaws.{bind_ok}
+use Rattle.tg_query.specs.Answers.{Gives, unless, ◌>>=◌}
+use Rattle.tg_query.specs.Cuts.{behind_front, cut_first}
+use Rattle.tg_query.specs.Paths.{PathBehind}
+use Rattle.tg_query.specs.Spans.{SpanText, span_of}
+use Rattle.tg_query.specs.WordTexts.{Rooted, RootedText, ipfs, rooted_of}
+use Rattle.tg_query.specs.declared.fault.QueryFault.{QueryFault}
+use Rattle.tg_query.specs.declared.fault.QueryFault.TheVariants.{Doubled}
 use Rattle.tg_query.specs.Targets.{IsTarget, asked_of, behind_ipfs, form_of, is_given, nothing, pair_of, pieces_of, scope_of, target_by, target_of, target_with, with_format, with_param, with_piece, with_pieces, with_scope, with_span}
 use Rattle.tg_query.specs.declared.targets.Asked.{Asked}
 use Rattle.tg_query.specs.declared.targets.Target.{Target}

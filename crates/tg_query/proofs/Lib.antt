@@ -8,3 +8,12 @@ mod Printed
 mod TargetTexts
 mod AcceptedTexts
 mod Examples
+mod Letters
+mod CidAnswers
+mod Names
+mod FirstCuts
+mod Digits
+mod Fronts
+mod SpanTexts
+mod PathTexts
+mod RootTexts

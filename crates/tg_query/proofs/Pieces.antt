@@ -1,8 +1,8 @@
 -- The pieces of a query, one after another.
 use Rattle.std.proofs.Common.{◌≡◌, Bor, ◌++◌, ℕ, ◌+◌, ◌<◌, ◌≤◌, List, [], ◌∷◌, Result, Ok, Err, get_or, inl, inr, length, drop, sym, ap, ◌∙◌}
 use Rattle.std.proofs.lemmas.List.{drop_all, drop_more, length_push}
-use Rattle.tg_path.specs.Answers.{Gives, ◌>>=◌}
-use Rattle.tg_path.specs.declared.fault.QueryFault.{QueryFault}
+use Rattle.tg_query.specs.Answers.{Gives, ◌>>=◌}
+use Rattle.tg_query.specs.declared.fault.QueryFault.{QueryFault}
 use Rattle.tg_query.specs.Targets.{with_piece, with_pieces}
 use Rattle.tg_query.specs.declared.targets.Asked.{Asked}
 

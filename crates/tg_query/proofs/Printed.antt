@@ -23,11 +23,11 @@ use Rattle.tg_model.specs.declared.queries.Form.{Form}
 use Rattle.tg_model.specs.declared.queries.Form.TheVariants as forms
 use Rattle.tg_model.specs.declared.queries.Scope.{Scope}
 use Rattle.tg_model.specs.declared.queries.Scope.TheVariants as scopes
-use Rattle.tg_path.specs.Answers.{◌>>=◌}
-use Rattle.tg_path.specs.Cuts.{IsCut, cut_first}
-use Rattle.tg_path.specs.Spans.{SpanText, span_of}
-use Rattle.tg_path.specs.WordTexts.{Rooted, RootedText, rooted_of}
-use Rattle.tg_path.specs.declared.fault.QueryFault.{QueryFault}
+use Rattle.tg_query.specs.Answers.{◌>>=◌}
+use Rattle.tg_query.specs.Cuts.{IsCut, cut_first}
+use Rattle.tg_query.specs.Spans.{SpanText, span_of}
+use Rattle.tg_query.specs.WordTexts.{Rooted, RootedText, rooted_of}
+use Rattle.tg_query.specs.declared.fault.QueryFault.{QueryFault}
 use Rattle.tg_query.specs.Accepts.{accepted_of, form_of_range, param_of}
 use Rattle.tg_query.specs.Joins.{join_of}
 use Rattle.tg_query.specs.Laws.{IsOneHead, IsPrintable, asked_by}

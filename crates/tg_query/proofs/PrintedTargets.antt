@@ -26,12 +26,12 @@ use Rattle.tg_model.specs.declared.queries.Scope.{Scope}
 use Rattle.tg_model.specs.declared.queries.Scope.TheVariants as scopes
 use Rattle.tg_model.specs.declared.queries.SpanFrom.{SpanFrom}
 use Rattle.tg_model.specs.declared.queries.SpanFrom.TheVariants.{Last, Start}
-use Rattle.tg_path.specs.Answers.{◌>>=◌}
-use Rattle.tg_path.specs.Cuts.{behind, cut_at}
-use Rattle.tg_path.specs.Paths.{PathBehind, names_of}
-use Rattle.tg_path.specs.Spans.{FromText, NumberText, SpanText, ToText, span_of}
-use Rattle.tg_path.specs.WordTexts.{RootedText}
-use Rattle.tg_path.specs.declared.fault.QueryFault.{QueryFault}
+use Rattle.tg_query.specs.Answers.{◌>>=◌}
+use Rattle.tg_query.specs.Cuts.{behind, cut_at}
+use Rattle.tg_query.specs.Paths.{PathBehind, names_of}
+use Rattle.tg_query.specs.Spans.{FromText, NumberText, SpanText, ToText, span_of}
+use Rattle.tg_query.specs.WordTexts.{RootedText}
+use Rattle.tg_query.specs.declared.fault.QueryFault.{QueryFault}
 use Rattle.tg_query.specs.Requests.{from_text, path_text, span_param, span_text, to_text}
 use Rattle.tg_query.specs.Targets.{asked_of, nothing, scope_word, with_pieces, with_span}
 use Rattle.tg_query.specs.declared.targets.Asked.{Asked}

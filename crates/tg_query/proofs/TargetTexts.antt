@@ -10,13 +10,13 @@ use Rattle.tg_model.specs.declared.queries.Form.{Form}
 use Rattle.tg_model.specs.declared.queries.Form.TheVariants as forms
 use Rattle.tg_model.specs.declared.queries.Scope.{Scope}
 use Rattle.tg_model.specs.declared.queries.Scope.TheVariants as scopes
-use Rattle.tg_path.specs.AnswerLaws.{bind_ok}
-use Rattle.tg_path.specs.Answers.{unless, ◌>>=◌}
-use Rattle.tg_path.specs.Cuts.{IsCut, behind, behind_front, cut_first}
-use Rattle.tg_path.specs.Spans.{SpanText, span_of}
-use Rattle.tg_path.specs.WordTexts.{Rooted, RootedText, ipfs, rooted_of}
-use Rattle.tg_path.specs.declared.fault.QueryFault.{QueryFault}
-use Rattle.tg_path.specs.declared.fault.QueryFault.TheVariants.{BadFormat, BadScope, Doubled}
+use Rattle.tg_query.specs.AnswerLaws.{bind_ok}
+use Rattle.tg_query.specs.Answers.{unless, ◌>>=◌}
+use Rattle.tg_query.specs.Cuts.{IsCut, behind, behind_front, cut_first}
+use Rattle.tg_query.specs.Spans.{SpanText, span_of}
+use Rattle.tg_query.specs.WordTexts.{Rooted, RootedText, ipfs, rooted_of}
+use Rattle.tg_query.specs.declared.fault.QueryFault.{QueryFault}
+use Rattle.tg_query.specs.declared.fault.QueryFault.TheVariants.{BadFormat, BadScope, Doubled}
 use Rattle.tg_query.specs.Targets.{AsksFor, Param, TargetText, asked_of, behind_ipfs, form_of, form_word, is_given, nothing, pair_of, pieces_of, scope_of, scope_word, target_by, target_of, target_with, value_with, values_under, with_format, with_param, with_piece, with_pieces, with_scope, with_span}
 use Rattle.tg_query.specs.declared.targets.Asked.{Asked}
 use Rattle.tg_query.specs.declared.targets.Target.{Target}

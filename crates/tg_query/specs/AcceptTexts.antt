@@ -9,7 +9,7 @@ use Rattle.std.specs.Prelude.{All, List, None, Option, Some, codes, true, â„•, â
 use Rattle.std.specs.Str.{str_eq_ignore_ascii_case}
 use Rattle.tg_model.specs.declared.queries.Form.{Form}
 use Rattle.tg_model.specs.declared.queries.Form.TheVariants.{Car, Raw}
-use Rattle.tg_path.specs.Cuts.{IsCut}
+use Rattle.tg_query.specs.Cuts.{IsCut}
 use Rattle.tg_query.specs.Accepts.{car_type, params_in, ranges_of, raw_type}
 use Rattle.tg_query.specs.Targets.{or_empty}
 use Rattle.tg_query.specs.declared.accepts.Accepted.{Accepted}

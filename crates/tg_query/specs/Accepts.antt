@@ -9,7 +9,7 @@ use Rattle.std.specs.Str.{str_eq_ignore_ascii_case}
 use Rattle.tg_http.specs.Fields.{first as first_of}
 use Rattle.tg_model.specs.declared.queries.Form.{Form}
 use Rattle.tg_model.specs.declared.queries.Form.TheVariants.{Car, Raw}
-use Rattle.tg_path.specs.Cuts.{cut_at, cut_first}
+use Rattle.tg_query.specs.Cuts.{cut_at, cut_first}
 use Rattle.tg_query.specs.Targets.{or_empty}
 use Rattle.tg_query.specs.declared.accepts.Accepted.{Accepted}
 use Rattle.tg_query.specs.declared.accepts.CarChoice.{CarChoice}

@@ -7,8 +7,8 @@ use Rattle.tg_model.specs.declared.queries.Form.{Form}
 use Rattle.tg_model.specs.declared.queries.Form.TheVariants as forms
 use Rattle.tg_model.specs.declared.queries.Scope.{Scope}
 use Rattle.tg_model.specs.declared.queries.Scope.TheVariants as scopes
-use Rattle.tg_path.specs.declared.fault.QueryFault.{QueryFault}
-use Rattle.tg_path.specs.declared.fault.QueryFault.TheVariants.{BadParam, NoFormat, RawPath}
+use Rattle.tg_query.specs.declared.fault.QueryFault.{QueryFault}
+use Rattle.tg_query.specs.declared.fault.QueryFault.TheVariants.{BadParam, NoFormat, RawPath}
 use Rattle.tg_query.specs.declared.accepts.Accepted.{Accepted}
 use Rattle.tg_query.specs.declared.accepts.CarChoice.{CarChoice}
 use Rattle.tg_query.specs.declared.targets.Target.{Target}

@@ -5,8 +5,8 @@ use Rattle.tg_cid.specs.Spelling.{CidBytes}
 use Rattle.tg_http.specs.Heads.{IsRequest, TellsRequest}
 use Rattle.tg_http.specs.declared.request.RequestHead.{RequestHead}
 use Rattle.tg_model.specs.Queries.{QueryParts, WellFormed}
-use Rattle.tg_path.specs.Answers.{◌>>=◌}
-use Rattle.tg_path.specs.declared.fault.QueryFault.{QueryFault}
+use Rattle.tg_query.specs.Answers.{◌>>=◌}
+use Rattle.tg_query.specs.declared.fault.QueryFault.{QueryFault}
 use Rattle.tg_query.specs.Accepts.{accepted_of}
 use Rattle.tg_query.specs.Joins.{join_of}
 use Rattle.tg_query.specs.Requests.{IsAddr, request_text}

@@ -5,3 +5,12 @@ pub mod Joins
 pub mod Requests
 pub mod Laws
 pub mod Types
+pub mod Faults
+pub mod Answers
+pub mod Cuts
+pub mod CidAnswers
+pub mod Paths
+pub mod WordTexts
+pub mod Spans
+pub mod AnswerLaws
+pub mod Roads

@@ -10,12 +10,12 @@ use Rattle.tg_model.specs.declared.queries.Form.{Form}
 use Rattle.tg_model.specs.declared.queries.Form.TheVariants as forms
 use Rattle.tg_model.specs.declared.queries.Scope.{Scope}
 use Rattle.tg_model.specs.declared.queries.Scope.TheVariants as scopes
-use Rattle.tg_path.specs.Answers.{unless, ◌>>=◌}
-use Rattle.tg_path.specs.Cuts.{behind, behind_front, cut_at, cut_first}
-use Rattle.tg_path.specs.Spans.{SpanText, span_of}
-use Rattle.tg_path.specs.WordTexts.{Rooted, RootedText, ipfs, rooted_of}
-use Rattle.tg_path.specs.declared.fault.QueryFault.{QueryFault}
-use Rattle.tg_path.specs.declared.fault.QueryFault.TheVariants.{BadFormat, BadPath, BadScope, Doubled}
+use Rattle.tg_query.specs.Answers.{unless, ◌>>=◌}
+use Rattle.tg_query.specs.Cuts.{behind, behind_front, cut_at, cut_first}
+use Rattle.tg_query.specs.Spans.{SpanText, span_of}
+use Rattle.tg_query.specs.WordTexts.{Rooted, RootedText, ipfs, rooted_of}
+use Rattle.tg_query.specs.declared.fault.QueryFault.{QueryFault}
+use Rattle.tg_query.specs.declared.fault.QueryFault.TheVariants.{BadFormat, BadPath, BadScope, Doubled}
 use Rattle.tg_query.specs.declared.targets.Asked.{Asked}
 use Rattle.tg_query.specs.declared.targets.Target.{Target}
 

@@ -1,15 +1,16 @@
 //! `Accept` fields of requests.
 ghost use Rattle.std.specs.Prelude.{◌≡◌, Ok, IfOk, option_copied};
-ghost use Rattle.tg_path.specs.Answers.{Gives};
-ghost use Rattle.tg_path.specs.Cuts.{cut_at};
+ghost use Rattle.tg_query.specs.Answers.{Gives};
+ghost use Rattle.tg_query.specs.Cuts.{cut_at};
 ghost use Rattle.tg_query.specs.Accepts.{accepted_of, choice_of, first_car, first_form, first_param, form_of_range};
 ghost use Rattle.tg_query.specs.Accepts.{form_of_type, is_car_form, param_in, param_of, ranges_of};
 
+use crate::cuts::cut_first;
+use crate::fault::QueryFault;
 use std::alloc::{AllocError, Global};
 use tg_bytes::{Bytes, List};
 use tg_http::without_spaces;
 use tg_model::Form;
-use tg_path::{QueryFault, cut_first};
 
 /// What the `Accept` fields of a request accept.
 ///

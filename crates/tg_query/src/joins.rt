@@ -6,10 +6,10 @@ ghost use Rattle.tg_query.specs.Joins.{join_of, raw_or_fault, scope_for};
 ghost use Rattle.tg_query.specs.Targets.{IsTarget};
 
 use crate::accepts::{Accepted, CarChoice};
+use crate::fault::QueryFault;
 use crate::targets::Target;
 use std::alloc::Global;
 use tg_model::{Form, Query, Scope, Span};
-use tg_path::QueryFault;
 
 /// The query that a target and `Accept` ask for. The target's format decides, else the first known type. For a CAR the
 /// parameters of the first CAR type count; the scope is entity where a range is given, and all where neither is. For a

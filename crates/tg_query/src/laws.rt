@@ -17,9 +17,9 @@ ghost use Rattle.tg_query.specs.declared.targets.Target.{Target};
 pub fn printed_requests()
     ensures { (q : QueryParts) (addr : List ℕ) → IsPrintable q addr → IsOneHead q (request_text q addr) }
 {
-    tg_path::laws::cuts_read();
-    tg_path::laws::roots_read();
-    tg_path::laws::spans_read();
+    crate::path_laws::cuts_read();
+    crate::path_laws::roots_read();
+    crate::path_laws::spans_read();
     tg_cid::laws::computes();
     tg_http::laws::request_heads();
 }
@@ -30,9 +30,9 @@ pub fn printed_requests()
 pub fn targets_read()
     ensures { (text : List ℕ) (target : Target) → (target_of text ≡ Ok target) ↔ TargetText text target }
 {
-    tg_path::laws::cuts_read();
-    tg_path::laws::roots_read();
-    tg_path::laws::spans_read();
+    crate::path_laws::cuts_read();
+    crate::path_laws::roots_read();
+    crate::path_laws::spans_read();
 }
 
 /// What is computed of the values of `Accept` fields is what their grammar says.
@@ -42,7 +42,7 @@ pub fn accepts_read()
     ensures { (values : List (List ℕ)) (accepted : Accepted)
         → (accepted_of values ≡ accepted) ↔ AcceptText values accepted }
 {
-    tg_path::laws::cuts_read();
+    crate::path_laws::cuts_read();
 }
 
 /// What is computed of the type of a query's answer is what its grammar says.
@@ -51,5 +51,5 @@ pub fn accepts_read()
 pub fn types_read()
     ensures { (q : QueryParts) (kind : List ℕ) → IsTypeOf q kind ↔ TypeText q.form q.dups kind }
 {
-    tg_path::laws::cuts_read();
+    crate::path_laws::cuts_read();
 }

@@ -1,16 +1,19 @@
 //! Targets of requests.
 ghost use Rattle.std.specs.Prelude.{◌≡◌, IfOk, option_copied};
 ghost use Rattle.percent_encoding.specs.Percent.{percent_decode};
-ghost use Rattle.tg_path.specs.Answers.{Gives};
-ghost use Rattle.tg_path.specs.Cuts.{cut_at};
+ghost use Rattle.tg_query.specs.Answers.{Gives};
+ghost use Rattle.tg_query.specs.Cuts.{cut_at};
 ghost use Rattle.tg_query.specs.Targets.{IsTarget, asked_of, form_of, nothing, scope_of, target_of, with_format};
 ghost use Rattle.tg_query.specs.Targets.{with_param, with_piece, with_pieces, with_scope, with_span};
 
+use crate::cuts::cut_first;
+use crate::fault::QueryFault;
+use crate::spans::parse_span;
+use crate::words::{behind_front, parse_rooted};
 use percent_encoding::percent_decode;
 use std::alloc::{AllocError, Global};
 use tg_cid::Cid;
 use tg_model::{Form, Path, Scope, Span};
-use tg_path::{QueryFault, behind_front, cut_first, parse_rooted, parse_span};
 
 /// What a target asks for: a root, a path from there, and the format, scope and range where they are given.
 ///
@@ -54,8 +57,8 @@ pub fn parse_target(alloc: Global, target: &[u8]) -> Result<Target, QueryFault>
     ensures target { Gives (target_of target.now) result }
     ensures good { IfOk result IsTarget }
 {
-    tg_path::laws::roots_read();
-    tg_path::laws::spans_read();
+    crate::path_laws::roots_read();
+    crate::path_laws::spans_read();
     let Some(rest) = behind_front(target) else {
         return Err(QueryFault::BadPath);
     };

@@ -3,7 +3,7 @@ use crate::asked::{ROOT, are_segments};
 use std::alloc::{AllocError, Global};
 use tg_cid::{Cid, CidFault};
 use tg_model::SpanFrom;
-use tg_path::{QueryFault, parse_span, parse_word};
+use tg_query::{QueryFault, parse_span, parse_word};
 
 /// The segments of a path below the root, or the fault.
 type Wanted = Result<&'static [&'static [u8]], QueryFault>;

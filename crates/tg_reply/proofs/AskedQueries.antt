@@ -18,10 +18,10 @@ use Rattle.tg_cid.specs.Spelling.{CidBytes}
 use Rattle.tg_model.specs.Queries.{QueryParts}
 use Rattle.tg_model.specs.declared.queries.Form.{Form}
 use Rattle.tg_model.specs.declared.queries.Form.TheVariants as forms
-use Rattle.tg_path.specs.Cuts.{behind, cut_at, parts_at}
-use Rattle.tg_path.specs.Paths.{PathBehind, names_of}
-use Rattle.tg_path.specs.WordTexts.{RootedText, ipfs}
-use Rattle.tg_path.specs.declared.fault.QueryFault.{QueryFault}
+use Rattle.tg_query.specs.Cuts.{behind, cut_at, parts_at}
+use Rattle.tg_query.specs.Paths.{PathBehind, names_of}
+use Rattle.tg_query.specs.WordTexts.{RootedText, ipfs}
+use Rattle.tg_query.specs.declared.fault.QueryFault.{QueryFault}
 use Rattle.tg_query.specs.Accepts.{accepted_of}
 use Rattle.tg_query.specs.Joins.{car_with, default_choice, dups_of, format_for, join_by, join_of, raw_or_fault, raw_query}
 use Rattle.tg_query.specs.Laws.{asked_by}

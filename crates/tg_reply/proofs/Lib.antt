@@ -20,3 +20,12 @@ mod AskedReplies
 mod Readings
 mod Cutting
 mod RawQueries
+mod OneSentHead
+mod Joins
+mod OneReply
+mod Begins
+mod AsReplies
+mod Sessions
+mod SentNumbers
+mod Shaped
+mod Worked

@@ -9,14 +9,14 @@ use Rattle.tg_model.specs.Queries.{QueryParts}
 use Rattle.tg_model.specs.declared.queries.Form.{Form}
 use Rattle.tg_model.specs.declared.queries.Form.TheVariants as forms
 use Rattle.tg_model.specs.declared.queries.Scope.TheVariants as scopes
-use Rattle.tg_path.specs.Answers.{unless, ◌>>=◌}
-use Rattle.tg_path.specs.CidAnswers.{root_of}
-use Rattle.tg_path.specs.Cuts.{behind_front, cut_first}
-use Rattle.tg_path.specs.Paths.{path_behind, path_of}
-use Rattle.tg_path.specs.Spans.{span_of}
-use Rattle.tg_path.specs.WordTexts.{Rooted, rooted_of, rooted_with}
-use Rattle.tg_path.specs.declared.fault.QueryFault.{QueryFault}
-use Rattle.tg_path.specs.declared.fault.QueryFault.TheVariants as faults
+use Rattle.tg_query.specs.Answers.{unless, ◌>>=◌}
+use Rattle.tg_query.specs.CidAnswers.{root_of}
+use Rattle.tg_query.specs.Cuts.{behind_front, cut_first}
+use Rattle.tg_query.specs.Paths.{path_behind, path_of}
+use Rattle.tg_query.specs.Spans.{span_of}
+use Rattle.tg_query.specs.WordTexts.{Rooted, rooted_of, rooted_with}
+use Rattle.tg_query.specs.declared.fault.QueryFault.{QueryFault}
+use Rattle.tg_query.specs.declared.fault.QueryFault.TheVariants as faults
 use Rattle.tg_query.specs.Accepts.{accepted_of}
 use Rattle.tg_query.specs.Joins.{car_query, car_with, default_choice, dups_of, format_for, join_by, join_of, raw_query}
 use Rattle.tg_query.specs.Laws.{asked_by}

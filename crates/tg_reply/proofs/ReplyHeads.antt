@@ -12,8 +12,8 @@ use Rattle.tg_http.specs.GrammarLines.{token}
 use Rattle.tg_http.specs.Fields.{values}
 use Rattle.tg_http.specs.Framing.{HasFraming}
 use Rattle.tg_http.specs.declared.framing.Framing.TheVariants as framings
-use Rattle.tg_path.specs.declared.fault.QueryFault.{QueryFault}
-use Rattle.tg_path.specs.declared.fault.QueryFault.TheVariants as faults
+use Rattle.tg_query.specs.declared.fault.QueryFault.{QueryFault}
+use Rattle.tg_query.specs.declared.fault.QueryFault.TheVariants as faults
 use Rattle.tg_query.specs.Accepts.{raw_type}
 use Rattle.tg_query.specs.Requests.{car_with_dups}
 use Rattle.tg_reply.specs.Heads.{NamedValue, allow, attachment, car_fields, car_status, chunked_coding, close, content_length, content_type, data_fields, digits_of, field_line, head_text, if_closing, if_found, if_method, immutable, ipfs_path, no_sniffing, phrase_of, raw_fields, text_of, text_type}

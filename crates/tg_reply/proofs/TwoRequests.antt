@@ -17,9 +17,9 @@ use Rattle.tg_dagpb.specs.Computed.{link_in, node_of}
 use Rattle.tg_http.specs.GrammarLines.{token}
 use Rattle.tg_http.specs.HeadText.{HeadText}
 use Rattle.tg_http.specs.declared.request.RequestHead.{RequestHead}
-use Rattle.tg_path.specs.CidAnswers.{bytes_of_letters, cid_answer}
-use Rattle.tg_path.specs.Paths.{names_of}
-use Rattle.tg_path.specs.Spans.{number_of, span_of}
+use Rattle.tg_query.specs.CidAnswers.{bytes_of_letters, cid_answer}
+use Rattle.tg_query.specs.Paths.{names_of}
+use Rattle.tg_query.specs.Spans.{number_of, span_of}
 use Rattle.tg_pbtable.specs.Computed.{fields_of}
 use Rattle.tg_query.specs.Accepts.{form_of_range, param_of}
 use Rattle.tg_unixfs.specs.Computed.{unix_of}

@@ -3,7 +3,7 @@
 use Rattle.std.specs.Prelude.{Bool, Err, List, Ok, Result, bytes_eq, codes, if◌then◌else◌, ℕ, ◌||◌}
 use Rattle.tg_http.specs.declared.request.RequestHead.{RequestHead}
 use Rattle.tg_model.specs.Queries.{QueryParts}
-use Rattle.tg_path.specs.declared.fault.QueryFault.{QueryFault}
+use Rattle.tg_query.specs.declared.fault.QueryFault.{QueryFault}
 use Rattle.tg_query.specs.Laws.{asked_by}
 use Rattle.tg_reply.specs.declared.refusal.Refusal.{Refusal}
 use Rattle.tg_reply.specs.declared.refusal.Refusal.TheVariants.{BadFraming, BadMethod, Query}

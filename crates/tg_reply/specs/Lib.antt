@@ -12,3 +12,8 @@ pub mod Bodies
 pub mod Readings
 pub mod AskedReadings
 pub mod Cutting
+pub mod Sent
+pub mod Sessions
+pub mod Shapes
+pub mod SentLaws
+pub mod SentExamples

@@ -1,8 +1,8 @@
 -- The statuses of refusals, and the words of their bodies (Path Gateway and Trustless Gateway specifications, response
 -- status codes; the words are this project's own).
 use Rattle.std.specs.Prelude.{Bool, List, codes, false, true, ℕ}
-use Rattle.tg_path.specs.declared.fault.QueryFault.{QueryFault}
-use Rattle.tg_path.specs.declared.fault.QueryFault.TheVariants as faults
+use Rattle.tg_query.specs.declared.fault.QueryFault.{QueryFault}
+use Rattle.tg_query.specs.declared.fault.QueryFault.TheVariants as faults
 use Rattle.tg_reply.specs.declared.refusal.Refusal.{Refusal}
 use Rattle.tg_reply.specs.declared.refusal.Refusal.TheVariants.{BadBlock, BadFraming, BadHead, BadMethod, Gone}
 use Rattle.tg_reply.specs.declared.refusal.Refusal.TheVariants.{HeadLimit, NoRoot, Query, Store}

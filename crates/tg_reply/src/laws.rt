@@ -8,7 +8,7 @@ ghost use Rattle.tg_cid.specs.Spelling.{CidBytes};
 ghost use Rattle.tg_http.specs.declared.request.RequestHead.{RequestHead};
 ghost use Rattle.tg_model.specs.Dag.{Section};
 ghost use Rattle.tg_model.specs.Queries.{QueryParts};
-ghost use Rattle.tg_path.specs.declared.fault.QueryFault.{QueryFault};
+ghost use Rattle.tg_query.specs.declared.fault.QueryFault.{QueryFault};
 ghost use Rattle.tg_reply.specs.Asked.{asked};
 ghost use Rattle.tg_reply.specs.AskedReadings.{AskedRawHasNoPath, AskedRepliesRead, AskedSpells, SentSpelled, TargetsAreBytes};
 ghost use Rattle.tg_reply.specs.Bodies.{CarsInParts, CutGoesOn, WholeInChunks, WholeInLength, WholeUntilClose};
@@ -83,9 +83,9 @@ pub fn no_memory()
     ensures { (head : RequestHead) (fault : QueryFault) → asked head ≡ Err (Refusal.Query fault)
         → fault ≢ QueryFault.OutOfMemory }
 {
-    tg_path::laws::roots_read();
-    tg_path::laws::paths_read();
-    tg_path::laws::spans_read();
+    tg_query::path_laws::roots_read();
+    tg_query::path_laws::paths_read();
+    tg_query::path_laws::spans_read();
 }
 
 /// What a reader makes of the replies to `GET`: a refusal is its text, a raw block is the block, and a CAR that isn't

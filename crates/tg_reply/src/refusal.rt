@@ -1,5 +1,5 @@
 //! Why a request gets no block.
-use tg_path::QueryFault;
+use tg_query::QueryFault;
 
 /// Why a request gets a reply of one word, and no block.
 ///

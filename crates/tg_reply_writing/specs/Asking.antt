@@ -1,8 +1,8 @@
 -- What is answered for the head of a request.
 use Rattle.std.specs.Prelude.{Err, Ok, Result, ⊤, ◌≡◌}
 use Rattle.tg_model.specs.Queries.{QueryParts}
-use Rattle.tg_path.specs.declared.fault.QueryFault.{QueryFault}
-use Rattle.tg_path.specs.declared.fault.QueryFault.TheVariants as faults
+use Rattle.tg_query.specs.declared.fault.QueryFault.{QueryFault}
+use Rattle.tg_query.specs.declared.fault.QueryFault.TheVariants as faults
 use Rattle.tg_reply.specs.declared.refusal.Refusal.{Refusal}
 use Rattle.tg_reply.specs.declared.refusal.Refusal.TheVariants.{Query}
 use Rattle.tg_reply_writing.specs.declared.asking.AskFault.{AskFault}

@@ -1,6 +1,6 @@
 //! What the head of a request asks.
 ghost use Rattle.std.specs.Prelude.{◌≡◌, ◌||◌};
-ghost use Rattle.tg_path.specs.Answers.{Gives};
+ghost use Rattle.tg_query.specs.Answers.{Gives};
 ghost use Rattle.tg_query.specs.Laws.{asked_by};
 ghost use Rattle.tg_reply.specs.Asked.{asked, is_get, is_head};
 ghost use Rattle.tg_reply_writing.specs.Asking.{IsAskedAs};

@@ -8,7 +8,7 @@ use Rattle.tg_replying.specs.Replying.{PutQuiet, ReplyEnds, WrittenEnds}
 use Rattle.tg_replying.specs.declared.fault.ReplyFault.{ReplyFault}
 use Rattle.tg_replying.specs.declared.fault.ReplyFault.TheVariants as faults
 use Rattle.tg_replying.specs.declared.reply.Replied.{Replied}
-use Rattle.tg_sent.specs.Sent.{Answering}
+use Rattle.tg_reply.specs.Sent.{Answering}
 use Rattle.tg_streams.specs.Gathering.{gave_front_out, gave_part, gave_put}
 use Rattle.tg_streams.specs.Joining.{SinkJoins}
 use Rattle.tg_streams.specs.Streams.{OutputQuiet, Put, PutFront, SinkMeaning, into}

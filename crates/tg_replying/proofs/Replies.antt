@@ -23,7 +23,7 @@ use Rattle.tg_replying.specs.Replying.{GivesReply, PutEnds, PutQuiet, is_broken_
 use Rattle.tg_replying.specs.declared.fault.ReplyFault.{ReplyFault}
 use Rattle.tg_replying.specs.declared.fault.ReplyFault.TheVariants as faults
 use Rattle.tg_replying.specs.declared.reply.Replied.{Replied}
-use Rattle.tg_sent.specs.Sent.{is_server_error}
+use Rattle.tg_reply.specs.Sent.{is_server_error}
 use Rattle.tg_streams.specs.Gathering.{gave_front_out, gave_nothing, gave_put}
 use Rattle.tg_streams.specs.Joining.{SinkJoins}
 use Rattle.tg_streams.specs.Streams.{Output, OutputQuiet, Put, PutFront, SinkMeaning, into}

@@ -19,11 +19,11 @@ use Rattle.tg_replying.specs.Bodies.{AreAllSent, AreSent, FailsIn, Gives, Giving
 use Rattle.tg_replying.specs.Bodies.{SectionsEnd, WalkGave, giving_in, part_bytes, sections_bytes}
 use Rattle.tg_replying.specs.declared.fault.ReplyFault.{ReplyFault}
 use Rattle.tg_replying.specs.declared.fault.ReplyFault.TheVariants as faults
-use Rattle.tg_sent.specs.Shapes.{IsGood}
+use Rattle.tg_reply.specs.Shapes.{IsGood}
 use Rattle.tg_streams.specs.Gathering.{Gave, gave_front, gave_gave, gave_nothing}
 use Rattle.tg_streams.specs.Joining.{SinkJoins}
 use Rattle.tg_streams.specs.Streams.{PutFront, SinkMeaning, into}
-use Rattle.tg_traversal_laws.specs.StoreWalks.{section_of}
+use Rattle.tg_model_laws.specs.StoreWalks.{section_of}
 use Rattle.tg_walk.specs.Walks.{HasEnded, HasStepped, HasWalkCause, IsAskedFound, IsNamedFound, IsOnWalk, StandsBy}
 use Rattle.tg_walk.specs.Walks.{StandsFor, WalkState, max_depth}
 use Rattle.tg_walk.specs.declared.fault.WalkFault.{WalkFault}

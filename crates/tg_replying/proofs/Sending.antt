@@ -5,7 +5,7 @@ use Rattle.std.specs.Prelude.{Result, if◌then◌else◌}
 use Rattle.tg_http.specs.declared.request.RequestHead.{RequestHead}
 use Rattle.tg_model.specs.Queries.{QueryParts}
 use Rattle.tg_model.specs.Stores.{Lookups, LookupsQuiet, Store}
-use Rattle.tg_path.specs.declared.fault.QueryFault.{QueryFault}
+use Rattle.tg_query.specs.declared.fault.QueryFault.{QueryFault}
 use Rattle.tg_query.specs.Laws.{asked_by}
 use Rattle.tg_reply.specs.Asked.{asked, is_get, is_head, or_refusal}
 use Rattle.tg_reply.specs.Replies.{Reply, refused_request, reply, reply_to}
@@ -18,9 +18,9 @@ use Rattle.tg_replying.specs.Replying.{is_of_store_refusal}
 use Rattle.tg_replying.specs.declared.fault.ReplyFault.{ReplyFault}
 use Rattle.tg_replying.specs.declared.fault.ReplyFault.TheVariants as faults
 use Rattle.tg_replying.specs.declared.reply.Replied.{Replied}
-use Rattle.tg_sent.specs.Sent.{Answering, Course, Sent, SentFor, as_stored, before_head, broken_before, exact}
-use Rattle.tg_sent.specs.Sent.{is_broken, quiet}
-use Rattle.tg_sent.specs.Shapes.{SentOver, ShapedFor, broken_path, refused_ask, refused_path}
+use Rattle.tg_reply.specs.Sent.{Answering, Course, Sent, SentFor, as_stored, before_head, broken_before, exact}
+use Rattle.tg_reply.specs.Sent.{is_broken, quiet}
+use Rattle.tg_reply.specs.Shapes.{SentOver, ShapedFor, broken_path, refused_ask, refused_path}
 
 -- ---- a reply that is known
 

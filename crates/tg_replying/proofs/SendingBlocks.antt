@@ -16,8 +16,8 @@ use Rattle.tg_reply.specs.declared.refusal.Refusal.TheVariants as refusals
 use Rattle.tg_replying.proofs.Sending.{MaySend, block_refused, may_send_quiet, store_refused}
 use Rattle.tg_replying.specs.Bodies.{BrokeOver}
 use Rattle.tg_replying.specs.Replying.{IsRefusedOver}
-use Rattle.tg_sent.specs.Sent.{SentFor, exact, quiet}
-use Rattle.tg_sent.specs.Shapes.{SentOver, raw_block}
+use Rattle.tg_reply.specs.Sent.{SentFor, exact, quiet}
+use Rattle.tg_reply.specs.Shapes.{SentOver, raw_block}
 use Rattle.tg_walk.specs.Walks.{IsBlockOf}
 
 -- the head asks for the raw block of the query

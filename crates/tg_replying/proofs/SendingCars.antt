@@ -27,9 +27,9 @@ use Rattle.tg_replying.specs.declared.body.BodyEnd.{BodyEnd}
 use Rattle.tg_replying.specs.declared.fault.ReplyFault.{ReplyFault}
 use Rattle.tg_replying.specs.declared.fault.ReplyFault.TheVariants as faults
 use Rattle.tg_replying.specs.declared.reply.Replied.{Replied}
-use Rattle.tg_sent.specs.Sent.{BreaksBehind, SendsSections, SentFor, behind_sections, broken_behind, broken_reply, exact}
-use Rattle.tg_sent.specs.Sent.{is_found, is_server_error, quiet}
-use Rattle.tg_sent.specs.Shapes.{IsGood, SentOver, broken_car, car_of}
+use Rattle.tg_reply.specs.Sent.{BreaksBehind, SendsSections, SentFor, behind_sections, broken_behind, broken_reply, exact}
+use Rattle.tg_reply.specs.Sent.{is_found, is_server_error, quiet}
+use Rattle.tg_reply.specs.Shapes.{IsGood, SentOver, broken_car, car_of}
 use Rattle.tg_streams.specs.Joining.{SinkJoins}
 use Rattle.tg_streams.specs.Streams.{SinkMeaning}
 

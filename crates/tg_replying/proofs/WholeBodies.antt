@@ -22,7 +22,7 @@ use Rattle.tg_replying.specs.Bodies.{is_cut_sent, is_of_store, part_bytes, secti
 use Rattle.tg_replying.specs.declared.body.BodyEnd.{BodyEnd}
 use Rattle.tg_replying.specs.declared.fault.ReplyFault.{ReplyFault}
 use Rattle.tg_replying.specs.declared.fault.ReplyFault.TheVariants as faults
-use Rattle.tg_sent.specs.Shapes.{IsGood}
+use Rattle.tg_reply.specs.Shapes.{IsGood}
 use Rattle.tg_streams.specs.Joining.{SinkJoins}
 use Rattle.tg_streams.specs.Streams.{SinkMeaning}
 use Rattle.tg_walk.specs.declared.fault.WalkFault.{WalkFault}

@@ -17,7 +17,7 @@ use Rattle.tg_reply.specs.Replies.{framed_body, is_cut, is_cut_on_path, sent_dag
 use Rattle.tg_replying.specs.declared.fault.ReplyFault.{ReplyFault}
 use Rattle.tg_replying.specs.declared.fault.ReplyFault.TheVariants as faults
 use Rattle.tg_replying.specs.declared.body.BodyEnd.{BodyEnd}
-use Rattle.tg_sent.specs.Shapes.{HasBroken, IsGood}
+use Rattle.tg_reply.specs.Shapes.{HasBroken, IsGood}
 use Rattle.tg_streams.specs.Gathering.{Gave}
 use Rattle.tg_streams.specs.Streams.{Output, PutFront, SinkMeaning, into}
 use Rattle.tg_walk.specs.declared.fault.WalkFault.{WalkFault}

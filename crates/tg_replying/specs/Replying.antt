@@ -15,8 +15,8 @@ use Rattle.tg_replying.specs.Bodies.{BrokeOver, FailsIn, Gives, Giving}
 use Rattle.tg_replying.specs.declared.fault.ReplyFault.{ReplyFault}
 use Rattle.tg_replying.specs.declared.fault.ReplyFault.TheVariants as faults
 use Rattle.tg_replying.specs.declared.reply.Replied.{Replied}
-use Rattle.tg_sent.specs.Sent.{Answering, Sent, SendsSections, is_broken, is_found, is_server_error}
-use Rattle.tg_sent.specs.Shapes.{IsOfPath}
+use Rattle.tg_reply.specs.Sent.{Answering, Sent, SendsSections, is_broken, is_found, is_server_error}
+use Rattle.tg_reply.specs.Shapes.{IsOfPath}
 use Rattle.tg_streams.specs.Streams.{Output, OutputQuiet, Put, PutFront}
 
 -- a reply of status 500, or whose body was cut
@@ -115,9 +115,9 @@ abbrev pub IsRefusedOver : QueryParts → Option Store → Refusal → Type 0
 IsRefusedOver q (Some store) refusal = (head : RequestHead) → asked head ≡ Ok q → reply store head ≡ refused_request head refusal
 IsRefusedOver q None refusal = IsOfPath q refusal
 
--- a path leads to a terminal or nowhere; or it is refused; or the store broke off, or memory was wanted
+-- a path leads to a terminal or nowhere; or it is refused; or the store broke off; or memory was wanted, and it broke off nowhere
 abbrev pub LeadsOr : QueryParts → Option Store → Lookups → Result Bool AskFault → Type 0
 LeadsOr q told lookups (Ok found) = IsLed q told found × LookupsQuiet lookups
 LeadsOr q told lookups (Err (asks.Refused refusals.Store)) = BrokeOver told lookups
 LeadsOr q told lookups (Err (asks.Refused refusal)) = IsRefusedOver q told refusal × LookupsQuiet lookups
-LeadsOr q told lookups (Err asks.OutOfMemory) = ⊤
+LeadsOr q told lookups (Err asks.OutOfMemory) = LookupsQuiet lookups

@@ -6,7 +6,7 @@ ghost use Rattle.tg_reply.specs.Asked.{asked, is_head};
 ghost use Rattle.tg_reply.specs.Replies.{car_reply};
 ghost use Rattle.tg_replying.specs.Bodies.{giving_in};
 ghost use Rattle.tg_replying.specs.Replying.{GivesReply, IsLed, IsToldFailed, LeadsOr, WrittenEnds};
-ghost use Rattle.tg_sent.specs.Shapes.{SentOver};
+ghost use Rattle.tg_reply.specs.Shapes.{SentOver};
 ghost use Rattle.tg_walk.specs.Walks.{HaveLookedUp};
 
 use crate::body::give_body;

@@ -3,7 +3,7 @@ ghost use Rattle.std.specs.Prelude.{◌≡◌, ◌≤◌, [], ◌++◌, length};
 ghost use Rattle.tg_cid.specs.Limits.{max_block_len};
 ghost use Rattle.tg_reply.specs.CarBytes.{chunk_bytes, section_bytes};
 ghost use Rattle.tg_replying.specs.Bodies.{GiveEnds, end_bytes, giving_in, part_bytes};
-ghost use Rattle.tg_traversal_laws.specs.StoreWalks.{section_of};
+ghost use Rattle.tg_model_laws.specs.StoreWalks.{section_of};
 
 use tg_cid::Cid;
 use tg_faults::Failed;

@@ -5,7 +5,7 @@ ghost use Rattle.tg_reply.specs.Asked.{asked};
 ghost use Rattle.tg_reply.specs.Replies.{raw_reply};
 ghost use Rattle.tg_replying.specs.Bodies.{giving_in};
 ghost use Rattle.tg_replying.specs.Replying.{GivesReply, IsToldFailed, WrittenEnds};
-ghost use Rattle.tg_sent.specs.Shapes.{SentOver};
+ghost use Rattle.tg_reply.specs.Shapes.{SentOver};
 ghost use Rattle.tg_walk.specs.Walks.{HaveLookedUp};
 
 use crate::fault::ReplyFault;

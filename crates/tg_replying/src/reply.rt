@@ -3,7 +3,7 @@ ghost use Rattle.std.specs.Prelude.{◌≡◌, ◌≤◌, []};
 ghost use Rattle.tg_model.specs.Stores.{looked_in};
 ghost use Rattle.tg_replying.specs.Bodies.{giving_in};
 ghost use Rattle.tg_replying.specs.Replying.{ReplyEnds, WrittenEnds};
-ghost use Rattle.tg_sent.specs.Shapes.{SentOver};
+ghost use Rattle.tg_reply.specs.Shapes.{SentOver};
 ghost use Rattle.tg_streams.specs.Streams.{into};
 ghost use Rattle.tg_walk.specs.Walks.{HaveLookedUp};
 

@@ -15,8 +15,8 @@ use Rattle.tg_links.specs.Joining.{heard_of}
 use Rattle.tg_links.specs.Links.{LinkMeaning}
 use Rattle.tg_links.specs.declared.call.Call.{Call}
 use Rattle.tg_model.specs.Stores.{Lookups, Store}
-use Rattle.tg_sent.specs.Sent.{sent_bytes}
-use Rattle.tg_serve.specs.Serving.{AreHeardOf, IsServedRun, LinkRun, LinksTell, ServesLink, call_of}
+use Rattle.tg_reply.specs.Sent.{sent_bytes}
+use Rattle.tg_serve.specs.Serving.{AreHeardOf, IsServedRun, LinkRun, LinksTell, QuietWhileTold, ServesLink, call_of}
 use Rattle.tg_streams.specs.Streams.{SourceMeaning}
 
 -- ---- a session over a link that was new
@@ -176,6 +176,15 @@ module _ {D L : Type 0} (m : DoorMeaning D) (links : LinkMeaning L) (source : So
       call_is (told_of (links.heard x) (links.heard y) ran.run.heard admitted.0.heard ran.spoke.heard_is (tell y).0)
       (told_of (links.said x) (links.said y) ran.run.said admitted.0.said ran.spoke.said_is (tell y).1)
 
+  -- what isn't told stays so, whatever is told of this link
+  untold_by : (m.served c ≡ and_call (m.served b) (told_call (view_of links source y))) ⊎ ((m.served c ≡ None) × DoorRose (at_door m b c))
+      → m.served b ≡ None → m.served c ≡ None
+  untold_by (inl is) none = is ∙ ap (λ (o : Option (List Call)). and_call o (told_call (view_of links source y))) none
+  untold_by (inr (is, up)) none = is
+
+  untold_is : m.served a ≡ None → m.served c ≡ None
+  untold_is none = untold_by done.served (served_before ∙ none)
+
   -- what rose behind the `admit` rose
   rose : DoorRose (at_door m b c) → DoorRose (at_door m a c)
   rose up room = let quiet = admitted.3 in let more = up room in omega (arith, quiet, more)
@@ -190,6 +199,22 @@ module _ {D L : Type 0} (m : DoorMeaning D) (links : LinkMeaning L) (source : So
           inl (is ∙ ap (and_call (m.served b)) (call_told tell) ∙ ap (λ (o : Option (List Call)). and_call o (Some (call_of ran.run))) served_before)
       by (inr (none, up)) = inr (none, rose up)
 
+  -- a link without a fault raises nothing, but where its door told of links
+  quiet_is : ran.run.failed ≡ false → QuietWhileTold (at_door m a c)
+  quiet_is unfailed = by (m.served a) refl done.served
+    where
+      fine : is_failed (source.faults y) ≡ false
+      fine = sym ran.failed_is ∙ unfailed
+
+      by : (was : Option (List Call)) → m.served a ≡ was
+          → (m.served c ≡ and_call (m.served b) (told_call (view_of links source y))) ⊎ ((m.served c ≡ None) × DoorRose (at_door m b c))
+          → QuietWhileTold (at_door m a c)
+      by was is (inl told) = inl (done.quiet fine told ∙ admitted.3)
+      by (Some calls) is (inr (none, up)) = inr (ap is_some is, none, rose up)
+      by None is (inr (none, up)) =
+          inl (done.quiet fine
+          (none ∙ sym (ap (λ (o : Option (List Call)). and_call o (told_call (view_of links source y))) (served_before ∙ is))) ∙ admitted.3)
+
   pub link_served : ServesLink told most (LinksTell links) lookups (at_door m a c) served end
   link_served = record {
     run = ran.run;
@@ -203,7 +228,9 @@ module _ {D L : Type 0} (m : DoorMeaning D) (links : LinkMeaning L) (source : So
     coming = coming_behind ∙ first_gone (m.coming a) (m.coming b) (links.left x) admitted.1;
     heard = first_heard (m.coming a) (m.coming b) (links.left x) (links.left y) ran.run (links.over y) admitted.1 ran.spoke.left_is ran.over_is
         (ran.spoke.ended admitted.0.over);
+    untold = untold_is;
     failed = λ did. rose (done.failed (sym ran.failed_is ∙ did));
+    quiet = quiet_is;
     port = port_behind ∙ port_before;
     counted = let quiet = admitted.3 in let more = done.counted in omega (arith, quiet, more);
   }

@@ -6,7 +6,7 @@ use Rattle.std.proofs.lemmas.List.Elements.{All-append}
 use Rattle.std.proofs.lemmas.List.Folds.{list_any-append}
 use Rattle.std.specs.List.{list_any}
 use Rattle.std.specs.Option.{option_map}
-use Rattle.std.specs.Prelude.{Result, drop, map, ⊤, ◌||◌}
+use Rattle.std.specs.Prelude.{IsSome, Result, drop, is_some, map, ⊤, ◌||◌}
 use Rattle.tg_cid.specs.Cid.{CidParts}
 use Rattle.tg_cid.specs.declared.cid.HashKind.TheVariants.{Sha256}
 use Rattle.tg_doors.specs.Doors.{DoorMeaning, DoorRose, Doorway, at_door}
@@ -16,7 +16,7 @@ use Rattle.tg_gateway.specs.declared.fault.GatewayFault.TheVariants as faults
 use Rattle.tg_gateway.specs.declared.session.Served.{Served}
 use Rattle.tg_links.specs.declared.call.Call.{Call}
 use Rattle.tg_model.specs.Stores.{BlocksMeaning, Store, looked_in}
-use Rattle.tg_serve.specs.Serving.{AreHeardOf, AreServed, HasHappened, IsServedRun, LinkRun, SaidBy, ServesLink, and_calls, call_of, happened_with, is_limit, is_link_fault, is_memory, is_positive}
+use Rattle.tg_serve.specs.Serving.{AreHeardOf, AreServed, HasHappened, IsServedRun, LinkRun, QuietWhileTold, SaidBy, ServesLink, and_calls, call_of, happened_with, is_limit, is_link_fault, is_memory, is_positive}
 use Rattle.tg_serve.specs.declared.Happened.{Happened}
 use Rattle.tg_walk.specs.Walks.{HaveLookedUp}
 
@@ -88,6 +88,10 @@ either : (x y : Bool) → (x || y) ≡ true → (x ≡ true) ⊎ (y ≡ true)
 either true y e = inl refl
 either false y e = inr e
 
+neither : (x y : Bool) → (x || y) ≡ false → (x ≡ false) × (y ≡ false)
+neither true y e = absurd (let f = e in cc)
+neither false y e = (refl, e)
+
 -- ---- the links so far
 
 pub record HasServed (told : Option Store) (most count left : ℕ) (tell : Type 0) (before now : ℕ) (door : Doorway) (happened : Happened) : Type 0 where
@@ -98,7 +102,9 @@ pub record HasServed (told : Option Store) (most count left : ℕ) (tell : Type 
   pub coming : door.coming_new ≡ option_map (drop (length runs)) door.coming_old
   pub heard : AreHeardOf door.coming_old runs
   pub has_happened : HasHappened runs false happened
+  pub untold : door.served_old ≡ None → door.served_new ≡ None
   pub failed : happened.fault ≡ true → DoorRose door
+  pub quiet : happened.fault ≡ false → QuietWhileTold door
   pub port : door.port_new ≡ door.port_old
   pub counted : door.faults_old ≤ door.faults_new
 
@@ -110,6 +116,17 @@ module _ {S D : Type 0} (blocks : BlocksMeaning S) (m : DoorMeaning D) (p q r : 
 
   rose_behind : DoorRose (at_door m b c) → DoorRose (at_door m a c)
   rose_behind up room = let rose = up room in omega (arith, so.counted, rose)
+
+  -- and what is quiet before and behind is quiet
+  pub quiet_both : QuietWhileTold (at_door m a b) → QuietWhileTold (at_door m b c) → (m.served b ≡ None → m.served c ≡ None) → m.faults b ≤ m.faults c
+      → QuietWhileTold (at_door m a c)
+  quiet_both (inl before) (inl now) untold more = inl (now ∙ before)
+  quiet_both (inr (some, none, up)) now untold more = inr (some, untold none, rose_before up more)
+  quiet_both (inl before) (inr (some, none, up)) untold more = inr (told_before (m.served a) refl, none, rose_behind up)
+    where
+      told_before : (was : Option (List Call)) → m.served a ≡ was → IsSome (m.served a)
+      told_before (Some calls) is = ap is_some is
+      told_before None is = absurd (let f = sym (ap is_some (so.untold is)) ∙ some in cc)
 
   -- ---- one link more was served
 
@@ -125,6 +142,12 @@ module _ {S D : Type 0} (blocks : BlocksMeaning S) (m : DoorMeaning D) (p q r : 
         by (inl before) = rose_before (so.failed before) link.counted
         by (inr now) =
             rose_behind (link.failed (failed_by (blocks.stored p) most link.run link.run.end is_served ∙ ap is_link_fault link.end_is ∙ now))
+
+    quiet_more : (happened.fault || is_link_fault end) ≡ false → QuietWhileTold (at_door m a c)
+    quiet_more none =
+        quiet_both (so.quiet (neither happened.fault (is_link_fault end) none).0)
+        (link.quiet (failed_by (blocks.stored p) most link.run link.run.end is_served ∙ ap is_link_fault link.end_is
+        ∙ (neither happened.fault (is_link_fault end) none).1)) link.untold link.counted
 
     told_more : tell → (m.served c ≡ and_calls (m.served a) (so.runs ++ link.run ∷ [])) ⊎ ((m.served c ≡ None) × DoorRose (at_door m a c))
     told_more tells = by (so.told_are tells) (link.told_is tells)
@@ -155,7 +178,9 @@ module _ {S D : Type 0} (blocks : BlocksMeaning S) (m : DoorMeaning D) (p q r : 
       heard = heard_more (m.coming a) so.runs link.run so.heard
           (subst (λ (coming : Option (List (List ℕ))). AreHeardOf coming (link.run ∷ [])) so.coming link.heard);
       has_happened = has_more;
+      untold = λ none. link.untold (so.untold none);
       failed = fails;
+      quiet = quiet_more;
       port = link.port ∙ so.port;
       counted = let before = so.counted in let now = link.counted in omega (arith, before, now);
     }

@@ -1,5 +1,5 @@
 -- A pack that is served through a door (this project's own; RFC 9112, section 9.3).
-use Rattle.std.specs.Prelude.{Err, List, Ok, Option, Result, Some, [], codes, decimal, false, ℕ, ◌++◌, ◌∷◌, ◌≡◌, ◌≢◌}
+use Rattle.std.specs.Prelude.{Err, List, Ok, Option, Result, Some, [], codes, decimal, false, ⊤, ℕ, ◌++◌, ◌∷◌, ◌≡◌, ◌≢◌}
 use Rattle.tg_bytes.specs.Ascii.{line_feed}
 use Rattle.tg_doors.specs.Doors.{DoorRose, Doorway, KeepsComing, KeepsPort, KeepsServed, KeepsShut}
 use Rattle.tg_files.specs.Packs.{PackStep}
@@ -74,8 +74,16 @@ pub record AttachedServed (most asked count : ℕ) (tell : Type 0) (step : PackS
 -- how a pack is served: it is refused, and nothing is done; or it is attached
 abbrev pub PackServed : ℕ → ℕ → ℕ → Type 0 → PackStep → Output → Doorway → Type 0 → Result Happened ServeFault → Type 0
 PackServed most asked count tell step out door same_door (Err (faults.Pack fault)) = IsRefusal step fault × OutUntouched out × same_door
-PackServed most asked count tell step out door same_door (Err faults.OutOfMemory) = OutUntouched out × same_door
+PackServed most asked count tell step out door same_door (Err faults.OutOfMemory) = OutUntouched out × same_door × (step.faults_new ≡ step.faults_old)
 PackServed most asked count tell step out door same_door end = AttachedServed most asked count tell step out door end
+
+-- the door was asked to bind the port, unless the pack was refused before, or no memory was found for it
+abbrev pub AskedBy : Type 0 → Result Happened ServeFault → Type 0
+AskedBy asked (Ok happened) = asked
+AskedBy asked (Err (faults.Pack fault)) = ⊤
+AskedBy asked (Err faults.DoorFault) = asked
+AskedBy asked (Err faults.SinkFault) = asked
+AskedBy asked (Err faults.OutOfMemory) = ⊤
 
 -- a refusal of a pack; want of memory is the command's own
 abbrev pub fault_of_pack : PackFault → ServeFault

@@ -2,7 +2,7 @@
 use Rattle.std.specs.List.{list_any}
 use Rattle.std.specs.Prelude.{Bool, Err, IsSome, List, None, Ok, Option, Result, Some, [], drop, false, length, map, option_map, suc, take, true, zero, ⊤, ℕ}
 use Rattle.std.specs.Prelude.{◌++◌, ◌<◌, ◌∷◌, ◌≡◌, ◌≤◌, ◌⊎◌, ◌||◌}
-use Rattle.tg_doors.specs.Doors.{DoorRose, Doorway}
+use Rattle.tg_doors.specs.Doors.{DoorQuiet, DoorRose, Doorway}
 use Rattle.tg_links.specs.Views.{and_call}
 use Rattle.tg_faults.specs.declared.calls.Failed.{Failed}
 use Rattle.tg_gateway.specs.Links.{IsServed}
@@ -13,8 +13,8 @@ use Rattle.tg_links.specs.Links.{LinkMeaning}
 use Rattle.tg_links.specs.Steps.{IsHeardOf}
 use Rattle.tg_links.specs.declared.call.Call.{Call}
 use Rattle.tg_model.specs.Stores.{Lookups, LookupsQuiet, Store}
-use Rattle.tg_sent.specs.Sent.{CountsBetween, Sent, SentBy, SentInFull, closed_by, sent_bytes}
-use Rattle.tg_sent.specs.Shapes.{SentOver}
+use Rattle.tg_reply.specs.Sent.{CountsBetween, Sent, SentBy, SentInFull, closed_by, sent_bytes}
+use Rattle.tg_reply.specs.Shapes.{SentOver}
 use Rattle.tg_serve.specs.declared.Happened.{Happened}
 
 -- ---- one link
@@ -148,6 +148,10 @@ AreHeardOf (Some coming) [] = ⊤
 AreHeardOf (Some []) (run ∷ runs) = ⊥
 AreHeardOf (Some (first ∷ coming)) (run ∷ runs) = IsHeardOf first run.heard run.over × AreHeardOf (Some coming) runs
 
+-- no fault of the door was counted; or it told the links that were given back, and no memory was found to tell of one
+abbrev pub QuietWhileTold : Doorway → Type 0
+QuietWhileTold door = DoorQuiet door ⊎ (IsSome door.served_old × (door.served_new ≡ None) × DoorRose door)
+
 -- how links were served through a door that may give so many: these came, in order, on each a front was heard of what its
 -- peer says, and each was given back, which the door tells where the links tell it, or else it counted a fault; so many came,
 -- or the door gave no more, as it failed or none is to come; and the store's count went from one number to another
@@ -163,6 +167,7 @@ pub record ServesDoor (told : Option Store) (most count : ℕ) (tell : Type 0) (
   pub none_left : length runs < count → unadmitted ≡ false → door.coming_new ≡ Some []
   pub has_happened : HasHappened runs unadmitted happened
   pub failed : happened.fault ≡ true → DoorRose door
+  pub quiet : happened.fault ≡ false → QuietWhileTold door
   pub port : door.port_new ≡ door.port_old
   pub counted : door.faults_old ≤ door.faults_new
 
@@ -180,7 +185,9 @@ pub record ServesLink (told : Option Store) (most : ℕ) (tell : Type 0) (lookup
   pub told_is : tell → (door.served_new ≡ and_call door.served_old (Some (call_of run))) ⊎ ((door.served_new ≡ None) × DoorRose door)
   pub coming : door.coming_new ≡ option_map (drop 1) door.coming_old
   pub heard : AreHeardOf door.coming_old (run ∷ [])
+  pub untold : door.served_old ≡ None → door.served_new ≡ None
   pub failed : run.failed ≡ true → DoorRose door
+  pub quiet : run.failed ≡ false → QuietWhileTold door
   pub port : door.port_new ≡ door.port_old
   pub counted : door.faults_old ≤ door.faults_new
 
@@ -195,5 +202,5 @@ pub record ServesNone (lookups : Lookups) (door : Doorway) : Type 0 where
 
 abbrev pub ServesNext : Option Store → ℕ → Type 0 → Lookups → Doorway → Result (Option (Served × Result ⊤ GatewayFault)) Failed → Type 0
 ServesNext told most tell lookups door (Ok (Some ran)) = ServesLink told most tell lookups door ran.0 ran.1
-ServesNext told most tell lookups door (Ok None) = ServesNone lookups door × (door.coming_new ≡ Some [])
+ServesNext told most tell lookups door (Ok None) = ServesNone lookups door × (door.coming_new ≡ Some []) × DoorQuiet door
 ServesNext told most tell lookups door (Err fault) = ServesNone lookups door × DoorRose door

@@ -1,7 +1,7 @@
 //! Links that come through a door, served one after another over one store.
 #![tactic(auto)]
 
-ghost use Rattle.std.specs.Prelude.{◌≡◌, [], false};
+ghost use Rattle.std.specs.Prelude.{◌≡◌, [], false, ℕ};
 ghost use Rattle.tg_doors.specs.Doors.{at_door};
 ghost use Rattle.tg_model.specs.Stores.{looked_in};
 ghost use Rattle.tg_serve.specs.Serving.{HasHappened, LinksTell, ServesDoor, ServesNext, happened_with};
@@ -42,6 +42,7 @@ pub fn serve_door<B: Blocks, L: Door>(
 ) -> Happened
     ensures serves { ServesDoor (B.blocks.stored blocks.old) limits.received count (LinksTell L.Link.link)
         (B.blocks.faults blocks.old) (B.blocks.faults blocks.new) (at_door L.door door.old door.new) result }
+    ensures asks { (before : L) (asked : ℕ) → L.door.asked before door.old asked → L.door.asked before door.new asked }
     ensures looked { HaveLookedUp (looked_in B.blocks blocks.old blocks.new) }
 {
     let mut happened = Happened::nothing();
@@ -72,6 +73,7 @@ fn serve_next<B: Blocks, L: Door>(
 ) -> Result<Option<(Served, Result<(), GatewayFault>)>, Failed>
     ensures serves { ServesNext (B.blocks.stored blocks.old) limits.received (LinksTell L.Link.link)
         (looked_in B.blocks blocks.old blocks.new) (at_door L.door door.old door.new) result }
+    ensures asks { (before : L) (asked : ℕ) → L.door.asked before door.old asked → L.door.asked before door.new asked }
     ensures looked { HaveLookedUp (looked_in B.blocks blocks.old blocks.new) }
 {
     let Some(link) = door.admit()? else {

@@ -3,7 +3,7 @@ ghost use Rattle.std.specs.Prelude.{◌≡◌, [], OnErr, OnOk};
 ghost use Rattle.tg_doors.specs.Doors.{at_door};
 ghost use Rattle.tg_files.specs.Packs.{Did, pack_step};
 ghost use Rattle.tg_model.specs.Stores.{looked_in};
-ghost use Rattle.tg_serve.specs.Packed.{PackServed, StoreServed, serving_line};
+ghost use Rattle.tg_serve.specs.Packed.{AskedBy, PackServed, StoreServed, serving_line};
 ghost use Rattle.tg_serve.specs.Serving.{LinksTell};
 ghost use Rattle.tg_streams.specs.Streams.{OutputQuiet, Put, PutFront, into};
 ghost use Rattle.tg_walk.specs.Walks.{HaveLookedUp};
@@ -74,6 +74,7 @@ pub fn serve_pack<P: Pack, L: Door, S: Sink>(
     ensures pack { Did [] (pack_step P.pack pack result.0) }
     ensures served { PackServed limits.received port count (LinksTell L.Link.link) (pack_step P.pack pack result.0)
         (into S.sink out.old out.new) (at_door L.door door.old door.new) (door.new ≡ door.old) result.1 }
+    ensures asked { AskedBy (L.door.asked door.old door.new port) result.1 }
 {
     tg_store::laws::finished_packs::<P>();
     match PackStore::attach_pack(alloc, pack) {
@@ -99,6 +100,7 @@ fn serve_store<B: Blocks, L: Door, S: Sink>(
     ensures served { StoreServed (B.blocks.stored blocks.old) limits.received port count (LinksTell L.Link.link)
         (B.blocks.faults blocks.old) (B.blocks.faults blocks.new) (into S.sink out.old out.new)
         (at_door L.door door.old door.new) result }
+    ensures asked { L.door.asked door.old door.new port }
     ensures looked { HaveLookedUp (looked_in B.blocks blocks.old blocks.new) }
 {
     let Ok(port) = door.bind(port) else {

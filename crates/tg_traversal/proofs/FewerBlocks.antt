@@ -19,7 +19,7 @@ use Rattle.tg_model.specs.declared.placed.PlacedKind.TheVariants as placed
 use Rattle.tg_model.specs.declared.placed.PlacedKind.{PlacedKind}
 use Rattle.tg_model.specs.declared.queries.Scope.TheVariants as scopes
 use Rattle.tg_model.specs.declared.queries.Scope.{Scope}
-use Rattle.tg_traversal_laws.specs.Tasks.{Task, Want, child_then, children_tasks, depth_at_top, depth_of, entries_then, give_entries, give_text, link_tasks, node_tasks, node_want, open_block, segment_want, step_tasks, stop_at, tasks_of, terminal_tasks, terminal_want, text_last}
+use Rattle.tg_model_laws.specs.Tasks.{Task, Want, child_then, children_tasks, depth_at_top, depth_of, entries_then, give_entries, give_text, link_tasks, node_tasks, node_want, open_block, segment_want, step_tasks, stop_at, tasks_of, terminal_tasks, terminal_want, text_last}
 use Rattle.tg_traversal.specs.BlocksLeft.{HasFewer, blocks_from, blocks_over}
 use Rattle.tg_traversal.specs.Opening.{placed_links}
 

@@ -13,7 +13,7 @@ use Rattle.tg_model.specs.Traversal.{Visit, child_visit, entry_visit, slot_visit
 use Rattle.tg_model.specs.Traversal.{Reach as Reaching}
 use Rattle.tg_model.specs.declared.kinds.Entry.{Entry}
 use Rattle.tg_model.specs.declared.kinds.Slot.{Slot}
-use Rattle.tg_traversal_laws.specs.Tasks.{Task, child_then, children_tasks, entries_then, open_block}
+use Rattle.tg_model_laws.specs.Tasks.{Task, child_then, children_tasks, entries_then, open_block}
 
 -- ---- the last of a list is taken
 

@@ -11,7 +11,7 @@ use Rattle.tg_traversal.specs.declared.position.Ask.{Ask}
 use Rattle.tg_traversal.specs.declared.position.Miss.{Miss}
 use Rattle.tg_traversal.specs.declared.position.Place.{Place}
 use Rattle.tg_traversal.specs.declared.position.Position.{Position}
-use Rattle.tg_traversal_laws.specs.Tasks.{Task, segment_want, stop_at, terminal_want}
+use Rattle.tg_model_laws.specs.Tasks.{Task, segment_want, stop_at, terminal_want}
 
 pub still_wanted : (state : LeftState) (path : List (List ℕ)) (place : Option Place) → state.wanted ≡ wanted_at path place → true ≡ is_some place
     → (at : WantedAt) × (state.wanted ≡ Some at) × (tasks_left state ≡ tasks_left state)

@@ -19,7 +19,7 @@ use Rattle.tg_model.specs.Sound.{Position as Standing}
 use Rattle.tg_model.specs.declared.fault.BlockFault.{BlockFault}
 use Rattle.tg_model.specs.declared.kinds.Kind.{Kind}
 use Rattle.tg_model.specs.declared.placed.PlacedKind.{PlacedKind}
-use Rattle.tg_traversal_laws.specs.Tasks.{Task, Want, fault_at, is_read_at}
+use Rattle.tg_model_laws.specs.Tasks.{Task, Want, fault_at, is_read_at}
 
 -- ---- what is asked there
 

@@ -24,7 +24,7 @@ use Rattle.tg_model.specs.Queries.{QueryParts}
 use Rattle.tg_model.specs.declared.kinds.Kind.{Kind}
 use Rattle.tg_model.specs.declared.placed.PlacedKind.{PlacedKind}
 use Rattle.tg_model.specs.declared.queries.Scope.{Scope}
-use Rattle.tg_traversal_laws.specs.Tasks.{Task, Want, fault_at, is_read_at, node_tasks, tasks_of, terminal_tasks, terminal_want}
+use Rattle.tg_model_laws.specs.Tasks.{Task, Want, fault_at, is_read_at, node_tasks, tasks_of, terminal_tasks, terminal_want}
 
 -- where a block is wanted, no segment led nowhere
 pub none_missed : (wanted : Option Place) (place : Place) (missed : Option Miss) → wanted ≡ Some place → HasOneAtMost wanted missed → missed ≡ None

@@ -22,7 +22,7 @@ use Rattle.tg_model.specs.Traversal.{between, entity_reach, own_text, record_lin
 use Rattle.tg_model.specs.declared.kinds.Kind.{Kind}
 use Rattle.tg_model.specs.declared.kinds.Kind.TheVariants.{Basic, File, Raw, Shard, Symlink}
 use Rattle.tg_model.specs.declared.placed.FilePlaces.{FilePlaces}
-use Rattle.tg_traversal_laws.specs.Tasks.{Want, fault_at, node_want, position_of, segment_want, terminal_want, text_at}
+use Rattle.tg_model_laws.specs.Tasks.{Want, fault_at, node_want, position_of, segment_want, terminal_want, text_at}
 
 -- ---- the size of a file's content
 

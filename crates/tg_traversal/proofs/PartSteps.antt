@@ -16,7 +16,7 @@ use Rattle.tg_model.specs.Traversal.{Visit, is_met, passed_over, ranged}
 use Rattle.tg_model.specs.Traversal.{Reach as Reaching}
 use Rattle.tg_model.specs.declared.kinds.Part.{Part}
 use Rattle.tg_model.specs.declared.placed.PartCursor.{PartCursor}
-use Rattle.tg_traversal_laws.specs.Tasks.{Task, children_tasks, node_want, open_block}
+use Rattle.tg_model_laws.specs.Tasks.{Task, children_tasks, node_want, open_block}
 
 -- ---- the last elements of a list
 

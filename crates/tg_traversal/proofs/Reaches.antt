@@ -28,7 +28,7 @@ use Rattle.tg_model.specs.declared.kinds.Slot.{Slot}
 use Rattle.tg_model.specs.declared.placed.FilePlaces.{FilePlaces}
 use Rattle.tg_model.specs.declared.placed.PlacedKind.{PlacedKind}
 use Rattle.tg_model.specs.declared.queries.Scope.{Scope}
-use Rattle.tg_traversal_laws.specs.Tasks.{Task, child_then, children_tasks, entries_then, node_tasks, terminal_tasks, text_last}
+use Rattle.tg_model_laws.specs.Tasks.{Task, child_then, children_tasks, entries_then, node_tasks, terminal_tasks, text_last}
 
 -- ---- the kind that something found stands for
 

@@ -5,7 +5,7 @@ use Rattle.tg_cid.specs.Cid.{CidParts}
 use Rattle.tg_traversal.specs.Frames.{IsFrame, frame_tasks}
 use Rattle.tg_traversal.specs.Left.{IsStack, stack_tasks, top_tasks}
 use Rattle.tg_traversal.specs.declared.frame.Frame.{Frame}
-use Rattle.tg_traversal_laws.specs.Tasks.{Task}
+use Rattle.tg_model_laws.specs.Tasks.{Task}
 
 pub innermost : (frames : List Frame) (f : Frame) → stack_tasks (frames ++ f ∷ []) ≡ frame_tasks f ++ stack_tasks frames
 innermost [] f = sym (append-nil (frame_tasks f))

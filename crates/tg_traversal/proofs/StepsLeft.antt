@@ -19,7 +19,7 @@ use Rattle.tg_model.specs.StepAnswers.{IsStepOver}
 use Rattle.tg_model.specs.declared.kinds.Kind.{Kind}
 use Rattle.tg_model.specs.declared.kinds.Step.{Step}
 use Rattle.tg_model.specs.declared.placed.PlacedKind.{PlacedKind}
-use Rattle.tg_traversal_laws.specs.Tasks.{Want, link_tasks, no_directory, no_entry, open_block, path_want, position_below, segment_want, step_tasks, stop_at, tasks_of}
+use Rattle.tg_model_laws.specs.Tasks.{Want, link_tasks, no_directory, no_entry, open_block, path_want, position_below, segment_want, step_tasks, stop_at, tasks_of}
 
 -- ---- what is taken of the links
 

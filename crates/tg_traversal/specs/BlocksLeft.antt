@@ -4,7 +4,7 @@ use Rattle.tg_cid.specs.Cid.{CidParts}
 use Rattle.tg_traversal.specs.Left.{IsNext, LeftState, WantedAt, tasks_left}
 use Rattle.tg_traversal.specs.declared.frames.Next.{Next}
 use Rattle.tg_traversal.specs.declared.frames.Next.TheVariants as nexts
-use Rattle.tg_traversal_laws.specs.Tasks.{Task, depth_of, give_entries, give_text, open_block, stop_at, tasks_then}
+use Rattle.tg_model_laws.specs.Tasks.{Task, depth_of, give_entries, give_text, open_block, stop_at, tasks_then}
 
 -- how many blocks there are at most from a place on, with so many levels of blocks below it: a block has less than 2 ^ 64
 -- links

@@ -6,8 +6,8 @@ use Rattle.tg_model.specs.Queries.{QueryParts}
 use Rattle.tg_model.specs.Sound.{position_fault, top}
 use Rattle.tg_model.specs.declared.kinds.Kind.{Kind}
 use Rattle.tg_model.specs.declared.queries.Scope.{Scope}
-use Rattle.tg_traversal_laws.specs.Tasks.{Want, fault_at, is_read_at, node_want, position_of, segment_want}
-use Rattle.tg_traversal_laws.specs.Tasks.{terminal_fault, terminal_want}
+use Rattle.tg_model_laws.specs.Tasks.{Want, fault_at, is_read_at, node_want, position_of, segment_want}
+use Rattle.tg_model_laws.specs.Tasks.{terminal_fault, terminal_want}
 
 terminal_same : (scope : Scope) (kind : Kind) → not (is_block scope) ≡ true
     → terminal_fault scope kind ≡ position_fault top kind

@@ -23,7 +23,7 @@ use Rattle.tg_model.specs.declared.kinds.Kind.TheVariants.{Basic, File, Raw, Sha
 use Rattle.tg_model.specs.declared.kinds.Kind.{Kind}
 use Rattle.tg_model.specs.declared.kinds.Part.{Part}
 use Rattle.tg_model.specs.declared.kinds.Slot.{Slot}
-use Rattle.tg_traversal_laws.specs.Tasks.{Task, children_tasks, give_entries, open_block, text_last}
+use Rattle.tg_model_laws.specs.Tasks.{Task, children_tasks, give_entries, open_block, text_last}
 
 -- ---- the parts of a file
 

@@ -25,7 +25,7 @@ use Rattle.tg_model.specs.declared.fault.BlockFault.{BlockFault}
 use Rattle.tg_model.specs.declared.fault.BlockFault.TheVariants as faults
 use Rattle.tg_model.specs.declared.kinds.Kind.{Kind}
 use Rattle.tg_model.specs.declared.placed.PlacedKind.{PlacedKind}
-use Rattle.tg_traversal_laws.specs.Tasks.{Task, Want, depth_of, fault_at, give_entries, give_text, open_block, stop_at}
+use Rattle.tg_model_laws.specs.Tasks.{Task, Want, depth_of, fault_at, give_entries, give_text, open_block, stop_at}
 
 -- a place that is wanted: what is asked there, and the CID of its block
 pub record WantedAt : Type 0 where

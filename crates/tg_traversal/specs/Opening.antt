@@ -23,7 +23,7 @@ use Rattle.tg_model.specs.declared.queries.Scope.{Scope}
 use Rattle.tg_model.specs.declared.kinds.Kind.{Kind}
 use Rattle.tg_model.specs.declared.kinds.Kind.TheVariants.{Basic, Raw, Shard}
 use Rattle.tg_model.specs.declared.placed.PlacedKind.{PlacedKind}
-use Rattle.tg_traversal_laws.specs.Tasks.{open_block, stop_at, tasks_of}
+use Rattle.tg_model_laws.specs.Tasks.{open_block, stop_at, tasks_of}
 use Rattle.tg_traversal.specs.Places.{step_want}
 
 -- the section is read as this kind, which may stand there

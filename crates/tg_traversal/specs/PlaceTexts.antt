@@ -16,7 +16,7 @@ use Rattle.tg_model.specs.Queries.{QueryParts}
 use Rattle.tg_model.specs.Traversal.{Reach, all_reach, bundled, entire, listed, ranged}
 use Rattle.tg_model.specs.declared.queries.Scope.TheVariants as scopes
 use Rattle.tg_model.specs.declared.queries.Scope.{Scope}
-use Rattle.tg_traversal_laws.specs.Tasks.{Want, fault_at, node_want, segment_want, terminal_want}
+use Rattle.tg_model_laws.specs.Tasks.{Want, fault_at, node_want, segment_want, terminal_want}
 
 -- the section has these bytes, and stands for this kind
 pub record IsBlockAt (section : Section) (kind : Kind) (found : PlacedKind) (block : List ℕ) : Type 0 where

@@ -15,8 +15,8 @@ use Rattle.tg_model.specs.Sound.{child, part, top}
 use Rattle.tg_model.specs.Sound.{Position as Standing}
 use Rattle.tg_model.specs.Traversal.{bundled, entire, is_met, listed, ranged}
 use Rattle.tg_model.specs.Traversal.{Reach as Reaching}
-use Rattle.tg_traversal_laws.specs.Tasks.{Want, no_directory, no_entry, node_want, segment_want, terminal_want}
-use Rattle.tg_traversal_laws.specs.Tasks.{Miss as Missing}
+use Rattle.tg_model_laws.specs.Tasks.{Want, no_directory, no_entry, node_want, segment_want, terminal_want}
+use Rattle.tg_model_laws.specs.Tasks.{Miss as Missing}
 
 -- where it stands
 abbrev pub standing_of : Position → Standing

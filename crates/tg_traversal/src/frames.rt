@@ -3,7 +3,7 @@ ghost use Rattle.std.specs.Prelude.{◌≡◌, ℕ, None, Some, IfOk, OnErr, dro
 ghost use Rattle.tg_traversal.specs.BlocksLeft.{HasFewer};
 ghost use Rattle.tg_traversal.specs.Left.{IsNext, IsOnPath, tasks_left, told_wanted};
 ghost use Rattle.tg_traversal.specs.Places.{want_of};
-ghost use Rattle.tg_traversal_laws.specs.Tasks.{path_want, start};
+ghost use Rattle.tg_model_laws.specs.Tasks.{path_want, start};
 
 use crate::frame::Visited;
 use crate::position::{Ask, Miss, Place, Position, Wanted};

@@ -16,7 +16,7 @@ ghost use Rattle.tg_model.specs.Dag.{Section, links_of};
 ghost use Rattle.tg_model.specs.Fits.{is_block};
 ghost use Rattle.tg_model.specs.declared.kinds.Kind.{Kind};
 ghost use Rattle.tg_model.specs.declared.placed.PlacedKind.{PlacedKind};
-ghost use Rattle.tg_traversal_laws.specs.Tasks.{children_tasks, depth_of, node_tasks, tasks_of, terminal_tasks};
+ghost use Rattle.tg_model_laws.specs.Tasks.{children_tasks, depth_of, node_tasks, tasks_of, terminal_tasks};
 
 use crate::block::SharedBlock;
 use crate::frame::{ChildrenLeft, EntriesLeft, Frame, PartsLeft, SlotsLeft};

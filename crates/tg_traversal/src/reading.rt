@@ -6,7 +6,7 @@ ghost use Rattle.tg_model.specs.Placed.{StandsForKind};
 ghost use Rattle.tg_model.specs.Sound.{child, part, shard_fault, top};
 ghost use Rattle.tg_model.specs.declared.kinds.Kind.{Kind};
 ghost use Rattle.tg_model.specs.declared.kinds.Slot.{Slot};
-ghost use Rattle.tg_traversal_laws.specs.Tasks.{is_read_at};
+ghost use Rattle.tg_model_laws.specs.Tasks.{is_read_at};
 
 use crate::frames::Frames;
 use crate::position::{Ask, Position};

@@ -30,7 +30,7 @@ impl Model for Stack {
     ghost use Rattle.std.specs.Prelude.{List, ◌++◌};
     ghost use Rattle.tg_cid.specs.Cid.{CidParts};
     ghost use Rattle.tg_traversal.specs.Left.{IsStack, stack_tasks, top_tasks};
-    ghost use Rattle.tg_traversal_laws.specs.Tasks.{Task};
+    ghost use Rattle.tg_model_laws.specs.Tasks.{Task};
 
     ghost Value = { List (Task CidParts) };
 

@@ -11,7 +11,7 @@ ghost use Rattle.tg_model.specs.Sound.{top};
 ghost use Rattle.tg_model.specs.Texts.{dir_line};
 ghost use Rattle.tg_model.specs.Traversal.{all_reach, between, entity_reach, own_text, record_line, text_before};
 ghost use Rattle.tg_model.specs.declared.kinds.Kind.{Kind};
-ghost use Rattle.tg_traversal_laws.specs.Tasks.{position_of, terminal_text_before, text_at};
+ghost use Rattle.tg_model_laws.specs.Tasks.{position_of, terminal_text_before, text_at};
 
 use crate::frames::Frames;
 use crate::position::{Ask, Position, Reach};

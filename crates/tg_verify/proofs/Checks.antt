@@ -13,7 +13,7 @@ use Rattle.tg_model.specs.Queries.{QueryParts}
 use Rattle.tg_model.specs.declared.fault.BlockFault.{BlockFault}
 use Rattle.tg_model.specs.declared.kinds.Kind.{Kind}
 use Rattle.tg_model.specs.declared.placed.PlacedKind.{PlacedKind}
-use Rattle.tg_traversal_laws.specs.Tasks.{depth_of, fault_at, is_read_at, position_of}
+use Rattle.tg_model_laws.specs.Tasks.{depth_of, fault_at, is_read_at, position_of}
 use Rattle.tg_verify.specs.Opening.{IsReadBlock}
 use Rattle.tg_verify.specs.Refusals.{refusal_of_block}
 use Rattle.tg_verify.specs.Steps.{HasCheckCause, IsCheckedAt, section_with}

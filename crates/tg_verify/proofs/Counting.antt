@@ -15,9 +15,9 @@ use Rattle.tg_model.specs.declared.limits.LimitKind.TheVariants as kinds
 use Rattle.tg_model.specs.declared.limits.LimitKind.{LimitKind}
 use Rattle.tg_model_laws.specs.SentSections.{asked_append, asked_behind, sent_front, sent_step, taken_if}
 use Rattle.tg_traversal.specs.Left.{WantedAt}
-use Rattle.tg_traversal_laws.specs.Openings.{opened_by}
-use Rattle.tg_traversal_laws.specs.Stages.{Given, up_to_next, with_place}
-use Rattle.tg_traversal_laws.specs.Tasks.{Task, entries_now, text_now}
+use Rattle.tg_model_laws.specs.TakenBlocks.{opened_by}
+use Rattle.tg_model_laws.specs.Stages.{Given, up_to_next, with_place}
+use Rattle.tg_model_laws.specs.Tasks.{Task, entries_now, text_now}
 use Rattle.tg_verify.specs.Counting.{AreUnpassed, HasCounted, IsCountedOn, IsFirstPassed, blocks_added, bytes_added, counts_given, numbers_of, reused_added}
 use Rattle.tg_verify.specs.State.{told}
 use Rattle.tg_verify.specs.declared.counts.Counts.{Counts}

@@ -5,10 +5,10 @@ use Rattle.tg_model.specs.Dag.{Section}
 use Rattle.tg_model.specs.Queries.{QueryParts}
 use Rattle.tg_model.specs.Traversal.{opened_list, sent}
 use Rattle.tg_model.specs.declared.queries.Form.TheVariants as forms
-use Rattle.tg_traversal_laws.specs.Openings.{opened_by}
-use Rattle.tg_traversal_laws.specs.Stages.{Given}
-use Rattle.tg_traversal_laws.specs.Tasks.{Task}
-use Rattle.tg_traversal_laws.specs.Verified.{Verified}
+use Rattle.tg_model_laws.specs.TakenBlocks.{opened_by}
+use Rattle.tg_model_laws.specs.Stages.{Given}
+use Rattle.tg_model_laws.specs.Tasks.{Task}
+use Rattle.tg_model_laws.specs.Verified.{Verified}
 
 abbrev pub each_asked : QueryParts → QueryParts
 each_asked q = record q { form = forms.Raw; dups = true }

@@ -7,9 +7,9 @@ use Rattle.tg_model.specs.Fits.{Fits, IsInProgress, output_so_far}
 use Rattle.tg_model.specs.Queries.{QueryParts}
 use Rattle.tg_model.specs.Traversal.{is_sent_behind}
 use Rattle.tg_model.specs.PathWalk.{Spot, TraversalEnd, gone, stopped, whole}
-use Rattle.tg_traversal_laws.specs.Stages.{Given, up_to_next}
-use Rattle.tg_traversal_laws.specs.Tasks.{Miss, Task, Want, no_directory, no_entry, open_block, spot_of, stop_of, tasks_then}
-use Rattle.tg_traversal_laws.specs.Verified.{AreSettled, VerifiedLaws, WantsAt, written_whole}
+use Rattle.tg_model_laws.specs.Stages.{Given, up_to_next}
+use Rattle.tg_model_laws.specs.Tasks.{Miss, Task, Want, no_directory, no_entry, open_block, spot_of, stop_of, tasks_then}
+use Rattle.tg_model_laws.specs.Verified.{AreSettled, VerifiedLaws, WantsAt, written_whole}
 use Rattle.tg_verify.specs.State.{VerifierState}
 use Rattle.tg_verify.specs.Taken.{IsGoing, IsSentFor, IsWrittenAt}
 

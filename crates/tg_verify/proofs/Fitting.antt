@@ -8,9 +8,9 @@ use Rattle.tg_model.specs.Queries.{QueryParts}
 use Rattle.tg_model.specs.Traversal.{block_list, is_sent_behind, traversal}
 use Rattle.tg_model_laws.specs.Openings.{IsSettledAt}
 use Rattle.tg_model_laws.specs.SentSections.{not_among}
-use Rattle.tg_traversal_laws.specs.BesideSound.{BesideLaws}
-use Rattle.tg_traversal_laws.specs.Tasks.{Miss, no_directory, no_entry, open_block, stop_of}
-use Rattle.tg_traversal_laws.specs.Verified.{IsOther, VerifiedLaws}
+use Rattle.tg_model_laws.specs.BesideSound.{BesideLaws}
+use Rattle.tg_model_laws.specs.Tasks.{Miss, no_directory, no_entry, open_block, stop_of}
+use Rattle.tg_model_laws.specs.Verified.{IsOther, VerifiedLaws}
 use Rattle.tg_verify.proofs.Endings.{not_gone, not_whole}
 use Rattle.tg_verify.proofs.Misread.{Computes}
 use Rattle.tg_verify.proofs.Passing.{IsEndOf, is_end_or_own, is_own_fault}

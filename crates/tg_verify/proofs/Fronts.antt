@@ -4,7 +4,7 @@ use Rattle.std.proofs.lemmas.List.Elements.{Contains-append_left, Contains-push_
 use Rattle.tg_model.specs.Counts.{greatest}
 use Rattle.tg_model.specs.Dag.{Dag, Section}
 use Rattle.tg_model.specs.Fits.{CollisionPair, IsFrontOfAnswer}
-use Rattle.tg_traversal_laws.specs.Verified.{PairOfSome}
+use Rattle.tg_model_laws.specs.Verified.{PairOfSome}
 
 -- ---- the only one of a list
 

@@ -17,7 +17,7 @@ use Rattle.tg_model.specs.declared.queries.Scope.TheVariants as scopes
 use Rattle.tg_model.specs.declared.queries.Scope.{Scope}
 use Rattle.tg_traversal.specs.Frames.{listed_at}
 use Rattle.tg_traversal.specs.Left.{LeftState, tasks_left}
-use Rattle.tg_traversal_laws.specs.Tasks.{Miss, Task, entries_now, give_entries, give_text, tasks_then, text_now}
+use Rattle.tg_model_laws.specs.Tasks.{Miss, Task, entries_now, give_entries, give_text, tasks_then, text_now}
 use Rattle.tg_verify.specs.Counting.{HasMet}
 use Rattle.tg_verify.specs.State.{OpenerState, listed_lines, listed_of, told}
 use Rattle.tg_verify.specs.Steps.{IsAdvanced, IsGathered, IsGatheredBy, IsMetAt, IsNearer, IsSameOpener, StopsThere, kept_now, left_of, listed_entry}

@@ -3,8 +3,8 @@ use Rattle.std.proofs.Common.{List, None, Option, Some, subst, ℕ, ◌++◌, �
 use Rattle.tg_cid.specs.Cid.{CidParts}
 use Rattle.tg_model.specs.Dag.{Section}
 use Rattle.tg_traversal.specs.Left.{WantedAt, wanted_tasks}
-use Rattle.tg_traversal_laws.specs.Tasks.{Task}
-use Rattle.tg_traversal_laws.specs.Verified.{Verified}
+use Rattle.tg_model_laws.specs.Tasks.{Task}
+use Rattle.tg_model_laws.specs.Verified.{Verified}
 use Rattle.tg_verify.specs.Reached.{IsReached, stage_of}
 use Rattle.tg_verify.specs.State.{VerifierState}
 use Rattle.tg_verify.specs.Taken.{IsGoing, IsSentFor, IsThrough, IsUpTo, IsWrittenAt}

@@ -9,9 +9,9 @@ use Rattle.tg_model.specs.LimitNumbers.{LimitNumbers}
 use Rattle.tg_model.specs.Queries.{QueryParts}
 use Rattle.tg_streams.specs.Joining.{SinkJoins, put_nothing, put_put}
 use Rattle.tg_streams.specs.Streams.{Output, OutputQuiet, SinkMeaning, into}
-use Rattle.tg_traversal_laws.specs.Stages.{nothing_given}
-use Rattle.tg_traversal_laws.specs.Tasks.{Task, start}
-use Rattle.tg_traversal_laws.specs.Verified.{VerifiedLaws}
+use Rattle.tg_model_laws.specs.Stages.{nothing_given}
+use Rattle.tg_model_laws.specs.Tasks.{Task, start}
+use Rattle.tg_model_laws.specs.Verified.{VerifiedLaws}
 use Rattle.tg_verify.proofs.Going.{going_through, going_up_to}
 use Rattle.tg_verify.proofs.Sections.{is_going}
 use Rattle.tg_verify.proofs.Turns.{cause_later}

@@ -15,8 +15,8 @@ use Rattle.tg_model.specs.Sound.{IsOfSize, Position, TellsSize, child, part, pos
 use Rattle.tg_model.specs.declared.fault.BlockFault.{BlockFault}
 use Rattle.tg_model.specs.declared.kinds.Kind.{Kind}
 use Rattle.tg_model.specs.declared.kinds.Kind.TheVariants.{Basic, File, Raw, Shard, Symlink}
-use Rattle.tg_traversal_laws.specs.Openings.{IsReadAt}
-use Rattle.tg_traversal_laws.specs.Tasks.{fault_at, is_read_at, position_of}
+use Rattle.tg_model_laws.specs.TakenBlocks.{IsReadAt}
+use Rattle.tg_model_laws.specs.Tasks.{fault_at, is_read_at, position_of}
 use Rattle.tg_verify.specs.Refusals.{IsBadBlock, IsMissized}
 
 -- of a block of bytes the kind is computed

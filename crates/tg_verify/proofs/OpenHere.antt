@@ -6,7 +6,7 @@ use Rattle.tg_model.specs.Dag.{Section, links_of}
 use Rattle.tg_model.specs.Placed.{StandsForKind}
 use Rattle.tg_model.specs.declared.kinds.Kind.{Kind}
 use Rattle.tg_model.specs.declared.placed.PlacedKind.{PlacedKind}
-use Rattle.tg_traversal_laws.specs.Tasks.{depth_of, tasks_of, text_at}
+use Rattle.tg_model_laws.specs.Tasks.{depth_of, tasks_of, text_at}
 use Rattle.tg_verify.specs.State.{OpenerState}
 use Rattle.tg_verify.specs.Opening.{tasks_behind, text_of}
 use Rattle.tg_verify.specs.Steps.{IsOpenedHere, IsPassingHere}

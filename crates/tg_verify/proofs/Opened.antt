@@ -18,10 +18,10 @@ use Rattle.tg_model_laws.specs.SentSections.{taken_as}
 use Rattle.tg_streams.specs.Streams.{Output, Put}
 use Rattle.tg_traversal.specs.FaultLaws.{fault_same}
 use Rattle.tg_traversal.specs.Left.{WantedAt, tasks_left}
-use Rattle.tg_traversal_laws.specs.Openings.{IsReadAt, opened_by}
-use Rattle.tg_traversal_laws.specs.Stages.{Given, with_place}
-use Rattle.tg_traversal_laws.specs.Tasks.{Miss, Task, entries_now, no_directory, no_entry, open_block, position_of, tasks_then, text_now}
-use Rattle.tg_traversal_laws.specs.Verified.{IsKnown, Verified, VerifiedLaws, listing_at_end}
+use Rattle.tg_model_laws.specs.TakenBlocks.{IsReadAt, opened_by}
+use Rattle.tg_model_laws.specs.Stages.{Given, with_place}
+use Rattle.tg_model_laws.specs.Tasks.{Miss, Task, entries_now, no_directory, no_entry, open_block, position_of, tasks_then, text_now}
+use Rattle.tg_model_laws.specs.Verified.{IsKnown, Verified, VerifiedLaws, listing_at_end}
 use Rattle.tg_verify.proofs.Counting.{IsFrom, counted_on, is_passed, is_unpassed}
 use Rattle.tg_verify.proofs.Misread.{Computes}
 use Rattle.tg_verify.specs.Counting.{AreUnpassed, HasCounted, counts_given}

@@ -12,9 +12,9 @@ use Rattle.tg_model.specs.Queries.{QueryParts}
 use Rattle.tg_model.specs.Sound.{IsSound}
 use Rattle.tg_model.specs.Traversal.{block_list, opened_list, traversal}
 use Rattle.tg_model_laws.specs.Openings.{IsSettledAt}
-use Rattle.tg_traversal_laws.specs.BesideSound.{BesideLaws}
-use Rattle.tg_traversal_laws.specs.Tasks.{open_block}
-use Rattle.tg_traversal_laws.specs.Verified.{IsOther, VerifiedLaws}
+use Rattle.tg_model_laws.specs.BesideSound.{BesideLaws}
+use Rattle.tg_model_laws.specs.Tasks.{open_block}
+use Rattle.tg_model_laws.specs.Verified.{IsOther, VerifiedLaws}
 use Rattle.tg_verify.proofs.Endings.{fit_ends, not_whole}
 use Rattle.tg_verify.proofs.Misread.{Computes}
 use Rattle.tg_verify.proofs.Passing.{is_own_fault}

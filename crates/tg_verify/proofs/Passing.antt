@@ -15,11 +15,11 @@ use Rattle.tg_model.specs.declared.kinds.Kind.{Kind}
 use Rattle.tg_model.specs.declared.limits.LimitKind.TheVariants as kinds
 use Rattle.tg_model.specs.declared.limits.LimitKind.{LimitKind}
 use Rattle.tg_model_laws.specs.SentSections.{taken_as, taken_if}
-use Rattle.tg_traversal_laws.specs.BesideSound.{BesideLaws, Passes, PassesIf}
-use Rattle.tg_traversal_laws.specs.Openings.{IsReadAt}
-use Rattle.tg_traversal_laws.specs.Stages.{Given, place_of, up_to_next, with_place}
-use Rattle.tg_traversal_laws.specs.Tasks.{Miss, Task, Want, depth_of, is_read_at, no_directory, no_entry, open_block, position_of, stop_of, tasks_of, tasks_then, text_at}
-use Rattle.tg_traversal_laws.specs.Verified.{AreSettled, IsHad, IsKnown, IsKnownIf, IsOther, Verified, VerifiedLaws, WantsNext}
+use Rattle.tg_model_laws.specs.BesideSound.{BesideLaws, Passes, PassesIf}
+use Rattle.tg_model_laws.specs.TakenBlocks.{IsReadAt}
+use Rattle.tg_model_laws.specs.Stages.{Given, place_of, up_to_next, with_place}
+use Rattle.tg_model_laws.specs.Tasks.{Miss, Task, Want, depth_of, is_read_at, no_directory, no_entry, open_block, position_of, stop_of, tasks_of, tasks_then, text_at}
+use Rattle.tg_model_laws.specs.Verified.{AreSettled, IsHad, IsKnown, IsKnownIf, IsOther, Verified, VerifiedLaws, WantsNext}
 use Rattle.tg_verify.proofs.Endings.{none_settled, place_settled}
 use Rattle.tg_verify.proofs.Fronts.{greatest_at}
 use Rattle.tg_verify.proofs.Limits.{not_passed, within_both}

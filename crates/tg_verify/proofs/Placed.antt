@@ -13,7 +13,7 @@ use Rattle.tg_model.specs.declared.limits.LimitKind.TheVariants as kinds
 use Rattle.tg_model.specs.declared.limits.LimitKind.{LimitKind}
 use Rattle.tg_traversal.specs.BlocksLeft.{HasFewer, blocks_over, then_keeps}
 use Rattle.tg_traversal.specs.Left.{LeftState, WantedAt, tasks_left}
-use Rattle.tg_traversal_laws.specs.Tasks.{Task, entries_now, tasks_then, text_now}
+use Rattle.tg_model_laws.specs.Tasks.{Task, entries_now, tasks_then, text_now}
 use Rattle.tg_verify.specs.Counting.{HasMet, IsCountedOn, IsFirstPassed, blocks_added, bytes_added, numbers_of, reused_added}
 use Rattle.tg_verify.specs.Opening.{PassesAs, text_of}
 use Rattle.tg_verify.proofs.Reaching.{never_stops}

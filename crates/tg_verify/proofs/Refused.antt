@@ -17,11 +17,11 @@ use Rattle.tg_model.specs.declared.kinds.Kind.{Kind}
 use Rattle.tg_model.specs.declared.limits.LimitKind.TheVariants as kinds
 use Rattle.tg_model.specs.declared.limits.LimitKind.{LimitKind}
 use Rattle.tg_model_laws.specs.SentSections.{taken_as, taken_if}
-use Rattle.tg_traversal_laws.specs.BesideSound.{BesideLaws, IsBeside, IsNext}
-use Rattle.tg_traversal_laws.specs.Openings.{IsReadAt}
-use Rattle.tg_traversal_laws.specs.Stages.{Given, place_of, up_to_next, with_place}
-use Rattle.tg_traversal_laws.specs.Tasks.{Task, depth_of, no_directory, no_entry, open_block, position_of, tasks_of, text_at}
-use Rattle.tg_traversal_laws.specs.Verified.{IsHad, IsKnown, IsKnownIf, Verified, VerifiedLaws}
+use Rattle.tg_model_laws.specs.BesideSound.{BesideLaws, IsBeside, IsNext}
+use Rattle.tg_model_laws.specs.TakenBlocks.{IsReadAt}
+use Rattle.tg_model_laws.specs.Stages.{Given, place_of, up_to_next, with_place}
+use Rattle.tg_model_laws.specs.Tasks.{Task, depth_of, no_directory, no_entry, open_block, position_of, tasks_of, text_at}
+use Rattle.tg_model_laws.specs.Verified.{IsHad, IsKnown, IsKnownIf, Verified, VerifiedLaws}
 use Rattle.tg_verify.proofs.Fronts.{greatest_at, only_one, or_pair_more, pair_more}
 use Rattle.tg_verify.proofs.Limits.{is_above, number_within}
 use Rattle.tg_verify.proofs.Misread.{Computes, bad_isnt_read, missized_isnt_read}

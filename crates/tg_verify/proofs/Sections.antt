@@ -6,7 +6,7 @@ use Rattle.tg_model.specs.Dag.{Section}
 use Rattle.tg_model.specs.LimitNumbers.{LimitNumbers}
 use Rattle.tg_model.specs.Queries.{QueryParts}
 use Rattle.tg_streams.specs.Streams.{Output}
-use Rattle.tg_traversal_laws.specs.Tasks.{no_directory, no_entry}
+use Rattle.tg_model_laws.specs.Tasks.{no_directory, no_entry}
 use Rattle.tg_verify.proofs.Going.{going_through, going_up_to}
 use Rattle.tg_verify.specs.History.{HasTaken, HasWritten, IsProgress, ShowsFor, StandsAfter, StandsBy, StandsFor}
 use Rattle.tg_verify.specs.Laws.{AnswerLaws, IsOwnFault}

@@ -13,11 +13,11 @@ use Rattle.tg_model.specs.PathWalk.{Spot, not_folder, not_there, stopped}
 use Rattle.tg_model.specs.Queries.{QueryParts}
 use Rattle.tg_model.specs.Sound.{IsSound}
 use Rattle.tg_model.specs.Traversal.{Traversal, block_list, traversal}
-use Rattle.tg_traversal_laws.specs.Stages.{Given, up_to_next}
-use Rattle.tg_traversal_laws.specs.Openings.{opened_by}
+use Rattle.tg_model_laws.specs.Stages.{Given, up_to_next}
+use Rattle.tg_model_laws.specs.TakenBlocks.{opened_by}
 use Rattle.tg_model.specs.LimitNumbers.{LimitNumbers}
-use Rattle.tg_traversal_laws.specs.Tasks.{Miss, Task, Want, no_directory, no_entry, open_block, spot_of, stop_at, tasks_then, text_now}
-use Rattle.tg_traversal_laws.specs.Verified.{GoesOn, IsAccepted, LeadsNowhere, Then, Verified, VerifiedLaws, listing_at_end, then_block, then_none, then_stop, written_whole}
+use Rattle.tg_model_laws.specs.Tasks.{Miss, Task, Want, no_directory, no_entry, open_block, spot_of, stop_at, tasks_then, text_now}
+use Rattle.tg_model_laws.specs.Verified.{GoesOn, IsAccepted, LeadsNowhere, Then, Verified, VerifiedLaws, listing_at_end, then_block, then_none, then_stop, written_whole}
 use Rattle.tg_verify.proofs.EachAsked.{each_asked, each_verified}
 use Rattle.tg_verify.proofs.Fronts.{front_of_front, whole_is_front}
 use Rattle.tg_verify.specs.Laws.{IsFitOf, IsNowhereOf, IsProgressOf}

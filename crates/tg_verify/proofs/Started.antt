@@ -10,9 +10,9 @@ use Rattle.tg_model.specs.Queries.{QueryParts}
 use Rattle.tg_model.specs.Traversal.{unrepeated}
 use Rattle.tg_model.specs.declared.queries.Scope.{Scope}
 use Rattle.tg_model.specs.declared.queries.Scope.TheVariants as scopes
-use Rattle.tg_traversal_laws.specs.Stages.{nothing_given}
-use Rattle.tg_traversal_laws.specs.Tasks.{Task}
-use Rattle.tg_traversal_laws.specs.Verified.{Verified, VerifiedLaws}
+use Rattle.tg_model_laws.specs.Stages.{nothing_given}
+use Rattle.tg_model_laws.specs.Tasks.{Task}
+use Rattle.tg_model_laws.specs.Verified.{Verified, VerifiedLaws}
 use Rattle.tg_verify.specs.Counting.{AreUnpassed, counts_given}
 use Rattle.tg_verify.specs.Reached.{IsReached, stage_of}
 use Rattle.tg_verify.specs.State.{VerifierState, listed_of}

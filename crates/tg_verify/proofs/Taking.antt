@@ -13,9 +13,9 @@ use Rattle.tg_model_laws.specs.SentSections.{new_behind, once, taken_as, taken_i
 use Rattle.tg_streams.specs.Joining.{put_nothing}
 use Rattle.tg_streams.specs.Streams.{Output, SinkMeaning, into}
 use Rattle.tg_traversal.specs.Left.{WantedAt, tasks_left, wanted_tasks}
-use Rattle.tg_traversal_laws.specs.Stages.{Given}
-use Rattle.tg_traversal_laws.specs.Tasks.{Task, no_directory, no_entry, open_block}
-use Rattle.tg_traversal_laws.specs.Verified.{Verified, VerifiedLaws}
+use Rattle.tg_model_laws.specs.Stages.{Given}
+use Rattle.tg_model_laws.specs.Tasks.{Task, no_directory, no_entry, open_block}
+use Rattle.tg_model_laws.specs.Verified.{Verified, VerifiedLaws}
 use Rattle.tg_verify.proofs.Going.{going_through}
 use Rattle.tg_verify.proofs.Misread.{Computes}
 use Rattle.tg_verify.proofs.Opened.{Ends, IsAtPlace, IsNothing, IsOpenedUpTo, nothing_put, opens_up_to, placed_ends}

@@ -19,8 +19,8 @@ use Rattle.tg_streams.specs.Joining.{put_nothing}
 use Rattle.tg_streams.specs.Streams.{Output, Put, SinkMeaning, into}
 use Rattle.tg_traversal.specs.Left.{WantedAt, tasks_left, told_wanted, wanted_tasks}
 use Rattle.tg_traversal.specs.declared.position.Wanted.{Wanted}
-use Rattle.tg_traversal_laws.specs.Tasks.{Task, no_directory, no_entry, open_block}
-use Rattle.tg_traversal_laws.specs.Verified.{IsHad, IsKnown, IsKnownIf, IsOwnBlock, Verified, VerifiedLaws, listing_at_end, written_whole}
+use Rattle.tg_model_laws.specs.Tasks.{Task, no_directory, no_entry, open_block}
+use Rattle.tg_model_laws.specs.Verified.{IsHad, IsKnown, IsKnownIf, IsOwnBlock, Verified, VerifiedLaws, listing_at_end, written_whole}
 use Rattle.tg_verify.proofs.Counting.{IsFrom, unasked_unsent}
 use Rattle.tg_verify.proofs.Misread.{Computes}
 use Rattle.tg_verify.proofs.Opened.{Ends, IsAtPlace, IsOpenedUpTo, opens_up_to, placed_ends}

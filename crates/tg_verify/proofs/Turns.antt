@@ -8,7 +8,7 @@ use Rattle.tg_model.specs.Queries.{QueryParts}
 use Rattle.tg_model.specs.declared.limits.LimitKind.TheVariants as kinds
 use Rattle.tg_streams.specs.Joining.{SinkJoins, put_nothing, put_put}
 use Rattle.tg_streams.specs.Streams.{Output, OutputQuiet, SinkMeaning, into}
-use Rattle.tg_traversal_laws.specs.Verified.{VerifiedLaws}
+use Rattle.tg_model_laws.specs.Verified.{VerifiedLaws}
 use Rattle.tg_verify.specs.History.{HasGone, HasOn, HasPutCause, HasStopped, HasTaken, IsCounted, IsPlaceFault, IsSameVerifier, PutsFor, StandsBehind, one_more}
 use Rattle.tg_verify.specs.Refusals.{HasRefused}
 use Rattle.tg_verify.specs.State.{VerifierState}
@@ -16,7 +16,7 @@ use Rattle.tg_verify.specs.Taken.{IsNowhere, IsOn}
 use Rattle.tg_verify.specs.declared.fault.Refusal.{Refusal}
 use Rattle.tg_verify.specs.declared.fault.Refusal.TheVariants as refusals
 use Rattle.tg_verify.specs.declared.verifier.Progress.{Progress}
-use Rattle.tg_traversal_laws.specs.Tasks.{Miss, no_directory, no_entry}
+use Rattle.tg_model_laws.specs.Tasks.{Miss, no_directory, no_entry}
 
 -- ---- faults of out, one behind the other
 

@@ -9,7 +9,7 @@ use Rattle.tg_model.specs.Queries.{QueryParts}
 use Rattle.tg_model.specs.Traversal.{ListedEntry}
 use Rattle.tg_model.specs.declared.limits.LimitKind.TheVariants as kinds
 use Rattle.tg_model.specs.declared.limits.LimitKind.{LimitKind}
-use Rattle.tg_traversal_laws.specs.Stages.{Given, ending}
+use Rattle.tg_model_laws.specs.Stages.{Given, ending}
 use Rattle.tg_verify.specs.State.{told}
 use Rattle.tg_verify.specs.declared.counts.Counts.{Counts}
 use Rattle.tg_verify.specs.declared.counts.Directory.{Directory}

@@ -7,7 +7,7 @@ use Rattle.tg_model.specs.LimitNumbers.{LimitNumbers}
 use Rattle.tg_model.specs.declared.limits.LimitKind.TheVariants as kinds
 use Rattle.tg_model.specs.Queries.{QueryParts}
 use Rattle.tg_streams.specs.Streams.{Output, OutputQuiet, OutputRose, Put}
-use Rattle.tg_traversal_laws.specs.Tasks.{no_directory, no_entry, spot_of}
+use Rattle.tg_model_laws.specs.Tasks.{no_directory, no_entry, spot_of}
 use Rattle.tg_verify.specs.Laws.{IsFitOf, IsNowhereOf, IsProgressOf}
 use Rattle.tg_verify.specs.Refusals.{HasRefused, HasWantedBehind, IsRefusedBehind}
 use Rattle.tg_verify.specs.Sound.{AnswersFor, ForEachSound}

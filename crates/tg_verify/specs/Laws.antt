@@ -9,7 +9,7 @@ use Rattle.tg_model.specs.PathWalk.{Spot, stopped}
 use Rattle.tg_model.specs.Queries.{QueryParts}
 use Rattle.tg_model.specs.Sound.{IsSound}
 use Rattle.tg_model.specs.Traversal.{block_list, traversal}
-use Rattle.tg_traversal_laws.specs.Tasks.{Miss, no_directory, no_entry, spot_of, stop_of}
+use Rattle.tg_model_laws.specs.Tasks.{Miss, no_directory, no_entry, spot_of, stop_of}
 use Rattle.tg_verify.specs.Refusals.{HasRefused}
 use Rattle.tg_verify.specs.Sound.{IsItsAnswer, IsItsFront, SaysOfDag}
 use Rattle.tg_verify.specs.State.{VerifierState}

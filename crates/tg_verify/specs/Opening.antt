@@ -9,8 +9,8 @@ use Rattle.tg_model.specs.Queries.{QueryParts}
 use Rattle.tg_model.specs.declared.kinds.Kind.{Kind}
 use Rattle.tg_traversal.specs.Left.{WantedAt}
 use Rattle.tg_traversal.specs.PlaceTexts.{IsSizeFault}
-use Rattle.tg_traversal_laws.specs.Stages.{Given, up_to_next, with_place}
-use Rattle.tg_traversal_laws.specs.Tasks.{Task, depth_of, fault_at, is_read_at, position_of, tasks_of, text_at}
+use Rattle.tg_model_laws.specs.Stages.{Given, up_to_next, with_place}
+use Rattle.tg_model_laws.specs.Tasks.{Task, depth_of, fault_at, is_read_at, position_of, tasks_of, text_at}
 
 -- a section of bytes, which its CID names
 pub record IsNamed (section : Section) : Type 0 where

@@ -8,9 +8,9 @@ use Rattle.tg_model.specs.Traversal.{is_sent_behind}
 use Rattle.tg_model.specs.declared.kinds.Kind.{Kind}
 use Rattle.tg_model_laws.specs.SentSections.{taken_as}
 use Rattle.tg_traversal.specs.Left.{WantedAt}
-use Rattle.tg_traversal_laws.specs.Stages.{Given, nothing_given}
-use Rattle.tg_traversal_laws.specs.Tasks.{Miss, Task, open_block, start, stop_at, tasks_then}
-use Rattle.tg_traversal_laws.specs.Verified.{IsKnown, Verified}
+use Rattle.tg_model_laws.specs.Stages.{Given, nothing_given}
+use Rattle.tg_model_laws.specs.Tasks.{Miss, Task, open_block, start, stop_at, tasks_then}
+use Rattle.tg_model_laws.specs.Verified.{IsKnown, Verified}
 use Rattle.tg_verify.specs.Counting.{AreUnpassed, counts_given}
 use Rattle.tg_verify.specs.Opening.{IsNamed, PassesAs, given_with, tasks_behind}
 

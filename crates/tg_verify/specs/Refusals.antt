@@ -16,9 +16,9 @@ use Rattle.tg_model.specs.declared.kinds.Kind.{Kind}
 use Rattle.tg_model.specs.declared.limits.LimitKind.TheVariants as kinds
 use Rattle.tg_model.specs.declared.limits.LimitKind.{LimitKind}
 use Rattle.tg_model.specs.Traversal.{is_sent_behind}
-use Rattle.tg_traversal_laws.specs.Stages.{Given}
-use Rattle.tg_traversal_laws.specs.Tasks.{Miss, Task, depth_of, fault_at, is_read_at, no_directory, no_entry, open_block, position_of, stop_at, tasks_then}
-use Rattle.tg_traversal_laws.specs.Verified.{IsHad, Verified}
+use Rattle.tg_model_laws.specs.Stages.{Given}
+use Rattle.tg_model_laws.specs.Tasks.{Miss, Task, depth_of, fault_at, is_read_at, no_directory, no_entry, open_block, position_of, stop_at, tasks_then}
+use Rattle.tg_model_laws.specs.Verified.{IsHad, Verified}
 use Rattle.tg_verify.specs.Counting.{IsFirstPassed, counts_given}
 use Rattle.tg_verify.specs.State.{count_of}
 use Rattle.tg_verify.specs.Opening.{IsNamed, IsReadBlock, PassesAs, given_with, tasks_behind}

@@ -25,7 +25,7 @@ use Rattle.tg_streams.specs.Streams.{Output, OutputQuiet, OutputRose, Put, PutFr
 use Rattle.tg_traversal.specs.Left.{WantedAt, tasks_left}
 use Rattle.tg_traversal.specs.declared.position.Miss.TheVariants as misses
 use Rattle.tg_traversal.specs.declared.position.Miss.{Miss as FrameMiss}
-use Rattle.tg_traversal_laws.specs.Tasks.{Miss, Task, entries_now, no_directory, no_entry, stop_at, tasks_then, text_now}
+use Rattle.tg_model_laws.specs.Tasks.{Miss, Task, entries_now, no_directory, no_entry, stop_at, tasks_then, text_now}
 use Rattle.tg_verify.specs.Counting.{AreUnpassed, HasMet, IsCountedOn, IsFirstPassed, numbers_of}
 use Rattle.tg_verify.specs.Opening.{PassesAs, tasks_behind, text_of}
 use Rattle.tg_verify.specs.Refusals.{HasReceiptCause, IsBadBlock, IsMissized, IsTooDeep, IsWantedBlock}

@@ -7,9 +7,9 @@ use Rattle.tg_traversal.specs.Left.{WantedAt, tasks_left}
 use Rattle.tg_model.specs.Dag.{Section}
 use Rattle.tg_model.specs.Queries.{QueryParts}
 use Rattle.tg_model.specs.Traversal.{is_sent_behind}
-use Rattle.tg_traversal_laws.specs.Stages.{Given, nothing_given}
-use Rattle.tg_traversal_laws.specs.Tasks.{Miss, Task, open_block, start, stop_at}
-use Rattle.tg_traversal_laws.specs.Verified.{Verified, written_whole}
+use Rattle.tg_model_laws.specs.Stages.{Given, nothing_given}
+use Rattle.tg_model_laws.specs.Tasks.{Miss, Task, open_block, start, stop_at}
+use Rattle.tg_model_laws.specs.Verified.{Verified, written_whole}
 use Rattle.tg_verify.specs.Counting.{AreUnpassed, HasCounted, counts_given}
 use Rattle.tg_model.specs.LimitNumbers.{LimitNumbers}
 use Rattle.tg_verify.specs.Opening.{IsNamed}

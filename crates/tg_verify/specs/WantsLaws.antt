@@ -2,7 +2,7 @@
 use Rattle.std.specs.Prelude.{[]}
 use Rattle.tg_model.specs.Dag.{Section}
 use Rattle.tg_model.specs.Queries.{QueryParts}
-use Rattle.tg_traversal_laws.specs.Verified.{WantsNext}
+use Rattle.tg_model_laws.specs.Verified.{WantsNext}
 
 -- none behind the last
 pub none_next : (q : QueryParts) (section : Section) → WantsNext q [] section → ⊥

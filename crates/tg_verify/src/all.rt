@@ -26,7 +26,7 @@ pub fn verify_all<S: Sink>(
 ) -> Result<Option<Cid>, Refusal>
     ensures { AllEnd query.now limits (map section_of_pair sections.now) (into S.sink out.old out.new) result }
 {
-    tg_traversal_laws::verified_sections();
+    tg_model_laws::verified_sections();
     match Verifier::new(alloc, query, limits) {
         Ok(mut verifier) => take_all(alloc, &mut verifier, sections, out),
         Err(_) => Err(Refusal::OutOfMemory),

@@ -1,7 +1,7 @@
 //! The checks of a section, and of a block at its place.
 ghost use Rattle.std.specs.Prelude.{◌≡◌, ◌<◌, ◌≤◌, All, Err, None, Some, true};
 ghost use Rattle.tg_traversal.specs.Left.{WantedAt};
-ghost use Rattle.tg_traversal_laws.specs.Tasks.{depth_of, is_read_at};
+ghost use Rattle.tg_model_laws.specs.Tasks.{depth_of, is_read_at};
 ghost use Rattle.tg_verify.specs.Refusals.{refusal_of_block};
 ghost use Rattle.tg_verify.specs.Steps.{IsCheckedAt, IsReceivedAt, section_with};
 

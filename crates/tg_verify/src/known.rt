@@ -59,7 +59,7 @@ impl Verifier {
             (tasks_left self.old.left) }
     {
         tg_model::laws::readings();
-        tg_traversal_laws::verified_sections();
+        tg_model_laws::verified_sections();
         tg_cid::laws::equality();
         let Some(wanted) = self.opener.wanted() else {
             self.opener.put_kept_lines(out)?;

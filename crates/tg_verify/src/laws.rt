@@ -14,8 +14,8 @@ pub fn verified_answers()
 {
     tg_model::laws::readings();
     tg_model_laws::against_every_peer();
-    tg_traversal_laws::beside_dags();
-    tg_traversal_laws::verified_sections();
+    tg_model_laws::beside_dags();
+    tg_model_laws::verified_sections();
 }
 
 /// The sections of a sound DAG's own traversal, where its query has an answer, and one block stands under each CID
@@ -29,8 +29,8 @@ pub fn own_sections_taken()
     tg_model_laws::paths();
     tg_model_laws::traversals();
     tg_model_laws::own_sections();
-    tg_traversal_laws::beside_dags();
-    tg_traversal_laws::verified_sections();
+    tg_model_laws::beside_dags();
+    tg_model_laws::verified_sections();
 }
 
 /// What is written is the answer of a DAG only where the query's path leads to a terminal of it.

@@ -119,7 +119,7 @@ impl Verifier {
         ensures refused { MatchResult result (λ _. self.new.refused ≡ None) (λ fault. self.new.refused ≡ Some fault) }
     {
         laws::verified_answers();
-        tg_traversal_laws::verified_sections();
+        tg_model_laws::verified_sections();
         if let Some(fault) = self.refused {
             return Err(fault);
         }
@@ -267,7 +267,7 @@ impl Verifier {
         ensures cause { HasPutCause result (into S.sink out.old out.new) }
         ensures counted { IsCounted self.old.taken self.new.taken result }
     {
-        tg_traversal_laws::verified_sections();
+        tg_model_laws::verified_sections();
         self.accept(cid, block, out)?;
         self.go_on(out)
     }
@@ -284,7 +284,7 @@ impl Verifier {
             (λ _. self.new.taken ≡ self.old.taken) }
     {
         tg_model::laws::readings();
-        tg_traversal_laws::verified_sections();
+        tg_model_laws::verified_sections();
         are_bytes(block.as_slice());
         self.receive(&cid, block.as_slice())?;
         make_room(self.dups, &mut self.seen)?;

@@ -17,9 +17,9 @@ use Rattle.tg_model.specs.Traversal.{has_cid, is_asked, is_sent_behind, sent, un
 use Rattle.tg_model.specs.declared.stores.BlocksFault.{BlocksFault}
 use Rattle.tg_model_laws.specs.SentSections.{sent_step, taken_if}
 use Rattle.tg_traversal.specs.Left.{LeftState, tasks_left}
-use Rattle.tg_traversal_laws.specs.Openings.{opened_by}
-use Rattle.tg_traversal_laws.specs.StoreWalks.{WalkLaws}
-use Rattle.tg_traversal_laws.specs.Tasks.{start}
+use Rattle.tg_model_laws.specs.TakenBlocks.{opened_by}
+use Rattle.tg_model_laws.specs.StoreWalks.{WalkLaws}
+use Rattle.tg_model_laws.specs.Tasks.{start}
 use Rattle.tg_walk.proofs.Walking.{on_walk, starts}
 use Rattle.tg_walk.specs.Walks.{HasEnded, HasGone, HasKnown, HasLookedOnce, HasLookedUp, HasOpened, HasStoreCause, HasWalkCause, IsAloneIn, IsFront, IsGiven, IsLastOf, IsOnWalk, is_known, known_with}
 use Rattle.tg_walk.specs.declared.fault.WalkFault.{WalkFault}

@@ -11,8 +11,8 @@ use Rattle.tg_model.specs.Dag.{Section}
 use Rattle.tg_model.specs.declared.fault.BlockFault.{BlockFault}
 use Rattle.tg_model.specs.declared.kinds.Kind.{Kind}
 use Rattle.tg_model.specs.declared.placed.PlacedKind.{PlacedKind}
-use Rattle.tg_traversal_laws.specs.StoreWalks.{section_of}
-use Rattle.tg_traversal_laws.specs.Tasks.{depth_of, is_read_at}
+use Rattle.tg_model_laws.specs.StoreWalks.{section_of}
+use Rattle.tg_model_laws.specs.Tasks.{depth_of, is_read_at}
 
 -- what reading gives of the block there, in the wanted place's own words
 abbrev pub Reading : LeftState → List ℕ → Result PlacedKind BlockFault → Type 0

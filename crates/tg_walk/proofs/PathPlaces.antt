@@ -7,7 +7,7 @@ use Rattle.tg_model.specs.PathWalk.{StepTo, absent, not_folder_here, step_of, to
 use Rattle.tg_model.specs.Queries.{QueryParts}
 use Rattle.tg_model.specs.Sound.{Position}
 use Rattle.tg_model.specs.declared.kinds.Kind.{Kind}
-use Rattle.tg_traversal_laws.specs.Tasks.{Want, link_tasks, open_block, path_want, position_below, segment_want, step_tasks, tasks_of}
+use Rattle.tg_model_laws.specs.Tasks.{Want, link_tasks, open_block, path_want, position_below, segment_want, step_tasks, tasks_of}
 
 -- a place that is asked for at this depth
 abbrev IsPathWant : ℕ → Want → Type 0

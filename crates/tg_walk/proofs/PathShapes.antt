@@ -12,7 +12,7 @@ use Rattle.tg_traversal.specs.Places.{missing_of}
 use Rattle.tg_traversal.specs.declared.position.Miss.{Miss}
 use Rattle.tg_traversal.specs.declared.position.Miss.TheVariants as misses
 use Rattle.tg_traversal.specs.declared.position.Wanted.{Wanted}
-use Rattle.tg_traversal_laws.specs.Tasks.{is_read_at, path_want}
+use Rattle.tg_model_laws.specs.Tasks.{is_read_at, path_want}
 use Rattle.tg_walk.proofs.PathSteps.{IsAlong, IsPlaceAlong, no_miss_first, place_then}
 use Rattle.tg_walk.specs.Resolving.{HasResolveShape, refusal_of_store, refusal_of_walk}
 use Rattle.tg_walk.specs.Walks.{IsNextPlace, IsOpened, fault_of_miss}

@@ -25,9 +25,9 @@ use Rattle.tg_model.specs.declared.fault.BlockFault.{BlockFault}
 use Rattle.tg_model.specs.declared.kinds.Kind.{Kind}
 use Rattle.tg_model.specs.declared.stores.BlocksFault.{BlocksFault}
 use Rattle.tg_model.specs.declared.stores.BlocksFault.TheVariants as store_faults
-use Rattle.tg_traversal_laws.specs.PathStages.{IsResolved, ResolveLaws}
-use Rattle.tg_traversal_laws.specs.StoreWalks.{section_of, shown_at}
-use Rattle.tg_traversal_laws.specs.Tasks.{Task, Want, depth_of, fault_at, give_entries, give_text, is_read_at, node_want, open_block, path_want, segment_want, spot_of, start, stop_at, tasks_of, tasks_then, terminal_want}
+use Rattle.tg_model_laws.specs.PathStages.{IsResolved, ResolveLaws}
+use Rattle.tg_model_laws.specs.StoreWalks.{section_of, shown_at}
+use Rattle.tg_model_laws.specs.Tasks.{Task, Want, depth_of, fault_at, give_entries, give_text, is_read_at, node_want, open_block, path_want, segment_want, spot_of, start, stop_at, tasks_of, tasks_then, terminal_want}
 
 -- behind so many blocks one place is left, at first the root's, which is the only place of an empty path; and in a told store it leads
 -- where the path does, and behind the first block the root is stored

@@ -16,8 +16,8 @@ use Rattle.tg_model.specs.Stores.{Store}
 use Rattle.tg_model.specs.Traversal.{sent}
 use Rattle.tg_model.specs.declared.stores.BlocksFault.TheVariants as store_faults
 use Rattle.tg_model.specs.declared.stores.BlocksFault.{BlocksFault}
-use Rattle.tg_traversal_laws.specs.StoreWalks.{WalkLaws, section_of}
-use Rattle.tg_traversal_laws.specs.Tasks.{Task, depth_of, open_block, stop_at, tasks_of, tasks_then}
+use Rattle.tg_model_laws.specs.StoreWalks.{WalkLaws, section_of}
+use Rattle.tg_model_laws.specs.Tasks.{Task, depth_of, open_block, stop_at, tasks_of, tasks_then}
 
 -- behind the texts and entries that were passed over
 walked_then : (laws : WalkLaws) (most : ℕ) (old new : LeftState) (store : Store) (sections : List Section) → new.query ≡ old.query → HasOpened most old store sections

@@ -16,10 +16,10 @@ use Rattle.tg_model.specs.StoreView.{block_at}
 use Rattle.tg_model.specs.Stores.{Store}
 use Rattle.tg_model.specs.Traversal.{sent}
 use Rattle.tg_model.specs.declared.fault.BlockFault.{BlockFault}
-use Rattle.tg_traversal_laws.specs.Openings.{opened_by}
-use Rattle.tg_traversal_laws.specs.StoreWalks.{IsWalked, WalkLaws, section_of}
-use Rattle.tg_traversal_laws.specs.Stages.{Given, nothing_given, place_of, up_to_next, with_place}
-use Rattle.tg_traversal_laws.specs.Tasks.{Task, depth_of, fault_at, is_read_at, open_block, spot_of, start, stop_at, tasks_of, tasks_then, text_at}
+use Rattle.tg_model_laws.specs.TakenBlocks.{opened_by}
+use Rattle.tg_model_laws.specs.StoreWalks.{IsWalked, WalkLaws, section_of}
+use Rattle.tg_model_laws.specs.Stages.{Given, nothing_given, place_of, up_to_next, with_place}
+use Rattle.tg_model_laws.specs.Tasks.{Task, depth_of, fault_at, is_read_at, open_block, spot_of, start, stop_at, tasks_of, tasks_then, text_at}
 
 -- a walk that has opened these sections, with these tasks left
 pub record HasWalked (q : QueryParts) (most : ℕ) (store : Store) (sections : List Section) (tasks : List (Task CidParts)) : Type 0 where

@@ -16,9 +16,9 @@ use Rattle.tg_model.specs.declared.queries.Form.TheVariants as forms
 use Rattle.tg_model.specs.declared.queries.Scope.TheVariants as scopes
 use Rattle.tg_model.specs.declared.stores.BlocksFault.{BlocksFault}
 use Rattle.tg_model.specs.declared.stores.BlocksFault.TheVariants as store_faults
-use Rattle.tg_traversal_laws.specs.Stages.{IsOpened}
-use Rattle.tg_traversal_laws.specs.StoreWalks.{section_of}
-use Rattle.tg_traversal_laws.specs.Tasks.{Task, open_block, segment_want, stop_at, terminal_want}
+use Rattle.tg_model_laws.specs.Stages.{IsOpened}
+use Rattle.tg_model_laws.specs.StoreWalks.{section_of}
+use Rattle.tg_model_laws.specs.Tasks.{Task, open_block, segment_want, stop_at, terminal_want}
 
 -- a store's fault, and a walk's; want of memory is the refusal's own
 abbrev pub refusal_of_store : BlocksFault → ResolveFault

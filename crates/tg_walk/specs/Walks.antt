@@ -30,11 +30,11 @@ use Rattle.tg_model.specs.StoreView.{block_at, store_view}
 use Rattle.tg_model.specs.Stores.{IsCauseOf, IsNamedBlock, LookedUp, Lookups, LookupsQuiet, Store}
 use Rattle.tg_model.specs.Traversal.{Traversal, and_then, is_asked, sent, traversal}
 use Rattle.tg_model.specs.declared.stores.BlocksFault.{BlocksFault}
-use Rattle.tg_traversal_laws.specs.Openings.{opened_by}
-use Rattle.tg_traversal_laws.specs.StoreWalks.{IsWalked, WalkEnds, WalkTooDeep, section_of}
-use Rattle.tg_traversal_laws.specs.Stages.{Given, ending}
-use Rattle.tg_traversal_laws.specs.Tasks.{Task, Want, depth_of, fault_at, is_read_at}
-use Rattle.tg_traversal_laws.specs.Tasks.{stop_at, tasks_of, tasks_then}
+use Rattle.tg_model_laws.specs.TakenBlocks.{opened_by}
+use Rattle.tg_model_laws.specs.StoreWalks.{IsWalked, WalkEnds, WalkTooDeep, section_of}
+use Rattle.tg_model_laws.specs.Stages.{Given, ending}
+use Rattle.tg_model_laws.specs.Tasks.{Task, Want, depth_of, fault_at, is_read_at}
+use Rattle.tg_model_laws.specs.Tasks.{stop_at, tasks_of, tasks_then}
 
 -- how many blocks there are at most from the root to a block that a walk gives, both counted
 abbrev pub max_depth : ℕ

@@ -3,7 +3,7 @@ ghost use Rattle.std.specs.Prelude.{◌≡◌, ◌≤◌, All, IfOk, Some, lengt
 ghost use Rattle.tg_walk.specs.Resolving.{HasResolveCause, HasResolveShape, IsResolvedTo, path_query};
 ghost use Rattle.tg_walk.specs.Walks.{HaveLookedUp};
 ghost use Rattle.tg_traversal.specs.Left.{tasks_left};
-ghost use Rattle.tg_traversal_laws.specs.Tasks.{start};
+ghost use Rattle.tg_model_laws.specs.Tasks.{start};
 ghost use Rattle.tg_model.specs.EntryNames.{IsGoodName};
 ghost use Rattle.tg_model.specs.Stores.{Store, looked_in};
 
@@ -74,7 +74,7 @@ fn follow<B: Blocks>(
     ensures cause { HasResolveCause result (B.blocks.stored blocks.old) (looked_in B.blocks blocks.old blocks.new) }
     ensures counted { B.blocks.faults blocks.old ≤ B.blocks.faults blocks.new }
 {
-    tg_traversal_laws::resolved_paths();
+    tg_model_laws::resolved_paths();
     let mut last = *root;
     for passed in 0..MAX_PATH_PLACES {
         let Some(place) = next_place(frames)? else {

@@ -53,7 +53,7 @@ impl Walk {
         ensures fresh { IfOk result (λ walk. walk.refused ≡ None) }
         ensures stands { IfOk result (λ walk. (store : Store) → StandsFor walk store []) }
     {
-        tg_traversal_laws::store_walks();
+        tg_model_laws::store_walks();
         Ok(Walk {
             alloc,
             frames: Frames::new(alloc, query)?,
@@ -116,7 +116,7 @@ fn next_given<B: Blocks>(
     ensures cause { HasStoreCause result (B.blocks.stored blocks.old) (looked_in B.blocks blocks.old blocks.new) }
     ensures counted { B.blocks.faults blocks.old ≤ B.blocks.faults blocks.new }
 {
-    tg_traversal_laws::store_walks();
+    tg_model_laws::store_walks();
     let dups = frames.query().dups();
     while let Some(found) = step(alloc, MAX_DEPTH, frames, blocks)? {
         if frames.query().asks(&found.0) && is_given(dups, known, found.0)? {
@@ -158,7 +158,7 @@ fn step<B: Blocks>(
     ensures cause { HasStoreCause result (B.blocks.stored blocks.old) (looked_in B.blocks blocks.old blocks.new) }
     ensures counted { B.blocks.faults blocks.old ≤ B.blocks.faults blocks.new }
 {
-    tg_traversal_laws::store_walks();
+    tg_model_laws::store_walks();
     let Some(place) = next_place(frames)? else {
         return Ok(None);
     };

@@ -9,10 +9,10 @@ use Rattle.tg_cid.specs.Cid.{CidParts}
 use Rattle.tg_model.specs.Queries.{QueryParts}
 use Rattle.tg_model.specs.declared.queries.Form.TheVariants.{Raw}
 use Rattle.tg_model.specs.declared.queries.Scope.TheVariants.{Block}
-use Rattle.tg_path.specs.Answers.{Gives}
-use Rattle.tg_path.specs.WordTexts.{Rooted, WordText, word_of}
-use Rattle.tg_path.specs.declared.fault.QueryFault.{QueryFault}
-use Rattle.tg_path.specs.declared.fault.QueryFault.TheVariants as queries
+use Rattle.tg_query.specs.Answers.{Gives}
+use Rattle.tg_query.specs.WordTexts.{Rooted, WordText, word_of}
+use Rattle.tg_query.specs.declared.fault.QueryFault.{QueryFault}
+use Rattle.tg_query.specs.declared.fault.QueryFault.TheVariants as queries
 use Rattle.tg_query.specs.Requests.{IsAddr}
 use Rattle.tg_words.specs.Words.{Given, StandOnce, WordsSpelling}
 use Rattle.tg_words.specs.CommandLine.{CommandLine}

@@ -8,12 +8,12 @@ use Rattle.tg_model.specs.Queries.{QueryParts, SpanParts}
 use Rattle.tg_model.specs.declared.queries.Form.TheVariants.{Car}
 use Rattle.tg_model.specs.declared.queries.Scope.{Scope}
 use Rattle.tg_model.specs.declared.queries.Scope.TheVariants as scopes
-use Rattle.tg_path.specs.Answers.{Gives}
-use Rattle.tg_path.specs.Paths.{PathBehind}
-use Rattle.tg_path.specs.Spans.{SpanText, span_of}
-use Rattle.tg_path.specs.WordTexts.{Rooted, WordText, word_of}
-use Rattle.tg_path.specs.declared.fault.QueryFault.{QueryFault}
-use Rattle.tg_path.specs.declared.fault.QueryFault.TheVariants as queries
+use Rattle.tg_query.specs.Answers.{Gives}
+use Rattle.tg_query.specs.Paths.{PathBehind}
+use Rattle.tg_query.specs.Spans.{SpanText, span_of}
+use Rattle.tg_query.specs.WordTexts.{Rooted, WordText, word_of}
+use Rattle.tg_query.specs.declared.fault.QueryFault.{QueryFault}
+use Rattle.tg_query.specs.declared.fault.QueryFault.TheVariants as queries
 use Rattle.tg_words.specs.Words.{Given, StandOnce}
 use Rattle.tg_words.specs.Operands.{Exact, QueryBy, QueryGiven, ValueGives, fault_of_query, value_at}
 use Rattle.tg_words.specs.QueryWords.{DupsText, QueryAsked, ScopeText, dups_for, scope_for}

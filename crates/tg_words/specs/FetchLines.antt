@@ -3,7 +3,7 @@ use Rattle.std.specs.Prelude.{◌≡◌, ◌≢◌, ◌⊎◌, ℕ, List, [], �
 use Rattle.tg_model.specs.Queries.{QueryParts}
 use Rattle.tg_model.specs.declared.queries.Form.TheVariants as forms
 use Rattle.tg_model.specs.declared.queries.Scope.TheVariants as scopes
-use Rattle.tg_path.specs.WordTexts.{WordText}
+use Rattle.tg_query.specs.WordTexts.{WordText}
 use Rattle.tg_query.specs.Requests.{IsAddr}
 use Rattle.tg_words.specs.QueryWords.{QueryAsked}
 use Rattle.tg_words.specs.Words.{Given, Line, Names}

@@ -22,10 +22,10 @@ use Rattle.tg_model.specs.Queries.{QueryParts}
 use Rattle.tg_model.specs.declared.queries.Form.TheVariants.{Car, Raw}
 use Rattle.tg_model.specs.declared.queries.Scope.{Scope}
 use Rattle.tg_model.specs.declared.queries.Scope.TheVariants.{Block}
-use Rattle.tg_path.specs.Spans.{SpanText}
-use Rattle.tg_path.specs.WordTexts.{WordText}
-use Rattle.tg_path.specs.declared.fault.QueryFault.{QueryFault}
-use Rattle.tg_path.specs.declared.fault.QueryFault.TheVariants as queries
+use Rattle.tg_query.specs.Spans.{SpanText}
+use Rattle.tg_query.specs.WordTexts.{WordText}
+use Rattle.tg_query.specs.declared.fault.QueryFault.{QueryFault}
+use Rattle.tg_query.specs.declared.fault.QueryFault.TheVariants as queries
 use Rattle.tg_query.specs.Requests.{IsAddr}
 use Rattle.tg_words.specs.AuditLines.{AuditParts}
 use Rattle.tg_words.specs.ExportLines.{ExportParts}

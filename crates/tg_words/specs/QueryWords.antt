@@ -5,8 +5,8 @@ use Rattle.tg_model.specs.Queries.{QueryParts, SpanParts}
 use Rattle.tg_model.specs.declared.queries.Form.TheVariants.{Car}
 use Rattle.tg_model.specs.declared.queries.Scope.{Scope}
 use Rattle.tg_model.specs.declared.queries.Scope.TheVariants as scopes
-use Rattle.tg_path.specs.Spans.{SpanText}
-use Rattle.tg_path.specs.WordTexts.{WordText}
+use Rattle.tg_query.specs.Spans.{SpanText}
+use Rattle.tg_query.specs.WordTexts.{WordText}
 use Rattle.tg_words.specs.Words.{Names, Given, OptionGives}
 
 abbrev pub query_names : Names

@@ -10,7 +10,7 @@ use crate::{Command, WordsFault};
 use std::alloc::Global;
 use std::marker::Model;
 use tg_model::Query;
-use tg_path::parse_word;
+use tg_query::parse_word;
 
 /// What is asked of a client: the address of a gateway, and the query.
 #[derive(Drop)]
@@ -76,7 +76,7 @@ fn asked(alloc: Global, target: &str, options: &[GivenOption]) -> Result<Query, 
 fn raw_query(alloc: Global, target: &str, options: &[GivenOption]) -> Result<Query, WordsFault>
     ensures { Exact (RawGiven target.now (givens options.now)) result }
 {
-    tg_path::laws::roots_read();
+    tg_query::path_laws::roots_read();
     if options.len() > 1 {
         return Err(WordsFault::Usage);
     }

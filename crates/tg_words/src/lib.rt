@@ -40,7 +40,7 @@ use serves::serve_of;
 use std::alloc::{AllocError, Global};
 use tg_cid::{Cid, CidFault};
 use tg_model::Query;
-use tg_path::QueryFault;
+use tg_query::QueryFault;
 use thiserror::Error;
 use verifies::verify_of;
 
@@ -215,8 +215,8 @@ pub fn one_command()
     ensures { (words : List (List ℕ)) (a b : Command) → CommandLine words a → CommandLine words b → a ≡ b }
 {
     tg_cid::laws::one_spelling();
-    tg_path::laws::roots_read();
-    tg_path::laws::spans_read();
+    tg_query::path_laws::roots_read();
+    tg_query::path_laws::spans_read();
 }
 
 /// The command of this name with these words behind it.

@@ -6,7 +6,7 @@ ghost use Rattle.tg_model.specs.EntryNames.{IsGoodName};
 ghost use Rattle.tg_model.specs.Queries.{IsSpan};
 ghost use Rattle.tg_model.specs.declared.queries.Form.{Form};
 ghost use Rattle.tg_model.specs.declared.queries.Scope.{Scope};
-ghost use Rattle.tg_path.specs.Spans.{SpanText};
+ghost use Rattle.tg_query.specs.Spans.{SpanText};
 ghost use Rattle.tg_words.specs.Operands.{Exact, QueryBy, QueryGiven, ValueGives, givens};
 ghost use Rattle.tg_words.specs.QueryWords.{DupsText, ScopeText, scope_for};
 
@@ -15,7 +15,7 @@ use crate::operands::{GivenOption, OptionNames, value_of};
 use std::alloc::Global;
 use tg_cid::Cid;
 use tg_model::{Path, Query, Scope, Span};
-use tg_path::{parse_span, parse_word};
+use tg_query::{parse_span, parse_word};
 
 /// The options that a query is asked by.
 pub const QUERY_NAMES: OptionNames<'static> = OptionNames {
@@ -47,8 +47,8 @@ fn query_of(
     ensures { Exact (QueryGiven target.now (option_map (λ text. text.now) scope.entry)
         (option_map (λ text. text.now) bytes.entry) (option_map (λ text. text.now) dups.entry)) result }
 {
-    tg_path::laws::roots_read();
-    tg_path::laws::spans_read();
+    tg_query::path_laws::roots_read();
+    tg_query::path_laws::spans_read();
     let asked = scope_given(scope)?;
     let span = span_given(bytes)?;
     let dups = dups_given(dups)?;
@@ -130,7 +130,7 @@ fn dups_of(word: &str) -> Option<bool>
 fn span_given(value: Option<&str>) -> Result<Option<Span>, WordsFault>
     ensures { Exact (ValueGives SpanText (option_map (λ text. text.now) value.entry)) result }
 {
-    tg_path::laws::spans_read();
+    tg_query::path_laws::spans_read();
     let Some(text) = value else {
         return Ok(None);
     };

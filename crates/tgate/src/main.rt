@@ -1,16 +1,15 @@
-//! tgate: blocks, CIDs and, in time, whole trees of the InterPlanetary File System, taken from servers that nobody has
-//! to trust.
+//! The program `tgate`: trees of files as DAGs of blocks, which it imports, exports and serves as a trustless gateway of
+//! the InterPlanetary File System, and fetches and verifies from servers that nobody has to trust.
 #![tactic(auto)]
 
 mod progress;
 
-ghost use Rattle.std.specs.Prelude.{◌≡◌, ℕ, ◌⊎◌, List, pos, ◌≤ℤ◌, drop, map, string_bytes, Some, IfOk};
+ghost use Rattle.std.specs.Prelude.{◌≡◌, [], pos, ◌≤ℤ◌, drop, map, string_bytes, IsSome, IfErr, IfOk};
 ghost use Rattle.std.specs.Fd.{file_raw_fd};
 ghost use Rattle.std.specs.Vec.Iter.{into_iter_items};
-ghost use Rattle.tg_streams.specs.Streams.{into, through};
-ghost use Rattle.tg_app.specs.Lines.{Says};
-ghost use Rattle.tg_app.specs.declared.fault.CommandFault.{CommandFault};
-ghost use Rattle.tgate.specs.Runs.{Lined, Ran};
+ghost use Rattle.tg_app.specs.Objects.{objects_between};
+ghost use Rattle.tg_app.specs.Runs.{Answered};
+ghost use Rattle.tg_streams.specs.Streams.{into};
 
 use crate::progress::Progress;
 use std::alloc::{AllocError, Global};
@@ -19,91 +18,99 @@ use std::fs::File;
 use std::io::ErrorKind;
 use std::os::fd::{AsFd, AsRawFd, IntoRawFd, RawFd};
 use std::process::ExitCode;
-use std::rt::Env;
 use std::{env, io};
-use tg_app::{CommandFault, out_of_memory, run};
-use tg_dials::TcpDial;
-use tg_doors::TcpDoor;
-use tg_edges::{HostFolder, HostPack, Sink, Source, StdSink, StdSource};
+use tg_app::{Watch, no_streams, out_of_memory, run};
+use tg_dials::{Dial, TcpDial};
+use tg_doors::{Door, TcpDoor};
+use tg_files::{Folder, HostFolder, HostPack, Pack};
+use tg_streams::{Sink, Source, StdSink, StdSource};
 
 /// How many standard streams there are: 0 is input, 1 out and 2 err.
 const STREAMS: RawFd = 3;
 
 fn main(rt: HostRuntime) -> ExitCode {
+    let mut folder = HostFolder::new(rt);
+    let mut pack = Some(HostPack::new(rt));
+    let mut door = TcpDoor::new(rt);
+    let mut dial = TcpDial::new(rt);
     let mut input = StdSource::new(rt.stdin());
     let mut out = StdSink::new(rt.stdout());
     let mut err = StdSink::new(rt.stderr());
-    ExitCode::from(answer(&rt, &mut input, &mut out, &mut err))
-}
-
-/// Does what the words of the command line ask for, over the system's files and these streams, and answers the exit
-/// status: that of `run`; or 6 where a standard stream is missing and can't be held, or 8 where no memory is found for
-/// the words, and then input and out are as they were. A status other than 0 puts one line on err, and a fault of err
-/// changes nothing else.
-fn answer<I: Source, O: Sink, E: Sink>(
-    rt: &HostRuntime,
-    input: &mut I,
-    out: &mut O,
-    err: &mut E,
-) -> u8
-    ensures line { Lined result (into E.sink err.old err.new) }
-    ensures ran { ((words : List (List ℕ))
-        × Ran words result (through I.source input.old input.new) (into O.sink out.old out.new))
-        ⊎ (((result ≡ 6) ⊎ (result ≡ 8)) × (input.new ≡ input.old) × (out.new ≡ out.old)) }
-{
-    let holds = holds_streams(rt);
-    if !holds {
-        return no_streams(err);
-    }
-    match words(rt) {
-        Ok(words) => run_words(rt, words.as_slice(), input, out, err),
-        Err(AllocError) => out_of_memory(err),
-    }
-}
-
-/// Runs the words over the system's files and these streams, and answers the exit status, as `run` does. The line of
-/// progress of a `fetch` isn't put into `err`: it goes straight to the host's err, and no clause speaks of it.
-fn run_words<I: Source, O: Sink, E: Sink>(
-    rt: &HostRuntime,
-    words: &[String],
-    input: &mut I,
-    out: &mut O,
-    err: &mut E,
-) -> u8
-    ensures line { Lined result (into E.sink err.old err.new) }
-    ensures ran { Ran (map string_bytes words.now) result (through I.source input.old input.new)
-        (into O.sink out.old out.new) }
-{
-    let mut folder = HostFolder::new(*rt);
-    let mut pack = Some(HostPack::new(*rt));
-    let mut door = TcpDoor::new(*rt);
-    let mut dial = TcpDial::new(*rt);
-    let mut progress = Progress::new(*rt);
-    run(
-        rt.alloc(),
-        words,
+    ExitCode::from(answer(
+        &rt,
+        env::args(&rt),
         &mut folder,
         &mut pack,
         &mut door,
         &mut dial,
-        input,
-        out,
-        err,
-        &mut progress,
-    )
+        &mut input,
+        &mut out,
+        &mut err,
+        &mut Progress::new(rt),
+    ))
 }
 
-/// The words after the program's name, and none where they aren't UTF-8: neither is a command. The error is want of
-/// memory.
-fn words<R: Env + AllocGlobal>(rt: &R) -> Result<Vec<String>, AllocError> {
-    match env::args(rt) {
-        Ok(args) => behind_first(rt.alloc(), args),
-        Err(fault) if fault.kind() == ErrorKind::OutOfMemory => Err(AllocError),
-        Err(_) => Ok(Vec::new(rt.alloc())),
+/// Does what the arguments behind the first ask for, over these objects, and answers the exit status: that of `run`; or 6
+/// where a standard stream is missing and can't be held, or 8 where no memory is found for the words, and then all objects
+/// are as they were. Arguments that aren't UTF-8 are no command. A status other than 0 puts one line on err, and a fault
+/// of err changes nothing else. The line of progress of a `fetch` isn't put into `err`: it goes straight to the host's
+/// err, and no clause speaks of it.
+fn answer<F: Folder, P: Pack, L: Door, D: Dial, I: Source, O: Sink, E: Sink, W: Watch>(
+    rt: &HostRuntime,
+    args: io::Result<Args>,
+    folder: &mut F,
+    pack: &mut Option<P>,
+    door: &mut L,
+    dial: &mut D,
+    input: &mut I,
+    out: &mut O,
+    err: &mut E,
+    watch: &mut W,
+) -> u8
+    requires { IsSome pack.old }
+    ensures ran { IfOk args (λ given. Answered (map string_bytes (drop 1 (into_iter_items given)))
+        (objects_between F.folder P.pack L.door L.Link.link D.dial I.source O.sink
+        folder.old folder.new pack.old pack.new door.old door.new dial.old dial.new input.old input.new out.old out.new)
+        (into E.sink err.old err.new) result) }
+    ensures no_words { IfErr args (λ fault. Answered []
+        (objects_between F.folder P.pack L.door L.Link.link D.dial I.source O.sink
+        folder.old folder.new pack.old pack.new door.old door.new dial.old dial.new input.old input.new out.old out.new)
+        (into E.sink err.old err.new) result) }
+{
+    if !holds_streams(rt) {
+        return no_streams(err);
+    }
+    match words(rt.alloc(), args) {
+        Ok(words) => run(
+            rt.alloc(),
+            words.as_slice(),
+            folder,
+            pack,
+            door,
+            dial,
+            input,
+            out,
+            err,
+            watch,
+        ),
+        Err(AllocError) => out_of_memory(err),
     }
 }
 
-/// The words behind the first, which is the program's name. The error is want of memory.
+/// The words behind the first argument, which is the program's name, and none where the arguments aren't UTF-8: neither
+/// is a command. The error is want of memory.
+fn words(alloc: Global, args: io::Result<Args>) -> Result<Vec<String>, AllocError>
+    ensures words { IfOk args (λ given. IfOk result (λ words. words.items ≡ drop 1 (into_iter_items given))) }
+    ensures none { IfErr args (λ fault. IfOk result (λ words. words.items ≡ [])) }
+{
+    match args {
+        Ok(args) => behind_first(alloc, args),
+        Err(fault) if fault.kind() == ErrorKind::OutOfMemory => Err(AllocError),
+        Err(_) => Ok(Vec::new(alloc)),
+    }
+}
+
+/// The arguments behind the first. The error is want of memory.
 fn behind_first(alloc: Global, args: Args) -> Result<Vec<String>, AllocError>
     ensures { IfOk result (λ words. words.items ≡ drop 1 (into_iter_items args)) }
 {
@@ -139,14 +146,4 @@ fn file_above_streams(rt: &HostRuntime) -> io::Result<File>
 /// Whether the stream's number is one of an open file: only then it can be doubled.
 fn is_open<S: AsFd>(stream: &S) -> bool {
     stream.as_fd().try_clone_to_owned().is_ok()
-}
-
-/// Says on err that a standard stream is missing and can't be held, and answers the exit status 6.
-fn no_streams<E: Sink>(err: &mut E) -> u8
-    ensures status { result ≡ 6 }
-    ensures line { Says (Some CommandFault.FolderFault) (into E.sink err.old err.new) }
-{
-    let fault = CommandFault::FolderFault;
-    let _ = fault.report(err);
-    fault.status()
 }

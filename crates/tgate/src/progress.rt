@@ -2,7 +2,7 @@
 use std::io::{IsTerminal, Write};
 use std::rt::HostRuntime;
 use std::time::{Duration, Instant};
-use tg_fetch::{Told, Watch};
+use tg_app::{Told, Watch};
 
 /// How many milliseconds the line stands at least before it is rewritten.
 const PAUSE: u64 = 100;
@@ -10,12 +10,12 @@ const PAUSE: u64 = 100;
 /// What takes the line away: the cursor goes to its front, and what is behind that is erased (ECMA-48, 8.3.41).
 const CLEARED: &[u8] = b"\r\x1b[K";
 
-/// One line that says on the host's err how far a fetch has come, where err is a terminal: it comes 100 milliseconds
-/// after the program's start at the earliest, is rewritten at most ten times a second, and is taken away when the fetch
-/// has ended.
+/// One line that says on the host's err how far a fetch has come, where err is a terminal and out isn't, since on one
+/// screen the line would take away what was written before it: it comes 100 milliseconds after the program's start at the
+/// earliest, is rewritten at most ten times a second, and is taken away when the fetch has ended.
 ///
-/// It is no part of what the program answers: where err is no terminal, the clock can't be read, memory is wanted or a
-/// write fails, there is no line, and nothing else changes.
+/// It is no part of what the program answers: where the clock can't be read, memory is wanted or a write fails, there is no
+/// line, and nothing else changes.
 #[derive(Drop)]
 pub struct Progress {
     rt: HostRuntime,
@@ -27,7 +27,7 @@ pub struct Progress {
 impl Progress {
     /// The progress of what the program is to do.
     pub fn new(rt: HostRuntime) -> Progress {
-        let since = if rt.stderr().is_terminal() {
+        let since = if rt.stderr().is_terminal() && !rt.stdout().is_terminal() {
             Instant::now(&rt).ok()
         } else {
             None

@@ -16,5 +16,6 @@ loop-left-preserved g c =
     record {
       served = rw c.with-happened.ensures (one_more g.B.Blocks.blocks g.L.Door.door _ _ _ _ _ _ _ _ _ _ _ c.loop-left.invariant.served
           c.in-Ok-Some.served c.in-Ok-Some.end c.loop-left.invariant.looked.looked.stored link (c.loop-left.left - 1) (omega arith));
+      asks = λ before asked was. c.in-Ok-Some.ensures.asks before asked (c.loop-left.invariant.asks before asked was);
       looked = looks_both g.B.Blocks.blocks _ _ _ g.met.B.Blocks.joins c.loop-left.invariant.looked c.in-Ok-Some.ensures.looked;
     }

@@ -1,3 +1,4 @@
+use Rattle.std.specs.Prelude.{ℕ}
 use Rattle.tg_doors.specs.Doors.{at_door}
 use Rattle.tg_model.specs.Stores.{looked_in}
 use Rattle.tg_serve.proofs.Runs.{HasServed}
@@ -10,6 +11,7 @@ abbrev pub invariant-loop-left : goal.invariant-loop-left
 invariant-loop-left g l = record {
   served : HasServed (g.B.Blocks.blocks.stored l.fn.blocks) l.fn.limits.received l.fn.count l.left (LinksTell g.L.Link.Link.link)
       (g.B.Blocks.blocks.faults l.fn.blocks) (g.B.Blocks.blocks.faults l.blocks) (at_door g.L.Door.door l.fn.door l.door) l.happened;
+  asks : (before : g.row.L.Denot) (asked : ℕ) → g.L.Door.door.asked before l.fn.door asked → g.L.Door.door.asked before l.door asked;
   looked : HaveLookedUp (looked_in g.B.Blocks.blocks l.fn.blocks l.blocks);
 }
 

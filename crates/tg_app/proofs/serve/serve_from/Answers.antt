@@ -1,8 +1,8 @@
 use Rattle.std.proofs.Common.{List, ℕ, inl, string_bytes, subst}
-use Rattle.tg_app.proofs.ExportSteps.{attached_step, content_same}
+use Rattle.tg_commands.specs.PackSteps.{attached_step, content_same}
 use Rattle.tg_app.proofs.ServeSteps.{served_step}
-use Rattle.tg_app.specs.Exports.{IsAttachedPack}
-use Rattle.tg_app.specs.Lines.{end_of}
+use Rattle.tg_commands.specs.Exports.{IsAttachedPack}
+use Rattle.tg_commands.specs.Lines.{end_of}
 use Rattle.tg_app.specs.Objects.{entrance_between}
 use Rattle.tg_app.specs.Serves.{ServeEnded}
 use Rattle.tg_files.specs.Packs.{pack_step}
@@ -28,4 +28,4 @@ returns g c =
     let end = end_of c.answer.result in
     inl (subst (λ (asked : ServeParts). ServeEnded asked (pack_step m a p) out door end) c.asked.view_is
     (served_step m a b p (content_same m _ _ c.as_str.result.now c.in-Ok.ensures.did) c.in-Ok.ensures.quiet parts c.standard.result out door c.serve_pack-pack.result.1 end
-    c.standard.ensures attached c.serve_pack-pack.ensures.served c.answer.ensures))
+    c.standard.ensures attached c.serve_pack-pack.ensures.served c.serve_pack-pack.ensures.asked c.answer.ensures))

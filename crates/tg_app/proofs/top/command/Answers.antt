@@ -1,7 +1,7 @@
 use Rattle.std.proofs.Common.{◌≡◌, ◌<◌, ◌≤◌, arith, Option, List, ℕ, inr, subst, refl}
 use Rattle.tg_app.specs.Commands.{CommandEnds, Ends, TheCommand, UsesNoDial, UsesNoDoor}
 use Rattle.tg_app.specs.Objects.{Objects}
-use Rattle.tg_app.specs.declared.fault.CommandFault.{CommandFault}
+use Rattle.tg_commands.specs.declared.fault.CommandFault.{CommandFault}
 use Rattle.tg_query.specs.Requests.{IsAddr}
 use Rattle.tg_words.specs.AuditLines.{AuditParts}
 use Rattle.tg_words.specs.CommandLine.{CommandLine}

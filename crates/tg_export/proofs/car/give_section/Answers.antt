@@ -4,7 +4,7 @@ use Rattle.std.proofs.lemmas.Result.{err_from_is_err_and}
 use Rattle.tg_car.specs.CarText.{SectionText}
 use Rattle.tg_export.proofs.Pieces.{block_failed, both_given, head_failed}
 use Rattle.tg_store.specs.Packs.{in_car}
-use Rattle.tg_traversal_laws.specs.StoreWalks.{section_of}
+use Rattle.tg_model_laws.specs.StoreWalks.{section_of}
 use Rattle.tg_export.proofs.car.give_section.Goals as goal
 
 pub returns-in_err-give : goal.returns-in_err-give

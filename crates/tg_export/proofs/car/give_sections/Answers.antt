@@ -6,7 +6,7 @@ use Rattle.tg_export.proofs.Parts.{HasNext, all_given, gives_more, none_given, s
 use Rattle.tg_export.specs.Given.{FailsIn, Gives, HasText, giving_in}
 use Rattle.tg_model.specs.Stores.{looked_in}
 use Rattle.tg_streams.specs.Streams.{into}
-use Rattle.tg_traversal_laws.specs.StoreWalks.{section_of}
+use Rattle.tg_model_laws.specs.StoreWalks.{section_of}
 use Rattle.tg_walk.specs.Walks.{HasLookedUp, IsNamedFound}
 use Rattle.tg_export.proofs.car.give_sections.Goals as goal
 

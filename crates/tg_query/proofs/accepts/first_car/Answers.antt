@@ -1,5 +1,5 @@
 use Rattle.std.proofs.Common.{ap, option_copied, sym, ◌∙◌}
-use Rattle.tg_path.specs.Cuts.{cut_at}
+use Rattle.tg_query.specs.Cuts.{cut_at}
 use Rattle.tg_query.specs.Accepts.{first_car}
 use Rattle.tg_query.proofs.Firsts.{car_here, car_passed}
 use Rattle.tg_query.proofs.accepts.first_car.Goals as goal

@@ -1,5 +1,5 @@
 use Rattle.std.proofs.Common.{ap, sym, ◌∙◌}
-use Rattle.tg_path.specs.Cuts.{cut_at}
+use Rattle.tg_query.specs.Cuts.{cut_at}
 use Rattle.tg_query.specs.Accepts.{first_form}
 use Rattle.tg_query.proofs.Firsts.{form_here, form_passed}
 use Rattle.tg_query.proofs.accepts.first_form.Goals as goal

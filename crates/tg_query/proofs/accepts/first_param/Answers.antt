@@ -1,8 +1,8 @@
 use Rattle.std.proofs.Common.{rules, tests, ap, arith, length, option_copied, sym, ◌≤◌, ◌∙◌, ◌==◌}
 use Rattle.std.proofs.lemmas.Iterator.Consumers.{YieldsList-at}
 use Rattle.std.proofs.lemmas.Iterator.Splits.{YieldsList-from_slice_split}
-use Rattle.tg_path.specs.Cuts.{cut_at}
-use Rattle.tg_path.specs.Roads.{end_by, turn_by}
+use Rattle.tg_query.specs.Cuts.{cut_at}
+use Rattle.tg_query.specs.Roads.{end_by, turn_by}
 use Rattle.tg_query.specs.Accepts.{param_in}
 use Rattle.tg_query.proofs.Firsts.{first_here, first_nowhere, first_passed, one_more}
 use Rattle.tg_query.proofs.accepts.first_param.Goals as goal

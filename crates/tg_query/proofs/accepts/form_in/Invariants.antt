@@ -1,5 +1,5 @@
 use Rattle.std.proofs.Common.{◌≡◌, drop, length}
-use Rattle.tg_path.specs.Cuts.{cut_at}
+use Rattle.tg_query.specs.Cuts.{cut_at}
 use Rattle.tg_query.specs.Accepts.{first_form}
 use Rattle.tg_query.proofs.accepts.form_in.Given as goal
 

@@ -2,8 +2,8 @@ use Rattle.std.proofs.Common.{rules, tests, arith, length, ◌≤◌, ◌∙◌,
 use Rattle.std.proofs.lemmas.Iterator.Consumers.{YieldsList-at}
 use Rattle.std.proofs.lemmas.Iterator.Splits.{YieldsList-from_slice_split}
 use Rattle.std.proofs.lemmas.Result.{err_from_is_err_and}
-use Rattle.tg_path.specs.Cuts.{cut_at}
-use Rattle.tg_path.specs.Roads.{end_by, turn_by}
+use Rattle.tg_query.specs.Cuts.{cut_at}
+use Rattle.tg_query.specs.Roads.{end_by, turn_by}
 use Rattle.tg_query.specs.Targets.{nothing, with_pieces}
 use Rattle.tg_query.proofs.Pieces.{one_more, piece_refused, piece_taken, pieces_end}
 use Rattle.tg_query.proofs.targets.parse_pieces.Goals as goal

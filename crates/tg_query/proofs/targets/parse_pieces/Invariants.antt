@@ -1,5 +1,5 @@
 use Rattle.std.proofs.Common.{◌≡◌, drop, length}
-use Rattle.tg_path.specs.Cuts.{cut_at}
+use Rattle.tg_query.specs.Cuts.{cut_at}
 use Rattle.tg_query.specs.Targets.{nothing, with_pieces}
 use Rattle.tg_query.proofs.targets.parse_pieces.Given as goal
 

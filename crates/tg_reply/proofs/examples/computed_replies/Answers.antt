@@ -8,9 +8,9 @@ use Rattle.tg_base32.specs.Base32.{bits}
 use Rattle.tg_base32.specs.Computed.{base32}
 use Rattle.tg_cid.specs.Computed.{cid_of, cid_text}
 use Rattle.tg_dagpb.specs.Computed.{link_in, node_of}
-use Rattle.tg_path.specs.CidAnswers.{bytes_of_letters, cid_answer}
-use Rattle.tg_path.specs.Paths.{names_of}
-use Rattle.tg_path.specs.Spans.{number_of, span_of}
+use Rattle.tg_query.specs.CidAnswers.{bytes_of_letters, cid_answer}
+use Rattle.tg_query.specs.Paths.{names_of}
+use Rattle.tg_query.specs.Spans.{number_of, span_of}
 use Rattle.tg_pbtable.specs.Computed.{fields_of}
 use Rattle.tg_query.specs.Accepts.{form_of_range, param_of}
 use Rattle.tg_unixfs.specs.Computed.{unix_of}

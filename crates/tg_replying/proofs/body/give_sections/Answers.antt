@@ -7,7 +7,7 @@ use Rattle.tg_replying.proofs.Sections.{HasNext, all_given, fails_section, front
 use Rattle.tg_replying.proofs.Sections.{refused_ends, walk_ended}
 use Rattle.tg_reply.specs.CarBytes.{section_bytes}
 use Rattle.tg_replying.specs.Bodies.{FailsIn, Gives, giving_in, part_bytes}
-use Rattle.tg_traversal_laws.specs.StoreWalks.{section_of}
+use Rattle.tg_model_laws.specs.StoreWalks.{section_of}
 use Rattle.tg_walk.specs.Walks.{IsAskedFound, IsNamedFound}
 use Rattle.tg_replying.proofs.body.give_sections.Goals as goal
 

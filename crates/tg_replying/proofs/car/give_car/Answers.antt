@@ -5,7 +5,7 @@ use Rattle.tg_replying.proofs.Sending.{ends_since, known_ends, nothing_given, pa
 use Rattle.tg_replying.proofs.SendingCars.{AsksCar, head_ends}
 use Rattle.tg_replying.specs.Bodies.{giving_in}
 use Rattle.tg_replying.specs.Replying.{WrittenEnds}
-use Rattle.tg_sent.specs.Shapes.{SentOver}
+use Rattle.tg_reply.specs.Shapes.{SentOver}
 use Rattle.tg_streams.specs.Gathering.{gave_nothing}
 use Rattle.tg_replying.proofs.car.give_car.Goals as goal
 

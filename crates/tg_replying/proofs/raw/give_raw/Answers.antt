@@ -5,7 +5,7 @@ use Rattle.tg_model.specs.Stores.{looked_in}
 use Rattle.tg_replying.proofs.Sending.{known_ends, nothing_given}
 use Rattle.tg_replying.proofs.SendingBlocks.{AsksRaw, IsBreak, block_sent, break_sent, none_sent}
 use Rattle.tg_replying.specs.Bodies.{giving_in}
-use Rattle.tg_sent.specs.Shapes.{SentOver}
+use Rattle.tg_reply.specs.Shapes.{SentOver}
 use Rattle.tg_streams.specs.Gathering.{gave_nothing}
 use Rattle.tg_walk.specs.Walks.{IsBlockOf}
 use Rattle.tg_replying.proofs.raw.give_raw.Goals as goal

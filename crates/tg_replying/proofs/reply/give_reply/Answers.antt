@@ -2,7 +2,7 @@ use Rattle.std.proofs.Common.{refl}
 use Rattle.tg_model.specs.Stores.{looked_in}
 use Rattle.tg_replying.proofs.Sending.{ask_refused, known_ends, nothing_given}
 use Rattle.tg_replying.specs.Bodies.{giving_in}
-use Rattle.tg_sent.specs.Shapes.{SentOver}
+use Rattle.tg_reply.specs.Shapes.{SentOver}
 use Rattle.tg_streams.specs.Gathering.{gave_nothing}
 use Rattle.tg_replying.proofs.reply.give_reply.Goals as goal
 

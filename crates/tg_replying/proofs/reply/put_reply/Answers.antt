@@ -1,7 +1,7 @@
 use Rattle.std.proofs.lemmas.Result.{err_from_is_err_and}
 use Rattle.tg_model.specs.Stores.{looked_in}
 use Rattle.tg_replying.proofs.PuttingOut.{put_fails, put_part}
-use Rattle.tg_sent.specs.Shapes.{SentOver}
+use Rattle.tg_reply.specs.Shapes.{SentOver}
 use Rattle.tg_replying.proofs.reply.put_reply.Goals as goal
 
 pub returns-in_err-put_out-in-Ok-clause-ends : goal.returns-in_err-put_out-in-Ok-clause-ends

@@ -8,7 +8,7 @@ use Rattle.tg_model.specs.Dag.{links_of}
 use Rattle.tg_model.specs.Sound.{child, passed}
 use Rattle.tg_model.specs.Sound.{Position as Standing}
 use Rattle.tg_murmur.specs.NameHash.{slot_of}
-use Rattle.tg_traversal_laws.specs.Tasks.{Want, open_block, segment_want}
+use Rattle.tg_model_laws.specs.Tasks.{Want, open_block, segment_want}
 use Rattle.tg_traversal.proofs.opening.step_from.Goals as goal
 
 pub returns-in-Found : goal.returns-in-Found

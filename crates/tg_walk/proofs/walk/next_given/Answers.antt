@@ -7,8 +7,8 @@ use Rattle.tg_model.specs.Queries.{QueryParts}
 use Rattle.tg_model.specs.Stores.{looked_in}
 use Rattle.tg_model.specs.Traversal.{is_asked}
 use Rattle.tg_model_laws.specs.SentSections.{taken_if, unasked_identity}
-use Rattle.tg_traversal_laws.specs.Openings.{opened_by}
-use Rattle.tg_traversal_laws.specs.StoreWalks.{section_of}
+use Rattle.tg_model_laws.specs.TakenBlocks.{opened_by}
+use Rattle.tg_model_laws.specs.StoreWalks.{section_of}
 use Rattle.tg_walk.proofs.Giving.{all_given, front_so, goes_on, looked_since, not_given, opened_so, passed_none, passed_since, passes_on, refused_behind, stops}
 use Rattle.tg_walk.specs.Walks.{HasGone, HasLookedOnce, IsGiven, IsOnWalk, blocks_left}
 use Rattle.tg_walk.proofs.walk.next_given.Goals as goal

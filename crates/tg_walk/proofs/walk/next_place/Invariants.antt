@@ -1,6 +1,6 @@
 use Rattle.std.proofs.Common.{◌≡◌, length}
 use Rattle.tg_traversal.specs.Left.{tasks_left}
-use Rattle.tg_traversal_laws.specs.Tasks.{tasks_then}
+use Rattle.tg_model_laws.specs.Tasks.{tasks_then}
 use Rattle.tg_walk.proofs.walk.next_place.Given as goal
 
 -- only texts and entries were passed over

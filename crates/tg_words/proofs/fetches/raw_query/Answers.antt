@@ -2,8 +2,8 @@ use Rattle.std.proofs.Common.{◌≤◌, length, Ok, Err, rules, tests, sym, ap,
 use Rattle.std.specs.Prelude.{◌==◌}
 use Rattle.std.proofs.lemmas.List.{length-map}
 use Rattle.std.proofs.lemmas.Result.{err_from_is_err_and}
-use Rattle.tg_path.specs.Answers.{Gives}
-use Rattle.tg_path.specs.WordTexts.{Rooted, word_of}
+use Rattle.tg_query.specs.Answers.{Gives}
+use Rattle.tg_query.specs.WordTexts.{Rooted, word_of}
 use Rattle.tg_words.specs.Operands.{given, givens}
 use Rattle.tg_words.proofs.FetchAnswers.{is_empty, not_empty, path_refused, raw_found, raw_refused}
 use Rattle.tg_words.proofs.QueryAnswers.{word_taken}

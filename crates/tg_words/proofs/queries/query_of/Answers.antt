@@ -1,8 +1,8 @@
 use Rattle.std.proofs.Common.{◌≡◌, ◌∙◌, Bool, Ok, Err, subst}
 use Rattle.std.proofs.lemmas.Result.{err_from_is_err_and}
 use Rattle.tg_model.specs.declared.queries.Form.TheVariants.{Car}
-use Rattle.tg_path.specs.Answers.{Gives}
-use Rattle.tg_path.specs.WordTexts.{Rooted, word_of}
+use Rattle.tg_query.specs.Answers.{Gives}
+use Rattle.tg_query.specs.WordTexts.{Rooted, word_of}
 use Rattle.tg_words.specs.QueryWords.{scope_for}
 use Rattle.tg_words.proofs.QueryAnswers.{dups_else, good_path, query_found, word_refused, word_taken}
 use Rattle.tg_words.proofs.queries.query_of.Goals as goal

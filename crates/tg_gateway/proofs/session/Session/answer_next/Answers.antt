@@ -6,7 +6,7 @@ use Rattle.tg_gateway.proofs.Answering.{keeping, none_answered, none_broken, non
 use Rattle.tg_http.specs.Heads.{HasWholeText, IsNoRequest, PassesLimit}
 use Rattle.tg_reply.specs.Streams.{BeginsRequest}
 use Rattle.tg_reply.specs.declared.refusal.Refusal.TheVariants as refusals
-use Rattle.tg_sent.specs.Sent.{bad_head, limit}
+use Rattle.tg_reply.specs.Sent.{bad_head, limit}
 use Rattle.tg_gateway.proofs.session.Session.answer_next.Goals as goal
 
 pub returns-in_err-replied-in-Ok-Some-clause-broke :

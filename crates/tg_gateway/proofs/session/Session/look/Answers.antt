@@ -7,7 +7,7 @@ use Rattle.tg_gateway.specs.Steps.{BreaksOff, HasAnswered}
 use Rattle.tg_gateway.proofs.Answering.{none_answered, none_put}
 use Rattle.tg_gateway.proofs.Looking.{added_is, added_on, answers_more, breaks_before, breaks_more, looks_both, looks_nothing, parts_are, true_false}
 use Rattle.tg_model.specs.Stores.{looked_in}
-use Rattle.tg_sent.specs.Sessions.{IsOpen, SessionState}
+use Rattle.tg_reply.specs.Sessions.{IsOpen, SessionState}
 use Rattle.tg_streams.specs.Streams.{into}
 use Rattle.tg_gateway.proofs.session.Session.look.Goals.{then-self-via-then-self, then-self-via-else-self+then-is_empty}
 use Rattle.tg_gateway.proofs.session.Session.look.Goals as goal

@@ -1,7 +1,7 @@
 use Rattle.std.proofs.Common.{◌≡◌, ◌≤◌, ◌++◌, ℕ, List, length}
 use Rattle.tg_gateway.specs.Steps.{HasAnswered}
 use Rattle.tg_model.specs.Stores.{looked_in}
-use Rattle.tg_sent.specs.Sessions.{IsOpen}
+use Rattle.tg_reply.specs.Sessions.{IsOpen}
 use Rattle.tg_streams.specs.Streams.{into}
 use Rattle.tg_walk.specs.Walks.{HaveLookedUp}
 use Rattle.tg_gateway.proofs.session.Session.look.Given as goal

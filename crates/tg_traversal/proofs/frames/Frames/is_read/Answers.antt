@@ -2,7 +2,7 @@ use Rattle.std.proofs.Common.{◌≡◌, ◌∙◌, ap, inl, inr, sym, true, len
 use Rattle.tg_traversal.specs.Left.{LeftState, WantedAt}
 use Rattle.tg_traversal.proofs.Opened.{at_place, is_read_ask, place_on_path, place_wanted}
 use Rattle.tg_model.specs.Queries.{QueryParts}
-use Rattle.tg_traversal_laws.specs.Tasks.{is_read_at}
+use Rattle.tg_model_laws.specs.Tasks.{is_read_at}
 use Rattle.tg_traversal.proofs.frames.Frames.is_read.Goals as goal
 
 pub returns-in-Segment : goal.returns-in-Segment

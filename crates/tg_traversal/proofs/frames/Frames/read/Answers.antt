@@ -10,7 +10,7 @@ use Rattle.tg_model.specs.Queries.{QueryParts}
 use Rattle.tg_model.specs.Sound.{top}
 use Rattle.tg_model.specs.declared.fault.BlockFault.{BlockFault}
 use Rattle.tg_model.specs.declared.placed.PlacedKind.{PlacedKind}
-use Rattle.tg_traversal_laws.specs.Tasks.{fault_at, is_read_at, terminal_want}
+use Rattle.tg_model_laws.specs.Tasks.{fault_at, is_read_at, terminal_want}
 use Rattle.tg_traversal.proofs.frames.Frames.read.Goals as goal
 use Rattle.tg_traversal.specs.FaultLaws.{fault_same}
 use Rattle.tg_model.specs.PlacedLaws.{kind_of}

@@ -5,7 +5,7 @@ use Rattle.tg_traversal.proofs.OwnTexts.{either_fault, no_content_fault, standin
 use Rattle.tg_traversal.specs.PlaceTexts.{IsDiffering, IsSizeFault, content_size, part_size, standing_at, told_size}
 use Rattle.tg_traversal.specs.declared.position.Place.{Place}
 use Rattle.tg_traversal.specs.declared.text.SizeFault.{SizeFault}
-use Rattle.tg_traversal_laws.specs.Tasks.{position_of}
+use Rattle.tg_model_laws.specs.Tasks.{position_of}
 use Rattle.tg_traversal.proofs.frames.Frames.size_fault.Goals as goal
 
 pub returns-in_err-actual : goal.returns-in_err-actual

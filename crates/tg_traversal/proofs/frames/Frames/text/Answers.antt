@@ -6,7 +6,7 @@ use Rattle.tg_traversal.specs.PlaceTexts.{IsRecordAt}
 use Rattle.tg_traversal.specs.Places.{want_of}
 use Rattle.tg_traversal.specs.declared.position.Ask.{Ask}
 use Rattle.tg_model.specs.Queries.{QueryParts}
-use Rattle.tg_traversal_laws.specs.Tasks.{terminal_want, text_at}
+use Rattle.tg_model_laws.specs.Tasks.{terminal_want, text_at}
 use Rattle.tg_traversal.proofs.frames.Frames.text.Goals as goal
 
 pub returns-in-Segment-clause-text : goal.returns-in-Segment-clause-text

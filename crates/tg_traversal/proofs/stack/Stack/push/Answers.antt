@@ -5,7 +5,7 @@ use Rattle.tg_traversal.specs.Frames.{frame_tasks}
 use Rattle.tg_traversal.specs.Left.{stack_tasks, top_tasks}
 use Rattle.tg_traversal.specs.declared.frame.Frame.{Frame}
 use Rattle.tg_traversal.specs.declared.stack.Stack.TheInside.{Inside}
-use Rattle.tg_traversal_laws.specs.Tasks.{Task}
+use Rattle.tg_model_laws.specs.Tasks.{Task}
 use Rattle.tg_traversal.proofs.stack.Stack.push.Goals as goal
 
 pub invariant_of-self-in_default-push : goal.invariant_of-self-in_default-push

@@ -4,7 +4,7 @@ use Rattle.tg_traversal.specs.PlaceTexts.{IsSizeFault}
 use Rattle.tg_traversal.specs.declared.text.SizeFault.{SizeFault}
 use Rattle.tg_model.specs.declared.fault.BlockFault.{BlockFault}
 use Rattle.tg_model.specs.declared.placed.PlacedKind.{PlacedKind}
-use Rattle.tg_traversal_laws.specs.Tasks.{depth_of, is_read_at, position_of}
+use Rattle.tg_model_laws.specs.Tasks.{depth_of, is_read_at, position_of}
 use Rattle.tg_verify.proofs.Checks.{read_bad, read_good, wanted_cid}
 use Rattle.tg_verify.specs.State.{OpenerState}
 use Rattle.tg_verify.specs.Steps.{HasCheckCause, IsCheckedAt, section_with}

@@ -1,0 +1,3 @@
+mod ExportSteps
+mod ImportSteps
+mod VerifySteps

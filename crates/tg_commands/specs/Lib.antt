@@ -1,0 +1,10 @@
+pub mod Lines
+pub mod Blocks
+pub mod Check
+pub mod Node
+pub mod CidLines
+pub mod Files
+pub mod Exports
+pub mod PackSteps
+pub mod Imports
+pub mod Verify

@@ -1,4 +1,0 @@
-mod Carried
-mod Held
-mod OwnRequests
-mod OwnSent

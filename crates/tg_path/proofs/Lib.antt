@@ -1,9 +1,0 @@
-mod Letters
-mod CidAnswers
-mod Names
-mod FirstCuts
-mod Digits
-mod Fronts
-mod SpanTexts
-mod PathTexts
-mod RootTexts

@@ -1,8 +1,0 @@
-use Rattle.tg_path.proofs.SpanTexts.{span_fault, span_law}
-use Rattle.tg_path.proofs.laws.spans_read.Goals as goal
-
-pub returns-clause-span : goal.returns-clause-span
-returns-clause-span c = span_law
-
-pub returns-clause-fault : goal.returns-clause-fault
-returns-clause-fault c = span_fault

@@ -1,9 +1,0 @@
-mod OneHead
-mod Joins
-mod OneReply
-mod Begins
-mod AsReplies
-mod Sessions
-mod Numbers
-mod Shaped
-mod Worked
