@@ -1,14 +1,11 @@
-//! A door, a dial and their links over real sockets, and links over streams that are silent or fail.
-ghost use Rattle.std.specs.Prelude.{◌≤◌, IfOk};
-
+//! A door, a dial and their links over real sockets.
 use std::io;
-use std::io::{ErrorKind, Read, Write};
+use std::io::{Read, Write};
 use std::net::{Ipv4Addr, Shutdown, SocketAddr, TcpStream};
 use std::time::Instant;
 use tg_dials::{Dial, TcpDial};
 use tg_doors::{Door, TcpDoor};
 use tg_faults::Failed;
-use tg_links::{Silence, TcpLink};
 use tg_streams::{Sink, Source, put_all, read_front};
 
 /// Whether a link hears these bytes and then the end, and goes on to give the end.
@@ -163,118 +160,4 @@ fn misses(rt: &HostRuntime) -> bool {
 fn a_dial_reaches_a_door(rt: HostRuntime) {
     assert!(rt; dials(&rt));
     assert!(rt; misses(&rt));
-}
-
-/// A stream whose first call answers so, an error or nothing, and of which each further call moves one byte.
-#[derive(Drop)]
-struct First {
-    answer: Option<Option<ErrorKind>>,
-}
-
-impl First {
-    /// The next call, with room for so many bytes.
-    fn call(&mut self, room: usize) -> io::Result<usize>
-        ensures { IfOk result (λ n. n ≤ room) }
-    {
-        match self.answer.take() {
-            None => Ok(room.min(1)),
-            Some(None) => Ok(0),
-            Some(Some(kind)) => Err(io::Error::from(kind)),
-        }
-    }
-}
-
-impl Read for First {
-    fn read(&mut self, buf: &mut [u8]) -> io::Result<usize> {
-        self.call(buf.len())
-    }
-}
-
-impl Write for First {
-    fn write(&mut self, buf: &[u8]) -> io::Result<usize> {
-        self.call(buf.len())
-    }
-
-    fn flush(&mut self) -> io::Result<()> {
-        Ok(())
-    }
-}
-
-/// What silence means, what the stream's first call answers, what two takes give, and what a put behind the same first
-/// call gives.
-type Row = (
-    Silence,
-    Option<ErrorKind>,
-    Result<usize, Failed>,
-    Result<usize, Failed>,
-    Result<usize, Failed>,
-);
-
-const ROWS: &[Row] = &[
-    (Silence::Ends, None, Ok(0), Ok(0), Err(Failed)),
-    (Silence::Fails, None, Ok(0), Ok(0), Err(Failed)),
-    (
-        Silence::Ends,
-        Some(ErrorKind::WouldBlock),
-        Ok(0),
-        Ok(0),
-        Err(Failed),
-    ),
-    (
-        Silence::Ends,
-        Some(ErrorKind::TimedOut),
-        Ok(0),
-        Ok(0),
-        Err(Failed),
-    ),
-    (
-        Silence::Fails,
-        Some(ErrorKind::WouldBlock),
-        Err(Failed),
-        Ok(1),
-        Err(Failed),
-    ),
-    (
-        Silence::Fails,
-        Some(ErrorKind::TimedOut),
-        Err(Failed),
-        Ok(1),
-        Err(Failed),
-    ),
-    (
-        Silence::Ends,
-        Some(ErrorKind::ConnectionReset),
-        Err(Failed),
-        Ok(1),
-        Err(Failed),
-    ),
-    (
-        Silence::Fails,
-        Some(ErrorKind::Interrupted),
-        Ok(1),
-        Ok(1),
-        Ok(1),
-    ),
-];
-
-/// Whether a link over such a stream answers so, and counts as many faults as calls failed.
-fn answers(row: &Row) -> bool {
-    let (silence, kind, first, second, put) = *row;
-    let mut link = TcpLink::new(First { answer: Some(kind) }, silence);
-    let mut buf = [0; 2];
-    let no_room = link.take(&mut buf[..0]) == Ok(0);
-    let mut other = TcpLink::new(First { answer: Some(kind) }, silence);
-    no_room
-        && link.take(&mut buf) == first
-        && link.take(&mut buf) == second
-        && link.count() == u64::from(first.is_err())
-        && other.put(b"abc") == put
-        && other.count() == u64::from(put.is_err())
-}
-
-#[test]
-fn a_silent_stream_ends_or_fails(rt: HostRuntime) {
-    for row in ROWS {
-        assert!(rt; answers(row), "{:?} {:?}", row.0, row.1);
-    }
 }

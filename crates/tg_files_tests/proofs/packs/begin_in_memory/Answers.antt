@@ -1,9 +1,0 @@
-use Rattle.std.proofs.lemmas.Result.{on_ok_weaker}
-use Rattle.tg_files_tests.proofs.Begun.{begun}
-use Rattle.tg_files_tests.proofs.packs.begin_in_memory.Goals as goal
-
-pub returns-clause-content : goal.returns-clause-content
-returns-clause-content c = on_ok_weaker c.begin.result (λ did. begun c.args.pack.now.content c.begin.new.pack.content c.args.path.now c.args.head.now c.args.body.now did.content) c.begin.ensures
-
-pub returns-clause-fails : goal.returns-clause-fails
-returns-clause-fails c = on_ok_weaker c.begin.result (λ did. did.moved.fails) c.begin.ensures
