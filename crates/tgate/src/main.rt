@@ -4,11 +4,11 @@
 
 mod progress;
 
-ghost use Rattle.std.specs.Prelude.{◌≡◌, [], pos, ◌≤ℤ◌, drop, map, string_bytes, IsSome, IfErr, IfOk};
+ghost use Rattle.std.specs.Prelude.{◌≡◌, ◌⊎◌, [], pos, ◌≤ℤ◌, drop, false, map, string_bytes, IsSome, IsTrue, IfErr, IfOk};
 ghost use Rattle.std.specs.Fd.{file_raw_fd};
 ghost use Rattle.std.specs.Vec.Iter.{into_iter_items};
 ghost use Rattle.tg_app.specs.Objects.{objects_between};
-ghost use Rattle.tg_app.specs.Runs.{Answered};
+ghost use Rattle.tg_app.specs.Runs.{IsUnrun, Run, Runs};
 ghost use Rattle.tg_streams.specs.Streams.{into};
 
 use crate::progress::Progress;
@@ -37,7 +37,8 @@ fn main(rt: HostRuntime) -> ExitCode {
     let mut out = StdSink::new(rt.stdout());
     let mut err = StdSink::new(rt.stderr());
     ExitCode::from(answer(
-        &rt,
+        rt.alloc(),
+        holds_streams(&rt),
         env::args(&rt),
         &mut folder,
         &mut pack,
@@ -51,12 +52,13 @@ fn main(rt: HostRuntime) -> ExitCode {
 }
 
 /// Does what the arguments behind the first ask for, over these objects, and answers the exit status: that of `run`; or 6
-/// where a standard stream is missing and can't be held, or 8 where no memory is found for the words, and then all objects
-/// are as they were. Arguments that aren't UTF-8 are no command. A status other than 0 puts one line on err, and a fault
-/// of err changes nothing else. The line of progress of a `fetch` isn't put into `err`: it goes straight to the host's
-/// err, and no clause speaks of it.
+/// where a standard stream is missing and isn't `held`, and only there, or 8 where no memory is found for the words, and
+/// then all objects are as they were. Arguments that aren't UTF-8 are no command. A status other than 0 puts one line on
+/// err, and a fault of err changes nothing else. The line of progress of a `fetch` isn't put into `err`: it goes straight
+/// to the host's err, and no clause speaks of it.
 fn answer<F: Folder, P: Pack, L: Door, D: Dial, I: Source, O: Sink, E: Sink, W: Watch>(
-    rt: &HostRuntime,
+    alloc: Global,
+    held: bool,
     args: io::Result<Args>,
     folder: &mut F,
     pack: &mut Option<P>,
@@ -68,21 +70,34 @@ fn answer<F: Folder, P: Pack, L: Door, D: Dial, I: Source, O: Sink, E: Sink, W: 
     watch: &mut W,
 ) -> u8
     requires { IsSome pack.old }
-    ensures ran { IfOk args (λ given. Answered (map string_bytes (drop 1 (into_iter_items given)))
-        (objects_between F.folder P.pack L.door L.Link.link D.dial I.source O.sink
+    ensures ran { IsTrue held → IfOk args (λ given. Runs (record {
+      words = map string_bytes (drop 1 (into_iter_items given));
+      objects = objects_between F.folder P.pack L.door L.Link.link D.dial I.source O.sink
+          folder.old folder.new pack.old pack.new door.old door.new dial.old dial.new input.old input.new out.old out.new;
+      err = into E.sink err.old err.new;
+      status = result;
+    }) ⊎ ((result ≡ 8) × IsUnrun (objects_between F.folder P.pack L.door L.Link.link D.dial I.source O.sink
         folder.old folder.new pack.old pack.new door.old door.new dial.old dial.new input.old input.new out.old out.new)
-        (into E.sink err.old err.new) result) }
-    ensures no_words { IfErr args (λ fault. Answered []
-        (objects_between F.folder P.pack L.door L.Link.link D.dial I.source O.sink
+        (into E.sink err.old err.new) result)) }
+    ensures no_words { IsTrue held → IfErr args (λ fault. Runs (record {
+      words = [];
+      objects = objects_between F.folder P.pack L.door L.Link.link D.dial I.source O.sink
+          folder.old folder.new pack.old pack.new door.old door.new dial.old dial.new input.old input.new out.old out.new;
+      err = into E.sink err.old err.new;
+      status = result;
+    }) ⊎ ((result ≡ 8) × IsUnrun (objects_between F.folder P.pack L.door L.Link.link D.dial I.source O.sink
         folder.old folder.new pack.old pack.new door.old door.new dial.old dial.new input.old input.new out.old out.new)
-        (into E.sink err.old err.new) result) }
+        (into E.sink err.old err.new) result)) }
+    ensures unheld { held ≡ false → (result ≡ 6) × IsUnrun (objects_between F.folder P.pack L.door L.Link.link D.dial I.source
+        O.sink folder.old folder.new pack.old pack.new door.old door.new dial.old dial.new input.old input.new out.old out.new)
+        (into E.sink err.old err.new) result }
 {
-    if !holds_streams(rt) {
+    if !held {
         return no_streams(err);
     }
-    match words(rt.alloc(), args) {
+    match words(alloc, args) {
         Ok(words) => run(
-            rt.alloc(),
+            alloc,
             words.as_slice(),
             folder,
             pack,
