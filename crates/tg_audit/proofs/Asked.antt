@@ -18,8 +18,6 @@ use Rattle.tg_fetch.specs.Faults.{QuietUnlessSink}
 use Rattle.tg_fetch.specs.Laws.{IsOwnFault}
 use Rattle.tg_fetch.specs.declared.fault.FetchFault.{FetchFault}
 use Rattle.tg_fetch.specs.declared.fault.FetchFault.TheVariants as fetches
-use Rattle.tg_gateway.specs.declared.fault.GatewayFault.{GatewayFault}
-use Rattle.tg_gateway.specs.declared.fault.GatewayFault.TheVariants as gateways
 use Rattle.tg_links.specs.Joining.{heard_of}
 use Rattle.tg_links.specs.Steps.{IsHeardOf, Spoke}
 use Rattle.tg_links.specs.Views.{IsFirst, LinkView, between}
@@ -31,6 +29,7 @@ use Rattle.tg_query.specs.Requests.{request_text}
 use Rattle.tg_reply.specs.SentLaws.{SentStays}
 use Rattle.tg_reply.specs.Sent.{Sent, SentBy, SentInFull, closed_by}
 use Rattle.tg_reply.specs.Shapes.{SentOver}
+use Rattle.tg_serve.specs.Saying.{all_said, more_came}
 use Rattle.tg_serve.specs.Serving.{AreHeardOf, AreServed, HasHappened, LinkRun, SaidAll, SaidBy, ServesDoor, and_calls, call_of, is_limit, is_memory}
 use Rattle.tg_serve.specs.declared.Happened.{Happened}
 use Rattle.tg_streams.specs.Streams.{into}
@@ -43,21 +42,6 @@ last_is : (calls : List Call) (last one : Call) → one ∷ [] ≡ calls ++ last
 last_is [] last one e = cc
 last_is (c ∷ []) last one e = absurd (cc e)
 last_is (c ∷ (d ∷ calls)) last one e = absurd (cc e)
-
--- the end of a session, by what happened
-ends_well : (told : Option Store) (most : ℕ) (run : LinkRun) (end : Result ⊤ GatewayFault) → SaidBy told most run end → is_memory end ≡ false
-    → run.failed ≡ false → is_limit end ≡ false → SaidAll told run
-ends_well told most run (Ok done) said memory failed limit = said
-ends_well told most run (Err (gateways.Limit number)) said memory failed limit = absurd (cc limit)
-ends_well told most run (Err gateways.LinkFault) said memory failed limit = absurd (let no : true ≡ false = sym said.1 ∙ failed in cc)
-ends_well told most run (Err gateways.OutOfMemory) said memory failed limit = absurd (cc memory)
-
-passes : (told : Option Store) (most : ℕ) (run : LinkRun) (end : Result ⊤ GatewayFault) → SaidBy told most run end → is_limit end ≡ true
-    → most < length run.heard
-passes told most run (Ok done) said limit = absurd (cc limit)
-passes told most run (Err (gateways.Limit number)) said limit = omega (arith, said.0, said.1.past)
-passes told most run (Err gateways.LinkFault) said limit = absurd (cc limit)
-passes told most run (Err gateways.OutOfMemory) said limit = absurd (cc limit)
 
 -- what holds of one alone
 either_not : (x y : Bool) → false ≡ (x || y) → (x ≡ false) × (y ≡ false)
@@ -90,7 +74,7 @@ module _ (stays : SentStays) (told : Option Store) (q : QueryParts) (tell : Type
       → happened.limit ≡ list_any (λ run. is_limit run.end) runs → happened.limit ≡ true → standard.received < length (request_text q audit_addr)
   past_by [] served heard few is limit = absurd (let no : true ≡ false = sym limit ∙ is in cc)
   past_by (run ∷ []) served heard few is limit =
-      let more = passes told standard.received run run.end served.0 (sym (or_none (is_limit run.end)) ∙ (sym is ∙ limit)) in
+      let more = more_came told standard.received run run.end served.0 (sym (or_none (is_limit run.end)) ∙ (sym is ∙ limit)) in
       let h = heard_by run [] heard in
       omega (arith, more, ap length h.all_is, length-append run.heard h.left)
   past_by (run ∷ (other ∷ runs)) served heard few is limit = absurd (omega (arith, few))
@@ -131,7 +115,7 @@ module _ (stays : SentStays) (told : Option Store) (q : QueryParts) (tell : Type
           absurd (let no : Some [] ≡ Some (request_text q audit_addr ∷ []) = sym gone ∙ stays_so in cc)
       by_runs (run ∷ []) unadmitted served heard few has told_are left ends =
           let unfailed = (either_not unadmitted (run.failed || false) (sym fault ∙ has.fault)).1 in
-          let whole = ends_well told standard.received run run.end served.0 (sym (or_none (is_memory run.end)) ∙ (sym has.memory ∙ memory))
+          let whole = all_said told standard.received run run.end served.0 (sym (or_none (is_memory run.end)) ∙ (sym has.memory ∙ memory))
           (sym (or_none run.failed) ∙ unfailed) (sym (or_none (is_limit run.end)) ∙ (sym has.limit ∙ limit)) in
           replied_by run (heard_by run [] heard) whole (call_by run (told_are tells))
       by_runs (run ∷ (other ∷ runs)) unadmitted served heard few has told_are left ends = absurd (omega (arith, few))

@@ -23,7 +23,7 @@ pub unexpected : (told : Option Store) (q : QueryParts) (one : Hashed) (number :
 unexpected told q one number (audits.Import fault) h = h
 unexpected told q one number (audits.Pack fault) h = h
 unexpected told q one number (audits.Client fault) h = h
-unexpected told q one number (audits.Gateway fault) h = h
+unexpected told q one number (audits.Limit most) h = h
 unexpected told q one number (audits.Differs at) h = absurd h
 unexpected told q one number audits.SinkFault h = h
 unexpected told q one number audits.OutOfMemory h = h
@@ -89,7 +89,7 @@ pub denied : (packed : Packed) (expected : List Hashed) (told : Option Store) (f
 denied packed expected told (audits.Import fault) attached stops = absurd stops.unexpected
 denied packed expected told (audits.Pack fault) attached stops = absurd stops.unexpected
 denied packed expected told (audits.Client fault) attached stops = record { told = told; attached = attached; cause = inl stops }
-denied packed expected told (audits.Gateway fault) attached stops = record { told = told; attached = attached; cause = inl stops }
+denied packed expected told (audits.Limit most) attached stops = record { told = told; attached = attached; cause = inl stops }
 denied packed expected told (audits.Differs at) attached stops = record { told = told; attached = attached; cause = inl stops }
 denied packed expected told audits.SinkFault attached stops = absurd stops.unexpected
 denied packed expected told audits.OutOfMemory attached stops = tt
@@ -99,7 +99,7 @@ pub unabsent_as : (packed : Packed) (expected : List Hashed) (told : Option Stor
 unabsent_as packed expected told (audits.Import fault) attached h un = absurd un
 unabsent_as packed expected told (audits.Pack fault) attached h un = absurd un
 unabsent_as packed expected told (audits.Client fault) attached h un = record { told = told; attached = attached; cause = inr (h, un) }
-unabsent_as packed expected told (audits.Gateway fault) attached h un = record { told = told; attached = attached; cause = inr (h, un) }
+unabsent_as packed expected told (audits.Limit most) attached h un = record { told = told; attached = attached; cause = inr (h, un) }
 unabsent_as packed expected told (audits.Differs at) attached h un = record { told = told; attached = attached; cause = inr (h, un) }
 unabsent_as packed expected told audits.SinkFault attached h un = absurd un
 unabsent_as packed expected told audits.OutOfMemory attached h un = tt
@@ -109,7 +109,7 @@ pub unattached_as : (packed : Packed) (expected : List Hashed) (fault : AuditFau
 unattached_as packed expected (audits.Import fault) h = absurd h
 unattached_as packed expected (audits.Pack fault) h = h
 unattached_as packed expected (audits.Client fault) h = absurd h
-unattached_as packed expected (audits.Gateway fault) h = absurd h
+unattached_as packed expected (audits.Limit most) h = absurd h
 unattached_as packed expected (audits.Differs at) h = absurd h
 unattached_as packed expected audits.SinkFault h = absurd h
 unattached_as packed expected audits.OutOfMemory h = tt
@@ -124,7 +124,7 @@ module _ (seed files : ℕ) (tree : Tree) (expected : List Hashed) (drawn : IsAu
   unaudited_as (audits.Import fault) h = absurd h
   unaudited_as (audits.Pack fault) h = imported_so (λ p e. IsUnansweredAs p e (audits.Pack fault)) h
   unaudited_as (audits.Client fault) h = imported_so (λ p e. IsUnansweredAs p e (audits.Client fault)) h
-  unaudited_as (audits.Gateway fault) h = imported_so (λ p e. IsUnansweredAs p e (audits.Gateway fault)) h
+  unaudited_as (audits.Limit most) h = imported_so (λ p e. IsUnansweredAs p e (audits.Limit most)) h
   unaudited_as (audits.Differs at) h = imported_so (λ p e. IsUnansweredAs p e (audits.Differs at)) h
   unaudited_as audits.SinkFault h = absurd h
   unaudited_as audits.OutOfMemory h = tt

@@ -8,7 +8,6 @@ use Rattle.tg_audit_texts.specs.declared.hashing.Hashed.{Hashed}
 use Rattle.tg_fetch.specs.Laws.{IsOwnFault}
 use Rattle.tg_fetch.specs.Replies.{IsAnswered, RefusedBy}
 use Rattle.tg_fetch.specs.declared.fault.FetchFault.{FetchFault}
-use Rattle.tg_gateway.specs.declared.fault.GatewayFault.TheVariants as gateways
 use Rattle.tg_model.specs.Dag.{Section}
 use Rattle.tg_model.specs.LimitNumbers.{LimitNumbers, standard}
 use Rattle.tg_model.specs.Queries.{QueryParts}
@@ -32,7 +31,7 @@ pub record IsReplied (told : Option Store) (q : QueryParts) (reply : List ℕ) :
 
 -- or there is none: the request has more bytes than may be received; want of memory is free
 abbrev pub IsUnreplied : QueryParts → AuditFault → Type 0
-IsUnreplied q (audits.Gateway (gateways.Limit number)) = (number ≡ standard.received) × (number < length (request_text q audit_addr))
+IsUnreplied q (audits.Limit number) = (number ≡ standard.received) × (number < length (request_text q audit_addr))
 IsUnreplied q audits.OutOfMemory = ⊤
 IsUnreplied q other = ⊥
 

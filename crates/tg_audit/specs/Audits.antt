@@ -85,7 +85,7 @@ pub record IsDeniedAs (packed : Packed) (expected : List Hashed) (fault : AuditF
 abbrev pub IsUnansweredAs : Packed → List Hashed → AuditFault → Type 0
 IsUnansweredAs packed expected (audits.Pack fault) = CauseIn packed.pack.content (audits.Pack fault)
 IsUnansweredAs packed expected (audits.Client fault) = IsDeniedAs packed expected (audits.Client fault)
-IsUnansweredAs packed expected (audits.Gateway fault) = IsDeniedAs packed expected (audits.Gateway fault)
+IsUnansweredAs packed expected (audits.Limit number) = IsDeniedAs packed expected (audits.Limit number)
 IsUnansweredAs packed expected (audits.Differs query) = IsDeniedAs packed expected (audits.Differs query)
 IsUnansweredAs packed expected audits.OutOfMemory = ⊤
 IsUnansweredAs packed expected (audits.Import fault) = ⊥

@@ -14,7 +14,6 @@ use tg_bytes::{Bytes, List};
 use tg_dials::MemDial;
 use tg_doors::MemDoor;
 use tg_fetch::{Unwatched, fetch};
-use tg_gateway::GatewayFault;
 use tg_model::{Blocks, LimitKind, Limits, Query};
 use tg_query::print_request;
 use tg_serve::serve_door;
@@ -29,7 +28,7 @@ const PIECE: usize = 65_536;
 /// digest of the answer: the request comes through a door in memory, and what is said on its link is what the peer says
 /// that a dial in memory reaches. The reply is held, and the answer hashed as it comes.
 ///
-/// RFC 9112; Trustless Gateway specification. Errors: `Client` where the client refuses the reply; `Gateway` where the
+/// RFC 9112; Trustless Gateway specification. Errors: `Client` where the client refuses the reply; `Limit` where the
 /// request has more bytes than a session takes; and `OutOfMemory`.
 pub fn ask<B: Blocks>(alloc: Global, query: &Query, blocks: &mut B) -> Result<Hashed, AuditFault>
     ensures told { MatchResult result (IsAnsweredBy (B.blocks.stored blocks.old) query.now)
@@ -60,7 +59,7 @@ fn reply_to<B: Blocks>(
     let happened = serve_door(alloc, blocks, &mut door, 1, limits);
     if happened.limit {
         let number = limits.number(LimitKind::Received);
-        return Err(AuditFault::Gateway(GatewayFault::Limit { number }));
+        return Err(AuditFault::Limit { number });
     }
     if happened.memory || happened.fault {
         return Err(AuditFault::OutOfMemory);
@@ -84,7 +83,7 @@ fn last_said(door: MemDoor) -> Result<Bytes, AuditFault>
     }
 }
 
-/// Fetches a query from the one peer that a dial reaches, who says this reply. Errors: those of `ask` but `Gateway`.
+/// Fetches a query from the one peer that a dial reaches, who says this reply. Errors: those of `ask` but `Limit`.
 fn hear(alloc: Global, query: &Query, limits: Limits, reply: Bytes) -> Result<Hashed, AuditFault>
     requires { limits ≡ standard }
     ensures { MatchResult result (IsHeardAnswer query.now standard reply) (IsUnheard query.now reply) }

@@ -22,11 +22,11 @@ use tg_verify::Refusal;
 const ABSENT: u64 = 9;
 
 /// Audits this build on this machine: draws a folder from a seed, with so many files in its folder `many`, imports it in
-/// memory, asks a gateway's session for it by ten kinds of queries as a client does, compares what the client writes with
-/// what is expected by what was drawn, and puts a text that tells it.
+/// memory, asks a gateway for it by nine queries over a door and a dial in memory as a client does, compares what the
+/// client writes with what is expected by what was drawn, and puts a text that tells it.
 ///
 /// This project's own text. `files` is 1 to 1,000,000. Errors, with which nothing was put: `Import` and `Pack` where the
-/// folder can't be imported and attached; `Client`, `Gateway` and `Differs` for the first query that is refused or whose
+/// folder can't be imported and attached; `Client`, `Limit` and `Differs` for the first query that is refused or whose
 /// answer isn't the expected one; and `OutOfMemory`; and `SinkFault` where out failed in the text.
 pub fn audit<S: Sink>(alloc: Global, seed: u64, files: u32, out: &mut S) -> Result<(), AuditFault>
     requires some { 0 < files }
@@ -53,7 +53,7 @@ fn audited(alloc: Global, seed: u64, files: u32) -> Result<Bytes, AuditFault>
 }
 
 /// The text for a folder that was imported, whose answers are expected to have these lengths and digests. Errors: `Pack`,
-/// `Client`, `Gateway`, `Differs` and `OutOfMemory`.
+/// `Client`, `Limit`, `Differs` and `OutOfMemory`.
 fn answered(alloc: Global, packed: Packed, expected: &[Hashed]) -> Result<Bytes, AuditFault>
     requires { length expected.now ≡ 8 }
     ensures { MatchResult result (IsAnsweredAs packed expected.now) (IsUnansweredAs packed expected.now) }

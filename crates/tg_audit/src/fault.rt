@@ -1,7 +1,6 @@
 //! Why an audit doesn't end well.
 use std::alloc::AllocError;
 use tg_fetch::FetchFault;
-use tg_gateway::GatewayFault;
 use tg_import::ImportFault;
 use tg_store::PackFault;
 use thiserror::Error;
@@ -18,9 +17,9 @@ pub enum AuditFault {
     /// The client refuses what the gateway said.
     #[error("{0}")]
     Client(FetchFault),
-    /// The gateway's session refuses the request: it has more bytes than may be received.
-    #[error("{0}")]
-    Gateway(GatewayFault),
+    /// The gateway's session refuses the request, which has more bytes than may be received: this number.
+    #[error("Limit Received {number}")]
+    Limit { number: u64 },
     /// The query with this number has another answer than the one that is expected of it.
     #[error("Differs {query}")]
     Differs { query: u64 },

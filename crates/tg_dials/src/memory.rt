@@ -1,10 +1,10 @@
 //! Dials in memory, which fail at the calls that they are given.
-ghost use Rattle.std.specs.Prelude.{◌≡◌, ◌⊎◌, ◌<◌, ◌≤◌, ◌∷◌, ℕ, List as Items, [], Contains, IfOk, IsErr, max, MatchOption, None, OnErr, OnOk, Some, false};
+ghost use Rattle.std.specs.Prelude.{◌≡◌, ◌⊎◌, ◌<◌, ◌≤◌, ◌∷◌, ℕ, List as Items, [], Contains, IfOk, IsErr, max, MatchOption, None, OnErr, OnOk, Some, false, true};
 ghost use Rattle.tg_dials.specs.Dials.{IsDialled, IsHungUp, KeepsCalls, KeepsComing, KeepsMissed, at_dial, dialled_link};
 ghost use Rattle.tg_dials.specs.Memory.{IsLinkTo, mem_dial};
 ghost use Rattle.tg_faults.specs.Faults.{Rose, counted};
 ghost use Rattle.tg_links.specs.Memory.{mem_hearing, mem_link};
-ghost use Rattle.tg_links.specs.Views.{and_call, view_of};
+ghost use Rattle.tg_links.specs.Views.{and_call, is_failed, view_of};
 
 use crate::dial::Dial;
 use std::alloc::Global;
@@ -158,12 +158,15 @@ impl Dial for MemDial {
         }
     }
 
-    /// It takes over the number of calls that the link made.
+    /// It takes over the number of calls that the link made. Of a link whose calls failed one fault is counted, however many
+    /// failed.
     fn done(&mut self, link: MemLink)
         ensures done { IsHungUp (view_of mem_link mem_hearing link) (at_dial mem_dial self.old self.new) }
         ensures missed { KeepsMissed (at_dial mem_dial self.old self.new) }
         ensures coming { KeepsComing (at_dial mem_dial self.old self.new) }
 
+        ensures once { is_failed link.faults ≡ true → (self.new.told ≡ None → self.old.told ≡ None)
+            → self.new.faults ≡ counted self.old.faults }
         ensures call { self.new.made ≡ max self.old.made link.calls }
         ensures others { (self.new.piece ≡ self.old.piece) × (self.new.fails ≡ self.old.fails) }
     {

@@ -1,8 +1,8 @@
 //! Doors in memory, which fail at the calls that they are given.
-ghost use Rattle.std.specs.Prelude.{◌≡◌, ◌⊎◌, ◌<◌, ◌≤◌, ◌↔◌, List as Items, [], Contains, IfOk, IfSome, IsErr, max, MatchOption, None, Some, false};
+ghost use Rattle.std.specs.Prelude.{◌≡◌, ◌⊎◌, ◌<◌, ◌≤◌, ◌↔◌, List as Items, [], Contains, IfOk, IfSome, IsErr, max, MatchOption, None, Some, false, true};
 ghost use Rattle.tg_faults.specs.Faults.{Rose, counted};
 ghost use Rattle.tg_doors.specs.Doors.{IsAdmitted, IsAskedPort, IsBound, IsDone, KeepsComing, KeepsPort, KeepsServed, KeepsShut, at_door};
-ghost use Rattle.tg_links.specs.Views.{and_call};
+ghost use Rattle.tg_links.specs.Views.{and_call, is_failed};
 ghost use Rattle.tg_doors.specs.Doors.{given_link};
 ghost use Rattle.tg_links.specs.Views.{view_of};
 ghost use Rattle.tg_doors.specs.Memory.{IsLinkOf, mem_door};
@@ -169,13 +169,16 @@ impl Door for MemDoor {
         Ok(Some(MemLink::with_calls(self.alloc, bytes, self.piece, calls)))
     }
 
-    /// It takes over the number of calls that the link made.
+    /// It takes over the number of calls that the link made. Of a link whose calls failed one fault is counted, however many
+    /// failed.
     fn done(&mut self, link: MemLink)
         ensures done { IsDone (view_of mem_link mem_hearing link) (at_door mem_door self.old self.new) }
         ensures coming { KeepsComing (at_door mem_door self.old self.new) }
         ensures port { KeepsPort (at_door mem_door self.old self.new) }
         ensures shut { KeepsShut (at_door mem_door self.old self.new) }
 
+        ensures once { is_failed link.faults ≡ true → (self.new.served ≡ None → self.old.served ≡ None)
+            → self.new.faults ≡ counted self.old.faults }
         ensures call { self.new.calls ≡ max self.old.calls link.calls }
         ensures others { (self.new.piece ≡ self.old.piece) × (self.new.fails ≡ self.old.fails) }
     {
