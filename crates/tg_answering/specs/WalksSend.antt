@@ -1,7 +1,6 @@
 -- From a walk over a store to the sections that a reply sends, and to whether it is cut (Trustless Gateway specification,
 -- dag-scope, entity-bytes and dups; that no block is sent that lies deeper than 512 is this project's own).
 use Rattle.std.specs.Prelude.{List, true, ◌++◌, ◌≡◌}
-use Rattle.tg_cid.specs.Cid.{CidParts}
 use Rattle.tg_model.specs.Dag.{Section}
 use Rattle.tg_model.specs.PathWalk.{TraversalEnd}
 use Rattle.tg_model.specs.Queries.{QueryParts}
@@ -9,6 +8,7 @@ use Rattle.tg_model.specs.Stores.{Store}
 use Rattle.tg_model.specs.Traversal.{block_list, traversal}
 use Rattle.tg_reply.specs.Replies.{is_cut, is_cut_on_path, sent_dag}
 use Rattle.tg_traversal.specs.Left.{LeftState}
+use Rattle.tg_walk.specs.Known.{KnownState}
 use Rattle.tg_walk.specs.Walks.{HasEnded, HasStoppedDeep, IsOnWalk, max_depth}
 
 -- the sections that a reply to a query sends where the store gives each block
@@ -30,6 +30,6 @@ DeepWalksSend = (q : QueryParts) (store : Store) (sections : List Section) → H
 
 -- one that goes on has given the first of them
 abbrev pub WalksSendFronts : Type 0
-WalksSendFronts = (left : LeftState) (known : List CidParts) (store : Store) (sections : List Section)
+WalksSendFronts = (left : LeftState) (known : KnownState) (store : Store) (sections : List Section)
     → IsOnWalk max_depth left known store sections
     → (more : List Section) × (sections_sent store left.query ≡ sections ++ more)

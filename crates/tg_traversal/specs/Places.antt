@@ -11,6 +11,8 @@ use Rattle.tg_traversal.specs.declared.position.Miss.{Miss}
 use Rattle.tg_traversal.specs.declared.position.Place.{Place}
 use Rattle.tg_traversal.specs.declared.position.Position.{Position}
 use Rattle.tg_traversal.specs.declared.position.Reach.{Reach}
+use Rattle.tg_traversal.specs.declared.position.Role.{Role}
+use Rattle.tg_traversal.specs.declared.position.Role.TheVariants as roles
 use Rattle.tg_model.specs.Sound.{child, part, top}
 use Rattle.tg_model.specs.Sound.{Position as Standing}
 use Rattle.tg_model.specs.Traversal.{bundled, entire, is_met, listed, ranged}
@@ -41,6 +43,23 @@ abbrev pub want_of : List (List ℕ) → Ask → ℕ → Want
 want_of path (asks.Segment i position) depth = step_want i (standing_of position) (drop i path) depth
 want_of path asks.Terminal depth = terminal_want depth
 want_of path (asks.Node reach position) depth = node_want (reach_of reach) (standing_of position) depth
+
+-- what a block below the terminal is where no range is asked, but for children of shards: an entry that is bundled, or
+-- a part of a file
+abbrev pub role_in : Reaching → Standing → Option Role
+role_in (bundled path) top = Some roles.Entry
+role_in (bundled path) (part size) = None
+role_in (bundled path) (child above) = None
+role_in entire top = None
+role_in entire (part size) = Some roles.Part
+role_in entire (child above) = None
+role_in (ranged low high) standing = None
+role_in listed standing = None
+
+abbrev pub role_at : Want → Option Role
+role_at (segment_want i standing name path depth) = None
+role_at (terminal_want depth) = None
+role_at (node_want reach standing depth) = role_in reach standing
 
 -- a segment that leads nowhere
 abbrev pub missing_of : Miss → Missing

@@ -1,12 +1,12 @@
 //! What is left of a traversal, as a stack of frames.
 ghost use Rattle.std.specs.Prelude.{◌≡◌, ℕ, None, Some, IfOk, OnErr, drop, length};
 ghost use Rattle.tg_traversal.specs.BlocksLeft.{HasFewer};
-ghost use Rattle.tg_traversal.specs.Left.{IsNext, IsOnPath, tasks_left, told_wanted};
-ghost use Rattle.tg_traversal.specs.Places.{want_of};
+ghost use Rattle.tg_traversal.specs.Left.{IsNext, IsOnPath, WantedAt, tasks_left, told_wanted};
+ghost use Rattle.tg_traversal.specs.Places.{role_at, want_of};
 ghost use Rattle.tg_model_laws.specs.Tasks.{path_want, start};
 
 use crate::frame::Visited;
-use crate::position::{Ask, Miss, Place, Position, Wanted};
+use crate::position::{Ask, Miss, Place, Position, Reach, Role, Wanted};
 use crate::stack::{Came, Stack};
 use std::alloc::{AllocError, Global};
 use std::marker::Model;
@@ -99,6 +99,18 @@ impl Frames {
             cid: place.cid,
             depth: place.depth,
         })
+    }
+
+    /// What the block is at the place that is wanted now, or none where the place is on the path, its terminal or a
+    /// child of a shard, where entries are listed, and where a range is asked. It takes no memory.
+    pub fn role(&self) -> Option<Role>
+        ensures { (at : WantedAt) → self.now.wanted ≡ Some at → result ≡ role_at at.want }
+    {
+        match &self.wanted.as_ref()?.ask {
+            Ask::Node(Reach::Bundled(_), Position::Top) => Some(Role::Entry),
+            Ask::Node(Reach::Entire, Position::Part(_)) => Some(Role::Part),
+            _ => None,
+        }
     }
 
     /// What comes next, which is taken; but a block that is wanted, and a segment that leads nowhere, stay.

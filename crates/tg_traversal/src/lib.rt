@@ -13,5 +13,5 @@ mod text;
 
 pub use block::SharedBlock;
 pub use frames::{Frames, Next, copied_path};
-pub use position::{Miss, Wanted};
+pub use position::{Miss, Role, Wanted};
 pub use text::{PlaceText, SizeFault};

@@ -103,6 +103,15 @@ pub struct Wanted {
     pub depth: u64,
 }
 
+/// What a block below the terminal is where no range is asked: a directory's entry that is bundled, or a part of a file.
+///
+/// Trustless Gateway specification, dag-scope; UnixFS specification, File.
+#[derive(Clone, Copy, PartialEq, Eq)]
+pub enum Role {
+    Entry,
+    Part,
+}
+
 /// A segment of the path, told by its index, that leads nowhere.
 ///
 /// Path Gateway specification, Path Resolution.

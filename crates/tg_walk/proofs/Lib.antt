@@ -6,3 +6,7 @@ mod PathPlaces
 mod PathSteps
 mod PathShapes
 mod Fewer
+mod TaskShapes
+mod Knowing
+mod Blocks
+mod Passing

@@ -1,29 +1,31 @@
 -- What a walk over a store has given, and why it gives no more (Trustless Gateway specification: dag-scope,
 -- entity-bytes, order dfs).
-use Rattle.std.specs.Prelude.{All, Bool, Err, IfSome, List, None, Ok, OnOk, Option, Result, Some, [], false, length, map, not, true, ⊤, ℕ}
-use Rattle.std.specs.Prelude.{◌++◌, ◌∷◌, ◌≡◌, ◌≤◌, ◌⊎◌}
-use Rattle.std.specs.List.{list_any}
+use Rattle.std.specs.Prelude.{All, Err, IfSome, List, None, Ok, OnOk, Option, Result, Some, [], false, length, map, true, ⊤, ℕ}
+use Rattle.std.specs.Prelude.{◌+◌, ◌++◌, ◌∷◌, ◌≡◌, ◌≤◌, ◌⊎◌}
+use Rattle.std.specs.Map.{keys_of}
 use Rattle.tg_cid.specs.Cid.{CidParts}
-use Rattle.tg_cid.specs.CodeLaws.{same_cid}
 use Rattle.tg_cid.specs.Limits.{max_block_len}
 use Rattle.tg_cid.specs.Names.{Names}
 use Rattle.tg_cid.specs.declared.cid.HashKind.TheVariants.{Identity, Sha256}
 use Rattle.tg_traversal.specs.declared.position.Miss.TheVariants as misses
 use Rattle.tg_traversal.specs.BlocksLeft.{blocks_over}
 use Rattle.tg_traversal.specs.Left.{LeftState, WantedAt, tasks_left}
-use Rattle.tg_traversal.specs.Places.{missing_of}
+use Rattle.tg_traversal.specs.Places.{missing_of, role_at}
 use Rattle.tg_traversal.specs.SaidFaults.{fault_said}
 use Rattle.tg_traversal.specs.declared.position.Miss.{Miss}
+use Rattle.tg_traversal.specs.declared.position.Role.{Role}
 use Rattle.tg_traversal.specs.declared.position.Wanted.{Wanted}
 use Rattle.tg_model.specs.Computed.{read}
 use Rattle.tg_model.specs.Dag.{links_of}
 use Rattle.tg_model.specs.declared.fault.BlockFault.{BlockFault}
 use Rattle.tg_model.specs.declared.kinds.Kind.{Kind}
+use Rattle.tg_walk.specs.Known.{HasLevels, KnownState, Knows, LieAbove}
 use Rattle.tg_walk.specs.declared.fault.WalkFault.{WalkFault}
 use Rattle.tg_walk.specs.declared.fault.WalkFault.TheVariants as faults
+use Rattle.tg_walk.specs.declared.known.Opened.{Opened}
 use Rattle.tg_model.specs.declared.stores.BlocksFault.TheVariants as store_faults
 use Rattle.tg_model.specs.Dag.{Section}
-use Rattle.tg_model.specs.Fits.{IfOnce}
+use Rattle.tg_model.specs.Fits.{IfOnce, is_block}
 use Rattle.tg_model.specs.PathWalk.{Spot, TraversalEnd, bad_block, gone, not_folder, not_there, stopped, whole}
 use Rattle.tg_model.specs.Queries.{QueryParts}
 use Rattle.tg_model.specs.StoreView.{block_at, store_view}
@@ -40,20 +42,21 @@ use Rattle.tg_model_laws.specs.Tasks.{stop_at, tasks_of, tasks_then}
 abbrev pub max_depth : ℕ
 max_depth = 512
 
--- what contracts see of a walk: what is left; the CIDs of the blocks that it gave, where each is given once; and the
--- refusal after which it gives nothing
+-- what contracts see of a walk: what is left; what it knows, where each block is given once; and the refusal after which
+-- it gives nothing
 pub record WalkState : Type 0 where
   pub left : LeftState
-  pub known : List CidParts
+  pub known : KnownState
   pub refused : Option WalkFault
 
 -- of the places that were opened these sections are sent
 abbrev pub HasGiven : QueryParts → Given → List Section → Type 0
 HasGiven q given sections = sent q (opened_by given) ≡ sections
 
--- a walk that gives each block once knows which it gave
-abbrev pub HasKnown : QueryParts → List CidParts → List Section → Type 0
-HasKnown q known sections = IfOnce q.dups (known ≡ map (λ section. section.cid) sections)
+-- a walk that gives each block once knows which it gave, and below which of them it went everywhere
+abbrev pub HasKnown : QueryParts → Store → KnownState → List Section → List (Task CidParts) → Type 0
+HasKnown q store known sections tasks =
+    IfOnce q.dups ((keys_of known.entries ≡ map (λ section. section.cid) sections) × Knows q store sections known tasks)
 
 -- what was given is a front of what the traversal of the store's view gives
 pub record IsFront (q : QueryParts) (store : Store) (sections : List Section) : Type 0 where
@@ -63,10 +66,10 @@ pub record IsFront (q : QueryParts) (store : Store) (sections : List Section) : 
   pub front : traversal q (store_view store q.root) ≡ and_then (ending given whole) rest
 
 -- a walk that goes on has given these sections
-pub record IsOnWalk (most : ℕ) (left : LeftState) (known : List CidParts) (store : Store) (sections : List Section) : Type 0 where
+pub record IsOnWalk (most : ℕ) (left : LeftState) (known : KnownState) (store : Store) (sections : List Section) : Type 0 where
   pub given : Given
   pub gave : HasGiven left.query given sections
-  pub knows : HasKnown left.query known sections
+  pub knows : HasKnown left.query store known sections (tasks_left left)
   pub walked : IsWalked left.query store most given (tasks_left left)
 
 -- the traversal of the store's view gives just these sections, none of them deeper, and ends so
@@ -96,7 +99,7 @@ HasWalkCause q store most sections (faults.NotFolder i) = HasEnded q store most 
 HasWalkCause q store most sections faults.OutOfMemory = IsFront q store sections
 
 -- the walk over this store has given these sections, and goes on or was refused
-abbrev pub StandsBy : Option WalkFault → ℕ → LeftState → List CidParts → Store → List Section → Type 0
+abbrev pub StandsBy : Option WalkFault → ℕ → LeftState → KnownState → Store → List Section → Type 0
 StandsBy None most left known store sections = IsOnWalk most left known store sections
 StandsBy (Some fault) most left known store sections = HasWalkCause left.query store most sections fault
 
@@ -132,8 +135,8 @@ pub record HaveLookedUp (lookups : Lookups) : Type 0 where
   pub looked : LookedUp cids lookups
   pub hashed : All (λ cid. cid.hash ≡ Sha256) cids
 
--- what was looked up, none of it an identity CID; where each block is given once repeats are looked up again, and passed
--- over
+-- what was looked up, none of it an identity CID; where each block is given once repeats may be looked up again, and
+-- passed over
 pub record HasLookedUp (q : QueryParts) (result : Result (Option (CidParts × List ℕ)) WalkFault) (lookups : Lookups) : Type 0 where
   pub cids : List CidParts
   pub looked : LookedUp cids lookups
@@ -225,26 +228,44 @@ HasGone (Ok None) most new store opened =
 HasGone (Err fault) most new store opened = HasWalkCause new.query store most (sent new.query opened) fault
 
 -- what was given, and what the walk has given behind it
-abbrev pub HasGoneOn : Result (Option (CidParts × List ℕ)) WalkFault → LeftState → List CidParts → Store → List Section → Type 0
+abbrev pub HasGoneOn : Result (Option (CidParts × List ℕ)) WalkFault → LeftState → KnownState → Store → List Section → Type 0
 HasGoneOn (Ok (Some found)) new known store sections =
     IsOnWalk max_depth new known store (sections ++ section_of found.0 found.1 ∷ [])
 HasGoneOn (Ok None) new known store sections =
     IsOnWalk max_depth new known store sections × HasEnded new.query store max_depth sections whole
 HasGoneOn (Err fault) new known store sections = HasWalkCause new.query store max_depth sections fault
 
--- ---- which blocks are given
+-- the next place is told of which not all is known, and it lies below the blocks that are open
+pub record IsPlaceNow (left : LeftState) (known : KnownState) (place : Opened) : Type 0 where
+  pub at : WantedAt
+  pub wanted : left.wanted ≡ Some at
+  pub is : place ≡ record { cid = at.cid; depth = depth_of at.want; deepest = depth_of at.want; role = role_at at.want }
+  pub above : LieAbove known.nodes (depth_of at.want)
 
-abbrev pub is_known : CidParts → List CidParts → Bool
-is_known cid known = list_any (same_cid cid) known
+-- a fault that no store gave: want of memory, or a segment that leads nowhere
+abbrev pub IsOwnFault : WalkFault → Type 0
+IsOwnFault fault = (fault ≡ faults.OutOfMemory) ⊎ ((miss : Miss) × (fault ≡ fault_of_miss miss))
 
-abbrev pub known_with : Bool → CidParts → List CidParts → List CidParts
-known_with true cid known = known ++ cid ∷ []
-known_with false cid known = known
+-- a walk that gives each block once went on to a place of which not all is known, or to the end
+abbrev pub HasComeTo : Result (Option Opened) WalkFault → LeftState → KnownState → Store → List Section → Type 0
+HasComeTo (Ok (Some place)) new known store sections = IsOnWalk max_depth new known store sections
+HasComeTo (Ok None) new known store sections =
+    IsOnWalk max_depth new known store sections × HasEnded new.query store max_depth sections whole
+HasComeTo (Err fault) new known store sections = HasWalkCause new.query store max_depth sections fault
 
--- where repeats are given a block is; and else where its CID isn't known yet
-abbrev pub IsGiven : Bool → List CidParts → CidParts → Bool → List CidParts → Type 0
-IsGiven true old cid given new = (given ≡ true) × (new ≡ old)
-IsGiven false old cid given new = (given ≡ not (is_known cid old)) × (new ≡ known_with given cid old)
+-- of a place all is known below it, so many levels of blocks, and none of them is too deep
+pub record HasLevelsAt (q : QueryParts) (known : KnownState) (place : Wanted) (role : Option Role) (levels : ℕ) : Type 0 where
+  pub in_role : Role
+  pub role_is : role ≡ Some in_role
+  pub has : HasLevels known.entries place.cid in_role levels
+  pub not_block : is_block q.scope ≡ false
+  pub shallow : place.depth + levels ≤ max_depth
+
+-- at the wanted place this block was opened, which isn't too deep
+pub record HasOpenedAt (old : LeftState) (store : Store) (at : WantedAt) (found : CidParts × List ℕ) (new : LeftState) : Type 0 where
+  pub cid_is : found.0 ≡ at.cid
+  pub stored : block_at store at.cid ≡ Some found.1
+  pub opened : IsOpened old at found.1 (Ok tt) new
 
 -- ---- blocks
 

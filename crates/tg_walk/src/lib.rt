@@ -3,6 +3,7 @@
 #![tactic(auto)]
 
 mod fault;
+mod known;
 mod resolving;
 mod walk;
 

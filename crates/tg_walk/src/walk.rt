@@ -1,23 +1,24 @@
 //! A walk over the blocks of a store.
-ghost use Rattle.std.specs.Map.{keys_of};
-ghost use Rattle.std.specs.Prelude.{◌≡◌, ◌≤◌, ◌<◌, ◌^◌, List, [], None, Some, IfErr, IfOk, IfSome, MatchResult, OnOk};
+ghost use Rattle.std.specs.Prelude.{◌≡◌, ◌≤◌, ◌<◌, ◌^◌, List, [], None, Some, IfErr, IfOk, IfSome, IsSome, MatchResult, OnOk, false, true};
 ghost use Rattle.tg_traversal.specs.BlocksLeft.{HasFewer, blocks_over};
 ghost use Rattle.tg_traversal.specs.Left.{WantedAt, tasks_left};
-ghost use Rattle.tg_walk.specs.Walks.{HasFetched, HasGone, HasGoneOn, HasLookedOnce, HasLookedUp, HasOpened};
-ghost use Rattle.tg_walk.specs.Walks.{HasStepped, HasStoreCause, IsAskedFound, IsBlockOf, IsGiven, IsNamedFound};
-ghost use Rattle.tg_walk.specs.Walks.{IsNextPlace, IsOnWalk, IsOpened, IsWantedHere, StandsFor, blocks_left};
-ghost use Rattle.tg_walk.specs.Walks.{fault_of_block, fault_of_miss, max_depth};
+ghost use Rattle.tg_walk.specs.Known.{IsNoted, KnownState};
+ghost use Rattle.tg_walk.specs.Walks.{HasComeTo, HasFetched, HasGone, HasGoneOn, HasLevelsAt, HasLookedOnce};
+ghost use Rattle.tg_walk.specs.Walks.{HasLookedUp, HasOpened, HasOpenedAt, HasStepped, HasStoreCause, IsAskedFound};
+ghost use Rattle.tg_walk.specs.Walks.{IsBlockOf, IsNamedFound, IsNextPlace, IsOnWalk, IsOpened, IsOwnFault, IsPlaceNow};
+ghost use Rattle.tg_walk.specs.Walks.{IsWantedHere, StandsFor, blocks_left, fault_of_block, fault_of_miss, max_depth};
 ghost use Rattle.tg_cid.specs.declared.cid.HashKind.TheVariants.{Identity};
 ghost use Rattle.tg_model.specs.Dag.{Section};
 ghost use Rattle.tg_model.specs.Stores.{IsCauseOf, Store, looked_in};
+ghost use Rattle.tg_model.specs.Traversal.{is_asked};
 
 use crate::fault::WalkFault;
-use indexmap::IndexMap;
+use crate::known::{Known, Opened};
 use std::alloc::{AllocError, Global};
 use std::marker::Model;
 use tg_cid::{Cid, HashKind};
-use tg_model::{BlockFault, Blocks, BlocksFault, Query};
-use tg_traversal::{Frames, Miss, Next, SharedBlock, Wanted};
+use tg_model::{BlockFault, Blocks, BlocksFault, Query, Scope};
+use tg_traversal::{Frames, Miss, Next, Role, SharedBlock, Wanted};
 
 /// How many blocks there are at most from the root to a block that a walk gives, both counted.
 pub const MAX_DEPTH: u64 = 512;
@@ -26,24 +27,25 @@ pub const MAX_DEPTH: u64 = 512;
 /// fetches each when it gives it; each at each of its places, or once where the query asks for that.
 ///
 /// An identity CID's block is its digest, so none is fetched, nor is it given, but for the root of a raw query. Where
-/// each block is given once it holds the CIDs of those that it gave.
+/// each block is given once it holds the CIDs of those that it gave. There it goes once through what lies below a
+/// directory's entry or a part of a file where no range is asked: at a further place of one below which all was given,
+/// none of it too deep, nothing is fetched.
 ///
 /// Trustless Gateway specification, dag-scope, entity-bytes and order dfs.
 #[derive(Drop)]
 pub struct Walk {
     alloc: Global,
     frames: Frames,
-    known: IndexMap<Cid, ()>,
+    known: Known,
     refused: Option<WalkFault>,
 }
 
 impl Model for Walk {
-    ghost use Rattle.std.specs.Map.{keys_of};
     ghost use Rattle.tg_walk.specs.Walks.{WalkState};
 
     ghost Value = { WalkState };
 
-    ghost view = { λ w. record { left = w.frames; known = keys_of w.known.entries; refused = w.refused } };
+    ghost view = { λ w. record { left = w.frames; known = w.known; refused = w.refused } };
 }
 
 impl Walk {
@@ -57,7 +59,7 @@ impl Walk {
         Ok(Walk {
             alloc,
             frames: Frames::new(alloc, query)?,
-            known: IndexMap::new(alloc),
+            known: Known::new(alloc),
             refused: None,
         })
     }
@@ -98,17 +100,42 @@ impl Walk {
 }
 
 /// The next block that is given, with its CID. An identity CID that isn't asked for, and a repeat where each block is
-/// given once, are passed over, and what is below them is walked.
+/// given once, are passed over, and what is below them is walked, but for what is known below a repeat.
 fn next_given<B: Blocks>(
     alloc: Global,
     frames: &mut Frames,
-    known: &mut IndexMap<Cid, ()>,
+    known: &mut Known,
     blocks: &mut B,
 ) -> Result<Option<(Cid, SharedBlock)>, WalkFault>
     ensures query { frames.new.query ≡ frames.old.query }
     ensures stands { (store : Store) (sections : List Section) → B.blocks.stored blocks.old ≡ Some store
-        → IsOnWalk max_depth frames.old (keys_of known.old.entries) store sections
-        → HasGoneOn result frames.new (keys_of known.new.entries) store sections }
+        → IsOnWalk max_depth frames.old known.old store sections
+        → HasGoneOn result frames.new known.new store sections }
+    ensures named { IsNamedFound result }
+    ensures asked { IsAskedFound frames.old.query result }
+    ensures fewer { IfOk result (λ found. IfSome found (λ _. blocks_left frames.new < blocks_left frames.old)) }
+    ensures looked { HasLookedUp frames.old.query result (looked_in B.blocks blocks.old blocks.new) }
+    ensures cause { HasStoreCause result (B.blocks.stored blocks.old) (looked_in B.blocks blocks.old blocks.new) }
+    ensures counted { B.blocks.faults blocks.old ≤ B.blocks.faults blocks.new }
+{
+    if frames.query().dups() {
+        next_repeated(alloc, frames, blocks)
+    } else {
+        next_once(alloc, frames, known, blocks)
+    }
+}
+
+/// The next block that is given where repeats are.
+fn next_repeated<B: Blocks>(
+    alloc: Global,
+    frames: &mut Frames,
+    blocks: &mut B,
+) -> Result<Option<(Cid, SharedBlock)>, WalkFault>
+    requires { frames.old.query.dups ≡ true }
+    ensures query { frames.new.query ≡ frames.old.query }
+    ensures stands { (store : Store) (sections : List Section) → B.blocks.stored blocks.old ≡ Some store
+        → (known : KnownState) → IsOnWalk max_depth frames.old known store sections
+        → HasGoneOn result frames.new known store sections }
     ensures named { IsNamedFound result }
     ensures asked { IsAskedFound frames.old.query result }
     ensures fewer { IfOk result (λ found. IfSome found (λ _. blocks_left frames.new < blocks_left frames.old)) }
@@ -117,26 +144,106 @@ fn next_given<B: Blocks>(
     ensures counted { B.blocks.faults blocks.old ≤ B.blocks.faults blocks.new }
 {
     tg_model_laws::store_walks();
-    let dups = frames.query().dups();
     while let Some(found) = step(alloc, MAX_DEPTH, frames, blocks)? {
-        if frames.query().asks(&found.0) && is_given(dups, known, found.0)? {
+        if frames.query().asks(&found.0) {
             return Ok(Some(found));
         }
     }
     Ok(None)
 }
 
-/// Whether a block is given: where repeats are, each; and else the first under its CID, which is known from then on.
-/// The error is want of memory.
-fn is_given(dups: bool, known: &mut IndexMap<Cid, ()>, cid: Cid) -> Result<bool, AllocError>
-    ensures { IfOk result (λ given. IsGiven dups (keys_of known.old.entries) cid given (keys_of known.new.entries)) }
+/// The next block that is given where each is given once.
+fn next_once<B: Blocks>(
+    alloc: Global,
+    frames: &mut Frames,
+    known: &mut Known,
+    blocks: &mut B,
+) -> Result<Option<(Cid, SharedBlock)>, WalkFault>
+    requires { frames.old.query.dups ≡ false }
+    ensures query { frames.new.query ≡ frames.old.query }
+    ensures stands { (store : Store) (sections : List Section) → B.blocks.stored blocks.old ≡ Some store
+        → IsOnWalk max_depth frames.old known.old store sections
+        → HasGoneOn result frames.new known.new store sections }
+    ensures named { IsNamedFound result }
+    ensures asked { IsAskedFound frames.old.query result }
+    ensures fewer { IfOk result (λ found. IfSome found (λ _. blocks_left frames.new < blocks_left frames.old)) }
+    ensures looked { HasLookedUp frames.old.query result (looked_in B.blocks blocks.old blocks.new) }
+    ensures cause { HasStoreCause result (B.blocks.stored blocks.old) (looked_in B.blocks blocks.old blocks.new) }
+    ensures counted { B.blocks.faults blocks.old ≤ B.blocks.faults blocks.new }
 {
-    tg_cid::laws::equality();
-    if dups {
-        return Ok(true);
+    tg_model_laws::store_walks();
+    while let Some(place) = next_unknown(frames, known)? {
+        let Some(found) = step(alloc, MAX_DEPTH, frames, blocks)? else {
+            return Ok(None);
+        };
+        let given = is_given(frames.query(), known, found.0)?;
+        known.open(place)?;
+        if given {
+            return Ok(Some(found));
+        }
     }
-    let before = known.insert(cid, ())?;
-    Ok(before.is_none())
+    Ok(None)
+}
+
+/// Whether a block is given where each is given once: the first under its CID, if it is asked for, which is known from
+/// then on. The error is want of memory.
+fn is_given(query: &Query, known: &mut Known, cid: Cid) -> Result<bool, AllocError>
+    ensures { IfOk result (λ given. IsNoted (is_asked query.now cid) known.old cid given known.new) }
+{
+    if query.asks(&cid) {
+        known.add(cid)
+    } else {
+        Ok(false)
+    }
+}
+
+/// Goes on to the next place of which not all is known, or to the end: what lies below a block that was gone through
+/// wholly is passed over, unless it lies too deep.
+fn next_unknown(frames: &mut Frames, known: &mut Known) -> Result<Option<Opened>, WalkFault>
+    requires { frames.old.query.dups ≡ false }
+    ensures query { frames.new.query ≡ frames.old.query }
+    ensures stands { (store : Store) (sections : List Section)
+        → IsOnWalk max_depth frames.old known.old store sections
+        → HasComeTo result frames.new known.new store sections }
+    ensures place { IfOk result (λ found. IfSome found (λ place. IsPlaceNow frames.new known.new place)) }
+    ensures fault { IfErr result IsOwnFault }
+    ensures fewer { IfOk result (λ found. IfSome found (λ _. blocks_left frames.new ≤ blocks_left frames.old)) }
+{
+    tg_model_laws::store_walks();
+    while let Some(place) = next_place(frames)? {
+        known.leave(place.depth)?;
+        let role = frames.role();
+        match known_levels(frames.query(), known, &place, role) {
+            Some(levels) => {
+                known.deepen(place.depth + levels);
+                frames.pass();
+            }
+            None => {
+                return Ok(Some(Opened {
+                    cid: place.cid,
+                    depth: place.depth,
+                    deepest: place.depth,
+                    role,
+                }));
+            }
+        }
+    }
+    Ok(None)
+}
+
+/// How many levels of blocks lie below a place of which all is known, and none of it too deep.
+fn known_levels(query: &Query, known: &Known, place: &Wanted, role: Option<Role>) -> Option<u64>
+    ensures { IfSome result (λ levels. HasLevelsAt query.now known.now place.now role levels) }
+{
+    if query.scope() == Scope::Block || place.depth > MAX_DEPTH {
+        return None;
+    }
+    let levels = known.levels(&place.cid, role?)?;
+    if levels <= MAX_DEPTH - place.depth {
+        Some(levels)
+    } else {
+        None
+    }
 }
 
 /// Opens the next block of what is left, and gives it with its CID.
@@ -151,6 +258,10 @@ fn step<B: Blocks>(
     ensures stands { (store : Store) (opened : List Section) → B.blocks.stored blocks.old ≡ Some store
         → HasOpened most frames.old store opened
         → HasGone result most frames.new store opened }
+    ensures opened { (store : Store) (at : WantedAt) → B.blocks.stored blocks.old ≡ Some store
+        → frames.old.wanted ≡ Some at
+        → IfOk result (λ found. IfSome found (λ block. HasOpenedAt frames.old store at block frames.new)) }
+    ensures there { (at : WantedAt) → frames.old.wanted ≡ Some at → IfOk result (λ found. IsSome found) }
     ensures named { IsNamedFound result }
     ensures fewer { IfOk result (λ found. IfSome found
         (λ _. blocks_over most (tasks_left frames.new) < blocks_over most (tasks_left frames.old))) }

@@ -1,6 +1,7 @@
 use Rattle.std.proofs.Common.{Ok, Option, subst, ◌∙◌}
 use Rattle.std.proofs.lemmas.Result.{err_from_is_err_and}
 use Rattle.tg_walk.proofs.Fewer.{fewer_next}
+use Rattle.tg_walk.proofs.Passing.{not_done}
 use Rattle.tg_walk.proofs.WalkSteps.{ends_there, found_in, front_there, goes_on, gone_there, stops_at_block, stops_before, stops_deep, store_stops}
 use Rattle.tg_walk.specs.Walks.{IsNextPlace}
 use Rattle.tg_traversal.specs.declared.position.Wanted.{Wanted}
@@ -15,6 +16,10 @@ pub returns-in_default-clause-stands : goal.returns-in_default-clause-stands
 returns-in_default-clause-stands g c store sections told on =
     ends_there c.store_walks.ensures c.args.most c.args.frames.now c.next_place.new.frames store sections c.next_place.ensures.query on
     (subst (λ (found : Option Wanted). IsNextPlace c.args.frames.now (Ok found) c.next_place.new.frames) c.in_default.is c.in_ok-place.ensures.next)
+
+pub returns-in_default-clause-there : goal.returns-in_default-clause-there
+returns-in_default-clause-there g c at wanted =
+    not_done c.args.frames.now c.next_place.new.frames at wanted (subst (λ (found : Option Wanted). IsNextPlace c.args.frames.now (Ok found) c.next_place.new.frames) c.in_default.is c.in_ok-place.ensures.next)
 
 pub returns-then-place-most-clause-stands : goal.returns-then-place-most-clause-stands
 returns-then-place-most-clause-stands g c store sections told on =
