@@ -3,7 +3,7 @@ use Rattle.std.proofs.Common.{◌≡◌, ℕ, Bool, true, List, [], ◌++◌, re
 use Rattle.std.specs.Prelude.{⊤}
 use Rattle.tg_fetch.proofs.Carriers.{IsCarrier, carrier}
 use Rattle.tg_fetch.specs.Laws.{CarriedIsAnswer}
-use Rattle.tg_heard.specs.Carried.{Carries, CarriesBehind, IsAnswerHead}
+use Rattle.tg_heard.specs.Carried.{CarriesBehind, IsAnswerHead}
 use Rattle.tg_heard.specs.Laws.{OneCarried}
 use Rattle.tg_http.specs.declared.reply.ReplyHead.{ReplyHead}
 use Rattle.tg_model.specs.Dag.{Dag, Section}
@@ -35,8 +35,9 @@ longer_carries IsHead q heard more ended sections none c = record {
 }
 
 -- behind whichever head
-any_head : (q : QueryParts) (heard : List ℕ) (ended : Bool) (sections : List Section) → Carries heard ended q sections → CarriesBehind (λ head. ⊤) heard ended q sections
-any_head q heard ended sections c = record {
+any_head : (IsHead : ReplyHead → Type 0) (q : QueryParts) (heard : List ℕ) (ended : Bool) (sections : List Section) → CarriesBehind IsHead heard ended q sections
+    → CarriesBehind (λ head. ⊤) heard ended q sections
+any_head IsHead q heard ended sections c = record {
   front = c.front;
   more = c.more;
   heard_is = c.heard_is;
@@ -50,16 +51,16 @@ any_head q heard ended sections c = record {
   carries = c.carries;
 }
 
-carrier_carries : (q : QueryParts) (limits : LimitNumbers) (bytes : List ℕ) (sections : List Section) → IsCarrier (IsAnswerHead q) q limits bytes sections
-    → CarriesBehind (λ head. ⊤) bytes true q sections
-carrier_carries q limits bytes sections n = record {
+pub carrier_carries : (IsHead : ReplyHead → Type 0) (q : QueryParts) (limits : LimitNumbers) (bytes : List ℕ) (sections : List Section) → IsCarrier IsHead q limits bytes sections
+    → CarriesBehind IsHead bytes true q sections
+carrier_carries IsHead q limits bytes sections n = record {
   front = n.text;
   more = n.tail;
   heard_is = n.whole;
   head = n.head;
   rest = n.rest;
   final = n.final;
-  is_head = tt;
+  is_head = n.is_head;
   body = n.body;
   body_is = n.body_is;
   closed = λ e. (refl, n.closed e);
@@ -68,7 +69,8 @@ carrier_carries q limits bytes sections n = record {
 
 pub carried_is_answer : OneCarried → AnswerLaws → FitOnce → CarriedIsAnswer
 carried_is_answer one answers once q limits d all answer heard more ended over sections text fits carries none a =
-    let same = one (heard ++ more) ended true q sections all (any_head q (heard ++ more) ended sections (longer_carries (IsAnswerHead q) q heard more ended sections none a.carries))
-    (carrier_carries q limits (heard ++ more) all (carrier q limits (heard ++ more) over all carries)) in
+    let bytes = heard ++ more in
+    let same = one bytes ended true q sections all (any_head (IsAnswerHead q) q bytes ended sections (longer_carries (IsAnswerHead q) q heard more ended sections none a.carries))
+    (any_head (IsAnswerHead q) q bytes true all (carrier_carries (IsAnswerHead q) q limits bytes all (carrier (IsAnswerHead q) q limits bytes over all carries))) in
     let fit = answers.through q limits all text (subst (λ (s : List Section). IsThrough q limits s text) same a.through) in
     (same, (once q all fit.s d text answer fit.fits fits).1)

@@ -170,4 +170,4 @@ module _ (heads : HeadLaws) (one_head : OneFinalHead) (pieces : BodyPieceLaws) (
 pub carried_is_taken : HeadLaws → OneFinalHead → BodyPieceLaws → CarLaws → AnswerLaws → VerifiedLaws → CarriedIsTaken
 carried_is_taken heads one_head pieces cars answers verified q limits d all answer heard unheard more ended over sections text fault fits within carries ends r =
     taken heads one_head pieces cars answers verified q limits d all answer fits within heard unheard more
-    (carrier q limits (heard ++ (unheard ++ more)) over all carries) ended over sections text fault ends r
+    (carrier (IsAnswerHead q) q limits (heard ++ (unheard ++ more)) over all carries) ended over sections text fault ends r

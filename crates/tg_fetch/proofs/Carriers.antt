@@ -6,11 +6,11 @@ use Rattle.tg_body.specs.Bodies.{BodyFront, BodyText}
 use Rattle.tg_body.specs.History.{EndsInside, HasFeedCause}
 use Rattle.tg_bytes.specs.Lists.{longer}
 use Rattle.tg_fetch.specs.Bodies.{BodyFails, BodyStops, IsOpenBody}
-use Rattle.tg_fetch.specs.Laws.{CarriesWithin}
+use Rattle.tg_fetch.specs.Laws.{CarriesWithinBy}
 use Rattle.tg_fetch.specs.Replies.{BreaksFraming, EndsInBody, HeadStops, IsOpenBefore, IsOpenReply, IsPastReceived, IsShortBehind, RefusedBy}
 use Rattle.tg_fetch.specs.declared.fault.FetchFault.{FetchFault}
 use Rattle.tg_fetch.specs.declared.fault.FetchFault.TheVariants as faults
-use Rattle.tg_heard.specs.Carried.{BodyCarries, CarriesBehind, IsAnswerHead}
+use Rattle.tg_heard.specs.Carried.{BodyCarries, CarriesBehind}
 use Rattle.tg_heard.specs.FinalHeads.{FinalHead}
 use Rattle.tg_heard.specs.FrontLaws.{BodyPieceLaws, HeadLaws}
 use Rattle.tg_heard.specs.Laws.{OneFinalHead}
@@ -59,10 +59,9 @@ module _ (IsHead : ReplyHead → Type 0) (q : QueryParts) (limits : LimitNumbers
     carries = c.carries;
   }
 
-pub carrier : (q : QueryParts) (limits : LimitNumbers) (bytes : List ℕ) (over : Bool) (all : List Section) → CarriesWithin q limits bytes over all
-    → IsCarrier (IsAnswerHead q) q limits bytes all
-carrier q limits bytes over all w =
-    carrier_behind (IsAnswerHead q) q limits bytes all w.front w.more w.ended w.whole w.few (λ e. (w.is_over e).1) w.carries
+pub carrier : (IsHead : ReplyHead → Type 0) (q : QueryParts) (limits : LimitNumbers) (bytes : List ℕ) (over : Bool) (all : List Section)
+    → CarriesWithinBy IsHead q limits bytes over all → IsCarrier IsHead q limits bytes all
+carrier IsHead q limits bytes over all w = carrier_behind IsHead q limits bytes all w.front w.more w.ended w.whole w.few (λ e. (w.is_over e).1) w.carries
 
 -- nothing and nothing
 pub none_both : (a b : List ℕ) → a ≡ [] → b ≡ [] → a ++ b ≡ []

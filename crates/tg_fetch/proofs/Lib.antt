@@ -1,4 +1,5 @@
 mod Accepted
+mod CarriedAbsences
 mod CarriedAnswer
 mod CarriedTaken
 mod Carriers

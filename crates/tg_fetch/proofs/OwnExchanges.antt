@@ -9,7 +9,7 @@ use Rattle.tg_fetch.proofs.Carriers.{carrier_behind, not_open}
 use Rattle.tg_fetch.proofs.Feeding.{at_open}
 use Rattle.tg_fetch.proofs.HearingOn.{refused_not}
 use Rattle.tg_fetch.specs.Clients.{IsAt, IsShortAt}
-use Rattle.tg_fetch.specs.Laws.{CarriedIsAnswer, CarriedIsTaken, CarriesWithin, IsOwnFault}
+use Rattle.tg_fetch.specs.Laws.{CarriedIsAnswer, CarriedIsTaken, CarriesWithin, CarriesWithinBy, IsOwnFault}
 use Rattle.tg_fetch.specs.Own.{AnswerIsFed, IsFed, IsOutOrMemory}
 use Rattle.tg_fetch.specs.Replies.{IsAnswered, RefusedBy}
 use Rattle.tg_fetch.specs.declared.client.Client.{Client}
@@ -163,6 +163,19 @@ pub none_behind : (bytes heard piece more : List ℕ) → bytes ≡ heard ++ (pi
 none_behind bytes heard piece more same none =
     same ∙ (ap (λ (l : List ℕ). heard ++ (piece ++ l)) none ∙ sym (append_assoc heard piece []))
 
+-- bytes that carry sections, whether or not the link ended
+pub all_within : (IsHead : ReplyHead → Type 0) (q : QueryParts) (limits : LimitNumbers) (bytes other : List ℕ) (sections : List Section) → length bytes ≤ limits.received
+    → CarriesBehind IsHead bytes false q sections → bytes ≡ other → CarriesWithinBy IsHead q limits other false sections
+all_within IsHead q limits bytes other sections few carries same = record {
+  front = bytes;
+  more = [];
+  whole = sym same ∙ sym (append-nil bytes);
+  few = few;
+  ended = false;
+  is_over = no_end;
+  carries = carries;
+}
+
 module _ (heads : HeadLaws) (one_head : OneFinalHead) (pieces : BodyPieceLaws) (standing : BodyStands) where
   -- where all of a reply came that carries sections the client doesn't stand open
   pub closed_there : (IsHead : ReplyHead → Type 0) (q : QueryParts) (limits : LimitNumbers) (all : List Section) (bytes : List ℕ) (stage : Stage) (heard written : List ℕ) → length bytes ≤ limits.received
@@ -173,17 +186,8 @@ module _ (heads : HeadLaws) (one_head : OneFinalHead) (pieces : BodyPieceLaws) (
       not_open heads one_head pieces IsHead q limits all heard [] [] n n.tail (sym (append-nil heard) ∙ n.whole) (no_close c.head.framing c.more c.closed) o.sections written o.is_open
 
   module _ (taken : CarriedIsTaken) (answered : CarriedIsAnswer) (q : QueryParts) (limits : LimitNumbers) (d : Dag) (bytes text : List ℕ) (own : IsOwnAnswer q limits d bytes text) where
-    -- bytes that carry the sections, whether or not the link ended
-    all_within : (other : List ℕ) → bytes ≡ other → CarriesWithin q limits other false (block_list q d)
-    all_within other same = record {
-      front = bytes;
-      more = [];
-      whole = sym same ∙ sym (append-nil bytes);
-      few = own.few;
-      ended = false;
-      is_over = λ e. absurd (cc e);
-      carries = own.carries;
-    }
+    own_within : (other : List ℕ) → bytes ≡ other → CarriesWithin q limits other false (block_list q d)
+    own_within other same = all_within (IsAnswerHead q) q limits bytes other (block_list q d) own.few own.carries same
 
     pub answer_fed : (client : Client) (heard piece more written : List ℕ) (out : Output) (result : Result Progress FetchFault) → client.query ≡ q → client.limits ≡ limits
         → bytes ≡ heard ++ (piece ++ more) → IsFed client heard piece written out result → AnswerIsFed text written more out result
@@ -198,13 +202,13 @@ module _ (heads : HeadLaws) (one_head : OneFinalHead) (pieces : BodyPieceLaws) (
         let a = fed.ends.0 in
         let is : IsAnswered q limits (heard ++ a.front) false a.sections (written ++ a.text) =
         subst₂ (λ (p : QueryParts) (l : LimitNumbers). IsAnswered p l (heard ++ a.front) false a.sections (written ++ a.text)) query limits_are a.answered in
-        let carries = all_within ((heard ++ a.front) ++ (a.more ++ more)) (behind_front bytes heard piece more a.front a.more same a.whole) in
+        let carries = own_within ((heard ++ a.front) ++ (a.more ++ more)) (behind_front bytes heard piece more a.front a.more same a.whole) in
         (a.text, a.put, (answered q limits own.s (block_list q d) text (heard ++ a.front) (a.more ++ more) false false a.sections (written ++ a.text) own.fits carries no_end is).1)
     answer_fed client heard piece more written out (Err fault) query limits_are same fed =
         let r = fed.ends in
         let is : RefusedBy q limits (heard ++ r.front) r.more false r.sections (written ++ r.text) fault =
         subst₂ (λ (p : QueryParts) (l : LimitNumbers). RefusedBy p l (heard ++ r.front) r.more false r.sections (written ++ r.text) fault) query limits_are r.refused in
-        let carries = all_within ((heard ++ r.front) ++ (r.more ++ more)) (behind_front bytes heard piece more r.front r.more same r.whole) in
+        let carries = own_within ((heard ++ r.front) ++ (r.more ++ more)) (behind_front bytes heard piece more r.front r.more same r.whole) in
         out_or_memory fault
         (taken q limits own.s (block_list q d) text (heard ++ r.front) r.more more false false r.sections (written ++ r.text) fault own.fits own.small carries no_end is)
         (λ peer. refused_not q limits fault peer (heard ++ r.front) r.more false r.sections (written ++ r.text) is)

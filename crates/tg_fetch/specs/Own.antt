@@ -3,6 +3,7 @@
 use Rattle.std.specs.Prelude.{Err, List, Ok, Result, Some, [], ⊤, ℕ, ◌++◌, ◌≡◌, ◌≢◌}
 use Rattle.tg_heard.specs.Exchanges.{IsHeld, IsWithin}
 use Rattle.tg_fetch.specs.Clients.{FeedEnds, IsShortAt}
+use Rattle.tg_fetch.specs.Laws.{IsMissOrMemory}
 use Rattle.tg_fetch.specs.declared.client.Client.{Client}
 use Rattle.tg_fetch.specs.declared.fault.FetchFault.{FetchFault}
 use Rattle.tg_fetch.specs.declared.fault.FetchFault.TheVariants as faults
@@ -19,7 +20,6 @@ use Rattle.tg_query.specs.Requests.{request_text}
 use Rattle.tg_reply.specs.Sent.{Sent, SentFor, SentInFull, failed_in, sent_bytes}
 use Rattle.tg_streams.specs.Streams.{Output, Put}
 use Rattle.tg_model_laws.specs.Tasks.{Miss, stop_of}
-use Rattle.tg_verify.specs.Laws.{IsMissOf}
 use Rattle.tg_verify.specs.declared.fault.Refusal.TheVariants as refusals
 use Rattle.tg_verify.specs.declared.verifier.Progress.{Progress}
 use Rattle.tg_verify.specs.declared.verifier.Progress.TheVariants as progresses
@@ -41,12 +41,6 @@ abbrev pub AnswerIsFed : List ℕ → List ℕ → List ℕ → Output → Resul
 AnswerIsFed text written more out (Ok progresses.More) = more ≢ []
 AnswerIsFed text written more out (Ok progresses.Done) = (put : List ℕ) × Put put out × (written ++ put ≡ text)
 AnswerIsFed text written more out (Err fault) = IsOutOrMemory fault
-
--- the refusal of a path at the segment that leads nowhere, or want of memory
-abbrev pub IsMissOrMemory : Miss → FetchFault → Type 0
-IsMissOrMemory miss (faults.Refused fault) = IsMissOf miss fault
-IsMissOrMemory miss faults.OutOfMemory = ⊤
-IsMissOrMemory miss other = ⊥
 
 -- the same where the path leads nowhere: it is refused at that segment, and never is the reply the answer
 abbrev pub NowhereIsFed : Miss → List ℕ → Result Progress FetchFault → Type 0

@@ -5,7 +5,7 @@ ghost use Rattle.tg_heard.specs.Exchanges.{HasOneBlockEach};
 ghost use Rattle.tg_fetch.specs.Calls.{FetchEnds, LinkCalled, LinkHeard};
 ghost use Rattle.tg_fetch.specs.Clients.{StandsFor};
 ghost use Rattle.tg_fetch.specs.Faults.{QuietUnlessSink};
-ghost use Rattle.tg_fetch.specs.Laws.{IsAcceptedElse, TellsCarried};
+ghost use Rattle.tg_fetch.specs.Laws.{IsAcceptedElse, IsNowhereElse, IsNowhereIn, IsOwnNowhere, TellsAbsence, TellsCarried};
 ghost use Rattle.tg_fetch.specs.Received.{SoundCall};
 ghost use Rattle.tg_links.specs.Steps.{link_step};
 ghost use Rattle.tg_model.specs.Answer.{answer};
@@ -13,8 +13,10 @@ ghost use Rattle.tg_model.specs.Dag.{Dag, Section, root_cid};
 ghost use Rattle.tg_model.specs.Fits.{Fits};
 ghost use Rattle.tg_model.specs.Sound.{IsSound};
 ghost use Rattle.tg_model.specs.Traversal.{block_list};
+ghost use Rattle.tg_model_laws.specs.Tasks.{Miss};
 ghost use Rattle.tg_query.specs.Requests.{IsAddr};
 ghost use Rattle.tg_streams.specs.Streams.{into};
+ghost use Rattle.tg_verify.specs.Absences.{path_query};
 ghost use Rattle.tg_verify.specs.Laws.{IsWithinLimits};
 
 use crate::client::Client;
@@ -68,10 +70,20 @@ pub fn fetch<D: Dial, S: Sink, W: Watch>(
         → IsWithinLimits query.now limits d
         → TellsCarried query.now limits (at_dial D.dial dial.old dial.new) (block_list query.now d)
         → IsAcceptedElse text (into S.sink out.old out.new) result }
+    // And one that carries the blocks of a path of which a segment leads nowhere is refused for that segment, with nothing
+    // put; and so is one that carries those of a sound DAG's own path.
+    ensures nowhere { (d : Dag) (miss : Miss) → IsNowhereIn query.now limits d miss
+        → TellsAbsence query.now limits (at_dial D.dial dial.old dial.new) (block_list (path_query query.now) d)
+        → IsNowhereElse miss (into S.sink out.old out.new) result }
+    ensures own_nowhere { (d : Dag) (miss : Miss) → IsOwnNowhere query.now limits d miss
+        → TellsAbsence query.now limits (at_dial D.dial dial.old dial.new) (block_list query.now d)
+        → IsNowhereElse miss (into S.sink out.old out.new) result }
 {
     tg_model_laws::own_sections();
     tg_model_laws::against_every_peer();
+    tg_model_laws::own_absences();
     laws::carried_replies();
+    laws::carried_absences();
     let end = dialled(alloc, query, limits, addr, dial, out, watch);
     watch.ended();
     end

@@ -1,5 +1,5 @@
 //! What follows from how a reply is heard.
-ghost use Rattle.tg_fetch.specs.Laws.{CarriedIsAnswer, CarriedIsTaken};
+ghost use Rattle.tg_fetch.specs.Laws.{AbsenceIsNoAnswer, AbsenceIsTold, CarriedIsAnswer, CarriedIsTaken};
 ghost use Rattle.tg_fetch.specs.Own.{OwnIsFed};
 ghost use Rattle.tg_streams.specs.Streams.{into};
 
@@ -22,6 +22,22 @@ pub fn carried_replies()
     tg_model_laws::verified_sections();
 }
 
+/// A reply that carries the blocks of a path of which a segment leads nowhere, and passes no limit, is refused in none of
+/// its fronts but for that segment, with nothing put, and for want of memory, however it is cut; and none is accepted.
+///
+/// RFC 9112, sections 2 to 8; CARv1 specification; Path Gateway specification.
+pub fn carried_absences()
+    ensures told { AbsenceIsTold }
+    ensures none { AbsenceIsNoAnswer }
+{
+    tg_heard::heard_is_one();
+    tg_heard::heads_go_on();
+    tg_heard::bodies_go_on();
+    tg_client::laws::bodies();
+    tg_client::laws::received_sections();
+    tg_model_laws::verified_sections();
+}
+
 /// What a gateway's session sends for a client's request, over a store that holds the blocks of a sound DAG and breaks
 /// off nowhere, handed to that client in any pieces, is accepted, and the DAG's answer is written, where the query is
 /// within the limits; and where its path leads nowhere it is refused for that segment, and nothing is written. A fault
@@ -33,15 +49,13 @@ pub fn own_exchanges<S: Sink>()
     ensures { (old new : S) → OwnIsFed (into S.sink old new) }
 {
     carried_replies();
+    carried_absences();
     tg_heard::own_sessions();
     tg_heard::heard_is_one();
     tg_heard::heads_go_on();
     tg_heard::bodies_go_on();
-    tg_client::laws::bodies();
     tg_client::laws::standing_bodies();
-    tg_client::laws::received_sections();
     tg_model_laws::own_sections();
     tg_model_laws::own_absences();
     tg_model_laws::against_every_peer();
-    tg_model_laws::verified_sections();
 }

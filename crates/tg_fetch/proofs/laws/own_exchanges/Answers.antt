@@ -11,8 +11,8 @@ returns g c old new store q d limits addr next rest sent held within printable f
       (own_answer c.own_sessions.ensures.carries c.own_sections.ensures c.against_every_peer.ensures.counted store q d limits addr next rest sent held within printable full unfailed text is)
       client heard piece more written out result query limits_are same fed,
   λ miss car end.
-      absence_fed c.heads_go_on.ensures c.heard_is_one.ensures.head c.heard_is_one.ensures.not_both c.bodies_go_on.ensures c.standing_bodies.ensures
-      c.bodies.ensures c.received_sections.ensures c.verified_sections.ensures q limits miss _
+      absence_fed c.heads_go_on.ensures c.heard_is_one.ensures.head c.bodies_go_on.ensures c.standing_bodies.ensures c.carried_absences.ensures.told
+      c.carried_absences.ensures.none q limits miss _
       (own_absence c.own_sessions.ensures.carries c.own_absences.ensures.nowhere c.own_absences.ensures.opened store q d limits addr next rest sent held within printable full unfailed
       miss car end) client heard piece more written out result query limits_are same fed,
 )
