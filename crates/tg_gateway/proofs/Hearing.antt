@@ -1,7 +1,8 @@
 -- A session that is fed a piece of what is heard over a link: it goes on, or its last reply closes, or it is broken off.
 use Rattle.std.proofs.Common.{◌≡◌, ℕ, ◌≤◌, Bool, Err, Option, true, false, List, [], ◌++◌, refl, sym, subst, ◌∙◌, ap, arith}
 use Rattle.tg_gateway.proofs.Looking.{LooksJoin, looks_both, looks_nothing}
-use Rattle.tg_gateway.proofs.Serving.{HasHeard, sent_both, served_closed, served_ended, served_front, served_untaken, served_up_to, stands_new, quiet_put, rose_put, rose_take, spoke_put, spoke_same, spoke_took, spoke_untaken}
+use Rattle.tg_gateway.proofs.Serving.{HasHeard, served_closed, served_ended, served_front, served_untaken, served_up_to, quiet_put, rose_put, rose_take, spoke_put, spoke_same, spoke_took, spoke_untaken}
+use Rattle.tg_gateway.proofs.Standing.{sent_both, stands_new}
 use Rattle.tg_gateway.specs.Links.{LinkEnds, ServedAll, ServedFront, ServedUpTo, served_of}
 use Rattle.tg_links.specs.Steps.{LinkQuiet, Spoke, link_step}
 use Rattle.tg_gateway.specs.Sessions.{FedOn, FeedEnds, SessionView, new_session, next_of}

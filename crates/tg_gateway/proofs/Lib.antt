@@ -3,4 +3,5 @@ mod Answering
 mod Looking
 mod Feeding
 mod Hearing
+mod Standing
 mod Serving

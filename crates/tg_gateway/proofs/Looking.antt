@@ -76,7 +76,7 @@ follow_append before at now (s ∷ below) next first second =
     (first.0, first.1, follow_append s.faults_now at now below next first.2 second)
 
 -- and counts behind these between which something else may use the store
-follow_between : (before at now : ℕ) (more next : List Sent) → CountsFollow before more at → CountsBetween at next now
+pub follow_between : (before at now : ℕ) (more next : List Sent) → CountsFollow before more at → CountsBetween at next now
     → CountsBetween before (more ++ next) now
 follow_between before at now [] next first second = subst (λ (n : ℕ). CountsBetween n next now) first second
 follow_between before at now (s ∷ below) next first second = (

@@ -3,3 +3,4 @@ pub mod Room
 pub mod Sessions
 pub mod Steps
 pub mod Links
+pub mod Laws

@@ -3,6 +3,7 @@
 
 mod fault;
 mod heads;
+pub mod laws;
 mod link;
 mod session;
 

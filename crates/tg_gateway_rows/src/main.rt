@@ -1,6 +1,6 @@
 //! The rows of `tg_gateway`: sessions that are fed streams of requests in pieces of any lengths, over stores that fail,
-//! sinks that fail and a limit on what may be received, and sessions over links in memory and over a socket; and of
-//! `tg_streams`, `tg_links`, `tg_doors` and `tg_dials` in memory, step by step.
+//! sinks that fail and a limit on what may be received, and sessions over links in memory and over a socket; of
+//! `tg_lanes`, step by step; and of `tg_streams`, `tg_links`, `tg_doors` and `tg_dials` in memory, step by step.
 #![tactic(auto)]
 
 mod breaks;
@@ -10,6 +10,7 @@ mod exchanges;
 mod feeding;
 mod fields;
 mod gathered;
+mod lanes;
 mod over_links;
 mod over_std;
 mod peers;
@@ -102,6 +103,7 @@ fn answer_named(judge: &mut Gateway, kind: &str, given: &[Bytes], answer: &mut A
     match kind {
         "block" => judge.store.keep(alloc, given, answer),
         "breaks" => breaks::answer(alloc, &mut judge.store, given, answer),
+        "lanes" => lanes::answer(alloc, &mut judge.store, given, answer),
         _ => {
             let stream = stream_of(alloc, given);
             if stream.is_bad {

@@ -1,0 +1,48 @@
+-- A lane that wasn't broken has written the replies to its own bytes.
+use Rattle.std.proofs.Common.{◌≡◌, ℕ, Option, Some, None, List, ◌⊎◌, take, inl, inr, refl, sym, ap, ◌∙◌}
+use Rattle.tg_gateway.specs.Laws.{SessionsStandInFull}
+use Rattle.tg_gateway.specs.declared.fault.GatewayFault.{GatewayFault}
+use Rattle.tg_gateway.specs.declared.fault.GatewayFault.TheVariants as faults
+use Rattle.tg_lanes.specs.History.{FailsBy, Fed, HasRisen, WritesBy, fed_in, own_of, written_in}
+use Rattle.tg_lanes.specs.Laws.{BreaksByItsOwn, IsUnbrokenBy, LaneWritesReplies, LanesAreApart}
+use Rattle.tg_model.specs.Stores.{Store}
+use Rattle.tg_reply.specs.SentLaws.{SentAsReplies}
+use Rattle.tg_reply.specs.Sessions.{SessionState}
+use Rattle.tg_reply.specs.Written.{replies_for}
+
+by_refused : SentAsReplies → SessionsStandInFull → (store : Store) (refused : Option GatewayFault) (session : SessionState) (now : ℕ) (own : List Fed)
+    → WritesBy refused session (Some store) now own → IsUnbrokenBy refused session
+    → written_in own ≡ replies_for store (take session.most (fed_in own))
+by_refused as_replies in_full store None session now own h none =
+    let all = in_full session (Some store) (fed_in own) h.sent h.first h.last h.stands in
+    h.written_is ∙ (as_replies store _ all.0 h.sent all.1 (sym h.stands.numbers.failed_are ∙ none)).1
+by_refused as_replies in_full store (Some (faults.Limit number)) session now own h none =
+    h.written_is
+    ∙ (as_replies store (take number (fed_in own)) h.up_to.rest h.sent h.up_to.sent_is (sym h.up_to.numbers.failed_are ∙ none)).1
+    ∙ ap (λ (n : ℕ). replies_for store (take n (fed_in own))) h.up_to.number_is
+by_refused as_replies in_full store (Some faults.LinkFault) session now own h none = absurd none
+by_refused as_replies in_full store (Some faults.OutOfMemory) session now own h none = absurd none
+
+pub lane_writes : SentAsReplies → SessionsStandInFull → LaneWritesReplies
+lane_writes as_replies in_full store session now own h unbroken =
+    by_refused as_replies in_full store session.refused session.state now own h.writes unbroken
+
+-- any other
+broken_by : (store : Store) (refused : Option GatewayFault) (session : SessionState) (now : ℕ) (own : List Fed) → WritesBy refused session (Some store) now own
+    → FailsBy refused (Some store) session own → IsUnbrokenBy refused session ⊎ (HasRisen own ⊎ (refused ≡ Some faults.OutOfMemory))
+broken_by store None session now own h (inl e) = inl e
+broken_by store None session now own h (inr r) = inr (inl r)
+broken_by store (Some (faults.Limit number)) session now own h (inl e) = inl e
+broken_by store (Some (faults.Limit number)) session now own h (inr r) = inr (inl r)
+broken_by store (Some faults.LinkFault) session now own h f = inr (inl h.1)
+broken_by store (Some faults.OutOfMemory) session now own h f = inr (inr refl)
+
+pub breaks_by : BreaksByItsOwn
+breaks_by store session now own h = broken_by store session.refused session.state now own h.writes h.fails
+
+pub lanes_apart : SentAsReplies → SessionsStandInFull → LanesAreApart
+lanes_apart as_replies in_full store one other now later moves others lane a b h k at beside most same ua ub =
+    lane_writes as_replies in_full store a now (own_of lane moves) (h lane a at) ua
+    ∙ ap (λ (n : ℕ). replies_for store (take n (fed_in (own_of lane moves)))) most
+    ∙ ap (λ (l : List ℕ). replies_for store (take b.state.most l)) same
+    ∙ sym (lane_writes as_replies in_full store b later (own_of lane others) (k lane b beside) ub)

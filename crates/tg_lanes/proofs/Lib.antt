@@ -1,0 +1,7 @@
+mod Caching
+mod Looking
+mod Standing
+mod Moves
+mod Feeding
+mod Apart
+mod Heard

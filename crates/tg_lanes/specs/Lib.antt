@@ -1,0 +1,6 @@
+pub mod Caches
+pub mod CacheLaws
+pub mod Lanes
+pub mod History
+pub mod Hearing
+pub mod Laws
