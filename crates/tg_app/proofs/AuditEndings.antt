@@ -14,7 +14,6 @@ use Rattle.tg_audit.specs.Audits.{AuditEnds, Audited}
 use Rattle.tg_audit.specs.declared.fault.AuditFault.{AuditFault}
 use Rattle.tg_audit.specs.declared.fault.AuditFault.TheVariants as faults
 use Rattle.tg_export.specs.declared.fault.ExportFault.TheVariants as exports
-use Rattle.tg_gateway.specs.declared.fault.GatewayFault.TheVariants as gateways
 use Rattle.tg_import.specs.declared.fault.ImportFault.{ImportFault}
 use Rattle.tg_import.specs.declared.fault.ImportFault.TheVariants as imports
 use Rattle.tg_store.specs.declared.fault.PackFault.{PackFault}
@@ -66,9 +65,7 @@ no_usage_for : (fault : AuditFault) → IsAuditRefusal fault refusals.Usage → 
 no_usage_for (faults.Import fault) h = import_refused_never 2 fault refusals.Usage (inl refl) h refl
 no_usage_for (faults.Pack fault) h = pack_refused_never 2 fault refusals.Usage (inl refl) h refl
 no_usage_for (faults.Client fault) h = no_fetch_refusal fault h
-no_usage_for (faults.Gateway (gateways.Limit number)) h = differs 2 7 refl (ap status_of h)
-no_usage_for (faults.Gateway gateways.LinkFault) h = differs 2 5 refl (ap status_of h)
-no_usage_for (faults.Gateway gateways.OutOfMemory) h = differs 2 8 refl (ap status_of h)
+no_usage_for (faults.Limit number) h = differs 2 7 refl (ap status_of h)
 no_usage_for (faults.Differs query) h = differs 2 3 refl (ap status_of h)
 no_usage_for faults.SinkFault h = differs 2 6 refl (ap status_of h)
 no_usage_for faults.OutOfMemory h = differs 2 8 refl (ap status_of h)
@@ -94,7 +91,7 @@ quiet_by seed files out (Err faults.SinkFault) end ne is h = absurd (ne (sink_is
 quiet_by seed files out (Err (faults.Import fault)) end ne is h = h.quiet
 quiet_by seed files out (Err (faults.Pack fault)) end ne is h = h.quiet
 quiet_by seed files out (Err (faults.Client fault)) end ne is h = h.quiet
-quiet_by seed files out (Err (faults.Gateway fault)) end ne is h = h.quiet
+quiet_by seed files out (Err (faults.Limit number)) end ne is h = h.quiet
 quiet_by seed files out (Err (faults.Differs query)) end ne is h = h.quiet
 quiet_by seed files out (Err faults.OutOfMemory) end ne is h = h.quiet
 
@@ -118,9 +115,7 @@ denied_by parts out (Err (faults.Client fault)) end e is h = record { fault = fa
 denied_by parts out (Err (faults.Differs query)) end e is h = record { fault = faults.Differs query; denial = tt; ends = h }
 denied_by parts out (Err (faults.Import fault)) end e (refusal, is, tells) h = absurd (import_refused_never 3 fault refusal (inr refl) tells (sym (ap exit_status is) ∙ e))
 denied_by parts out (Err (faults.Pack fault)) end e (refusal, is, tells) h = absurd (pack_refused_never 3 fault refusal (inr refl) tells (sym (ap exit_status is) ∙ e))
-denied_by parts out (Err (faults.Gateway (gateways.Limit number))) end e (refusal, is, tells) h = absurd (differs 7 3 refl (sym (ap exit_status is ∙ ap status_of tells) ∙ e))
-denied_by parts out (Err (faults.Gateway gateways.LinkFault)) end e (refusal, is, tells) h = absurd (differs 5 3 refl (sym (ap exit_status is ∙ ap status_of tells) ∙ e))
-denied_by parts out (Err (faults.Gateway gateways.OutOfMemory)) end e (refusal, is, tells) h = absurd (differs 8 3 refl (sym (ap exit_status is ∙ ap status_of tells) ∙ e))
+denied_by parts out (Err (faults.Limit number)) end e (refusal, is, tells) h = absurd (differs 7 3 refl (sym (ap exit_status is ∙ ap status_of tells) ∙ e))
 denied_by parts out (Err faults.SinkFault) end e is h = absurd (differs 6 3 refl (sym (sink_is_6 end is) ∙ e))
 denied_by parts out (Err faults.OutOfMemory) end e (refusal, is, tells) h = absurd (differs 8 3 refl (sym (ap exit_status is ∙ ap status_of tells) ∙ e))
 

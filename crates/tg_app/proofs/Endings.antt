@@ -8,9 +8,10 @@ use Rattle.tg_cid.specs.Names.{Names, IsDigestOf}
 use Rattle.tg_cid.specs.declared.cid.HashKind.{HashKind}
 use Rattle.tg_cid.specs.declared.cid.HashKind.TheVariants.{Sha256, Identity}
 use Rattle.tg_words.specs.CommandLine.{CommandLine}
+use Rattle.tg_words.specs.Help.{help_text, version_text}
 use Rattle.tg_words.specs.ImportLines.{ImportParts}
 use Rattle.tg_words.specs.declared.Command.{Command}
-use Rattle.tg_words.specs.declared.Command.TheVariants.{Audit, Check, Node, CidToHex, CidToText, Export, Fetch, Import, Serve, Verify}
+use Rattle.tg_words.specs.declared.Command.TheVariants.{Audit, Check, Node, CidToHex, CidToText, Export, Fetch, Help, Import, Serve, Verify, Version}
 use Rattle.tg_export.specs.Cars.{CarEnds}
 use Rattle.tg_export.specs.Packed.{ExportEnds, HasPackedCause, IsExportedElse}
 use Rattle.tg_export.specs.declared.fault.ExportFault.{ExportFault}
@@ -30,7 +31,7 @@ use Rattle.tg_walk.specs.declared.fault.ResolveFault.TheVariants as paths
 use Rattle.tg_walk.specs.declared.fault.WalkFault.TheVariants as walks
 use Rattle.tg_streams.specs.Streams.{Input, InputQuiet, Output, InputRose, OutputQuiet, OutputRose}
 use Rattle.tg_cid.specs.Limits.{max_block_len}
-use Rattle.tg_commands.specs.Lines.{status_of, exit_status}
+use Rattle.tg_commands.specs.Lines.{PutAll, status_of, exit_status}
 use Rattle.tg_commands.specs.Blocks.{OutputUntouched, PassedLimit, TookBlock}
 use Rattle.tg_commands.specs.Check.{Checked, CheckedOther, CheckEnds, CollisionPair, Agrees, CheckStatus}
 use Rattle.tg_commands.specs.Node.{Noded, NodedOther, NodeEnds, HasText, HasNoText, NodeStatus}
@@ -72,6 +73,8 @@ memory_ends words (Serve parts) objects uses line all =
     (all.files.folder, all.streams.untaken, inr (inr (record { same = all.files.pack; unput = all.streams.unput; same_door = all.door; end_is = refl })))
 memory_ends words (Fetch parts) objects uses line all = absurd uses
 memory_ends words (Audit parts) objects uses line all = (all.files, all.streams.untaken, unaudited parts objects.out all.streams.unput)
+memory_ends words (Help topic) objects uses line all = (all.files, all.streams.untaken, all.streams.unput)
+memory_ends words Version objects uses line all = (all.files, all.streams.untaken, all.streams.unput)
 
 -- a command that is handed no dial ends as itself where no memory is found for its words
 pub ends_of : (words : List (List ℕ)) (command : Command) (objects : Objects) (end : Option CommandFault) → UsesNoDial command → CommandLine words command
@@ -185,6 +188,8 @@ no_usage (Verify q) objects ends = no_verify_usage q objects.input objects.out e
 no_usage (Serve parts) objects ends = no_serve_usage parts objects.files.pack objects.files.same_pack objects.out objects.door ends.2
 no_usage (Fetch parts) objects ends = no_fetch_usage parts objects.dial.dialling objects.out ends.2
 no_usage (Audit parts) objects ends = no_audit_usage parts objects.out ends.2
+no_usage (Help topic) objects ends = absurd ends.2
+no_usage Version objects ends = absurd ends.2
 
 memory_isnt_2 : (end : Option CommandFault) → end ≡ Some OutOfMemory → exit_status end ≡ 2 → ⊥
 memory_isnt_2 end e two = let eight : exit_status (Some OutOfMemory) ≡ 2 = sym (ap exit_status e) ∙ two in cc
@@ -218,6 +223,8 @@ command_kept (Import parts) objects end uses ends = absurd uses
 command_kept (Serve parts) objects end uses ends = absurd uses
 command_kept (Fetch parts) objects end uses ends = ends.0
 command_kept (Audit parts) objects end uses ends = absurd uses
+command_kept (Help topic) objects end uses ends = ends.0
+command_kept Version objects end uses ends = ends.0
 
 pub kept_of : (words : List (List ℕ)) (command : Command) (objects : Objects) (end : Option CommandFault) → CommandLine words command → UsesNoFiles command
     → Ends words objects end → SameFiles objects.files
@@ -275,6 +282,8 @@ command_fault (Import parts) objects end uses e ends = absurd uses
 command_fault (Serve parts) objects end uses e ends = absurd uses
 command_fault (Fetch parts) objects end uses e ends = inr (fetch_fault parts objects.dial.dialling objects.out end e ends.2)
 command_fault (Audit parts) objects end uses e ends = absurd uses
+command_fault (Help topic) objects end uses e ends = inr (print_fault (λ text. text ≡ help_text topic) objects.out end e ends.2)
+command_fault Version objects end uses e ends = inr (print_fault (λ text. text ≡ version_text) objects.out end e ends.2)
 
 -- want of memory has status 8
 pub memory_isnt : (objects : Objects) (end : Option CommandFault) (n : ℕ) → nat_eq 8 n ≡ false → exit_status end ≡ n → NoMemoryEnds objects end → ⊥
@@ -316,6 +325,8 @@ command_passed (Verify q) objects end reads e ends = absurd reads
 command_passed (Serve parts) objects end reads e ends = absurd reads
 command_passed (Fetch parts) objects end reads e ends = absurd reads
 command_passed (Audit parts) objects end reads e ends = absurd reads
+command_passed (Help topic) objects end reads e ends = absurd reads
+command_passed Version objects end reads e ends = absurd reads
 
 pub passed_of : (words : List (List ℕ)) (command : Command) (objects : Objects) (end : Option CommandFault) → CommandLine words command → ReadsBlock command → exit_status end ≡ 7
     → Ends words objects end → PassedLimit objects.input × OutputUntouched objects.out
@@ -406,6 +417,8 @@ command_quiet (Verify q) objects end ne ends = verify_quiet q objects.input obje
 command_quiet (Serve parts) objects end ne ends = (ends.1.quiet, serve_quiet parts objects.files.pack objects.files.same_pack objects.out objects.door end ne ends.2)
 command_quiet (Fetch parts) objects end ne ends = (ends.1.quiet, fetch_quiet parts objects.dial.dialling objects.out end ne ends.2)
 command_quiet (Audit parts) objects end ne ends = (ends.1.quiet, audit_quiet parts objects.out end ne ends.2)
+command_quiet (Help topic) objects end ne ends = (ends.1.quiet, print_quiet (λ text. text ≡ help_text topic) objects.out end ne ends.2)
+command_quiet Version objects end ne ends = (ends.1.quiet, print_quiet (λ text. text ≡ version_text) objects.out end ne ends.2)
 
 pub quiet_of : (words : List (List ℕ)) (objects : Objects) (end : Option CommandFault) → exit_status end ≢ 6 → Ends words objects end
     → InputQuiet objects.input × OutputQuiet objects.out
@@ -649,3 +662,16 @@ node_answered_of cid bytes input out (Some refusal) told no_in no_out ends = abs
 pub printed_of : (IsLine : List ℕ → Type 0) (out : Output) (end : Option CommandFault) → exit_status end ≡ 0 → PrintEnds IsLine out end → PutsLine IsLine out
 printed_of IsLine out None e ends = ends
 printed_of IsLine out (Some refusal) e ends = absurd (not_zero refusal e)
+
+-- ---- `help` and `version`
+
+pub text_put_of : (text : List ℕ) (out : Output) (end : Option CommandFault) → exit_status end ≡ 0 → PrintEnds (λ line. line ≡ text) out end → PutAll text out
+text_put_of text out None e ends = subst (λ (line : List ℕ). PutAll line out) ends.line_is ends.put
+text_put_of text out (Some refusal) e ends = absurd (not_zero refusal e)
+
+pub text_answered_of : (text : List ℕ) (out : Output) (end : Option CommandFault) → (OutputRose out → ⊥) → PrintEnds (λ line. line ≡ text) out end
+    → (exit_status end ≡ 8) ⊎ (exit_status end ≡ 0)
+text_answered_of text out None no_out ends = inr refl
+text_answered_of text out (Some SinkFault) no_out ends = absurd (no_out ends.front.rose)
+text_answered_of text out (Some OutOfMemory) no_out ends = inl refl
+text_answered_of text out (Some refusal) no_out ends = absurd ends

@@ -4,7 +4,7 @@ use Rattle.std.specs.Prelude.{Result, ⊤, ◌^◌}
 use Rattle.tg_app.proofs.Statuses.{differs, not_zero}
 use Rattle.tg_app.proofs.VerifyEndings.{ended_none, has_status, refused_none, status_for, unput_of}
 use Rattle.tg_commands.specs.Blocks.{OutputUntouched}
-use Rattle.tg_app.specs.Fetches.{Fetched, FetchedStatus, FetchAnswers, IsFetchEnd, IsFetchRefusal, IsGoodReply, SaysFetchLine, VouchedFetch}
+use Rattle.tg_app.specs.Fetches.{Fetched, FetchedStatus, FetchAnswers, IsAbsentReply, IsFetchEnd, IsFetchRefusal, IsGoodReply, SaysFetchLine, VouchedFetch, miss_refusal}
 use Rattle.tg_commands.specs.Lines.{Says, exit_status, status_of}
 use Rattle.tg_commands.specs.Verify.{IsNoAnswer, ShowsSome}
 use Rattle.tg_commands.specs.declared.fault.CommandFault.{CommandFault}
@@ -17,7 +17,7 @@ use Rattle.tg_faults.specs.Faults.{Rose}
 use Rattle.tg_fetch.specs.Bodies.{BodyFails, BodyStops, SaysOf}
 use Rattle.tg_fetch.specs.Calls.{FetchEnds, HeardBy, LinkCalled}
 use Rattle.tg_fetch.specs.Faults.{QuietUnlessSink, fault_of_client, fault_of_refusal}
-use Rattle.tg_fetch.specs.Laws.{IsAcceptedElse}
+use Rattle.tg_fetch.specs.Laws.{IsAcceptedElse, IsNowhereElse}
 use Rattle.tg_fetch.specs.Received.{SaysOfCall}
 use Rattle.tg_fetch.specs.Replies.{RefusedBy}
 use Rattle.tg_fetch.specs.declared.fault.FetchFault.{FetchFault}
@@ -31,8 +31,9 @@ use Rattle.tg_model.specs.LimitNumbers.{LimitNumbers, standard}
 use Rattle.tg_model.specs.Queries.{QueryParts}
 use Rattle.tg_model.specs.Sound.{IsSound}
 use Rattle.tg_streams.specs.Streams.{Output, OutputQuiet, OutputRose, Put, Unput}
+use Rattle.tg_model_laws.specs.Tasks.{Miss, no_directory, no_entry}
 use Rattle.tg_model_laws.specs.Verified.{VerifiedMisses}
-use Rattle.tg_verify.specs.Laws.{AnswerIsFront}
+use Rattle.tg_verify.specs.Laws.{AnswerIsFront, IsMissOf}
 use Rattle.tg_verify.specs.Sound.{IsItsAnswer, IsItsFront}
 use Rattle.tg_verify.specs.declared.fault.Refusal.{Refusal}
 use Rattle.tg_verify.specs.declared.fault.Refusal.TheVariants as verifiers
@@ -284,6 +285,39 @@ own_8 parts dial out text (Err fault) end no_dial no_out is ends cause own = abs
 pub fetch_answered_of : (parts : FetchParts) (dial : Dialling) (out : Output) (end : Option CommandFault) (text : List ℕ) → IsGoodReply parts.query dial text
     → (DialRose dial → ⊥) → (OutputRose out → ⊥) → FetchAnswers parts dial out end → (exit_status end ≡ 8) ⊎ ((exit_status end ≡ 0) × Put text out)
 fetch_answered_of parts dial out end text good no_dial no_out h = own_8 parts dial out text h.result end no_dial no_out h.end_is h.ends h.cause (h.accepts text good)
+
+-- ---- a reply that shows that the path leads nowhere
+
+-- the line on err names the segment
+miss_told : (miss : Miss) (fault : Refusal) (refusal : CommandFault) → IsMissOf miss fault → IsFetchRefusal (faults.Refused fault) refusal → refusal ≡ miss_refusal miss
+miss_told (no_entry i) (verifiers.NotThere segment) refusal m (inl tells) = tells ∙ ap refusals.NotThere m
+miss_told (no_entry i) (verifiers.NotThere segment) refusal m (inr memory) = absurd memory.0
+miss_told (no_directory i) (verifiers.NotFolder segment) refusal m (inl tells) = tells ∙ ap refusals.NotFolder m
+miss_told (no_directory i) (verifiers.NotFolder segment) refusal m (inr memory) = absurd memory.0
+miss_told _ _ refusal m tells = absurd m
+
+-- a fault of the peer or want of memory is left
+absent_by : (parts : FetchParts) (dial : Dialling) (out : Output) (miss : Miss) (result : Result ⊤ FetchFault) (end : Option CommandFault) → (DialRose dial → ⊥)
+    → IsFetchEnd result end → FetchEnds parts.query standard parts.addr dial out result → IsNowhereElse miss out result
+    → (exit_status end ≡ 8) ⊎ (end ≡ Some (miss_refusal miss))
+absent_by parts dial out miss (Err (faults.Refused fault)) end no_dial (refusal, is, tells) ends told = inr (is ∙ ap Some (miss_told miss fault refusal told.0 tells))
+absent_by parts dial out miss (Err faults.PeerFault) end no_dial is ends told = absurd (no_dial (peer_rose parts.query standard parts.addr dial out ends))
+absent_by parts dial out miss (Err faults.OutOfMemory) end no_dial (refusal, is, tells) ends told = inl (ap exit_status is ∙ ap status_of tells)
+absent_by parts dial out miss (Err fault) end no_dial is ends told = absurd told
+absent_by parts dial out miss (Ok done) end no_dial is ends told = absurd told
+
+miss_9 : (miss : Miss) → status_of (miss_refusal miss) ≡ 9
+miss_9 (no_entry i) = refl
+miss_9 (no_directory i) = refl
+
+pub fetch_absent_of : (parts : FetchParts) (dial : Dialling) (out err : Output) (status : ℕ) (end : Option CommandFault) (miss : Miss) → IsAbsentReply parts.query dial miss
+    → (DialRose dial → ⊥) → status ≡ exit_status end → Says end err → FetchAnswers parts dial out end → (status ≡ 8) ⊎ ((status ≡ 9) × Says (Some (miss_refusal miss)) err)
+fetch_absent_of parts dial out err status end miss shown no_dial e line h =
+    by (absent_by parts dial out miss h.result end no_dial h.end_is h.ends (h.absent miss shown))
+  where
+    by : (exit_status end ≡ 8) ⊎ (end ≡ Some (miss_refusal miss)) → (status ≡ 8) ⊎ ((status ≡ 9) × Says (Some (miss_refusal miss)) err)
+    by (inl eight) = inl (e ∙ eight)
+    by (inr is) = inr (e ∙ (ap exit_status is ∙ miss_9 miss), subst (λ (o : Option CommandFault). Says o err) is line)
 
 -- ---- beside a sound DAG
 

@@ -1,9 +1,9 @@
 -- What a run says, from how its words end.
 use Rattle.std.proofs.Common.{Option, ap, inl, inr, refl, subst, sym, ◌∙◌, ◌≡◌, ◌⊎◌, ℕ}
 use Rattle.tg_app.proofs.AuditEndings.{audited_of, denied_of}
-use Rattle.tg_app.proofs.Endings.{agrees, answered_of, checked_of, did_of, ends_of, export_answered_of, export_nothing_of, exported_of, fault_of, import_answered_of, imported_of, kept_dial_of, kept_door_of, kept_of}
+use Rattle.tg_app.proofs.Endings.{agrees, answered_of, checked_of, did_of, ends_of, export_answered_of, export_nothing_of, exported_of, fault_of, import_answered_of, imported_of, kept_dial_of, kept_door_of, kept_of, text_answered_of, text_put_of}
 use Rattle.tg_app.proofs.Endings.{memory_isnt, memory_of, node_answered_of, node_other_of, noded_of, nowhere_of, other_of, passed_of, printed_of, quiet_of, refused_of, untouched_of, usage_of}
-use Rattle.tg_app.proofs.FetchEndings.{dialled_of, fetch_answered_of, fetch_nothing_of, fetch_other_of, fetch_rose_of, fetch_vouched_of, fetched_of}
+use Rattle.tg_app.proofs.FetchEndings.{dialled_of, fetch_absent_of, fetch_answered_of, fetch_nothing_of, fetch_other_of, fetch_rose_of, fetch_vouched_of, fetched_of}
 use Rattle.tg_app.proofs.OwnCars.{AttachAlike, own_car_of}
 use Rattle.tg_app.proofs.OwnAnswers.{AnswerTexts, own_answer_of}
 use Rattle.tg_app.proofs.OwnDone.{DoneLaws, has_answer}
@@ -14,7 +14,7 @@ use Rattle.tg_commands.specs.CidLines.{HexLine, TextLine}
 use Rattle.tg_app.specs.Commands.{CommandEnds, Ends, NoMemoryEnds, UsesNoDial}
 use Rattle.tg_commands.specs.Lines.{Says, exit_status}
 use Rattle.tg_commands.specs.Node.{NodeStatus}
-use Rattle.tg_app.specs.Runs.{Asks, AuditRun, CheckRun, CidHexRun, CidTextRun, ExportRun, FetchRun, ImportRun, NodeRun, Run, Runs, ServeRun, VerifyRun, WordsRun}
+use Rattle.tg_app.specs.Runs.{Asks, AuditRun, CheckRun, CidHexRun, CidTextRun, ExportRun, FetchRun, ImportRun, NodeRun, Run, Runs, ServeRun, TextRun, VerifyRun, WordsRun}
 use Rattle.tg_commands.specs.declared.fault.CommandFault.{CommandFault}
 use Rattle.tg_cid.specs.Cid.{CidParts}
 use Rattle.tg_model.specs.Queries.{QueryParts}
@@ -25,10 +25,12 @@ use Rattle.tg_verify.specs.Laws.{AnswerIsFront, ThroughFits}
 use Rattle.tg_words.specs.AuditLines.{AuditParts}
 use Rattle.tg_words.specs.ExportLines.{ExportParts}
 use Rattle.tg_words.specs.FetchLines.{FetchParts}
+use Rattle.tg_words.specs.Help.{help_text, version_text}
 use Rattle.tg_words.specs.ImportLines.{ImportParts}
 use Rattle.tg_words.specs.ServeLines.{ServeParts}
+use Rattle.tg_words.specs.declared.names.CommandName.{CommandName}
 use Rattle.tg_words.specs.declared.Command.{Command}
-use Rattle.tg_words.specs.declared.Command.TheVariants.{Audit, Check, CidToHex, CidToText, Export, Fetch, Import, Node, Serve, Verify}
+use Rattle.tg_words.specs.declared.Command.TheVariants.{Audit, Check, CidToHex, CidToText, Export, Fetch, Help, Import, Node, Serve, Verify, Version}
 
 -- how the words of a run end, its status and its line
 module _ (run : Run) (end : Option CommandFault) (through : ThroughFits) (front : AnswerIsFront) (misses : VerifiedMisses)
@@ -159,6 +161,7 @@ module _ (run : Run) (end : Option CommandFault) (through : ThroughFits) (front 
             dial_fault = λ five. absurd (memory_isnt run.objects end 5 refl (has five) memory);
             nothing = λ nine. absurd (memory_isnt run.objects end 9 refl (has nine) memory);
             answered = λ text good no_dial no_out. inl eight;
+            absent = λ miss shown no_dial. inl eight;
             vouched_answer = λ d sound root. inl (eight, memory.untouched);
           }
       by_did (inr did) =
@@ -173,6 +176,7 @@ module _ (run : Run) (end : Option CommandFault) (through : ThroughFits) (front 
             nothing = λ nine. fetch_nothing_of misses parts dial out end (has nine) did.2;
             answered = λ text good no_dial no_out. subst (λ (n : ℕ). (n ≡ 8) ⊎ ((n ≡ 0) × Put text out)) (sym status)
                 (fetch_answered_of parts dial out end text good no_dial no_out did.2);
+            absent = λ miss shown no_dial. fetch_absent_of parts dial out run.err run.status end miss shown no_dial status line did.2;
             vouched_answer = λ d sound root. inr (fetch_vouched_of front parts d dial out run.err run.status end sound root status line did.2);
           }
 
@@ -185,6 +189,28 @@ module _ (run : Run) (end : Option CommandFault) (through : ThroughFits) (front 
         input = did.1;
         audited = λ zero. audited_of parts run.objects.out end (has zero) did.2;
         denied = λ three. denied_of parts run.objects.out end (has three) did.2;
+      }
+
+  help_run : (topic : Option CommandName) → Asks run (Help topic) → TextRun (Help topic) (help_text topic) run
+  help_run topic asked =
+      let did = by (Help topic) tt asked in
+      record {
+        ends = (end, status, did, line);
+        put = λ zero. text_put_of (help_text topic) run.objects.out end (has zero) did.2;
+        files = did.0;
+        input = did.1;
+        answered = λ no_out. subst (λ (n : ℕ). (n ≡ 8) ⊎ (n ≡ 0)) (sym status) (text_answered_of (help_text topic) run.objects.out end no_out did.2);
+      }
+
+  version_run : Asks run Version → TextRun Version version_text run
+  version_run asked =
+      let did = by Version tt asked in
+      record {
+        ends = (end, status, did, line);
+        put = λ zero. text_put_of version_text run.objects.out end (has zero) did.2;
+        files = did.0;
+        input = did.1;
+        answered = λ no_out. subst (λ (n : ℕ). (n ≡ 8) ⊎ (n ≡ 0)) (sym status) (text_answered_of version_text run.objects.out end no_out did.2);
       }
 
   pub runs : Runs run
@@ -200,4 +226,6 @@ module _ (run : Run) (end : Option CommandFault) (through : ThroughFits) (front 
     serve = serve_run;
     fetch = fetch_run;
     audit = audit_run;
+    help = help_run;
+    version = version_run;
   }

@@ -14,15 +14,14 @@ use Rattle.tg_commands.specs.declared.fault.CommandFault.TheVariants as refusals
 use Rattle.tg_doors.specs.Doors.{DoorRose, Doorway}
 use Rattle.tg_faults.specs.Faults.{Rose}
 use Rattle.tg_files.specs.Packs.{PackRose, PackStep}
-use Rattle.tg_gateway.specs.declared.fault.GatewayFault.{GatewayFault}
-use Rattle.tg_gateway.specs.declared.fault.GatewayFault.TheVariants as links
 use Rattle.tg_http.specs.declared.request.RequestHead.{RequestHead}
 use Rattle.tg_model.specs.LimitNumbers.{standard}
 use Rattle.tg_model.specs.Stores.{Store}
 use Rattle.tg_model.specs.declared.limits.LimitKind.TheVariants as kinds
 use Rattle.tg_reply.specs.Sent.{CountsBetween, Sent, SentBy, SentFor, bad_head, before_head, behind_sections, count_if, exact, failed_in, is_broken, last, limit, next, no_more}
 use Rattle.tg_serve.specs.Packed.{AskedBy, PackServed}
-use Rattle.tg_serve.specs.Serving.{AreServed, LinkRun, SaidAll, SaidBy, SaidFront, is_limit, is_memory, is_positive}
+use Rattle.tg_serve.specs.Saying.{IsSaid, all_said, said_by}
+use Rattle.tg_serve.specs.Serving.{AreServed, LinkRun, SaidAll, SaidFront, is_limit, is_memory, is_positive}
 use Rattle.tg_serve.specs.declared.Happened.{Happened}
 use Rattle.tg_serve.specs.declared.packed.ServeFault.{ServeFault}
 use Rattle.tg_serve.specs.declared.packed.ServeFault.TheVariants as faults
@@ -124,14 +123,6 @@ serve_quiet parts step same_pack out door end ne (inr (inr unbegun)) = unbegun.u
 
 -- ---- status 0
 
--- of a link whose session ended Ok all was said
-said_by : (told : Option Store) (most : ℕ) (run : LinkRun) (end : Result ⊤ GatewayFault) → SaidBy told most run end → is_memory end ≡ false → run.failed ≡ false → is_limit end ≡ false
-    → SaidAll told run
-said_by told most run (Ok done) h no_memory unfailed no_limit = h
-said_by told most run (Err (links.Limit number)) h no_memory unfailed no_limit = cc
-said_by told most run (Err links.LinkFault) h no_memory unfailed no_limit = let failed = h.1 in cc
-said_by told most run (Err links.OutOfMemory) h no_memory unfailed no_limit = cc
-
 each_said : (told : Option Store) (most before : ℕ) (runs : List LinkRun) (now : ℕ) → AreServed told most before runs now
     → list_any (λ run. is_memory run.end) runs ≡ false → list_any (λ run. run.failed) runs ≡ false → list_any (λ run. is_limit run.end) runs ≡ false
     → All (SaidAll told) runs
@@ -140,7 +131,7 @@ each_said told most before (run ∷ runs) now served no_memory unfailed no_limit
     let memory = or_parts (is_memory run.end) (list_any (λ run. is_memory run.end) runs) no_memory in
     let failed = or_parts run.failed (list_any (λ run. run.failed) runs) unfailed in
     let passed = or_parts (is_limit run.end) (list_any (λ run. is_limit run.end) runs) no_limit in
-    let first = said_by told most run run.end served.0 memory.0 failed.0 passed.0 in
+    let first = all_said told most run run.end served.0 memory.0 failed.0 passed.0 in
     All-cons (SaidAll told) run runs first (each_said told most run.faults_now runs now served.3 memory.1 failed.1 passed.1)
 
 whole_by : (parts : ServeParts) (step : PackStep) (out : Output) (door : Entrance) (result : Result Happened ServeFault)
@@ -249,15 +240,12 @@ front_rose store run h some =
     rose_if run.served.store run.faults_before h.sent run.faults_now h.numbers.store_are
     (front_counted h.sent h.next (are_counted store run.heard (h.sent ++ h.next) h.rest h.sent_is)) h.counts some
 
-link_rose : (store : Store) (most : ℕ) (run : LinkRun) (end : Result ⊤ GatewayFault) → SaidBy (Some store) most run end → is_positive run.served.store ≡ true
-    → Rose run.faults_before run.faults_now
-link_rose store most run (Ok done) h some =
+link_rose : (store : Store) (most : ℕ) (run : LinkRun) → IsSaid (Some store) most run → is_positive run.served.store ≡ true → Rose run.faults_before run.faults_now
+link_rose store most run (IsSaid.all h) some =
     rose_if run.served.store run.faults_before h.sent run.faults_now h.numbers.store_are (are_counted store run.heard h.sent h.rest h.sent_is.sent_is) h.counts some
-link_rose store most run (Err (links.Limit number)) h some =
-    let said = h.1 in
-    rose_if run.served.store run.faults_before said.sent run.faults_now said.numbers.store_are (are_counted store (take number run.heard) said.sent said.rest said.sent_is.sent_is) said.counts some
-link_rose store most run (Err links.LinkFault) h some = front_rose store run h.0 some
-link_rose store most run (Err links.OutOfMemory) h some = front_rose store run h.0 some
+link_rose store most run (IsSaid.up_to h) some =
+    rose_if run.served.store run.faults_before h.sent run.faults_now h.numbers.store_are (are_counted store (take most run.heard) h.sent h.rest h.sent_is.sent_is) h.counts some
+link_rose store most run (IsSaid.front h) some = front_rose store run h some
 
 runs_rise : (told : Option Store) (most before : ℕ) (runs : List LinkRun) (now : ℕ) → AreServed told most before runs now → before ≤ now
 runs_rise told most before [] now h = h
@@ -276,7 +264,7 @@ runs_rose store most before (run ∷ runs) now h some =
     by : (is_positive run.served.store ≡ true) ⊎ (list_any (λ run. is_positive run.served.store) runs ≡ true)
         → (list_any (λ run. is_positive run.served.store) runs ≡ true → Rose run.faults_now now) → Rose before now
     by (inl here) rise =
-        wider before run.faults_before run.faults_now now h.1 (runs_rise (Some store) most run.faults_now runs now h.3) (link_rose store most run run.end h.0 here)
+        wider before run.faults_before run.faults_now now h.1 (runs_rise (Some store) most run.faults_now runs now h.3) (link_rose store most run (said_by (Some store) most run run.end h.0) here)
     by (inr there) rise =
         let up : before ≤ run.faults_now = omega (arith, h.1, h.2) in
         let same : now ≤ now = omega arith in

@@ -9,7 +9,6 @@ use Rattle.tg_audit.specs.Audits.{AuditEnds}
 use Rattle.tg_audit.specs.declared.fault.AuditFault.{AuditFault}
 use Rattle.tg_audit.specs.declared.fault.AuditFault.TheVariants as faults
 use Rattle.tg_export.specs.declared.fault.ExportFault.TheVariants as exports
-use Rattle.tg_gateway.specs.declared.fault.GatewayFault.TheVariants as gateways
 use Rattle.tg_model.specs.declared.limits.LimitKind.TheVariants as kinds
 use Rattle.tg_streams.specs.Streams.{Output}
 use Rattle.tg_words.specs.AuditLines.{AuditParts}
@@ -20,9 +19,7 @@ abbrev pub IsAuditRefusal : AuditFault → CommandFault → Type 0
 IsAuditRefusal (faults.Import fault) refusal = IsImportRefusal fault refusal
 IsAuditRefusal (faults.Pack fault) refusal = IsExportRefusal (exports.Pack fault) refusal
 IsAuditRefusal (faults.Client fault) refusal = IsFetchRefusal fault refusal
-IsAuditRefusal (faults.Gateway (gateways.Limit number)) refusal = refusal ≡ refusals.Limit kinds.Received number
-IsAuditRefusal (faults.Gateway gateways.LinkFault) refusal = refusal ≡ refusals.DoorFault
-IsAuditRefusal (faults.Gateway gateways.OutOfMemory) refusal = refusal ≡ refusals.OutOfMemory
+IsAuditRefusal (faults.Limit number) refusal = refusal ≡ refusals.Limit kinds.Received number
 IsAuditRefusal (faults.Differs query) refusal = refusal ≡ refusals.Differs query
 IsAuditRefusal faults.SinkFault refusal = refusal ≡ refusals.SinkFault
 IsAuditRefusal faults.OutOfMemory refusal = refusal ≡ refusals.OutOfMemory

@@ -1,10 +1,11 @@
 -- How words end: each command by its own relation.
 use Rattle.std.specs.Prelude.{◌≡◌, ℕ, ◌⊎◌, ⊤, List, Option, Some}
 use Rattle.tg_words.specs.CommandLine.{CommandLine}
+use Rattle.tg_words.specs.Help.{help_text, version_text}
 use Rattle.tg_words.specs.declared.Command.{Command}
-use Rattle.tg_words.specs.declared.Command.TheVariants.{Audit, Check, Node, CidToHex, CidToText, Export, Fetch, Import, Serve, Verify}
+use Rattle.tg_words.specs.declared.Command.TheVariants.{Audit, Check, Node, CidToHex, CidToText, Export, Fetch, Help, Import, Serve, Verify, Version}
 use Rattle.tg_streams.specs.Streams.{Output}
-use Rattle.tg_commands.specs.Lines.{exit_status, Says}
+use Rattle.tg_commands.specs.Lines.{Says, exit_status}
 use Rattle.tg_commands.specs.Blocks.{InputUntouched, Untouched}
 use Rattle.tg_app.specs.Audits.{AuditAnswers}
 use Rattle.tg_commands.specs.Check.{CheckEnds}
@@ -38,8 +39,12 @@ CommandEnds (Fetch parts) objects end =
 CommandEnds (Import parts) objects end =
     InputUntouched objects.input × ImportAnswers parts objects.files objects.out end
 CommandEnds (Audit parts) objects end = SameFiles objects.files × InputUntouched objects.input × AuditAnswers parts objects.out end
+CommandEnds (Help topic) objects end =
+    SameFiles objects.files × InputUntouched objects.input × PrintEnds (λ text. text ≡ help_text topic) objects.out end
+CommandEnds Version objects end =
+    SameFiles objects.files × InputUntouched objects.input × PrintEnds (λ text. text ≡ version_text) objects.out end
 
--- a command over blocks, which neither reads nor writes files, nor makes them in memory
+-- a command that neither reads nor writes files, nor makes them in memory
 abbrev pub UsesNoFiles : Command → Type 0
 UsesNoFiles (Check cid) = ⊤
 UsesNoFiles (Node cid) = ⊤
@@ -51,6 +56,8 @@ UsesNoFiles (Import parts) = ⊥
 UsesNoFiles (Serve parts) = ⊥
 UsesNoFiles (Fetch parts) = ⊤
 UsesNoFiles (Audit parts) = ⊥
+UsesNoFiles (Help topic) = ⊤
+UsesNoFiles Version = ⊤
 
 -- a command that is handed no door, and leaves it as it was
 abbrev pub UsesNoDoor : Command → Type 0
@@ -64,6 +71,8 @@ UsesNoDoor (Export parts) = ⊤
 UsesNoDoor (Import parts) = ⊤
 UsesNoDoor (Fetch parts) = ⊤
 UsesNoDoor (Audit parts) = ⊤
+UsesNoDoor (Help topic) = ⊤
+UsesNoDoor Version = ⊤
 
 -- a command that is handed no dial, and leaves it as it was
 abbrev pub UsesNoDial : Command → Type 0
@@ -77,6 +86,8 @@ UsesNoDial (Export parts) = ⊤
 UsesNoDial (Import parts) = ⊤
 UsesNoDial (Serve parts) = ⊤
 UsesNoDial (Audit parts) = ⊤
+UsesNoDial (Help topic) = ⊤
+UsesNoDial Version = ⊤
 
 -- a command that reads a block from its input
 abbrev pub ReadsBlock : Command → Type 0

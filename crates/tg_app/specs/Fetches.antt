@@ -10,7 +10,7 @@ use Rattle.tg_heard.specs.Exchanges.{HasOneBlockEach}
 use Rattle.tg_fetch.specs.Bodies.{SaysOf}
 use Rattle.tg_fetch.specs.Calls.{FetchEnds}
 use Rattle.tg_fetch.specs.Faults.{QuietUnlessSink}
-use Rattle.tg_fetch.specs.Laws.{IsAcceptedElse, TellsCarried}
+use Rattle.tg_fetch.specs.Laws.{IsAcceptedElse, IsNowhereElse, IsNowhereIn, IsOwnNowhere, TellsAbsence, TellsCarried}
 use Rattle.tg_fetch.specs.Received.{AreReceived, HeardIn, SoundCall}
 use Rattle.tg_fetch.specs.declared.fault.FetchFault.{FetchFault}
 use Rattle.tg_fetch.specs.declared.fault.FetchFault.TheVariants as faults
@@ -21,7 +21,9 @@ use Rattle.tg_model.specs.LimitNumbers.{standard}
 use Rattle.tg_model.specs.Queries.{QueryParts}
 use Rattle.tg_model.specs.Sound.{IsSound}
 use Rattle.tg_model.specs.Traversal.{block_list}
+use Rattle.tg_model_laws.specs.Tasks.{Miss, no_directory, no_entry}
 use Rattle.tg_streams.specs.Streams.{Output, OutputQuiet, Put}
+use Rattle.tg_verify.specs.Absences.{path_query}
 use Rattle.tg_verify.specs.Laws.{IsWithinLimits}
 use Rattle.tg_verify.specs.Sound.{IsItsAnswer, IsItsFront}
 use Rattle.tg_words.specs.FetchLines.{FetchParts}
@@ -64,9 +66,30 @@ pub record IsFittingReply (q : QueryParts) (dial : Dialling) (text : List ℕ) :
 abbrev pub IsGoodReply : QueryParts → Dialling → List ℕ → Type 0
 IsGoodReply q dial text = IsOwnReply q dial text ⊎ IsFittingReply q dial text
 
+-- what was heard carries the blocks of a sound DAG's own path, of which this segment leads nowhere, no two different blocks of
+-- it under one CID; or the blocks of such a path of a DAG that is opened for it alone; none of the limits passed
+pub record IsOwnAbsence (q : QueryParts) (dial : Dialling) (miss : Miss) : Type 0 where
+  pub d : Dag
+  pub nowhere : IsOwnNowhere q standard d miss
+  pub tells : TellsAbsence q standard dial (block_list q d)
+
+pub record IsShownAbsence (q : QueryParts) (dial : Dialling) (miss : Miss) : Type 0 where
+  pub d : Dag
+  pub nowhere : IsNowhereIn q standard d miss
+  pub tells : TellsAbsence q standard dial (block_list (path_query q) d)
+
+abbrev pub IsAbsentReply : QueryParts → Dialling → Miss → Type 0
+IsAbsentReply q dial miss = IsOwnAbsence q dial miss ⊎ IsShownAbsence q dial miss
+
+-- the refusal of a path at a segment that leads nowhere
+abbrev pub miss_refusal : Miss → CommandFault
+miss_refusal (no_entry segment) = refusals.NotThere segment
+miss_refusal (no_directory segment) = refusals.NotFolder segment
+
 -- ---- how it ends
 
--- one call, how it ended, and that a good reply is accepted but for counted faults and want of memory
+-- one call, how it ended, and that a good reply is accepted, and one that shows an absence refused for it, but for counted
+-- faults and want of memory
 pub record FetchAnswers (parts : FetchParts) (dial : Dialling) (out : Output) (end : Option CommandFault) : Type 0 where
   pub result : Result ⊤ FetchFault
   pub end_is : IsFetchEnd result end
@@ -74,6 +97,7 @@ pub record FetchAnswers (parts : FetchParts) (dial : Dialling) (out : Output) (e
   pub cause : QuietUnlessSink out result
   pub sound : SoundCall parts.query standard dial out result
   pub accepts : (text : List ℕ) → IsGoodReply parts.query dial text → IsAcceptedElse text out result
+  pub absent : (miss : Miss) → IsAbsentReply parts.query dial miss → IsNowhereElse miss out result
 
 -- ---- what the statuses say
 

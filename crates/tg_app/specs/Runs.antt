@@ -1,5 +1,5 @@
 -- What `run` says of one run: how the words end, and for each command what each exit status says.
-use Rattle.std.specs.Prelude.{IsSome, List, Some, ℕ, ◌≡◌, ◌≢◌, ◌≤◌, ◌⊎◌}
+use Rattle.std.specs.Prelude.{IsSome, List, Option, Some, ℕ, ◌≡◌, ◌≢◌, ◌≤◌, ◌⊎◌}
 use Rattle.tg_app.specs.Audits.{AuditDenied}
 use Rattle.tg_commands.specs.Blocks.{InputUntouched, OutputUntouched, PassedLimit}
 use Rattle.tg_commands.specs.Check.{Agrees, CheckEnds, CheckStatus, Checked, CheckedOther}
@@ -8,9 +8,9 @@ use Rattle.tg_app.specs.Commands.{AllUntouched, Answers, CommandEnds, Ends, IsNo
 use Rattle.tg_app.specs.Commands.{UsesNoFiles}
 use Rattle.tg_app.specs.Commands.{WantsMemory}
 use Rattle.tg_commands.specs.Exports.{Exported, ExportedNothing, HasAnswer, HoldsDag, IsRisen}
-use Rattle.tg_app.specs.Fetches.{Fetched, FetchedStatus, IsGoodReply, VouchedFetch}
+use Rattle.tg_app.specs.Fetches.{Fetched, FetchedStatus, IsAbsentReply, IsGoodReply, VouchedFetch, miss_refusal}
 use Rattle.tg_commands.specs.Imports.{Imported, IsGoodFolder, options_of}
-use Rattle.tg_commands.specs.Lines.{Says}
+use Rattle.tg_commands.specs.Lines.{PutAll, Says}
 use Rattle.tg_commands.specs.Node.{NodeEnds, NodeStatus, Noded, NodedOther}
 use Rattle.tg_commands.specs.Files.{SameFiles}
 use Rattle.tg_app.specs.Objects.{Objects}
@@ -30,6 +30,7 @@ use Rattle.tg_model.specs.Dag.{Dag, root_cid}
 use Rattle.tg_model.specs.LimitNumbers.{standard}
 use Rattle.tg_model.specs.Queries.{QueryParts}
 use Rattle.tg_model.specs.Sound.{IsSound}
+use Rattle.tg_model_laws.specs.Tasks.{Miss}
 use Rattle.tg_streams.specs.Streams.{InputQuiet, InputRose, Output, OutputQuiet, OutputRose, Put}
 use Rattle.tg_verify.specs.Laws.{IsWithinLimits}
 use Rattle.tg_walk.specs.Walks.{max_depth}
@@ -37,10 +38,12 @@ use Rattle.tg_words.specs.AuditLines.{AuditParts}
 use Rattle.tg_words.specs.CommandLine.{CommandLine}
 use Rattle.tg_words.specs.ExportLines.{ExportParts}
 use Rattle.tg_words.specs.FetchLines.{FetchParts}
+use Rattle.tg_words.specs.Help.{help_text, version_text}
 use Rattle.tg_words.specs.ImportLines.{ImportParts}
 use Rattle.tg_words.specs.ServeLines.{ServeParts}
+use Rattle.tg_words.specs.declared.names.CommandName.{CommandName}
 use Rattle.tg_words.specs.declared.Command.{Command}
-use Rattle.tg_words.specs.declared.Command.TheVariants.{Audit, Check, CidToHex, CidToText, Export, Fetch, Import, Node, Serve, Verify}
+use Rattle.tg_words.specs.declared.Command.TheVariants.{Audit, Check, CidToHex, CidToText, Export, Fetch, Help, Import, Node, Serve, Verify, Version}
 
 -- a run: the words behind the program's name, what became of the objects and of err, and the exit status
 pub record Run : Type 1 where
@@ -71,13 +74,13 @@ pub record WordsRun (run : Run) : Type 0 where
   pub untouched : run.status ≡ 2 → AllUntouched run.objects
   -- at 8 memory was wanted, and the command says what it had done by then
   pub memory : run.status ≡ 8 → WantsMemory run.words run.objects
-  -- a command over blocks leaves the folder and the pack as they were
+  -- a command that uses no files leaves the folder and the pack as they were
   pub kept : (command : Command) → Asks run command → UsesNoFiles command → SameFiles run.objects.files
   -- and no command but `serve` touches the door
   pub kept_door : (command : Command) → Asks run command → UsesNoDoor command → run.objects.door.same_door
   -- nor any but `fetch` the dial
   pub kept_dial : (command : Command) → Asks run command → UsesNoDial command → run.objects.dial.same_dial
-  -- status 6 of a command over blocks comes where a fault of the input or of out was counted; at every other status of
+  -- status 6 of a command that uses no files comes where a fault of the input or of out was counted; at every other status of
   -- any command none was
   pub fault : (command : Command) → Asks run command → UsesNoFiles command → run.status ≡ 6
       → InputRose run.objects.input ⊎ OutputRose run.objects.out
@@ -198,6 +201,10 @@ pub record FetchRun (parts : FetchParts) (run : Run) : Type 0 where
   -- counted and memory is found, and out grows by their text
   pub answered : (text : List ℕ) → IsGoodReply parts.query run.objects.dial.dialling text → (DialRose run.objects.dial.dialling → ⊥)
       → (OutputRose run.objects.out → ⊥) → (run.status ≡ 8) ⊎ ((run.status ≡ 0) × Put text run.objects.out)
+  -- a reply that shows that a segment of the path leads nowhere ends with 9 and the line that names that segment, where no fault
+  -- of the dial is counted and memory is found
+  pub absent : (miss : Miss) → IsAbsentReply parts.query run.objects.dial.dialling miss → (DialRose run.objects.dial.dialling → ⊥)
+      → (run.status ≡ 8) ⊎ ((run.status ≡ 9) × Says (Some (miss_refusal miss)) run.err)
   -- for every sound DAG with the query's root, whatever is heard, however it is cut: at 0 out grew by the DAG's answer, and else
   -- by a front of it, and what the line on err says of the DAG holds; or a received block and one of the DAG are different
   -- bytes with one SHA-256; but where no memory was found for the words, and nothing was done
@@ -215,6 +222,15 @@ pub record AuditRun (parts : AuditParts) (run : Run) : Type 0 where
   -- at 3 an answer was refused, or was another one, and nothing was put
   pub denied : run.status ≡ 3 → AuditDenied parts run.objects.out
 
+-- `help` and `version`: out grows by the text, and nothing else changes; and they are done, where out counts no fault and memory
+-- is found
+pub record TextRun (command : Command) (text : List ℕ) (run : Run) : Type 0 where
+  pub ends : EndsAs command run
+  pub put : run.status ≡ 0 → PutAll text run.objects.out
+  pub files : SameFiles run.objects.files
+  pub input : InputUntouched run.objects.input
+  pub answered : (OutputRose run.objects.out → ⊥) → (run.status ≡ 8) ⊎ (run.status ≡ 0)
+
 -- what a run says, by the command that its words spell
 pub record Runs (run : Run) : Type 0 where
   pub words : WordsRun run
@@ -228,6 +244,8 @@ pub record Runs (run : Run) : Type 0 where
   pub serve : (parts : ServeParts) → Asks run (Serve parts) → ServeRun parts run
   pub fetch : (parts : FetchParts) → Asks run (Fetch parts) → FetchRun parts run
   pub audit : (parts : AuditParts) → Asks run (Audit parts) → AuditRun parts run
+  pub help : (topic : Option CommandName) → Asks run (Help topic) → TextRun (Help topic) (help_text topic) run
+  pub version : Asks run Version → TextRun Version version_text run
 
 -- ---- the program
 
@@ -235,8 +253,3 @@ pub record Runs (run : Run) : Type 0 where
 pub record IsUnrun (objects : Objects) (err : Output) (status : ℕ) : Type 0 where
   pub untouched : AllUntouched objects
   pub why : ((status ≡ 6) × Says (Some FolderFault) err) ⊎ ((status ≡ 8) × Says (Some OutOfMemory) err)
-
--- these words were run over these objects, or nothing was done
-abbrev pub Answered : List (List ℕ) → Objects → Output → ℕ → Type 0
-Answered words objects err status =
-    Runs (record { words = words; objects = objects; err = err; status = status }) ⊎ IsUnrun objects err status

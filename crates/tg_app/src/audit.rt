@@ -10,7 +10,6 @@ use tg_audit::{AuditFault, audit};
 use tg_commands::CommandFault;
 use tg_commands::export::refusal_of_pack;
 use tg_commands::import::refusal_of_import;
-use tg_gateway::GatewayFault;
 use tg_model::LimitKind;
 use tg_streams::Sink;
 use tg_words::Audit;
@@ -35,23 +34,12 @@ fn refusal_of_audit(alloc: Global, fault: AuditFault) -> CommandFault
         AuditFault::Import(fault) => refusal_of_import(alloc, fault),
         AuditFault::Pack(fault) => refusal_of_pack(fault),
         AuditFault::Client(fault) => refusal_of_fetch(alloc, fault),
-        AuditFault::Gateway(fault) => refusal_of_gateway(fault),
-        AuditFault::Differs { query } => CommandFault::Differs { query },
-        AuditFault::SinkFault => CommandFault::SinkFault,
-        AuditFault::OutOfMemory => CommandFault::OutOfMemory,
-    }
-}
-
-/// The refusal for a session that refuses a request.
-fn refusal_of_gateway(fault: GatewayFault) -> CommandFault
-    ensures { IsAuditRefusal (AuditFault.Gateway fault) result }
-{
-    match fault {
-        GatewayFault::Limit { number } => CommandFault::Limit {
+        AuditFault::Limit { number } => CommandFault::Limit {
             kind: LimitKind::Received,
             number,
         },
-        GatewayFault::LinkFault => CommandFault::DoorFault,
-        GatewayFault::OutOfMemory => CommandFault::OutOfMemory,
+        AuditFault::Differs { query } => CommandFault::Differs { query },
+        AuditFault::SinkFault => CommandFault::SinkFault,
+        AuditFault::OutOfMemory => CommandFault::OutOfMemory,
     }
 }

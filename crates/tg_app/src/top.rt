@@ -15,6 +15,7 @@ use tg_commands::CommandFault;
 use tg_commands::check::check;
 use tg_commands::cid::{cid_to_hex, cid_to_text};
 use tg_commands::export::export;
+use tg_commands::help::{help, version};
 use tg_commands::import::import;
 use tg_commands::node::node;
 use tg_commands::verify::verify;
@@ -114,6 +115,8 @@ fn command<F: Folder, P: Pack, L: Door, D: Dial, I: Source, O: Sink, W: Watch>(
         Command::Serve(asked) => serve(alloc, &asked, pack, door, out),
         Command::Fetch(asked) => fetch_answer(alloc, &asked, dial, out, watch),
         Command::Audit(asked) => audit_build(alloc, &asked, out),
+        Command::Help(topic) => help(alloc, topic, out),
+        Command::Version => version(out),
     }
 }
 

@@ -6,6 +6,7 @@ pub mod check;
 pub mod cid;
 pub mod export;
 mod fault;
+pub mod help;
 pub mod import;
 pub mod node;
 pub mod verify;

@@ -7,6 +7,7 @@ mod bodies;
 mod commands;
 mod faults;
 mod heads;
+mod helps;
 mod listings;
 mod nodes;
 mod operands;
@@ -49,6 +50,7 @@ fn answer_query(alloc: Global, kind: &str, given: &[Bytes], answer: &mut Answer)
     match kind {
         "words" => commands::answer(alloc, given, answer),
         "operands" => operands::answer(alloc, given, answer),
+        "options" => helps::answer(alloc, given, answer),
         "word" => words::answer_word(alloc, given, answer),
         "span" => words::answer_span(given, answer),
         "wrap" => faults::answer_wrap(given, answer),

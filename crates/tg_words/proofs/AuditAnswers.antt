@@ -3,7 +3,7 @@ use Rattle.std.proofs.Common.{◌≡◌, ℕ, List, [], ◌∷◌, codes, refl, 
 use Rattle.std.specs.Prelude.{⊤}
 use Rattle.tg_words.specs.Words.{Given, WordsSpelling}
 use Rattle.tg_words.specs.AuditLines.{AuditParts, audit_names}
-use Rattle.tg_words.specs.CommandLine.{CommandLine}
+use Rattle.tg_words.specs.CommandLine.{OperandLine}
 use Rattle.tg_words.specs.Operands.{AuditGiven, value_at}
 use Rattle.tg_words.specs.declared.Command.TheVariants.{Audit}
 use Rattle.tg_words.proofs.Options.{have_values}
@@ -26,7 +26,7 @@ one_audit none options a b p q =
 
 -- a line by its operands, and the operands of a line
 pub audit_by : (rest : List (List ℕ)) (none : ⊤) (options : List Given) (parts : AuditParts) → WordsSpelling audit_names rest [] options → AuditGiven options parts
-    → CommandLine (codes "audit" ∷ rest) (Audit parts)
+    → OperandLine (codes "audit" ∷ rest) (Audit parts)
 audit_by rest none options parts operands is =
     let have = have_values audit_names.valued rest [] options operands in
     record {
@@ -36,7 +36,7 @@ audit_by rest none options parts operands is =
       files = required_by options (codes "files") 1 20000 parts.files have is.files;
     }
 
-pub audit_line : (rest : List (List ℕ)) (parts : AuditParts) → CommandLine (codes "audit" ∷ rest) (Audit parts) → IsOf audit_form rest (Audit parts)
+pub audit_line : (rest : List (List ℕ)) (parts : AuditParts) → OperandLine (codes "audit" ∷ rest) (Audit parts) → IsOf audit_form rest (Audit parts)
 audit_line rest parts line =
     let operands = the_line (codes "audit") audit_names rest [] line.options line.line in
     record {

@@ -2,7 +2,7 @@
 use Rattle.std.proofs.Common.{◌≡◌, ℕ, List, [], ◌∷◌, codes, Ok, refl, sym, ◌∙◌, subst}
 use Rattle.tg_model.specs.Queries.{QueryParts}
 use Rattle.tg_words.specs.Words.{Given, WordsSpelling}
-use Rattle.tg_words.specs.CommandLine.{CommandLine}
+use Rattle.tg_words.specs.CommandLine.{OperandLine}
 use Rattle.tg_words.specs.ExportLines.{ExportParts}
 use Rattle.tg_words.specs.Operands.{Exact, ExportGiven, QueryBy}
 use Rattle.tg_words.specs.QueryWords.{query_names}
@@ -33,7 +33,7 @@ one_export one pair options a b p q = same_export a b (p.pack_is ∙ sym q.pack_
 
 -- a line by its operands, and the operands of a line
 pub export_by : (rest : List (List ℕ)) (pair : List ℕ × List ℕ) (options : List Given) (parts : ExportParts) → WordsSpelling query_names rest (two_words.texts pair) options
-    → ExportGiven pair.0 pair.1 options parts → CommandLine (codes "export" ∷ rest) (Export parts)
+    → ExportGiven pair.0 pair.1 options parts → OperandLine (codes "export" ∷ rest) (Export parts)
 export_by rest pair options parts operands is = record {
   target = pair.1;
   options = options;
@@ -46,7 +46,7 @@ export_by rest pair options parts operands is = record {
   asked = asked_by pair.1 options parts.query (have_values query_names.valued rest (two_words.texts pair) options operands) is.query;
 }
 
-pub export_line : (rest : List (List ℕ)) (parts : ExportParts) → CommandLine (codes "export" ∷ rest) (Export parts) → IsOf export_form rest (Export parts)
+pub export_line : (rest : List (List ℕ)) (parts : ExportParts) → OperandLine (codes "export" ∷ rest) (Export parts) → IsOf export_form rest (Export parts)
 export_line rest parts line =
     let operands = the_line (codes "export") query_names rest (parts.pack ∷ line.target ∷ []) line.options line.line in
     record {

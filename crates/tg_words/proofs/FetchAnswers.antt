@@ -15,7 +15,7 @@ use Rattle.tg_query.specs.declared.fault.QueryFault.{QueryFault}
 use Rattle.tg_query.specs.declared.fault.QueryFault.TheVariants as queries
 use Rattle.tg_query.specs.Requests.{IsAddr}
 use Rattle.tg_words.specs.Words.{Given, StandOnce, WordsSpelling}
-use Rattle.tg_words.specs.CommandLine.{CommandLine}
+use Rattle.tg_words.specs.CommandLine.{OperandLine}
 use Rattle.tg_words.specs.FetchLines.{FetchAsked, FetchParts, fetch_names}
 use Rattle.tg_words.specs.Operands.{Exact, FetchAskedBy, FetchBy, FetchGiven, QueryBy, RawGiven, fault_of_query, given, givens, is_raw}
 use Rattle.tg_words.specs.declared.Command.TheVariants.{Fetch}
@@ -23,7 +23,7 @@ use Rattle.tg_words.specs.declared.WordsFault.{WordsFault}
 use Rattle.tg_words.specs.declared.WordsFault.TheVariants.{Usage}
 use Rattle.tg_words.specs.declared.operands.GivenOption.{GivenOption}
 use Rattle.tg_words.proofs.Known.{AreKnown, known}
-use Rattle.tg_words.proofs.Names.{among_passes, at_first, first_or_later, later_too}
+use Rattle.tg_words.proofs.Naming.{among_passes, at_first, first_or_later, later_too}
 use Rattle.tg_words.proofs.Options.{HaveValues}
 use Rattle.tg_words.proofs.Positional.{Form, IsOf, the_line, two_words}
 use Rattle.tg_words.proofs.QueryAnswers.{ReadsWords, asked_by, given_by}
@@ -160,7 +160,7 @@ fetch_given target options query once asked = elim asked [
 ]
 
 pub fetch_by : (rest : List (List ℕ)) (pair : List ℕ × List ℕ) (options : List Given) (parts : FetchParts) → WordsSpelling fetch_names rest (two_words.texts pair) options
-    → FetchGiven pair.0 pair.1 options parts → CommandLine (codes "fetch" ∷ rest) (Fetch parts)
+    → FetchGiven pair.0 pair.1 options parts → OperandLine (codes "fetch" ∷ rest) (Fetch parts)
 fetch_by rest pair options parts operands is = record {
   target = pair.1;
   options = options;
@@ -173,7 +173,7 @@ fetch_by rest pair options parts operands is = record {
   asked = fetch_asked pair.1 options parts.query (known fetch_names rest (two_words.texts pair) options operands) is.query;
 }
 
-pub fetch_line : (rest : List (List ℕ)) (parts : FetchParts) → CommandLine (codes "fetch" ∷ rest) (Fetch parts) → IsOf fetch_form rest (Fetch parts)
+pub fetch_line : (rest : List (List ℕ)) (parts : FetchParts) → OperandLine (codes "fetch" ∷ rest) (Fetch parts) → IsOf fetch_form rest (Fetch parts)
 fetch_line rest parts line =
     let operands = the_line (codes "fetch") fetch_names rest (parts.addr ∷ line.target ∷ []) line.options line.line in
     record {

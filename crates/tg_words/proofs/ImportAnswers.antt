@@ -4,7 +4,7 @@ use Rattle.std.specs.Prelude.{Result}
 use Rattle.std.specs.Option.{unwrap_or}
 use Rattle.tg_cid.specs.Limits.{max_block_len}
 use Rattle.tg_words.specs.Words.{Given, StandOnce, WordsSpelling}
-use Rattle.tg_words.specs.CommandLine.{CommandLine}
+use Rattle.tg_words.specs.CommandLine.{OperandLine}
 use Rattle.tg_words.specs.ImportLines.{ImportParts, NumberAsked, NumberText, import_names}
 use Rattle.tg_words.specs.Operands.{Exact, ImportGiven, NumberGiven, value_at}
 use Rattle.tg_words.specs.declared.WordsFault.{WordsFault}
@@ -99,7 +99,7 @@ given_by options name low high default number once is = record {
 
 -- a line by its operands, and the operands of a line
 pub import_by : (rest : List (List ℕ)) (pair : List ℕ × List ℕ) (options : List Given) (parts : ImportParts) → WordsSpelling import_names rest (two_words.texts pair) options
-    → ImportGiven pair.0 pair.1 options parts → CommandLine (codes "import" ∷ rest) (Import parts)
+    → ImportGiven pair.0 pair.1 options parts → OperandLine (codes "import" ∷ rest) (Import parts)
 import_by rest pair options parts operands is =
     let have = have_values import_names.valued rest (two_words.texts pair) options operands in
     record {
@@ -117,7 +117,7 @@ import_by rest pair options parts operands is =
       shard = asked_by options (codes "shard") 0 1048576 262144 parts.shard have is.shard;
     }
 
-pub import_line : (rest : List (List ℕ)) (parts : ImportParts) → CommandLine (codes "import" ∷ rest) (Import parts) → IsOf import_form rest (Import parts)
+pub import_line : (rest : List (List ℕ)) (parts : ImportParts) → OperandLine (codes "import" ∷ rest) (Import parts) → IsOf import_form rest (Import parts)
 import_line rest parts line =
     let operands = the_line (codes "import") import_names rest (parts.folder ∷ parts.pack ∷ []) line.options line.line in
     record {

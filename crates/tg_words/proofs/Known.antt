@@ -3,7 +3,7 @@ use Rattle.std.proofs.Common.{ℕ, inl, inr, List, [], ◌∷◌, Option, Some, 
 use Rattle.std.specs.Prelude.{Contains}
 use Rattle.tg_bytes.specs.Lists.{none_in}
 use Rattle.tg_words.specs.Words.{Names, Given, Item, positional, valued, flag, ItemsSpelling, options_of, WordsSpelling}
-use Rattle.tg_words.proofs.Names.{first_or_later}
+use Rattle.tg_words.proofs.Naming.{first_or_later}
 
 -- each option of a command has one of the command's names, and a value where that name is one with a value
 abbrev pub IsKnown : Names → List ℕ → Option (List ℕ) → Type 0

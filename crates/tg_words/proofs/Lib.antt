@@ -1,5 +1,5 @@
 mod Readings
-mod Names
+mod Naming
 mod Once
 mod Rules
 mod Rows
@@ -20,3 +20,4 @@ mod VerifyAnswers
 mod ServeAnswers
 mod AuditAnswers
 mod Lines
+mod Told

@@ -9,7 +9,7 @@ use Rattle.tg_cid.specs.Spelling.{CidText, CidBytes}
 use Rattle.tg_bytes.specs.Lists.{none_in, same_only}
 use Rattle.tg_words.specs.Words.{Given, StandOnce, WordsSpelling}
 use Rattle.tg_words.specs.AuditLines.{audit_names}
-use Rattle.tg_words.specs.CommandLine.{CommandLine, CidHexLine, CidLine, OneCidLine, no_names, cid_names}
+use Rattle.tg_words.specs.CommandLine.{OperandLine, CidHexLine, CidLine, OneCidLine, no_names, cid_names}
 use Rattle.tg_model.specs.Queries.{QueryParts}
 use Rattle.tg_words.specs.FetchLines.{fetch_names}
 use Rattle.tg_words.specs.ImportLines.{import_names}
@@ -17,7 +17,7 @@ use Rattle.tg_words.specs.QueryWords.{query_names}
 use Rattle.tg_words.specs.ServeLines.{serve_names}
 use Rattle.tg_words.specs.Operands.{Answers, Exact, OneCid, QueryBy, RawGiven, givens, texts_of, value_at}
 use Rattle.tg_words.specs.declared.Command.{Command}
-use Rattle.tg_words.specs.declared.Command.TheVariants.{Check, Node, CidToHex, CidToText, Export, Import, Verify, Serve, Fetch, Audit}
+use Rattle.tg_words.specs.declared.Command.TheVariants.{Check, Node, CidToHex, CidToText, Export, Import, Verify, Serve, Fetch, Audit, Help, Version}
 use Rattle.tg_words.specs.declared.WordsFault.{WordsFault}
 use Rattle.tg_words.specs.declared.WordsFault.TheVariants.{Usage, OutOfMemory}
 use Rattle.tg_words.specs.declared.operands.GivenOption.{GivenOption}
@@ -30,7 +30,7 @@ use Rattle.tg_words.proofs.ImportAnswers.{import_by, import_form, import_line, o
 use Rattle.tg_words.proofs.ServeAnswers.{one_serve, serve_by, serve_form, serve_line}
 use Rattle.tg_words.proofs.VerifyAnswers.{verify_by, verify_form, verify_line}
 use Rattle.tg_words.proofs.Known.{AreKnown, known}
-use Rattle.tg_words.proofs.Names.{are_by, at_first, later_too, first_or_later}
+use Rattle.tg_words.proofs.Naming.{are_by, at_first, later_too, first_or_later}
 
 -- `check` and `node`
 abbrev pub IsOneCid : (CidParts → Command) → List (List ℕ) → Command → Type 0
@@ -112,12 +112,12 @@ IsAsked name rest command =
     (Where (bytes_eq name (codes "audit")) (IsOf audit_form rest command) ⊥))))))))
 
 named : (name other : List ℕ) (rest more : List (List ℕ)) (command : Command) → name ∷ rest ≡ other ∷ more
-    → (CommandLine (other ∷ rest) command → IsAsked other rest command) → CommandLine (name ∷ rest) command → IsAsked name rest command
+    → (OperandLine (other ∷ rest) command → IsAsked other rest command) → OperandLine (name ∷ rest) command → IsAsked name rest command
 named name other rest more command begins asked line =
     let same : name ≡ other = cc in
-    subst (λ n. IsAsked n rest command) (sym same) (asked (subst (λ n. CommandLine (n ∷ rest) command) same line))
+    subst (λ n. IsAsked n rest command) (sym same) (asked (subst (λ n. OperandLine (n ∷ rest) command) same line))
 
-pub asked_by_line : (name : List ℕ) (rest : List (List ℕ)) (command : Command) → CommandLine (name ∷ rest) command → IsAsked name rest command
+pub asked_by_line : (name : List ℕ) (rest : List (List ℕ)) (command : Command) → OperandLine (name ∷ rest) command → IsAsked name rest command
 asked_by_line name rest (Check cid) line = named name (codes "check") rest line.line.rest (Check cid) line.line.begins (one_cid_of (codes "check") Check rest cid) line
 asked_by_line name rest (Node cid) line = named name (codes "node") rest line.line.rest (Node cid) line.line.begins (one_cid_of (codes "node") Node rest cid) line
 asked_by_line name rest (CidToHex cid) line = named name (codes "cid") rest line.line.rest (CidToHex cid) line.line.begins (λ l. inl (to_hex_of rest cid l)) line
@@ -128,6 +128,8 @@ asked_by_line name rest (Verify query) line = named name (codes "verify") rest l
 asked_by_line name rest (Serve parts) line = named name (codes "serve") rest line.line.rest (Serve parts) line.line.begins (serve_line rest parts) line
 asked_by_line name rest (Fetch parts) line = named name (codes "fetch") rest line.line.rest (Fetch parts) line.line.begins (fetch_line rest parts) line
 asked_by_line name rest (Audit parts) line = named name (codes "audit") rest line.line.rest (Audit parts) line.line.begins (audit_line rest parts) line
+asked_by_line name rest (Help topic) line = absurd line
+asked_by_line name rest Version line = absurd line
 
 pub export_lines : Lines export_form
 export_lines = record { reads = asked_by_line (codes "export"); writes = export_by }
@@ -231,15 +233,15 @@ pub one_line : ((a b : CidParts) (text : List ℕ) → CidText a text → CidTex
     → ((a b : CidParts) (u v x y : List ℕ) → CidBytes a u → CidBytes b v → u ++ x ≡ v ++ y → (u ≡ v) × (a ≡ b))
     → ((target : List ℕ) (options : List Given) (a b : QueryParts) → QueryBy target options a → QueryBy target options b → a ≡ b)
     → ((target : List ℕ) (options : List Given) (a b : QueryParts) → RawGiven target options a → RawGiven target options b → a ≡ b)
-    → (words : List (List ℕ)) (a b : Command) → CommandLine words a → CommandLine words b → a ≡ b
+    → (words : List (List ℕ)) (a b : Command) → OperandLine words a → OperandLine words b → a ≡ b
 one_line one_cid no_front one_query one_raw words (Check cid) b line other =
-    let l = asked_by_line (codes "check") line.line.rest b (subst (λ ws. CommandLine ws b) line.line.begins other) in
+    let l = asked_by_line (codes "check") line.line.rest b (subst (λ ws. OperandLine ws b) line.line.begins other) in
     ap Check (same_cid one_cid line.line.rest cid l.0 (record { text = line.text; operands = line.line.operands; text_is = line.text_is }) l.2) ∙ sym l.1
 one_line one_cid no_front one_query one_raw words (Node cid) b line other =
-    let l = asked_by_line (codes "node") line.line.rest b (subst (λ ws. CommandLine ws b) line.line.begins other) in
+    let l = asked_by_line (codes "node") line.line.rest b (subst (λ ws. OperandLine ws b) line.line.begins other) in
     ap Node (same_cid one_cid line.line.rest cid l.0 (record { text = line.text; operands = line.line.operands; text_is = line.text_is }) l.2) ∙ sym l.1
 one_line one_cid no_front one_query one_raw words (CidToHex cid) b line other =
-    elim (asked_by_line (codes "cid") line.line.rest b (subst (λ ws. CommandLine ws b) line.line.begins other)) [
+    elim (asked_by_line (codes "cid") line.line.rest b (subst (λ ws. OperandLine ws b) line.line.begins other)) [
       | inl l ↦
           let both : line.text ∷ [] ≡ l.1 ∷ [] = (one_of_cid line.line.rest (line.text ∷ []) (l.1 ∷ []) [] [] line.line.operands l.3).0 in
           let same : l.1 ≡ line.text = cc in
@@ -247,7 +249,7 @@ one_line one_cid no_front one_query one_raw words (CidToHex cid) b line other =
       | inr l ↦ absurd (no_digits l.1 (one_of_cid line.line.rest (line.text ∷ []) [] [] (hex_option l.1 ∷ []) line.line.operands l.4).1)
     ]
 one_line one_cid no_front one_query one_raw words (CidToText cid) b line other =
-    elim (asked_by_line (codes "cid") line.line.rest b (subst (λ ws. CommandLine ws b) line.line.begins other)) [
+    elim (asked_by_line (codes "cid") line.line.rest b (subst (λ ws. OperandLine ws b) line.line.begins other)) [
       | inl l ↦ absurd (no_digits line.digits (sym (one_of_cid line.line.rest [] (l.1 ∷ []) (hex_option line.digits ∷ []) [] line.line.operands l.3).1))
       | inr l ↦
           let same : l.1 ≡ line.digits = sym (same_digits line.digits l.1 (one_of_cid line.line.rest [] [] (hex_option line.digits ∷ []) (hex_option l.1 ∷ []) line.line.operands l.4).1) in
@@ -267,13 +269,15 @@ one_line one_cid no_front one_query one_raw words (Fetch parts) b line other =
     one_of_form fetch_form words line.line.rest (Fetch parts) b fetch_lines (are_by fetch_names refl) (one_fetch one_raw one_query) line.line.begins line other
 one_line one_cid no_front one_query one_raw words (Audit parts) b line other =
     one_of_form audit_form words line.line.rest (Audit parts) b audit_lines (are_by audit_names refl) one_audit line.line.begins line other
+one_line one_cid no_front one_query one_raw words (Help topic) b line other = absurd line
+one_line one_cid no_front one_query one_raw words Version b line other = absurd line
 
--- what is no command is refused
-pub refused : (words : List (List ℕ)) (answer : Result Command WordsFault) → IfOk answer (λ command. CommandLine words command)
-    → ((command : Command) → CommandLine words command → ⊥) → (answer ≡ Err Usage) ⊎ (answer ≡ Err OutOfMemory)
-refused words (Ok command) found none = absurd (none command found)
-refused words (Err Usage) found none = inl refl
-refused words (Err OutOfMemory) found none = inr refl
+-- no operands are spelled behind `help` and `version`
+pub help_refused : (rest : List (List ℕ)) → Answers (codes "help" ∷ rest) (Err Usage)
+help_refused rest = record { found = tt; only = λ command line. absurd (asked_by_line (codes "help") rest command line) }
+
+pub version_refused : (rest : List (List ℕ)) → Answers (codes "version" ∷ rest) (Err Usage)
+version_refused rest = record { found = tt; only = λ command line. absurd (asked_by_line (codes "version") rest command line) }
 
 -- the answers to `check` and `node`
 one_cid_line : (name : List ℕ) (rest : List (List ℕ)) (cid : CidParts) → OneCid rest cid → OneCidLine name (name ∷ rest) cid

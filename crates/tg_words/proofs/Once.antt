@@ -5,7 +5,7 @@ use Rattle.std.specs.Str.{bytes_eq}
 use Rattle.tg_words.specs.Words.{Given, StandOnce}
 use Rattle.tg_words.specs.Operands.{given, givens}
 use Rattle.tg_words.specs.declared.operands.GivenOption.{GivenOption}
-use Rattle.tg_words.proofs.Names.{at_first, later_too}
+use Rattle.tg_words.proofs.Naming.{at_first, later_too}
 
 pub once_none : StandOnce []
 once_none = λ i j a b below first second. absurd (cc)

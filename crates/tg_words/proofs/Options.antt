@@ -7,7 +7,7 @@ use Rattle.tg_bytes.specs.Lists.{other_bytes, none_in}
 use Rattle.tg_words.specs.Words.{Given, StandOnce, WordsSpelling, OptionGives}
 use Rattle.tg_words.specs.Operands.{ValueGives, value_at}
 use Rattle.tg_words.proofs.Known.{known}
-use Rattle.tg_words.proofs.Names.{first_or_later, at_first, later_too, bytes_same}
+use Rattle.tg_words.proofs.Naming.{first_or_later, at_first, later_too, bytes_same}
 
 -- each option has a value
 abbrev pub HaveValues : List Given → Type 0

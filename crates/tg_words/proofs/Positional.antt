@@ -3,7 +3,7 @@ use Rattle.std.proofs.Common.{◌≡◌, ℕ, List, [], ◌∷◌, Ok, Err, refl
 use Rattle.std.specs.Prelude.{Result, ⊤}
 use Rattle.tg_bytes.specs.Lists.{same_only}
 use Rattle.tg_words.specs.Words.{Names, Given, Line, WordsSpelling}
-use Rattle.tg_words.specs.CommandLine.{CommandLine}
+use Rattle.tg_words.specs.CommandLine.{OperandLine}
 use Rattle.tg_words.specs.Operands.{Answers, Exact}
 use Rattle.tg_words.specs.declared.Command.{Command}
 use Rattle.tg_words.specs.declared.WordsFault.{WordsFault}
@@ -53,9 +53,9 @@ pub record IsOf {Words Parts : Type 0} (form : Form Words Parts) (rest : List (L
 
 -- the lines of the command are those of the form
 pub record Lines {Words Parts : Type 0} (form : Form Words Parts) : Type 0 where
-  pub reads : (rest : List (List ℕ)) (command : Command) → CommandLine (form.name ∷ rest) command → IsOf form rest command
+  pub reads : (rest : List (List ℕ)) (command : Command) → OperandLine (form.name ∷ rest) command → IsOf form rest command
   pub writes : (rest : List (List ℕ)) (words : Words) (options : List Given) (parts : Parts) → WordsSpelling form.names rest (form.writing.texts words) options
-      → form.asks words options parts → CommandLine (form.name ∷ rest) (form.make parts)
+      → form.asks words options parts → OperandLine (form.name ∷ rest) (form.make parts)
 
 -- the words are these operands of the form alone
 abbrev pub OnlyThese : {Words Parts : Type 0} → Form Words Parts → List (List ℕ) → Words → List Given → Type 0
@@ -91,8 +91,8 @@ answer_of make (Err e) = Err e
 answer_of make (Ok parts) = Ok (make parts)
 
 pub exact_answer : {Parts : Type 0} (make : Parts → Command) (Is : Parts → Type 0) (words : List (List ℕ)) (answer : Result Parts WordsFault)
-    → ((command : Command) → CommandLine words command → (parts : Parts) × (command ≡ make parts) × Is parts)
-    → ((parts : Parts) → Is parts → CommandLine words (make parts)) → Exact Is answer → Answers words (answer_of make answer)
+    → ((command : Command) → OperandLine words command → (parts : Parts) × (command ≡ make parts) × Is parts)
+    → ((parts : Parts) → Is parts → OperandLine words (make parts)) → Exact Is answer → Answers words (answer_of make answer)
 exact_answer make Is words (Err e) reads writes exact = record { found = tt; only = λ command line. let l = reads command line in exact.only l.0 l.2 }
 exact_answer make Is words (Ok parts) reads writes exact = record {
   found = writes parts exact.found;
@@ -122,10 +122,10 @@ two_only names rest first second options only pair more s = let same = only pair
 -- the words are one command
 pub one_of_form : {Words Parts : Type 0} (form : Form Words Parts) (words rest : List (List ℕ)) (a b : Command) → Lines form → AreNames form.names
     → ((these : Words) (options : List Given) (x y : Parts) → form.asks these options x → form.asks these options y → x ≡ y)
-    → words ≡ form.name ∷ rest → CommandLine words a → CommandLine words b → a ≡ b
+    → words ≡ form.name ∷ rest → OperandLine words a → OperandLine words b → a ≡ b
 one_of_form form words rest a b lines are one begins line other =
-    let l = lines.reads rest a (subst (λ ws. CommandLine ws a) begins line) in
-    let m = lines.reads rest b (subst (λ ws. CommandLine ws b) begins other) in
+    let l = lines.reads rest a (subst (λ ws. OperandLine ws a) begins line) in
+    let m = lines.reads rest b (subst (λ ws. OperandLine ws b) begins other) in
     let only : OnlyThese form rest l.words l.options = λ others more s.
     let same = one_spelling_of_words form.names rest (form.writing.texts l.words) (form.writing.texts others) l.options more are l.operands s in
     (form.writing.one l.words others same.0, same.1) in

@@ -16,7 +16,7 @@ use Rattle.clap.specs.declared.parser.matches.ValueSource.TheVariants.{CommandLi
 use Rattle.tg_bytes.specs.Lists.{neither, none_in}
 use Rattle.tg_words.specs.Words.{Names, Given}
 use Rattle.tg_words.specs.Parsing.{given_from, option_at, option_of, options_in, positional_in, row_at, value_in, values_of}
-use Rattle.tg_words.proofs.Names.{first_or_later, at_first, later_too, bytes_same, among_passes}
+use Rattle.tg_words.proofs.Naming.{first_or_later, at_first, later_too, bytes_same, among_passes}
 use Rattle.tg_words.proofs.Rules.{args_for, option_arg, positional_arg}
 
 -- the rows are of the words, and of no id are two

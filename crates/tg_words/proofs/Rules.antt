@@ -15,7 +15,7 @@ use Rattle.tg_bytes.specs.Lists.{none_in}
 use Rattle.tg_words.specs.Words.{Names}
 use Rattle.tg_words.specs.Parsing.{positional_rule, option_rule, rules_for, app_for, with_rules}
 use Rattle.tg_words.specs.Operands.{texts_of}
-use Rattle.tg_words.proofs.Names.{first_or_later, at_first, later_too}
+use Rattle.tg_words.proofs.Naming.{first_or_later, at_first, later_too}
 
 abbrev pub positional_arg : Rule
 positional_arg = with_index 1 (filled positional_rule)

@@ -1,7 +1,7 @@
 -- The answers to the lines of `serve`.
 use Rattle.std.proofs.Common.{◌≡◌, ℕ, List, [], ◌∷◌, codes, Option, Some, None, refl, sym, ◌∙◌, subst}
 use Rattle.tg_words.specs.Words.{Given, StandOnce, WordsSpelling}
-use Rattle.tg_words.specs.CommandLine.{CommandLine}
+use Rattle.tg_words.specs.CommandLine.{OperandLine}
 use Rattle.tg_words.specs.ImportLines.{NumberText}
 use Rattle.tg_words.specs.Operands.{NumberNeeded, ServeGiven, value_at}
 use Rattle.tg_words.specs.ServeLines.{NumberRequired, ServeParts, serve_names}
@@ -47,7 +47,7 @@ needed_by options name low high number once is = record {
 
 -- a line by its operands, and the operands of a line
 pub serve_by : (rest : List (List ℕ)) (pack : List ℕ) (options : List Given) (parts : ServeParts) → WordsSpelling serve_names rest (pack ∷ []) options
-    → ServeGiven pack options parts → CommandLine (codes "serve" ∷ rest) (Serve parts)
+    → ServeGiven pack options parts → OperandLine (codes "serve" ∷ rest) (Serve parts)
 serve_by rest pack options parts operands is =
     let have = have_values serve_names.valued rest (pack ∷ []) options operands in
     record {
@@ -62,7 +62,7 @@ serve_by rest pack options parts operands is =
       count = required_by options (codes "count") 1 1000000 parts.count have is.count;
     }
 
-pub serve_line : (rest : List (List ℕ)) (parts : ServeParts) → CommandLine (codes "serve" ∷ rest) (Serve parts) → IsOf serve_form rest (Serve parts)
+pub serve_line : (rest : List (List ℕ)) (parts : ServeParts) → OperandLine (codes "serve" ∷ rest) (Serve parts) → IsOf serve_form rest (Serve parts)
 serve_line rest parts line =
     let operands = the_line (codes "serve") serve_names rest (parts.pack ∷ []) line.options line.line in
     record {

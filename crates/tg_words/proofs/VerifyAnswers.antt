@@ -2,7 +2,7 @@
 use Rattle.std.proofs.Common.{ℕ, List, [], ◌∷◌, codes, refl}
 use Rattle.tg_model.specs.Queries.{QueryParts}
 use Rattle.tg_words.specs.Words.{Given, WordsSpelling}
-use Rattle.tg_words.specs.CommandLine.{CommandLine}
+use Rattle.tg_words.specs.CommandLine.{OperandLine}
 use Rattle.tg_words.specs.Operands.{QueryBy}
 use Rattle.tg_words.specs.QueryWords.{query_names}
 use Rattle.tg_words.specs.declared.Command.TheVariants.{Verify}
@@ -15,7 +15,7 @@ verify_form = record { name = codes "verify"; names = query_names; writing = one
 
 -- a line by its operands, and the operands of a line
 pub verify_by : (rest : List (List ℕ)) (target : List ℕ) (options : List Given) (query : QueryParts) → WordsSpelling query_names rest (target ∷ []) options
-    → QueryBy target options query → CommandLine (codes "verify" ∷ rest) (Verify query)
+    → QueryBy target options query → OperandLine (codes "verify" ∷ rest) (Verify query)
 verify_by rest target options query operands is = record {
   target = target;
   options = options;
@@ -23,7 +23,7 @@ verify_by rest target options query operands is = record {
   asked = asked_by target options query (have_values query_names.valued rest (target ∷ []) options operands) is;
 }
 
-pub verify_line : (rest : List (List ℕ)) (query : QueryParts) → CommandLine (codes "verify" ∷ rest) (Verify query) → IsOf verify_form rest (Verify query)
+pub verify_line : (rest : List (List ℕ)) (query : QueryParts) → OperandLine (codes "verify" ∷ rest) (Verify query) → IsOf verify_form rest (Verify query)
 verify_line rest query line =
     let operands = the_line (codes "verify") query_names rest (line.target ∷ []) line.options line.line in
     record {

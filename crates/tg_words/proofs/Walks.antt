@@ -14,7 +14,7 @@ use Rattle.clap.specs.declared.builder.action.ArgAction.TheVariants.{Set, SetTru
 use Rattle.clap.specs.declared.error.kind.ErrorKind.TheVariants as kind
 use Rattle.tg_words.specs.Words.{Names, Given, IsPlain, Reading, StandOnce}
 use Rattle.tg_words.specs.Parsing.{value_in}
-use Rattle.tg_words.proofs.Names.{among_passes, any_among, bytes_same}
+use Rattle.tg_words.proofs.Naming.{among_passes, any_among, bytes_same}
 use Rattle.tg_words.proofs.Once.{once_more, once_none, stands_twice}
 use Rattle.tg_words.proofs.Readings.{AreNames, assigned, named, end_reading, moves_assigned, moves_flag, moves_named, moves_plain, no_assigned, no_dashes, no_named, not_plain, nothing, Moves, LacksEquals, HasNoReading}
 use Rattle.tg_words.proofs.Rules.{args_for, id_valued, is_of, of_flag, of_none, of_valued, option_arg}

@@ -1,3 +1,4 @@
+pub mod Names
 pub mod Words
 pub mod QueryWords
 pub mod ExportLines
@@ -9,3 +10,4 @@ pub mod AuditLines
 pub mod CommandLine
 pub mod Operands
 pub mod Parsing
+pub mod Help

@@ -17,7 +17,7 @@ use Rattle.tg_words.specs.declared.operands.GivenOption.{GivenOption}
 use Rattle.tg_words.specs.declared.operands.OptionNames.{OptionNames}
 use Rattle.tg_cid.specs.Cid.{CidParts}
 use Rattle.tg_cid.specs.Spelling.{CidText}
-use Rattle.tg_words.specs.CommandLine.{CommandLine, no_names}
+use Rattle.tg_words.specs.CommandLine.{OperandLine, no_names}
 use Rattle.tg_model.specs.Queries.{QueryParts}
 use Rattle.tg_model.specs.declared.queries.Form.TheVariants.{Car, Raw}
 use Rattle.tg_model.specs.declared.queries.Scope.{Scope}
@@ -158,10 +158,10 @@ pub record OneCid (words : List (List ℕ)) (cid : CidParts) : Type 0 where
   pub operands : WordsSpelling no_names words (text ∷ []) []
   pub text_is : CidText cid text
 
--- the answer to words is exact: a command that they spell, and the one that they spell unless memory is wanted
+-- the answer to words is exact: a command that they spell by its operands, and the one that they spell unless memory is wanted
 pub record Answers (words : List (List ℕ)) (answer : Result Command WordsFault) : Type 0 where
-  pub found : IfOk answer (λ command. CommandLine words command)
-  pub only : (command : Command) → CommandLine words command
+  pub found : IfOk answer (λ command. OperandLine words command)
+  pub only : (command : Command) → OperandLine words command
       → MatchResult answer (λ found. found ≡ command) (λ e. e ≡ OutOfMemory)
 
 -- want of memory stays so, and every other fault is one of usage

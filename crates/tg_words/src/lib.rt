@@ -1,15 +1,17 @@
 //! The words of the command line: the grammar of the program's commands, and its reader.
 //!
-//! A command is one line of `dispatch` and a constructor, which has the words behind the command's name read by
-//! `no_operand`, `one_operand`, `two_operands` or, where they are of another form, `operands_of`.
+//! A command is a name of `CommandName`, a row of help, one line of `dispatch` and a constructor, which has the words behind
+//! the command's name read by `no_operand`, `one_operand`, `two_operands` or, where they are of another form,
+//! `operands_of`.
 #![tactic(auto)]
 
-ghost use Rattle.std.specs.Prelude.{◌≡◌, ℕ, ◌⊎◌, List, ◌∷◌, map, string_bytes, codes, Contains, IfOk, IsErrOf};
-ghost use Rattle.std.specs.Prelude.{MatchResult};
+ghost use Rattle.std.specs.Prelude.{◌≡◌, ℕ, ◌⊎◌, List, ◌∷◌, map, string_bytes, codes, IfOk, IsErrOf};
+ghost use Rattle.std.specs.Prelude.{MatchResult, ◌↔◌, IsTrue, IfSome, IfNone, [], Some};
 ghost use Rattle.hex.specs.Hex.{decode_of};
 ghost use Rattle.tg_cid.specs.Cid.{CidParts};
 ghost use Rattle.tg_cid.specs.Spelling.{CidText, CidBytes};
-ghost use Rattle.tg_words.specs.CommandLine.{BeginsCommand, CommandLine, command_names};
+ghost use Rattle.tg_words.specs.CommandLine.{AskNoText, BeginsCommand, CommandLine, HelpLine, IsHelpOption, IsTold};
+ghost use Rattle.tg_words.specs.Names.{name_text};
 ghost use Rattle.tg_words.specs.Operands.{Answers, OneCid};
 ghost use Rattle.tg_words.specs.declared.Command.{Command};
 ghost use Rattle.tg_words.specs.declared.WordsFault.{WordsFault};
@@ -17,7 +19,9 @@ ghost use Rattle.tg_words.specs.declared.WordsFault.{WordsFault};
 mod audits;
 mod exports;
 mod fetches;
+mod help;
 mod imports;
+mod names;
 mod operands;
 mod queries;
 mod serves;
@@ -30,9 +34,13 @@ pub use exports::Export;
 use exports::export_of;
 pub use fetches::Fetch;
 use fetches::fetch_of;
+pub use help::{
+    CommandHelp, CommandRow, OptionHelp, OptionRow, OptionValue, VERSION, help_for, help_text,
+};
 use hex::FromHexError;
 pub use imports::Import;
 use imports::import_of;
+pub use names::CommandName;
 pub use operands::{GivenOption, Operands, OptionNames, operands_of};
 use operands::{one_operand, one_word, value_of};
 pub use serves::Serve;
@@ -89,6 +97,11 @@ pub enum Command {
     /// Both options stand, and each N is 1 to 20 decimal digits. The seed is 0 to 2^64 - 1; the folder's folder `many`
     /// has 1 to 20,000 files.
     Audit(Audit),
+    /// `help`, `--help` or `-h`: what the program does. `help COMMAND`, or `--help` or `-h` behind a command's name: what
+    /// that command does.
+    Help(Option<CommandName>),
+    /// `version` or `--version`: the program's version, and the kit by which it is proved.
+    Version,
 }
 
 /// Why words were not read as a command.
@@ -204,10 +217,68 @@ pub fn read(alloc: Global, words: &[String]) -> Result<Command, WordsFault>
     // Memory is wanted only once a command was named: for the names of its options, and for what its words spell.
     ensures memory { IsErrOf result WordsFault.OutOfMemory → BeginsCommand (map string_bytes words.now) }
 {
+    if let Some(told) = told_by(words) {
+        return Ok(told);
+    }
     let Some((command, rest)) = words.split_first() else {
         return Err(WordsFault::Usage);
     };
-    dispatch(alloc, command.as_str(), rest)
+    match CommandName::of(command.as_str()) {
+        Some(name) => dispatch(alloc, name, rest),
+        None => Err(WordsFault::Usage),
+    }
+}
+
+/// The command that tells of the program, where the words ask for one: help, or the version.
+fn told_by(words: &[String]) -> Option<Command>
+    ensures some { IfSome result (λ command. IsTold (map string_bytes words.now) command) }
+    ensures none { IfNone result (AskNoText (map string_bytes words.now)) }
+{
+    let (first, rest) = words.split_first()?;
+    let first = first.as_str();
+    let Some((second, more)) = rest.split_first() else {
+        return told_alone(first);
+    };
+    if !more.is_empty() {
+        return None;
+    }
+    let topic = topic_of(first, second.as_str())?;
+    Some(Command::Help(Some(topic)))
+}
+
+/// What a word asks for that stands alone.
+fn told_alone(word: &str) -> Option<Command>
+    ensures some { IfSome result (λ command. IsTold (word.now ∷ []) command) }
+    ensures none { IfNone result (AskNoText (word.now ∷ [])) }
+{
+    if word == "help" || is_help_option(word) {
+        Some(Command::Help(None))
+    } else if word == "version" || word == "--version" {
+        Some(Command::Version)
+    } else {
+        None
+    }
+}
+
+/// The command of which two words ask for help.
+fn topic_of(first: &str, second: &str) -> Option<CommandName>
+    ensures some { IfSome result (λ name. HelpLine (first.now ∷ second.now ∷ []) (Some name)) }
+    ensures none { IfNone result (AskNoText (first.now ∷ second.now ∷ [])) }
+{
+    if is_help_option(second) {
+        return CommandName::of(first);
+    }
+    if first == "help" {
+        return CommandName::of(second);
+    }
+    None
+}
+
+/// Whether a word is an option that asks for help.
+fn is_help_option(word: &str) -> bool
+    ensures { IsTrue result ↔ IsHelpOption word.now }
+{
+    word == "--help" || word == "-h"
 }
 
 /// Words spell at most one command.
@@ -220,30 +291,20 @@ pub fn one_command()
 }
 
 /// The command of this name with these words behind it.
-fn dispatch(alloc: Global, command: &str, words: &[String]) -> Result<Command, WordsFault>
-    ensures exact { Answers (command.now ∷ map string_bytes words.now) result }
-    ensures memory { IsErrOf result WordsFault.OutOfMemory → Contains command_names command.now }
+fn dispatch(alloc: Global, command: CommandName, words: &[String]) -> Result<Command, WordsFault>
+    ensures { Answers (name_text command ∷ map string_bytes words.now) result }
 {
-    if command == "check" {
-        check(alloc, words)
-    } else if command == "node" {
-        node(alloc, words)
-    } else if command == "cid" {
-        cid(alloc, words)
-    } else if command == "export" {
-        export_of(alloc, words)
-    } else if command == "import" {
-        import_of(alloc, words)
-    } else if command == "verify" {
-        verify_of(alloc, words)
-    } else if command == "serve" {
-        serve_of(alloc, words)
-    } else if command == "fetch" {
-        fetch_of(alloc, words)
-    } else if command == "audit" {
-        audit_of(alloc, words)
-    } else {
-        Err(WordsFault::Usage)
+    match command {
+        CommandName::Check => check(alloc, words),
+        CommandName::Node => node(alloc, words),
+        CommandName::Cid => cid(alloc, words),
+        CommandName::Export => export_of(alloc, words),
+        CommandName::Import => import_of(alloc, words),
+        CommandName::Verify => verify_of(alloc, words),
+        CommandName::Serve => serve_of(alloc, words),
+        CommandName::Fetch => fetch_of(alloc, words),
+        CommandName::Audit => audit_of(alloc, words),
+        CommandName::Help | CommandName::Version => Err(WordsFault::Usage),
     }
 }
 

@@ -28,6 +28,9 @@ use tg_streams::{Sink, Source, StdSink, StdSource};
 /// How many standard streams there are: 0 is input, 1 out and 2 err.
 const STREAMS: RawFd = 3;
 
+/// The exit status of words that are no command.
+const NO_COMMAND: u8 = 2;
+
 fn main(rt: HostRuntime) -> ExitCode {
     let mut folder = HostFolder::new(rt);
     let mut pack = Some(HostPack::new(rt));
@@ -36,7 +39,8 @@ fn main(rt: HostRuntime) -> ExitCode {
     let mut input = StdSource::new(rt.stdin());
     let mut out = StdSink::new(rt.stdout());
     let mut err = StdSink::new(rt.stderr());
-    ExitCode::from(answer(
+    let mut progress = Progress::new(rt);
+    let status = answer(
         rt.alloc(),
         holds_streams(&rt),
         env::args(&rt),
@@ -47,8 +51,12 @@ fn main(rt: HostRuntime) -> ExitCode {
         &mut input,
         &mut out,
         &mut err,
-        &mut Progress::new(rt),
-    ))
+        &mut progress,
+    );
+    if status == NO_COMMAND {
+        progress.hint();
+    }
+    ExitCode::from(status)
 }
 
 /// Does what the arguments behind the first ask for, over these objects, and answers the exit status: that of `run`; or 6

@@ -1,4 +1,4 @@
-//! The line of progress of a fetch.
+//! What a terminal shows beside out and the line of a refusal: the line of progress of a fetch, and where help is.
 use std::io::{IsTerminal, Write};
 use std::rt::HostRuntime;
 use std::time::{Duration, Instant};
@@ -6,6 +6,9 @@ use tg_app::{Told, Watch};
 
 /// How many milliseconds the line stands at least before it is rewritten.
 const PAUSE: u64 = 100;
+
+/// Where help is, behind the line that says that words are no command.
+const HINT: &[u8] = b"tgate help says which words there are\n";
 
 /// What takes the line away: the cursor goes to its front, and what is behind that is erased (ECMA-48, 8.3.41).
 const CLEARED: &[u8] = b"\r\x1b[K";
@@ -36,6 +39,13 @@ impl Progress {
             rt,
             since,
             is_written: false,
+        }
+    }
+
+    /// Says where help is, where err is a terminal.
+    pub fn hint(&mut self) {
+        if self.rt.stderr().is_terminal() {
+            let _ = self.rt.stderr().write_all(HINT);
         }
     }
 

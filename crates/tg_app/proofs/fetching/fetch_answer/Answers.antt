@@ -14,7 +14,8 @@ returns-in-Ok g c =
     let out = into g.O.Sink.sink c.args.out.now c.fetch.new.out in
     subst (λ (p : FetchParts). FetchAnswers p dial out None) c.asked.view_is
     (subst (λ (addr : List ℕ). FetchAnswers (record { addr = addr; query = c.asked.inside.query }) dial out None) c.as_str.ensures.value
-    (answers _ _ c.standard.result dial out c.fetch.result c.standard.ensures c.fetch.ensures.ends c.fetch.ensures.cause c.fetch.ensures.sound c.fetch.ensures.fitting c.fetch.ensures.own None
+    (answers _ _ c.standard.result dial out c.fetch.result c.standard.ensures c.fetch.ensures.ends c.fetch.ensures.cause c.fetch.ensures.sound c.fetch.ensures.fitting c.fetch.ensures.own
+    c.fetch.ensures.nowhere c.fetch.ensures.own_nowhere None
     (subst (λ (r : Result ⊤ FetchFault). IsFetchEnd r None) (sym c.in-Ok.is) refl)))
 
 pub returns-in-Err : goal.returns-in-Err
@@ -24,5 +25,6 @@ returns-in-Err g c =
     let end = Some c.refusal_of_fetch.result in
     subst (λ (p : FetchParts). FetchAnswers p dial out end) c.asked.view_is
     (subst (λ (addr : List ℕ). FetchAnswers (record { addr = addr; query = c.asked.inside.query }) dial out end) c.as_str.ensures.value
-    (answers _ _ c.standard.result dial out c.fetch.result c.standard.ensures c.fetch.ensures.ends c.fetch.ensures.cause c.fetch.ensures.sound c.fetch.ensures.fitting c.fetch.ensures.own end
+    (answers _ _ c.standard.result dial out c.fetch.result c.standard.ensures c.fetch.ensures.ends c.fetch.ensures.cause c.fetch.ensures.sound c.fetch.ensures.fitting c.fetch.ensures.own
+    c.fetch.ensures.nowhere c.fetch.ensures.own_nowhere end
     (subst (λ (r : Result ⊤ FetchFault). IsFetchEnd r end) (sym c.in-Err.is) (c.refusal_of_fetch.result, refl, c.refusal_of_fetch.ensures))))

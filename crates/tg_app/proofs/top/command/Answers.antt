@@ -19,7 +19,7 @@ the_ends {words} {objects} {end} {read} {command} spelled only is ends door dial
 
 -- the address of a spelled `fetch` is one
 is_addr : (words : List (List ℕ)) (read : Command) (parts : FetchParts) → CommandLine words read → read ≡ Fetch parts → IsAddr parts.addr
-is_addr words read parts spelled is = let line = subst (CommandLine words) is spelled in line.addr
+is_addr words read parts spelled is = let line = subst (CommandLine words) is spelled in line.1.addr
 
 pub fetch_answer-requires : goal.fetch_answer-requires
 fetch_answer-requires g c = is_addr _ _ _ c.in_ok-cid.ensures.found c.in-Fetch.is
@@ -70,10 +70,10 @@ returns-in-Fetch-clause-ends g c =
 
 -- the number of files of a spelled `audit`
 some_files : (words : List (List ℕ)) (read : Command) (parts : AuditParts) → CommandLine words read → read ≡ Audit parts → 0 < parts.files
-some_files words read parts spelled is = let line = subst (CommandLine words) is spelled in omega (arith, line.files.least)
+some_files words read parts spelled is = let line = subst (CommandLine words) is spelled in omega (arith, line.1.files.least)
 
 few_files : (words : List (List ℕ)) (read : Command) (parts : AuditParts) → CommandLine words read → read ≡ Audit parts → parts.files ≤ 20000
-few_files words read parts spelled is = let line = subst (CommandLine words) is spelled in line.files.most
+few_files words read parts spelled is = let line = subst (CommandLine words) is spelled in line.1.files.most
 
 pub audit_build-requires-clause-some : goal.audit_build-requires-clause-some
 audit_build-requires-clause-some g c = some_files _ _ _ c.in_ok-cid.ensures.found c.in-Audit.is
@@ -86,3 +86,13 @@ returns-in-Audit-clause-ends g c =
     the_ends c.in_ok-cid.ensures.found c.in_ok-cid.ensures.only c.in-Audit.is
     (record { folder = refl; pack = refl }, record { untaken = record { moved = g.met.I.Source.rests _; left = refl }; quiet = refl }, c.audit_build.ensures)
     (λ none. refl) (λ none. refl)
+
+pub returns-in-Help-clause-ends : goal.returns-in-Help-clause-ends
+returns-in-Help-clause-ends g c =
+    the_ends c.in_ok-cid.ensures.found c.in_ok-cid.ensures.only c.in-Help.is
+    (record { folder = refl; pack = refl }, record { untaken = record { moved = g.met.I.Source.rests _; left = refl }; quiet = refl }, c.help.ensures) (λ none. refl) (λ none. refl)
+
+pub returns-in-Version-clause-ends : goal.returns-in-Version-clause-ends
+returns-in-Version-clause-ends g c =
+    the_ends c.in_ok-cid.ensures.found c.in_ok-cid.ensures.only c.in-Version.is
+    (record { folder = refl; pack = refl }, record { untaken = record { moved = g.met.I.Source.rests _; left = refl }; quiet = refl }, c.version.ensures) (λ none. refl) (λ none. refl)

@@ -2,7 +2,7 @@ use Rattle.std.proofs.Common.{map, string_bytes, Global}
 use Rattle.std.proofs.lemmas.Result.{err_from_is_err_and}
 use Rattle.clap.specs.Simple.{app_of}
 use Rattle.tg_words.specs.Operands.{names_of}
-use Rattle.tg_words.proofs.Names.{are_by}
+use Rattle.tg_words.proofs.Naming.{are_by}
 use Rattle.tg_words.proofs.Parses.{are_texts, only_these, spelled, wants_memory}
 use Rattle.tg_words.proofs.operands.operands_of.Goals as goal
 
