@@ -5,6 +5,7 @@
 mod asking;
 mod audits;
 mod chains;
+mod changing;
 mod cuts;
 mod draws;
 mod each;
@@ -54,6 +55,7 @@ fn answer_kind(alloc: Global, kind: &str, given: &[Bytes], answer: &mut Answer) 
         "packs" => steps::answer_size(alloc, fields, answer),
         "each" => each::answer(alloc, given, answer),
         "cuts" => cuts::answer(alloc, fields, answer),
+        "changing" => changing::answer(alloc, fields, answer),
         "chain" => chains::answer(alloc, given, answer),
         "length" => chains::answer_length(given, answer),
         _ => answer_audit(alloc, kind, given, answer),

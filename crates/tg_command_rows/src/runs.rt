@@ -9,10 +9,14 @@ use tg_bytes::{Bytes, List};
 use tg_dials::MemDial;
 use tg_doors::MemDoor;
 use tg_fetch::Unwatched;
-use tg_files::{MemFolder, MemPack};
+use tg_files::{MemFolder, MemPack, Pack};
 use tg_links::Call;
 use tg_streams::{MemSink, MemSource};
+use tg_test_packs::ChangingPack;
 use tg_tree::{Sort, Tree};
+
+/// How many bytes a pack that changes gives at once, at most.
+const MOST_AT_ONCE: usize = 65_536;
 
 /// The door, the dial and the streams of a run.
 #[derive(Drop)]
@@ -96,6 +100,16 @@ pub fn run_setup(alloc: Global, setup: &mut Setup, piece: usize) -> Option<Ran> 
     }
 }
 
+/// The same over a pack that tells nothing, of which the byte at this place changes once it was read to its end.
+pub fn run_changing(alloc: Global, setup: &mut Setup, place: u64, piece: usize) -> Option<Ran> {
+    let tree = setup.take_folder();
+    let fails = setup.numbers(Object::Folder);
+    match folder_of(alloc, tree, fails) {
+        Some(mut folder) => change_under(alloc, setup, place, &mut folder, piece.max(1)),
+        None => None,
+    }
+}
+
 /// The folder of a tree whose names differ.
 fn folder_of(alloc: Global, tree: Tree, fails: List<u64>) -> Option<MemFolder> {
     if tree.sort() != Sort::Folder || !tree.names_differ() {
@@ -149,12 +163,38 @@ fn run_over(alloc: Global, setup: &mut Setup, folder: &mut MemFolder, piece: usi
     })
 }
 
+/// Runs what is given over a folder and a pack that changes.
+fn change_under(
+    alloc: Global,
+    setup: &mut Setup,
+    place: u64,
+    folder: &mut MemFolder,
+    piece: usize,
+) -> Option<Ran>
+    requires { 0 < piece }
+{
+    let mut streams = streams_of(alloc, setup, piece);
+    let content = setup.take_pack();
+    let mut pack = Some(ChangingPack::new(alloc, content, place, MOST_AT_ONCE));
+    let status = status_of(alloc, setup.words(), folder, &mut pack, &mut streams);
+    if setup.fault().is_some() {
+        return None;
+    }
+    Some(Ran {
+        status,
+        before: Bytes::new(alloc),
+        streams,
+        pack: None,
+        folder_faults: folder.count(),
+    })
+}
+
 /// The status of a run of these words.
-fn status_of(
+fn status_of<P: Pack>(
     alloc: Global,
     words: &[String],
     folder: &mut MemFolder,
-    pack: &mut Option<MemPack>,
+    pack: &mut Option<P>,
     streams: &mut Streams,
 ) -> u8
     requires { IsSome pack.old }

@@ -10,21 +10,26 @@ use tg_rows::Answer;
 use tg_store::MemStore;
 use tg_walk::{Walk, WalkFault};
 
-/// `chain COUNT DATA`: of the file of the byte `x` below so many nodes with this data, how many blocks the evaluator sends
-/// and its text, and how many blocks a walk gives and how it ends.
+/// `chain COUNT DATA STORED`: of the file of the byte `x` below so many nodes with this data, how many blocks the evaluator
+/// sends and its text, and how many blocks a walk gives and how it ends. The `x` is stored, or not where STORED is `no`.
 pub fn answer(alloc: Global, given: &[Bytes], answer: &mut Answer) {
-    let [count, payload] = given else {
-        return answer.text("a count and data");
+    let [count, payload, stored] = given else {
+        return answer.text("a count, data, and whether the leaf is stored");
     };
+    let missing = usize::from(stored.as_slice() == b"no".as_slice());
     match number_of(count.as_slice()) {
-        Some(count @ 1..=1000) => answer_chain(alloc, count, payload.as_slice(), answer),
+        Some(count @ 1..=1000) => answer_chain(alloc, count, payload.as_slice(), missing, answer),
         _ => answer.text("no count"),
     }
 }
 
-fn answer_chain(alloc: Global, count: u64, payload: &[u8], answer: &mut Answer) {
+/// Answers of a chain of which so many blocks, from the leaf on, aren't stored.
+fn answer_chain(alloc: Global, count: u64, payload: &[u8], missing: usize, answer: &mut Answer) {
     match chain(alloc, count, payload) {
-        Ok(blocks) => answer_file(alloc, blocks.as_slice(), answer),
+        Ok(blocks) => {
+            let stored = blocks.as_slice().get(missing..).unwrap_or(&[]);
+            answer_file(alloc, stored, answer);
+        }
         Err(_) => answer.lack(),
     }
 }
@@ -93,6 +98,7 @@ fn say_counted(walk: &mut Walk, store: &mut MemStore, answer: &mut Answer) {
             Ok(true) => {}
             Ok(false) => return say_count(given, "whole", answer),
             Err(WalkFault::TooDeep) => return say_count(given, "TooDeep", answer),
+            Err(WalkFault::Gone { .. }) => return say_count(given, "Gone", answer),
             Err(_) => return say_count(given, "otherwise", answer),
         }
     }

@@ -2,7 +2,6 @@
 //! are made into DAGs: over packs, folders and keepers in memory, of which each call fails in turn, and over the system's.
 #![tactic(auto)]
 
-mod changing_pack;
 mod checked;
 mod dags;
 mod directories;

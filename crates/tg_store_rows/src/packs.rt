@@ -1,15 +1,14 @@
 //! Packs that are attached: what their stores give, and why they are refused.
-use crate::changing_pack::ChangingPack;
 use crate::given::{bytes_at, cid_of, fails_at, number_at, number_up_to};
 use crate::said::{say_blocks_fault, say_count, say_otherwise, say_pack_fault};
 use std::alloc::Global;
 use tg_bytes::{Bytes, List};
 use tg_cid::Cid;
-use tg_faults::Calls;
 use tg_files::{MemPack, Pack};
 use tg_model::Blocks;
 use tg_rows::Answer;
 use tg_store::{PackFault, PackStore};
+use tg_test_packs::ChangingPack;
 
 /// `get CID`: the block that a store gives under the CID.
 pub fn answer_get<B: Blocks>(alloc: Global, store: &mut B, given: &[Bytes], answer: &mut Answer) {
@@ -172,8 +171,7 @@ pub fn answer_changing(alloc: Global, given: &[Bytes], answer: &mut Answer) {
     let most = number_up_to(most, 1_000_000) as usize;
     match Bytes::of(alloc, pack.as_slice()) {
         Ok(bytes) => {
-            let calls = Calls::new(List::new(alloc));
-            let pack = ChangingPack::new(bytes, place, most, calls);
+            let pack = ChangingPack::new(alloc, bytes, place, most);
             say_changing(alloc, pack, cid.as_slice(), answer);
         }
         Err(_) => answer.lack(),
