@@ -28,6 +28,8 @@ pub struct TcpDial<R: Net> {
     net: R,
     missed: u64,
     faults: u64,
+    /// Why the last link that was missed didn't come.
+    why: Option<io::Error>,
 }
 
 impl<R: Net> Model for TcpDial<R> {
@@ -47,7 +49,14 @@ impl<R: Net> TcpDial<R> {
             net,
             missed: 0,
             faults: 0,
+            why: None,
         }
+    }
+
+    /// Why no link came at the last `dial` that gave none: that the host's name isn't known, or an error of the connection to
+    /// the last address that was tried. It tells what the system says, for a person to read, and no clause speaks of it.
+    pub fn why(&self) -> Option<io::Error> {
+        self.why
     }
 
     /// How many calls failed, and how many links were given back with a fault of their own.
@@ -84,7 +93,8 @@ impl<R: Net + Drop> Dial for TcpDial<R> {
     {
         match link_to(&self.net, addr) {
             Ok(link) => Ok(link),
-            Err(_) => {
+            Err(e) => {
+                self.why = Some(e);
                 self.missed = self.missed.saturating_add(1);
                 Err(self.fault())
             }

@@ -31,6 +31,9 @@ const STREAMS: RawFd = 3;
 /// The exit status of words that are no command.
 const NO_COMMAND: u8 = 2;
 
+/// The exit status of a fault of the door, of the dial or of a link.
+const PEER_FAILED: u8 = 5;
+
 fn main(rt: HostRuntime) -> ExitCode {
     let mut folder = HostFolder::new(rt);
     let mut pack = Some(HostPack::new(rt));
@@ -53,8 +56,10 @@ fn main(rt: HostRuntime) -> ExitCode {
         &mut err,
         &mut progress,
     );
-    if status == NO_COMMAND {
-        progress.hint();
+    match status {
+        NO_COMMAND => progress.hint(),
+        PEER_FAILED => progress.tell_why(dial.why()),
+        _ => {}
     }
     ExitCode::from(status)
 }

@@ -1,4 +1,6 @@
-//! What a terminal shows beside out and the line of a refusal: the line of progress of a fetch, and where help is.
+//! What a terminal shows beside out and the line of a refusal: the line of progress of a fetch, where help is, and why no
+//! connection came.
+use std::io;
 use std::io::{IsTerminal, Write};
 use std::rt::HostRuntime;
 use std::time::{Duration, Instant};
@@ -46,6 +48,19 @@ impl Progress {
     pub fn hint(&mut self) {
         if self.rt.stderr().is_terminal() {
             let _ = self.rt.stderr().write_all(HINT);
+        }
+    }
+
+    /// Says why no connection came to the peer that was dialled, where err is a terminal and there is a reason.
+    pub fn tell_why(&mut self, why: Option<io::Error>) {
+        let Some(why) = why else {
+            return;
+        };
+        if !self.rt.stderr().is_terminal() {
+            return;
+        }
+        if let Ok(line) = format!(in self.rt.alloc(); "no connection: {why}\n") {
+            let _ = self.rt.stderr().write_all(line.as_bytes());
         }
     }
 
