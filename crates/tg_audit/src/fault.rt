@@ -17,7 +17,7 @@ pub enum AuditFault {
     /// The client refuses what the gateway said.
     #[error("{0}")]
     Client(FetchFault),
-    /// The gateway's session refuses the request, which has more bytes than may be received: this number.
+    /// The gateway refuses the request, which has more bytes than may be received on a link: this number.
     #[error("Limit Received {number}")]
     Limit { number: u64 },
     /// The query with this number has another answer than the one that is expected of it.

@@ -1,4 +1,5 @@
-//! The queries of an audit, what a gateway's session answers over the folder of `draws.rt`, and look-ups that fail.
+//! The queries of an audit, what a client makes of a gateway's replies over the folder of `draws.rt`, and look-ups that
+//! fail.
 use crate::audits::{packed, query_number};
 use crate::draws::first_number;
 use std::alloc::Global;
@@ -92,7 +93,7 @@ fn say_span(span: &Span, answer: &mut Answer) {
     }
 }
 
-/// Says whether a session's answer to the query with this number, from 1, is this text.
+/// Says whether the answer to the query with this number, from 1, is this text.
 pub fn answer_asked(alloc: Global, given: &[Bytes], answer: &mut Answer) {
     let [_, text] = given else {
         return answer.text("no number and text");

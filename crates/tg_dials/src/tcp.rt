@@ -22,7 +22,8 @@ const PATIENCE: u64 = 30;
 /// given back.
 ///
 /// A host is an IPv4 address, an IPv6 address in brackets, or a name, whose addresses are tried in turn; each is given
-/// up after 30 seconds. A peer that says nothing for 60 seconds, or takes nothing, is a fault of its link.
+/// up after 30 seconds. A peer that says nothing for 60 seconds is a fault of its link, and so is a write to it of which
+/// the system takes no byte for 60 seconds.
 #[derive(Drop)]
 pub struct TcpDial<R: Net> {
     net: R,

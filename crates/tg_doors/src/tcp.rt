@@ -1,6 +1,7 @@
 //! Doors over TCP.
 ghost use Rattle.std.specs.Prelude.{◌≡◌, ◌+◌, ◌⊎◌, ◌≤◌, ◌≢◌, ◌↔◌, ℕ, IfErr, IfOk, IfSome, IsErr, IsTrue, None, false};
 ghost use Rattle.std.specs.IoError.{error_kind};
+ghost use Rattle.std.specs.Net.Socket.{socket_port};
 ghost use Rattle.tg_doors.specs.Doors.{IsAdmitted, IsDone, KeepsComing, KeepsPort, KeepsServed, KeepsShut};
 ghost use Rattle.tg_doors.specs.Doors.{at_door, given_link};
 ghost use Rattle.tg_links.specs.Views.{view_of};
@@ -149,14 +150,24 @@ impl<R: Net + Drop> Door for TcpDoor<R> {
     }
 }
 
+/// What listens, and the port of the address at which the system says that it does.
+fn bound_at<L>(listener: L, told: SocketAddr) -> Bound<L>
+    ensures { result ≡ record { listener = listener; port = socket_port told } }
+{
+    Bound {
+        listener,
+        port: told.port(),
+    }
+}
+
 /// Listens at an address, and says at which port. Errors: those of the system, such as a port that is in use.
 fn listen<R: Net>(net: &R, address: SocketAddr) -> io::Result<Bound<R::Listener>>
     // Nobody but this machine can connect.
     requires { (port : ℕ) × (address ≡ loopback port) }
 {
     let listener = net.bind(address)?;
-    let port = listener.local_addr()?.port();
-    Ok(Bound { listener, port })
+    let told = listener.local_addr()?;
+    Ok(bound_at(listener, told))
 }
 
 /// The address of a port of this machine that no other machine reaches (RFC 1122, 3.2.1.3), where 0 stands for one

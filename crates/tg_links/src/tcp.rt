@@ -1,10 +1,10 @@
 //! Links over TCP connections.
-ghost use Rattle.std.specs.Prelude.{◌≡◌, ◌⊎◌, ◌<◌, ◌≤◌, ◌↔◌, IfOk, IsTrue, OnErr, OnOk, Ok, false, length, refl};
+ghost use Rattle.std.specs.Prelude.{◌≡◌, ◌==◌, ◌<◌, ◌≤◌, ◌↔◌, IfOk, IsTrue, OnErr, OnOk, Ok, false, length, refl};
 ghost use Rattle.std.specs.Prelude.{take, true};
 ghost use Rattle.std.specs.IoError.{error_kind};
 ghost use Rattle.std.specs.Io.KnownBytes.{IsAtEnd};
 ghost use Rattle.tg_faults.specs.Faults.{Rose, counted};
-ghost use Rattle.tg_links.specs.Tcp.{hears_joins, hears_rests, says_joins, says_rests};
+ghost use Rattle.tg_links.specs.Tcp.{IsSilence, IsToldAs, hears_joins, hears_rests, says_joins, says_rests};
 ghost use Rattle.tg_links.specs.Tcp.{tcp_hearing, tcp_link, tcp_saying};
 ghost use Rattle.tg_streams.specs.Streams.{Ended, InputQuiet, InputRose, OutputQuiet, OutputRose, Put, Took, Unput};
 ghost use Rattle.tg_streams.specs.Streams.{Untaken, into, through};
@@ -40,7 +40,8 @@ pub enum Silence {
 /// A link over a connection of TCP (RFC 9293). Its bytes aren't told; what the stream itself knows of them is in what
 /// was taken and what was put.
 ///
-/// A peer that resets the connection (RFC 9293, 3.5.3) is a fault, and so is one that takes nothing for 60 seconds.
+/// A peer that resets the connection (RFC 9293, 3.5.3) is a fault, and so is a write of which the system takes no byte for
+/// 60 seconds, since the peer took too little. A peer that goes on taking is waited for, however slow it is.
 #[derive(Drop)]
 pub struct TcpLink<T> {
     stream: T,
@@ -85,6 +86,27 @@ impl<T> TcpLink<T> {
     {
         self.faults = self.faults.saturating_add(1);
         Failed
+    }
+
+    /// Tells what came of a read of the stream that had room. The link is over where nothing was read, and where the peer
+    /// was silent and silence ends it; any other error is a fault, such as that of a connection that was reset.
+    fn judge(&mut self, read: io::Result<usize>) -> Result<usize, Failed>
+        ensures told { IsToldAs self.old.silence read result }
+        ensures ok { IfOk result (λ n. self.new ≡ record self.old { over = n == 0 }) }
+        ensures err { OnErr result (self.new ≡ record self.old { faults = counted self.old.faults }) }
+        ensures counted { self.old.faults ≤ self.new.faults }
+    {
+        match read {
+            Ok(n) => {
+                self.over = n == 0;
+                Ok(n)
+            }
+            Err(e) if self.silence == Silence::Ends && is_silence(&e) => {
+                self.over = true;
+                Ok(0)
+            }
+            Err(_) => Err(self.fault()),
+        }
     }
 }
 
@@ -161,17 +183,8 @@ impl<T: Read> Source for TcpLink<T> {
         if self.over || buf.is_empty() {
             return Ok(0);
         }
-        match read_on(&mut self.stream, buf) {
-            Ok(n) => {
-                self.over = n == 0;
-                Ok(n)
-            }
-            Err(e) if self.silence == Silence::Ends && is_silence(&e) => {
-                self.over = true;
-                Ok(0)
-            }
-            Err(_) => Err(self.fault()),
-        }
+        let read = read_on(&mut self.stream, buf);
+        self.judge(read)
     }
 }
 
@@ -217,8 +230,7 @@ impl<T: Read + Write> Link for TcpLink<T> {
 /// Whether the error says that the peer said nothing for as long as a read waits (`SO_RCVTIMEO`, POSIX.1-2017,
 /// 2.10.16): `EAGAIN`, or `ETIMEDOUT`.
 fn is_silence(e: &io::Error) -> bool
-    ensures { IsTrue result ↔ ((error_kind e.now ≡ ErrorKind.WouldBlock)
-        ⊎ (error_kind e.now ≡ ErrorKind.TimedOut)) }
+    ensures { IsTrue result ↔ IsSilence (error_kind e.now) }
 {
     matches!(e.kind(), ErrorKind::WouldBlock | ErrorKind::TimedOut)
 }
