@@ -1,6 +1,6 @@
 -- The sections that a walk has given, each of which was given in a chunk or as it is, and why it gives no more.
-use Rattle.std.proofs.Common.{All, Err, List, None, Ok, Option, Some, [], ap, append-nil, map, refl, subst, sym}
-use Rattle.std.proofs.Common.{true, ℕ, ◌++◌, ◌∙◌, ◌∷◌, ◌≡◌, ◌≢◌}
+use Rattle.std.proofs.Common.{All, Err, List, None, Ok, Option, Some, [], ap, append-nil, inl, inr, map, refl, subst}
+use Rattle.std.proofs.Common.{sym, true, ℕ, ◌++◌, ◌∙◌, ◌∷◌, ◌≡◌, ◌≢◌, ◌⊎◌}
 use Rattle.std.specs.Prelude.{IfErr, IfOk, Result, false}
 use Rattle.std.specs.List.{flat_map}
 use Rattle.std.proofs.lemmas.Grind.{flat_map-append}
@@ -11,12 +11,13 @@ use Rattle.tg_cid.specs.Cid.{CidParts}
 use Rattle.tg_model.specs.Dag.{Section}
 use Rattle.tg_model.specs.PathWalk.{TraversalEnd, bad_block, gone, not_folder, not_there, stopped, whole}
 use Rattle.tg_model.specs.Queries.{QueryParts}
-use Rattle.tg_model.specs.Stores.{Lookups, Store}
+use Rattle.tg_model.specs.Stores.{Lookups, LookupsQuiet, Store}
 use Rattle.tg_model.specs.Traversal.{is_asked}
+use Rattle.tg_model.specs.declared.stores.BlocksFault.TheVariants as store_faults
 use Rattle.tg_reply.specs.CarBytes.{section_bytes}
 use Rattle.tg_reply.specs.Replies.{is_cut, is_cut_on_path}
-use Rattle.tg_replying.specs.Bodies.{AreAllSent, AreSent, FailsIn, Gives, Giving, HasSections, IsFrontSent}
-use Rattle.tg_replying.specs.Bodies.{SectionsEnd, WalkGave, giving_in, part_bytes, sections_bytes}
+use Rattle.tg_replying.specs.Bodies.{AreAllSent, AreSent, FailsIn, Gives, Giving, HasEndCause, HasSections}
+use Rattle.tg_replying.specs.Bodies.{IsFrontSent, SectionsEnd, WalkGave, giving_in, part_bytes, sections_bytes}
 use Rattle.tg_replying.specs.declared.fault.ReplyFault.{ReplyFault}
 use Rattle.tg_replying.specs.declared.fault.ReplyFault.TheVariants as faults
 use Rattle.tg_reply.specs.Shapes.{IsGood}
@@ -221,25 +222,39 @@ all_given ended minor q told now state new giving e is_q next h =
 pub walk_ended : (ended : EndedWalksSend) (deep : DeepWalksSend) (fronts : WalksSendFronts) (minor : ℕ)
     (q : QueryParts) (told now : Option Store) (state new : WalkState) (giving : Giving) (fault : WalkFault)
     → now ≡ told → state.left.query ≡ q → state.refused ≡ None → new.left.query ≡ q → new.refused ≡ Some fault
-    → fault ≢ walks.OutOfMemory
-    → HasNext now state (Err fault) new → HasGiven minor q told state giving
+    → HasNext now state (Err fault) new → HasGiven minor q told state giving → fault ≢ walks.OutOfMemory
     → HasSections told (WalkGave q (Some fault)) q (λ sections. Gives giving (sections_bytes minor sections))
-walk_ended ended deep fronts minor q told now state new giving fault e is_q none is_new some other next h =
+walk_ended ended deep fronts minor q told now state new giving fault e is_q none is_new some next h other =
     retold told (λ store sections. StandsFor state store sections) (WalkGave q (Some fault)) q
     (λ sections. Gives giving (sections_bytes minor sections))
     (λ store sections is stands. other_end ended deep q store sections fault other
     (cause_of q new store sections fault is_new some (next store sections (e ∙ is) stands))
     (front_of fronts q state store sections is_q none stands)) h
 
+-- want of memory, the walk's or the store's, counts no fault
+abbrev pub IsOfMemory : WalkFault → Type 0
+IsOfMemory fault = (fault ≡ walks.OutOfMemory) ⊎ (fault ≡ walks.Store store_faults.OutOfMemory)
+
+memory_quiet : (told : Option Store) (lookups : Lookups) (fault : WalkFault) → IsOfMemory fault
+    → HasEndCause told lookups (Some fault) → LookupsQuiet lookups
+memory_quiet told lookups fault (inl is) cause =
+    subst (λ (fault : WalkFault). HasEndCause told lookups (Some fault)) is cause
+memory_quiet told lookups fault (inr is) cause =
+    let of_store = subst (λ (fault : WalkFault). HasEndCause told lookups (Some fault)) is cause in
+    of_store.1
+
 -- the walk was refused, and says why unless memory was wanted
 pub refused_ends : (minor : ℕ) (q : QueryParts) (told : Option Store) (lookups : Lookups) (giving : Giving)
     (fault : WalkFault) (result : Result (Option WalkFault) ReplyFault)
     → IfOk result (λ end. (end ≡ Some fault) × (fault ≢ walks.OutOfMemory))
-    → IfErr result (λ error. error ≡ faults.OutOfMemory)
-    → (fault ≢ walks.OutOfMemory → SectionsEnd minor q told lookups giving (Ok (Some fault)))
+    → IfErr result (λ error. error ≡ faults.OutOfMemory) → IfErr result (λ error. IsOfMemory fault)
+    → HasEndCause told lookups (Some fault)
+    → (fault ≢ walks.OutOfMemory
+    → HasSections told (WalkGave q (Some fault)) q (λ sections. Gives giving (sections_bytes minor sections)))
     → HasSections told (IsFrontSent q) q (λ sections. Gives giving (sections_bytes minor sections))
     → SectionsEnd minor q told lookups giving result
-refused_ends minor q told lookups giving fault (Ok end) why memory given front = subst
-    (λ (end : Option WalkFault). SectionsEnd minor q told lookups giving (Ok end)) (sym why.0) (given why.1)
-refused_ends minor q told lookups giving fault (Err error) why memory given front = subst
-    (λ (error : ReplyFault). SectionsEnd minor q told lookups giving (Err error)) (sym memory) front
+refused_ends minor q told lookups giving fault (Ok end) why memory wanted cause given front = subst
+    (λ (end : Option WalkFault). SectionsEnd minor q told lookups giving (Ok end)) (sym why.0) (given why.1, cause)
+refused_ends minor q told lookups giving fault (Err error) why memory wanted cause given front = subst
+    (λ (error : ReplyFault). SectionsEnd minor q told lookups giving (Err error)) (sym memory)
+    (front, memory_quiet told lookups fault wanted cause)

@@ -1,5 +1,5 @@
 -- What may be sent for a head that asks for a raw block.
-use Rattle.std.proofs.Common.{List, None, Ok, Option, Some, [], false, inl, inr, refl, subst, sym, true, ℕ, ◌≡◌}
+use Rattle.std.proofs.Common.{Err, List, None, Ok, Option, Some, [], false, inl, inr, refl, subst, sym, ℕ, ◌≡◌}
 use Rattle.tg_answering.specs.StoredRoots.{StoredBlocks}
 use Rattle.tg_cid.specs.Cid.{CidParts}
 use Rattle.tg_cid.specs.declared.cid.HashKind.{HashKind}
@@ -12,10 +12,11 @@ use Rattle.tg_model.specs.declared.stores.BlocksFault.{BlocksFault}
 use Rattle.tg_model.specs.declared.stores.BlocksFault.TheVariants as store_faults
 use Rattle.tg_reply.specs.Asked.{asked}
 use Rattle.tg_reply.specs.Replies.{Reply, raw_reply, refused_request}
+use Rattle.tg_reply.specs.declared.refusal.Refusal.{Refusal}
 use Rattle.tg_reply.specs.declared.refusal.Refusal.TheVariants as refusals
 use Rattle.tg_replying.proofs.Sending.{MaySend, block_refused, may_send_quiet, store_refused}
 use Rattle.tg_replying.specs.Bodies.{BrokeOver}
-use Rattle.tg_replying.specs.Replying.{IsRefusedOver}
+use Rattle.tg_replying.specs.Replying.{FindsOr, IsRefusedOver, ask_fault_of_store, is_of_store_refusal}
 use Rattle.tg_reply.specs.Sent.{SentFor, exact, quiet}
 use Rattle.tg_reply.specs.Shapes.{SentOver, raw_block}
 use Rattle.tg_walk.specs.Walks.{IsBlockOf}
@@ -78,22 +79,20 @@ failed_over : (told : Option Store) (cid : CidParts) (lookups : Lookups)
 failed_over (Some store) cid lookups cause = cause
 failed_over None cid lookups cause = inl cause
 
--- a fault of the store, but want of memory
-abbrev pub IsBreak : BlocksFault → Type 0
-IsBreak (store_faults.Changed want got) = Unit {0}
-IsBreak store_faults.Failed = Unit {0}
-IsBreak store_faults.OutOfMemory = ⊥
-
-broke_over : (told : Option Store) (cid : CidParts) (lookups : Lookups) (fault : BlocksFault) → IsBreak fault
-    → IsCauseOf told cid lookups.faults_old lookups.faults_new fault → BrokeOver told lookups
-broke_over told cid lookups (store_faults.Changed want got) is cause = changed_over told cid want got lookups cause
-broke_over told cid lookups store_faults.Failed is cause = failed_over told cid lookups cause
-broke_over told cid lookups store_faults.OutOfMemory is cause = absurd is
+-- a fault of the store comes as it came
+pub fault_over : (told : Option Store) (cid : CidParts) (lookups : Lookups) (fault : BlocksFault)
+    → IsCauseOf told cid lookups.faults_old lookups.faults_new fault
+    → (cid.hash ≡ Identity → fault ≡ store_faults.OutOfMemory) → FindsOr cid told lookups (Err (ask_fault_of_store fault))
+fault_over told cid lookups (store_faults.Changed want got) cause own =
+    (refl, λ is. (let e = own is in cc), changed_over told cid want got lookups cause)
+fault_over told cid lookups store_faults.Failed cause own =
+    (refl, λ is. (let e = own is in cc), failed_over told cid lookups cause)
+fault_over told cid lookups store_faults.OutOfMemory cause own = cause
 
 -- or where the store broke off
-pub break_sent : (told : Option Store) (head : RequestHead) (lookups : Lookups) (q : QueryParts) (cid : CidParts)
-    (fault : BlocksFault) → asked head ≡ Ok q → IsBreak fault
-    → IsCauseOf told cid lookups.faults_old lookups.faults_new fault
-    → MaySend (SentOver told) head lookups (refused_request head refusals.Store) true
-break_sent told head lookups q cid fault asks is cause =
-    store_refused told head lookups q asks (broke_over told cid lookups fault is cause)
+pub break_sent : (told : Option Store) (head : RequestHead) (lookups : Lookups) (q : QueryParts) (refusal : Refusal)
+    → asked head ≡ Ok q → refusal ≡ refusals.Store → BrokeOver told lookups
+    → MaySend (SentOver told) head lookups (refused_request head refusal) (is_of_store_refusal refusal)
+break_sent told head lookups q refusal asks is broke =
+    subst (λ (refusal : Refusal). MaySend (SentOver told) head lookups (refused_request head refusal)
+    (is_of_store_refusal refusal)) (sym is) (store_refused told head lookups q asks broke)

@@ -223,7 +223,7 @@ module _ {S : Type 0} (m : SinkMeaning S) (joins : SinkJoins S m) (told : Option
         is_done = fails_within m a c g0 g2 (line ++ h.bytes) (reply_bytes sent) (begins_reply h.bytes h.is_front by_get)
             (gives_fails m a b c g0 g1 g2 line h.bytes joins gives h.is_done);
       }
-  part_ends a b c g0 g1 g2 lookups faults.OutOfMemory by_get gives h =
+  part_ends a b c g0 g1 g2 lookups faults.OutOfMemory by_get gives (h, still) =
       let sent : Reply = car_reply head found q h.is_front.sections h.is_front.cut in
       record {
         sent = quiet sent 0;

@@ -299,10 +299,12 @@ sections_failed m a b c g0 g1 g2 minor found q told lookups header faults.SinkFa
     front_sections minor found q told (FailsIn (giving_in m g1 g2 b c)) (FailsIn (giving_in m g0 g2 a c))
     (λ bytes d. gives_fails m a b c g0 g1 g2 (part_bytes minor (car_header q.root)) bytes joins
     (header_gave m a b g0 g1 minor q header is gave) d) h
-sections_failed m a b c g0 g1 g2 minor found q told lookups header faults.OutOfMemory joins is gave h =
-    front_sections minor found q told (Gives (giving_in m g1 g2 b c)) (Gives (giving_in m g0 g2 a c))
-    (λ bytes d. gives_gives m a b c g0 g1 g2 (part_bytes minor (car_header q.root)) bytes joins
-    (header_gave m a b g0 g1 minor q header is gave) d) h
+sections_failed m a b c g0 g1 g2 minor found q told lookups header faults.OutOfMemory joins is gave h = (
+  front_sections minor found q told (Gives (giving_in m g1 g2 b c)) (Gives (giving_in m g0 g2 a c))
+      (λ bytes d. gives_gives m a b c g0 g1 g2 (part_bytes minor (car_header q.root)) bytes joins
+      (header_gave m a b g0 g1 minor q header is gave) d) h.0,
+  h.1,
+)
 
 -- the header and the sections were given, and out failed in the end
 pub end_failed : {S : Type 0} (m : SinkMeaning S) (a b c d : S) (g0 g1 g2 g3 : List ℕ) (minor : ℕ) (found : Bool)

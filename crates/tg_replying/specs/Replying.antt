@@ -1,10 +1,14 @@
 -- How the reply to one request ends that is put over a store (RFC 9112, section 9.3).
 use Rattle.std.specs.Prelude.{Bool, Err, List, None, Ok, Option, Result, Some, [], false, if◌then◌else◌, take, true, ℕ, ⊤, ◌≡◌, ◌≢◌}
+use Rattle.tg_cid.specs.Cid.{CidParts}
+use Rattle.tg_cid.specs.declared.cid.HashKind.TheVariants.{Identity}
 use Rattle.tg_http.specs.declared.request.RequestHead.{RequestHead}
 use Rattle.tg_model.specs.PathWalk.{path_walk}
 use Rattle.tg_model.specs.Queries.{QueryParts}
 use Rattle.tg_model.specs.StoreView.{store_view}
 use Rattle.tg_model.specs.Stores.{Lookups, LookupsQuiet, Store}
+use Rattle.tg_model.specs.declared.stores.BlocksFault.{BlocksFault}
+use Rattle.tg_model.specs.declared.stores.BlocksFault.TheVariants as store_faults
 use Rattle.tg_reply.specs.Asked.{asked}
 use Rattle.tg_reply.specs.Replies.{Reply, refused_request, reply, reply_bytes}
 use Rattle.tg_reply.specs.declared.refusal.Refusal.{Refusal}
@@ -18,6 +22,7 @@ use Rattle.tg_replying.specs.declared.reply.Replied.{Replied}
 use Rattle.tg_reply.specs.Sent.{Answering, Sent, SendsSections, is_broken, is_found, is_server_error}
 use Rattle.tg_reply.specs.Shapes.{IsOfPath}
 use Rattle.tg_streams.specs.Streams.{Output, OutputQuiet, Put, PutFront}
+use Rattle.tg_walk.specs.Walks.{IsBlockOf}
 
 -- a reply of status 500, or whose body was cut
 abbrev pub is_broken_reply : Reply → Bool
@@ -121,3 +126,24 @@ LeadsOr q told lookups (Ok found) = IsLed q told found × LookupsQuiet lookups
 LeadsOr q told lookups (Err (asks.Refused refusals.Store)) = BrokeOver told lookups
 LeadsOr q told lookups (Err (asks.Refused refusal)) = IsRefusedOver q told refusal × LookupsQuiet lookups
 LeadsOr q told lookups (Err asks.OutOfMemory) = LookupsQuiet lookups
+
+-- ---- what a CID leads to
+
+-- a block in the store, or none, as far as it is told; and of an identity CID its digest
+pub record FindsBlock (cid : CidParts) (told : Option Store) (found : Option (List ℕ)) : Type 0 where
+  pub block : IsBlockOf told cid found
+  pub identity : cid.hash ≡ Identity → found ≡ Some cid.digest
+
+-- a CID leads to a block, or to none; or the store broke off, for which no other refusal comes, and none of an identity
+-- CID; or memory was wanted, and it broke off nowhere
+abbrev pub FindsOr : CidParts → Option Store → Lookups → Result (Option (List ℕ)) AskFault → Type 0
+FindsOr cid told lookups (Ok found) = FindsBlock cid told found × LookupsQuiet lookups
+FindsOr cid told lookups (Err (asks.Refused refusal)) =
+    (refusal ≡ refusals.Store) × (cid.hash ≢ Identity) × BrokeOver told lookups
+FindsOr cid told lookups (Err asks.OutOfMemory) = LookupsQuiet lookups
+
+-- a fault of the store; its want of memory is the reply's
+abbrev pub ask_fault_of_store : BlocksFault → AskFault
+ask_fault_of_store (store_faults.Changed want got) = asks.Refused refusals.Store
+ask_fault_of_store store_faults.Failed = asks.Refused refusals.Store
+ask_fault_of_store store_faults.OutOfMemory = asks.OutOfMemory

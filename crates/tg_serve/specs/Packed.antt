@@ -12,6 +12,7 @@ use Rattle.tg_store.specs.AttachedPacks.{IsAttachedIn}
 use Rattle.tg_store.specs.Attaching.{IsRefusal}
 use Rattle.tg_store.specs.declared.fault.PackFault.{PackFault}
 use Rattle.tg_store.specs.declared.fault.PackFault.TheVariants as packs
+use Rattle.tg_store.specs.declared.fault.PackRefused.{PackRefused}
 use Rattle.tg_streams.specs.Streams.{Output, OutputQuiet, Put, PutFront, Unput}
 
 -- the line that says to which port the door is bound
@@ -89,3 +90,7 @@ AskedBy asked (Err faults.OutOfMemory) = ⊤
 abbrev pub fault_of_pack : PackFault → ServeFault
 fault_of_pack packs.OutOfMemory = faults.OutOfMemory
 fault_of_pack fault = faults.Pack fault
+
+-- a refused pack is given back with the fault of its refusal, and with no other
+abbrev pub GivesBack : {P : Type 0} → P → Result Happened ServeFault → PackRefused P → Type 0
+GivesBack pack end refused = (pack ≡ refused.pack) × (end ≡ Err (fault_of_pack refused.fault))

@@ -1,10 +1,11 @@
 //! A pack that is served through a door.
-ghost use Rattle.std.specs.Prelude.{◌≡◌, [], OnErr, OnOk};
+ghost use Rattle.std.specs.Prelude.{◌≡◌, [], IfErr, IfOk, OnErr, OnOk};
 ghost use Rattle.tg_doors.specs.Doors.{at_door};
 ghost use Rattle.tg_files.specs.Packs.{Did, pack_step};
 ghost use Rattle.tg_model.specs.Stores.{looked_in};
-ghost use Rattle.tg_serve.specs.Packed.{AskedBy, PackServed, StoreServed, serving_line};
+ghost use Rattle.tg_serve.specs.Packed.{AskedBy, GivesBack, OutUntouched, PackServed, StoreServed, serving_line};
 ghost use Rattle.tg_serve.specs.Serving.{LinksTell};
+ghost use Rattle.tg_store.specs.Packs.{stored_in};
 ghost use Rattle.tg_streams.specs.Streams.{OutputQuiet, Put, PutFront, into};
 ghost use Rattle.tg_walk.specs.Walks.{HaveLookedUp};
 
@@ -15,7 +16,7 @@ use tg_doors::Door;
 use tg_faults::Failed;
 use tg_files::Pack;
 use tg_model::{Blocks, Limits};
-use tg_store::{PackFault, PackStore};
+use tg_store::{PackFault, PackRefused, PackStore};
 use tg_streams::{Sink, put_pieces};
 use thiserror::Error;
 
@@ -77,7 +78,30 @@ pub fn serve_pack<P: Pack, L: Door, S: Sink>(
     ensures asked { AskedBy (L.door.asked door.old door.new port) result.1 }
 {
     tg_store::laws::finished_packs::<P>();
-    match PackStore::attach_pack(alloc, pack) {
+    let attached = PackStore::attach_pack(alloc, pack);
+    serve_attached(alloc, attached, door, port, count, limits, out)
+}
+
+/// Serves the store of a pack through a door, which is bound to a port, or refuses it as `attach_pack` did, and gives the
+/// pack back. Errors: those of `serve_pack`.
+fn serve_attached<P: Pack, L: Door, S: Sink>(
+    alloc: Global,
+    attached: Result<PackStore<P>, PackRefused<P>>,
+    door: &mut L,
+    port: u16,
+    count: u32,
+    limits: Limits,
+    out: &mut S,
+) -> (P, Result<Happened, ServeFault>)
+    ensures pack { IfOk attached (λ store. Did [] (pack_step P.pack store.pack result.0)) }
+    ensures served { IfOk attached (λ store. StoreServed (stored_in (P.pack.content store.pack) store.places)
+        limits.received port count (LinksTell L.Link.link) (P.pack.faults store.pack) (P.pack.faults result.0)
+        (into S.sink out.old out.new) (at_door L.door door.old door.new) result.1) }
+    ensures asked { IfOk attached (λ _. L.door.asked door.old door.new port) }
+    ensures refused { IfErr attached (λ refused. GivesBack result.0 result.1 refused) }
+    ensures untouched { IfErr attached (λ _. OutUntouched (into S.sink out.old out.new) × (door.new ≡ door.old)) }
+{
+    match attached {
         Ok(store) => {
             let mut store = store;
             let end = serve_store(alloc, &mut store, door, port, count, limits, out);

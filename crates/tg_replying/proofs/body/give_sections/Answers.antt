@@ -116,17 +116,15 @@ returns-in-Err-clause-ends g c =
     let q = c.args.walk.now.left.query in
     let giving = giving_in g.S.Sink.sink c.args.gathering.now c.loop-cid.gathering c.args.out.now c.loop-cid.out in
     refused_ends c.args.minor q told (looked_in g.B.Blocks.blocks c.args.blocks.now c.next.new.blocks) giving
-    c.in-Err.fault c.end_of.result c.end_of.ensures.other c.end_of.ensures.memory
-    (λ other. (
-      walk_ended c.walks_send.ensures.ended c.walks_send.ensures.deep c.walks_send.ensures.fronts c.args.minor q
-          told (g.B.Blocks.blocks.stored c.loop-cid.blocks)
-          c.loop-cid.walk c.next.new.self giving c.in-Err.fault c.loop-cid.invariant.looked.up.looked.stored
-          c.loop-cid.invariant.query c.loop-cid.invariant.fresh
-          (c.next.ensures.query ∙ c.loop-cid.invariant.query) c.in-Err.ensures.refused other c.in-Err.ensures.stands
-          c.loop-cid.invariant.given,
-      end_cause g.B.Blocks.blocks c.args.blocks.now c.loop-cid.blocks c.next.new.blocks c.in-Err.fault
-          c.loop-cid.invariant.looked (c.in-Err.ensures.cause c.loop-cid.invariant.fresh),
-    ))
+    c.in-Err.fault c.end_of.result c.end_of.ensures.other c.end_of.ensures.memory c.end_of.ensures.wanted
+    (end_cause g.B.Blocks.blocks c.args.blocks.now c.loop-cid.blocks c.next.new.blocks c.in-Err.fault
+    c.loop-cid.invariant.looked (c.in-Err.ensures.cause c.loop-cid.invariant.fresh))
+    (walk_ended c.walks_send.ensures.ended c.walks_send.ensures.deep c.walks_send.ensures.fronts c.args.minor q
+    told (g.B.Blocks.blocks.stored c.loop-cid.blocks)
+    c.loop-cid.walk c.next.new.self giving c.in-Err.fault c.loop-cid.invariant.looked.up.looked.stored
+    c.loop-cid.invariant.query c.loop-cid.invariant.fresh
+    (c.next.ensures.query ∙ c.loop-cid.invariant.query) c.in-Err.ensures.refused c.in-Err.ensures.stands
+    c.loop-cid.invariant.given)
     (front_given c.walks_send.ensures.fronts c.args.minor q told c.loop-cid.walk giving c.loop-cid.invariant.query
     c.loop-cid.invariant.fresh c.loop-cid.invariant.given)
 
