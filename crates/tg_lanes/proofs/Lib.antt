@@ -1,7 +1,10 @@
 mod Caching
 mod Looking
+mod Later
 mod Standing
 mod Moves
 mod Feeding
+mod Replies
 mod Apart
 mod Heard
+mod Calling

@@ -1,18 +1,17 @@
 -- What lanes stand for behind an event and a renewal.
-use Rattle.std.proofs.Common.{◌≡◌, ℕ, zero, suc, ◌<◌, ◌≤◌, Bool, Option, Some, None, Result, true, false, List, [], ◌∷◌, ◌++◌, append-nil, inl, length, refl, sym, ap, subst, ◌∙◌, arith, eq-eqb, eqb-true, ◌==◌}
+use Rattle.std.proofs.Common.{◌≡◌, ℕ, zero, suc, ◌<◌, ◌≤◌, Bool, Option, Some, None, Result, true, false, List, [], ◌∷◌, ◌++◌, append-nil, length, refl, sym, ap, subst, subst₂, ◌∙◌, arith, eq-eqb, eqb-true, ◌==◌}
 use Rattle.std.specs.Prelude.{if◌then◌else◌, replicate, slice_get, slice_set}
 use Rattle.tg_bytes.specs.Told.{grown}
 use Rattle.tg_gateway.specs.Laws.{SessionsBegin}
 use Rattle.tg_gateway.specs.Sessions.{SessionView, new_session}
 use Rattle.tg_gateway.specs.declared.fault.GatewayFault.{GatewayFault}
-use Rattle.tg_gateway.specs.declared.fault.GatewayFault.TheVariants as faults
 use Rattle.tg_gateway.specs.declared.session.Next.{Next}
+use Rattle.tg_lanes.proofs.Later.{stands_later}
 use Rattle.tg_lanes.proofs.Standing.{GoesOn, SessionLaws, lane_ends, lane_on}
-use Rattle.tg_lanes.specs.History.{FailsOnlyRisen, Fed, FedStands, HasWrittenFront, LaneStands, LanesStandFor, Move, WritesBy, fed_by, has_ended, own_behind, own_from, own_of, was_fed, was_renewed}
+use Rattle.tg_lanes.specs.History.{Fed, FedStands, LaneStands, LanesStandFor, Move, fed_by, has_ended, own_behind, own_from, own_of, since_behind, since_of, was_fed, was_renewed}
 use Rattle.tg_lanes.specs.Lanes.{AreAgreed, Feeds, IsAgreed}
 use Rattle.tg_lanes.specs.Laws.{LanesBegin}
 use Rattle.tg_model.specs.Stores.{Lookups, Store}
-use Rattle.tg_reply.specs.Sessions.{SessionState}
 use Rattle.tg_streams.specs.Streams.{Output, Put, SinkMeaning, into}
 
 -- ---- a lane's own part
@@ -32,17 +31,36 @@ own_elsewhere : (lane other : ℕ) (moves : List Move) (f : Fed) → (other == l
 own_elsewhere lane other moves f apart =
     own_push lane [] moves (was_fed other f) ∙ ap (λ (b : Bool). if b then own_of lane moves ++ f ∷ [] else own_of lane moves) apart
 
-own_anew : (lane : ℕ) (moves : List Move) → own_of lane (moves ++ was_renewed lane ∷ []) ≡ []
-own_anew lane moves =
-    own_push lane [] moves (was_renewed lane)
+own_anew : (lane count : ℕ) (moves : List Move) → own_of lane (moves ++ was_renewed lane count ∷ []) ≡ []
+own_anew lane count moves =
+    own_push lane [] moves (was_renewed lane count)
     ∙ ap (λ (b : Bool). if b then [] else own_of lane moves) (eq-eqb lane lane refl)
 
-own_kept : (lane other : ℕ) (moves : List Move) → (other == lane) ≡ false → own_of lane (moves ++ was_renewed other ∷ []) ≡ own_of lane moves
-own_kept lane other moves apart =
-    own_push lane [] moves (was_renewed other) ∙ ap (λ (b : Bool). if b then [] else own_of lane moves) apart
+own_kept : (lane other count : ℕ) (moves : List Move) → (other == lane) ≡ false
+    → own_of lane (moves ++ was_renewed other count ∷ []) ≡ own_of lane moves
+own_kept lane other count moves apart =
+    own_push lane [] moves (was_renewed other count) ∙ ap (λ (b : Bool). if b then [] else own_of lane moves) apart
 
 own_ended : (lane other : ℕ) (moves : List Move) → own_of lane (moves ++ has_ended other ∷ []) ≡ own_of lane moves
 own_ended lane other moves = own_push lane [] moves (has_ended other)
+
+-- ---- the count since when
+
+since_push : (lane since : ℕ) (moves : List Move) (move : Move)
+    → since_of lane since (moves ++ move ∷ []) ≡ since_behind lane (since_of lane since moves) move
+since_push lane since [] move = refl
+since_push lane since (m ∷ moves) move = since_push lane (since_behind lane since m) moves move
+
+since_anew : (lane since count : ℕ) (moves : List Move) → since_of lane since (moves ++ was_renewed lane count ∷ []) ≡ count
+since_anew lane since count moves =
+    since_push lane since moves (was_renewed lane count)
+    ∙ ap (λ (b : Bool). if b then count else since_of lane since moves) (eq-eqb lane lane refl)
+
+since_kept : (lane other since count : ℕ) (moves : List Move) → (other == lane) ≡ false
+    → since_of lane since (moves ++ was_renewed other count ∷ []) ≡ since_of lane since moves
+since_kept lane other since count moves apart =
+    since_push lane since moves (was_renewed other count)
+    ∙ ap (λ (b : Bool). if b then count else since_of lane since moves) apart
 
 -- ---- sessions by their lanes
 
@@ -73,53 +91,16 @@ got_set [] i x y h = cc
 got_set (z ∷ xs) zero x y h = some_is x y h
 got_set (z ∷ xs) (suc i) x y h = got_set xs i x y h
 
--- ---- what stands while the store's count rises
-
-front_later : (session : SessionState) (told : Option Store) (now later : ℕ) (own : List Fed) → now ≤ later
-    → HasWrittenFront session told now own → HasWrittenFront session told later own
-front_later session told now later own le h = record {
-  sent = h.sent;
-  next = h.next;
-  first = h.first;
-  last = h.last;
-  front = h.front;
-  before = omega (arith, h.before, le);
-  count = h.count;
-  written_is = h.written_is;
-}
-
-later_by : (refused : Option GatewayFault) (session : SessionState) (told : Option Store) (now later : ℕ) (own : List Fed) → now ≤ later
-    → WritesBy refused session told now own → WritesBy refused session told later own
-later_by None session told now later own le h = record {
-  sent = h.sent;
-  first = h.first;
-  last = h.last;
-  stands = h.stands;
-  before = omega (arith, h.before, le);
-  written_is = h.written_is;
-}
-later_by (Some (faults.Limit number)) session told now later own le h = record {
-  sent = h.sent;
-  first = h.first;
-  last = h.last;
-  up_to = h.up_to;
-  before = omega (arith, h.before, le);
-  written_is = h.written_is;
-}
-later_by (Some faults.LinkFault) session told now later own le h = (front_later session told now later own le h.0, h.1)
-later_by (Some faults.OutOfMemory) session told now later own le h = front_later session told now later own le h
-
-stands_later : (session : SessionView) (told : Option Store) (now later : ℕ) (own : List Fed) → now ≤ later → LaneStands session told now own
-    → LaneStands session told later own
-stands_later session told now later own le h = record {
-  writes = later_by session.refused session.state told now later own le h.writes;
-  fails = h.fails;
-}
-
 -- ---- an event
 
+-- what stands stands by the same count and the same part
+stands_by : (session : SessionView) (told : Option Store) (now since other : ℕ) (own part : List Fed) → since ≡ other → own ≡ part
+    → LaneStands session told other now part → LaneStands session told since now own
+stands_by session told now since other own part one same h =
+    subst₂ (λ (n : ℕ) (l : List Fed). LaneStands session told n now l) (sym one) (sym same) h
+
 module _ (laws : SessionLaws) (told : Option Store) (old new : List SessionView) (lane : ℕ) (piece : List ℕ) (lookups : Lookups) (out : Output)
-    (le : lookups.faults_old ≤ lookups.faults_new) (agreed : AreAgreed old) where
+    (le : lookups.faults_old ≤ lookups.faults_new) where
   pub lanes_fed : (before behind : SessionView) (same : Type 0) (result : Result Next GatewayFault) → (same → Put [] out)
       → slice_get old lane ≡ Some before → new ≡ slice_set old lane behind → Feeds told before behind piece lookups out same result
       → FedStands told old new lane piece lookups out result
@@ -128,12 +109,12 @@ module _ (laws : SessionLaws) (told : Option Store) (old new : List SessionView)
     put = on.put;
     session = behind;
     session_is = found;
-    ends_as = lane_ends told before behind piece lookups out same result (agreed lane before was) feeds;
-    stand = λ moves stand other session at. by moves stand other session at (lane == other) refl;
+    ends_as = lane_ends told before behind piece lookups out same result feeds;
+    stand = λ since moves stand other session at. by since moves stand other session at (lane == other) refl;
   }
     where
       on : GoesOn told before behind piece lookups out
-      on = lane_on laws told piece lookups out before behind same result idle le (agreed lane before was) feeds
+      on = lane_on laws told piece lookups out le before behind same result idle feeds
 
       f : Fed
       f = fed_by piece on.written lookups out
@@ -141,20 +122,26 @@ module _ (laws : SessionLaws) (told : Option Store) (old new : List SessionView)
       found : slice_get new lane ≡ Some behind
       found = ap (λ (l : List SessionView). slice_get l lane) is ∙ get_here old lane before behind was
 
-      by : (moves : List Move) → LanesStandFor old told lookups.faults_old moves → (other : ℕ) (session : SessionView) → slice_get new other ≡ Some session
-          → (b : Bool) → (lane == other) ≡ b → LaneStands session told lookups.faults_new (own_of other (moves ++ was_fed lane f ∷ []))
-      by moves stand other session at true here =
+      by : (since : ℕ) (moves : List Move) → LanesStandFor old told since lookups.faults_old moves → (other : ℕ) (session : SessionView)
+          → slice_get new other ≡ Some session → (b : Bool) → (lane == other) ≡ b
+          → LaneStands session told (since_of other since (moves ++ was_fed lane f ∷ [])) lookups.faults_new (own_of other (moves ++ was_fed lane f ∷ []))
+      by since moves stand other session at true here =
           let one : lane ≡ other = eqb-true lane other here in
           let same_session : behind ≡ session = some_is behind session (sym found ∙ ap (slice_get new) one ∙ at) in
-          subst (λ (l : ℕ). LaneStands session told lookups.faults_new (own_of l (moves ++ was_fed lane f ∷ []))) one
-          (subst (λ (own : List Fed). LaneStands session told lookups.faults_new own) (sym (own_here lane moves f))
-          (subst (λ (s : SessionView). LaneStands s told lookups.faults_new (own_of lane moves ++ f ∷ [])) same_session
-          (on.stands (own_of lane moves) (stand lane before was))))
-      by moves stand other session at false apart =
+          subst
+          (λ (l : ℕ). LaneStands session told (since_of l since (moves ++ was_fed lane f ∷ [])) lookups.faults_new (own_of l (moves ++ was_fed lane f ∷ [])))
+          one
+          (stands_by session told lookups.faults_new (since_of lane since (moves ++ was_fed lane f ∷ [])) (since_of lane since moves)
+          (own_of lane (moves ++ was_fed lane f ∷ [])) (own_of lane moves ++ f ∷ []) (since_push lane since moves (was_fed lane f)) (own_here lane moves f)
+          (subst (λ (s : SessionView). LaneStands s told (since_of lane since moves) lookups.faults_new (own_of lane moves ++ f ∷ [])) same_session
+          (on.stands (since_of lane since moves) (own_of lane moves) (stand lane before was))))
+      by since moves stand other session at false apart =
           let kept : slice_get old other ≡ Some session =
           sym (ap (λ (l : List SessionView). slice_get l other) is ∙ get_elsewhere old lane other behind apart) ∙ at in
-          subst (λ (own : List Fed). LaneStands session told lookups.faults_new own) (sym (own_elsewhere other lane moves f apart))
-          (stands_later session told lookups.faults_old lookups.faults_new (own_of other moves) le (stand other session kept))
+          stands_by session told lookups.faults_new (since_of other since (moves ++ was_fed lane f ∷ [])) (since_of other since moves)
+          (own_of other (moves ++ was_fed lane f ∷ [])) (own_of other moves) (since_push other since moves (was_fed lane f))
+          (own_elsewhere other lane moves f apart)
+          (stands_later session told (since_of other since moves) lookups.faults_old lookups.faults_new (own_of other moves) le (stand other session kept))
 
 -- a session agrees with its state where that of a lane was changed for one that does
 pub agreed_set : (sessions : List SessionView) (lane : ℕ) (behind : SessionView) → AreAgreed sessions → IsAgreed behind
@@ -168,40 +155,42 @@ agreed_set sessions lane behind agreed is other session at = by (lane == other) 
     by false apart = agreed other session (sym (get_elsewhere sessions lane other behind apart) ∙ at)
 
 -- the peer of a lane said no more
-pub lanes_ended : (told : Option Store) (sessions : List SessionView) (lane : ℕ) (now : ℕ) (moves : List Move) → LanesStandFor sessions told now moves
-    → LanesStandFor sessions told now (moves ++ has_ended lane ∷ [])
-lanes_ended told sessions lane now moves stand other session at =
-    subst (λ (own : List Fed). LaneStands session told now own) (sym (own_ended other lane moves)) (stand other session at)
+pub lanes_ended : (told : Option Store) (sessions : List SessionView) (lane since now : ℕ) (moves : List Move) → LanesStandFor sessions told since now moves
+    → LanesStandFor sessions told since now (moves ++ has_ended lane ∷ [])
+lanes_ended told sessions lane since now moves stand other session at =
+    stands_by session told now (since_of other since (moves ++ has_ended lane ∷ [])) (since_of other since moves)
+    (own_of other (moves ++ has_ended lane ∷ [])) (own_of other moves) (since_push other since moves (has_ended lane)) (own_ended other lane moves)
+    (stand other session at)
 
 -- ---- new sessions
 
-only_none : (told : Option Store) (session : SessionState) → session.failed ≡ 0 → FailsOnlyRisen told session []
-only_none None session e = tt
-only_none (Some store) session e = inl e
-
-new_stands : SessionsBegin → (told : Option Store) (most now : ℕ) → LaneStands (new_session most) told now []
-new_stands begin told most now = record {
-  writes = record { sent = []; first = now; last = now; stands = begin told most now; before = omega arith; written_is = refl };
-  fails = only_none told (new_session most).state refl;
-}
+new_stands : SessionsBegin → (told : Option Store) (most since now : ℕ) → since ≤ now → LaneStands (new_session most) told since now []
+new_stands begin told most since now le =
+    stands_later (new_session most) told since since now [] le
+    (record { in_turn = omega arith; sent = []; sent_in = refl; writes = record { stands = begin told most since; written_is = refl } })
 
 -- a lane was renewed
-pub lanes_renewed : SessionsBegin → (told : Option Store) (old new : List SessionView) (lane most now : ℕ) (moves : List Move) (before : SessionView) → slice_get old lane ≡ Some before
-    → new ≡ slice_set old lane (new_session most) → LanesStandFor old told now moves → LanesStandFor new told now (moves ++ was_renewed lane ∷ [])
-lanes_renewed begin told old new lane most now moves before was is stand other session at = by (lane == other) refl
+pub lanes_renewed : SessionsBegin → (told : Option Store) (old new : List SessionView) (lane most since now : ℕ) (moves : List Move) (before : SessionView)
+    → slice_get old lane ≡ Some before → new ≡ slice_set old lane (new_session most) → LanesStandFor old told since now moves
+    → LanesStandFor new told since now (moves ++ was_renewed lane now ∷ [])
+lanes_renewed begin told old new lane most since now moves before was is stand other session at = by (lane == other) refl
   where
-    by : (b : Bool) → (lane == other) ≡ b → LaneStands session told now (own_of other (moves ++ was_renewed lane ∷ []))
+    anew : List Move
+    anew = moves ++ was_renewed lane now ∷ []
+
+    by : (b : Bool) → (lane == other) ≡ b → LaneStands session told (since_of other since anew) now (own_of other anew)
     by true here =
         let one : lane ≡ other = eqb-true lane other here in
         let found : slice_get new lane ≡ Some (new_session most) = ap (λ (l : List SessionView). slice_get l lane) is ∙ get_here old lane before (new_session most) was in
         let same : new_session most ≡ session = some_is (new_session most) session (sym found ∙ ap (slice_get new) one ∙ at) in
-        subst (λ (l : ℕ). LaneStands session told now (own_of l (moves ++ was_renewed lane ∷ []))) one
-        (subst (λ (own : List Fed). LaneStands session told now own) (sym (own_anew lane moves))
-        (subst (λ (s : SessionView). LaneStands s told now []) same (new_stands begin told most now)))
+        subst (λ (l : ℕ). LaneStands session told (since_of l since anew) now (own_of l anew)) one
+        (stands_by session told now (since_of lane since anew) now (own_of lane anew) [] (since_anew lane since now moves) (own_anew lane now moves)
+        (subst (λ (s : SessionView). LaneStands s told now now []) same (new_stands begin told most now now (omega arith))))
     by false apart =
         let found : slice_get old other ≡ Some session =
         sym (ap (λ (l : List SessionView). slice_get l other) is ∙ get_elsewhere old lane other (new_session most) apart) ∙ at in
-        subst (λ (own : List Fed). LaneStands session told now own) (sym (own_kept other lane moves apart)) (stand other session found)
+        stands_by session told now (since_of other since anew) (since_of other since moves) (own_of other anew) (own_of other moves)
+        (since_kept other lane since now moves apart) (own_kept other lane now moves apart) (stand other session found)
 
 -- ---- new lanes
 
@@ -211,8 +200,9 @@ get_replicate (suc n) zero x y h = some_is x y h
 get_replicate (suc n) (suc i) x y h = get_replicate n i x y h
 
 pub lanes_begin : SessionsBegin → LanesBegin
-lanes_begin begin told count most now lane session at =
-    subst (λ (s : SessionView). LaneStands s told now []) (get_replicate count lane (new_session most) session at) (new_stands begin told most now)
+lanes_begin begin told count most since now le lane session at =
+    subst (λ (s : SessionView). LaneStands s told since now []) (get_replicate count lane (new_session most) session at)
+    (new_stands begin told most since now le)
 
 -- ---- a lane that is there
 

@@ -1,6 +1,6 @@
 -- What happened to lanes, a lane's own part of it, and what lanes stand for (RFC 9112, section 9.3).
 use Rattle.std.specs.List.{flat_map}
-use Rattle.std.specs.Prelude.{Err, List, None, Ok, Option, Result, Some, [], if◌then◌else◌, slice_get, take, ℕ, ◌++◌, ◌==◌, ◌∷◌, ◌≡◌, ◌≤◌, ◌⊎◌, ⊤}
+use Rattle.std.specs.Prelude.{Err, List, None, Ok, Option, Result, Some, [], if◌then◌else◌, slice_get, take, ℕ, ◌++◌, ◌==◌, ◌∷◌, ◌≡◌, ◌≤◌, ◌⊎◌}
 use Rattle.tg_faults.specs.Faults.{Rose}
 use Rattle.tg_gateway.specs.Laws.{IsSentFront, IsSentUpTo}
 use Rattle.tg_gateway.specs.Sessions.{SessionView, next_of}
@@ -8,7 +8,7 @@ use Rattle.tg_gateway.specs.declared.fault.GatewayFault.{GatewayFault}
 use Rattle.tg_gateway.specs.declared.fault.GatewayFault.TheVariants as faults
 use Rattle.tg_gateway.specs.declared.session.Next.{Next}
 use Rattle.tg_model.specs.Stores.{Lookups, Store}
-use Rattle.tg_reply.specs.Sent.{Sent, sent_bytes}
+use Rattle.tg_reply.specs.Sent.{CountsBetween, Sent, sent_bytes}
 use Rattle.tg_reply.specs.Sessions.{SessionState, StandsFor}
 use Rattle.tg_reply.specs.Shapes.{SentOver}
 use Rattle.tg_streams.specs.Streams.{Output, Put}
@@ -37,18 +37,18 @@ fed_by piece written lookups out = record {
   out_now = out.faults_new;
 }
 
--- what happened: a lane was fed, its peer said no more, or it was renewed
+-- what happened: a lane was fed, its peer said no more, or it was renewed while the store's count was this
 pub data Move : Type 0 where
   was_fed : ℕ → Fed → Move
   has_ended : ℕ → Move
-  was_renewed : ℕ → Move
+  was_renewed : ℕ → ℕ → Move
 
 -- ---- a lane's own part of it
 
 abbrev pub own_behind : ℕ → List Fed → Move → List Fed
 own_behind lane own (was_fed other fed) = if other == lane then own ++ fed ∷ [] else own
 own_behind lane own (has_ended other) = own
-own_behind lane own (was_renewed other) = if other == lane then [] else own
+own_behind lane own (was_renewed other count) = if other == lane then [] else own
 
 abbrev pub own_from : ℕ → List Fed → List Move → List Fed
 own_from lane own [] = own
@@ -58,81 +58,102 @@ own_from lane own (move ∷ moves) = own_from lane (own_behind lane own move) mo
 abbrev pub own_of : ℕ → List Move → List Fed
 own_of lane moves = own_from lane [] moves
 
+abbrev pub since_behind : ℕ → ℕ → Move → ℕ
+since_behind lane since (was_fed other fed) = since
+since_behind lane since (has_ended other) = since
+since_behind lane since (was_renewed other count) = if other == lane then count else since
+
+-- the store's count when the lane was renewed last, and where it wasn't, this one
+abbrev pub since_of : ℕ → ℕ → List Move → ℕ
+since_of lane since [] = since
+since_of lane since (move ∷ moves) = since_of lane (since_behind lane since move) moves
+
 abbrev pub fed_in : List Fed → List ℕ
 fed_in own = flat_map (λ (f : Fed). f.piece) own
 
 abbrev pub written_in : List Fed → List ℕ
 written_in own = flat_map (λ (f : Fed). f.written) own
 
--- a count rose while it was fed
-abbrev pub HasRisen : List Fed → Type 0
-HasRisen [] = ⊥
-HasRisen (f ∷ own) = (Rose f.store_before f.store_now ⊎ Rose f.out_before f.out_now) ⊎ HasRisen own
+-- ---- the counts of its events
 
--- ---- what a session stands for, by what it was fed
+-- the store's count goes on from one event to the next, behind one number and up to another
+abbrev pub AreInTurn : ℕ → List Fed → ℕ → Type 0
+AreInTurn since [] now = since ≤ now
+AreInTurn since (f ∷ own) now = (since ≤ f.store_before) × (f.store_before ≤ f.store_now) × AreInTurn f.store_now own now
+
+-- the store's count rose while it was fed
+abbrev pub HasStoreRisen : List Fed → Type 0
+HasStoreRisen [] = ⊥
+HasStoreRisen (f ∷ own) = Rose f.store_before f.store_now ⊎ HasStoreRisen own
+
+-- out's count did
+abbrev pub HasOutRisen : List Fed → Type 0
+HasOutRisen [] = ⊥
+HasOutRisen (f ∷ own) = Rose f.out_before f.out_now ⊎ HasOutRisen own
+
+-- one of them did
+abbrev pub HasRisen : List Fed → Type 0
+HasRisen own = HasStoreRisen own ⊎ HasOutRisen own
+
+-- ---- in which event a reply was sent
+
+-- the first of these replies were sent in an event, while the store's count went from the one before it to the one behind it,
+-- and the others behind it
+pub record IsSentFirst (f : Fed) (sent : List Sent) (AreBehind : List Sent → Type 0) : Type 0 where
+  pub more : List Sent
+  pub later : List Sent
+  pub sent_is : sent ≡ more ++ later
+  pub counts : CountsBetween f.store_before more f.store_now
+  pub behind : AreBehind later
+
+-- the replies were sent in these events, in their order
+abbrev pub AreSentIn : List Fed → List Sent → Type 0
+AreSentIn [] sent = sent ≡ []
+AreSentIn (f ∷ own) sent = IsSentFirst f sent (AreSentIn own)
+
+-- ---- what a session stands for, by what it was fed, and by the replies that were written whole
 
 -- all replies that it completed were written
-pub record HasWritten (session : SessionState) (told : Option Store) (now : ℕ) (own : List Fed) : Type 0 where
-  pub sent : List Sent
-  pub first : ℕ
-  pub last : ℕ
-  pub stands : StandsFor session (SentOver told) (fed_in own) sent first last
-  pub before : last ≤ now
+pub record HasWritten (session : SessionState) (told : Option Store) (since now : ℕ) (own : List Fed) (sent : List Sent) : Type 0 where
+  pub stands : StandsFor session (SentOver told) (fed_in own) sent since now
   pub written_is : written_in own ≡ sent_bytes sent
 
 -- more came than this number, and what is sent for so many was written, and leaves the connection open
-pub record HasWrittenUpTo (session : SessionState) (told : Option Store) (now : ℕ) (own : List Fed) (number : ℕ) : Type 0 where
-  pub sent : List Sent
-  pub first : ℕ
-  pub last : ℕ
-  pub up_to : IsSentUpTo session told (fed_in own) sent number first last
-  pub before : last ≤ now
+pub record HasWrittenUpTo (session : SessionState) (told : Option Store) (since now : ℕ) (own : List Fed) (sent : List Sent) (number : ℕ) : Type 0 where
+  pub up_to : IsSentUpTo session told (fed_in own) sent number since now
   pub written_is : written_in own ≡ sent_bytes sent
 
--- these replies were written whole, and a front of the next
-pub record HasWrittenFront (session : SessionState) (told : Option Store) (now : ℕ) (own : List Fed) : Type 0 where
-  pub sent : List Sent
+-- the replies were written whole, and a front of the next
+pub record HasWrittenFront (session : SessionState) (told : Option Store) (since now : ℕ) (own : List Fed) (sent : List Sent) : Type 0 where
   pub next : List Sent
-  pub first : ℕ
-  pub last : ℕ
-  pub front : IsSentFront session told (fed_in own) sent next first last
-  pub before : last ≤ now
+  pub front : IsSentFront session told (fed_in own) sent next since now
   pub count : ℕ
   pub written_is : written_in own ≡ sent_bytes sent ++ take count (sent_bytes next)
 
-abbrev pub WritesBy : Option GatewayFault → SessionState → Option Store → ℕ → List Fed → Type 0
-WritesBy None session told now own = HasWritten session told now own
-WritesBy (Some (faults.Limit number)) session told now own = HasWrittenUpTo session told now own number
-WritesBy (Some faults.LinkFault) session told now own = HasWrittenFront session told now own × HasRisen own
-WritesBy (Some faults.OutOfMemory) session told now own = HasWrittenFront session told now own
+abbrev pub WritesBy : Option GatewayFault → SessionState → Option Store → ℕ → ℕ → List Fed → List Sent → Type 0
+WritesBy None session told since now own sent = HasWritten session told since now own sent
+WritesBy (Some (faults.Limit number)) session told since now own sent = HasWrittenUpTo session told since now own sent number
+WritesBy (Some faults.LinkFault) session told since now own sent = HasWrittenFront session told since now own sent × HasOutRisen own
+WritesBy (Some faults.OutOfMemory) session told since now own sent = HasWrittenFront session told since now own sent
 
--- where the store's blocks are told no reply broke off but in an event in which a count rose
-abbrev pub FailsOnlyRisen : Option Store → SessionState → List Fed → Type 0
-FailsOnlyRisen None session own = ⊤
-FailsOnlyRisen (Some store) session own = (session.failed ≡ 0) ⊎ HasRisen own
+-- the store's count being one number when the session began, and another now
+pub record LaneStands (session : SessionView) (told : Option Store) (since now : ℕ) (own : List Fed) : Type 0 where
+  pub in_turn : AreInTurn since own now
+  pub sent : List Sent
+  pub sent_in : AreSentIn own sent
+  pub writes : WritesBy session.refused session.state told since now own sent
 
-abbrev pub FailsBy : Option GatewayFault → Option Store → SessionState → List Fed → Type 0
-FailsBy None told session own = FailsOnlyRisen told session own
-FailsBy (Some (faults.Limit number)) told session own = FailsOnlyRisen told session own
-FailsBy (Some faults.LinkFault) told session own = ⊤
-FailsBy (Some faults.OutOfMemory) told session own = ⊤
-
--- the store's count being this number
-pub record LaneStands (session : SessionView) (told : Option Store) (now : ℕ) (own : List Fed) : Type 0 where
-  pub writes : WritesBy session.refused session.state told now own
-  pub fails : FailsBy session.refused told session.state own
-
--- each lane stands for its own part of what happened
-abbrev pub LanesStandFor : List SessionView → Option Store → ℕ → List Move → Type 0
-LanesStandFor sessions told now moves = (lane : ℕ) (session : SessionView) → slice_get sessions lane ≡ Some session
-    → LaneStands session told now (own_of lane moves)
+-- each lane stands for its own part of what happened since the store's count was one number, while it is another
+abbrev pub LanesStandFor : List SessionView → Option Store → ℕ → ℕ → List Move → Type 0
+LanesStandFor sessions told since now moves = (lane : ℕ) (session : SessionView) → slice_get sessions lane ≡ Some session
+    → LaneStands session told (since_of lane since moves) now (own_of lane moves)
 
 -- ---- an event more
 
 -- whatever lanes stood for while the store's count was one number, they stand for more while it is another
 abbrev pub StandOn : Option Store → List SessionView → List SessionView → ℕ → ℕ → List Move → Type 0
-StandOn told old new before now more = (moves : List Move) → LanesStandFor old told before moves
-    → LanesStandFor new told now (moves ++ more)
+StandOn told old new before now more = (since : ℕ) (moves : List Move) → LanesStandFor old told since before moves
+    → LanesStandFor new told since now (moves ++ more)
 
 -- a session says how it ended when it was fed: it goes on, or is closed; or it refused something
 abbrev pub EndsAs : SessionView → Result Next GatewayFault → Type 0

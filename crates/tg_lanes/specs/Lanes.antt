@@ -26,9 +26,10 @@ IsAgreed session = session.state.refused ≡ is_some session.refused
 abbrev pub AreAgreed : List SessionView → Type 0
 AreAgreed sessions = (lane : ℕ) (session : SessionView) → slice_get sessions lane ≡ Some session → IsAgreed session
 
--- a session before and after it was fed a piece: an open one as it says; of a closed one, and of one that refused, nothing
--- changes
+-- a session, which agrees with its state, before and after it was fed a piece: an open one as it says; of a closed one, and
+-- of one that refused, nothing changes
 pub record Feeds (told : Option Store) (old new : SessionView) (piece : List ℕ) (lookups : Lookups) (out : Output) (same : Type 0) (result : Result Next GatewayFault) : Type 0 where
+  pub agreed : IsAgreed old
   pub ends : IsOpen old.state → FeedEnds told old new piece lookups out result
   pub closed : old.refused ≡ None → old.state.closed ≡ true → (result ≡ Ok nexts.Close) × (new ≡ old) × same
   pub again : (fault : GatewayFault) → old.refused ≡ Some fault → (result ≡ Err fault) × (new ≡ old) × same

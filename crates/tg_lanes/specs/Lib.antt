@@ -4,3 +4,4 @@ pub mod Lanes
 pub mod History
 pub mod Hearing
 pub mod Laws
+pub mod Callers

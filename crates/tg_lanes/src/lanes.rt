@@ -2,7 +2,7 @@
 ghost use Rattle.std.specs.Prelude.{◌≡◌, ◌<◌, ◌≤◌, ◌++◌, ◌∷◌, [], IfErr, IfOk, List, OnErr, OnOk, Option, length};
 ghost use Rattle.std.specs.Prelude.{replicate, slice_set, ℕ};
 ghost use Rattle.tg_gateway.specs.Sessions.{new_session};
-ghost use Rattle.tg_lanes.specs.Lanes.{AreAgreed, EventEnds, IsServedBy, LaneFed};
+ghost use Rattle.tg_lanes.specs.Lanes.{EventEnds, IsServedBy, LaneFed};
 ghost use Rattle.tg_lanes.specs.History.{EventStands, LanesStandFor, Move, was_renewed};
 ghost use Rattle.tg_model.specs.Stores.{Store, looked_in};
 ghost use Rattle.tg_streams.specs.Streams.{into};
@@ -119,7 +119,6 @@ impl<B: Blocks> Lanes<B> {
     {
         tg_reply::sessions_go_on();
         tg_gateway::laws::sessions_refuse();
-        tg_gateway::laws::failures_rise();
         match event {
             LaneEvent::Piece(piece) => self.feed(lane as usize, piece, out),
             LaneEvent::Ended => Ok(Next::Close),
@@ -133,9 +132,9 @@ impl<B: Blocks> Lanes<B> {
         requires { lane < length self.old.sessions }
         ensures renewed { OnOk result (self.new ≡ record self.old
             { sessions = slice_set self.old.sessions lane (new_session self.old.most) }) }
-        ensures stands { OnOk result ((told : Option Store) (now : ℕ) (moves : List Move)
-            → LanesStandFor self.old.sessions told now moves
-            → LanesStandFor self.new.sessions told now (moves ++ was_renewed lane ∷ [])) }
+        ensures stands { OnOk result ((told : Option Store) (since now : ℕ) (moves : List Move)
+            → LanesStandFor self.old.sessions told since now moves
+            → LanesStandFor self.new.sessions told since now (moves ++ was_renewed lane now ∷ [])) }
         ensures lanes { length self.new.sessions ≡ length self.old.sessions }
         ensures refused { OnErr result (self.new ≡ self.old) }
     {
@@ -167,7 +166,6 @@ impl<B: Blocks> Lanes<B> {
         out: &mut S,
     ) -> Result<Next, GatewayFault>
         requires { lane < length self.old.sessions }
-        ensures agreed { AreAgreed self.old.sessions }
         ensures ends { LaneFed (B.blocks.stored self.old.blocks) self.old self.new lane piece.now
             (looked_in B.blocks self.old.blocks self.new.blocks) (into S.sink out.old out.new)
             (out.new ≡ out.old) result }

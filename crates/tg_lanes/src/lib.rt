@@ -3,6 +3,7 @@
 #![tactic(auto)]
 
 mod cached;
+mod callers;
 mod hearing;
 mod lanes;
 pub mod laws;

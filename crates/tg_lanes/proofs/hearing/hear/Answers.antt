@@ -17,10 +17,10 @@ returns-then-size-eq0-clause-heard g c =
     heard_end g.K.Link.link g.K.Source.source g.met.K.Link.hears (g.B.Blocks.blocks.stored c.args.lanes.now.blocks) c.args.lanes.now c.event.new.self c.args.lane
     (g.B.Blocks.blocks.faults c.args.lanes.now.blocks) (g.B.Blocks.blocks.faults c.event.new.self.blocks) c.args.link.now c.take.new.self c.event.new.out
     (take c.in_ok-size.size c.take.new.buf) c.event.result (ap (λ (n : ℕ). take n c.take.new.buf) c.if-size-eq0.true) c.in_ok-size.ensures.took.moved
-    ends.2 (g.met.K.Link.ends c.take.new.self (c.in_ok-size.ensures.end c.if-size-eq0.true (omega arith)).ended) ends.0 ends.1 c.event.ensures.stands
+    c.in_ok-size.ensures.quiet ends.2 (g.met.K.Link.ends c.take.new.self (c.in_ok-size.ensures.end c.if-size-eq0.true (omega arith)).ended) ends.0 ends.1 c.event.ensures.stands
 
 pub returns-clause-heard : goal.returns-clause-heard
 returns-clause-heard g c =
     heard_piece g.K.Link.link g.K.Source.source g.met.K.Link.hears (g.B.Blocks.blocks.stored c.args.lanes.now.blocks) c.args.lanes.now c.event-2.new.self c.args.lane
-    g.K.Sink.sink g.met.K.Link.says (looked_in g.B.Blocks.blocks c.args.lanes.now.blocks c.event-2.new.self.blocks) c.args.link.now c.take.new.self c.event-2.new.out
-    (take c.in_ok-size.size c.take.new.buf) _ c.event-2.result c.in_ok-size.ensures.took.moved c.event-2.ensures.ends c.event-2.ensures.stands
+    g.K.Sink.sink g.met.K.Link.says g.met.K.Link.one_count (looked_in g.B.Blocks.blocks c.args.lanes.now.blocks c.event-2.new.self.blocks) c.args.link.now c.take.new.self c.event-2.new.out
+    (take c.in_ok-size.size c.take.new.buf) c.event-2.result c.in_ok-size.ensures.took.moved c.in_ok-size.ensures.quiet c.event-2.ensures.ends c.event-2.ensures.stands

@@ -11,7 +11,7 @@ returns-in-Ended-clause-stands g c =
     subst (λ e. EventStands (g.B.Blocks.blocks.stored c.args.self.now.blocks) c.args.self.now.sessions c.args.self.now.sessions c.args.lane e
     (looked_in g.B.Blocks.blocks c.args.self.now.blocks c.args.self.now.blocks) (into g.S.Sink.sink c.args.out.now c.args.out.now) _)
     (sym c.in-Ended.is)
-    (λ moves stand. lanes_ended (g.B.Blocks.blocks.stored c.args.self.now.blocks) c.args.self.now.sessions c.args.lane
+    (λ since moves stand. lanes_ended (g.B.Blocks.blocks.stored c.args.self.now.blocks) c.args.self.now.sessions c.args.lane since
     (g.B.Blocks.blocks.faults c.args.self.now.blocks) moves stand)
 
 pub returns-in-Piece-clause-stands : goal.returns-in-Piece-clause-stands
@@ -27,11 +27,10 @@ returns-in-Piece-clause-stands g c =
       limit_all = c.sessions_refuse.ensures.limit_all;
       broken_next = c.sessions_refuse.ensures.broken_next;
       longer = c.sessions_refuse.ensures.longer;
-      rise = c.failures_rise.ensures;
     })
     (g.B.Blocks.blocks.stored c.args.self.now.blocks) c.args.self.now.sessions c.feed.new.self.sessions c.args.lane c.in-Piece.piece.now
     (looked_in g.B.Blocks.blocks c.args.self.now.blocks c.feed.new.self.blocks) (into g.S.Sink.sink c.args.out.now c.feed.new.out)
-    c.feed.ensures.counted c.feed.ensures.agreed p.before p.behind _ c.feed.result
+    c.feed.ensures.counted p.before p.behind _ c.feed.result
     (λ same. idle_put g.S.Sink.sink g.met.S.Sink.rests c.args.out.now c.feed.new.out same.1) p.was p.sessions p.feeds)
 
 pub returns-in-Piece-clause-lanes : goal.returns-in-Piece-clause-lanes

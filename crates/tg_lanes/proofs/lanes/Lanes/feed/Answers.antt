@@ -30,7 +30,7 @@ returns-clause-ends g c =
     (subst (λ s. c.args.lane < length s.sessions) (sym c.self.view_is) c.requires) c.index_mut.ensures.value in
     lane_fed g.B.Blocks.blocks c.self.inside.cached c.feed.new.blocks c.args.self.now c.self.inside.sessions.items c.self.inside.limits.received
     c.args.lane c.args.piece.now c.index_mut.result.now c.feed.new.self (into g.S.Sink.sink c.args.out.now c.feed.new.out)
-    (c.feed.new.out ≡ c.args.out.now) c.feed.result c.self.view_is was c.feed.ensures.ends
+    (c.feed.new.out ≡ c.args.out.now) c.feed.result c.self.view_is was (c.self.invariant c.args.lane c.index_mut.result.now was) c.feed.ensures.ends
     (λ none shut. let f = c.feed.ensures.closed none shut in (f.0, f.1, f.2, f.3))
     (λ fault some. let f = c.feed.ensures.again fault some in (f.0, f.1, f.2, f.3)) c.feed.ensures.refused
 
