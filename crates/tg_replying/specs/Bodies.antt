@@ -131,7 +131,7 @@ pub record HasSections (told : Option Store) (holds : Store → List Section →
   pub is_done : done sections
 
 -- how the sections of a walk end: they were given, and the walk gave no more; or out failed in the first of them; or
--- memory was wanted behind these, and the store broke off nowhere
+-- memory was wanted behind these, and no fault of the store was counted
 abbrev pub SectionsEnd : ℕ → QueryParts → Option Store → Lookups → Giving → Result (Option WalkFault) ReplyFault → Type 0
 SectionsEnd minor q told lookups giving (Ok end) =
     HasSections told (WalkGave q end) q (λ sections. Gives giving (sections_bytes minor sections)) × HasEndCause told lookups end
@@ -181,8 +181,8 @@ pub record HasFront (minor : ℕ) (found : Bool) (q : QueryParts) (told : Option
   pub is_front : IsFrontOfBody minor found q told bytes
   pub is_done : done bytes
 
--- how a body ends: it was given; or out failed in a front of it; or memory was wanted behind one, and the store broke off
--- nowhere
+-- how a body ends: it was given; or out failed in a front of it; or memory was wanted behind one, and no fault of the
+-- store was counted
 abbrev pub BodyEnds : ℕ → Bool → QueryParts → Option Store → Lookups → Giving → Result BodyEnd ReplyFault → Type 0
 BodyEnds minor found q told lookups giving (Ok end) =
     HasSections told (IsBodyOf found q end) q (λ sections. Gives giving (body_of minor q end.cut sections)) × HasBodyCause told lookups end

@@ -134,8 +134,8 @@ pub record FindsBlock (cid : CidParts) (told : Option Store) (found : Option (Li
   pub block : IsBlockOf told cid found
   pub identity : cid.hash ≡ Identity → found ≡ Some cid.digest
 
--- a CID leads to a block, or to none; or the store broke off, for which no other refusal comes, and none of an identity
--- CID; or memory was wanted, and it broke off nowhere
+-- a CID leads to a block, or to none; or the store broke off, which is the only refusal, and comes of no identity CID; or
+-- memory was wanted, and no fault of the store was counted
 abbrev pub FindsOr : CidParts → Option Store → Lookups → Result (Option (List ℕ)) AskFault → Type 0
 FindsOr cid told lookups (Ok found) = FindsBlock cid told found × LookupsQuiet lookups
 FindsOr cid told lookups (Err (asks.Refused refusal)) =

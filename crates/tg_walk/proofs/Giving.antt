@@ -1,6 +1,6 @@
 -- Which blocks a walk gives of those that it opens.
-use Rattle.std.proofs.Common.{All, Bool, Err, List, None, Ok, OnOk, Option, Result, Some, [], ap, ap₂, false, inl, inr, map, not, refl, subst, sym, true, ℕ, ◌++◌, ◌∙◌, ◌∷◌, ◌≡◌, ◌&&◌, ◌||◌}
-use Rattle.std.proofs.lemmas.List.{append_assoc, map-append}
+use Rattle.std.proofs.Common.{All, Bool, arith, Err, List, None, Ok, OnOk, Option, Result, Some, [], ap, ap₂, false, inl, inr, length, map, not, refl, subst, sym, true, ℕ, ◌++◌, ◌∙◌, ◌∷◌, ◌≡◌, ◌≤◌, ◌&&◌, ◌||◌}
+use Rattle.std.proofs.lemmas.List.{map-append}
 use Rattle.std.proofs.lemmas.List.Elements.{All-append, All-cons, All-nil, All-weaker, Contains-push}
 use Rattle.std.proofs.lemmas.List.Folds.{list_any-append}
 use Rattle.std.specs.Map.{keys_of}
@@ -24,9 +24,10 @@ use Rattle.tg_model_laws.specs.TakenBlocks.{opened_by}
 use Rattle.tg_model_laws.specs.StoreWalks.{WalkLaws, section_of}
 use Rattle.tg_model_laws.specs.Tasks.{Task, Want, depth_at_top, depth_of, fault_at, is_read_at, node_want, open_block, segment_want, start, tasks_of, tasks_then, terminal_want}
 use Rattle.tg_walk.proofs.Knowing.{known_more, open_more, opened_below}
+use Rattle.tg_walk.proofs.Lookups.{looked_few, looked_hashed, looked_none}
 use Rattle.tg_walk.proofs.Walking.{on_walk, starts}
 use Rattle.tg_walk.specs.Known.{AreAllAt, AreOpen, IsKnownAs, IsMoreGiven, IsNoted, KnownState, Knows, KnowsBelow, LieAbove, is_known, with_block}
-use Rattle.tg_walk.specs.Walks.{HasEnded, HasGone, HasKnown, HasLookedOnce, HasLookedUp, HasOpened, HasStoreCause, HasWalkCause, IsAloneIn, IsFront, IsLastOf, IsOnWalk, IsOpened, HasOpenedAt, IsOwnFault, fault_of_miss}
+use Rattle.tg_walk.specs.Walks.{HasEnded, HasGone, HasKnown, HasLookedOnce, HasOpened, HasSought, HasStoreCause, HasWalkCause, IsAloneIn, IsFront, IsLastOf, IsOnWalk, IsOpened, HasOpenedAt, IsOwnFault, fault_of_miss}
 use Rattle.tg_walk.specs.declared.fault.WalkFault.{WalkFault}
 use Rattle.tg_walk.specs.declared.fault.WalkFault.TheVariants as faults
 use Rattle.tg_walk.specs.declared.known.Opened.{Opened}
@@ -275,10 +276,16 @@ LooksJoin S m = (a b c : S) (u v : List CidParts) → m.looked a b u → m.looke
 pub looks_both : {S : Type 0} → (m : BlocksMeaning S) (a b c : S) (u v : List CidParts) → LooksJoin S m → LookedUp u (looked_in m a b) → LookedUp v (looked_in m b c) → LookedUp (u ++ v) (looked_in m a c)
 looks_both m a b c u v joins p q = record { moved = joins a b c u v p.moved q.moved; stored = q.stored ∙ p.stored }
 
-last_behind : (result : Result (Option (CidParts × List ℕ)) WalkFault) (u v : List CidParts) → IsLastOf result v → IsLastOf result (u ++ v)
-last_behind (Ok (Some found)) u v h = λ e. let there = h e in (u ++ there.0, ap (λ (l : List CidParts). u ++ l) there.1 ∙ sym (append_assoc u there.0 (found.0 ∷ [])))
+last_behind : (result : Result (Option (CidParts × List ℕ)) WalkFault) (u v : List CidParts) → IsAloneIn result v → IsLastOf result (u ++ v)
+last_behind (Ok (Some found)) u v h = λ e. (u, ap (λ (l : List CidParts). u ++ l) (h ∙ looked_hashed found.0 e))
 last_behind (Ok None) u v h = tt
-last_behind (Err fault) u v h = tt
+last_behind (Err (faults.BadBlock cid fault)) u v h = λ e. (u, ap (λ (l : List CidParts). u ++ l) (h ∙ looked_hashed cid e))
+last_behind (Err (faults.Gone cid)) u v h = (u, ap (λ (l : List CidParts). u ++ l) h)
+last_behind (Err faults.TooDeep) u v h = tt
+last_behind (Err (faults.Store fault)) u v h = tt
+last_behind (Err (faults.NotThere i)) u v h = tt
+last_behind (Err (faults.NotFolder i)) u v h = tt
+last_behind (Err faults.OutOfMemory) u v h = tt
 
 alone_behind : (result : Result (Option (CidParts × List ℕ)) WalkFault) (u v : List CidParts) → u ≡ [] → IsAloneIn result v → IsAloneIn result (u ++ v)
 alone_behind result u v e h = subst (λ (l : List CidParts). IsAloneIn result (l ++ v)) (sym e) h
@@ -287,15 +294,29 @@ both_quiet : {T : Type 0} (result : Result T WalkFault) (P Q R : Type 0) → (P 
 both_quiet (Ok done) P Q R f p q = f p q
 both_quiet (Err fault) P Q R f p q = tt
 
+few_alone : (result : Result (Option (CidParts × List ℕ)) WalkFault) (cids : List CidParts) → IsAloneIn result cids → length cids ≤ 1
+few_alone (Ok (Some found)) cids h = subst (λ (l : List CidParts). length l ≤ 1) (sym h) (looked_few found.0)
+few_alone (Ok None) cids h = subst (λ (l : List CidParts). length l ≤ 1) (sym h) (omega arith)
+few_alone (Err (faults.BadBlock cid fault)) cids h = subst (λ (l : List CidParts). length l ≤ 1) (sym h) (looked_few cid)
+few_alone (Err (faults.Gone cid)) cids h = subst (λ (l : List CidParts). length l ≤ 1) (sym h) (omega arith)
+few_alone (Err faults.TooDeep) cids h = subst (λ (l : List CidParts). length l ≤ 1) (sym h) (omega arith)
+few_alone (Err (faults.Store fault)) cids h = subst (λ (l : List CidParts). length l ≤ 1) (sym h) (omega arith)
+few_alone (Err (faults.NotThere i)) cids h = subst (λ (l : List CidParts). length l ≤ 1) (sym h) (omega arith)
+few_alone (Err (faults.NotFolder i)) cids h = subst (λ (l : List CidParts). length l ≤ 1) (sym h) (omega arith)
+few_alone (Err faults.OutOfMemory) cids h = h
+
 pub looked_since : {S : Type 0} → (m : BlocksMeaning S) (a b c : S) (q : QueryParts) (result : Result (Option (CidParts × List ℕ)) WalkFault) → LooksJoin S m → HasPassed q (looked_in m a b)
-    → HasLookedOnce result (looked_in m b c) → HasLookedUp q result (looked_in m a c)
+    → HasLookedOnce result (looked_in m b c) → HasSought q result (looked_in m a c)
 looked_since m a b c q result joins so h = record {
-  cids = so.cids ++ h.cids;
-  looked = looks_both m a b c so.cids h.cids joins so.looked h.looked;
-  hashed = All-append (λ (cid : CidParts). cid.hash ≡ Sha256) so.cids h.cids so.hashed h.hashed;
-  last = last_behind result so.cids h.cids h.last;
+  up = record {
+    cids = so.cids ++ h.cids;
+    looked = looks_both m a b c so.cids h.cids joins so.looked h.looked;
+    hashed = All-append (λ (cid : CidParts). cid.hash ≡ Sha256) so.cids h.cids so.hashed h.hashed;
+    few = λ e. few_alone result (so.cids ++ h.cids) (alone_behind result so.cids h.cids (so.none e) h.alone);
+    quiet = both_quiet result (LookupsQuiet (looked_in m a b)) (LookupsQuiet (looked_in m b c)) (LookupsQuiet (looked_in m a c)) (λ p r. r ∙ p) so.quiet h.quiet;
+  };
+  last = last_behind result so.cids h.cids h.alone;
   alone = λ e. alone_behind result so.cids h.cids (so.none e) h.alone;
-  quiet = both_quiet result (LookupsQuiet (looked_in m a b)) (LookupsQuiet (looked_in m b c)) (LookupsQuiet (looked_in m a c)) (λ p r. r ∙ p) so.quiet h.quiet;
 }
 
 pub passed_since : {S : Type 0} → (m : BlocksMeaning S) (a b c : S) (q : QueryParts) (found : CidParts × List ℕ) → LooksJoin S m → HasPassed q (looked_in m a b)
@@ -304,13 +325,41 @@ passed_since m a b c q found joins so h unasked = record {
   cids = so.cids ++ h.cids;
   looked = looks_both m a b c so.cids h.cids joins so.looked h.looked;
   hashed = All-append (λ (cid : CidParts). cid.hash ≡ Sha256) so.cids h.cids so.hashed h.hashed;
-  none = λ e. ap₂ (λ (u v : List CidParts). u ++ v) (so.none e) (h.none (unasked e));
+  none = λ e. ap₂ (λ (u v : List CidParts). u ++ v) (so.none e) (h.alone ∙ looked_none found.0 (unasked e));
   quiet = h.quiet ∙ so.quiet;
 }
 
 -- a block that was opened isn't given for want of memory
-pub refused_behind : (found : CidParts × List ℕ) (fault : WalkFault) (lookups : Lookups) → HasLookedOnce (Ok (Some found)) lookups → HasLookedOnce (Err fault) lookups
-refused_behind found fault lookups h = record { cids = h.cids; looked = h.looked; hashed = h.hashed; last = tt; none = tt; alone = h.alone; quiet = tt }
+pub refused_behind : (found : CidParts × List ℕ) (lookups : Lookups) → HasLookedOnce (Ok (Some found)) lookups → HasLookedOnce (Err faults.OutOfMemory) lookups
+refused_behind found lookups h = record {
+  cids = h.cids;
+  looked = h.looked;
+  hashed = h.hashed;
+  alone = subst (λ (l : List CidParts). length l ≤ 1) (sym h.alone) (looked_few found.0);
+  quiet = tt;
+}
+
+-- the next place isn't found where each block is given once
+own_last : (fault : WalkFault) (cids : List CidParts) → IsOwnFault fault → IsLastOf (Err fault) cids
+own_last fault cids (inl memory) = subst (λ (f : WalkFault). IsLastOf (Err f) cids) (sym memory) tt
+own_last fault cids (inr (miss, is)) = subst (λ (f : WalkFault). IsLastOf (Err f) cids) (sym is) (by miss)
+  where
+    by : (miss : Miss) → IsLastOf (Err (fault_of_miss miss)) cids
+    by (misses.NoEntry i) = tt
+    by (misses.NoDirectory i) = tt
+
+pub refused_before : (q : QueryParts) (fault : WalkFault) (lookups : Lookups) → q.dups ≡ false → IsOwnFault fault → HasPassed q lookups → HasSought q (Err fault) lookups
+refused_before q fault lookups d own so = record {
+  up = record {
+    cids = so.cids;
+    looked = so.looked;
+    hashed = so.hashed;
+    few = λ e. let both : false ≡ true = sym d ∙ e in absurd (cc both);
+    quiet = tt;
+  };
+  last = own_last fault so.cids own;
+  alone = λ e. let both : false ≡ true = sym d ∙ e in absurd (cc both);
+}
 
 -- ---- causes
 

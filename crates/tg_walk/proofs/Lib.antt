@@ -10,3 +10,5 @@ mod TaskShapes
 mod Knowing
 mod Blocks
 mod Passing
+mod Lookups
+mod PathLookups

@@ -82,7 +82,7 @@ alone d (terminal_want depth) cid [] h = refl
 alone d (terminal_want depth) cid (task ∷ tasks) h = absurd h
 alone d (node_want reach position depth) cid tasks h = absurd h
 
-deep : (d : ℕ) (w : Want) (cid : CidParts) → IsPathPlace d (open_block w cid ∷ []) → depth_of w ≡ d
+pub deep : (d : ℕ) (w : Want) (cid : CidParts) → IsPathPlace d (open_block w cid ∷ []) → depth_of w ≡ d
 deep d (segment_want i position name path depth) cid h = h
 deep d (terminal_want depth) cid h = h
 deep d (node_want reach position depth) cid h = absurd h
@@ -115,7 +115,7 @@ placed root path told passed old mid wanted at q on w c later e = record {
   way = λ store t. (subst (IsResolved (path_query root path) store) (sym e) (on.way store t).0, (on.way store t).1);
 }
 
-left_then : (root : CidParts) (path : List (List ℕ)) (told : Option Store) (passed : ℕ) (old mid : LeftState) (at : WantedAt) → IsAlong root path told passed old
+pub left_then : (root : CidParts) (path : List (List ℕ)) (told : Option Store) (passed : ℕ) (old mid : LeftState) (at : WantedAt) → IsAlong root path told passed old
     → mid.wanted ≡ Some at → tasks_left mid ≡ tasks_then (tasks_left old) → open_block at.want at.cid ∷ mid.later ≡ tasks_left old
 left_then root path told passed old mid at on w t =
     sym (ap (λ (x : Option WantedAt). wanted_tasks x ++ mid.later) w) ∙ t ∙ place_then (passed + 1) (tasks_left old) on.place
@@ -289,14 +289,14 @@ next_way laws root path store d (terminal_want depth) cid block kind few p r s e
 next_way laws root path store d (node_want reach position depth) cid block kind few p r s e f h = absurd p
 
 -- what reading the block there gives
-record IsPassed (root : CidParts) (path : List (List ℕ)) (at : WantedAt) (block : List ℕ) (new : LeftState) : Type 0 where
-  kind : Kind
-  is_read : is_read_at (path_query root path) at.want ≡ true
-  reads : read at.cid block ≡ Ok kind
-  fits : fault_at (path_query root path) at.want kind ≡ None
-  tasks : tasks_left new ≡ tasks_of (path_query root path) at.want (section_of at.cid block) kind (links_of kind)
+pub record IsPassed (root : CidParts) (path : List (List ℕ)) (at : WantedAt) (block : List ℕ) (new : LeftState) : Type 0 where
+  pub kind : Kind
+  pub is_read : is_read_at (path_query root path) at.want ≡ true
+  pub reads : read at.cid block ≡ Ok kind
+  pub fits : fault_at (path_query root path) at.want kind ≡ None
+  pub tasks : tasks_left new ≡ tasks_of (path_query root path) at.want (section_of at.cid block) kind (links_of kind)
 
-passed_by : (root : CidParts) (path : List (List ℕ)) (told : Option Store) (passed : ℕ) (mid new : LeftState) (wanted : Wanted) (block : List ℕ) (there : IsPlaceAlong root path told passed mid wanted)
+pub passed_by : (root : CidParts) (path : List (List ℕ)) (told : Option Store) (passed : ℕ) (mid new : LeftState) (wanted : Wanted) (block : List ℕ) (there : IsPlaceAlong root path told passed mid wanted)
     → IsOpenedThere mid there.at block new → IsPassed root path there.at block new
 passed_by root path told passed mid new wanted block there h = record {
   kind = h.kind;

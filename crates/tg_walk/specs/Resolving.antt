@@ -1,24 +1,26 @@
 -- Where a path leads over what a store shows (Path Gateway specification, Path Resolution).
-use Rattle.std.specs.Prelude.{Err, List, None, Ok, Option, Result, Some, [], true, ⊤, ℕ, ◌∷◌, ◌≡◌, ◌≢◌}
+use Rattle.std.specs.Prelude.{Err, List, None, Ok, Option, Result, Some, [], map, true, ⊤, ℕ, ◌++◌, ◌∷◌, ◌≡◌, ◌≢◌}
 use Rattle.tg_cid.specs.Cid.{CidParts}
 use Rattle.tg_cid.specs.declared.cid.HashKind.TheVariants.{Sha256}
 use Rattle.tg_walk.specs.declared.fault.ResolveFault.{ResolveFault}
 use Rattle.tg_walk.specs.declared.fault.ResolveFault.TheVariants as refusals
 use Rattle.tg_walk.specs.declared.fault.WalkFault.{WalkFault}
 use Rattle.tg_walk.specs.declared.fault.WalkFault.TheVariants as walks
-use Rattle.tg_model.specs.Dag.{Dag}
-use Rattle.tg_model.specs.PathWalk.{PathEnd, Spot, Stop, bad_block, gone, not_folder, not_reached, not_there, path_walk}
-use Rattle.tg_model.specs.PathWalk.{terminal}
+use Rattle.tg_model.specs.Dag.{Dag, root_cid}
+use Rattle.tg_model.specs.PathWalk.{PathEnd, PathWalk, Spot, Stop, bad_block, gone, not_folder, not_reached, not_there}
+use Rattle.tg_model.specs.PathWalk.{path_walk, terminal}
 use Rattle.tg_model.specs.Queries.{QueryParts}
 use Rattle.tg_model.specs.StoreView.{block_at, store_view}
-use Rattle.tg_model.specs.Stores.{IsCauseOf, Lookups, LookupsQuiet, Store}
+use Rattle.tg_model.specs.Stores.{IsCauseOf, LookedUp, Lookups, LookupsQuiet, Store}
 use Rattle.tg_model.specs.declared.queries.Form.TheVariants as forms
 use Rattle.tg_model.specs.declared.queries.Scope.TheVariants as scopes
 use Rattle.tg_model.specs.declared.stores.BlocksFault.{BlocksFault}
 use Rattle.tg_model.specs.declared.stores.BlocksFault.TheVariants as store_faults
+use Rattle.tg_model_laws.specs.ListFronts.{FrontOf}
 use Rattle.tg_model_laws.specs.Stages.{IsOpened}
 use Rattle.tg_model_laws.specs.StoreWalks.{section_of}
 use Rattle.tg_model_laws.specs.Tasks.{Task, open_block, segment_want, stop_at, terminal_want}
+use Rattle.tg_walk.specs.Walks.{looked_of}
 
 -- a store's fault, and a walk's; want of memory is the refusal's own
 abbrev pub refusal_of_store : BlocksFault → ResolveFault
@@ -91,6 +93,37 @@ HasResolveShape root path (Err (refusals.NotFolder i)) = path ≢ []
 HasResolveShape root path (Err (refusals.BadBlock cid fault)) = path ≢ []
 HasResolveShape root path (Err (refusals.Gone cid)) = path ≢ []
 HasResolveShape root path end = ⊤
+
+-- ---- what is looked up
+
+-- the CID of the place where a path walk ends: the terminal's, or that of a block that isn't opened or can't stand
+-- there; where a segment leads nowhere there is none behind the last block
+abbrev pub end_place : PathEnd → List CidParts
+end_place (terminal d) = root_cid d ∷ []
+end_place (not_reached (not_there i)) = []
+end_place (not_reached (not_folder i)) = []
+end_place (not_reached (gone spot)) = spot.cid ∷ []
+end_place (not_reached (bad_block spot fault)) = spot.cid ∷ []
+
+-- the CIDs of a path walk's places, in order
+abbrev pub places_on : PathWalk → List CidParts
+places_on walk = map (λ section. section.cid) walk.sections ++ end_place walk.end
+
+-- all of these CIDs were looked up; or those before the one for which the store gave no answer; or, where no memory was
+-- found, those up to some one
+abbrev pub AreLookedUp : List CidParts → Result CidParts ResolveFault → List CidParts → Type 0
+AreLookedUp places (Err (refusals.Store fault)) cids = (cid : CidParts) × FrontOf (cids ++ cid ∷ []) places
+AreLookedUp places (Err refusals.OutOfMemory) cids = FrontOf cids places
+AreLookedUp places end cids = cids ≡ places
+
+-- the CIDs of the places of the path walk over what the store shows were looked up, in order, but for identity CIDs; and
+-- nothing else was
+pub record HasLookedAlong (store : Store) (root : CidParts) (path : List (List ℕ)) (result : Result CidParts ResolveFault) (lookups : Lookups) : Type 0 where
+  pub cids : List CidParts
+  pub looked : LookedUp cids lookups
+  pub along : AreLookedUp (looked_of (places_on (path_walk path (store_view store root)))) result cids
+
+-- ---- on the way
 
 -- one place of the path is left, at this depth; or a segment led nowhere
 abbrev pub IsPathPlace : ℕ → List (Task CidParts) → Type 0

@@ -1,12 +1,13 @@
 -- What a walk over a store has given, and why it gives no more (Trustless Gateway specification: dag-scope,
 -- entity-bytes, order dfs).
-use Rattle.std.specs.Prelude.{All, Err, IfSome, List, None, Ok, OnOk, Option, Result, Some, [], false, length, map, true, ⊤, ℕ}
+use Rattle.std.specs.Prelude.{All, Err, IfSome, List, None, Ok, OnOk, Option, Result, Some, [], false, filter, length, map}
+use Rattle.std.specs.Prelude.{true, ⊤, ℕ}
 use Rattle.std.specs.Prelude.{◌+◌, ◌++◌, ◌∷◌, ◌≡◌, ◌≤◌, ◌⊎◌}
 use Rattle.std.specs.Map.{keys_of}
 use Rattle.tg_cid.specs.Cid.{CidParts}
 use Rattle.tg_cid.specs.Limits.{max_block_len}
 use Rattle.tg_cid.specs.Names.{Names}
-use Rattle.tg_cid.specs.declared.cid.HashKind.TheVariants.{Identity, Sha256}
+use Rattle.tg_cid.specs.declared.cid.HashKind.TheVariants.{Sha256}
 use Rattle.tg_traversal.specs.declared.position.Miss.TheVariants as misses
 use Rattle.tg_traversal.specs.BlocksLeft.{blocks_over}
 use Rattle.tg_traversal.specs.Left.{LeftState, WantedAt, tasks_left}
@@ -30,8 +31,9 @@ use Rattle.tg_model.specs.PathWalk.{Spot, TraversalEnd, bad_block, gone, not_fol
 use Rattle.tg_model.specs.Queries.{QueryParts}
 use Rattle.tg_model.specs.StoreView.{block_at, store_view}
 use Rattle.tg_model.specs.Stores.{IsCauseOf, IsNamedBlock, LookedUp, Lookups, LookupsQuiet, Store}
-use Rattle.tg_model.specs.Traversal.{Traversal, and_then, is_asked, sent, traversal}
+use Rattle.tg_model.specs.Traversal.{Traversal, and_then, is_asked, is_hashed, sent, traversal}
 use Rattle.tg_model.specs.declared.stores.BlocksFault.{BlocksFault}
+use Rattle.tg_model_laws.specs.ListFronts.{FrontOf}
 use Rattle.tg_model_laws.specs.TakenBlocks.{opened_by}
 use Rattle.tg_model_laws.specs.StoreWalks.{IsWalked, WalkEnds, WalkTooDeep, section_of}
 use Rattle.tg_model_laws.specs.Stages.{Given, ending}
@@ -117,17 +119,32 @@ HasStepped (Ok None) new store sections =
     StandsFor new store sections × HasEnded new.left.query store max_depth sections whole
 HasStepped (Err fault) new store sections = StandsFor new store sections
 
--- the block that is given was looked up last, but for an identity CID, which isn't looked up
-abbrev pub IsLastOf : Result (Option (CidParts × List ℕ)) WalkFault → List CidParts → Type 0
-IsLastOf (Ok (Some found)) cids = found.0.hash ≡ Sha256 → (before : List CidParts) × (cids ≡ before ++ found.0 ∷ [])
-IsLastOf (Ok None) cids = ⊤
-IsLastOf (Err fault) cids = ⊤
+-- those of the CIDs that are looked up: of an identity CID the block is the digest
+abbrev pub looked_of : List CidParts → List CidParts
+looked_of cids = filter (λ cid. is_hashed cid.hash) cids
 
--- where repeats are given, nothing else was looked up
+-- the CID was looked up last
+abbrev pub IsLastIn : CidParts → List CidParts → Type 0
+IsLastIn cid cids = (before : List CidParts) × (cids ≡ before ++ cid ∷ [])
+
+-- that of the block that is given, or that can't be opened, was looked up last, but for an identity CID, which isn't
+-- looked up; and that under which none is stored was
+abbrev pub IsLastOf : Result (Option (CidParts × List ℕ)) WalkFault → List CidParts → Type 0
+IsLastOf (Ok (Some found)) cids = found.0.hash ≡ Sha256 → IsLastIn found.0 cids
+IsLastOf (Ok None) cids = ⊤
+IsLastOf (Err (faults.BadBlock cid fault)) cids = cid.hash ≡ Sha256 → IsLastIn cid cids
+IsLastOf (Err (faults.Gone cid)) cids = IsLastIn cid cids
+IsLastOf (Err other) cids = ⊤
+
+-- where repeats are given, nothing else was looked up: nothing at all where the store failed, since a failed call looks
+-- nothing up
 abbrev pub IsAloneIn : Result (Option (CidParts × List ℕ)) WalkFault → List CidParts → Type 0
-IsAloneIn (Ok (Some found)) cids = length cids ≤ 1
+IsAloneIn (Ok (Some found)) cids = cids ≡ looked_of (found.0 ∷ [])
 IsAloneIn (Ok None) cids = cids ≡ []
-IsAloneIn (Err fault) cids = length cids ≤ 1
+IsAloneIn (Err (faults.BadBlock cid fault)) cids = cids ≡ looked_of (cid ∷ [])
+IsAloneIn (Err (faults.Gone cid)) cids = cids ≡ cid ∷ []
+IsAloneIn (Err faults.OutOfMemory) cids = length cids ≤ 1
+IsAloneIn (Err other) cids = cids ≡ []
 
 -- CIDs were looked up, none of them an identity CID
 pub record HaveLookedUp (lookups : Lookups) : Type 0 where
@@ -141,9 +158,14 @@ pub record HasLookedUp (q : QueryParts) (result : Result (Option (CidParts × Li
   pub cids : List CidParts
   pub looked : LookedUp cids lookups
   pub hashed : All (λ cid. cid.hash ≡ Sha256) cids
-  pub last : IsLastOf result cids
-  pub alone : q.dups ≡ true → IsAloneIn result cids
+  pub few : q.dups ≡ true → length cids ≤ 1
   pub quiet : OnOk result (LookupsQuiet lookups)
+
+-- and for which place, in a walk that wasn't refused
+pub record HasSought (q : QueryParts) (result : Result (Option (CidParts × List ℕ)) WalkFault) (lookups : Lookups) : Type 0 where
+  pub up : HasLookedUp q result lookups
+  pub last : IsLastOf result up.cids
+  pub alone : q.dups ≡ true → IsAloneIn result up.cids
 
 abbrev pub IsNamedFound : Result (Option (CidParts × List ℕ)) WalkFault → Type 0
 IsNamedFound (Ok (Some found)) = Names found.0 found.1 × (length found.1 ≤ max_block_len)
@@ -274,28 +296,24 @@ pub record IsBlockOf (told : Option Store) (cid : CidParts) (found : Option (Lis
   pub stored : IfSome told (λ store. found ≡ block_at store cid)
   pub named : IsNamedBlock cid found
 
--- the CID was looked up, but for an identity CID, or nothing was where no answer came
+-- the CID was looked up, but for an identity CID; a failed call looks nothing up; and where no memory is found it may
+-- have been looked up
+abbrev pub AreFetchedBy : CidParts → Result (Option (List ℕ)) BlocksFault → List CidParts → Type 0
+AreFetchedBy cid (Ok found) cids = cids ≡ looked_of (cid ∷ [])
+AreFetchedBy cid (Err store_faults.OutOfMemory) cids = FrontOf cids (looked_of (cid ∷ []))
+AreFetchedBy cid (Err other) cids = cids ≡ []
+
 pub record HasFetched (cid : CidParts) (result : Result (Option (List ℕ)) BlocksFault) (lookups : Lookups) : Type 0 where
   pub cids : List CidParts
   pub looked : LookedUp cids lookups
   pub hashed : All (λ cid. cid.hash ≡ Sha256) cids
-  pub few : length cids ≤ 1
-  pub last : OnOk result (cid.hash ≡ Sha256 → cids ≡ cid ∷ [])
-  pub none : cid.hash ≡ Identity → cids ≡ []
+  pub just : AreFetchedBy cid result cids
   pub quiet : OnOk result (LookupsQuiet lookups)
-
--- for the block under an identity CID nothing was looked up
-abbrev pub IsNoneOf : Result (Option (CidParts × List ℕ)) WalkFault → List CidParts → Type 0
-IsNoneOf (Ok (Some found)) cids = found.0.hash ≡ Identity → cids ≡ []
-IsNoneOf (Ok None) cids = ⊤
-IsNoneOf (Err fault) cids = ⊤
 
 -- in a step nothing else was looked up
 pub record HasLookedOnce (result : Result (Option (CidParts × List ℕ)) WalkFault) (lookups : Lookups) : Type 0 where
   pub cids : List CidParts
   pub looked : LookedUp cids lookups
   pub hashed : All (λ cid. cid.hash ≡ Sha256) cids
-  pub last : IsLastOf result cids
-  pub none : IsNoneOf result cids
   pub alone : IsAloneIn result cids
   pub quiet : OnOk result (LookupsQuiet lookups)

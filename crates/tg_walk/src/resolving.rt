@@ -1,6 +1,6 @@
 //! Where a path leads in a store.
 ghost use Rattle.std.specs.Prelude.{◌≡◌, ◌≤◌, All, IfOk, Some, length};
-ghost use Rattle.tg_walk.specs.Resolving.{HasResolveCause, HasResolveShape, IsResolvedTo, path_query};
+ghost use Rattle.tg_walk.specs.Resolving.{HasLookedAlong, HasResolveCause, HasResolveShape, IsResolvedTo, path_query};
 ghost use Rattle.tg_walk.specs.Walks.{HaveLookedUp};
 ghost use Rattle.tg_traversal.specs.Left.{tasks_left};
 ghost use Rattle.tg_model_laws.specs.Tasks.{start};
@@ -37,6 +37,9 @@ pub fn resolve<B: Blocks>(
         → IsResolvedTo store root.now path.now result }
     ensures shape { HasResolveShape root.now path.now result }
     ensures looked { HaveLookedUp (looked_in B.blocks blocks.old blocks.new) }
+    // What is looked up in a store that tells its blocks.
+    ensures along { (store : Store) → B.blocks.stored blocks.old ≡ Some store
+        → HasLookedAlong store root.now path.now result (looked_in B.blocks blocks.old blocks.new) }
     ensures cause { HasResolveCause result (B.blocks.stored blocks.old) (looked_in B.blocks blocks.old blocks.new) }
     ensures counted { B.blocks.faults blocks.old ≤ B.blocks.faults blocks.new }
 {
@@ -71,6 +74,8 @@ fn follow<B: Blocks>(
         → IsResolvedTo store root.now frames.old.query.path result }
     ensures shape { HasResolveShape root.now frames.old.query.path result }
     ensures looked { HaveLookedUp (looked_in B.blocks blocks.old blocks.new) }
+    ensures along { (store : Store) → B.blocks.stored blocks.old ≡ Some store
+        → HasLookedAlong store root.now frames.old.query.path result (looked_in B.blocks blocks.old blocks.new) }
     ensures cause { HasResolveCause result (B.blocks.stored blocks.old) (looked_in B.blocks blocks.old blocks.new) }
     ensures counted { B.blocks.faults blocks.old ≤ B.blocks.faults blocks.new }
 {

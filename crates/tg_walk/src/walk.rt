@@ -4,8 +4,8 @@ ghost use Rattle.tg_traversal.specs.BlocksLeft.{HasFewer, blocks_over};
 ghost use Rattle.tg_traversal.specs.Left.{WantedAt, tasks_left};
 ghost use Rattle.tg_walk.specs.Known.{IsNoted, KnownState};
 ghost use Rattle.tg_walk.specs.Walks.{HasComeTo, HasFetched, HasGone, HasGoneOn, HasLevelsAt, HasLookedOnce};
-ghost use Rattle.tg_walk.specs.Walks.{HasLookedUp, HasOpened, HasOpenedAt, HasStepped, HasStoreCause, IsAskedFound};
-ghost use Rattle.tg_walk.specs.Walks.{IsBlockOf, IsNamedFound, IsNextPlace, IsOnWalk, IsOpened, IsOwnFault, IsPlaceNow};
+ghost use Rattle.tg_walk.specs.Walks.{HasLookedUp, HasOpened, HasOpenedAt, HasSought, HasStepped, HasStoreCause};
+ghost use Rattle.tg_walk.specs.Walks.{IsAskedFound, IsBlockOf, IsNamedFound, IsNextPlace, IsOnWalk, IsOpened, IsOwnFault, IsPlaceNow};
 ghost use Rattle.tg_walk.specs.Walks.{IsWantedHere, StandsFor, blocks_left, fault_of_block, fault_of_miss, max_depth};
 ghost use Rattle.tg_cid.specs.declared.cid.HashKind.TheVariants.{Identity};
 ghost use Rattle.tg_model.specs.Dag.{Section};
@@ -83,6 +83,8 @@ impl Walk {
         ensures fewer { IfOk result (λ found. IfSome found
             (λ _. blocks_left self.new.left < blocks_left self.old.left)) }
         ensures looked { HasLookedUp self.old.left.query result (looked_in B.blocks blocks.old blocks.new) }
+        ensures sought { self.old.refused ≡ None
+            → HasSought self.old.left.query result (looked_in B.blocks blocks.old blocks.new) }
         ensures cause { self.old.refused ≡ None
             → HasStoreCause result (B.blocks.stored blocks.old) (looked_in B.blocks blocks.old blocks.new) }
         ensures counted { B.blocks.faults blocks.old ≤ B.blocks.faults blocks.new }
@@ -114,7 +116,7 @@ fn next_given<B: Blocks>(
     ensures named { IsNamedFound result }
     ensures asked { IsAskedFound frames.old.query result }
     ensures fewer { IfOk result (λ found. IfSome found (λ _. blocks_left frames.new < blocks_left frames.old)) }
-    ensures looked { HasLookedUp frames.old.query result (looked_in B.blocks blocks.old blocks.new) }
+    ensures looked { HasSought frames.old.query result (looked_in B.blocks blocks.old blocks.new) }
     ensures cause { HasStoreCause result (B.blocks.stored blocks.old) (looked_in B.blocks blocks.old blocks.new) }
     ensures counted { B.blocks.faults blocks.old ≤ B.blocks.faults blocks.new }
 {
@@ -139,7 +141,7 @@ fn next_repeated<B: Blocks>(
     ensures named { IsNamedFound result }
     ensures asked { IsAskedFound frames.old.query result }
     ensures fewer { IfOk result (λ found. IfSome found (λ _. blocks_left frames.new < blocks_left frames.old)) }
-    ensures looked { HasLookedUp frames.old.query result (looked_in B.blocks blocks.old blocks.new) }
+    ensures looked { HasSought frames.old.query result (looked_in B.blocks blocks.old blocks.new) }
     ensures cause { HasStoreCause result (B.blocks.stored blocks.old) (looked_in B.blocks blocks.old blocks.new) }
     ensures counted { B.blocks.faults blocks.old ≤ B.blocks.faults blocks.new }
 {
@@ -167,7 +169,7 @@ fn next_once<B: Blocks>(
     ensures named { IsNamedFound result }
     ensures asked { IsAskedFound frames.old.query result }
     ensures fewer { IfOk result (λ found. IfSome found (λ _. blocks_left frames.new < blocks_left frames.old)) }
-    ensures looked { HasLookedUp frames.old.query result (looked_in B.blocks blocks.old blocks.new) }
+    ensures looked { HasSought frames.old.query result (looked_in B.blocks blocks.old blocks.new) }
     ensures cause { HasStoreCause result (B.blocks.stored blocks.old) (looked_in B.blocks blocks.old blocks.new) }
     ensures counted { B.blocks.faults blocks.old ≤ B.blocks.faults blocks.new }
 {

@@ -8,7 +8,7 @@ use Rattle.tg_model.specs.Traversal.{is_asked}
 use Rattle.tg_model_laws.specs.SentSections.{taken_if}
 use Rattle.tg_model_laws.specs.StoreWalks.{section_of}
 use Rattle.tg_model_laws.specs.TakenBlocks.{opened_by}
-use Rattle.tg_walk.proofs.Giving.{front_so, goes_once, looked_since, noted_asked, opened_so, own_cause, passed_none, passed_since, refused_behind, stops}
+use Rattle.tg_walk.proofs.Giving.{front_so, goes_once, looked_since, noted_asked, opened_so, own_cause, passed_none, passed_since, refused_before, refused_behind, stops}
 use Rattle.tg_walk.specs.Walks.{HasComeTo, HasGone, HasLookedOnce, IsOnWalk, HasOpenedAt, IsPlaceNow, blocks_left}
 use Rattle.tg_walk.specs.declared.known.Opened.{Opened}
 use Rattle.tg_walk.proofs.walk.next_once.Goals as goal
@@ -25,6 +25,11 @@ pub returns-in_err-place-clause-stands : goal.returns-in_err-place-clause-stands
 returns-in_err-place-clause-stands g c store sections told start =
     let p = err_from_is_err_and c.from_residual.result c.from_residual.ensures.1 in
     rw (p.1, p.2) (c.in_err-place.ensures.stands store sections (c.loop-place.invariant.stands store sections told start))
+
+pub returns-in_err-place-clause-looked : goal.returns-in_err-place-clause-looked
+returns-in_err-place-clause-looked g c =
+    let p = err_from_is_err_and c.from_residual.result c.from_residual.ensures.1 in
+    rw (p.1, p.2) (refused_before c.args.frames.now.query c.in_err-place.field-0.0 _ c.requires c.in_err-place.ensures.fault c.loop-place.invariant.looked)
 
 pub returns-in_err-place-clause-cause : goal.returns-in_err-place-clause-cause
 returns-in_err-place-clause-cause g c =
@@ -66,7 +71,7 @@ pub returns-in_err-given-clause-looked : goal.returns-in_err-given-clause-looked
 returns-in_err-given-clause-looked g c =
     let p = err_from_is_err_and c.from_residual-in_err-given.result c.from_residual-in_err-given.ensures.1 in
     let looked = subst (λ (found : Option (CidParts × List ℕ)). HasLookedOnce (Ok found) (looked_in g.B.Blocks.blocks c.loop-place.blocks c.step.new.blocks)) c.in-Some-2.is c.in_ok-found.ensures.looked in
-    rw (p.1, p.2) (looked_since g.B.Blocks.blocks c.args.blocks.now c.loop-place.blocks c.step.new.blocks c.args.frames.now.query _ g.met.B.Blocks.joins c.loop-place.invariant.looked (refused_behind _ _ _ looked))
+    rw (p.1, p.2) (looked_since g.B.Blocks.blocks c.args.blocks.now c.loop-place.blocks c.step.new.blocks c.args.frames.now.query _ g.met.B.Blocks.joins c.loop-place.invariant.looked (refused_behind _ _ looked))
 
 pub returns-in_err-open-clause-stands : goal.returns-in_err-open-clause-stands
 returns-in_err-open-clause-stands g c store sections told start =
@@ -79,7 +84,7 @@ pub returns-in_err-open-clause-looked : goal.returns-in_err-open-clause-looked
 returns-in_err-open-clause-looked g c =
     let p = err_from_is_err_and c.from_residual-in_err-open.result c.from_residual-in_err-open.ensures.1 in
     let looked = subst (λ (found : Option (CidParts × List ℕ)). HasLookedOnce (Ok found) (looked_in g.B.Blocks.blocks c.loop-place.blocks c.step.new.blocks)) c.in-Some-2.is c.in_ok-found.ensures.looked in
-    rw (p.1, p.2) (looked_since g.B.Blocks.blocks c.args.blocks.now c.loop-place.blocks c.step.new.blocks c.args.frames.now.query _ g.met.B.Blocks.joins c.loop-place.invariant.looked (refused_behind _ _ _ looked))
+    rw (p.1, p.2) (looked_since g.B.Blocks.blocks c.args.blocks.now c.loop-place.blocks c.step.new.blocks c.args.frames.now.query _ g.met.B.Blocks.joins c.loop-place.invariant.looked (refused_behind _ _ looked))
 
 pub returns-then-given-clause-stands : goal.returns-then-given-clause-stands
 returns-then-given-clause-stands g c store sections told start =

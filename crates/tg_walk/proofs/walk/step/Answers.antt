@@ -1,6 +1,7 @@
-use Rattle.std.proofs.Common.{Ok, Option, subst, ◌∙◌}
+use Rattle.std.proofs.Common.{Err, Ok, Option, Some, ap, subst, sym, ◌∙◌}
 use Rattle.std.proofs.lemmas.Result.{err_from_is_err_and}
 use Rattle.tg_walk.proofs.Fewer.{fewer_next}
+use Rattle.tg_walk.proofs.Lookups.{alone_before, once_bad, once_failed, once_gone, once_nothing}
 use Rattle.tg_walk.proofs.Passing.{not_done}
 use Rattle.tg_walk.proofs.WalkSteps.{ends_there, found_in, front_there, goes_on, gone_there, stops_at_block, stops_before, stops_deep, store_stops}
 use Rattle.tg_walk.specs.Walks.{IsNextPlace}
@@ -59,3 +60,26 @@ pub returns-clause-fewer : goal.returns-clause-fewer
 returns-clause-fewer g c =
     fewer_next c.args.most c.args.frames.now c.next_place.new.frames c.open.new.frames c.in-Some.place
     (subst (λ (found : Option Wanted). IsNextPlace c.args.frames.now (Ok found) c.next_place.new.frames) c.in-Some.is c.in_ok-place.ensures.next) c.if-place-most.false c.in_ok-open.ensures.fewer
+
+pub returns-in_err-place-clause-looked : goal.returns-in_err-place-clause-looked
+returns-in_err-place-clause-looked g c =
+    let p = err_from_is_err_and c.from_residual.result c.from_residual.ensures.1 in
+    rw (p.1, p.2) (once_nothing g.B.Blocks.blocks c.args.blocks.now (Err c.in_err-place.field-0.0) (g.met.B.Blocks.rests c.args.blocks.now)
+    (alone_before c.args.frames.now c.next_place.new.frames c.in_err-place.field-0.0 c.in_err-place.ensures.next))
+
+pub returns-in_err-block-clause-looked : goal.returns-in_err-block-clause-looked
+returns-in_err-block-clause-looked g c =
+    let p = err_from_is_err_and c.from_residual-in_err-block.result c.from_residual-in_err-block.ensures.1 in
+    rw (p.1, p.2) (once_failed c.in-Some.place.cid c.in_err-block.field-0.0 _ c.in_err-block.ensures.looked)
+
+pub returns-in_default-2-clause-looked : goal.returns-in_default-2-clause-looked
+returns-in_default-2-clause-looked g c =
+    once_gone c.in-Some.place.cid c.in_ok-block.field-0 _ c.in_ok-block.ensures.looked c.in_ok-block.ensures.identity c.in_default-2.is
+
+pub returns-in_err-open-clause-looked : goal.returns-in_err-open-clause-looked
+returns-in_err-open-clause-looked g c =
+    let p = err_from_is_err_and c.from_residual-in_err-open.result c.from_residual-in_err-open.ensures.1 in
+    let next : IsNextPlace c.args.frames.now (Ok (Some c.in-Some.place)) c.next_place.new.frames =
+    subst (λ (found : Option Wanted). IsNextPlace c.args.frames.now (Ok found) c.next_place.new.frames) c.in-Some.is c.in_ok-place.ensures.next in
+    rw (p.1, p.2) (once_bad c.in-Some.place.cid c.in_ok-block.field-0 _ c.next_place.new.frames c.open.new.frames next.0 c.in-Some-2.block c.in_err-open.field-0.0 c.in_ok-block.ensures.looked
+    (sym (ap (λ (wanted : Wanted). wanted.cid) next.2)) (c.in_err-open.ensures.opened next.0 next.1))
