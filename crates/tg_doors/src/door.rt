@@ -1,5 +1,5 @@
 //! Doors through which links come.
-ghost use Rattle.std.specs.Prelude.{◌≤◌, ℕ};
+ghost use Rattle.std.specs.Prelude.{◌≡◌, ◌≤◌, length, ℕ};
 ghost use Rattle.tg_doors.specs.Doors.{DoorMeaning, IsAdmitted, IsAskedPort, IsBound, IsDone, KeepsComing, KeepsPort, KeepsServed, KeepsShut};
 ghost use Rattle.tg_doors.specs.Doors.{at_door, given_link};
 ghost use Rattle.tg_links.specs.Views.{view_of};
@@ -16,7 +16,7 @@ use tg_links::Link;
 /// at 2 ^ 64 - 1; `asked` says that between two of its moments it was asked to bind a port, which only a `bind` with that
 /// number shows.
 pub trait Door {
-    type Link: Link;
+    type Link: Link + Drop;
 
     ghost door: { DoorMeaning Self };
 
@@ -39,6 +39,14 @@ pub trait Door {
         ensures served { KeepsServed (at_door door self.old self.new) }
         ensures port { KeepsPort (at_door door self.old self.new) }
         ensures counted { door.faults self.old ≤ door.faults self.new };
+
+    /// Waits until something may be done, over links that it gave and that stand in lanes: marks the lanes of whose links
+    /// a take needn't wait, and says how many more calls of `admit` needn't, of which it takes care only where it `admits`.
+    /// Over a socket it waits for the first of these, for a while at most. Nothing changes by it, and nothing is promised of
+    /// what it marks.
+    fn wait(&mut self, links: &[Option<Self::Link>], admits: bool, ready: &mut [bool]) -> usize
+        requires { length ready.old ≡ length links.now }
+        ensures { self.new ≡ self.old };
 
     /// Takes back a link that it gave, and tells what went through it. A fault of the link is one of the door; so is
     /// want of memory to tell of it, behind which nothing is told any more.

@@ -169,6 +169,12 @@ impl Door for MemDoor {
         Ok(Some(MemLink::with_calls(self.alloc, bytes, self.piece, calls)))
     }
 
+    /// It waits for nothing: each link can be taken from, and each `admit` answers at once. It is no numbered call.
+    fn wait(&mut self, _links: &[Option<MemLink>], _admits: bool, ready: &mut [bool]) -> usize {
+        ready.fill(true);
+        usize::MAX
+    }
+
     /// It takes over the number of calls that the link made. Of a link whose calls failed one fault is counted, however many
     /// failed.
     fn done(&mut self, link: MemLink)

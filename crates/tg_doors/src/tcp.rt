@@ -10,12 +10,29 @@ ghost use Rattle.tg_faults.specs.Faults.{Rose, counted};
 ghost use Rattle.tg_links.specs.Tcp.{tcp_hearing, tcp_link};
 
 use crate::door::Door;
+use libc::net::{POLLIN, poll};
+use libc::types::pollfd;
 use std::io;
 use std::io::ErrorKind;
 use std::marker::Model;
 use std::net::{IpAddr, Ipv4Addr, Net, OpenListener, SocketAddr};
+use std::os::fd::AsRawFd;
+use std::time::Clock;
 use tg_faults::Failed;
 use tg_links::{Silence, TcpLink};
+
+/// How many lanes are waited for at most.
+const LANES: usize = 64;
+
+/// How many milliseconds a peer may be silent.
+const PATIENCE: u64 = 60_000;
+
+/// A descriptor that is waited for: none.
+const NONE: pollfd = pollfd {
+    fd: -1,
+    events: POLLIN,
+    revents: 0,
+};
 
 /// A door to peers on this machine, which connect to a port of 127.0.0.1 over TCP (RFC 9293). It tells neither the
 /// links to come nor what went through those that were given back.
@@ -27,6 +44,8 @@ pub struct TcpDoor<R: Net> {
     bound: Option<Bound<R::Listener>>,
     shut: bool,
     faults: u64,
+    /// When the link of each lane was found to have something to take last, in milliseconds.
+    heard_at: [u64; LANES],
 }
 
 /// What listens, and the port at which it does.
@@ -55,6 +74,7 @@ impl<R: Net> TcpDoor<R> {
             bound: None,
             shut: false,
             faults: 0,
+            heard_at: [0; LANES],
         }
     }
 
@@ -89,7 +109,70 @@ impl<R: Net> TcpDoor<R> {
     }
 }
 
-impl<R: Net + Drop> Door for TcpDoor<R> {
+impl<R: Net + Clock + Drop> TcpDoor<R> {
+    /// The milliseconds of the clock, or 0 where it can't be read, so that nobody is silent for long.
+    fn now(&self) -> u64 {
+        match self.net.monotonic() {
+            Ok(time) => u64::try_from(time.as_millis()).unwrap_or(u64::MAX),
+            Err(_) => 0,
+        }
+    }
+
+    /// Asks for the links of the lanes, and says how many milliseconds to wait for them at most.
+    fn ask_lanes(
+        &mut self,
+        lanes: &[Option<TcpLink<R::Stream>>],
+        now: u64,
+        asked: &mut [pollfd; LANES + 1],
+    ) -> u64
+        ensures { self.new ≡ self.old }
+    {
+        let mut patience = PATIENCE;
+        for ((lane, place), heard_at) in lanes
+            .iter()
+            .zip(asked.iter_mut())
+            .zip(self.heard_at.iter_mut())
+        {
+            match lane {
+                Some(link) => {
+                    place.fd = link.socket();
+                    patience = patience.min(left(*heard_at, now));
+                }
+                None => *heard_at = now,
+            }
+        }
+        patience
+    }
+
+    /// Whether a take of the lane's link needn't wait, which was asked for. The link of a peer that was silent for too long
+    /// hears no more.
+    fn is_ready(
+        &mut self,
+        lanes: &[Option<TcpLink<R::Stream>>],
+        asked: &[pollfd; LANES + 1],
+        now: u64,
+        lane: usize,
+    ) -> bool
+        ensures { self.new ≡ self.old }
+    {
+        if lane >= LANES {
+            return true;
+        }
+        if asked[lane].revents != 0 {
+            self.heard_at[lane] = now;
+            return true;
+        }
+        if left(self.heard_at[lane], now) > 0 {
+            return false;
+        }
+        if let Some(Some(link)) = lanes.get(lane) {
+            link.hush();
+        }
+        true
+    }
+}
+
+impl<R: Net + Clock + Drop> Door for TcpDoor<R> {
     type Link = TcpLink<R::Stream>;
 
     ghost door = { tcp_door };
@@ -132,6 +215,28 @@ impl<R: Net + Drop> Door for TcpDoor<R> {
         }
     }
 
+    /// It waits for the first of: bytes, or the end, of a link; a connection, where it is asked for that; and that a peer
+    /// was silent for 60 seconds, whose link hears no more then, and is marked. Lanes above the 64th are marked.
+    fn wait(
+        &mut self,
+        lanes: &[Option<TcpLink<R::Stream>>],
+        admits: bool,
+        ready: &mut [bool],
+    ) -> usize {
+        let before = self.now();
+        let mut asked = [NONE; LANES + 1];
+        let patience = self.ask_lanes(lanes, before, &mut asked);
+        if let (true, Some(bound)) = (admits, &self.bound) {
+            asked[LANES].fd = bound.listener.as_raw_fd();
+        }
+        wait_on(&mut asked, patience);
+        let now = self.now();
+        for (i, mark) in ready.iter_mut().enumerate() {
+            *mark = self.is_ready(lanes, &asked, now, i);
+        }
+        usize::from(asked[LANES].revents != 0)
+    }
+
     /// It finishes the link, whose last errors are no faults.
     fn done(&mut self, link: TcpLink<R::Stream>)
         ensures done { IsDone (view_of tcp_link (tcp_hearing R.Stream.remaining) link)
@@ -147,6 +252,22 @@ impl<R: Net + Drop> Door for TcpDoor<R> {
             self.fault();
         }
         link.finish();
+    }
+}
+
+/// How long a peer may be silent yet, which was heard last at one time, at another.
+fn left(heard_at: u64, now: u64) -> u64 {
+    PATIENCE.saturating_sub(now.saturating_sub(heard_at))
+}
+
+/// Waits until one of the descriptors is ready, or for so many milliseconds (`poll`, POSIX.1-2017), and again where it is
+/// interrupted.
+fn wait_on(asked: &mut [pollfd], millis: u64) {
+    let timeout = i32::try_from(millis).unwrap_or(i32::MAX);
+    for _ in 0..u64::MAX {
+        if poll(asked, timeout) >= 0 || os::errno() != libc::EINTR {
+            return;
+        }
     }
 }
 

@@ -14,6 +14,7 @@ use std::io;
 use std::io::{ErrorKind, Read, Write};
 use std::marker::Model;
 use std::net::{OpenStream, Shutdown};
+use std::os::fd::{AsRawFd, RawFd};
 use std::time::Duration;
 use tg_faults::Failed;
 use tg_streams::{Sink, Source, read_on, write_on};
@@ -121,6 +122,21 @@ impl<T: OpenStream + Drop> TcpLink<T> {
         stream.set_read_timeout(Some(patience))?;
         stream.set_write_timeout(Some(patience))?;
         Ok(TcpLink::new(stream, silence))
+    }
+}
+
+impl<T: AsRawFd> TcpLink<T> {
+    /// The number of the connection's socket, by which a door waits for it.
+    pub fn socket(&self) -> RawFd {
+        self.stream.as_raw_fd()
+    }
+}
+
+impl<T: OpenStream> TcpLink<T> {
+    /// Hears no more of the peer (`shutdown` with `SHUT_RD`, POSIX.1-2017): the takes behind it give what had come and
+    /// then the end, and none waits. An error of this is no fault.
+    pub fn hush(&self) {
+        let _ = self.stream.shutdown(Shutdown::Read);
     }
 }
 
