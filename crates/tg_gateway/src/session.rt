@@ -43,7 +43,7 @@ pub struct Served {
 
 impl Served {
     /// No reply was sent.
-    pub(crate) fn none() -> Served
+    pub fn none() -> Served
         ensures { result ≡ record { requests = 0; broken = 0; store = 0 } }
     {
         Served {

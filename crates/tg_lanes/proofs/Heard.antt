@@ -1,5 +1,5 @@
 -- What was heard on a lane's link and said to it.
-use Rattle.std.proofs.Common.{◌≡◌, ℕ, Ok, Err, Result, Bool, Option, None, Some, true, false, List, [], ◌∷◌, ◌++◌, append-nil, ap₂, inl, inr, refl, sym, ap, subst, ◌∙◌}
+use Rattle.std.proofs.Common.{◌≡◌, ℕ, Ok, Err, Result, Bool, Option, None, Some, true, false, List, [], ◌∷◌, ◌++◌, append-nil, ap₂, length, ◌<◌, inl, inr, refl, sym, ap, subst, ◌∙◌}
 use Rattle.std.specs.Prelude.{is_some, slice_get, slice_set}
 use Rattle.tg_faults.specs.Faults.{Rose}
 use Rattle.tg_gateway.specs.Sessions.{FeedEnds, SessionView}
@@ -7,10 +7,10 @@ use Rattle.tg_gateway.specs.declared.fault.GatewayFault.{GatewayFault}
 use Rattle.tg_gateway.specs.declared.fault.GatewayFault.TheVariants as faults
 use Rattle.tg_gateway.specs.declared.session.Next.{Next}
 use Rattle.tg_gateway.specs.declared.session.Next.TheVariants as nexts
-use Rattle.tg_lanes.proofs.Moves.{got_set}
 use Rattle.tg_lanes.specs.Hearing.{HeardOn, LinkFails, fed_over}
 use Rattle.tg_lanes.specs.History.{Fed, FedStands, LanesStandFor, Move, StandOn, fed_by, has_ended, was_fed}
 use Rattle.tg_lanes.specs.Lanes.{Feeds, LaneFed, LanesView}
+use Rattle.tg_lanes.specs.OwnLaws.{got_set}
 use Rattle.tg_links.specs.Joining.{spoke_hears, spoke_nothing, spoke_says}
 use Rattle.tg_links.specs.Links.{CountsAreOne, LinkMeaning, PutsAreSaid, TakesAreHeard}
 use Rattle.tg_links.specs.Steps.{LinkQuiet, LinkStep, Spoke, link_step}
@@ -46,16 +46,38 @@ module _ (told : Option Store) (old new : SessionView) (piece : List ℕ) (looku
       by None none = by_close old.state.closed refl none
       by (Some fault) some = still (idle (feeds.again fault some).2)
 
+-- ---- how many bytes may be received
+
+module _ (told : Option Store) (old new : SessionView) (piece : List ℕ) (lookups : Lookups) (out : Output) where
+  open_most : (result : Result Next GatewayFault) → FeedEnds told old new piece lookups out result → new.state.most ≡ old.state.most
+  open_most (Ok next) p = p.went.numbers.most_is
+  open_most (Err (faults.Limit number)) p = p.passed.numbers.most_is
+  open_most (Err faults.LinkFault) p = p.broke.numbers.most_is
+  open_most (Err faults.OutOfMemory) p = p.broke.numbers.most_is
+
+  -- it stays what it was
+  same_most : (same : Type 0) (result : Result Next GatewayFault) → Feeds told old new piece lookups out same result → new.state.most ≡ old.state.most
+  same_most same result feeds = by old.refused refl
+    where
+      by_close : (c : Bool) → old.state.closed ≡ c → old.refused ≡ None → new.state.most ≡ old.state.most
+      by_close false open_is none =
+          open_most result (feeds.ends (record { unclosed = open_is; unrefused = feeds.agreed ∙ ap is_some none }))
+      by_close true shut none = ap (λ (s : SessionView). s.state.most) (feeds.closed none shut).1
+
+      by : (r : Option GatewayFault) → old.refused ≡ r → new.state.most ≡ old.state.most
+      by None none = by_close old.state.closed refl none
+      by (Some fault) some = ap (λ (s : SessionView). s.state.most) (feeds.again fault some).1
+
 -- ---- what was heard
 
 module _ {B L : Type 0} (m : LinkMeaning L) (source : SourceMeaning L) (hears : TakesAreHeard L m source) (told : Option Store) (old new : LanesView B)
     (lane : ℕ) where
   -- a piece was taken, and what the lane wrote for it was put
   pub heard_piece : (sink : SinkMeaning L) → PutsAreSaid L m sink → CountsAreOne L source sink → (lookups : Lookups) (a b c : L) (piece : List ℕ) (result : Result Next GatewayFault)
-      → source.took a b piece → source.faults b ≡ source.faults a → LaneFed told old new lane piece lookups (into sink b c) (c ≡ b) result
+      → 0 < length piece → source.took a b piece → source.faults b ≡ source.faults a → LaneFed told old new lane piece lookups (into sink b c) (c ≡ b) result
       → FedStands told old.sessions new.sessions lane piece lookups (into sink b c) result
       → HeardOn told old new lane lookups.faults_old lookups.faults_new (link_step m source a c) result
-  heard_piece sink says one_count lookups a b c piece result took quiet fed on =
+  heard_piece sink says one_count lookups a b c piece result some took quiet fed on =
       let spoke = spoke_hears m source a a b [] [] (spoke_nothing m source a) piece (hears a b piece took) in
       let one : fed.behind ≡ on.session =
       got_set old.sessions lane fed.behind on.session (ap (λ (l : List SessionView). slice_get l lane) (sym fed.sessions) ∙ on.session_is) in
@@ -82,10 +104,13 @@ module _ {B L : Type 0} (m : LinkMeaning L) (source : SourceMeaning L) (hears : 
         more = was_fed lane over ∷ [];
         heard_as = inl (record {
           more_is = refl;
+          some = some;
           was = fed.before;
           was_there = fed.was;
           session = on.session;
           session_is = on.session_is;
+          same_most = ap (λ (s : SessionView). s.state.most) (sym one)
+              ∙ same_most told fed.before fed.behind piece lookups (into sink b c) ((new.blocks ≡ old.blocks) × (c ≡ b)) result fed.feeds;
           ends_as = on.ends_as;
           link_fails = link_fails told fed.before fed.behind piece lookups (into sink b c) (link_step m source a c) start end
               ((new.blocks ≡ old.blocks) × (c ≡ b)) result (λ p. ap sink.faults p.1) fed.feeds;

@@ -11,85 +11,9 @@ use Rattle.tg_lanes.proofs.Standing.{GoesOn, SessionLaws, lane_ends, lane_on}
 use Rattle.tg_lanes.specs.History.{Fed, FedStands, LaneStands, LanesStandFor, Move, fed_by, has_ended, own_behind, own_from, own_of, since_behind, since_of, was_fed, was_renewed}
 use Rattle.tg_lanes.specs.Lanes.{AreAgreed, Feeds, IsAgreed}
 use Rattle.tg_lanes.specs.Laws.{LanesBegin}
+use Rattle.tg_lanes.specs.OwnLaws.{differ, get_elsewhere, get_here, get_other, got_set, own_anew, own_elsewhere, own_ended, own_here, own_kept, own_push, since_anew, since_kept, since_push, some_is}
 use Rattle.tg_model.specs.Stores.{Lookups, Store}
 use Rattle.tg_streams.specs.Streams.{Output, Put, SinkMeaning, into}
-
--- ---- a lane's own part
-
-own_push : (lane : ℕ) (own : List Fed) (moves : List Move) (move : Move)
-    → own_from lane own (moves ++ move ∷ []) ≡ own_behind lane (own_from lane own moves) move
-own_push lane own [] move = refl
-own_push lane own (m ∷ moves) move = own_push lane (own_behind lane own m) moves move
-
-own_here : (lane : ℕ) (moves : List Move) (f : Fed) → own_of lane (moves ++ was_fed lane f ∷ []) ≡ own_of lane moves ++ f ∷ []
-own_here lane moves f =
-    own_push lane [] moves (was_fed lane f)
-    ∙ ap (λ (b : Bool). if b then own_of lane moves ++ f ∷ [] else own_of lane moves) (eq-eqb lane lane refl)
-
-own_elsewhere : (lane other : ℕ) (moves : List Move) (f : Fed) → (other == lane) ≡ false
-    → own_of lane (moves ++ was_fed other f ∷ []) ≡ own_of lane moves
-own_elsewhere lane other moves f apart =
-    own_push lane [] moves (was_fed other f) ∙ ap (λ (b : Bool). if b then own_of lane moves ++ f ∷ [] else own_of lane moves) apart
-
-own_anew : (lane count : ℕ) (moves : List Move) → own_of lane (moves ++ was_renewed lane count ∷ []) ≡ []
-own_anew lane count moves =
-    own_push lane [] moves (was_renewed lane count)
-    ∙ ap (λ (b : Bool). if b then [] else own_of lane moves) (eq-eqb lane lane refl)
-
-own_kept : (lane other count : ℕ) (moves : List Move) → (other == lane) ≡ false
-    → own_of lane (moves ++ was_renewed other count ∷ []) ≡ own_of lane moves
-own_kept lane other count moves apart =
-    own_push lane [] moves (was_renewed other count) ∙ ap (λ (b : Bool). if b then [] else own_of lane moves) apart
-
-own_ended : (lane other : ℕ) (moves : List Move) → own_of lane (moves ++ has_ended other ∷ []) ≡ own_of lane moves
-own_ended lane other moves = own_push lane [] moves (has_ended other)
-
--- ---- the count since when
-
-since_push : (lane since : ℕ) (moves : List Move) (move : Move)
-    → since_of lane since (moves ++ move ∷ []) ≡ since_behind lane (since_of lane since moves) move
-since_push lane since [] move = refl
-since_push lane since (m ∷ moves) move = since_push lane (since_behind lane since m) moves move
-
-since_anew : (lane since count : ℕ) (moves : List Move) → since_of lane since (moves ++ was_renewed lane count ∷ []) ≡ count
-since_anew lane since count moves =
-    since_push lane since moves (was_renewed lane count)
-    ∙ ap (λ (b : Bool). if b then count else since_of lane since moves) (eq-eqb lane lane refl)
-
-since_kept : (lane other since count : ℕ) (moves : List Move) → (other == lane) ≡ false
-    → since_of lane since (moves ++ was_renewed other count ∷ []) ≡ since_of lane since moves
-since_kept lane other since count moves apart =
-    since_push lane since moves (was_renewed other count)
-    ∙ ap (λ (b : Bool). if b then count else since_of lane since moves) apart
-
--- ---- sessions by their lanes
-
-get_here : {X : Type 0} (xs : List X) (i : ℕ) (x y : X) → slice_get xs i ≡ Some x → slice_get (slice_set xs i y) i ≡ Some y
-get_here [] i x y h = cc
-get_here (z ∷ xs) zero x y h = refl
-get_here (z ∷ xs) (suc i) x y h = get_here xs i x y h
-
-get_other : {X : Type 0} (xs : List X) (i j : ℕ) (y : X) → (i ≡ j → ⊥) → slice_get (slice_set xs i y) j ≡ slice_get xs j
-get_other [] i j y apart = refl
-get_other (z ∷ xs) zero zero y apart = absurd (apart refl)
-get_other (z ∷ xs) zero (suc j) y apart = refl
-get_other (z ∷ xs) (suc i) zero y apart = refl
-get_other (z ∷ xs) (suc i) (suc j) y apart = get_other xs i j y (λ e. apart (ap suc e))
-
-differ : (i j : ℕ) → (i == j) ≡ false → i ≡ j → ⊥
-differ i j apart e = let same : true ≡ false = sym (eq-eqb i j e) ∙ apart in let none : ⊥ = cc in none
-
-get_elsewhere : {X : Type 0} (xs : List X) (i j : ℕ) (y : X) → (i == j) ≡ false → slice_get (slice_set xs i y) j ≡ slice_get xs j
-get_elsewhere xs i j y apart = get_other xs i j y (differ i j apart)
-
-some_is : {X : Type 0} (x y : X) → Some x ≡ Some y → x ≡ y
-some_is x y h = cc
-
--- what is found where something was set is that
-pub got_set : {X : Type 0} (xs : List X) (i : ℕ) (x y : X) → slice_get (slice_set xs i x) i ≡ Some y → x ≡ y
-got_set [] i x y h = cc
-got_set (z ∷ xs) zero x y h = some_is x y h
-got_set (z ∷ xs) (suc i) x y h = got_set xs i x y h
 
 -- ---- an event
 
@@ -203,13 +127,6 @@ pub lanes_begin : SessionsBegin → LanesBegin
 lanes_begin begin told count most since now le lane session at =
     subst (λ (s : SessionView). LaneStands s told since now []) (get_replicate count lane (new_session most) session at)
     (new_stands begin told most since now le)
-
--- ---- a lane that is there
-
-pub get_some : {X : Type 0} (xs : List X) (i : ℕ) → i < length xs → (x : X) × (slice_get xs i ≡ Some x)
-get_some [] i h = absurd (let no : ⊥ = omega (arith, h) in no)
-get_some (x ∷ xs) zero h = (x, refl)
-get_some (x ∷ xs) (suc i) h = get_some xs i (omega (arith, h))
 
 -- nothing was put
 grown_none : (held : Option (List ℕ)) → held ≡ grown held []

@@ -13,6 +13,7 @@ use Rattle.tg_gateway.specs.declared.session.Next.TheVariants as nexts
 use Rattle.tg_lanes.proofs.Later.{later_by}
 use Rattle.tg_lanes.specs.History.{AreInTurn, AreSentIn, EndsAs, Fed, HasOutRisen, HasWritten, HasWrittenFront, HasWrittenUpTo, LaneStands, WritesBy, fed_by, fed_in, written_in}
 use Rattle.tg_lanes.specs.Lanes.{Feeds, IsAgreed}
+use Rattle.tg_lanes.specs.OwnLaws.{fed_push, written_push}
 use Rattle.tg_model.specs.Stores.{Lookups, Store}
 use Rattle.tg_reply.specs.Replies.{reply_bytes}
 use Rattle.tg_reply.specs.SentLaws.{SessionsGoOn, SessionsStayClosed}
@@ -30,13 +31,6 @@ pub record SessionLaws : Type 0 where
   pub longer : SentLonger
 
 -- ---- one more thing that a lane was fed
-
-fed_push : (own : List Fed) (f : Fed) → fed_in (own ++ f ∷ []) ≡ fed_in own ++ f.piece
-fed_push own f = flat_map-append (λ (f : Fed). f.piece) own (f ∷ []) ∙ ap (λ (l : List ℕ). fed_in own ++ l) (append-nil f.piece)
-
-written_push : (own : List Fed) (f : Fed) → written_in (own ++ f ∷ []) ≡ written_in own ++ f.written
-written_push own f =
-    flat_map-append (λ (f : Fed). f.written) own (f ∷ []) ∙ ap (λ (l : List ℕ). written_in own ++ l) (append-nil f.written)
 
 out_push : (own : List Fed) (f : Fed) → HasOutRisen own → HasOutRisen (own ++ f ∷ [])
 out_push [] f h = absurd h

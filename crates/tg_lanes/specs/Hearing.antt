@@ -1,5 +1,5 @@
 -- What is heard on a lane's link and said to it (RFC 9112, section 9.3).
-use Rattle.std.specs.Prelude.{Err, List, None, Ok, Option, Result, Some, [], slice_get, slice_set, true, ℕ, ◌∷◌, ◌≡◌, ◌⊎◌}
+use Rattle.std.specs.Prelude.{Err, List, None, Ok, Option, Result, Some, [], length, slice_get, slice_set, true, ℕ, ◌<◌, ◌∷◌, ◌≡◌, ◌⊎◌}
 use Rattle.tg_gateway.specs.Sessions.{SessionView}
 use Rattle.tg_gateway.specs.declared.fault.GatewayFault.{GatewayFault}
 use Rattle.tg_gateway.specs.declared.fault.GatewayFault.TheVariants as faults
@@ -29,13 +29,15 @@ LinkFails None (Err (faults.Limit number)) link = LinkQuiet link
 LinkFails None (Err faults.LinkFault) link = LinkRose link
 LinkFails None (Err faults.OutOfMemory) link = LinkQuiet link
 
--- the lane was fed what was heard, and what it wrote was said; no other lane changed
+-- the lane was fed what was heard, a byte at least, and what it wrote was said; no other lane changed
 pub record IsFedAs {B : Type 0} (old new : LanesView B) (lane before now : ℕ) (link : LinkStep) (result : Result Next GatewayFault) (piece written : List ℕ) (more : List Move) : Type 0 where
   pub more_is : more ≡ was_fed lane (fed_over piece written before now link) ∷ []
+  pub some : 0 < length piece
   pub was : SessionView
   pub was_there : slice_get old.sessions lane ≡ Some was
   pub session : SessionView
   pub session_is : slice_get new.sessions lane ≡ Some session
+  pub same_most : session.state.most ≡ was.state.most
   pub ends_as : EndsAs session result
   pub link_fails : LinkFails was.refused result link
   pub sessions : new.sessions ≡ slice_set old.sessions lane session

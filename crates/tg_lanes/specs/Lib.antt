@@ -5,3 +5,4 @@ pub mod History
 pub mod Hearing
 pub mod Laws
 pub mod Callers
+pub mod OwnLaws

@@ -1,3 +1,10 @@
 pub mod Attaching
+pub mod DoorSteps
 pub mod OneLink
 pub mod Runs
+pub mod Admissions
+pub mod Weights
+pub mod LaneRuns
+pub mod Growing
+pub mod LaneSteps
+pub mod Turning

@@ -34,7 +34,7 @@ record HasRun (told : Option Store) (most : ℕ) (link : LinkStep) (lookups : Lo
   spoke : Spoke link run.heard run.said
 
 -- from none on, a count that rose is of faults
-rose_failed : (before now : ℕ) → before ≡ 0 → Rose before now → is_failed now ≡ true
+pub rose_failed : (before now : ℕ) → before ≡ 0 → Rose before now → is_failed now ≡ true
 rose_failed before zero none rose = absurd (let up = rose (omega arith) in omega (arith, up))
 rose_failed before (suc n) none rose = refl
 
@@ -137,7 +137,7 @@ one_run told most link lookups served (Err faults.OutOfMemory) none (h, quiet) =
 -- ---- what its door tells of it
 
 -- what went through a link that was new, where it tells it
-told_of : (old new : Option (List ℕ)) (bytes : List ℕ) → IsNothing old → new ≡ grown old bytes → IsSome new → new ≡ Some bytes
+pub told_of : (old new : Option (List ℕ)) (bytes : List ℕ) → IsNothing old → new ≡ grown old bytes → IsSome new → new ≡ Some bytes
 told_of None new bytes nothing is tells = absurd (let f = sym (ap is_some is) ∙ tells in cc)
 told_of (Some rest) new bytes nothing is tells = is ∙ ap (λ (front : List ℕ). Some (front ++ bytes)) nothing
 

@@ -18,6 +18,7 @@ use Rattle.tg_links.specs.declared.call.Call.{Call}
 use Rattle.tg_model.specs.Stores.{BlocksMeaning, Store, looked_in}
 use Rattle.tg_serve.specs.Serving.{AreHeardOf, AreServed, HasHappened, IsServedRun, LinkRun, QuietWhileTold, SaidBy, ServesLink, and_calls, call_of, happened_with, is_limit, is_link_fault, is_memory, is_positive}
 use Rattle.tg_serve.specs.declared.Happened.{Happened}
+use Rattle.tg_serve.proofs.DoorSteps as doors
 use Rattle.tg_walk.specs.Walks.{HaveLookedUp}
 
 -- ---- what was looked up
@@ -34,27 +35,27 @@ looks_both m a b c joins p q = record {
 
 -- ---- one link more
 
-are_more : (told : Option Store) (most before mid now : ℕ) (runs : List LinkRun) (run : LinkRun) → AreServed told most before runs mid → IsServedRun told most run
+pub are_more : (told : Option Store) (most before mid now : ℕ) (runs : List LinkRun) (run : LinkRun) → AreServed told most before runs mid → IsServedRun told most run
     → run.faults_before ≡ mid → run.faults_now ≡ now → mid ≤ now → AreServed told most before (runs ++ run ∷ []) now
 are_more told most before mid now [] run few is_served from to rises =
     (is_served, omega (arith, few, from), omega (arith, from, to, rises), omega (arith, to))
 are_more told most before mid now (first ∷ runs) run (is_first, few, up, more) is_served from to rises =
     (is_first, few, up, are_more told most first.faults_now mid now runs run more is_served from to rises)
 
-calls_more : (calls : Option (List Call)) (runs : List LinkRun) (run : LinkRun)
+pub calls_more : (calls : Option (List Call)) (runs : List LinkRun) (run : LinkRun)
     → and_call (and_calls calls runs) (Some (call_of run)) ≡ and_calls calls (runs ++ run ∷ [])
 calls_more None runs run = refl
 calls_more (Some calls) runs run =
     ap (λ (all : List Call). Some all)
     (append_assoc calls (map call_of runs) (call_of run ∷ []) ∙ ap (λ (more : List Call). calls ++ more) (sym (map-append call_of runs (run ∷ []))))
 
-any_more : (test : LinkRun → Bool) (runs : List LinkRun) (run : LinkRun) (x y : Bool) → x ≡ list_any test runs → y ≡ test run
+pub any_more : (test : LinkRun → Bool) (runs : List LinkRun) (run : LinkRun) (x y : Bool) → x ≡ list_any test runs → y ≡ test run
     → (x || y) ≡ list_any test (runs ++ run ∷ [])
 any_more test runs run x y e f =
     ap (λ (b : Bool). b || y) e ∙ ap (λ (b : Bool). list_any test runs || b) (f ∙ sym (or-false (test run)))
     ∙ sym (list_any-append test runs (run ∷ []))
 
-coming_more : (old : Option (List (List ℕ))) (runs : List LinkRun) (run : LinkRun)
+pub coming_more : (old : Option (List (List ℕ))) (runs : List LinkRun) (run : LinkRun)
     → option_map (drop 1) (option_map (drop (length runs)) old) ≡ option_map (drop (length (runs ++ run ∷ []))) old
 coming_more None runs run = refl
 coming_more (Some all) runs run =
@@ -69,26 +70,32 @@ heard_more (Some []) (first ∷ runs) run before last = absurd before
 heard_more (Some (said ∷ coming)) (first ∷ runs) run before last = (before.0, heard_more (Some coming) runs run before.1 last)
 
 -- a call of a link failed exactly where its session ended so
-failed_by : (told : Option Store) (most : ℕ) (run : LinkRun) (end : Result ⊤ GatewayFault) → SaidBy told most run end → run.failed ≡ is_link_fault end
+pub failed_by : (told : Option Store) (most : ℕ) (run : LinkRun) (end : Result ⊤ GatewayFault) → SaidBy told most run end → run.failed ≡ is_link_fault end
 failed_by told most run (Ok done) said = said.unfailed
 failed_by told most run (Err (faults.Limit number)) said = said.1.unfailed
 failed_by told most run (Err faults.LinkFault) said = said.1
 failed_by told most run (Err faults.OutOfMemory) said = said.1
 
-happened_more : (runs : List LinkRun) (run : LinkRun) (happened : Happened) → run.failed ≡ is_link_fault run.end → HasHappened runs false happened
-    → HasHappened (runs ++ run ∷ []) false (happened_with happened run.served run.end)
-happened_more runs run happened failed has = record {
+or_more : (unadmitted a b x : Bool) → x ≡ (a || b) → (unadmitted || a || b) ≡ (unadmitted || x)
+or_more true a b x e = refl
+or_more false a b x e = sym e
+
+pub happened_more : (runs : List LinkRun) (run : LinkRun) (unadmitted : Bool) (happened : Happened) → run.failed ≡ is_link_fault run.end
+    → HasHappened runs unadmitted happened → HasHappened (runs ++ run ∷ []) unadmitted (happened_with happened run.served run.end)
+happened_more runs run unadmitted happened failed has = record {
   memory = any_more (λ r. is_memory r.end) runs run happened.memory (is_memory run.end) has.memory refl;
   store = any_more (λ r. is_positive r.served.store) runs run happened.store (is_positive run.served.store) has.store refl;
-  fault = any_more (λ r. r.failed) runs run happened.fault (is_link_fault run.end) (has.fault ∙ false-or _) (sym failed) ∙ sym (false-or _);
+  fault = ap (λ (b : Bool). b || is_link_fault run.end) has.fault
+      ∙ or_more unadmitted (list_any (λ r. r.failed) runs) (is_link_fault run.end) (list_any (λ r. r.failed) (runs ++ run ∷ []))
+      (sym (any_more (λ r. r.failed) runs run (list_any (λ r. r.failed) runs) (is_link_fault run.end) refl (sym failed)));
   limit = any_more (λ r. is_limit r.end) runs run happened.limit (is_limit run.end) has.limit refl;
 }
 
-either : (x y : Bool) → (x || y) ≡ true → (x ≡ true) ⊎ (y ≡ true)
+pub either : (x y : Bool) → (x || y) ≡ true → (x ≡ true) ⊎ (y ≡ true)
 either true y e = inl refl
 either false y e = inr e
 
-neither : (x y : Bool) → (x || y) ≡ false → (x ≡ false) × (y ≡ false)
+pub neither : (x y : Bool) → (x || y) ≡ false → (x ≡ false) × (y ≡ false)
 neither true y e = absurd (let f = e in cc)
 neither false y e = (refl, e)
 
@@ -110,23 +117,10 @@ pub record HasServed (told : Option Store) (most count left : ℕ) (tell : Type 
 
 module _ {S D : Type 0} (blocks : BlocksMeaning S) (m : DoorMeaning D) (p q r : S) (a b c : D) (most count left : ℕ) (tell : Type 0) (happened : Happened)
     (so : HasServed (blocks.stored p) most count left tell (blocks.faults p) (blocks.faults q) (at_door m a b) happened) where
-  -- what rose before, or behind, rose
-  rose_before : DoorRose (at_door m a b) → m.faults b ≤ m.faults c → DoorRose (at_door m a c)
-  rose_before up more room = let rose = up (omega (arith, more, room)) in omega (arith, more, rose)
-
-  rose_behind : DoorRose (at_door m b c) → DoorRose (at_door m a c)
-  rose_behind up room = let rose = up room in omega (arith, so.counted, rose)
-
-  -- and what is quiet before and behind is quiet
+  -- what is quiet before and behind is quiet
   pub quiet_both : QuietWhileTold (at_door m a b) → QuietWhileTold (at_door m b c) → (m.served b ≡ None → m.served c ≡ None) → m.faults b ≤ m.faults c
       → QuietWhileTold (at_door m a c)
-  quiet_both (inl before) (inl now) untold more = inl (now ∙ before)
-  quiet_both (inr (some, none, up)) now untold more = inr (some, untold none, rose_before up more)
-  quiet_both (inl before) (inr (some, none, up)) untold more = inr (told_before (m.served a) refl, none, rose_behind up)
-    where
-      told_before : (was : Option (List Call)) → m.served a ≡ was → IsSome (m.served a)
-      told_before (Some calls) is = ap is_some is
-      told_before None is = absurd (let f = sym (ap is_some (so.untold is)) ∙ some in cc)
+  quiet_both before now untold more = doors.quiet_both m a b c so.counted more so.untold untold before now
 
   -- ---- one link more was served
 
@@ -139,9 +133,9 @@ module _ {S D : Type 0} (blocks : BlocksMeaning S) (m : DoorMeaning D) (p q r : 
     fails did = by (either happened.fault (is_link_fault end) did)
       where
         by : (happened.fault ≡ true) ⊎ (is_link_fault end ≡ true) → DoorRose (at_door m a c)
-        by (inl before) = rose_before (so.failed before) link.counted
+        by (inl before) = doors.rose_before m a b c so.counted link.counted (so.failed before)
         by (inr now) =
-            rose_behind (link.failed (failed_by (blocks.stored p) most link.run link.run.end is_served ∙ ap is_link_fault link.end_is ∙ now))
+            doors.rose_behind m a b c so.counted link.counted (link.failed (failed_by (blocks.stored p) most link.run link.run.end is_served ∙ ap is_link_fault link.end_is ∙ now))
 
     quiet_more : (happened.fault || is_link_fault end) ≡ false → QuietWhileTold (at_door m a c)
     quiet_more none =
@@ -155,17 +149,17 @@ module _ {S D : Type 0} (blocks : BlocksMeaning S) (m : DoorMeaning D) (p q r : 
         by : (m.served b ≡ and_calls (m.served a) so.runs) ⊎ ((m.served b ≡ None) × DoorRose (at_door m a b))
             → (m.served c ≡ and_call (m.served b) (Some (call_of link.run))) ⊎ ((m.served c ≡ None) × DoorRose (at_door m b c))
             → (m.served c ≡ and_calls (m.served a) (so.runs ++ link.run ∷ [])) ⊎ ((m.served c ≡ None) × DoorRose (at_door m a c))
-        by before (inr (none, up)) = inr (none, rose_behind up)
+        by before (inr (none, up)) = inr (none, doors.rose_behind m a b c so.counted link.counted up)
         by (inl before) (inl now) =
             inl (now ∙ ap (λ (calls : Option (List Call)). and_call calls (Some (call_of link.run))) before ∙ calls_more (m.served a) so.runs link.run)
         by (inr (none, up)) (inl now) =
-            inr (now ∙ ap (λ (calls : Option (List Call)). and_call calls (Some (call_of link.run))) none, rose_before up link.counted)
+            inr (now ∙ ap (λ (calls : Option (List Call)). and_call calls (Some (call_of link.run))) none, doors.rose_before m a b c so.counted link.counted up)
 
     has_more : HasHappened (so.runs ++ link.run ∷ []) false (happened_with happened served end)
     has_more =
         subst (λ (s : Served). HasHappened (so.runs ++ link.run ∷ []) false (happened_with happened s end)) link.served_is
         (subst (λ (e : Result ⊤ GatewayFault). HasHappened (so.runs ++ link.run ∷ []) false (happened_with happened link.run.served e)) link.end_is
-        (happened_more so.runs link.run happened (failed_by (blocks.stored p) most link.run link.run.end is_served) so.has_happened))
+        (happened_more so.runs link.run false happened (failed_by (blocks.stored p) most link.run link.run.end is_served) so.has_happened))
 
     pub one_more : (fewer : ℕ) → left ≡ fewer + 1
         → HasServed (blocks.stored p) most count fewer tell (blocks.faults p) (blocks.faults r) (at_door m a c) (happened_with happened served end)

@@ -1,3 +1,5 @@
 pub mod Serving
+pub mod SideBySide
+pub mod Turns
 pub mod Saying
 pub mod Packed

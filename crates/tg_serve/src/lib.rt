@@ -7,6 +7,7 @@ ghost use Rattle.tg_model.specs.Stores.{looked_in};
 ghost use Rattle.tg_serve.specs.Serving.{HasHappened, LinksTell, ServesDoor, ServesNext, happened_with};
 ghost use Rattle.tg_walk.specs.Walks.{HaveLookedUp};
 
+mod lanes;
 mod packed;
 
 pub use packed::{ServeFault, serve_pack};

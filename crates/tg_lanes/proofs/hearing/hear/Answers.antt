@@ -1,4 +1,4 @@
-use Rattle.std.proofs.Common.{ℕ, ap, arith, refl, take}
+use Rattle.std.proofs.Common.{ℕ, ap, arith, length-take, refl, take}
 use Rattle.std.proofs.lemmas.Result.{err_from_is_err_and}
 use Rattle.tg_lanes.proofs.Heard.{heard_end, heard_fault, heard_piece}
 use Rattle.tg_model.specs.Stores.{looked_in}
@@ -23,4 +23,6 @@ pub returns-clause-heard : goal.returns-clause-heard
 returns-clause-heard g c =
     heard_piece g.K.Link.link g.K.Source.source g.met.K.Link.hears (g.B.Blocks.blocks.stored c.args.lanes.now.blocks) c.args.lanes.now c.event-2.new.self c.args.lane
     g.K.Sink.sink g.met.K.Link.says g.met.K.Link.one_count (looked_in g.B.Blocks.blocks c.args.lanes.now.blocks c.event-2.new.self.blocks) c.args.link.now c.take.new.self c.event-2.new.out
-    (take c.in_ok-size.size c.take.new.buf) c.event-2.result c.in_ok-size.ensures.took.moved c.in_ok-size.ensures.quiet c.event-2.ensures.ends c.event-2.ensures.stands
+    (take c.in_ok-size.size c.take.new.buf) c.event-2.result
+    (let size = length-take c.in_ok-size.size c.take.new.buf in let within = c.in_ok-size.ensures.within in let some = c.if-size-eq0.false in omega (arith, size, within, some))
+    c.in_ok-size.ensures.took.moved c.in_ok-size.ensures.quiet c.event-2.ensures.ends c.event-2.ensures.stands

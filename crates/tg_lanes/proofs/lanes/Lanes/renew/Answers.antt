@@ -1,6 +1,7 @@
 use Rattle.std.proofs.Common.{ap, refl, subst, sym, ◌∙◌, slice_set}
 use Rattle.tg_gateway.specs.Sessions.{SessionView}
-use Rattle.tg_lanes.proofs.Moves.{agreed_set, get_some, lanes_renewed}
+use Rattle.tg_lanes.proofs.Moves.{agreed_set, lanes_renewed}
+use Rattle.tg_lanes.specs.OwnLaws.{get_some}
 use Rattle.tg_lanes.specs.Lanes.{IsAgreed}
 use Rattle.tg_lanes.proofs.lanes.Lanes.renew.Goals as goal
 
