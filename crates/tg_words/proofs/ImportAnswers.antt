@@ -15,8 +15,8 @@ use Rattle.tg_words.proofs.Positional.{Form, IsOf, the_line, two_words}
 abbrev pub import_form : Form (List ℕ × List ℕ) ImportParts
 import_form = record { name = codes "import"; names = import_names; writing = two_words; make = Import; asks = λ pair. ImportGiven pair.0 pair.1 }
 
-one_value : (value : Option (List ℕ)) (low high default a b : ℕ) → NumberGiven value low high default a → NumberGiven value low high default b → a ≡ b
-one_value value low high default a b p q =
+pub one_number : (value : Option (List ℕ)) (low high default a b : ℕ) → NumberGiven value low high default a → NumberGiven value low high default b → a ≡ b
+one_number value low high default a b p q =
     p.number_is ∙ ap (λ asked. unwrap_or asked default) (one_given NumberText (λ text x y s t. s.number_is ∙ sym t.number_is) value p.asked q.asked p.asked_is q.asked_is) ∙ sym q.number_is
 
 -- the same of the value of an option
@@ -73,11 +73,11 @@ import_found folder pack options parts shard folder_is folder_named pack_is pack
 pub one_import : (pair : List ℕ × List ℕ) (options : List Given) (a b : ImportParts) → ImportGiven pair.0 pair.1 options a → ImportGiven pair.0 pair.1 options b → a ≡ b
 one_import pair options a b p q =
     same_import a b (p.folder_is ∙ sym q.folder_is) (p.pack_is ∙ sym q.pack_is)
-    (one_value (value_at options (codes "chunk")) 1 max_block_len 1048576 a.chunk b.chunk p.chunk q.chunk)
-    (one_value (value_at options (codes "width")) 2 4096 1024 a.width b.width p.width q.width)
-    (one_value (value_at options (codes "shard")) 0 1048576 262144 a.shard b.shard p.shard q.shard)
+    (one_number (value_at options (codes "chunk")) 1 max_block_len 1048576 a.chunk b.chunk p.chunk q.chunk)
+    (one_number (value_at options (codes "width")) 2 4096 1024 a.width b.width p.width q.width)
+    (one_number (value_at options (codes "shard")) 0 1048576 262144 a.shard b.shard p.shard q.shard)
 
-asked_by : (options : List Given) (name : List ℕ) (low high default number : ℕ) → HaveValues options → NumberGiven (value_at options name) low high default number
+pub asked_by : (options : List Given) (name : List ℕ) (low high default number : ℕ) → HaveValues options → NumberGiven (value_at options name) low high default number
     → NumberAsked options name low high default number
 asked_by options name low high default number have is = record {
   asked = is.asked;
@@ -87,7 +87,7 @@ asked_by options name low high default number have is = record {
   most = is.most;
 }
 
-given_by : (options : List Given) (name : List ℕ) (low high default number : ℕ) → StandOnce options → NumberAsked options name low high default number
+pub given_by : (options : List Given) (name : List ℕ) (low high default number : ℕ) → StandOnce options → NumberAsked options name low high default number
     → NumberGiven (value_at options name) low high default number
 given_by options name low high default number once is = record {
   asked = is.asked;

@@ -6,6 +6,7 @@ use Rattle.tg_words.specs.ImportLines.{NumberText}
 use Rattle.tg_words.specs.Operands.{NumberNeeded, ServeGiven, value_at}
 use Rattle.tg_words.specs.ServeLines.{NumberRequired, ServeParts, serve_names}
 use Rattle.tg_words.specs.declared.Command.TheVariants.{Serve}
+use Rattle.tg_words.proofs.ImportAnswers.{asked_by, given_by, one_number}
 use Rattle.tg_words.proofs.Options.{HaveValues, gives_value, value_gives, have_values}
 use Rattle.tg_words.proofs.Positional.{Form, IsOf, one_word, the_line}
 
@@ -16,11 +17,12 @@ pub one_value : (value : Option (List ℕ)) (low high a b : ℕ) → NumberNeede
 one_value None low high a b p q = let no : Some a ≡ None = p.asked in absurd (cc)
 one_value (Some text) low high a b p q = p.asked.number_is ∙ sym q.asked.number_is
 
-same_serve : (a b : ServeParts) → a.pack ≡ b.pack → a.port ≡ b.port → a.count ≡ b.count → a ≡ b
-same_serve a b pack port count =
+same_serve : (a b : ServeParts) → a.pack ≡ b.pack → a.port ≡ b.port → a.count ≡ b.count → a.lanes ≡ b.lanes → a ≡ b
+same_serve a b pack port count lanes =
     let s = subst (λ p. a ≡ record a { pack = p }) pack refl in
     let t = subst (λ p. a ≡ record a { pack = b.pack; port = p }) port s in
-    subst (λ n. a ≡ record { pack = b.pack; port = b.port; count = n }) count t
+    let u = subst (λ n. a ≡ record a { pack = b.pack; port = b.port; count = n }) count t in
+    subst (λ n. a ≡ record { pack = b.pack; port = b.port; count = b.count; lanes = n }) lanes u
 
 -- what words and options ask is one gateway
 pub one_serve : (pack : List ℕ) (options : List Given) (a b : ServeParts) → ServeGiven pack options a → ServeGiven pack options b → a ≡ b
@@ -28,6 +30,7 @@ one_serve pack options a b p q =
     same_serve a b (p.pack_is ∙ sym q.pack_is)
     (one_value (value_at options (codes "port")) 0 65535 a.port b.port p.port q.port)
     (one_value (value_at options (codes "count")) 1 1000000 a.count b.count p.count q.count)
+    (one_number (value_at options (codes "lanes")) 1 64 1 a.lanes b.lanes p.lanes q.lanes)
 
 pub required_by : (options : List Given) (name : List ℕ) (low high number : ℕ) → HaveValues options → NumberNeeded (value_at options name) low high number
     → NumberRequired options name low high number
@@ -60,6 +63,7 @@ serve_by rest pack options parts operands is =
       named = λ none. is.named (sym is.pack_is ∙ none);
       port = required_by options (codes "port") 0 65535 parts.port have is.port;
       count = required_by options (codes "count") 1 1000000 parts.count have is.count;
+      lanes = asked_by options (codes "lanes") 1 64 1 parts.lanes have is.lanes;
     }
 
 pub serve_line : (rest : List (List ℕ)) (parts : ServeParts) → OperandLine (codes "serve" ∷ rest) (Serve parts) → IsOf serve_form rest (Serve parts)
@@ -76,5 +80,6 @@ serve_line rest parts line =
         named = line.named;
         port = needed_by line.options (codes "port") 0 65535 parts.port operands.once line.port;
         count = needed_by line.options (codes "count") 1 1000000 parts.count operands.once line.count;
+        lanes = given_by line.options (codes "lanes") 1 64 1 parts.lanes operands.once line.lanes;
       };
     }

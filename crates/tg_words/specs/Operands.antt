@@ -116,6 +116,7 @@ pub record ServeGiven (pack : List ℕ) (options : List Given) (parts : ServePar
   pub named : pack ≢ []
   pub port : NumberNeeded (value_at options (codes "port")) 0 65535 parts.port
   pub count : NumberNeeded (value_at options (codes "count")) 1 1000000 parts.count
+  pub lanes : NumberGiven (value_at options (codes "lanes")) 1 64 1 parts.lanes
 
 -- the block of a root that a word names without a path, where no other option stands
 pub record RawGiven (target : List ℕ) (options : List Given) (query : QueryParts) : Type 0 where

@@ -165,8 +165,8 @@ const VERIFY: CommandRow = CommandHelp {
 
 const SERVE: CommandRow = CommandHelp {
     name: "serve",
-    about: "answers connections on 127.0.0.1 from a pack, one after another",
-    forms: &["serve PACK --port N --count N"],
+    about: "answers connections on 127.0.0.1 from a pack",
+    forms: &["serve PACK --port N --count N [--lanes N]"],
     options: &[
         OptionHelp {
             name: "port",
@@ -185,6 +185,15 @@ const SERVE: CommandRow = CommandHelp {
                 default: None,
             },
             about: "how many connections are answered",
+        },
+        OptionHelp {
+            name: "lanes",
+            value: OptionValue::Number {
+                low: 1,
+                high: 64,
+                default: Some(1),
+            },
+            about: "how many connections are served side by side",
         },
     ],
     example: "serve site.car --port 8080 --count 1000",

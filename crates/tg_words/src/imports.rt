@@ -1,10 +1,12 @@
 //! The command `import`.
 
-ghost use Rattle.std.specs.Prelude.{◌∷◌, map, string_bytes, codes, option_map};
+ghost use Rattle.std.specs.Prelude.{◌∷◌, map, string_bytes, codes};
 ghost use Rattle.tg_cid.specs.Limits.{max_block_len};
 ghost use Rattle.tg_words.specs.Operands.{Answers, Exact, ImportGiven, NumberGiven, givens, value_at};
 
-use crate::operands::{GivenOption, OptionNames, named, number_of, two_operands, value_of};
+use crate::operands::{
+    GivenOption, OptionNames, Setting, named, number_given, two_operands, value_of,
+};
 use crate::{Command, WordsFault};
 use std::alloc::Global;
 use std::marker::Model;
@@ -38,14 +40,6 @@ impl Model for Import {
       width = i.width;
       shard = i.shard;
     } };
-}
-
-/// The least and the greatest number that an option may have, and the one where the option is absent.
-#[derive(Clone, Copy)]
-struct Setting {
-    low: u32,
-    high: u32,
-    default: u32,
 }
 
 const CHUNK: Setting = Setting {
@@ -111,19 +105,4 @@ fn numbers_given(options: &[GivenOption]) -> Result<(u32, u32, u32), WordsFault>
     let width = number_given(value_of(options, "width"), WIDTH)?;
     let shard = number_given(value_of(options, "shard"), SHARD)?;
     Ok((chunk, width, shard))
-}
-
-/// The number that an option's value writes, or the default where there is none.
-fn number_given(value: Option<&str>, setting: Setting) -> Result<u32, WordsFault>
-    ensures { Exact (NumberGiven
-        (option_map (λ text. text.now) value.entry) setting.low setting.high setting.default) result }
-{
-    let number = match value {
-        Some(text) => number_of(text).ok_or(WordsFault::Usage)?,
-        None => u64::from(setting.default),
-    };
-    if number < u64::from(setting.low) || u64::from(setting.high) < number {
-        return Err(WordsFault::Usage);
-    }
-    Ok(number as u32)
 }

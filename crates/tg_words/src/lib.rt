@@ -80,10 +80,11 @@ pub enum Command {
     ///
     /// S, R, D and the scope are as in `export`.
     Verify(Query),
-    /// `serve PACK --port N --count N`: the blocks of a pack are served on a port.
+    /// `serve PACK --port N --count N [--lanes N]`: the blocks of a pack are served on a port.
     ///
-    /// PACK isn't empty. Both options stand, and each N is 1 to 20 decimal digits. The port is 0 to 65,535, where 0
-    /// asks for one that is free; 1 to 1,000,000 links are served.
+    /// PACK isn't empty. Port and count stand, and each N is 1 to 20 decimal digits. The port is 0 to 65,535, where 0
+    /// asks for one that is free; 1 to 1,000,000 links are served. With lanes up to 64 connections are served side by
+    /// side, or else one after another.
     Serve(Serve),
     /// `fetch ADDR ROOT/PATH [--scope S] [--bytes R] [--dups D]`: what is asked below a root is fetched from a gateway,
     /// checked block by block, and what it says is written to out. `fetch ADDR ROOT --raw`: the root's block, as it is.

@@ -6,7 +6,7 @@ ghost use Rattle.std.specs.Str.{bytes_eq};
 ghost use Rattle.clap.specs.Words.{app_of, found_of, rows_of};
 ghost use Rattle.tg_words.specs.CommandLine.{no_names};
 ghost use Rattle.tg_words.specs.ImportLines.{NumberText};
-ghost use Rattle.tg_words.specs.Operands.{Exact, NumberNeeded, given, givens, names_of, texts_of, value_at};
+ghost use Rattle.tg_words.specs.Operands.{Exact, NumberGiven, NumberNeeded, given, givens, names_of, texts_of, value_at};
 ghost use Rattle.tg_words.specs.Parsing.{app_for, option_at, option_rule, options_in, positional_in, with_rules};
 ghost use Rattle.tg_words.specs.Words.{Given, WordsSpelling, are_names};
 ghost use Rattle.tg_words.specs.declared.WordsFault.{WordsFault};
@@ -31,6 +31,14 @@ pub struct OptionNames<'a> {
 pub struct GivenOption<'a> {
     pub name: &'a str,
     pub value: Option<&'a str>,
+}
+
+/// The least and the greatest number that an option may have, and the one where the option is absent.
+#[derive(Clone, Copy)]
+pub struct Setting {
+    pub low: u32,
+    pub high: u32,
+    pub default: u32,
 }
 
 /// The positional words and the options of words, each in order.
@@ -280,6 +288,21 @@ pub fn number_needed(value: Option<&str>, low: u64, high: u64) -> Result<u64, Wo
         return Err(WordsFault::Usage);
     }
     Ok(number)
+}
+
+/// The number that an option's value writes, or the default where there is none.
+pub fn number_given(value: Option<&str>, setting: Setting) -> Result<u32, WordsFault>
+    ensures { Exact (NumberGiven
+        (option_map (λ text. text.now) value.entry) setting.low setting.high setting.default) result }
+{
+    let number = match value {
+        Some(text) => number_of(text).ok_or(WordsFault::Usage)?,
+        None => u64::from(setting.default),
+    };
+    if number < u64::from(setting.low) || u64::from(setting.high) < number {
+        return Err(WordsFault::Usage);
+    }
+    Ok(number as u32)
 }
 
 /// The number below 2^64 that 1 to 20 decimal digits write.
