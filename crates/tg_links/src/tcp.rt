@@ -2,13 +2,15 @@
 ghost use Rattle.std.specs.Prelude.{◌≡◌, ◌==◌, ◌<◌, ◌≤◌, ◌↔◌, IfOk, IsTrue, OnErr, OnOk, Ok, false, length, refl};
 ghost use Rattle.std.specs.Prelude.{take, true};
 ghost use Rattle.std.specs.IoError.{error_kind};
-ghost use Rattle.std.specs.Io.KnownBytes.{IsAtEnd};
+ghost use Rattle.std.specs.Io.{WritesAtMost};
+ghost use Rattle.std.specs.Io.KnownBytes.{IsAtEnd, WriteAppends};
 ghost use Rattle.tg_faults.specs.Faults.{Rose, counted};
 ghost use Rattle.tg_links.specs.Tcp.{IsSilence, IsToldAs, hears_joins, hears_rests, says_joins, says_rests};
 ghost use Rattle.tg_links.specs.Tcp.{tcp_hearing, tcp_link, tcp_saying};
 ghost use Rattle.tg_streams.specs.Streams.{Ended, InputQuiet, InputRose, OutputQuiet, OutputRose, Put, Took, Unput};
 ghost use Rattle.tg_streams.specs.Streams.{Untaken, into, through};
 
+use crate::clock::monotonic_millis;
 use crate::link::Link;
 use std::io;
 use std::io::{ErrorKind, Read, Write};
@@ -19,8 +21,20 @@ use std::time::Duration;
 use tg_faults::Failed;
 use tg_streams::{Sink, Source, read_on, write_on};
 
-/// How many seconds a read or a write of a link waits for the peer.
-const PATIENCE: u64 = 60;
+/// How many milliseconds the peer of a link may be silent, which is how long a read of it waits.
+const PATIENCE: u64 = 60_000;
+
+/// How many milliseconds a write of a link waits until the peer's system takes a byte, or a further one.
+const WRITE_PATIENCE: u64 = 5_000;
+
+/// How many writes there are, one after another, of which the peer's system takes no byte, before a put fails: 60 seconds.
+const WRITES: u32 = 12;
+
+/// How many milliseconds a span lasts in which the peer of a link that a door gave has to move `LEAST` bytes.
+const SPAN: u64 = 60_000;
+
+/// How many bytes such a peer has to move in a span at least.
+const LEAST: usize = 65_536;
 
 /// How many seconds a read waits for the peer of a link that is finished.
 const LAST_PATIENCE: u64 = 1;
@@ -38,17 +52,69 @@ pub enum Silence {
     Fails,
 }
 
+/// A part of a request or of a reply that is under way, by a clock in milliseconds: when it began, and how many bytes the
+/// peer moved since then.
+#[derive(Clone, Copy)]
+struct Span {
+    since: u64,
+    bytes: usize,
+}
+
+impl Span {
+    /// How many milliseconds are left of it.
+    fn left(&self, now: u64) -> u64 {
+        SPAN.saturating_sub(now.saturating_sub(self.since))
+    }
+
+    /// Whether it is over, and the peer moved too little in it.
+    fn is_short(&self, now: u64) -> bool {
+        self.bytes < LEAST && self.left(now) == 0
+    }
+
+    /// The same with so many bytes more, or the next one, which they begin, where it is over and the peer moved enough.
+    fn and(self, bytes: usize, now: u64) -> Span {
+        if self.bytes >= LEAST && self.left(now) == 0 {
+            return Span { since: now, bytes };
+        }
+        Span {
+            since: self.since,
+            bytes: self.bytes.saturating_add(bytes),
+        }
+    }
+}
+
+/// What is under way on a link.
+#[derive(Clone, Copy)]
+enum Exchange {
+    /// Nothing: no byte was moved yet.
+    Begins,
+    /// A request, of which a byte was taken, and nothing was put since: its span by the time that passes.
+    Asks(Span),
+    /// A reply, of which a byte was put, and nothing was taken since: its span by the time that puts waited for the peer.
+    Replies(Span),
+}
+
 /// A link over a connection of TCP (RFC 9293). Its bytes aren't told; what the stream itself knows of them is in what
 /// was taken and what was put.
 ///
-/// A peer that resets the connection (RFC 9293, 3.5.3) is a fault, and so is a write of which the system takes no byte for
-/// 60 seconds, since the peer took too little. A peer that goes on taking is waited for, however slow it is.
+/// A peer that resets the connection (RFC 9293, 3.5.3) is a fault, and so is one whose system takes no byte of a put for 60
+/// seconds.
+///
+/// Of a link that a door gave (`Silence::Ends`) a peer that is slow is a fault too: one of whose request fewer than 65,536
+/// bytes came in 60 seconds, though it isn't answered yet; and one that took fewer than 65,536 bytes of a reply in 60
+/// seconds in which puts waited for it. A span of 60 seconds begins with the first byte of a request or of a reply, or where
+/// the one before ended. The peer of a link that was dialled is waited for, however slow it is.
 #[derive(Drop)]
 pub struct TcpLink<T> {
     stream: T,
     silence: Silence,
     over: bool,
     faults: u64,
+    exchange: Exchange,
+    /// When a byte was moved last, or the link was made, in milliseconds.
+    moved_at: u64,
+    /// How many milliseconds puts waited for the peer, in all.
+    waited: u64,
 }
 
 impl<T> Model for TcpLink<T> {
@@ -69,6 +135,9 @@ impl<T> TcpLink<T> {
             silence,
             over: false,
             faults: 0,
+            exchange: Exchange::Begins,
+            moved_at: monotonic_millis(),
+            waited: 0,
         }
     }
 
@@ -77,6 +146,73 @@ impl<T> TcpLink<T> {
         ensures { result ≡ self.now.faults }
     {
         self.faults
+    }
+
+    /// How many milliseconds are left until a take of the link needn't wait, whatever comes: until its peer was silent for 60
+    /// seconds, or its request has been coming for too long.
+    pub fn patience(&self) -> u64 {
+        let now = monotonic_millis();
+        let silent = PATIENCE.saturating_sub(now.saturating_sub(self.moved_at));
+        match self.exchange {
+            Exchange::Asks(span) if self.silence == Silence::Ends && span.bytes < LEAST => {
+                silent.min(span.left(now))
+            }
+            _ => silent,
+        }
+    }
+
+    /// Whether the peer gave too little of its request, where that is a fault.
+    fn asks_slowly(&self) -> bool {
+        match self.exchange {
+            Exchange::Asks(span) => {
+                self.silence == Silence::Ends && span.is_short(monotonic_millis())
+            }
+            _ => false,
+        }
+    }
+
+    /// Whether the peer took too little of the reply to it, where that is a fault.
+    fn takes_slowly(&self) -> bool {
+        match self.exchange {
+            Exchange::Replies(span) => {
+                self.silence == Silence::Ends && span.is_short(self.waited)
+            }
+            _ => false,
+        }
+    }
+
+    /// Counts so many bytes, of those that the peer gave, as those of a request.
+    fn count_asked(&mut self, bytes: usize)
+        ensures { self.new ≡ self.old }
+    {
+        if bytes == 0 {
+            return;
+        }
+        let now = monotonic_millis();
+        self.moved_at = now;
+        self.exchange = match self.exchange {
+            Exchange::Asks(span) => Exchange::Asks(span.and(bytes, now)),
+            _ => Exchange::Asks(Span { since: now, bytes }),
+        };
+    }
+
+    /// Counts so many bytes, which the peer took of a put that began at this time, as those of a reply.
+    fn count_replied(&mut self, bytes: usize, began: u64)
+        ensures { self.new ≡ self.old }
+    {
+        if bytes == 0 {
+            return;
+        }
+        let before = self.waited;
+        self.moved_at = monotonic_millis();
+        self.waited = before.saturating_add(self.moved_at.saturating_sub(began));
+        self.exchange = match self.exchange {
+            Exchange::Replies(span) => Exchange::Replies(span.and(bytes, self.waited)),
+            _ => Exchange::Replies(Span {
+                since: before,
+                bytes,
+            }),
+        };
     }
 
     /// Counts a fault of the call that is under way.
@@ -100,6 +236,7 @@ impl<T> TcpLink<T> {
         match read {
             Ok(n) => {
                 self.over = n == 0;
+                self.count_asked(n);
                 Ok(n)
             }
             Err(e) if self.silence == Silence::Ends && is_silence(&e) => {
@@ -112,16 +249,25 @@ impl<T> TcpLink<T> {
 }
 
 impl<T: OpenStream + Drop> TcpLink<T> {
-    /// A link over a connection, with no fault counted. What is put is sent at once (`TCP_NODELAY`), and a read and a
-    /// write wait for the peer 60 seconds at most. Errors: those of setting this.
+    /// A link over a connection, with no fault counted. What is put is sent at once (`TCP_NODELAY`), where that can be set; a
+    /// read waits for the peer 60 seconds at most, and a write 5 seconds. Errors: those of setting how long these wait.
     pub fn open(stream: T, silence: Silence) -> io::Result<TcpLink<T>>
         ensures { IfOk result (λ link. link ≡ record { stream = stream; silence = silence; over = false; faults = 0 }) }
     {
-        stream.set_nodelay(true)?;
-        let patience = Duration::from_secs(PATIENCE);
-        stream.set_read_timeout(Some(patience))?;
-        stream.set_write_timeout(Some(patience))?;
+        let _ = stream.set_nodelay(true);
+        stream.set_read_timeout(Some(Duration::from_millis(PATIENCE)))?;
+        stream.set_write_timeout(Some(Duration::from_millis(WRITE_PATIENCE)))?;
         Ok(TcpLink::new(stream, silence))
+    }
+
+    /// Says to the peer that no more comes (`shutdown` with `SHUT_WR`, POSIX.1-2017), and gives the stream, so that what the
+    /// peer still sends can be read before it is closed; or closes it, where that fails.
+    pub fn shut(self) -> Option<T> {
+        let stream = self.stream;
+        match stream.shutdown(Shutdown::Write) {
+            Ok(()) => Some(stream),
+            Err(_) => None,
+        }
     }
 }
 
@@ -146,11 +292,11 @@ impl<T: Read + OpenStream + Drop> TcpLink<T> {
     /// connection that is closed over bytes that weren't read is reset (RFC 9293, 3.6.1), and the peer may lose what it
     /// was sent last (RFC 9112, 9.6). Errors of this are no faults.
     pub fn finish(self) {
-        let mut stream = self.stream;
+        let Some(mut stream) = self.shut() else {
+            return;
+        };
         let patience = Duration::from_secs(LAST_PATIENCE);
-        if stream.shutdown(Shutdown::Write).is_err()
-            || stream.set_read_timeout(Some(patience)).is_err()
-        {
+        if stream.set_read_timeout(Some(patience)).is_err() {
             return;
         }
         let mut buf = [0; 16_384];
@@ -172,7 +318,8 @@ impl<T: Read> Source for TcpLink<T> {
 
     /// One read, begun anew where it is interrupted. A link that is over gives nothing at once, and so does a buffer
     /// without room. Where the peer is silent for 60 seconds the link is over, or it is a fault, as the link was made;
-    /// any other error of the stream is a fault.
+    /// any other error of the stream is a fault, and so is a request that has been coming too slowly, of which nothing more
+    /// is read.
     fn take(&mut self, buf: &mut [u8]) -> Result<usize, Failed>
         ensures within { IfOk result (λ n. n ≤ length buf.new) }
         ensures took { IfOk result (λ n. Took (take n buf.new) (through (tcp_hearing T.remaining) self.old self.new)) }
@@ -199,6 +346,9 @@ impl<T: Read> Source for TcpLink<T> {
         if self.over || buf.is_empty() {
             return Ok(0);
         }
+        if self.asks_slowly() {
+            return Err(self.fault());
+        }
         let read = read_on(&mut self.stream, buf);
         self.judge(read)
     }
@@ -211,8 +361,9 @@ impl<T: Write> Sink for TcpLink<T> {
 
     ghost joins = { λ a b c u v. says_joins T.contents a b c u v };
 
-    /// One write, begun anew where it is interrupted. Any other error of the stream is a fault, and so is a write that
-    /// takes nothing of a piece that isn't empty.
+    /// One write, begun anew where it is interrupted, and where the peer's system took no byte of it for 5 seconds, up to 60
+    /// seconds in all. Any other error of the stream is a fault, and so is a write that takes nothing of a piece that isn't
+    /// empty, and a peer that has taken the reply too slowly, to which nothing more is written.
     fn put(&mut self, bytes: &[u8]) -> Result<usize, Failed>
         ensures within { IfOk result (λ n. n ≤ length bytes.now) }
         ensures moves { IfOk result (λ n. 0 < length bytes.now → 0 < n) }
@@ -224,8 +375,15 @@ impl<T: Write> Sink for TcpLink<T> {
 
         ensures err_count { OnErr result (self.new.faults ≡ counted self.old.faults) }
     {
-        match write_on(&mut self.stream, bytes) {
-            Ok(n) if n > 0 || bytes.is_empty() => Ok(n),
+        if self.takes_slowly() {
+            return Err(self.fault());
+        }
+        let began = monotonic_millis();
+        match write_patiently(&mut self.stream, bytes) {
+            Ok(n) if n > 0 || bytes.is_empty() => {
+                self.count_replied(n, began);
+                Ok(n)
+            }
             _ => Err(self.fault()),
         }
     }
@@ -243,8 +401,23 @@ impl<T: Read + Write> Link for TcpLink<T> {
     ghost one_count = { λ s. refl };
 }
 
-/// Whether the error says that the peer said nothing for as long as a read waits (`SO_RCVTIMEO`, POSIX.1-2017,
-/// 2.10.16): `EAGAIN`, or `ETIMEDOUT`.
+/// One write, begun anew where it is interrupted, and where nothing was taken of it for as long as a write waits. Errors:
+/// those of the writer but these, and `TimedOut` where nothing was taken of 12 writes.
+fn write_patiently<W: Write>(writer: &mut W, bytes: &[u8]) -> io::Result<usize>
+    ensures within { WritesAtMost result bytes.now }
+    ensures bytes { WriteAppends (W.contents writer.old) (W.contents writer.new) result bytes.now }
+{
+    for _ in 0..WRITES {
+        match write_on(writer, bytes) {
+            Err(e) if is_silence(&e) => {}
+            written => return written,
+        }
+    }
+    Err(io::Error::from(ErrorKind::TimedOut))
+}
+
+/// Whether the error says that the peer gave, or took, nothing for as long as a read, or a write, waits (`SO_RCVTIMEO`,
+/// `SO_SNDTIMEO`, POSIX.1-2017, 2.10.16): `EAGAIN`, or `ETIMEDOUT`.
 fn is_silence(e: &io::Error) -> bool
     ensures { IsTrue result ↔ IsSilence (error_kind e.now) }
 {
