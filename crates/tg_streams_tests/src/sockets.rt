@@ -6,6 +6,7 @@ use std::time::Instant;
 use tg_dials::{Dial, TcpDial};
 use tg_doors::{Door, TcpDoor};
 use tg_faults::Failed;
+use tg_links::TcpLink;
 use tg_streams::{Sink, Source, put_all, read_front};
 
 /// Whether a link hears these bytes and then the end, and goes on to give the end.
@@ -77,8 +78,8 @@ fn counts_reset(rt: &HostRuntime) -> bool {
     arrives && resets && door.count() == 1
 }
 
-/// Whether a client reads the whole answer and the end, though the door's link left bytes of its unread; and, where the
-/// client doesn't end, whether the door waits about a second for it and far less than a minute.
+/// Whether the door takes a link back at once, though its client doesn't end, and a client reads the whole answer and the
+/// end, though the door's link left bytes of its unread.
 fn finishes(rt: &HostRuntime, ends: bool) -> bool {
     let mut door = TcpDoor::new(*rt);
     let Ok(port) = door.bind(0) else {
@@ -106,10 +107,66 @@ fn finishes(rt: &HostRuntime, ends: bool) -> bool {
         Ok(waited) => waited.as_millis(),
         Err(_) => return false,
     };
-    hears
-        && answers
-        && (ends || (500 <= waited && waited < 30_000))
-        && reads(&mut client, b"hi there")
+    hears && answers && waited < 500 && reads(&mut client, b"hi there") && door.count() == 0
+}
+
+/// The link of a client that connects to this door, and the client.
+fn admitted(
+    rt: &HostRuntime,
+    door: &mut TcpDoor<HostRuntime>,
+    port: u16,
+) -> Option<(TcpLink<TcpStream>, TcpStream)> {
+    let Ok(client) = dialled(rt, port) else {
+        return None;
+    };
+    match door.admit() {
+        Ok(Some(link)) => Some((link, client)),
+        _ => None,
+    }
+}
+
+/// Whether a door that waits marks the link whose client said something and no other.
+fn marks_one(rt: &HostRuntime) -> bool {
+    let mut door = TcpDoor::new(*rt);
+    let Ok(port) = door.bind(0) else {
+        return false;
+    };
+    let Some((idle, _silent)) = admitted(rt, &mut door, port) else {
+        return false;
+    };
+    let Some((asked, mut asker)) = admitted(rt, &mut door, port) else {
+        return false;
+    };
+    if asker.write_all(b"hello").is_err() {
+        return false;
+    }
+    let lanes = [Some(idle), None, Some(asked)];
+    let mut ready = [true; 3];
+    door.wait(&lanes, false, &mut ready) == 0 && ready == [false, false, true]
+}
+
+/// Whether a door that waits tells of a connection that comes, and marks no link for it, nor for what a client still says
+/// whose link was given back.
+fn tells_of_one(rt: &HostRuntime) -> bool {
+    let mut door = TcpDoor::new(*rt);
+    let Ok(port) = door.bind(0) else {
+        return false;
+    };
+    let Some((given_back, mut talker)) = admitted(rt, &mut door, port) else {
+        return false;
+    };
+    let Some((idle, _silent)) = admitted(rt, &mut door, port) else {
+        return false;
+    };
+    door.done(given_back);
+    let Ok(_comer) = dialled(rt, port) else {
+        return false;
+    };
+    let lanes = [Some(idle)];
+    let mut ready = [true];
+    talker.write_all(b"more").is_ok()
+        && door.wait(&lanes, true, &mut ready) == 1
+        && ready == [false]
         && door.count() == 0
 }
 
@@ -118,6 +175,11 @@ fn a_door_serves_a_client(rt: HostRuntime) {
     assert!(rt; serves(&rt));
     assert!(rt; counts_reset(&rt));
     assert!(rt; finishes(&rt, true) && finishes(&rt, false));
+}
+
+#[test]
+fn a_door_waits_for_links(rt: HostRuntime) {
+    assert!(rt; marks_one(&rt) && tells_of_one(&rt));
 }
 
 /// Whether a dial reaches a door of this machine, and bytes go both ways, with no fault on either side.
@@ -141,7 +203,7 @@ fn dials(rt: &HostRuntime) -> bool {
         && read_front(&mut given, &mut buf) == Ok(5)
         && buf == *b"hello";
     let answers = put_all(&mut given, b"hi there").is_ok();
-    // It waits for the dial's link about a second, which ends behind it.
+    // It doesn't wait for the dial's link, which ends behind it.
     door.done(given);
     let ends = hears(&mut link, b"hi there");
     dial.done(link);
