@@ -65,9 +65,8 @@ impl<T: Read> Closing<T> {
 /// Streams whose peers were told that no more comes. A connection that is closed over bytes that weren't read is reset (RFC
 /// 9293, 3.6.1), and its peer may lose what it was sent last (RFC 9112, 9.6). So what the peers still send is read and
 /// dropped, without waiting for any, until each ends, fails or is silent for a second, or 64 reads of at most 16 KiB are
-/// done; and only then a stream is closed. Where there are 64 and one more is given, those that are over are closed, and if none
-/// is, the one that was given first. Where these are
-/// dropped they are heard out for 3 seconds at most.
+/// done; and only then a stream is closed. Where there are 64 and one more is given, those that are over are closed, and if
+/// none is, the one that was given first. Where all are dropped they are heard out for 3 seconds at most.
 pub(crate) struct ClosingStreams<T: Read + OpenStream + AsRawFd + Drop> {
     streams: Vec<Closing<T>>,
 }
