@@ -1,7 +1,7 @@
 -- What each exit status says of `serve`.
 use Rattle.std.proofs.Common.{◌≡◌, ◌≢◌, ◌≤◌, ◌<◌, ◌+◌, ◌⊎◌, ◌∙◌, ◌++◌, ◌∷◌, All, Bool, Err, List, None, Ok, Option, Some, [], ap, arith, false, inl, inr, refl, subst, sym, true, ℕ}
 use Rattle.std.proofs.lemmas.Bool.{or_parts}
-use Rattle.std.proofs.lemmas.List.Elements.{All-cons, All-nil}
+use Rattle.std.proofs.lemmas.List.Elements.{All-cons, All-head, All-nil, All-tail}
 use Rattle.std.specs.List.{list_any}
 use Rattle.std.specs.Prelude.{Result, if◌then◌else◌, take, ⊤, ◌^◌, ◌||◌}
 use Rattle.tg_app.proofs.Statuses.{not_zero}
@@ -21,7 +21,8 @@ use Rattle.tg_model.specs.declared.limits.LimitKind.TheVariants as kinds
 use Rattle.tg_reply.specs.Sent.{CountsBetween, Sent, SentBy, SentFor, bad_head, before_head, behind_sections, count_if, exact, failed_in, is_broken, last, limit, next, no_more}
 use Rattle.tg_serve.specs.Packed.{AskedBy, PackServed}
 use Rattle.tg_serve.specs.Saying.{IsSaid, all_said, said_by}
-use Rattle.tg_serve.specs.Serving.{AreServed, LinkRun, SaidAll, SaidFront, is_limit, is_memory, is_positive}
+use Rattle.tg_serve.specs.Serving.{LinkRun, SaidAll, SaidFront, is_limit, is_memory, is_positive}
+use Rattle.tg_serve.specs.SideBySide.{IsServedWithin}
 use Rattle.tg_serve.specs.declared.Happened.{Happened}
 use Rattle.tg_serve.specs.declared.packed.ServeFault.{ServeFault}
 use Rattle.tg_serve.specs.declared.packed.ServeFault.TheVariants as faults
@@ -105,38 +106,38 @@ no_serve_usage parts step same_pack out door (inr (inr unbegun)) = let e = unbeg
 
 -- ---- faults of out that weren't counted
 
-quiet_by : (most asked count : ℕ) (tell : Type 0) (step : PackStep) (out : Output) (door : Doorway) (same_door : Type 0) (result : Result Happened ServeFault)
-    → (result ≡ Err faults.SinkFault → ⊥) → PackServed most asked count tell step out door same_door result → OutputQuiet out
-quiet_by most asked count tell step out door same_door (Ok happened) never h = h.served.quiet
-quiet_by most asked count tell step out door same_door (Err (faults.Pack fault)) never h = h.1.quiet
-quiet_by most asked count tell step out door same_door (Err faults.DoorFault) never h = h.served.0.untouched.quiet
-quiet_by most asked count tell step out door same_door (Err faults.SinkFault) never h = absurd (never refl)
-quiet_by most asked count tell step out door same_door (Err faults.OutOfMemory) never h = h.0.quiet
+quiet_by : (most asked count lanes : ℕ) (tell : Type 0) (step : PackStep) (out : Output) (door : Doorway) (same_door : Type 0) (result : Result Happened ServeFault)
+    → (result ≡ Err faults.SinkFault → ⊥) → PackServed most asked count lanes tell step out door same_door result → OutputQuiet out
+quiet_by most asked count lanes tell step out door same_door (Ok happened) never h = h.served.quiet
+quiet_by most asked count lanes tell step out door same_door (Err (faults.Pack fault)) never h = h.1.quiet
+quiet_by most asked count lanes tell step out door same_door (Err faults.DoorFault) never h = h.served.0.untouched.quiet
+quiet_by most asked count lanes tell step out door same_door (Err faults.SinkFault) never h = absurd (never refl)
+quiet_by most asked count lanes tell step out door same_door (Err faults.OutOfMemory) never h = h.0.quiet
 
 pub serve_quiet : (parts : ServeParts) (step : PackStep) (same_pack : Type 0) (out : Output) (door : Entrance) (end : Option CommandFault) → exit_status end ≢ 6
     → ServeAnswers parts step same_pack out door end → OutputQuiet out
 serve_quiet parts step same_pack out door end ne (inl ended) =
-    quiet_by standard.received parts.port parts.count door.links_tell step out door.doorway door.same_door ended.result
+    quiet_by standard.received parts.port parts.count parts.lanes door.links_tell step out door.doorway door.same_door ended.result
     (λ sink. ne (ap exit_status (ended.end_is ∙ ap serve_end sink))) ended.served
 serve_quiet parts step same_pack out door end ne (inr (inl none)) = none.unattached.unput.quiet
 serve_quiet parts step same_pack out door end ne (inr (inr unbegun)) = unbegun.unput.quiet
 
 -- ---- status 0
 
-each_said : (told : Option Store) (most before : ℕ) (runs : List LinkRun) (now : ℕ) → AreServed told most before runs now
+each_said : (told : Option Store) (most before now : ℕ) (runs : List LinkRun) → All (IsServedWithin told most before now) runs
     → list_any (λ run. is_memory run.end) runs ≡ false → list_any (λ run. run.failed) runs ≡ false → list_any (λ run. is_limit run.end) runs ≡ false
     → All (SaidAll told) runs
-each_said told most before [] now served no_memory unfailed no_limit = All-nil (SaidAll told)
-each_said told most before (run ∷ runs) now served no_memory unfailed no_limit =
+each_said told most before now [] served no_memory unfailed no_limit = All-nil (SaidAll told)
+each_said told most before now (run ∷ runs) served no_memory unfailed no_limit =
     let memory = or_parts (is_memory run.end) (list_any (λ run. is_memory run.end) runs) no_memory in
     let failed = or_parts run.failed (list_any (λ run. run.failed) runs) unfailed in
     let passed = or_parts (is_limit run.end) (list_any (λ run. is_limit run.end) runs) no_limit in
-    let first = all_said told most run run.end served.0 memory.0 failed.0 passed.0 in
-    All-cons (SaidAll told) run runs first (each_said told most run.faults_now runs now served.3 memory.1 failed.1 passed.1)
+    let first = all_said told most run run.end (All-head (IsServedWithin told most before now) run runs served).served memory.0 failed.0 passed.0 in
+    All-cons (SaidAll told) run runs first (each_said told most before now runs (All-tail (IsServedWithin told most before now) run runs served) memory.1 failed.1 passed.1)
 
 whole_by : (parts : ServeParts) (step : PackStep) (out : Output) (door : Entrance) (result : Result Happened ServeFault)
     → IsAttachedPack parts.pack step → exit_status (serve_end result) ≡ 0
-    → PackServed standard.received parts.port parts.count door.links_tell step out door.doorway door.same_door result
+    → PackServed standard.received parts.port parts.count parts.lanes door.links_tell step out door.doorway door.same_door result
     → AskedBy (door.asked parts.port) result → ServedWhole parts step out door
 whole_by parts step out door (Ok happened) attached e h asked =
     let none = zero_by happened.memory happened.store happened.fault happened.limit e in
@@ -145,7 +146,7 @@ whole_by parts step out door (Ok happened) attached e h asked =
     let fault = or_parts serves.unadmitted (list_any (λ run. run.failed) serves.runs) (sym has.fault ∙ none.no_fault) in
     record {
       links = record { attached = attached; told = h.told; store = h.attached; happened = happened; asked = asked; served = h.served };
-      each = each_said h.told standard.received step.faults_old serves.runs step.faults_new serves.served (sym has.memory ∙ none.no_memory) fault.1 (sym has.limit ∙ none.no_limit);
+      each = each_said h.told standard.received step.faults_old step.faults_new serves.runs serves.served (sym has.memory ∙ none.no_memory) fault.1 (sym has.limit ∙ none.no_limit);
       quiet = serves.quiet none.no_fault;
     }
 whole_by parts step out door (Err (faults.Pack fault)) attached e h asked = absurd (not_zero (pack_refusal fault) e)
@@ -170,18 +171,18 @@ five_refused packs.Failed e = cc
 five_refused (packs.BlockLimit at) e = cc
 five_refused packs.OutOfMemory e = cc
 
-rose_by : (most asked count : ℕ) (tell : Type 0) (step : PackStep) (out : Output) (door : Doorway) (same_door : Type 0) (result : Result Happened ServeFault)
-    → exit_status (serve_end result) ≡ 5 → PackServed most asked count tell step out door same_door result → DoorRose door
-rose_by most asked count tell step out door same_door (Ok happened) e h = h.served.serves.failed (five_by happened.memory happened.store happened.fault happened.limit e)
-rose_by most asked count tell step out door same_door (Err (faults.Pack fault)) e h = absurd (five_refused fault e)
-rose_by most asked count tell step out door same_door (Err faults.DoorFault) e h = h.served.0.rose
-rose_by most asked count tell step out door same_door (Err faults.SinkFault) e h = cc
-rose_by most asked count tell step out door same_door (Err faults.OutOfMemory) e h = cc
+rose_by : (most asked count lanes : ℕ) (tell : Type 0) (step : PackStep) (out : Output) (door : Doorway) (same_door : Type 0) (result : Result Happened ServeFault)
+    → exit_status (serve_end result) ≡ 5 → PackServed most asked count lanes tell step out door same_door result → DoorRose door
+rose_by most asked count lanes tell step out door same_door (Ok happened) e h = h.served.serves.failed (five_by happened.memory happened.store happened.fault happened.limit e)
+rose_by most asked count lanes tell step out door same_door (Err (faults.Pack fault)) e h = absurd (five_refused fault e)
+rose_by most asked count lanes tell step out door same_door (Err faults.DoorFault) e h = h.served.0.rose
+rose_by most asked count lanes tell step out door same_door (Err faults.SinkFault) e h = cc
+rose_by most asked count lanes tell step out door same_door (Err faults.OutOfMemory) e h = cc
 
 pub door_fault_of : (parts : ServeParts) (step : PackStep) (same_pack : Type 0) (out : Output) (door : Entrance) (end : Option CommandFault) → exit_status end ≡ 5
     → ServeAnswers parts step same_pack out door end → DoorRose door.doorway
 door_fault_of parts step same_pack out door end e (inl ended) =
-    rose_by standard.received parts.port parts.count door.links_tell step out door.doorway door.same_door ended.result (sym (ap exit_status ended.end_is) ∙ e) ended.served
+    rose_by standard.received parts.port parts.count parts.lanes door.links_tell step out door.doorway door.same_door ended.result (sym (ap exit_status ended.end_is) ∙ e) ended.served
 door_fault_of parts step same_pack out door end e (inr (inl none)) = let k = sym (ap status_of none.unattached.is) ∙ (sym (ap exit_status none.end_is) ∙ e) in cc
 door_fault_of parts step same_pack out door end e (inr (inr unbegun)) = let k = sym (ap exit_status unbegun.end_is) ∙ e in cc
 
@@ -247,28 +248,24 @@ link_rose store most run (IsSaid.up_to h) some =
     rose_if run.served.store run.faults_before h.sent run.faults_now h.numbers.store_are (are_counted store (take most run.heard) h.sent h.rest h.sent_is.sent_is) h.counts some
 link_rose store most run (IsSaid.front h) some = front_rose store run h some
 
-runs_rise : (told : Option Store) (most before : ℕ) (runs : List LinkRun) (now : ℕ) → AreServed told most before runs now → before ≤ now
-runs_rise told most before [] now h = h
-runs_rise told most before (run ∷ runs) now h = omega (arith, h.1, h.2, runs_rise told most run.faults_now runs now h.3)
-
 one_true : (a b : Bool) → (a || b) ≡ true → (a ≡ true) ⊎ (b ≡ true)
 one_true true b e = inl refl
 one_true false b e = inr e
 
-runs_rose : (store : Store) (most before : ℕ) (runs : List LinkRun) (now : ℕ) → AreServed (Some store) most before runs now
+runs_rose : (store : Store) (most before now : ℕ) (runs : List LinkRun) → All (IsServedWithin (Some store) most before now) runs
     → list_any (λ run. is_positive run.served.store) runs ≡ true → Rose before now
-runs_rose store most before [] now h some = cc
-runs_rose store most before (run ∷ runs) now h some =
-    by (one_true (is_positive run.served.store) (list_any (λ run. is_positive run.served.store) runs) some) (λ there. runs_rose store most run.faults_now runs now h.3 there)
+runs_rose store most before now [] h some = cc
+runs_rose store most before now (run ∷ runs) h some =
+    by (one_true (is_positive run.served.store) (list_any (λ run. is_positive run.served.store) runs) some)
+    (λ there. runs_rose store most before now runs (All-tail (IsServedWithin (Some store) most before now) run runs h) there)
   where
     by : (is_positive run.served.store ≡ true) ⊎ (list_any (λ run. is_positive run.served.store) runs ≡ true)
-        → (list_any (λ run. is_positive run.served.store) runs ≡ true → Rose run.faults_now now) → Rose before now
+        → (list_any (λ run. is_positive run.served.store) runs ≡ true → Rose before now) → Rose before now
     by (inl here) rise =
-        wider before run.faults_before run.faults_now now h.1 (runs_rise (Some store) most run.faults_now runs now h.3) (link_rose store most run (said_by (Some store) most run run.end h.0) here)
-    by (inr there) rise =
-        let up : before ≤ run.faults_now = omega (arith, h.1, h.2) in
-        let same : now ≤ now = omega arith in
-        wider before run.faults_now now now up same (rise there)
+        let first = All-head (IsServedWithin (Some store) most before now) run runs h in
+        wider before run.faults_before run.faults_now now first.behind first.until
+        (link_rose store most run (said_by (Some store) most run run.end first.served) here)
+    by (inr there) rise = rise there
 
 -- ---- a pack whose content can be attached
 
@@ -296,32 +293,32 @@ module _ (uncaused : NoneCaused) (step : PackStep) (good : IsGoodPack step.conte
   refused_8 (packs.Truncated at) h = absurd (caused (packs.Truncated at) h.1)
   refused_8 (packs.BlockLimit at) h = absurd (caused (packs.BlockLimit at) h.1)
 
-  unbroken : (told : Option Store) (most : ℕ) (runs : List LinkRun) → IsAttachedIn step.content_old told → AreServed told most step.faults_old runs step.faults_new
-      → list_any (λ run. is_positive run.served.store) runs ≡ true → ⊥
-  unbroken told most runs attached served some =
+  unbroken : (told : Option Store) (most : ℕ) (runs : List LinkRun) → IsAttachedIn step.content_old told → step.faults_old ≤ step.faults_new
+      → All (IsServedWithin told most step.faults_old step.faults_new) runs → list_any (λ run. is_positive run.served.store) runs ≡ true → ⊥
+  unbroken told most runs attached rises served some =
       let (store, is) = store_told step.content_old told good.0 good.2 attached in
       no_pack (record {
-        rose = runs_rose store most step.faults_old runs step.faults_new (subst (λ (t : Option Store). AreServed t most step.faults_old runs step.faults_new) is served) some;
-        counted = runs_rise told most step.faults_old runs step.faults_new served;
+        rose = runs_rose store most step.faults_old step.faults_new runs (subst (λ (t : Option Store). All (IsServedWithin t most step.faults_old step.faults_new) runs) is served) some;
+        counted = rises;
       })
 
   module _ (out : Output) (door : Entrance) (no_door : DoorRose door.doorway → ⊥) (no_out : OutputRose out → ⊥) where
-    answered_by : (most asked count : ℕ) (result : Result Happened ServeFault) → PackServed most asked count door.links_tell step out door.doorway door.same_door result
+    answered_by : (most asked count lanes : ℕ) (result : Result Happened ServeFault) → PackServed most asked count lanes door.links_tell step out door.doorway door.same_door result
         → (exit_status (serve_end result) ≡ 8) ⊎ ((exit_status (serve_end result) ≡ 7) ⊎ (exit_status (serve_end result) ≡ 0))
-    answered_by most asked count (Ok happened) h =
+    answered_by most asked count lanes (Ok happened) h =
         let serves = h.served.serves in
         left_by happened.memory happened.store happened.fault happened.limit
-        (λ some. unbroken h.told most serves.runs h.attached serves.served (sym serves.has_happened.store ∙ some)) (λ some. no_door (serves.failed some))
-    answered_by most asked count (Err (faults.Pack fault)) h = inl (refused_8 fault h.0)
-    answered_by most asked count (Err faults.DoorFault) h = absurd (no_door h.served.0.rose)
-    answered_by most asked count (Err faults.SinkFault) h = absurd (no_out h.served.0.line.rose)
-    answered_by most asked count (Err faults.OutOfMemory) h = inl refl
+        (λ some. unbroken h.told most serves.runs h.attached serves.rises serves.served (sym serves.has_happened.store ∙ some)) (λ some. no_door (serves.failed some))
+    answered_by most asked count lanes (Err (faults.Pack fault)) h = inl (refused_8 fault h.0)
+    answered_by most asked count lanes (Err faults.DoorFault) h = absurd (no_door h.served.0.rose)
+    answered_by most asked count lanes (Err faults.SinkFault) h = absurd (no_out h.served.0.line.rose)
+    answered_by most asked count lanes (Err faults.OutOfMemory) h = inl refl
 
 pub serve_answered_of : NoneCaused → (parts : ServeParts) (step : PackStep) (same_pack : Type 0) (out : Output) (door : Entrance) (end : Option CommandFault)
     → IsGoodPack step.content_old → (PackRose step → ⊥) → (DoorRose door.doorway → ⊥) → (OutputRose out → ⊥) → ServeAnswers parts step same_pack out door end
     → (exit_status end ≡ 8) ⊎ ((exit_status end ≡ 7) ⊎ (exit_status end ≡ 0))
 serve_answered_of uncaused parts step same_pack out door end good no_pack no_door no_out (inl ended) =
     subst (λ (e : Option CommandFault). (exit_status e ≡ 8) ⊎ ((exit_status e ≡ 7) ⊎ (exit_status e ≡ 0))) (sym ended.end_is)
-    (answered_by uncaused step good no_pack out door no_door no_out standard.received parts.port parts.count ended.result ended.served)
+    (answered_by uncaused step good no_pack out door no_door no_out standard.received parts.port parts.count parts.lanes ended.result ended.served)
 serve_answered_of uncaused parts step same_pack out door end good no_pack no_door no_out (inr (inl none)) = absurd (no_pack none.unattached.rose)
 serve_answered_of uncaused parts step same_pack out door end good no_pack no_door no_out (inr (inr unbegun)) = inl (ap exit_status unbegun.end_is)

@@ -39,7 +39,7 @@ serve_end (Err faults.OutOfMemory) = Some refusals.OutOfMemory
 pub record ServeEnded (parts : ServeParts) (step : PackStep) (out : Output) (door : Entrance) (end : Option CommandFault) : Type 0 where
   pub attached : IsAttachedPack parts.pack step
   pub result : Result Happened ServeFault
-  pub served : PackServed standard.received parts.port parts.count door.links_tell step out door.doorway door.same_door result
+  pub served : PackServed standard.received parts.port parts.count parts.lanes door.links_tell step out door.doorway door.same_door result
   pub asked : AskedBy (door.asked parts.port) result
   pub end_is : end ≡ serve_end result
 
@@ -69,7 +69,7 @@ pub record ServedLinks (parts : ServeParts) (step : PackStep) (out : Output) (do
   pub store : IsAttachedIn step.content_old told
   pub happened : Happened
   pub asked : door.asked parts.port
-  pub served : HasServed told standard.received parts.port parts.count door.links_tell step.faults_old step.faults_new out door.doorway happened
+  pub served : HasServed told standard.received parts.port parts.count parts.lanes door.links_tell step.faults_old step.faults_new out door.doorway happened
 
 -- and on each link all that is sent for what was heard was said; and no fault of the door was counted, but where it tells the links
 -- that were given back and no memory was found to tell of one

@@ -1,5 +1,5 @@
 //! `serve`.
-ghost use Rattle.std.specs.Prelude.{◌≡◌, IsSome, Some};
+ghost use Rattle.std.specs.Prelude.{◌≡◌, ◌≤◌, IsSome, Some};
 ghost use Rattle.tg_commands.specs.Lines.{end_of};
 ghost use Rattle.tg_commands.specs.Files.{given_back};
 ghost use Rattle.tg_app.specs.Objects.{entrance_between};
@@ -17,7 +17,8 @@ use tg_serve::{Happened, ServeFault, serve_pack};
 use tg_streams::Sink;
 use tg_words::Serve;
 
-/// `serve`: the pack at a path is served through the door. The pack is there, and is given back.
+/// `serve`: the pack at a path is served through the door, in 1 to 64 lanes side by side. The pack is there, and is given
+/// back.
 pub fn serve<P: Pack, L: Door, O: Sink>(
     alloc: Global,
     asked: &Serve,
@@ -25,7 +26,8 @@ pub fn serve<P: Pack, L: Door, O: Sink>(
     door: &mut L,
     out: &mut O,
 ) -> Result<(), CommandFault>
-    requires { IsSome pack.old }
+    requires pack { IsSome pack.old }
+    requires lanes { (1 ≤ asked.now.lanes) × (asked.now.lanes ≤ 64) }
     ensures back { IsSome pack.new }
     ensures ends { ServeAnswers asked.now (given_back P.pack pack.old pack.new) (pack.new ≡ pack.old)
         (into O.sink out.old out.new) (entrance_between L.door L.Link.link door.old door.new) (end_of result) }
@@ -48,6 +50,7 @@ fn serve_from<P: Pack, L: Door, O: Sink>(
     door: &mut L,
     out: &mut O,
 ) -> (P, Result<(), CommandFault>)
+    requires { (1 ≤ asked.now.lanes) × (asked.now.lanes ≤ 64) }
     ensures { ServeAnswers asked.now (pack_step P.pack pack result.0) (Some result.0 ≡ Some pack)
         (into O.sink out.old out.new) (entrance_between L.door L.Link.link door.old door.new) (end_of result.1) }
 {
@@ -61,6 +64,7 @@ fn serve_from<P: Pack, L: Door, O: Sink>(
         door,
         asked.port,
         asked.count,
+        asked.lanes,
         Limits::standard(),
         out,
     );

@@ -1,5 +1,5 @@
 -- How a pack is served, by what came of attaching it.
-use Rattle.std.proofs.Common.{Err, List, Ok, [], refl, subst, sym, ℕ, ◌++◌, ◌≡◌}
+use Rattle.std.proofs.Common.{Err, List, Ok, [], refl, subst, sym, ℕ, ◌++◌, ◌∙◌, ◌≡◌}
 use Rattle.std.specs.Prelude.{IfErr, IfOk, Result}
 use Rattle.tg_doors.specs.Doors.{Doorway}
 use Rattle.tg_files.specs.Packs.{Did, PackMeaning, PackWrite, did_joins, pack_step}
@@ -38,26 +38,26 @@ module _ {P : Type 0} (m : PackMeaning P) (pack now : P) where
   pack_kept joins (Err refused) end has was did gives =
       subst (λ (now : P). Did [] (pack_step m pack now)) (sym gives.0) was.did
 
-  module _ (most asked count : ℕ) (tell : Type 0) (out : Output) (door : Doorway) (same_door : Type 0) where
+  module _ (most asked count lanes : ℕ) (tell : Type 0) (out : Output) (door : Doorway) (same_door : Type 0) where
     abbrev ServesStore : Result Happened ServeFault → PackStoreState P → Type 0
     ServesStore end store =
-        StoreServed (stored_in (m.content store.pack) store.places) most asked count tell (m.faults store.pack) (m.faults now) out door end
+        StoreServed (stored_in (m.content store.pack) store.places) most asked count lanes tell (m.faults store.pack) (m.faults now) out door same_door end
 
     attached_served : (store : PackStoreState P) (end : Result Happened ServeFault) → HasAttached m pack store → ServesStore end store
-        → AttachedServed most asked count tell (pack_step m pack now) out door end
+        → AttachedServed most asked count lanes tell (pack_step m pack now) out door same_door end
     attached_served store end has served = record {
       told = stored_in (m.content store.pack) store.places;
       attached = has.stored;
-      served = subst (λ (before : ℕ). StoreServed (stored_in (m.content store.pack) store.places) most asked count tell before (m.faults now) out door end)
+      served = subst (λ (before : ℕ). StoreServed (stored_in (m.content store.pack) store.places) most asked count lanes tell before (m.faults now) out door same_door end)
           has.quiet served;
     }
 
     store_served : (store : PackStoreState P) (end : Result Happened ServeFault) → HasAttached m pack store → ServesStore end store
-        → PackServed most asked count tell (pack_step m pack now) out door same_door end
+        → PackServed most asked count lanes tell (pack_step m pack now) out door same_door end
     store_served store (Ok happened) has served = attached_served store (Ok happened) has served
     store_served store (Err faults.DoorFault) has served = attached_served store (Err faults.DoorFault) has served
     store_served store (Err faults.SinkFault) has served = attached_served store (Err faults.SinkFault) has served
-    store_served store (Err faults.OutOfMemory) has served = absurd served
+    store_served store (Err faults.OutOfMemory) has served = (served.0, served.1, served.2 ∙ has.quiet)
     store_served store (Err (faults.Pack fault)) has served = absurd served
 
     -- its store was served, or it was refused and nothing done
@@ -67,27 +67,20 @@ module _ {P : Type 0} (m : PackMeaning P) (pack now : P) where
         → IfOk attached (λ (store : PackStoreState P). ServesStore end store)
         → IfErr attached (λ (refused : PackRefused P). GivesBack now end refused)
         → IfErr attached (λ (refused : PackRefused P). OutUntouched out × same_door)
-        → PackServed most asked count tell (pack_step m pack now) out door same_door end
+        → PackServed most asked count lanes tell (pack_step m pack now) out door same_door end
     pack_served (Ok store) end has was served gives untouched = store_served store end has served
     pack_served (Err refused) end has was served gives untouched =
         let cause = subst (λ (now : P). IsRefusal (pack_step m pack now) refused.fault) (sym gives.0) was.cause in
-        subst (λ (end : Result Happened ServeFault). PackServed most asked count tell (pack_step m pack now) out door same_door end) (sym gives.1)
-        (by_fault (λ (fault : ServeFault). PackServed most asked count tell (pack_step m pack now) out door same_door (Err fault)) refused.fault
+        subst (λ (end : Result Happened ServeFault). PackServed most asked count lanes tell (pack_step m pack now) out door same_door end) (sym gives.1)
+        (by_fault (λ (fault : ServeFault). PackServed most asked count lanes tell (pack_step m pack now) out door same_door (Err fault)) refused.fault
         (λ is. (untouched.0, untouched.1, subst (λ (fault : PackFault). IsRefusal (pack_step m pack now) fault) is cause))
         (cause, untouched.0, untouched.1))
 
-asked_anyway : (asks : Type 0) (end : Result Happened ServeFault) → asks → AskedBy asks end
-asked_anyway asks (Ok happened) did = did
-asked_anyway asks (Err (faults.Pack fault)) did = tt
-asked_anyway asks (Err faults.DoorFault) did = did
-asked_anyway asks (Err faults.SinkFault) did = did
-asked_anyway asks (Err faults.OutOfMemory) did = tt
-
--- the door was asked, unless the pack was refused
+-- the door was asked, unless the pack was refused, or no memory was found
 pub pack_asked : {P : Type 0} (asks : Type 0) (now : P) (attached : Result (PackStoreState P) (PackRefused P)) (end : Result Happened ServeFault)
-    → IfOk attached (λ (store : PackStoreState P). asks)
+    → IfOk attached (λ (store : PackStoreState P). AskedBy asks end)
     → IfErr attached (λ (refused : PackRefused P). GivesBack now end refused) → AskedBy asks end
-pack_asked asks now (Ok store) end did gives = asked_anyway asks end did
+pack_asked asks now (Ok store) end did gives = did
 pack_asked asks now (Err refused) end did gives =
     subst (λ (end : Result Happened ServeFault). AskedBy asks end) (sym gives.1)
     (by_fault (λ (fault : ServeFault). AskedBy asks (Err fault)) refused.fault (λ is. tt) tt)

@@ -4,7 +4,7 @@ use Rattle.tg_bytes.specs.Ascii.{line_feed}
 use Rattle.tg_doors.specs.Doors.{DoorRose, Doorway, KeepsComing, KeepsPort, KeepsServed, KeepsShut}
 use Rattle.tg_files.specs.Packs.{PackStep}
 use Rattle.tg_model.specs.Stores.{Store}
-use Rattle.tg_serve.specs.Serving.{ServesDoor}
+use Rattle.tg_serve.specs.SideBySide.{ServesLanes}
 use Rattle.tg_serve.specs.declared.Happened.{Happened}
 use Rattle.tg_serve.specs.declared.packed.ServeFault.{ServeFault}
 use Rattle.tg_serve.specs.declared.packed.ServeFault.TheVariants as faults
@@ -50,33 +50,34 @@ abbrev pub behind_bind : Doorway → ℕ → Doorway
 behind_bind door port = record door { port_old = Some port; shut_old = false }
 
 -- the door was bound, the line was written, and links were served
-pub record HasServed (told : Option Store) (most asked count : ℕ) (tell : Type 0) (before now : ℕ) (out : Output) (door : Doorway) (happened : Happened) : Type 0 where
+pub record HasServed (told : Option Store) (most asked count lanes : ℕ) (tell : Type 0) (before now : ℕ) (out : Output) (door : Doorway) (happened : Happened) : Type 0 where
   pub port : ℕ
   pub port_is : asked ≢ 0 → port ≡ asked
   pub bound : door.port_new ≡ Some port
   pub line : Put (serving_line port) out
   pub quiet : OutputQuiet out
-  pub serves : ServesDoor told most count tell before now (behind_bind door port) happened
+  pub serves : ServesLanes told most count lanes tell before now (behind_bind door port) happened
 
 -- how a store is served
-abbrev pub StoreServed : Option Store → ℕ → ℕ → ℕ → Type 0 → ℕ → ℕ → Output → Doorway → Result Happened ServeFault → Type 0
-StoreServed told most asked count tell before now out door (Ok happened) = HasServed told most asked count tell before now out door happened
-StoreServed told most asked count tell before now out door (Err faults.DoorFault) = Unbound out door × (now ≡ before)
-StoreServed told most asked count tell before now out door (Err faults.SinkFault) = Unsaid asked out door × (now ≡ before)
-StoreServed told most asked count tell before now out door (Err faults.OutOfMemory) = ⊥
-StoreServed told most asked count tell before now out door (Err (faults.Pack fault)) = ⊥
+abbrev pub StoreServed : Option Store → ℕ → ℕ → ℕ → ℕ → Type 0 → ℕ → ℕ → Output → Doorway → Type 0 → Result Happened ServeFault → Type 0
+StoreServed told most asked count lanes tell before now out door same_door (Ok happened) =
+    HasServed told most asked count lanes tell before now out door happened
+StoreServed told most asked count lanes tell before now out door same_door (Err faults.DoorFault) = Unbound out door × (now ≡ before)
+StoreServed told most asked count lanes tell before now out door same_door (Err faults.SinkFault) = Unsaid asked out door × (now ≡ before)
+StoreServed told most asked count lanes tell before now out door same_door (Err faults.OutOfMemory) = OutUntouched out × same_door × (now ≡ before)
+StoreServed told most asked count lanes tell before now out door same_door (Err (faults.Pack fault)) = ⊥
 
 -- the pack was attached as a store, which was served so
-pub record AttachedServed (most asked count : ℕ) (tell : Type 0) (step : PackStep) (out : Output) (door : Doorway) (end : Result Happened ServeFault) : Type 0 where
+pub record AttachedServed (most asked count lanes : ℕ) (tell : Type 0) (step : PackStep) (out : Output) (door : Doorway) (same_door : Type 0) (end : Result Happened ServeFault) : Type 0 where
   pub told : Option Store
   pub attached : IsAttachedIn step.content_old told
-  pub served : StoreServed told most asked count tell step.faults_old step.faults_new out door end
+  pub served : StoreServed told most asked count lanes tell step.faults_old step.faults_new out door same_door end
 
--- how a pack is served: it is refused, and nothing is done; or it is attached
-abbrev pub PackServed : ℕ → ℕ → ℕ → Type 0 → PackStep → Output → Doorway → Type 0 → Result Happened ServeFault → Type 0
-PackServed most asked count tell step out door same_door (Err (faults.Pack fault)) = IsRefusal step fault × OutUntouched out × same_door
-PackServed most asked count tell step out door same_door (Err faults.OutOfMemory) = OutUntouched out × same_door × (step.faults_new ≡ step.faults_old)
-PackServed most asked count tell step out door same_door end = AttachedServed most asked count tell step out door end
+-- how a pack is served: it is refused, or no memory is found, and nothing is done; or it is attached
+abbrev pub PackServed : ℕ → ℕ → ℕ → ℕ → Type 0 → PackStep → Output → Doorway → Type 0 → Result Happened ServeFault → Type 0
+PackServed most asked count lanes tell step out door same_door (Err (faults.Pack fault)) = IsRefusal step fault × OutUntouched out × same_door
+PackServed most asked count lanes tell step out door same_door (Err faults.OutOfMemory) = OutUntouched out × same_door × (step.faults_new ≡ step.faults_old)
+PackServed most asked count lanes tell step out door same_door end = AttachedServed most asked count lanes tell step out door same_door end
 
 -- the door was asked to bind the port, unless the pack was refused before, or no memory was found for it
 abbrev pub AskedBy : Type 0 → Result Happened ServeFault → Type 0

@@ -1,10 +1,10 @@
 -- What holds between the turns of serving links side by side: which came, which stand in a lane still, and which were given
 -- back.
 use Rattle.std.specs.Option.{option_map}
-use Rattle.std.specs.Prelude.{All, Bool, IsPermutation, List, None, Option, Result, Some, [], drop, false, if◌then◌else◌, length, map, slice_get, true, ⊤, ℕ, ◌*◌, ◌+◌, ◌++◌, ◌-◌, ◌<◌, ◌==◌, ◌∷◌, ◌≡◌, ◌≤◌, ◌⊎◌}
+use Rattle.std.specs.Prelude.{All, Bool, IsPermutation, List, None, Option, Result, Some, [], drop, false, if◌then◌else◌, length, map, replicate, slice_get, true, ⊤, ℕ, ◌*◌, ◌+◌, ◌++◌, ◌-◌, ◌<◌, ◌==◌, ◌∷◌, ◌≡◌, ◌≤◌, ◌⊎◌}
 use Rattle.tg_doors.specs.Doors.{DoorMeaning, DoorRose, Doorway, at_door}
 use Rattle.tg_gateway.specs.Links.{served_of}
-use Rattle.tg_gateway.specs.Sessions.{SessionView}
+use Rattle.tg_gateway.specs.Sessions.{SessionView, new_session}
 use Rattle.tg_gateway.specs.declared.fault.GatewayFault.{GatewayFault}
 use Rattle.tg_lanes.specs.History.{Fed, LanesStandFor, Move, fed_in, own_of, since_of, written_in}
 use Rattle.tg_lanes.specs.Lanes.{LanesView}
@@ -192,3 +192,14 @@ pub record HappensWith (sessions : List SessionView) (lane : ℕ) (old new : Hap
   pub session : SessionView
   pub session_is : slice_get sessions lane ≡ Some session
   pub with_is : new ≡ happened_with old (served_of session.state) end
+
+-- lanes that are new, none of which has a link, while nothing happened
+pub record AreNew {K : Type 0} (sessions : List SessionView) (most : ℕ) (links : List (Option K)) (busy ready room : ℕ) (happened : Happened) : Type 0 where
+  pub some : 1 ≤ length sessions
+  pub most_lanes : length sessions ≤ 64
+  pub new : sessions ≡ replicate (length sessions) (new_session most)
+  pub free : links ≡ replicate (length sessions) None
+  pub ready_are : ready ≡ length sessions
+  pub place : 0 < room
+  pub idle : busy ≡ 0
+  pub has_happened : HasHappened [] false happened

@@ -1,12 +1,11 @@
 //! Links that come through a door, served side by side over one store, each in a lane.
 ghost use Rattle.std.specs.Prelude.{◌≡◌, ◌<◌, ◌≤◌, ◌⊎◌, [], IfOk, IsTrue, false, length, replicate, slice_get, slice_set, true, ℕ};
 ghost use Rattle.tg_doors.specs.Doors.{IsDone, KeepsComing, KeepsPort, KeepsShut, at_door};
-ghost use Rattle.tg_gateway.specs.Sessions.{new_session};
 ghost use Rattle.tg_links.specs.Views.{view_of};
 ghost use Rattle.tg_model.specs.Stores.{looked_in};
 ghost use Rattle.tg_serve.specs.Serving.{HasHappened, LinksTell};
 ghost use Rattle.tg_serve.specs.SideBySide.{ServesLanes};
-ghost use Rattle.tg_serve.specs.Turns.{AreLanes, GoOn, HappensWith, MayGoOn, busy_in, moment_of};
+ghost use Rattle.tg_serve.specs.Turns.{AreLanes, AreNew, GoOn, HappensWith, MayGoOn, busy_in, moment_of};
 ghost use Rattle.tg_walk.specs.Walks.{HaveLookedUp};
 
 use crate::Happened;
@@ -24,16 +23,17 @@ const PIECE: usize = 16_384;
 #[derive(Drop)]
 pub struct Turns<K> {
     /// The link of each lane that has one.
-    links: Vec<Option<K>>,
+    pub(crate) links: Vec<Option<K>>,
     /// Which lanes the door marked last.
-    ready: Vec<bool>,
+    pub(crate) ready: Vec<bool>,
     /// Where pieces are taken into.
-    room: Vec<u8>,
+    pub(crate) room: Vec<u8>,
     /// How many lanes have a link.
-    busy: usize,
+    pub(crate) busy: usize,
     /// How many links may still be admitted.
-    left: u32,
-    happened: Happened,
+    pub(crate) left: u32,
+    /// What happened so far.
+    pub(crate) happened: Happened,
 }
 
 impl<K: Drop> Turns<K> {
@@ -120,13 +120,8 @@ pub fn serve_lanes<B: Blocks, L: Door>(
     turns: Turns<L::Link>,
     door: &mut L,
 ) -> Happened
-    requires some { (1 ≤ length lanes.old.sessions) × (length lanes.old.sessions ≤ 64) }
-    requires new { lanes.old.sessions ≡ replicate (length lanes.old.sessions) (new_session lanes.old.most) }
-    requires free { turns.links.items ≡ replicate (length lanes.old.sessions) None }
-    requires ready { length turns.ready.items ≡ length lanes.old.sessions }
-    requires room { 0 < length turns.room.items }
-    requires busy { turns.busy ≡ 0 }
-    requires happened { HasHappened [] false turns.happened }
+    requires { AreNew lanes.old.sessions lanes.old.most turns.links.items turns.busy (length turns.ready.items)
+        (length turns.room.items) turns.happened }
     ensures serves { ServesLanes (B.blocks.stored lanes.old.blocks) lanes.old.most turns.left (length lanes.old.sessions)
         (LinksTell L.Link.link) (B.blocks.faults lanes.old.blocks) (B.blocks.faults lanes.new.blocks)
         (at_door L.door door.old door.new) result }

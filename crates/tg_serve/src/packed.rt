@@ -1,20 +1,23 @@
 //! A pack that is served through a door.
-ghost use Rattle.std.specs.Prelude.{◌≡◌, [], IfErr, IfOk, OnErr, OnOk};
+ghost use Rattle.std.specs.Prelude.{◌≡◌, ◌≢◌, ◌≤◌, [], IfErr, IfOk, OnErr, OnOk, length};
 ghost use Rattle.tg_doors.specs.Doors.{at_door};
 ghost use Rattle.tg_files.specs.Packs.{Did, pack_step};
 ghost use Rattle.tg_model.specs.Stores.{looked_in};
 ghost use Rattle.tg_serve.specs.Packed.{AskedBy, GivesBack, OutUntouched, PackServed, StoreServed, serving_line};
 ghost use Rattle.tg_serve.specs.Serving.{LinksTell};
+ghost use Rattle.tg_serve.specs.Turns.{AreNew};
 ghost use Rattle.tg_store.specs.Packs.{stored_in};
 ghost use Rattle.tg_streams.specs.Streams.{OutputQuiet, Put, PutFront, into};
 ghost use Rattle.tg_walk.specs.Walks.{HaveLookedUp};
 
-use crate::{Happened, serve_door};
+use crate::Happened;
+use crate::lanes::{Turns, serve_lanes};
 use itoa::Buffer;
 use std::alloc::Global;
 use tg_doors::Door;
 use tg_faults::Failed;
 use tg_files::Pack;
+use tg_lanes::Lanes;
 use tg_model::{Blocks, Limits};
 use tg_store::{PackFault, PackRefused, PackStore};
 use tg_streams::{Sink, put_pieces};
@@ -56,9 +59,13 @@ impl From<PackFault> for ServeFault {
     }
 }
 
+/// How many blocks are kept at most, of those that were looked up last: copies of at most 2 MiB each.
+const KEPT: u32 = 256;
+
 /// Serves a pack through a door, which is bound to a port, and gives the pack back, to which nothing was done. The pack is
 /// read through and checked first; behind `bind` a line that says the port goes to out, before the first link is
-/// admitted; and then so many links are served, one after another, or fewer where the door gives no more.
+/// admitted; and then so many links are served, in so many lanes side by side, 1 to 64, or fewer links where the door gives
+/// no more or fails. Of the blocks that were looked up last copies are kept, 256 at most.
 ///
 /// RFC 9112, section 9.3. Errors: `Pack` where the pack can't be attached as a store; `DoorFault` where the door can't be
 /// bound; `SinkFault` where the line can't be written; and `OutOfMemory`. What happened behind the line is told, and no
@@ -69,17 +76,19 @@ pub fn serve_pack<P: Pack, L: Door, S: Sink>(
     door: &mut L,
     port: u16,
     count: u32,
+    lanes: u32,
     limits: Limits,
     out: &mut S,
 ) -> (P, Result<Happened, ServeFault>)
+    requires { (1 ≤ lanes) × (lanes ≤ 64) }
     ensures pack { Did [] (pack_step P.pack pack result.0) }
-    ensures served { PackServed limits.received port count (LinksTell L.Link.link) (pack_step P.pack pack result.0)
+    ensures served { PackServed limits.received port count lanes (LinksTell L.Link.link) (pack_step P.pack pack result.0)
         (into S.sink out.old out.new) (at_door L.door door.old door.new) (door.new ≡ door.old) result.1 }
     ensures asked { AskedBy (L.door.asked door.old door.new port) result.1 }
 {
     tg_store::laws::finished_packs::<P>();
     let attached = PackStore::attach_pack(alloc, pack);
-    serve_attached(alloc, attached, door, port, count, limits, out)
+    serve_attached(alloc, attached, door, port, count, lanes, limits, out)
 }
 
 /// Serves the store of a pack through a door, which is bound to a port, or refuses it as `attach_pack` did, and gives the
@@ -90,42 +99,76 @@ fn serve_attached<P: Pack, L: Door, S: Sink>(
     door: &mut L,
     port: u16,
     count: u32,
+    lanes: u32,
     limits: Limits,
     out: &mut S,
 ) -> (P, Result<Happened, ServeFault>)
+    requires { (1 ≤ lanes) × (lanes ≤ 64) }
     ensures pack { IfOk attached (λ store. Did [] (pack_step P.pack store.pack result.0)) }
     ensures served { IfOk attached (λ store. StoreServed (stored_in (P.pack.content store.pack) store.places)
-        limits.received port count (LinksTell L.Link.link) (P.pack.faults store.pack) (P.pack.faults result.0)
-        (into S.sink out.old out.new) (at_door L.door door.old door.new) result.1) }
-    ensures asked { IfOk attached (λ _. L.door.asked door.old door.new port) }
+        limits.received port count lanes (LinksTell L.Link.link) (P.pack.faults store.pack) (P.pack.faults result.0)
+        (into S.sink out.old out.new) (at_door L.door door.old door.new) (door.new ≡ door.old) result.1) }
+    ensures asked { IfOk attached (λ _. AskedBy (L.door.asked door.old door.new port) result.1) }
     ensures refused { IfErr attached (λ refused. GivesBack result.0 result.1 refused) }
     ensures untouched { IfErr attached (λ _. OutUntouched (into S.sink out.old out.new) × (door.new ≡ door.old)) }
 {
     match attached {
         Ok(store) => {
-            let mut store = store;
-            let end = serve_store(alloc, &mut store, door, port, count, limits, out);
+            let (store, end) = serve_store(alloc, store, door, port, count, lanes, limits, out);
             (store.into_pack(), end)
         }
         Err(refused) => (refused.pack, Err(ServeFault::from(refused.fault))),
     }
 }
 
-/// Serves a store through a door, which is bound to a port. Errors: `DoorFault` and `SinkFault`.
+/// Serves a store through a door, which is bound to a port, and gives it back. Errors: `DoorFault`, `SinkFault` and
+/// `OutOfMemory`.
 fn serve_store<B: Blocks, L: Door, S: Sink>(
     alloc: Global,
-    blocks: &mut B,
+    blocks: B,
     door: &mut L,
     port: u16,
     count: u32,
+    lanes: u32,
     limits: Limits,
     out: &mut S,
+) -> (B, Result<Happened, ServeFault>)
+    requires { (1 ≤ lanes) × (lanes ≤ 64) }
+    ensures served { StoreServed (B.blocks.stored blocks) limits.received port count lanes (LinksTell L.Link.link)
+        (B.blocks.faults blocks) (B.blocks.faults result.0) (into S.sink out.old out.new)
+        (at_door L.door door.old door.new) (door.new ≡ door.old) result.1 }
+    ensures asked { AskedBy (L.door.asked door.old door.new port) result.1 }
+    ensures looked { HaveLookedUp (looked_in B.blocks blocks result.0) }
+{
+    let Ok(turns) = Turns::new(alloc, lanes, count) else {
+        return (blocks, Err(ServeFault::OutOfMemory));
+    };
+    match Lanes::new(alloc, blocks, lanes, KEPT, limits) {
+        Ok(lanes) => {
+            let mut lanes = lanes;
+            let end = serve_bound(&mut lanes, turns, door, port, out);
+            (lanes.into_blocks(), end)
+        }
+        Err(refused) => (refused.blocks, Err(ServeFault::OutOfMemory)),
+    }
+}
+
+/// Serves links in lanes through a door, which is bound to a port. Errors: `DoorFault` and `SinkFault`.
+fn serve_bound<B: Blocks, L: Door, S: Sink>(
+    lanes: &mut Lanes<B>,
+    turns: Turns<L::Link>,
+    door: &mut L,
+    port: u16,
+    out: &mut S,
 ) -> Result<Happened, ServeFault>
-    ensures served { StoreServed (B.blocks.stored blocks.old) limits.received port count (LinksTell L.Link.link)
-        (B.blocks.faults blocks.old) (B.blocks.faults blocks.new) (into S.sink out.old out.new)
-        (at_door L.door door.old door.new) result }
+    requires { AreNew lanes.old.sessions lanes.old.most turns.links.items turns.busy (length turns.ready.items)
+        (length turns.room.items) turns.happened }
+    ensures served { StoreServed (B.blocks.stored lanes.old.blocks) lanes.old.most port turns.left (length lanes.old.sessions)
+        (LinksTell L.Link.link) (B.blocks.faults lanes.old.blocks) (B.blocks.faults lanes.new.blocks)
+        (into S.sink out.old out.new) (at_door L.door door.old door.new) (door.new ≡ door.old) result }
+    ensures memory { result ≢ Err ServeFault.OutOfMemory }
     ensures asked { L.door.asked door.old door.new port }
-    ensures looked { HaveLookedUp (looked_in B.blocks blocks.old blocks.new) }
+    ensures looked { HaveLookedUp (looked_in B.blocks lanes.old.blocks lanes.new.blocks) }
 {
     let Ok(port) = door.bind(port) else {
         return Err(ServeFault::DoorFault);
@@ -133,7 +176,7 @@ fn serve_store<B: Blocks, L: Door, S: Sink>(
     if put_line(out, port).is_err() {
         return Err(ServeFault::SinkFault);
     }
-    Ok(serve_door(alloc, blocks, door, count, limits))
+    Ok(serve_lanes(lanes, turns, door))
 }
 
 /// Puts the line that says to which port the door is bound. The error is a fault of out, which has a front of it.

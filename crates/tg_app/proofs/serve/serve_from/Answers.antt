@@ -21,6 +21,7 @@ returns g c =
       pack = string_bytes c.asked.inside.pack;
       port = c.asked.inside.port;
       count = c.asked.inside.count;
+      lanes = c.asked.inside.lanes;
     } in
     let attached = subst (λ (path : List ℕ). IsAttachedPack path (pack_step m a p)) c.as_str.ensures.value
     (attached_step m g.met.P.Pack.joins a b p c.as_str.result.now c.in-Ok.ensures.did c.serve_pack-pack.ensures.pack) in

@@ -6,8 +6,9 @@ use Rattle.tg_query.specs.Requests.{IsAddr}
 use Rattle.tg_words.specs.AuditLines.{AuditParts}
 use Rattle.tg_words.specs.CommandLine.{CommandLine}
 use Rattle.tg_words.specs.FetchLines.{FetchParts}
+use Rattle.tg_words.specs.ServeLines.{ServeParts}
 use Rattle.tg_words.specs.declared.Command.{Command}
-use Rattle.tg_words.specs.declared.Command.TheVariants.{Audit, Fetch}
+use Rattle.tg_words.specs.declared.Command.TheVariants.{Audit, Fetch, Serve}
 use Rattle.tg_app.proofs.top.command.Goals as goal
 
 -- the words spell the command that was read alone, and it ended so
@@ -20,6 +21,17 @@ the_ends {words} {objects} {end} {read} {command} spelled only is ends door dial
 -- the address of a spelled `fetch` is one
 is_addr : (words : List (List ℕ)) (read : Command) (parts : FetchParts) → CommandLine words read → read ≡ Fetch parts → IsAddr parts.addr
 is_addr words read parts spelled is = let line = subst (CommandLine words) is spelled in line.1.addr
+
+-- the number of lanes of a spelled `serve`
+some_lanes : (words : List (List ℕ)) (read : Command) (parts : ServeParts) → CommandLine words read → read ≡ Serve parts → 1 ≤ parts.lanes
+some_lanes words read parts spelled is = let line = subst (CommandLine words) is spelled in line.1.lanes.least
+
+few_lanes : (words : List (List ℕ)) (read : Command) (parts : ServeParts) → CommandLine words read → read ≡ Serve parts → parts.lanes ≤ 64
+few_lanes words read parts spelled is = let line = subst (CommandLine words) is spelled in line.1.lanes.most
+
+pub serve-requires-clause-lanes : goal.serve-requires-clause-lanes
+serve-requires-clause-lanes g c =
+    (some_lanes _ _ _ c.in_ok-cid.ensures.found c.in-Serve.is, few_lanes _ _ _ c.in_ok-cid.ensures.found c.in-Serve.is)
 
 pub fetch_answer-requires : goal.fetch_answer-requires
 fetch_answer-requires g c = is_addr _ _ _ c.in_ok-cid.ensures.found c.in-Fetch.is

@@ -18,11 +18,11 @@ loop-turns-init g c =
     record {
       lanes = record {
         as_many = sym number;
-        some = let some = c.requires.some.0 in omega (arith, number, some);
-        most = let most = c.requires.some.1 in omega (arith, number, most);
-        counted = c.requires.busy ∙ sym (ap busy_in c.requires.free ∙ busy_replicate _ (length c.args.lanes.now.sessions));
-        marked = c.requires.ready ∙ sym number;
-        place = c.requires.room;
+        some = let some = c.requires.some in omega (arith, number, some);
+        most = let most = c.requires.most_lanes in omega (arith, number, most);
+        counted = c.requires.idle ∙ sym (ap busy_in c.requires.free ∙ busy_replicate _ (length c.args.lanes.now.sessions));
+        marked = c.requires.ready_are ∙ sym number;
+        place = c.requires.place;
       };
       number = number;
       most = refl;
@@ -31,7 +31,7 @@ loop-turns-init g c =
           c.args.turns.happened
           (λ since now le. subst (λ (s : List SessionView). LanesStandFor s told since now []) (sym c.requires.new)
           (c.lanes_begin.ensures told (length c.args.lanes.now.sessions) c.args.lanes.now.most since now le))
-          refl c.requires.free c.requires.happened;
+          refl c.requires.free c.requires.has_happened;
       asks = λ before asked was. was;
       looked = record { cids = []; looked = record { moved = g.met.B.Blocks.rests _; stored = refl }; hashed = All-nil _ };
     }

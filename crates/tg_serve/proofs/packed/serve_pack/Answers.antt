@@ -13,7 +13,7 @@ returns-clause-pack g c =
 
 pub returns-clause-served : goal.returns-clause-served
 returns-clause-served g c =
-    pack_served g.P.Pack.pack c.args.pack c.serve_attached.result.0 c.args.limits.received c.args.port c.args.count
+    pack_served g.P.Pack.pack c.args.pack c.serve_attached.result.0 c.args.limits.received c.args.port c.args.count c.args.lanes
     (LinksTell g.L.Link.Link.link) (into g.S.Sink.sink c.args.out.now c.serve_attached.new.out)
     (at_door g.L.Door.door c.args.door.now c.serve_attached.new.door) (c.serve_attached.new.door ≡ c.args.door.now)
     c.attach_pack-attached.result c.serve_attached.result.1
