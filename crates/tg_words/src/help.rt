@@ -13,7 +13,7 @@ use std::alloc::{AllocError, Global};
 use tg_bytes::Bytes;
 
 /// The program's version, and the kit's line, by which it is proved.
-pub const VERSION: &str = "tgate 0.2.0\nproved by rattle-kit-13b logic dac8208d650f15bf\n";
+pub const VERSION: &str = "tgate 0.3.0\nproved by rattle-kit-13f logic dac8208d650f15bf\n";
 
 /// What stands before the commands in the help of the program.
 const FRONT: &str =
