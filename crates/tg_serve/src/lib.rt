@@ -1,4 +1,4 @@
-//! Links that come through a door, served one after another over one store.
+//! Links that come through a door, served side by side in lanes over one store, or one after another.
 #![tactic(auto)]
 
 ghost use Rattle.std.specs.Prelude.{◌≡◌, [], false, ℕ};
@@ -10,6 +10,7 @@ ghost use Rattle.tg_walk.specs.Walks.{HaveLookedUp};
 mod lanes;
 mod packed;
 
+pub use lanes::{Turns, serve_lanes};
 pub use packed::{ServeFault, serve_pack};
 use std::alloc::Global;
 use tg_doors::Door;
