@@ -49,7 +49,7 @@ pub fn answer(alloc: Global, store: &mut TestStore, given: &[Bytes], answer: &mu
 }
 
 /// The look-up with the number that the field spells fails, or none where it spells none.
-fn breaks_of(fails: &Bytes) -> Breaks {
+pub fn breaks_of(fails: &Bytes) -> Breaks {
     match number_up_to(fails, 1_000_000) {
         Some(number) => Breaks::Fails(number),
         None => Breaks::Never,

@@ -1,6 +1,7 @@
 //! The rows of `tg_gateway`: sessions that are fed streams of requests in pieces of any lengths, over stores that fail,
 //! sinks that fail and a limit on what may be received, and sessions over links in memory and over a socket; of
-//! `tg_lanes`, step by step; of `tg_serve`, over a door that marks lanes by a script; and of `tg_streams`, `tg_links`, `tg_doors` and `tg_dials` in memory, step by step.
+//! `tg_lanes`, step by step; of `tg_serve`, through a door that marks lanes by a script; and of `tg_streams`, `tg_links`,
+//! `tg_doors` and `tg_dials` in memory, step by step.
 #![tactic(auto)]
 
 mod breaks;
@@ -108,6 +109,7 @@ fn answer_named(judge: &mut Gateway, kind: &str, given: &[Bytes], answer: &mut A
         "breaks" => breaks::answer(alloc, &mut judge.store, given, answer),
         "lanes" => lanes::answer(alloc, &mut judge.store, given, answer),
         "serves" => serving::answer(alloc, given, answer),
+        "turns" => serving::answer_turns(alloc, &mut judge.store, given, answer),
         _ => {
             let stream = stream_of(alloc, given);
             if stream.is_bad {
