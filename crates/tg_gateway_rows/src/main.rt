@@ -24,6 +24,7 @@ mod sockets;
 mod sources;
 mod splits;
 mod stores;
+mod turns;
 
 use crate::dials::Dials;
 use crate::doors::Doors;
@@ -108,6 +109,8 @@ fn answer_named(judge: &mut Gateway, kind: &str, given: &[Bytes], answer: &mut A
         "block" => judge.store.keep(alloc, given, answer),
         "breaks" => breaks::answer(alloc, &mut judge.store, given, answer),
         "lanes" => lanes::answer(alloc, &mut judge.store, given, answer),
+        "parted" => turns::answer_parted(alloc, &mut judge.store, given, answer),
+        "rounds" => turns::answer_rounds(alloc, &mut judge.store, given, answer),
         "serves" => serving::answer(alloc, given, answer),
         "turns" => serving::answer_turns(alloc, &mut judge.store, given, answer),
         _ => {
