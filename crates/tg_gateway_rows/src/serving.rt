@@ -5,7 +5,7 @@ use crate::feeding::sink_of;
 use crate::fields::parted;
 use crate::lanes::breaks_of;
 use crate::marking::MarkingDoor;
-use crate::packs::CountedPack;
+use crate::packs::pack_of;
 use crate::stores::TestStore;
 use std::alloc::Global;
 use std::mem::replace;
@@ -14,6 +14,7 @@ use tg_lanes::Lanes;
 use tg_model::{LimitKind, Limits};
 use tg_rows::Answer;
 use tg_serve::{Happened, Turns, serve_lanes, serve_pack};
+use tg_test_packs::ChangingPack;
 
 /// `serves NAME LANES COUNT RECEIVED PACK FROM PLACE PIECE TEXT FAIL .. waits TIMES MARKS ADMITS ..`: so many links, each of
 /// which may receive so many bytes, are served in so many lanes over a pack, of which a byte changes from a read on or
@@ -27,7 +28,7 @@ pub fn answer(alloc: Global, given: &[Bytes], answer: &mut Answer) {
     };
     let (links, waits) = parted(given, b"waits");
     let door = MarkingDoor::of(alloc, links, waits);
-    let pack = CountedPack::of(alloc, pack, from, place);
+    let pack = pack_of(alloc, pack, from, place);
     let numbers = (
         number_of(lanes.as_slice()),
         number_of(count.as_slice()),
@@ -59,7 +60,7 @@ fn answer_served(
     alloc: Global,
     counts: (u32, u32),
     limits: Limits,
-    pack: CountedPack,
+    pack: ChangingPack,
     door: MarkingDoor,
     answer: &mut Answer,
 )
