@@ -20,8 +20,8 @@ use tg_bytes::Bytes;
 use tg_cid::Cid;
 use tg_client::{CarBody, ClientFault};
 use tg_model::{Form, LimitKind, Limits, Query};
-use tg_streams::Sink;
-use tg_verify::{Nowhere, Refusal, Verifier};
+use tg_streams::{DropSink, Sink};
+use tg_verify::{Refusal, Verifier};
 
 /// What a body is, as the head and the query say.
 ///
@@ -147,7 +147,7 @@ fn show(body: &mut CarBody, part: &[u8]) -> Result<(), FetchFault>
 {
     tg_client::laws::standing_bodies();
     tg_model_laws::own_absences();
-    match body.feed(part, &mut Nowhere {}) {
+    match body.feed(part, &mut DropSink::new()) {
         Ok(()) if body.is_whole() => Err(FetchFault::Status(404)),
         Ok(()) => Ok(()),
         Err(fault) => Err(shown_by(fault)),

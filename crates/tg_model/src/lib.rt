@@ -26,5 +26,5 @@ pub use queries::{Form, Path, Query, Scope, Span, SpanFrom, well_formed};
 pub use reading::reads;
 pub use shards::check_shard;
 pub use steps::step;
-pub use stores::{Blocks, BlocksFault, Keep, KeepFault};
+pub use stores::{Blocks, BlocksFault, DropKeep, Keep, KeepFault};
 pub use windows::{resolve_span, window};

@@ -106,3 +106,31 @@ pub trait Keep {
     ghost joins: { (a b c : Self) (u v : List Section) → keeper.kept a b u → keeper.kept b c v
         → keeper.kept a c (u ++ v) };
 }
+
+/// A keeper that drops each block: for a client whose sections nobody keeps. It never fails, and doesn't tell what it was
+/// handed.
+#[derive(Drop)]
+pub struct DropKeep {}
+
+impl DropKeep {
+    /// A keeper that drops each block.
+    pub fn new() -> DropKeep {
+        DropKeep {}
+    }
+}
+
+impl Keep for DropKeep {
+    ghost use Rattle.std.specs.Prelude.{None, ⊤};
+
+    ghost keeper = { record { stored = λ _. None; faults = λ _. 0; kept = λ _ _ _. ⊤ } };
+
+    ghost told = { λ _. tt };
+
+    ghost rests = { λ _. tt };
+
+    ghost joins = { λ _ _ _ _ _ _ _. tt };
+
+    fn keep(&mut self, _: Cid, _: &[u8]) -> Result<(), KeepFault> {
+        Ok(())
+    }
+}

@@ -1,6 +1,6 @@
 -- What sources and sinks mean, and what went through one between two moments. A stream that doesn't tell its bytes has
 -- `None` for them.
-use Rattle.std.specs.Prelude.{◌≡◌, ℕ, ◌<◌, ◌⊎◌, List, [], length, take, Option}
+use Rattle.std.specs.Prelude.{◌≡◌, ℕ, ◌<◌, ◌⊎◌, List, None, [], length, take, Option, ⊤}
 use Rattle.tg_bytes.specs.Told.{after_front, grown, IsNothing}
 use Rattle.tg_faults.specs.Faults.{Rose}
 
@@ -20,6 +20,10 @@ pub record SinkMeaning (S : Type 0) : Type 1 where
   pub faults : S → ℕ
   pub calls : S → Option ℕ
   pub wrote : S → S → List ℕ → Type 0
+
+-- a sink that tells nothing of what was put, and counts no fault
+abbrev pub dropping : {S : Type 0} → SinkMeaning S
+dropping = record { held = λ _. None; faults = λ _. 0; calls = λ _. None; wrote = λ _ _ _. ⊤ }
 
 -- a source before and after
 pub record Input : Type 1 where

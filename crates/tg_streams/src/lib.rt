@@ -2,6 +2,7 @@
 //! gathered before they are put.
 #![tactic(auto)]
 
+mod dropping;
 mod gathering;
 mod memory;
 mod sinks;
@@ -9,6 +10,7 @@ mod sources;
 mod standard;
 mod told;
 
+pub use dropping::DropSink;
 pub use gathering::{GATHERING_ROOM, Gathering};
 pub use memory::{MemSink, MemSource};
 pub use sinks::{Sink, put_all, put_pieces};

@@ -5,28 +5,8 @@ ghost use Rattle.tg_verify.specs.Taken.{IsFresh};
 
 use crate::verifier::Verifier;
 use std::alloc::{AllocError, Global};
-use tg_faults::Failed;
 use tg_model::{LimitKind, Limits, Query, Scope};
-use tg_streams::Sink;
 use tg_traversal::copied_path;
-
-/// A sink that drops what is put, and never fails: for a verifier of which the answers alone are asked.
-#[derive(Drop)]
-pub struct Nowhere {}
-
-impl Sink for Nowhere {
-    ghost use Rattle.std.specs.Prelude.{None, ⊤};
-
-    ghost sink = { record { held = λ _. None; faults = λ _. 0; calls = λ _. None; wrote = λ _ _ _. ⊤ } };
-
-    ghost rests = { λ _. tt };
-
-    ghost joins = { λ _ _ _ _ _ _ _. tt };
-
-    fn put(&mut self, bytes: &[u8]) -> Result<usize, Failed> {
-        Ok(bytes.len())
-    }
-}
 
 impl Verifier {
     /// The verifier of sections that show where a query's path leads, which is to be started: those of the blocks on the

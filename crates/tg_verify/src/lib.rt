@@ -13,7 +13,6 @@ mod opener;
 mod settling;
 mod verifier;
 
-pub use absence::Nowhere;
 pub use all::verify_all;
 pub use fault::Refusal;
 pub use verifier::{Progress, Verifier};

@@ -5,11 +5,12 @@ use crate::ends::{VerifyEnd, say_end};
 use crate::verified::{Sections, sections_of};
 use std::alloc::Global;
 use tg_rows::Answer;
-use tg_verify::{Nowhere, Verifier};
+use tg_streams::DropSink;
+use tg_verify::Verifier;
 
 /// Hands the sections to a verifier, and ends it where all are taken.
 fn handed(verifier: &mut Verifier, sections: Sections) -> VerifyEnd {
-    let mut out = Nowhere {};
+    let mut out = DropSink::new();
     verifier.start(&mut out)?;
     for (cid, block) in sections.into_vec() {
         verifier.section(cid, block, &mut out)?;
