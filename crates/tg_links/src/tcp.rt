@@ -12,6 +12,7 @@ ghost use Rattle.tg_streams.specs.Streams.{Untaken, into, through};
 
 use crate::clock::monotonic_millis;
 use crate::link::Link;
+use crate::rate::Rate;
 use std::io;
 use std::io::{ErrorKind, Read, Write};
 use std::marker::Model;
@@ -25,16 +26,10 @@ use tg_streams::{Sink, Source, read_on, write_on};
 const PATIENCE: u64 = 60_000;
 
 /// How many milliseconds a write of a link waits until the peer's system takes a byte, or a further one.
-const WRITE_PATIENCE: u64 = 5_000;
+const WRITE_PATIENCE: u64 = 250;
 
-/// How many writes there are, one after another, of which the peer's system takes no byte, before a put fails: 60 seconds.
-const WRITES: u32 = 12;
-
-/// How many milliseconds a span lasts in which the peer of a link that a door gave has to move `LEAST` bytes.
-const SPAN: u64 = 60_000;
-
-/// How many bytes such a peer has to move in a span at least.
-const LEAST: usize = 65_536;
+/// How many writes of a put there are at most of which the peer's system takes no byte: more than there are in 60 seconds.
+const WRITES: u32 = 256;
 
 /// How many seconds a read waits for the peer of a link that is finished.
 const LAST_PATIENCE: u64 = 1;
@@ -52,58 +47,28 @@ pub enum Silence {
     Fails,
 }
 
-/// A part of a request or of a reply that is under way, by a clock in milliseconds: when it began, and how many bytes the
-/// peer moved since then.
-#[derive(Clone, Copy)]
-struct Span {
-    since: u64,
-    bytes: usize,
-}
-
-impl Span {
-    /// How many milliseconds are left of it.
-    fn left(&self, now: u64) -> u64 {
-        SPAN.saturating_sub(now.saturating_sub(self.since))
-    }
-
-    /// Whether it is over, and the peer moved too little in it.
-    fn is_short(&self, now: u64) -> bool {
-        self.bytes < LEAST && self.left(now) == 0
-    }
-
-    /// The same with so many bytes more, or the next one, which they begin, where it is over and the peer moved enough.
-    fn and(self, bytes: usize, now: u64) -> Span {
-        if self.bytes >= LEAST && self.left(now) == 0 {
-            return Span { since: now, bytes };
-        }
-        Span {
-            since: self.since,
-            bytes: self.bytes.saturating_add(bytes),
-        }
-    }
-}
-
 /// What is under way on a link.
-#[derive(Clone, Copy)]
+#[derive(Drop)]
 enum Exchange {
     /// Nothing: no byte was moved yet.
     Begins,
-    /// A request, of which a byte was taken, and nothing was put since: its span by the time that passes.
-    Asks(Span),
-    /// A reply, of which a byte was put, and nothing was taken since: its span by the time that puts waited for the peer.
-    Replies(Span),
+    /// A request, of which a byte was taken, and nothing was put since, by the time that passes.
+    Asks(Rate),
+    /// A reply, of which a byte was put, and nothing was taken since, by the time in which puts waited for the peer.
+    Replies(Rate),
 }
 
 /// A link over a connection of TCP (RFC 9293). Its bytes aren't told; what the stream itself knows of them is in what
 /// was taken and what was put.
 ///
 /// A peer that resets the connection (RFC 9293, 3.5.3) is a fault, and so is one whose system takes no byte of a put for 60
-/// seconds.
+/// seconds since it took one last.
 ///
 /// Of a link that a door gave (`Silence::Ends`) a peer that is slow is a fault too: one of whose request fewer than 65,536
-/// bytes came in 60 seconds, though it isn't answered yet; and one that took fewer than 65,536 bytes of a reply in 60
-/// seconds in which puts waited for it. A span of 60 seconds begins with the first byte of a request or of a reply, or where
-/// the one before ended. The peer of a link that was dialled is waited for, however slow it is.
+/// bytes came in the last 60 seconds, though it isn't answered yet; and one that took fewer than 65,536 bytes of a reply in
+/// the last 60 seconds in which puts waited for it. Each request, and each reply, has 60 seconds at first. The bytes are
+/// counted by seconds, so that a fault comes up to a second late. The peer of a link that was dialled is waited for, however
+/// slow it is.
 #[derive(Drop)]
 pub struct TcpLink<T> {
     stream: T,
@@ -115,6 +80,8 @@ pub struct TcpLink<T> {
     moved_at: u64,
     /// How many milliseconds puts waited for the peer, in all.
     waited: u64,
+    /// Since when the peer's system takes nothing of a put, in milliseconds, where the last one wasn't taken whole.
+    stalled_at: Option<u64>,
 }
 
 impl<T> Model for TcpLink<T> {
@@ -138,6 +105,7 @@ impl<T> TcpLink<T> {
             exchange: Exchange::Begins,
             moved_at: monotonic_millis(),
             waited: 0,
+            stalled_at: None,
         }
     }
 
@@ -149,35 +117,36 @@ impl<T> TcpLink<T> {
     }
 
     /// How many milliseconds are left until a take of the link needn't wait, whatever comes: until its peer was silent for 60
-    /// seconds, or its request has been coming for too long.
+    /// seconds, or its request has been coming too slowly.
     pub fn patience(&self) -> u64 {
         let now = monotonic_millis();
         let silent = PATIENCE.saturating_sub(now.saturating_sub(self.moved_at));
-        match self.exchange {
-            Exchange::Asks(span) if self.silence == Silence::Ends && span.bytes < LEAST => {
-                silent.min(span.left(now))
-            }
+        match &self.exchange {
+            Exchange::Asks(rate) if self.silence == Silence::Ends => silent.min(rate.left(now)),
             _ => silent,
         }
     }
 
     /// Whether the peer gave too little of its request, where that is a fault.
     fn asks_slowly(&self) -> bool {
-        match self.exchange {
-            Exchange::Asks(span) => {
-                self.silence == Silence::Ends && span.is_short(monotonic_millis())
+        match &self.exchange {
+            Exchange::Asks(rate) => {
+                self.silence == Silence::Ends && rate.left(monotonic_millis()) == 0
             }
             _ => false,
         }
     }
 
-    /// Whether the peer took too little of the reply to it, where that is a fault.
-    fn takes_slowly(&self) -> bool {
-        match self.exchange {
-            Exchange::Replies(span) => {
-                self.silence == Silence::Ends && span.is_short(self.waited)
+    /// How many milliseconds a put that begins at this time waits for the peer: until its system took nothing for 60 seconds, or
+    /// it has been taking the reply too slowly, where that is a fault.
+    fn put_patience(&self, now: u64) -> u64 {
+        let stalled = now.saturating_sub(self.stalled_at.unwrap_or(now));
+        let silent = PATIENCE.saturating_sub(stalled);
+        match &self.exchange {
+            Exchange::Replies(rate) if self.silence == Silence::Ends => {
+                silent.min(rate.left(self.waited))
             }
-            _ => false,
+            _ => silent,
         }
     }
 
@@ -190,29 +159,41 @@ impl<T> TcpLink<T> {
         }
         let now = monotonic_millis();
         self.moved_at = now;
-        self.exchange = match self.exchange {
-            Exchange::Asks(span) => Exchange::Asks(span.and(bytes, now)),
-            _ => Exchange::Asks(Span { since: now, bytes }),
-        };
+        match &mut self.exchange {
+            Exchange::Asks(rate) => rate.count(bytes, now),
+            _ => {
+                let mut rate = Rate::new(now);
+                rate.count(bytes, now);
+                self.exchange = Exchange::Asks(rate);
+            }
+        }
     }
 
-    /// Counts so many bytes, which the peer took of a put that began at this time, as those of a reply.
-    fn count_replied(&mut self, bytes: usize, began: u64)
+    /// Counts so many bytes, which the peer took of a put that began at this time, as those of a reply. Where it took a part of
+    /// the put, the last write of it waited for more.
+    fn count_replied(&mut self, bytes: usize, is_whole: bool, began: u64)
         ensures { self.new ≡ self.old }
     {
         if bytes == 0 {
             return;
         }
+        let now = monotonic_millis();
         let before = self.waited;
-        self.moved_at = monotonic_millis();
-        self.waited = before.saturating_add(self.moved_at.saturating_sub(began));
-        self.exchange = match self.exchange {
-            Exchange::Replies(span) => Exchange::Replies(span.and(bytes, self.waited)),
-            _ => Exchange::Replies(Span {
-                since: before,
-                bytes,
-            }),
+        self.moved_at = now;
+        self.waited = before.saturating_add(now.saturating_sub(began));
+        self.stalled_at = if is_whole {
+            None
+        } else {
+            Some(now.saturating_sub(WRITE_PATIENCE))
         };
+        match &mut self.exchange {
+            Exchange::Replies(rate) => rate.count(bytes, self.waited),
+            _ => {
+                let mut rate = Rate::new(before);
+                rate.count(bytes, self.waited);
+                self.exchange = Exchange::Replies(rate);
+            }
+        }
     }
 
     /// Counts a fault of the call that is under way.
@@ -250,7 +231,7 @@ impl<T> TcpLink<T> {
 
 impl<T: OpenStream + Drop> TcpLink<T> {
     /// A link over a connection, with no fault counted. What is put is sent at once (`TCP_NODELAY`), where that can be set; a
-    /// read waits for the peer 60 seconds at most, and a write 5 seconds. Errors: those of setting how long these wait.
+    /// read waits for the peer 60 seconds at most, and a write a quarter of a second. Errors: those of setting how long these wait.
     pub fn open(stream: T, silence: Silence) -> io::Result<TcpLink<T>>
         ensures { IfOk result (λ link. link ≡ record { stream = stream; silence = silence; over = false; faults = 0 }) }
     {
@@ -361,9 +342,9 @@ impl<T: Write> Sink for TcpLink<T> {
 
     ghost joins = { λ a b c u v. says_joins T.contents a b c u v };
 
-    /// One write, begun anew where it is interrupted, and where the peer's system took no byte of it for 5 seconds, up to 60
-    /// seconds in all. Any other error of the stream is a fault, and so is a write that takes nothing of a piece that isn't
-    /// empty, and a peer that has taken the reply too slowly, to which nothing more is written.
+    /// One write, begun anew where it is interrupted, and where the peer's system took no byte of it for a quarter of a second,
+    /// until it took none for 60 seconds. Any other error of the stream is a fault, and so is a write that takes nothing of a
+    /// piece that isn't empty, and a peer that has been taking the reply too slowly, to which nothing more is written.
     fn put(&mut self, bytes: &[u8]) -> Result<usize, Failed>
         ensures within { IfOk result (λ n. n ≤ length bytes.now) }
         ensures moves { IfOk result (λ n. 0 < length bytes.now → 0 < n) }
@@ -375,13 +356,14 @@ impl<T: Write> Sink for TcpLink<T> {
 
         ensures err_count { OnErr result (self.new.faults ≡ counted self.old.faults) }
     {
-        if self.takes_slowly() {
+        let began = monotonic_millis();
+        let patience = self.put_patience(began);
+        if patience == 0 {
             return Err(self.fault());
         }
-        let began = monotonic_millis();
-        match write_patiently(&mut self.stream, bytes) {
+        match write_patiently(&mut self.stream, bytes, patience) {
             Ok(n) if n > 0 || bytes.is_empty() => {
-                self.count_replied(n, began);
+                self.count_replied(n, n == bytes.len(), began);
                 Ok(n)
             }
             _ => Err(self.fault()),
@@ -401,15 +383,17 @@ impl<T: Read + Write> Link for TcpLink<T> {
     ghost one_count = { λ s. refl };
 }
 
-/// One write, begun anew where it is interrupted, and where nothing was taken of it for as long as a write waits. Errors:
-/// those of the writer but these, and `TimedOut` where nothing was taken of 12 writes.
-fn write_patiently<W: Write>(writer: &mut W, bytes: &[u8]) -> io::Result<usize>
+/// One write, begun anew where it is interrupted, and where nothing was taken of it for as long as a write waits, until so many
+/// milliseconds have passed. Errors: those of the writer, those of a write that waited among them, and `TimedOut` where nothing
+/// was taken of 256 writes.
+fn write_patiently<W: Write>(writer: &mut W, bytes: &[u8], millis: u64) -> io::Result<usize>
     ensures within { WritesAtMost result bytes.now }
     ensures bytes { WriteAppends (W.contents writer.old) (W.contents writer.new) result bytes.now }
 {
+    let began = monotonic_millis();
     for _ in 0..WRITES {
         match write_on(writer, bytes) {
-            Err(e) if is_silence(&e) => {}
+            Err(e) if is_silence(&e) && monotonic_millis().saturating_sub(began) < millis => {}
             written => return written,
         }
     }
