@@ -1,31 +1,39 @@
 -- What stores hold that sections were kept in.
-use Rattle.std.proofs.Common.{◌≡◌, ◌≢◌, ◌⊎◌, ◌≤◌, ◌++◌, ◌∷◌, ℕ, Bool, true, false, List, [], All, Decides, Option, Some, None, inl, inr, length, refl, sym, ap, ◌∙◌, subst, true≢false}
+use Rattle.std.proofs.Common.{◌≡◌, ◌≢◌, ◌⊎◌, ◌≤◌, ◌++◌, ◌∷◌, ℕ, Bool, true, false, List, [], All, Contains, Decides, Option, Some, None, inl, inr, length, refl, sym, ap, ◌∙◌, subst, true≢false}
 use Rattle.std.specs.Prelude.{bytes_eq, unwrap_or}
-use Rattle.std.proofs.lemmas.List.Elements.{All-cons, All-head, All-nil, All-tail}
+use Rattle.std.proofs.lemmas.List.Elements.{All-cons, All-contains, All-nil, All-weaker, Contains-append_right}
 use Rattle.std.proofs.lemmas.Slice.Eq.{bytes_eq-Decides}
 use Rattle.tg_cid.specs.Cid.{CidParts}
 use Rattle.tg_cid.specs.Names.{Names}
 use Rattle.tg_model.specs.SameForm.{named_too, v1_or_not}
 use Rattle.tg_cid.specs.Limits.{max_block_len}
-use Rattle.tg_model_laws.proofs.OpenedDags.{one_hash}
-use Rattle.tg_model_laws.specs.Stores.{BlocksCollide, MayKeep}
+use Rattle.tg_model_laws.proofs.OpenedDags.{first_one, one_hash}
+use Rattle.tg_model_laws.specs.Stores.{IsBlockOfOne, IsNamed, KeptCollision, MayKeep}
 use Rattle.tg_model.specs.Dag.{Section}
 use Rattle.tg_model.specs.Stores.{Adds, AddsEach, AreKeptAs, IsStore, Store, as_v1}
 
--- ---- one version 1 form
-
 -- ---- one section
 
--- CIDs of one form have the same block in a store
-twins_alike : (store : Store) (a b : CidParts) → IsStore store → as_v1 a ≡ as_v1 b → store a ≡ store b
-twins_alike store a b is e = is.twins a ∙ ap store e ∙ sym (is.twins b)
+-- CIDs that differ in their version alone have the same block
+abbrev AreTwins : Store → Type 0
+AreTwins store = (cid : CidParts) → store cid ≡ store (as_v1 cid)
+
+twins_alike : (store : Store) (a b : CidParts) → AreTwins store → as_v1 a ≡ as_v1 b → store a ≡ store b
+twins_alike store a b twins e = twins a ∙ ap store e ∙ sym (twins b)
+
+twins_with : (old new : Store) (cid : CidParts) (block : List ℕ) → AreTwins old → Adds old new cid block → AreTwins new
+twins_with old new cid block twins adds other =
+    elim (v1_or_not other cid) [
+      | inl same ↦ adds.here other same ∙ sym (adds.here (as_v1 other) same)
+      | inr differs ↦ adds.others other differs ∙ twins other ∙ sym (adds.others (as_v1 other) differs)
+    ]
 
 -- what was stored under a CID stays there
-one_stays : (old new : Store) (cid other : CidParts) (block found : List ℕ) → IsStore old → Adds old new cid block → old other ≡ Some found → new other ≡ Some found
-one_stays old new cid other block found is adds e =
+one_stays : (old new : Store) (cid other : CidParts) (block found : List ℕ) → AreTwins old → Adds old new cid block → old other ≡ Some found → new other ≡ Some found
+one_stays old new cid other block found twins adds e =
     elim (v1_or_not other cid) [
       | inl same ↦
-          let there : old cid ≡ Some found = sym (twins_alike old other cid is same) ∙ e in
+          let there : old cid ≡ Some found = sym (twins_alike old other cid twins same) ∙ e in
           adds.here other same ∙ ap (λ (o : Option (List ℕ)). Some (unwrap_or o block)) there
       | inr differs ↦ adds.others other differs ∙ e
     ]
@@ -36,91 +44,141 @@ found_or_block None block found e = inr (cc)
 found_or_block (Some held) block found e = inl (e)
 
 -- what is found was stored, or is the section's
-from_either : (old new : Store) (cid other : CidParts) (block found : List ℕ) → IsStore old → Adds old new cid block → new other ≡ Some found
+from_either : (old new : Store) (cid other : CidParts) (block found : List ℕ) → AreTwins old → Adds old new cid block → new other ≡ Some found
     → (old other ≡ Some found) ⊎ ((as_v1 other ≡ as_v1 cid) × (block ≡ found))
-from_either old new cid other block found is adds e =
+from_either old new cid other block found twins adds e =
     elim (v1_or_not other cid) [
       | inl same ↦ elim (found_or_block (old cid) block found (sym (adds.here other same) ∙ e)) [
-        | inl held ↦ inl (twins_alike old other cid is same ∙ held)
+        | inl held ↦ inl (twins_alike old other cid twins same ∙ held)
         | inr mine ↦ inr (same, mine)
       ]
       | inr differs ↦ inl (sym (adds.others other differs) ∙ e)
     ]
 
--- the store is still one
-one_store : (old new : Store) (section : Section) → IsStore old → MayKeep section → Adds old new section.cid section.block → IsStore new
-one_store old new section is may adds = record {
-  twins = λ cid. elim (v1_or_not cid section.cid) [
-    | inl same ↦ adds.here cid same ∙ sym (adds.here (as_v1 cid) same)
-    | inr differs ↦ adds.others cid differs ∙ is.twins cid ∙ sym (adds.others (as_v1 cid) differs)
-  ];
-  named = λ cid block e. elim (from_either old new section.cid cid section.block block is adds e) [
-    | inl held ↦ is.named cid block held
-    | inr mine ↦ subst (λ (block : List ℕ). Names cid block) mine.1 (named_too cid section.cid section.block mine.0 may.named)
-  ];
-  small = λ cid block e. elim (from_either old new section.cid cid section.block block is adds e) [
-    | inl held ↦ is.small cid block held
-    | inr mine ↦ subst (λ (block : List ℕ). length block ≤ max_block_len) mine.1 may.small
-  ];
-}
-
--- blocks that one CID names are equal, or they collide
-equal_or_collide : (cid : CidParts) (a b : List ℕ) (test : Bool) → Decides test (a ≡ b) → Names cid a → Names cid b → (a ≡ b) ⊎ BlocksCollide
-equal_or_collide cid a b true decides n m = inl (decides.0 refl)
-equal_or_collide cid a b false decides n m =
-    let differ : a ≢ b = λ same. true≢false (sym (decides.1 same)) in
-    inr (record { one = a; other = b; differ = differ; same_hash = (one_hash cid.hash cid.digest a b n m differ).1 })
-
--- what stood under the CID, and the section's block
-held_or_collide : (old : Store) (section : Section) (stored : Option (List ℕ)) → IsStore old → MayKeep section → old section.cid ≡ stored
-    → (Some (unwrap_or stored section.block) ≡ Some section.block) ⊎ BlocksCollide
-held_or_collide old section None is may e = inl refl
-held_or_collide old section (Some held) is may e =
-    elim (equal_or_collide section.cid held section.block (bytes_eq held section.block) (bytes_eq-Decides held section.block) (is.named section.cid held e) may.named) [
-      | inl same ↦ inl (ap (λ (block : List ℕ). Some block) same)
-      | inr collide ↦ inr collide
-    ]
-
--- the section is stored
-one_holds : (old new : Store) (section : Section) → IsStore old → MayKeep section → Adds old new section.cid section.block → (new section.cid ≡ Some section.block) ⊎ BlocksCollide
-one_holds old new section is may adds =
-    elim (held_or_collide old section (old section.cid) is may refl) [
-      | inl same ↦ inl (adds.here section.cid refl ∙ same)
-      | inr collide ↦ inr collide
-    ]
-
 -- ---- sections one after another
 
-pub store_each : (old new : Store) (sections : List Section) → IsStore old → All MayKeep sections → AddsEach old new sections → IsStore new
-store_each old new [] is may adds = subst IsStore (sym adds) is
-store_each old new (section ∷ sections) is may adds =
-    store_each adds.0 new sections (one_store old adds.0 section is (All-head MayKeep section sections may) adds.1) (All-tail MayKeep section sections may) adds.2
+twins_each : (old new : Store) (sections : List Section) → AreTwins old → AddsEach old new sections → AreTwins new
+twins_each old new [] twins adds = subst AreTwins (sym adds) twins
+twins_each old new (section ∷ sections) twins adds =
+    twins_each adds.0 new sections (twins_with old adds.0 section.cid section.block twins adds.1) adds.2
 
-pub stays_each : (old new : Store) (sections : List Section) (cid : CidParts) (block : List ℕ) → IsStore old → All MayKeep sections → AddsEach old new sections
-    → old cid ≡ Some block → new cid ≡ Some block
-stays_each old new [] cid block is may adds e = ap (λ (store : Store). store cid) adds ∙ e
-stays_each old new (section ∷ sections) cid block is may adds e =
-    stays_each adds.0 new sections cid block (one_store old adds.0 section is (All-head MayKeep section sections may) adds.1) (All-tail MayKeep section sections may) adds.2
-    (one_stays old adds.0 section.cid cid section.block block is adds.1 e)
+stays_along : (old new : Store) (sections : List Section) (cid : CidParts) (block : List ℕ) → AreTwins old → AddsEach old new sections → old cid ≡ Some block → new cid ≡ Some block
+stays_along old new [] cid block twins adds e = ap (λ (store : Store). store cid) adds ∙ e
+stays_along old new (section ∷ sections) cid block twins adds e =
+    stays_along adds.0 new sections cid block (twins_with old adds.0 section.cid section.block twins adds.1) adds.2
+    (one_stays old adds.0 section.cid cid section.block block twins adds.1 e)
+
+pub stays_each : (old new : Store) (sections : List Section) (cid : CidParts) (block : List ℕ) → IsStore old → AddsEach old new sections → old cid ≡ Some block → new cid ≡ Some block
+stays_each old new sections cid block is adds e = stays_along old new sections cid block is.twins adds e
+
+-- what is found was stored, or is the block of a section that was kept
+with_more : (section : Section) (sections : List Section) (cid : CidParts) (block : List ℕ) → IsBlockOfOne sections cid block → IsBlockOfOne (section ∷ sections) cid block
+with_more section sections cid block one = record {
+  source = one.source;
+  is_one = Contains-append_right (section ∷ []) sections one.source one.is_one;
+  same_form = one.same_form;
+  block_is = one.block_is;
+}
+
+only_along : (old new : Store) (sections : List Section) (cid : CidParts) (block : List ℕ) → AreTwins old → AddsEach old new sections → new cid ≡ Some block
+    → (old cid ≡ Some block) ⊎ IsBlockOfOne sections cid block
+only_along old new [] cid block twins adds e = inl (ap (λ (store : Store). store cid) (sym adds) ∙ e)
+only_along old new (section ∷ sections) cid block twins adds e =
+    elim (only_along adds.0 new sections cid block (twins_with old adds.0 section.cid section.block twins adds.1) adds.2 e) [
+      | inl there ↦ elim (from_either old adds.0 section.cid cid section.block block twins adds.1 there) [
+        | inl held ↦ inl held
+        | inr mine ↦ inr (record { source = section; is_one = first_one section sections; same_form = sym mine.0; block_is = mine.1 })
+      ]
+      | inr one ↦ inr (with_more section sections cid block one)
+    ]
+
+pub only_each : (old new : Store) (sections : List Section) (cid : CidParts) (block : List ℕ) → IsStore old → AddsEach old new sections → new cid ≡ Some block
+    → (old cid ≡ Some block) ⊎ IsBlockOfOne sections cid block
+only_each old new sections cid block is adds e = only_along old new sections cid block is.twins adds e
+
+-- some block is stored under the section's CID
+abbrev IsFound : Store → Section → Type 0
+IsFound store section = (block : List ℕ) × (store section.cid ≡ Some block)
+
+found_each : (old new : Store) (sections : List Section) → AreTwins old → AddsEach old new sections → All (IsFound new) sections
+found_each old new [] twins adds = All-nil (IsFound new)
+found_each old new (section ∷ sections) twins adds =
+    let between : AreTwins adds.0 = twins_with old adds.0 section.cid section.block twins adds.1 in
+    let block : List ℕ = unwrap_or (old section.cid) section.block in
+    All-cons (IsFound new) section sections (block, stays_along adds.0 new sections section.cid block between adds.2 (adds.1.here section.cid refl)) (found_each adds.0 new sections between adds.2)
 
 -- a section is stored
 abbrev IsKept : Store → Section → Type 0
 IsKept store section = store section.cid ≡ Some section.block
 
-pub holds_each : (old new : Store) (sections : List Section) → IsStore old → All MayKeep sections → AddsEach old new sections
-    → All (λ section. new section.cid ≡ Some section.block) sections ⊎ BlocksCollide
-holds_each old new [] is may adds = inl (All-nil (IsKept new))
-holds_each old new (section ∷ sections) is may adds =
-    let first : MayKeep section = All-head MayKeep section sections may in
-    let rest : All MayKeep sections = All-tail MayKeep section sections may in
-    let between : IsStore adds.0 = one_store old adds.0 section is first adds.1 in
-    elim (one_holds old adds.0 section is first adds.1) [
-      | inl here ↦ elim (holds_each adds.0 new sections between rest adds.2) [
-        | inl later ↦ inl (All-cons (IsKept new) section sections (stays_each adds.0 new sections section.cid section.block between rest adds.2 here) later)
-        | inr collide ↦ inr collide
+-- each of some sections is, or the other thing holds
+all_or : (P : Section → Type 0) (Q : Type 0) (sections : List Section) → ((x : Section) → Contains sections x → P x ⊎ Q) → All P sections ⊎ Q
+all_or P Q [] each = inl (All-nil P)
+all_or P Q (section ∷ sections) each =
+    elim (each section (first_one section sections)) [
+      | inl here ↦ elim (all_or P Q sections (λ x within. each x (Contains-append_right (section ∷ []) sections x within))) [
+        | inl later ↦ inl (All-cons P section sections here later)
+        | inr other ↦ inr other
       ]
-      | inr collide ↦ inr collide
+      | inr other ↦ inr other
     ]
+
+module _ (old new : Store) (sections : List Section) (is : IsStore old) (adds : AddsEach old new sections) where
+  -- what stands in the store is named
+  named_by : All IsNamed sections → (cid : CidParts) (block : List ℕ) → new cid ≡ Some block → Names cid block
+  named_by named cid block e =
+      elim (only_each old new sections cid block is adds e) [
+        | inl held ↦ is.named cid block held
+        | inr one ↦
+            let mine : Names one.source.cid one.source.block = All-contains IsNamed sections one.source named one.is_one in
+            subst (λ (block : List ℕ). Names cid block) one.block_is (named_too cid one.source.cid one.source.block (sym one.same_form) mine)
+      ]
+
+  -- and small
+  small_by : All MayKeep sections → (cid : CidParts) (block : List ℕ) → new cid ≡ Some block → length block ≤ max_block_len
+  small_by may cid block e =
+      elim (only_each old new sections cid block is adds e) [
+        | inl held ↦ is.small cid block held
+        | inr one ↦ subst (λ (block : List ℕ). length block ≤ max_block_len) one.block_is (All-contains MayKeep sections one.source may one.is_one).small
+      ]
+
+  -- what stands under the CID of a section that was kept, and the section's block
+  stored_or_collide : (section : Section) (stored : List ℕ) (test : Bool) → All IsNamed sections → Contains sections section → new section.cid ≡ Some stored
+      → Decides test (section.block ≡ stored) → IsKept new section ⊎ KeptCollision old new sections
+  stored_or_collide section stored true named within e decides = inl (e ∙ ap (λ (block : List ℕ). Some block) (sym (decides.0 refl)))
+  stored_or_collide section stored false named within e decides =
+      let differ : section.block ≢ stored = λ same. true≢false (sym (decides.1 same)) in
+      let mine : Names section.cid section.block = All-contains IsNamed sections section named within in
+      let clash = one_hash section.cid.hash section.cid.digest section.block stored mine (named_by named section.cid stored e) differ in
+      inr (record {
+        kept = section;
+        stored = stored;
+        is_kept = within;
+        is_stored = e;
+        from = only_each old new sections section.cid stored is adds e;
+        kind = clash.0;
+        differ = differ;
+        same_hash = clash.1;
+      })
+
+  held_or_collide : All IsNamed sections → (section : Section) → Contains sections section → IsKept new section ⊎ KeptCollision old new sections
+  held_or_collide named section within =
+      let found : IsFound new section = All-contains (IsFound new) sections section (found_each old new sections is.twins adds) within in
+      stored_or_collide section found.0 (bytes_eq section.block found.0) named within found.1 (bytes_eq-Decides section.block found.0)
+
+pub holds_each : (old new : Store) (sections : List Section) → IsStore old → All IsNamed sections → AddsEach old new sections
+    → All (λ section. new section.cid ≡ Some section.block) sections ⊎ KeptCollision old new sections
+holds_each old new sections is named adds = all_or (IsKept new) (KeptCollision old new sections) sections (held_or_collide old new sections is adds named)
+
+names_each : (sections : List Section) → All MayKeep sections → All IsNamed sections
+names_each sections may = All-weaker MayKeep IsNamed (λ section one. one.named) sections may
+
+pub store_each : (old new : Store) (sections : List Section) → IsStore old → All MayKeep sections → AddsEach old new sections → IsStore new
+store_each old new sections is may adds = record {
+  twins = twins_each old new sections is.twins adds;
+  named = named_by old new sections is adds (names_each sections may);
+  small = small_by old new sections is adds may;
+}
 
 -- one after another
 adds_joins : (a b c : Store) (u v : List Section) → AddsEach a b u → AddsEach b c v → AddsEach a c (u ++ v)

@@ -4,18 +4,16 @@ use Rattle.tg_cid.specs.Limits.{max_block_len}
 use Rattle.sha2.specs.Sha256.{sha256}
 use Rattle.tg_cid.specs.Cid.{CidParts}
 use Rattle.tg_cid.specs.Names.{Names}
+use Rattle.tg_cid.specs.declared.cid.HashKind.TheVariants.{Sha256}
 use Rattle.tg_model_laws.specs.PartialDags.{OpenedFrom}
 use Rattle.tg_model.specs.Dag.{Children, Dag, Section, bare, blocks, no_child, node, root_cid, unopened, with_child}
 use Rattle.tg_model.specs.Sound.{IsSound}
 use Rattle.tg_model.specs.StoreView.{block_at, store_view}
-use Rattle.tg_model.specs.Stores.{AddsEach, AreKeptAs, IsStore, Store}
+use Rattle.tg_model.specs.Stores.{AddsEach, AreKeptAs, IsStore, Store, as_v1}
 
--- two different blocks have one SHA-256
-pub record BlocksCollide : Type 0 where
-  pub one : List ℕ
-  pub other : List ℕ
-  pub differ : one ≢ other
-  pub same_hash : sha256 one ≡ sha256 other
+-- a section's CID names its block
+abbrev pub IsNamed : Section → Type 0
+IsNamed section = Names section.cid section.block
 
 -- a section may be kept: its CID names its block, which is no larger than a block may be
 pub record MayKeep (section : Section) : Type 0 where
@@ -32,14 +30,38 @@ KeepingStores = (old new : Store) (sections : List Section) → IsStore old → 
 
 -- what was stored stays
 abbrev pub KeepingStays : Type 0
-KeepingStays = (old new : Store) (sections : List Section) (cid : CidParts) (block : List ℕ) → IsStore old → All MayKeep sections → AddsEach old new sections
+KeepingStays = (old new : Store) (sections : List Section) (cid : CidParts) (block : List ℕ) → IsStore old → AddsEach old new sections
     → old cid ≡ Some block → new cid ≡ Some block
 
--- each section that was kept is stored, or two different blocks have one SHA-256
+-- a block is that of one of the sections, whose CID differs from this one in its version alone, if at all
+pub record IsBlockOfOne (sections : List Section) (cid : CidParts) (block : List ℕ) : Type 0 where
+  pub source : Section
+  pub is_one : Contains sections source
+  pub same_form : as_v1 source.cid ≡ as_v1 cid
+  pub block_is : source.block ≡ block
+
+-- nothing else is stored: a block was stored before under its CID, or is that of a section that was kept
+abbrev pub KeepingOnly : Type 0
+KeepingOnly = (old new : Store) (sections : List Section) (cid : CidParts) (block : List ℕ) → IsStore old → AddsEach old new sections
+    → new cid ≡ Some block → (old cid ≡ Some block) ⊎ IsBlockOfOne sections cid block
+
+-- under the CID of a section that was kept stands another block with the same SHA-256: one that was stored before, or that
+-- of another section that was kept
+pub record KeptCollision (old new : Store) (sections : List Section) : Type 0 where
+  pub kept : Section
+  pub stored : List ℕ
+  pub is_kept : Contains sections kept
+  pub is_stored : new kept.cid ≡ Some stored
+  pub from : (old kept.cid ≡ Some stored) ⊎ IsBlockOfOne sections kept.cid stored
+  pub kind : kept.cid.hash ≡ Sha256
+  pub differ : kept.block ≢ stored
+  pub same_hash : sha256 kept.block ≡ sha256 stored
+
+-- each section that was kept is stored under its CID, or another block with one SHA-256 is
 abbrev pub KeepingHolds : Type 0
 KeepingHolds =
-    (old new : Store) (sections : List Section) → IsStore old → All MayKeep sections → AddsEach old new sections
-    → All (λ section. new section.cid ≡ Some section.block) sections ⊎ BlocksCollide
+    (old new : Store) (sections : List Section) → IsStore old → All IsNamed sections → AddsEach old new sections
+    → All (λ section. new section.cid ≡ Some section.block) sections ⊎ KeptCollision old new sections
 
 -- how many blocks deep an opened DAG goes
 abbrev mutual

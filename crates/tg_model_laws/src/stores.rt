@@ -1,14 +1,16 @@
 //! Laws of stores.
 ghost use Rattle.tg_model_laws.specs.Depths.{CutsAtDepths, ShowsDownTo};
-ghost use Rattle.tg_model_laws.specs.Stores.{KeepingHolds, KeepingJoins, KeepingStays, KeepingStores, ShowsFront};
-ghost use Rattle.tg_model_laws.specs.Stores.{ShowsSound};
+ghost use Rattle.tg_model_laws.specs.Stores.{KeepingHolds, KeepingJoins, KeepingOnly, KeepingStays, KeepingStores};
+ghost use Rattle.tg_model_laws.specs.Stores.{ShowsFront, ShowsSound};
 
-/// Sections that were kept one after another: what was stored stays, the store is still one, and each section is
-/// stored, or two different blocks have one SHA-256.
+/// Sections that were kept one after another: what was stored stays, nothing but their blocks is added, and the store is
+/// still one. Each section is stored under its CID, or another block with the same SHA-256 is: one that was stored before,
+/// or that of another of the sections.
 pub fn kept_sections()
     ensures joins { KeepingJoins }
     ensures store { KeepingStores }
     ensures stays { KeepingStays }
+    ensures only { KeepingOnly }
     ensures holds { KeepingHolds }
 {}
 
