@@ -78,7 +78,7 @@ fn answer_lanes(
         }
         Err(refused) => {
             *store = refused.blocks;
-            answer.lack();
+            answer.text("refused");
         }
     }
 }
