@@ -3,3 +3,4 @@ pub mod Packs
 pub mod Readers
 pub mod PathLaws
 pub mod System
+pub mod TempNames

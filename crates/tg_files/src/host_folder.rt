@@ -7,10 +7,12 @@ ghost use Rattle.std.specs.List.{AllZip};
 ghost use Rattle.tg_bytes.specs.Ascii.{slash};
 ghost use Rattle.tg_files.specs.Folders.{IsEntryName, path_below};
 ghost use Rattle.tg_files.specs.System.{HasSort, IsEntryOf, KeepsLevel, listed_at};
+ghost use Rattle.tg_files.specs.TempNames.{BeginsWith, temp_front};
 
 use crate::folders::{Folder, FolderFault};
 use crate::place::{Place, Target};
 use crate::reading::read_within;
+use crate::temp_names::{TempNames, begins_with};
 use std::alloc::{AllocError, Global};
 use std::collections::BTreeMap;
 use std::fs::{DirEntry, File, Metadata, OpenFile};
@@ -30,10 +32,12 @@ use tg_tree::{Item, Sort};
 /// that was read last stays open until another path is read or listed. A file has as many bytes as it had when its
 /// folder was listed last: no byte behind them is given, and where it became shorter it is a fault. Every call before
 /// it is attached is a fault, and so is a path with a name that isn't text or that doesn't lead into a folder: an empty
-/// one, one with a slash, one dot and two.
+/// one, one with a slash, one dot and two. What the program itself writes meanwhile, to put it in another's place later, is
+/// no entry of a folder.
 #[derive(Drop)]
 pub struct HostFolder<R: Files> {
     rt: R,
+    names: TempNames,
     attached: Option<Attached>,
     reading: Option<OpenedFile<R::File>>,
     place: Place,
@@ -72,10 +76,11 @@ struct Listing {
 }
 
 impl<R: Files> HostFolder<R> {
-    /// A folder that is attached to nothing yet, with no fault counted.
-    pub fn new(rt: R) -> HostFolder<R>
+    /// A folder that is attached to nothing yet, with no fault counted; files with these names are left out.
+    pub fn new(rt: R, names: TempNames) -> HostFolder<R>
         ensures { result ≡ record {
           rt = rt;
+          names = names;
           attached = None;
           reading = None;
           place = record
@@ -85,6 +90,7 @@ impl<R: Files> HostFolder<R> {
     {
         HostFolder {
             rt,
+            names,
             attached: None,
             reading: None,
             place: Place::nowhere(),
@@ -103,6 +109,7 @@ impl<R: Files> HostFolder<R> {
 impl<R: Files + AllocGlobal + Clone + Drop> HostFolder<R> {
     /// What stands in the folder at a path, which is kept.
     fn items(&mut self, names: &[Bytes]) -> Result<List<Item>, FolderFault>
+        ensures others { IfOk result (λ items. All (λ item. ¬ BeginsWith (temp_front self.old.names.number) item.name) items) }
         ensures failed { self.new.failed ≡ self.old.failed }
         ensures place { self.new.place ≡ self.old.place }
     {
@@ -110,7 +117,8 @@ impl<R: Files + AllocGlobal + Clone + Drop> HostFolder<R> {
         let Some(attached) = &mut self.attached else {
             return Err(FolderFault::Failed);
         };
-        let Listing { items, found } = attached.listing_of(&self.rt, names)?;
+        let left_out = self.names.front(self.rt.alloc())?;
+        let Listing { items, found } = attached.listing_of(&self.rt, left_out.as_str(), names)?;
         attached.keep(self.rt.alloc(), names.len(), found)?;
         Ok(items)
     }
@@ -226,11 +234,14 @@ impl Attached {
     fn listing_of<R: Files + AllocGlobal + Clone + Drop>(
         &self,
         rt: &R,
+        left_out: &str,
         names: &[Bytes],
-    ) -> Result<Listing, FolderFault> {
+    ) -> Result<Listing, FolderFault>
+        ensures { IfOk result (λ listing. All (λ item. ¬ BeginsWith left_out.now item.name) listing.items) }
+    {
         let path = joined(rt.alloc(), self.root.as_str(), names)?;
         let path = path.as_str();
-        let listing = entries_of(rt, path)?;
+        let listing = entries_of(rt, left_out, path)?;
         let depth = names.len();
         if depth > 0 && !self.is_folder(&fs::symlink_metadata(rt, path)?, depth, path) {
             return Err(FolderFault::Failed);
@@ -319,12 +330,14 @@ fn open_listed<R: Files>(
     Ok(OpenedFile { path, file })
 }
 
-/// What stands in the folder at a path of the system.
+/// What stands in the folder at a path of the system, but for names that begin with `left_out`.
 fn entries_of<R: Files + AllocGlobal + Clone + Drop>(
     rt: &R,
+    left_out: &str,
     path: &str,
 ) -> Result<Listing, FolderFault>
-    ensures { IfOk result (λ listing. AllZip (λ item found. IsEntryOf path.now item
+    ensures others { IfOk result (λ listing. All (λ item. ¬ BeginsWith left_out.now item.name) listing.items) }
+    ensures entries { IfOk result (λ listing. AllZip (λ item found. IsEntryOf path.now item
         (string_bytes found.0) found.1) listing.items listing.found.items) }
 {
     let alloc = rt.alloc();
@@ -334,25 +347,33 @@ fn entries_of<R: Files + AllocGlobal + Clone + Drop>(
         found: Vec::new(alloc),
     };
     for entry in entries {
-        listing.add(alloc, path, entry)?;
+        listing.add(alloc, left_out, path, entry)?;
     }
     Ok(listing)
 }
 
 impl Listing {
-    /// Adds an entry that the system gave of the folder at a path, or its error is a fault.
+    /// Adds an entry that the system gave of the folder at a path, or its error is a fault. One whose name begins with
+    /// `left_out` isn't added.
     fn add<R: Files + Drop>(
         &mut self,
         alloc: Global,
+        left_out: &str,
         folder: &str,
         entry: io::Result<DirEntry<R>>,
     ) -> Result<(), FolderFault>
-        ensures { AllZip (λ item found. IsEntryOf folder.now item
+        ensures others { All (λ item. ¬ BeginsWith left_out.now item.name) self.old.items
+            → OnOk result (All (λ item. ¬ BeginsWith left_out.now item.name) self.new.items) }
+        ensures entries { AllZip (λ item found. IsEntryOf folder.now item
             (string_bytes found.0) found.1) self.old.items self.old.found.items
             → OnOk result (AllZip (λ item found. IsEntryOf folder.now item
             (string_bytes found.0) found.1) self.new.items self.new.found.items) }
     {
-        let (item, path, listed) = entry_of(alloc, folder, &entry?)?;
+        let entry = entry?;
+        if begins_with(entry.file_name(), left_out) {
+            return Ok(());
+        }
+        let (item, path, listed) = entry_of(alloc, folder, &entry)?;
         self.found.push((path, listed))?;
         self.items.push(item)?;
         Ok(())

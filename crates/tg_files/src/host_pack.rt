@@ -1,7 +1,5 @@
 //! Packs that are files of the system.
-ghost use Rattle.std.specs.Prelude.{◌≡◌, ◌≤◌, ◌↔◌, ◌++◌, None, Some, false, true, take, IfErr, IfSome, IsOk, OnOk};
-ghost use Rattle.std.specs.Prelude.{OnErr, refl};
-ghost use Rattle.std.specs.Fs.{IsFile, file_type, new_options, with_create, with_read, with_truncate, with_write};
+ghost use Rattle.std.specs.Prelude.{◌≡◌, ◌≤◌, ◌++◌, None, Some, false, true, take, IfSome, OnOk, OnErr, refl};
 ghost use Rattle.std.specs.Result.{result_ok};
 ghost use Rattle.std.specs.IoError.{error_kind};
 ghost use Rattle.std.proofs.Common.{◌∙◌, ap};
@@ -9,10 +7,13 @@ ghost use Rattle.tg_faults.specs.Faults.{Rose};
 ghost use Rattle.tg_files.specs.Packs.{placed, placed-append};
 ghost use Rattle.tg_files.specs.Readers.{StandsTo};
 
+use crate::draft;
+use crate::draft::{Draft, check_is_file};
 use crate::packs::Pack;
 use crate::place::{Place, Target};
 use crate::reading::read_from;
-use std::fs::{Metadata, OpenFile, OpenOptions};
+use crate::temp_names::TempNames;
+use std::fs::{File, OpenFile};
 use std::io::{ErrorKind, Seek, SeekFrom, Write};
 use std::rt::Files;
 use std::{fs, io};
@@ -22,22 +23,36 @@ use tg_faults::Failed;
 ///
 /// Every call before it is attached is a fault. A fresh pack is open for reading and writing, and one that isn't fresh
 /// for reading alone: each write to it is a fault.
+///
+/// A fresh pack is written into a file beside the one at its path, under a name of `TempNames`, and the first `write_at`
+/// that is done puts it there, so that at its path there is what was there before, or all that was written. Where none is
+/// done before the pack is dropped or attached anew, that file is removed, and what was there stays. A program that is
+/// killed leaves it.
 #[derive(Drop)]
-pub struct HostPack<R: Files> {
+pub struct HostPack<R: Files + Drop> {
     rt: R,
-    file: Option<R::File>,
+    names: TempNames,
+    opened: Option<Opened<R>>,
     /// Whether the file stands at its end, as it does where the last call that moved it was an `append`.
     is_at_end: bool,
     place: Place,
     failed: u64,
 }
 
-impl<R: Files> HostPack<R> {
-    /// A pack that is attached to nothing yet, with no fault counted.
-    pub fn new(rt: R) -> HostPack<R>
+/// The file that is read and written, and, of a fresh pack, where it stands.
+#[derive(Drop)]
+struct Opened<R: Files + Drop> {
+    file: R::File,
+    draft: Option<Draft<R>>,
+}
+
+impl<R: Files + Drop> HostPack<R> {
+    /// A pack that is attached to nothing yet, with no fault counted; a fresh one is written under one of these names.
+    pub fn new(rt: R, names: TempNames) -> HostPack<R>
         ensures { result ≡ record {
           rt = rt;
-          file = None;
+          names = names;
+          opened = None;
           is_at_end = false;
           place = record
               { at = None };
@@ -46,7 +61,8 @@ impl<R: Files> HostPack<R> {
     {
         HostPack {
             rt,
-            file: None,
+            names,
+            opened: None,
             is_at_end: false,
             place: Place::nowhere(),
             failed: 0,
@@ -78,7 +94,7 @@ impl<R: Files> HostPack<R> {
     }
 }
 
-impl<R: Files + Drop> Pack for HostPack<R> {
+impl<R: Files + AllocGlobal + Clone + Drop> Pack for HostPack<R> {
     ghost pack = { record {
       content = λ _. None;
       place = λ p. p.place.at;
@@ -91,11 +107,11 @@ impl<R: Files + Drop> Pack for HostPack<R> {
 
     ghost joins = { λ a b c u v p q. q ∙ ap (λ place. placed place v) p ∙ placed-append a.place.at u v };
 
-    /// A fresh one is made, or emptied where there is one; else there is one, or it is a fault. What isn't a file is a
-    /// fault.
+    /// A fresh one is made beside the one that is there, which may be written, and whose permissions it has; else there is
+    /// one, or it is a fault. What isn't a file is a fault. The symbolic links at the path are followed.
     fn attach(&mut self, path: &str, fresh: bool) -> Result<(), Failed> {
-        let opened = open_pack(&self.rt, path, fresh);
-        self.file = Some(self.counted(opened)?);
+        let opened = open_pack(&self.rt, self.names, path, fresh);
+        self.opened = Some(self.counted(opened)?);
         self.is_at_end = fresh;
         self.place = Place::of(&Target { path, fresh });
         Ok(())
@@ -103,8 +119,8 @@ impl<R: Files + Drop> Pack for HostPack<R> {
 
     /// The length that the system gives.
     fn size(&mut self) -> Result<u64, Failed> {
-        let size = match &self.file {
-            Some(file) => size_of(file),
+        let size = match &self.opened {
+            Some(opened) => size_of(&opened.file),
             None => Err(unattached()),
         };
         self.counted(size)
@@ -113,19 +129,19 @@ impl<R: Files + Drop> Pack for HostPack<R> {
     /// One read, begun anew where it is interrupted. An offset of 2 ^ 63 or more is a fault.
     fn read_at(&mut self, offset: u64, buf: &mut [u8]) -> Result<usize, Failed> {
         self.is_at_end = false;
-        let read = match &mut self.file {
-            Some(file) => read_from(file, offset, buf),
+        let read = match &mut self.opened {
+            Some(opened) => read_from(&mut opened.file, offset, buf),
             None => Err(unattached()),
         };
         self.counted(read)
     }
 
-    /// As many writes as it takes; and then all that was written is made to last, so that a write of before which the
-    /// system finds failed only now is a fault of this call.
+    /// As many writes as it takes; then all that was written is made to last, so that a write of before which the
+    /// system finds failed only now is a fault of this call; and then a fresh pack is put at its path.
     fn write_at(&mut self, offset: u64, bytes: &[u8]) -> Result<(), Failed> {
         self.is_at_end = false;
-        let written = match &mut self.file {
-            Some(file) => write_to_last(file, offset, bytes),
+        let written = match &mut self.opened {
+            Some(opened) => opened.finish(offset, bytes),
             None => Err(unattached()),
         };
         self.counted(written)
@@ -133,9 +149,9 @@ impl<R: Files + Drop> Pack for HostPack<R> {
 
     /// As many writes as it takes. The end is sought where the last call wasn't an `append` that was done.
     fn append(&mut self, bytes: &[u8]) -> Result<(), Failed> {
-        let written = match &mut self.file {
-            Some(file) if self.is_at_end => file.write_all(bytes),
-            Some(file) => append_to(file, bytes),
+        let written = match &mut self.opened {
+            Some(opened) if self.is_at_end => opened.file.write_all(bytes),
+            Some(opened) => append_to(&mut opened.file, bytes),
             None => Err(unattached()),
         };
         self.is_at_end = written.is_ok();
@@ -143,36 +159,39 @@ impl<R: Files + Drop> Pack for HostPack<R> {
     }
 }
 
-/// Opens a file to be read alone, or makes it empty to be read and written. What is to be read alone is looked at
+/// Opens a file to be read alone, or makes one beside it to be read and written. What is to be read alone is looked at
 /// before it is opened too, since an open of a named pipe waits for its writer.
-fn open_pack<R: Files>(rt: &R, path: &str, fresh: bool) -> io::Result<R::File> {
-    if !fresh {
-        check_is_file(&fs::metadata(rt, path)?)?;
+fn open_pack<R: Files + AllocGlobal + Clone + Drop>(
+    rt: &R,
+    names: TempNames,
+    path: &str,
+    fresh: bool,
+) -> io::Result<Opened<R>> {
+    if fresh {
+        let (file, draft) = draft::create(rt, names, path)?;
+        return Ok(Opened {
+            file,
+            draft: Some(draft),
+        });
     }
-    let file = options_of(fresh).open(rt, path)?;
+    check_is_file(&fs::metadata(rt, path)?)?;
+    let file = File::open(rt, path)?;
     check_is_file(&file.metadata()?)?;
-    Ok(file)
+    Ok(Opened { file, draft: None })
 }
 
-/// It is an error where what was found isn't a file.
-fn check_is_file(found: &Metadata) -> io::Result<()>
-    ensures is { IsOk result ↔ IsFile (file_type found.now) }
-    ensures kind { IfErr result (λ e. error_kind e ≡ ErrorKind.InvalidInput) }
-{
-    if found.is_file() {
-        Ok(())
-    } else {
-        Err(io::Error::from(ErrorKind::InvalidInput))
+impl<R: Files + Drop> Opened<R> {
+    /// Writes all of the bytes from an offset on, makes all that was written last, and puts the file in its place.
+    fn finish(&mut self, offset: u64, bytes: &[u8]) -> io::Result<()>
+        ensures put { OnOk result (IfSome self.new.draft (λ draft. draft.is_put ≡ true)) }
+        ensures err_same { OnErr result (self.new.draft ≡ self.old.draft) }
+    {
+        write_to_last(&mut self.file, offset, bytes)?;
+        match &mut self.draft {
+            Some(draft) => draft.put(),
+            None => Ok(()),
+        }
     }
-}
-
-/// A file is read, and a fresh one is made where there is none, emptied where there is one, and written too.
-fn options_of(fresh: bool) -> OpenOptions
-    ensures { result ≡ with_truncate (with_create (with_write (with_read new_options true) fresh) fresh) fresh }
-{
-    let mut how = OpenOptions::new();
-    how.read(true).write(fresh).create(fresh).truncate(fresh);
-    how
 }
 
 /// The length that the system gives.

@@ -1,6 +1,7 @@
 //! Folders that are read and packs that are read and written, in memory and of the system.
 #![tactic(auto)]
 
+mod draft;
 mod folders;
 mod host_folder;
 mod host_pack;
@@ -9,6 +10,7 @@ mod mem_pack;
 mod packs;
 mod place;
 mod reading;
+mod temp_names;
 
 pub use folders::{Folder, FolderFault};
 pub use host_folder::HostFolder;
@@ -17,3 +19,4 @@ pub use mem_folder::MemFolder;
 pub use mem_pack::MemPack;
 pub use packs::Pack;
 pub use reading::read_from;
+pub use temp_names::TempNames;

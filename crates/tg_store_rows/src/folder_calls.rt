@@ -12,7 +12,7 @@ use std::alloc::Global;
 use std::rt::Files;
 use tg_bytes::{Bytes, List};
 use tg_faults::Failed;
-use tg_files::{Folder, FolderFault, HostFolder, MemFolder};
+use tg_files::{Folder, FolderFault, HostFolder, MemFolder, TempNames};
 use tg_rows::Answer;
 use tg_tree::{Item, Sort, sort_by_name};
 
@@ -158,7 +158,7 @@ fn sort_in(items: &[Item], name: &[u8]) -> &'static str {
 /// and how many calls failed.
 pub fn answer_rough(alloc: Global, given: &[Bytes], answer: &mut Answer) {
     let plan = plan_of(given.get(3..).unwrap_or(&[]));
-    let mut folder = HostFolder::new(RoughFiles { alloc, plan });
+    let mut folder = HostFolder::new(RoughFiles { alloc, plan }, TempNames::new(1));
     say_attached(&mut folder, answer);
     let path = given.get(2..3).unwrap_or(&[]);
     read_host(&mut folder, path, offset_at(given, 1), answer);
@@ -176,7 +176,7 @@ fn say_attached(folder: &mut HostFolder<RoughFiles>, answer: &mut Answer) {
 /// `rough-listing NAME PLAN ..`: what a folder lists whose calls go by a plan, and how many calls failed.
 pub fn answer_listing(alloc: Global, given: &[Bytes], answer: &mut Answer) {
     let plan = plan_of(given.get(1..).unwrap_or(&[]));
-    let mut folder = HostFolder::new(RoughFiles { alloc, plan });
+    let mut folder = HostFolder::new(RoughFiles { alloc, plan }, TempNames::new(1));
     say_attached(&mut folder, answer);
     say_count(folder.count(), answer);
 }

@@ -6,7 +6,7 @@ use crate::{folder_calls, pack_calls};
 use std::rt::HostRuntime;
 use std::str::from_utf8;
 use tg_bytes::{Bytes, List};
-use tg_files::{HostFolder, HostPack, MemFolder, MemPack};
+use tg_files::{HostFolder, HostPack, MemFolder, MemPack, TempNames};
 use tg_rows::Answer;
 
 /// The folders and packs that the rows before left.
@@ -25,13 +25,14 @@ impl Objects {
     pub fn new(rt: HostRuntime) -> Objects {
         let alloc = rt.alloc();
         let rough = RoughFiles { alloc, plan: PLAIN };
+        let names = TempNames::new(1);
         Objects {
             rt,
             memory_folder: None,
-            system_folder: HostFolder::new(rt),
+            system_folder: HostFolder::new(rt, names),
             memory_pack: MemPack::new(Bytes::new(alloc), List::new(alloc)),
-            system_pack: HostPack::new(rt),
-            rough_pack: HostPack::new(rough),
+            system_pack: HostPack::new(rt, names),
+            rough_pack: HostPack::new(rough, names),
         }
     }
 
@@ -61,7 +62,7 @@ impl Objects {
             }
             "rough-pack" => {
                 let plan = plan_of(given.get(1..).unwrap_or(&[]));
-                self.rough_pack = HostPack::new(RoughFiles { alloc, plan });
+                self.rough_pack = HostPack::new(RoughFiles { alloc, plan }, TempNames::new(1));
             }
             _ => return answer.text("an unknown object"),
         }

@@ -74,7 +74,7 @@ fn say_written(pack: &mut MemPack, offset: u64, bytes: &[u8], answer: &mut Answe
 }
 
 /// A call to a pack of the system: those of any pack, `write OFFSET BYTES`, or `count`.
-pub fn answer_host<R: Files + Drop>(
+pub fn answer_host<R: Files + AllocGlobal + Clone + Drop>(
     pack: &mut HostPack<R>,
     verb: &str,
     path: &str,

@@ -22,7 +22,7 @@ use std::{env, io};
 use tg_app::{Watch, no_streams, out_of_memory, run};
 use tg_dials::{Dial, TcpDial};
 use tg_doors::{Door, TcpDoor};
-use tg_files::{Folder, HostFolder, HostPack, Pack};
+use tg_files::{Folder, HostFolder, HostPack, Pack, TempNames};
 use tg_streams::{Sink, Source, StdSink, StdSource};
 
 /// How many standard streams there are: 0 is input, 1 out and 2 err.
@@ -35,8 +35,9 @@ const NO_COMMAND: u8 = 2;
 const PEER_FAILED: u8 = 5;
 
 fn main(rt: HostRuntime) -> ExitCode {
-    let mut folder = HostFolder::new(rt);
-    let mut pack = Some(HostPack::new(rt));
+    let names = TempNames::drawn(&rt);
+    let mut folder = HostFolder::new(rt, names);
+    let mut pack = Some(HostPack::new(rt, names));
     let mut door = TcpDoor::new(rt);
     let mut dial = TcpDial::new(rt);
     let mut input = StdSource::new(rt.stdin());
