@@ -1,0 +1,4 @@
+mod Digests
+mod Hello
+mod Mirroring
+mod SameReplies

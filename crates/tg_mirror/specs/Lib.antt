@@ -1,0 +1,3 @@
+pub mod SameReplies
+pub mod Mirrored
+pub mod Examples
