@@ -185,6 +185,10 @@ impl<R: Files + Drop> Opened<R> {
     fn finish(&mut self, offset: u64, bytes: &[u8]) -> io::Result<()>
         ensures put { OnOk result (IfSome self.new.draft (λ draft. draft.is_put ≡ true)) }
         ensures err_same { OnErr result (self.new.draft ≡ self.old.draft) }
+        // A file that tells its bytes.
+        ensures told { ((s : R.File) → StandsTo (R.File.Seek.stream_position s) (R.File.Seek.stream_bytes s)
+            (R.File.Write.contents s)) → OnOk result (IfSome (R.File.Seek.stream_bytes self.old.file)
+            (λ held. R.File.Write.contents self.new.file ≡ Some (take offset held ++ bytes.now))) }
     {
         write_to_last(&mut self.file, offset, bytes)?;
         match &mut self.draft {

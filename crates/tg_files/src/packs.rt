@@ -42,8 +42,8 @@ pub trait Pack {
         ensures call { PackCalled (pack_step pack self.old self.new) }
         ensures err_rose { OnErr result (PackRose (pack_step pack self.old self.new)) };
 
-    /// Puts all of the bytes in place of as many from `offset` on; a pack that outlives the program then lasts, with
-    /// all that was written to it. The error is a fault of the pack, whose bytes then aren't told any more.
+    /// Puts all of the bytes in place of as many from `offset` on; a pack that outlives the program then lasts at its
+    /// path, with all that was written to it, where a fresh one need not stand before. The error is a fault of the pack, whose bytes then aren't told any more.
     fn write_at(&mut self, offset: u64, bytes: &[u8]) -> Result<(), Failed>
         requires { Reaches (pack.content self.old) (offset + length bytes.now) }
         ensures did { OnOk result (Did (overwritten offset bytes.now ∷ []) (pack_step pack self.old self.new)) }

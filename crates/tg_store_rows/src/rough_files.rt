@@ -29,9 +29,11 @@ pub struct Plan {
     pub last: usize,
     /// Whether what was written to a file can't be made to last.
     pub is_lost: bool,
+    /// Whether no file can be renamed.
+    pub is_unmoved: bool,
 }
 
-/// Two reads or writes are interrupted, none fails, there are two names, and what is written lasts.
+/// Two reads or writes are interrupted, none fails, there are two names, what is written lasts, and a file is renamed.
 pub const PLAIN: Plan = Plan {
     interrupted: 2,
     fails_at: u64::MAX,
@@ -41,6 +43,7 @@ pub const PLAIN: Plan = Plan {
     breaks_off: false,
     last: 0,
     is_lost: false,
+    is_unmoved: false,
 };
 
 /// The plan of a row's fields, two by two: what is otherwise than in the plain plan, and a number, which is 1 where it only
@@ -69,6 +72,7 @@ fn change(plan: &mut Plan, what: &[u8], number: u64) {
         Ok("replaced") => plan.is_replaced = number == 1,
         Ok("breaks") => plan.breaks_off = number == 1,
         Ok("lost") => plan.is_lost = number == 1,
+        Ok("unmoved") => plan.is_unmoved = number == 1,
         _ => plan.interrupted = u8::MAX,
     }
 }
@@ -165,6 +169,10 @@ impl OpenFile for RoughFile {
     fn sync_data(&self) -> io::Result<()> {
         unsupported()
     }
+
+    fn set_permissions(&self, _perm: Permissions) -> io::Result<()> {
+        Ok(())
+    }
 }
 
 impl Read for RoughFolder {
@@ -240,7 +248,11 @@ impl Files for RoughFiles {
     }
 
     fn rename(&self, _from: &str, _to: &str) -> io::Result<()> {
-        unsupported()
+        if self.plan.is_unmoved {
+            unsupported()
+        } else {
+            Ok(())
+        }
     }
 
     fn remove_file(&self, _path: &str) -> io::Result<()> {
