@@ -4,7 +4,7 @@ use Rattle.tg_traversal.specs.declared.position.Ask.TheVariants as asks
 use Rattle.tg_traversal.specs.declared.position.Miss.TheVariants as misses
 use Rattle.tg_traversal.specs.declared.position.Position.TheVariants as positions
 use Rattle.tg_traversal.specs.declared.position.Reach.TheVariants as reaches
-use Rattle.std.specs.Prelude.{List, None, Option, Some, [], drop, if◌then◌else◌, ⊤, ℕ, ◌-◌, ◌∷◌, ◌≡◌}
+use Rattle.std.specs.Prelude.{List, None, Option, Some, [], drop, if◌then◌else◌, length, ⊤, ℕ, ◌-◌, ◌∷◌, ◌≡◌}
 use Rattle.tg_cid.specs.Cid.{CidParts}
 use Rattle.tg_traversal.specs.declared.position.Ask.{Ask}
 use Rattle.tg_traversal.specs.declared.position.Miss.{Miss}
@@ -44,17 +44,19 @@ want_of path (asks.Segment i position) depth = step_want i (standing_of position
 want_of path asks.Terminal depth = terminal_want depth
 want_of path (asks.Node reach position) depth = node_want (reach_of reach) (standing_of position) depth
 
--- what a block below the terminal is where no range is asked, but for children of shards: an entry that is bundled, or
--- a part of a file
+-- what a block below the terminal is where no range is asked: an entry that is bundled, a part of a file, or a child of
+-- a shard behind so many slots
 abbrev pub role_in : Reaching → Standing → Option Role
 role_in (bundled path) top = Some roles.Entry
 role_in (bundled path) (part size) = None
-role_in (bundled path) (child above) = None
+role_in (bundled path) (child above) = Some (roles.Child (length above))
 role_in entire top = None
 role_in entire (part size) = Some roles.Part
 role_in entire (child above) = None
 role_in (ranged low high) standing = None
-role_in listed standing = None
+role_in listed top = None
+role_in listed (part size) = None
+role_in listed (child above) = Some (roles.Child (length above))
 
 abbrev pub role_at : Want → Option Role
 role_at (segment_want i standing name path depth) = None

@@ -101,14 +101,17 @@ impl Frames {
         })
     }
 
-    /// What the block is at the place that is wanted now, or none where the place is on the path, its terminal or a
-    /// child of a shard, where entries are listed, and where a range is asked. It takes no memory.
+    /// What the block is at the place that is wanted now, or none where the place is on the path or its terminal, and
+    /// where a range is asked. It takes no memory.
     pub fn role(&self) -> Option<Role>
         ensures { (at : WantedAt) → self.now.wanted ≡ Some at → result ≡ role_at at.want }
     {
         match &self.wanted.as_ref()?.ask {
             Ask::Node(Reach::Bundled(_), Position::Top) => Some(Role::Entry),
             Ask::Node(Reach::Entire, Position::Part(_)) => Some(Role::Part),
+            Ask::Node(Reach::Bundled(_) | Reach::Listed, Position::Child(above)) => {
+                Some(Role::Child(above.as_slice().len() as u64))
+            }
             _ => None,
         }
     }

@@ -103,13 +103,15 @@ pub struct Wanted {
     pub depth: u64,
 }
 
-/// What a block below the terminal is where no range is asked: a directory's entry that is bundled, or a part of a file.
+/// What a block below the terminal is where no range is asked: a directory's entry that is bundled, a part of a file, or
+/// a child of a shard behind so many slots.
 ///
-/// Trustless Gateway specification, dag-scope; UnixFS specification, File.
+/// Trustless Gateway specification, dag-scope; UnixFS specification, File and HAMTDirectory.
 #[derive(Clone, Copy, PartialEq, Eq)]
 pub enum Role {
     Entry,
     Part,
+    Child(u64),
 }
 
 /// A segment of the path, told by its index, that leads nowhere.

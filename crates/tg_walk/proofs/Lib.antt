@@ -7,6 +7,7 @@ mod PathSteps
 mod PathShapes
 mod Fewer
 mod TaskShapes
+mod Entryless
 mod Knowing
 mod Blocks
 mod Passing

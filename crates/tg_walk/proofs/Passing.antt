@@ -1,5 +1,5 @@
 -- From place to place, where all is known of some.
-use Rattle.std.proofs.Common.{All, Err, List, None, Ok, Option, Some, [], ap, arith, false, inl, inr, map, refl, subst, suc, sym, ℕ, ◌+◌, ◌++◌, ◌∙◌, ◌∷◌, ◌≡◌}
+use Rattle.std.proofs.Common.{All, Bool, Err, List, None, Ok, Option, Some, [], ap, arith, false, inl, inr, map, refl, subst, suc, sym, ℕ, ◌+◌, ◌++◌, ◌∙◌, ◌∷◌, ◌≡◌}
 use Rattle.std.proofs.lemmas.List.Elements.{All-contains}
 use Rattle.std.specs.Map.{keys_of}
 use Rattle.tg_cid.specs.Cid.{CidParts}
@@ -10,17 +10,17 @@ use Rattle.tg_model.specs.Stores.{Store}
 use Rattle.tg_model_laws.specs.SentSections.{once}
 use Rattle.tg_model_laws.specs.StoreWalks.{IsWalked, WalkLaws}
 use Rattle.tg_model_laws.specs.TakenBlocks.{opened_by}
-use Rattle.tg_model_laws.specs.Tasks.{Task, Want, depth_of, open_block, stop_at, tasks_then}
+use Rattle.tg_model_laws.specs.Tasks.{Task, Want, depth_of, entries_now, open_block, stop_at, tasks_then}
 use Rattle.tg_traversal.specs.BlocksLeft.{blocks_over, then_keeps}
 use Rattle.tg_traversal.specs.Left.{LeftState, WantedAt, tasks_left, wanted_tasks}
 use Rattle.tg_traversal.specs.Places.{missing_of, role_at}
 use Rattle.tg_traversal.specs.declared.position.Role.{Role}
 use Rattle.tg_traversal.specs.declared.position.Wanted.{Wanted}
 use Rattle.tg_walk.proofs.Giving.{if_once}
-use Rattle.tg_walk.proofs.Knowing.{HasGivenTo, gone_to, open_then, pass_one, role_alone, went_through}
+use Rattle.tg_walk.proofs.Knowing.{HasGivenTo, entryless_in, gone_to, open_end, open_met, pass_one, went_through, whole_in}
 use Rattle.tg_walk.proofs.TaskShapes.{then_again}
 use Rattle.tg_walk.proofs.Walking.{HasWalked, front_of, is_done, is_missing}
-use Rattle.tg_walk.specs.Known.{AreOpen, HasLevels, IsDeepened, IsKnownAs, IsWhole, KnownState, Knows, KnowsBelow, LieAbove, want_alone}
+use Rattle.tg_walk.specs.Known.{AreOpen, HasLevels, IsChild, IsDeepened, IsKnownAs, IsKnownIn, IsMet, IsWhole, KnownState, Knows, KnowsBelow, LieAbove, want_alone}
 use Rattle.tg_walk.specs.Walks.{HasEnded, HasLevelsAt, HasWalkCause, IsFront, IsNextPlace, IsOnWalk, IsOwnFault, fault_of_miss, max_depth}
 use Rattle.tg_walk.specs.declared.fault.WalkFault.{WalkFault}
 use Rattle.tg_walk.specs.declared.known.Walked.{Walked}
@@ -59,17 +59,17 @@ on_wanted left known store sections at d w near = on_at left known store section
 
 -- ---- to the next place
 
-pub near_then : (old new : LeftState) (known : KnownState) (store : Store) (sections : List Section) → new.query ≡ old.query → tasks_left new ≡ tasks_then (tasks_left old) → IsNear old known store sections
-    → IsNear new known store sections
-near_then old new known store sections e t near =
+pub near_then : (old new : LeftState) (known now : KnownState) (met : Bool) (store : Store) (sections : List Section) → new.query ≡ old.query → tasks_left new ≡ tasks_then (tasks_left old)
+    → (met ≡ false → entries_now (tasks_left old) ≡ []) → now.entries ≡ known.entries → IsMet met known.nodes now.nodes → IsNear old known store sections → IsNear new now store sections
+near_then old new known now met store sections e t none n m near =
     let same : tasks_then (tasks_left new) ≡ tasks_then (tasks_left old) = ap tasks_then t ∙ then_again (tasks_left old) in
     record {
       walked = subst (λ (q : QueryParts). HasGivenTo q store max_depth sections (tasks_then (tasks_left new))) (sym e)
           (subst (HasGivenTo old.query store max_depth sections) (sym same) near.walked);
-      keys = near.keys;
-      knows = subst (λ (q : QueryParts). Knows q store sections known (tasks_left new)) (sym e) (λ b. record {
-        blocks = (near.knows b).blocks;
-        way = open_then old.query store sections known.nodes (tasks_left old) (tasks_left new) same (near.knows b).way;
+      keys = ap keys_of n ∙ near.keys;
+      knows = subst (λ (q : QueryParts). Knows q store sections now (tasks_left new)) (sym e) (λ b. record {
+        blocks = subst (All (λ e. IsKnownAs old.query store sections e.0 e.1)) (sym n) (near.knows b).blocks;
+        way = subst (AreOpen old.query store sections now.nodes) (sym t) (open_met old.query store met sections known.nodes now.nodes (tasks_left old) m none (near.knows b).way);
       });
     }
 
@@ -94,8 +94,16 @@ near_stops laws old new known store sections fault e near (inr (miss, more, f, t
 pub near_done : (laws : WalkLaws) (old new : LeftState) (known : KnownState) (store : Store) (sections : List Section) → new.query ≡ old.query → old.query.dups ≡ false → IsNear old known store sections
     → IsNextPlace old (Ok None) new → IsOnWalk max_depth new known store sections × HasEnded new.query store max_depth sections whole
 near_done laws old new known store sections e d near (t, n) =
-    let there : IsNear new known store sections = near_then old new known store sections e (n ∙ sym t) near in
-    let walked : HasGivenTo new.query store max_depth sections [] = subst (HasGivenTo new.query store max_depth sections) (ap tasks_then n) there.walked in (
+    let walked : HasGivenTo new.query store max_depth sections [] =
+    subst (λ (q : QueryParts). HasGivenTo q store max_depth sections []) (sym e) (subst (HasGivenTo old.query store max_depth sections) t near.walked) in
+    let there : IsNear new known store sections = record {
+      walked = subst (λ (tasks : List (Task CidParts)). HasGivenTo new.query store max_depth sections (tasks_then tasks)) (sym n) walked;
+      keys = near.keys;
+      knows = subst (λ (q : QueryParts). Knows q store sections known (tasks_left new)) (sym e) (λ b. record {
+        blocks = (near.knows b).blocks;
+        way = subst (AreOpen old.query store sections known.nodes) (sym n) (open_end old.query store sections known.nodes (tasks_left old) t (near.knows b).way);
+      });
+    } in (
       on_at new known store sections [] (ap (λ (q : QueryParts). q.dups) e ∙ d) n refl there,
       subst (λ (l : List Section). HasEnded new.query store max_depth l whole) walked.gave
           (is_done laws new.query max_depth store (opened_by walked.given) (walked_near new.query store sections [] walked)),
@@ -124,24 +132,25 @@ near_left left old new store sections at depth w d k f near = record {
       (f left.query store sections at.want at.cid left.later d (subst (KnowsBelow left.query store sections old) (wanted_left left at w) (near.knows b)));
 }
 
-is_whole : (q : QueryParts) (store : Store) (sections : List Section) (entries : List (CidParts × Option Walked)) (w : Want) (cid : CidParts) (role : Role) (levels : ℕ) → role_at w ≡ Some role
-    → HasLevels entries cid role levels → All (λ e. IsKnownAs q store sections e.0 e.1) entries → IsWhole q store sections (suc levels) (want_alone w) cid
-is_whole q store sections entries w cid role levels r has all =
-    subst (λ (v : Want). IsWhole q store sections (suc levels) v cid) (sym (role_alone w role r))
-    (All-contains (λ e. IsKnownAs q store sections e.0 e.1) entries (cid, Some (record { role = role; levels = levels })) all has)
+is_known : (q : QueryParts) (store : Store) (sections : List Section) (entries : List (CidParts × Option Walked)) (cid : CidParts) (role : Role) (levels : ℕ) → (has : HasLevels entries cid role levels)
+    → All (λ e. IsKnownAs q store sections e.0 e.1) entries → IsKnownIn q store sections has.known_in (suc levels) cid
+is_known q store sections entries cid role levels has all =
+    All-contains (λ e. IsKnownAs q store sections e.0 e.1) entries (cid, Some (record { role = has.known_in; levels = levels })) all has.there
 
 -- all of a place is known, and it is passed over
 pub near_pass : (laws : WalkLaws) (old new : LeftState) (known now : KnownState) (store : Store) (sections : List Section) (at : WantedAt) (wanted : Wanted) (role : Option Role) (levels : ℕ)
     → old.wanted ≡ Some at → wanted ≡ record { cid = at.cid; depth = depth_of at.want } → role ≡ role_at at.want → HasLevelsAt old.query known wanted role levels → LieAbove known.nodes wanted.depth
-    → now.entries ≡ known.entries → IsDeepened (wanted.depth + levels) known.nodes now.nodes → new.query ≡ old.query → new.wanted ≡ None → new.later ≡ old.later
+    → now.entries ≡ known.entries → IsDeepened (wanted.depth + levels) role known.nodes now.nodes → new.query ≡ old.query → new.wanted ≡ None → new.later ≡ old.later
     → IsNear old known store sections → IsNear new now store sections
 near_pass laws old new known now store sections at wanted role levels w is r has above n deepened e none later near =
     let q = old.query in
     let knows = near.knows has.not_block in
     let depth : wanted.depth ≡ depth_of at.want = ap (λ (x : Wanted). x.depth) is in
     let cid : wanted.cid ≡ at.cid = ap (λ (x : Wanted). x.cid) is in
+    let there : HasLevels known.entries at.cid has.in_role levels = subst (λ (c : CidParts). HasLevels known.entries c has.in_role levels) cid has.has in
+    let known_here : IsKnownIn q store sections there.known_in (suc levels) at.cid = is_known q store sections known.entries at.cid has.in_role levels there knows.blocks in
     let whole : IsWhole q store sections (suc levels) (want_alone at.want) at.cid =
-    is_whole q store sections known.entries at.want at.cid has.in_role levels (sym r ∙ has.role_is) (subst (λ (c : CidParts). HasLevels known.entries c has.in_role levels) cid has.has) knows.blocks in
+    whole_in q store sections there.known_in has.in_role levels at.want at.cid (sym r ∙ has.role_is) there.holds known_here in
     let shallow = has.shallow in
     let tasks : tasks_left new ≡ old.later = ap (λ (x : Option WantedAt). wanted_tasks x ++ new.later) none ∙ later in
     let gone = pass_one laws q store max_depth (omega arith) sections (suc levels) at.want at.cid old.later (omega (arith, depth, shallow)) whole
@@ -152,8 +161,9 @@ near_pass laws old new known now store sections at wanted role levels w is r has
       keys = ap keys_of n ∙ near.keys;
       knows = subst (λ (p : QueryParts). Knows p store sections now (tasks_left new)) (sym e) (λ b. record {
         blocks = subst (All (λ e. IsKnownAs q store sections e.0 e.1)) (sym n) knows.blocks;
-        way = subst (AreOpen q store sections now.nodes) (sym tasks) (went_through q store sections known.nodes now.nodes at.want at.cid old.later levels
-            (subst (λ (d : ℕ). IsDeepened (d + levels) known.nodes now.nodes) depth deepened) (subst (LieAbove known.nodes) depth above) whole
+        way = subst (AreOpen q store sections now.nodes) (sym tasks) (went_through q store sections known.nodes now.nodes at.want at.cid old.later levels role
+            (subst (λ (d : ℕ). IsDeepened (d + levels) role known.nodes now.nodes) depth deepened) (subst (LieAbove known.nodes) depth above) whole
+            (λ c. entryless_in q store sections there.known_in has.in_role levels at.cid there.holds known_here (subst IsChild has.role_is c))
             (subst (AreOpen q store sections known.nodes) (wanted_left old at w) knows.way));
       });
     }

@@ -13,8 +13,8 @@ use Rattle.tg_model.specs.declared.kinds.Kind.TheVariants.{Basic, File, Raw, Sha
 use Rattle.tg_model.specs.declared.kinds.Slot.{Slot}
 use Rattle.tg_model.specs.declared.queries.Scope.{Scope}
 use Rattle.tg_model.specs.declared.queries.Scope.TheVariants as scopes
-use Rattle.tg_model_laws.specs.Tasks.{Task, Want, child_then, children_tasks, depth_at_top, depth_of, entries_then, fault_at, give_entries, give_text, link_tasks, node_tasks, node_want, open_block, path_want, position_below, segment_want, step_tasks, stop_at, tasks_of, tasks_then, terminal_tasks, terminal_want, text_last}
-use Rattle.tg_walk.specs.Known.{AreAllAt, EachAt, IsNextWithin, position_alone, reach_alone, want_alone}
+use Rattle.tg_model_laws.specs.Tasks.{Task, Want, child_then, children_tasks, depth_at_top, depth_of, entries_now, entries_then, fault_at, give_entries, give_text, link_tasks, node_tasks, node_want, open_block, path_want, position_below, segment_want, step_tasks, stop_at, tasks_of, tasks_then, terminal_tasks, terminal_want, text_last}
+use Rattle.tg_walk.specs.Known.{AreAllAt, EachAt, EachChild, IsNextWithin, position_alone, reach_alone, want_alone}
 
 -- ---- something at each place
 
@@ -32,14 +32,14 @@ each_front P (give_text text ∷ a) b h = each_front P a b h
 each_front P (give_entries met ∷ a) b h = each_front P a b h
 each_front P (stop_at miss ∷ a) b h = h
 
-each_both : (P : Want → CidParts → Type 0) (a b : List (Task CidParts)) → EachAt P a → EachAt P b → EachAt P (a ++ b)
+pub each_both : (P : Want → CidParts → Type 0) (a b : List (Task CidParts)) → EachAt P a → EachAt P b → EachAt P (a ++ b)
 each_both P [] b h k = k
 each_both P (open_block w cid ∷ a) b h k = (h.0, each_both P a b h.1 k)
 each_both P (give_text text ∷ a) b h k = each_both P a b h k
 each_both P (give_entries met ∷ a) b h k = each_both P a b h k
 each_both P (stop_at miss ∷ a) b h k = h
 
-each_text : (P : Want → CidParts → Type 0) (text : List ℕ) → EachAt P (text_last text)
+pub each_text : (P : Want → CidParts → Type 0) (text : List ℕ) → EachAt P (text_last text)
 each_text P [] = tt
 each_text P (b ∷ text) = tt
 
@@ -50,6 +50,17 @@ each_entries P (m ∷ met) tasks h = h
 each_behind : (P : Want → CidParts → Type 0) (met : List ListedEntry) (tasks : List (Task CidParts)) → EachAt P (entries_then met tasks) → EachAt P tasks
 each_behind P [] tasks h = h
 each_behind P (m ∷ met) tasks h = h
+
+pub child_front : (P : CidParts → Type 0) (a b : List (Task CidParts)) → EachChild P (a ++ b) → EachChild P a
+child_front P [] b h = tt
+child_front P (open_block w cid ∷ a) b h = (h.0, child_front P a b h.1)
+child_front P (give_text text ∷ a) b h = child_front P a b h
+child_front P (give_entries met ∷ a) b h = (h.0, child_front P a b h.1)
+child_front P (stop_at miss ∷ a) b h = h
+
+none_both : (a b : List ListedEntry) → a ++ b ≡ [] → (a ≡ []) × (b ≡ [])
+none_both [] b e = (refl, e)
+none_both (x ∷ a) b e = absurd (cc e)
 
 -- ---- links that lead to the same
 
@@ -249,6 +260,13 @@ then_again (give_text text ∷ tasks) = then_again tasks
 then_again (give_entries met ∷ tasks) = then_again tasks
 then_again (stop_at miss ∷ tasks) = refl
 
+pub then_none : (tasks : List (Task CidParts)) → entries_now (tasks_then tasks) ≡ []
+then_none [] = refl
+then_none (open_block w cid ∷ tasks) = refl
+then_none (give_text text ∷ tasks) = then_none tasks
+then_none (give_entries met ∷ tasks) = then_none tasks
+then_none (stop_at miss ∷ tasks) = refl
+
 pub all_then : (n : ℕ) (tasks : List (Task CidParts)) → AreAllAt n tasks → AreAllAt n (tasks_then tasks)
 all_then n [] h = h
 all_then n (open_block w cid ∷ tasks) h = h
@@ -291,6 +309,7 @@ pub record IsFirstOwn (n : ℕ) (w : Want) (cid : CidParts) (later own rest : Li
   pub depth : depth_of w ≡ n + 1
   pub below : AreAllAt (n + 1) left
   pub gives : (P : Want → CidParts → Type 0) → P w cid → EachAt P left → EachAt P own
+  pub child : (P : CidParts → Type 0) → entries_now (own ++ rest) ≡ [] → P cid → EachChild P left → EachChild P own
 
 pub first_own : (n : ℕ) (w : Want) (cid : CidParts) (later own rest : List (Task CidParts)) → AreAllAt (n + 1) own → IsNextWithin n rest → n < depth_of w → tasks_then (own ++ rest) ≡ open_block w cid ∷ later
     → IsFirstOwn n w cid later own rest
@@ -304,26 +323,45 @@ first_own n w cid later (open_block v other ∷ own) rest h k d e =
       depth = ap depth_of (sym same) ∙ h.0;
       below = h.1;
       gives = λ P p each. (subst (λ (x : Want). P x other) (sym same) (subst (λ (c : CidParts). P w c) (sym one) p), each);
+      child = λ P none p each. (subst P (sym one) p, each);
     }
 first_own n w cid later (give_text text ∷ own) rest h k d e =
     let there = first_own n w cid later own rest h k d e in
-    record { left = there.left; is = there.is; depth = there.depth; below = there.below; gives = there.gives }
+    record { left = there.left; is = there.is; depth = there.depth; below = there.below; gives = there.gives; child = there.child }
 first_own n w cid later (give_entries met ∷ own) rest h k d e =
     let there = first_own n w cid later own rest h k d e in
-    record { left = there.left; is = there.is; depth = there.depth; below = there.below; gives = there.gives }
+    record {
+      left = there.left;
+      is = there.is;
+      depth = there.depth;
+      below = there.below;
+      gives = there.gives;
+      child = λ P none p each. let both = none_both met (entries_now (own ++ rest)) none in (both.0, there.child P both.1 p each);
+    }
 first_own n w cid later (stop_at miss ∷ own) rest h k d e = absurd (cc e)
 
 -- where the next place isn't below a block, none of its own is left
 pub record IsNoOwn (w : Want) (cid : CidParts) (later own rest : List (Task CidParts)) : Type 1 where
   pub each : (P : Want → CidParts → Type 0) → EachAt P own
   pub is : tasks_then rest ≡ open_block w cid ∷ later
+  pub child : (P : CidParts → Type 0) → entries_now (own ++ rest) ≡ [] → EachChild P own
+  pub unmet : entries_now (own ++ rest) ≡ [] → entries_now rest ≡ []
 
 pub no_own : (n : ℕ) (w : Want) (cid : CidParts) (later own rest : List (Task CidParts)) → AreAllAt (n + 1) own → depth_of w ≤ n → tasks_then (own ++ rest) ≡ open_block w cid ∷ later → IsNoOwn w cid later own rest
-no_own n w cid later [] rest h d e = record { each = λ P. tt; is = e }
+no_own n w cid later [] rest h d e = record { each = λ P. tt; is = e; child = λ P none. tt; unmet = λ none. none }
 no_own n w cid later (open_block v other ∷ own) rest h d e =
     let same : v ≡ w = cc in
     let deep : depth_of w ≡ n + 1 = ap depth_of (sym same) ∙ h.0 in
     absurd (omega (arith, d, deep))
-no_own n w cid later (give_text text ∷ own) rest h d e = let there = no_own n w cid later own rest h d e in record { each = there.each; is = there.is }
-no_own n w cid later (give_entries met ∷ own) rest h d e = let there = no_own n w cid later own rest h d e in record { each = there.each; is = there.is }
+no_own n w cid later (give_text text ∷ own) rest h d e =
+    let there = no_own n w cid later own rest h d e in
+    record { each = there.each; is = there.is; child = there.child; unmet = there.unmet }
+no_own n w cid later (give_entries met ∷ own) rest h d e =
+    let there = no_own n w cid later own rest h d e in
+    record {
+      each = there.each;
+      is = there.is;
+      child = λ P none. let both = none_both met (entries_now (own ++ rest)) none in (both.0, there.child P both.1);
+      unmet = λ none. let both = none_both met (entries_now (own ++ rest)) none in there.unmet both.1;
+    }
 no_own n w cid later (stop_at miss ∷ own) rest h d e = absurd (cc e)

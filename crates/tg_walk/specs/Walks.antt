@@ -24,6 +24,7 @@ use Rattle.tg_walk.specs.Known.{HasLevels, KnownState, Knows, LieAbove}
 use Rattle.tg_walk.specs.declared.fault.WalkFault.{WalkFault}
 use Rattle.tg_walk.specs.declared.fault.WalkFault.TheVariants as faults
 use Rattle.tg_walk.specs.declared.known.Opened.{Opened}
+use Rattle.tg_walk.specs.declared.walk.NextPlace.{NextPlace}
 use Rattle.tg_model.specs.declared.stores.BlocksFault.TheVariants as store_faults
 use Rattle.tg_model.specs.Dag.{Section}
 use Rattle.tg_model.specs.Fits.{IfOnce, is_block}
@@ -37,7 +38,7 @@ use Rattle.tg_model_laws.specs.ListFronts.{FrontOf}
 use Rattle.tg_model_laws.specs.TakenBlocks.{opened_by}
 use Rattle.tg_model_laws.specs.StoreWalks.{IsWalked, WalkEnds, WalkTooDeep, section_of}
 use Rattle.tg_model_laws.specs.Stages.{Given, ending}
-use Rattle.tg_model_laws.specs.Tasks.{Task, Want, depth_of, fault_at, is_read_at}
+use Rattle.tg_model_laws.specs.Tasks.{Task, Want, depth_of, entries_now, fault_at, is_read_at}
 use Rattle.tg_model_laws.specs.Tasks.{stop_at, tasks_of, tasks_then}
 
 -- how many blocks there are at most from the root to a block that a walk gives, both counted
@@ -211,6 +212,13 @@ IsNextPlace old (Ok (Some wanted)) new =
 IsNextPlace old (Ok None) new = (tasks_then (tasks_left old) ≡ []) × (tasks_left new ≡ [])
 IsNextPlace old (Err fault) new =
     (fault ≡ faults.OutOfMemory) ⊎ ((miss : Miss) × (more : List (Task CidParts)) × (fault ≡ fault_of_miss miss) × (tasks_then (tasks_left old) ≡ stop_at (missing_of miss) ∷ more))
+
+-- the same, and of entries it is told whether there were any
+abbrev pub IsNextMet : LeftState → Result (Option NextPlace) WalkFault → LeftState → Type 0
+IsNextMet old (Ok (Some next)) new =
+    IsNextPlace old (Ok (Some next.wanted)) new × (next.met ≡ false → entries_now (tasks_left old) ≡ [])
+IsNextMet old (Ok None) new = IsNextPlace old (Ok None) new
+IsNextMet old (Err fault) new = IsNextPlace old (Err fault) new
 
 -- a fault of a block; its want of memory is the walk's
 abbrev pub fault_of_block : CidParts → BlockFault → WalkFault

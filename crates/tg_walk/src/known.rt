@@ -1,12 +1,13 @@
 //! What a walk knows that gives each block once.
-ghost use Rattle.std.specs.Prelude.{◌≡◌, ◌≤◌, ◌∷◌, [], All, List, IfOk, IfSome, OnOk};
+ghost use Rattle.std.specs.Prelude.{◌≡◌, ◌≤◌, ◌∷◌, [], true, All, List, IfOk, IfSome, OnOk};
 ghost use Rattle.std.specs.Map.{keys_of};
 ghost use Rattle.tg_cid.specs.Cid.{CidParts};
 ghost use Rattle.tg_model.specs.Dag.{Section};
 ghost use Rattle.tg_model.specs.Queries.{QueryParts};
 ghost use Rattle.tg_model.specs.Stores.{Store};
 ghost use Rattle.tg_model_laws.specs.Tasks.{Task, Want, depth_of, open_block};
-ghost use Rattle.tg_walk.specs.Known.{HasLevels, HasTaken, IsAdded, IsDeepened, IsKeptOf, KnowsBelow, LieAbove};
+ghost use Rattle.tg_walk.specs.Known.{HasLevels, HasTaken, HoldsIn, IsAdded, IsDeepened, IsKeptOf, IsMet, KnowsBelow};
+ghost use Rattle.tg_walk.specs.Known.{LieAbove, role_above};
 
 use indexmap::IndexMap;
 use std::alloc::{AllocError, Global};
@@ -14,15 +15,34 @@ use std::marker::Model;
 use tg_cid::Cid;
 use tg_traversal::Role;
 
-/// A block that was gone through wholly in this role: so many levels of blocks lie below it, and each of them is known.
+/// A block that was gone through wholly in this role: so many levels of blocks lie below it, and each of them is known. A
+/// child of a shard has no entry below it.
 #[derive(Clone, Copy)]
 pub(crate) struct Walked {
     role: Role,
     levels: u64,
 }
 
+impl Walked {
+    /// Whether all is known of the block in this role too. A shard without an entry below it says the same wherever each
+    /// shard below it stands behind at most 7 slots.
+    ///
+    /// UnixFS specification, HAMTDirectory.
+    fn holds_in(&self, role: Role) -> bool
+        ensures { result ≡ true → HoldsIn self.now.role self.now.levels role }
+    {
+        match (self.role, role) {
+            (Role::Entry, Role::Entry) | (Role::Part, Role::Part) => true,
+            (Role::Child(_), Role::Entry) => self.levels <= 7,
+            (Role::Child(_), Role::Child(slots)) => slots <= 7 && self.levels <= 7 - slots,
+            _ => false,
+        }
+    }
+}
+
 /// A block that was opened, and below which there may be more: its CID, how many blocks there are from the root to it and
-/// to the deepest block below it so far, both counted, and its role.
+/// to the deepest block below it so far, both counted, and its role. A child of a shard has none once an entry was met
+/// below it.
 #[derive(Drop)]
 pub(crate) struct Opened {
     pub(crate) cid: Cid,
@@ -77,13 +97,13 @@ impl Known {
         Ok(true)
     }
 
-    /// How many levels of blocks lie below a block that was gone through wholly in this role.
+    /// How many levels of blocks lie below a block of which all is known in this role.
     pub(crate) fn levels(&self, cid: &Cid, role: Role) -> Option<u64>
         ensures { IfSome result (λ levels. HasLevels self.now.entries cid.now role levels) }
     {
         tg_cid::laws::equality();
         match self.blocks.get(cid) {
-            Some(Some(walked)) if walked.role == role => Some(walked.levels),
+            Some(Some(walked)) if walked.holds_in(role) => Some(walked.levels),
             _ => None,
         }
     }
@@ -98,15 +118,26 @@ impl Known {
         }
     }
 
-    /// Notes that a block of this depth lies below the innermost one.
-    pub(crate) fn deepen(&mut self, depth: u64)
+    /// Notes that a block of this depth and role lies below the innermost one.
+    pub(crate) fn deepen(&mut self, depth: u64, role: Option<Role>)
         ensures entries { self.new.entries ≡ self.old.entries }
-        ensures open { IsDeepened depth self.old.nodes self.new.nodes }
+        ensures open { IsDeepened depth role self.old.nodes self.new.nodes }
     {
         if let Some(node) = &mut self.innermost {
+            node.role = role_above(role, node.role);
             if node.deepest < depth {
                 node.deepest = depth;
             }
+        }
+    }
+
+    /// Notes whether an entry was met.
+    pub(crate) fn meet(&mut self, met: bool)
+        ensures entries { self.new.entries ≡ self.old.entries }
+        ensures open { IsMet met self.old.nodes self.new.nodes }
+    {
+        if met {
+            self.deepen(0, None);
         }
     }
 
@@ -120,7 +151,7 @@ impl Known {
             → KnowsBelow q store sections self.new (open_block w cid ∷ later)) }
     {
         while let Some(node) = self.take(depth) {
-            self.deepen(node.deepest);
+            self.deepen(node.deepest, node.role);
             self.keep(&node)?;
         }
         Ok(())
@@ -154,5 +185,17 @@ impl Known {
             self.blocks.insert(node.cid, Some(Walked { role, levels }))?;
         }
         Ok(())
+    }
+}
+
+/// The role of a block below which one of the role `below` lies, or an entry: a child of a shard keeps it above children
+/// of shards alone.
+fn role_above(below: Option<Role>, role: Option<Role>) -> Option<Role>
+    ensures { result ≡ role_above below role }
+{
+    match (below, role) {
+        (Some(Role::Child(_)), _) => role,
+        (_, Some(Role::Child(_))) => None,
+        _ => role,
     }
 }

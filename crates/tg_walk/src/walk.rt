@@ -5,7 +5,8 @@ ghost use Rattle.tg_traversal.specs.Left.{WantedAt, tasks_left};
 ghost use Rattle.tg_walk.specs.Known.{IsNoted, KnownState};
 ghost use Rattle.tg_walk.specs.Walks.{HasComeTo, HasFetched, HasGone, HasGoneOn, HasLevelsAt, HasLookedOnce};
 ghost use Rattle.tg_walk.specs.Walks.{HasLookedUp, HasOpened, HasOpenedAt, HasSought, HasStepped, HasStoreCause};
-ghost use Rattle.tg_walk.specs.Walks.{IsAskedFound, IsBlockOf, IsNamedFound, IsNextPlace, IsOnWalk, IsOpened, IsOwnFault, IsPlaceNow};
+ghost use Rattle.tg_walk.specs.Walks.{IsAskedFound, IsBlockOf, IsNamedFound, IsNextMet, IsNextPlace, IsOnWalk, IsOpened};
+ghost use Rattle.tg_walk.specs.Walks.{IsOwnFault, IsPlaceNow};
 ghost use Rattle.tg_walk.specs.Walks.{IsWantedHere, StandsFor, blocks_left, fault_of_block, fault_of_miss, max_depth};
 ghost use Rattle.tg_cid.specs.declared.cid.HashKind.TheVariants.{Identity};
 ghost use Rattle.tg_model.specs.Dag.{Section};
@@ -23,13 +24,22 @@ use tg_traversal::{Frames, Miss, Next, Role, SharedBlock, Wanted};
 /// How many blocks there are at most from the root to a block that a walk gives, both counted.
 pub const MAX_DEPTH: u64 = 512;
 
+/// A place to which a walk comes, and whether an entry was met on the way.
+#[derive(Clone, Copy)]
+pub(crate) struct NextPlace {
+    pub(crate) wanted: Wanted,
+    pub(crate) met: bool,
+}
+
 /// A walk over the blocks of a store for a query: it gives the blocks that the query asks for one by one, in order, and
 /// fetches each when it gives it; each at each of its places, or once where the query asks for that.
 ///
 /// An identity CID's block is its digest, so none is fetched, nor is it given, but for the root of a raw query. Where
 /// each block is given once it holds the CIDs of those that it gave. There it goes once through what lies below a
-/// directory's entry or a part of a file where no range is asked: at a further place of one below which all was given,
-/// none of it too deep, nothing is fetched.
+/// directory's entry or a part of a file where no range is asked, and below a shard without any entry below it: at a
+/// further place of one below which all was given, none of it too deep, nor a shard behind more than 7 slots, nothing is
+/// fetched. A shard with an entry below it is gone through again at each place, since the entry stands rightly behind the
+/// slots of its name alone.
 ///
 /// Trustless Gateway specification, dag-scope, entity-bytes and order dfs.
 #[derive(Drop)]
@@ -212,12 +222,14 @@ fn next_unknown(frames: &mut Frames, known: &mut Known) -> Result<Option<Opened>
     ensures fewer { IfOk result (λ found. IfSome found (λ _. blocks_left frames.new ≤ blocks_left frames.old)) }
 {
     tg_model_laws::store_walks();
-    while let Some(place) = next_place(frames)? {
+    while let Some(next) = next_met(frames)? {
+        let place = next.wanted;
+        known.meet(next.met);
         known.leave(place.depth)?;
         let role = frames.role();
         match known_levels(frames.query(), known, &place, role) {
             Some(levels) => {
-                known.deepen(place.depth + levels);
+                known.deepen(place.depth + levels, role);
                 frames.pass();
             }
             None => {
@@ -321,11 +333,26 @@ pub(crate) fn next_place(frames: &mut Frames) -> Result<Option<Wanted>, WalkFaul
     ensures query { frames.new.query ≡ frames.old.query }
     ensures next { IsNextPlace frames.old result frames.new }
 {
+    match next_met(frames) {
+        Ok(Some(next)) => Ok(Some(next.wanted)),
+        Ok(None) => Ok(None),
+        Err(fault) => Err(fault),
+    }
+}
+
+/// Goes on to the next place whose block is wanted, or to the end. Texts and entries are passed over; of entries it tells
+/// whether there were any.
+fn next_met(frames: &mut Frames) -> Result<Option<NextPlace>, WalkFault>
+    ensures query { frames.new.query ≡ frames.old.query }
+    ensures next { IsNextMet frames.old result frames.new }
+{
+    let mut met = false;
     loop {
         match frames.next()? {
             Next::Nothing => return Ok(None),
-            Next::Block => return Ok(frames.wanted()),
-            Next::Line | Next::Entry { .. } => {}
+            Next::Block => return Ok(frames.wanted().map(|wanted| NextPlace { wanted, met })),
+            Next::Line => {}
+            Next::Entry { .. } => met = true,
             Next::Missing(miss) => return Err(fault_of_miss(miss)),
         }
     }

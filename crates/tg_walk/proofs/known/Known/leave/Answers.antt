@@ -11,7 +11,7 @@ loop-node-init c = record { keys = refl; knows = λ q store sections w cid later
 pub loop-node-smaller : goal.loop-node-smaller
 loop-node-smaller c =
     let before = ap length c.in-Some.ensures.1 in
-    let deep = deep_length c.in-Some.node.deepest c.take.new.self.nodes c.deepen.new.self.nodes c.deepen.ensures.open in
+    let deep = deep_length c.in-Some.node.deepest c.in-Some.node.role c.take.new.self.nodes c.deepen.new.self.nodes c.deepen.ensures.open in
     let after = ap length c.keep.ensures.nodes in
     omega (arith, before, deep, after)
 

@@ -1,8 +1,5 @@
-use Rattle.std.proofs.Common.{Some, ap, rules, subst, sym, ◌∙◌, ◌≡◌}
-use denote.Enum.Bare.{same_true}
+use Rattle.std.proofs.Common.{Some, ap, subst, sym, ◌∙◌}
 use Rattle.std.specs.Option.{option_copied}
-use Rattle.tg_traversal.specs.contracts.position.Role.{the_type}
-use Rattle.tg_traversal.specs.declared.position.Role.{Role}
 use Rattle.tg_walk.proofs.Blocks.{found_entry}
 use Rattle.tg_walk.specs.Known.{HasLevels, KnownState}
 use Rattle.tg_walk.specs.declared.known.Walked.{Walked}
@@ -11,7 +8,8 @@ use Rattle.tg_walk.proofs.known.Known.levels.Goals as goal
 pub returns-in-Some-Some : goal.returns-in-Some-Some
 returns-in-Some-Some c =
     let w : Walked = c.in-Some-Some.walked in
-    let role : w.role ≡ c.args.role = same_true the_type (search rules) w.role c.args.role (sym c.eq.ensures ∙ c.if-eq.true) in
-    subst (λ (k : KnownState). HasLevels k.entries c.args.cid.now c.args.role w.levels) c.self.view_is
-    (subst (λ (r : Role). HasLevels c.self.inside.blocks.entries c.args.cid.now r w.levels) role
-    (found_entry _ c.equality.ensures c.args.cid.now (Some w) c.self.inside.blocks.entries (sym c.get.ensures.value ∙ ap option_copied c.in-Some-Some.is ∙ ap Some c.in-Some-Some.field-0-is)))
+    subst (λ (k : KnownState). HasLevels k.entries c.args.cid.now c.args.role w.levels) c.self.view_is (record {
+      known_in = w.role;
+      there = found_entry _ c.equality.ensures c.args.cid.now (Some w) c.self.inside.blocks.entries (sym c.get.ensures.value ∙ ap option_copied c.in-Some-Some.is ∙ ap Some c.in-Some-Some.field-0-is);
+      holds = c.holds_in.ensures c.if-holds_in.true;
+    })
