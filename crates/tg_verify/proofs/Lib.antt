@@ -12,6 +12,7 @@ mod Going
 mod Limits
 mod Lists
 mod Misread
+mod Naming
 mod OpenHere
 mod Opened
 mod Owning

@@ -78,7 +78,7 @@ pub record HasKept (old new : VerifierState) (section : Section) : Type 0 where
 
 -- ---- it is refused
 
-puts_none : (q : QueryParts) (limits : LimitNumbers) (sections : List Section) (written text : List ℕ) (fault : Refusal) → IsNothing fault text → PutsFor q limits sections written (Err fault) text
+pub puts_none : (q : QueryParts) (limits : LimitNumbers) (sections : List Section) (written text : List ℕ) (fault : Refusal) → IsNothing fault text → PutsFor q limits sections written (Err fault) text
 puts_none q limits sections written text (refusals.Extra number) e = inl e
 puts_none q limits sections written text (refusals.Limit kind number) e = inl e
 puts_none q limits sections written text (refusals.BadDigest cid) e = inl e
@@ -135,7 +135,7 @@ module _ (state : VerifierState) (sections : List Section) (written : List ℕ) 
     section_refused refusals.SinkFault cause = elim cause [ inl none ↦ absurd none | inr (block, none) ↦ absurd none ]
     section_refused (refusals.Truncated want number) cause = elim cause [ inl none ↦ absurd none | inr (block, none) ↦ absurd none ]
 
-  refused_by : (wanted : Option WantedAt) → state.left.wanted ≡ wanted → (fault : Refusal) → HasReceived state section (Err fault)
+  pub refused_by : (wanted : Option WantedAt) → state.left.wanted ≡ wanted → (fault : Refusal) → HasReceived state section (Err fault)
       → HasRefused state.left.query state.limits (sections ++ section ∷ []) written fault
   refused_by None e fault r =
       let both = r.surplus e in

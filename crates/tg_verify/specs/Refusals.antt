@@ -71,6 +71,12 @@ pub record IsMissized (q : QueryParts) (limits : LimitNumbers) (at : WantedAt) (
   pub block : IsReadBlock q limits at section kind
   pub size : IsSizeFault (position_of at.want) section kind (Some fault)
 
+-- why its CID doesn't name a block, or not one of a size that may come; of the checks the first that fails
+abbrev pub HasNameCause : LimitNumbers → Section → Refusal → Type 0
+HasNameCause limits section (refusals.Limit kinds.Block number) = IsTooLarge limits section number
+HasNameCause limits section (refusals.BadDigest cid) = (cid ≡ section.cid) × IsMisnamed limits section
+HasNameCause limits section other = ⊥
+
 -- why a section isn't the wanted one; of the checks the first that fails
 abbrev pub HasReceiptCause : LimitNumbers → WantedAt → Section → Refusal → Type 0
 HasReceiptCause limits at section (refusals.Limit kinds.Block number) = IsTooLarge limits section number

@@ -1,9 +1,13 @@
 //! The checks of a section, and of a block at its place.
-ghost use Rattle.std.specs.Prelude.{◌≡◌, ◌<◌, ◌≤◌, All, Err, None, Some, true};
+ghost use Rattle.std.specs.Prelude.{◌≡◌, ◌≢◌, ◌<◌, ◌≤◌, ◌++◌, ◌∷◌, [], ℕ, All, Err, IfErr, List as Items, MatchResult};
+ghost use Rattle.std.specs.Prelude.{None, OnOk, Some, true};
+ghost use Rattle.tg_model.specs.Dag.{Section};
+ghost use Rattle.tg_model_laws.specs.Stores.{MayKeep};
 ghost use Rattle.tg_traversal.specs.Left.{WantedAt};
 ghost use Rattle.tg_model_laws.specs.Tasks.{depth_of, is_read_at};
-ghost use Rattle.tg_verify.specs.Refusals.{refusal_of_block};
-ghost use Rattle.tg_verify.specs.Steps.{IsCheckedAt, IsReceivedAt, section_with};
+ghost use Rattle.tg_verify.specs.History.{StandsFor};
+ghost use Rattle.tg_verify.specs.Refusals.{HasNameCause, HasRefused, IsNamedBlock, refusal_of_block};
+ghost use Rattle.tg_verify.specs.Steps.{IsCheckedAt, section_with};
 
 use crate::fault::Refusal;
 use crate::opener::Opener;
@@ -12,19 +16,30 @@ use tg_cid::Cid;
 use tg_model::{BlockFault, LimitKind, PlacedKind};
 
 impl Verifier {
-    /// Checks that the section is the wanted one. The block is hashed once.
+    /// Checks that a block is wanted and that the CID names this one, of a size that may come; which block is wanted isn't
+    /// looked at. The block is hashed once. It takes no memory and changes nothing.
     ///
-    /// Errors: those of `section` up to `WrongBlock`, in their order.
-    pub(crate) fn receive(&self, cid: &Cid, block: &[u8]) -> Result<(), Refusal>
+    /// CARv1 specification, Data. Errors, the first of these checks that fails: `Extra` where no block is wanted any more;
+    /// `Limit` of kind `Block` where the block is larger than the limit; `BadDigest` where the CID doesn't name the block.
+    pub fn named(&self, cid: &Cid, block: &[u8]) -> Result<(), Refusal>
         ensures surplus { self.now.left.wanted ≡ None → result ≡ Err (Refusal.Extra self.now.taken) }
-        ensures received { (at : WantedAt) → self.now.left.wanted ≡ Some at
-            → IsReceivedAt self.now.limits at (section_with cid.now block.now) result }
+        ensures named { OnOk result (IsNamedBlock self.now.limits (section_with cid.now block.now)) }
+        // A store may keep it.
+        ensures kept { OnOk result (MayKeep (section_with cid.now block.now)) }
+        ensures why { (at : WantedAt) → self.now.left.wanted ≡ Some at
+            → IfErr result (HasNameCause self.now.limits (section_with cid.now block.now)) }
+        // What was received, this section with it.
+        ensures refused { (sections : Items Section) (written : Items ℕ) → self.now.refused ≡ None
+            → StandsFor self.now sections written
+            → IfErr result (HasRefused self.now.left.query self.now.limits (sections ++ section_with cid.now block.now
+            ∷ []) written) }
     {
-        let Some(wanted) = self.opener.wanted() else {
+        are_bytes(block);
+        if self.opener.wanted().is_none() {
             return Err(Refusal::Extra {
                 sections: self.taken,
             });
-        };
+        }
         let most = self.opener.limits.number(LimitKind::Block);
         if block.len() as u64 > most {
             return Err(limit(LimitKind::Block, most));
@@ -32,6 +47,20 @@ impl Verifier {
         if !cid.holds(block) {
             return Err(Refusal::BadDigest { cid: *cid });
         }
+        Ok(())
+    }
+
+    /// Checks that the section with this CID, which names its block, is the wanted one. Errors: `Extra` and `WrongBlock`.
+    pub(crate) fn meets(&self, cid: &Cid) -> Result<(), Refusal>
+        ensures surplus { self.now.left.wanted ≡ None → result ≡ Err (Refusal.Extra self.now.taken) }
+        ensures met { (at : WantedAt) → self.now.left.wanted ≡ Some at → MatchResult result (λ _. cid.now ≡ at.cid)
+            (λ fault. (fault ≡ Refusal.WrongBlock at.cid cid.now) × (cid.now ≢ at.cid)) }
+    {
+        let Some(wanted) = self.opener.wanted() else {
+            return Err(Refusal::Extra {
+                sections: self.taken,
+            });
+        };
         if *cid != wanted.cid {
             return Err(Refusal::WrongBlock {
                 want: wanted.cid,

@@ -10,6 +10,7 @@ ghost use Rattle.tg_streams.specs.Streams.{OutputQuiet, into};
 ghost use Rattle.tg_verify.specs.History.{HasAccepted, HasPutCause, HasTaken, HasWritten, IsCounted, IsProgress};
 ghost use Rattle.tg_verify.specs.History.{IsSameVerifier, StandsFor, one_more};
 ghost use Rattle.tg_verify.specs.Laws.{IsFitOf, IsOwnFault, IsWithinLimits};
+ghost use Rattle.tg_verify.specs.Refusals.{IsNamedBlock};
 ghost use Rattle.tg_verify.specs.Sound.{EndsFor, ForEachSound};
 ghost use Rattle.tg_verify.specs.State.{next_cid, written_count};
 ghost use Rattle.tg_verify.specs.Steps.{section_with};
@@ -201,6 +202,54 @@ impl Verifier {
         ensures refused { MatchResult result (λ _. self.new.refused ≡ None) (λ fault. self.new.refused ≡ Some fault) }
     {
         laws::verified_answers();
+        are_bytes(block.as_slice());
+        if let Some(fault) = self.refused {
+            return Err(fault);
+        }
+        let named = self.named(&cid, block.as_slice());
+        self.refused = refusal_of(&named);
+        named?;
+        self.section_named(cid, block, out)
+    }
+
+    /// Takes the next section so, whose block its CID names, of a size that may come: `named` says so. Nothing is hashed.
+    ///
+    /// Errors: those of `section`, but for `Limit` of kind `Block` and `BadDigest` of the section itself. Each further call
+    /// gives the same error and changes nothing.
+    pub fn section_named<S: Sink>(
+        &mut self,
+        cid: Cid,
+        block: Bytes,
+        out: &mut S,
+    ) -> Result<Progress, Refusal>
+        requires named { IsNamedBlock self.old.limits (section_with cid block) }
+        ensures query { self.new.left.query ≡ self.old.left.query }
+        ensures limits { self.new.limits ≡ self.old.limits }
+        // What was received, this section with it, and what is written for it.
+        ensures stands { (sections : Items Section) (written : Items ℕ) → self.old.refused ≡ None
+            → StandsFor self.old sections written
+            → HasWritten self.new (sections ++ section_with cid block
+            ∷ []) written (into S.sink out.old out.new) result }
+        ensures progress { IfOk result (λ progress. IsProgress progress self.new) }
+        ensures cause { self.old.refused ≡ None → HasPutCause result (into S.sink out.old out.new) }
+        // What `sections` tells then.
+        ensures counted { self.old.refused ≡ None → IsCounted self.old.taken self.new.taken result }
+        // The next of sections that fit, or that are in progress, is taken, but for a fault of out and want of memory.
+        ensures fitting { (d : Dag) (sections rest : Items Section) (written text : Items ℕ) → self.old.refused ≡ None
+            → StandsFor self.old sections written
+            → Fits d self.old.left.query (sections ++ section_with cid block ∷ rest) text
+            → IsWithinLimits self.old.left.query self.old.limits d
+            → IfErr result IsOwnFault }
+        ensures in_progress { (d : Dag) (sections rest : Items Section) (written : Items ℕ) (wanted : Spot)
+            → self.old.refused ≡ None
+            → StandsFor self.old sections written → IsInProgress d self.old.left.query (sections
+            ++ section_with cid block ∷ rest) wanted
+            → IsWithinLimits self.old.left.query self.old.limits d → IfErr result IsOwnFault }
+        ensures again { (fault : Refusal) → self.old.refused ≡ Some fault
+            → (result ≡ Err fault) × (self.new ≡ self.old) × (out.new ≡ out.old) }
+        ensures refused { MatchResult result (λ _. self.new.refused ≡ None) (λ fault. self.new.refused ≡ Some fault) }
+    {
+        laws::verified_answers();
         if let Some(fault) = self.refused {
             return Err(fault);
         }
@@ -258,8 +307,9 @@ impl Verifier {
         }
     }
 
-    /// Takes the next section of a verifier that refused nothing; no refusal is kept.
+    /// Takes the next section of a verifier that refused nothing, whose CID names its block; no refusal is kept.
     fn take<S: Sink>(&mut self, cid: Cid, block: Bytes, out: &mut S) -> Result<Progress, Refusal>
+        requires named { IsNamedBlock self.old.limits (section_with cid block) }
         ensures same { IsSameVerifier self.old self.new }
         ensures stands { (sections : Items Section) (written : Items ℕ) → IsGoing self.old sections written
             → HasTaken self.new (sections ++ section_with cid block ∷ []) written (into S.sink out.old out.new) result }
@@ -272,8 +322,10 @@ impl Verifier {
         self.go_on(out)
     }
 
-    /// Takes the next section, and opens its block at its place. Errors: those of `section`, at that place.
+    /// Takes the next section, whose CID names its block, and opens it at its place. Errors: those of `section_named`, at
+    /// that place.
     fn accept<S: Sink>(&mut self, cid: Cid, block: Bytes, out: &mut S) -> Result<(), Refusal>
+        requires named { IsNamedBlock self.old.limits (section_with cid block) }
         ensures same { IsSameVerifier self.old self.new }
         ensures stands { (sections : Items Section) (written : Items ℕ) → IsGoing self.old sections written
             → HasAccepted self.new (sections ++ section_with cid block ∷ []) written
@@ -286,7 +338,7 @@ impl Verifier {
         tg_model::laws::readings();
         tg_model_laws::verified_sections();
         are_bytes(block.as_slice());
-        self.receive(&cid, block.as_slice())?;
+        self.meets(&cid)?;
         make_room(self.dups, &mut self.seen)?;
         let block = SharedBlock::new(self.alloc, block)?;
         self.opener.place(&cid, &block, Source::Section, out)?;

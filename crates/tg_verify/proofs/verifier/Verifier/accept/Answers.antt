@@ -2,6 +2,7 @@ use Rattle.std.proofs.Common.{[], All, Contains, Err, List, Ok, ap, refl, subst,
 use Rattle.std.proofs.lemmas.Result.{err_from_is_err_and}
 use Rattle.tg_cid.specs.Cid.{CidParts}
 use Rattle.tg_streams.specs.Streams.{into}
+use Rattle.tg_verify.proofs.Naming.{met_received}
 use Rattle.tg_verify.proofs.Opened.{placed_cause}
 use Rattle.tg_verify.proofs.Taking.{HasReceived, place_refused, place_taken, receipt_refused, room_refused, wanted_there}
 use Rattle.tg_verify.specs.State.{VerifierState}
@@ -10,21 +11,21 @@ use Rattle.tg_verify.specs.Taken.{IsGoing}
 use Rattle.tg_verify.specs.declared.counts.Source.TheVariants as sources
 use Rattle.tg_verify.proofs.verifier.Verifier.accept.Goals as goal
 
-pub returns-in_err-receive-clause-stands : goal.returns-in_err-receive-clause-stands
-returns-in_err-receive-clause-stands g c sections written h =
+pub returns-in_err-meets-clause-stands : goal.returns-in_err-meets-clause-stands
+returns-in_err-meets-clause-stands g c sections written h =
     let p = err_from_is_err_and c.from_residual.result c.from_residual.ensures.1 in
     let bytes = subst (λ (block : List ℕ). All (λ b. b < 256) block) c.as_slice.ensures c.are_bytes.ensures in
-    let received = subst (λ (block : List ℕ). HasReceived c.args.self.now (section_with c.args.cid block) (Err c.in_err-receive.field-0.0)) c.as_slice-2.ensures
-    (record { surplus = c.in_err-receive.ensures.surplus; received = c.in_err-receive.ensures.received }) in
+    let received : HasReceived c.args.self.now (section_with c.args.cid c.args.block) (Err c.in_err-meets.field-0.0) =
+    met_received c.args.self.now (section_with c.args.cid c.args.block) (Err c.in_err-meets.field-0.0) c.requires.named c.in_err-meets.ensures.surplus c.in_err-meets.ensures.met in
     rw (p.1, p.2) (receipt_refused c.args.self.now sections written h (section_with c.args.cid c.args.block) bytes g.S.Sink.sink c.args.out.now (g.met.S.Sink.rests c.args.out.now)
-    c.in_err-receive.field-0.0 received)
+    c.in_err-meets.field-0.0 received)
 
 pub returns-in_err-make_room-clause-stands : goal.returns-in_err-make_room-clause-stands
 returns-in_err-make_room-clause-stands g c sections written h =
     let p = err_from_is_err_and c.from_residual-in_err-make_room.result c.from_residual-in_err-make_room.ensures.1 in
     let bytes = subst (λ (block : List ℕ). All (λ b. b < 256) block) c.as_slice.ensures c.are_bytes.ensures in
-    let received = subst (λ (block : List ℕ). HasReceived c.args.self.now (section_with c.args.cid block) (Ok c.in_ok-receive.field-0)) c.as_slice-2.ensures
-    (record { surplus = c.in_ok-receive.ensures.surplus; received = c.in_ok-receive.ensures.received }) in
+    let received : HasReceived c.args.self.now (section_with c.args.cid c.args.block) (Ok tt) =
+    met_received c.args.self.now (section_with c.args.cid c.args.block) (Ok tt) c.requires.named c.in_ok-meets.ensures.surplus c.in_ok-meets.ensures.met in
     let going = subst (λ (state : VerifierState). IsGoing state sections written) (sym c.self.view_is) h in
     let there = wanted_there _ (section_with c.args.cid c.args.block)
     (subst (λ (state : VerifierState). HasReceived state (section_with c.args.cid c.args.block) (Ok tt)) (sym c.self.view_is) received) in
@@ -35,8 +36,8 @@ pub returns-in_err-block-clause-stands : goal.returns-in_err-block-clause-stands
 returns-in_err-block-clause-stands g c sections written h =
     let p = err_from_is_err_and c.from_residual-in_err-block.result c.from_residual-in_err-block.ensures.1 in
     let bytes = subst (λ (block : List ℕ). All (λ b. b < 256) block) c.as_slice.ensures c.are_bytes.ensures in
-    let received = subst (λ (block : List ℕ). HasReceived c.args.self.now (section_with c.args.cid block) (Ok c.in_ok-receive.field-0)) c.as_slice-2.ensures
-    (record { surplus = c.in_ok-receive.ensures.surplus; received = c.in_ok-receive.ensures.received }) in
+    let received : HasReceived c.args.self.now (section_with c.args.cid c.args.block) (Ok tt) =
+    met_received c.args.self.now (section_with c.args.cid c.args.block) (Ok tt) c.requires.named c.in_ok-meets.ensures.surplus c.in_ok-meets.ensures.met in
     let going = subst (λ (state : VerifierState). IsGoing state sections written) (sym c.self.view_is) h in
     let there = wanted_there _ (section_with c.args.cid c.args.block)
     (subst (λ (state : VerifierState). HasReceived state (section_with c.args.cid c.args.block) (Ok tt)) (sym c.self.view_is) received) in
@@ -47,8 +48,8 @@ pub returns-in_err-place-clause-stands : goal.returns-in_err-place-clause-stands
 returns-in_err-place-clause-stands g c sections written h =
     let p = err_from_is_err_and c.from_residual-in_err-place.result c.from_residual-in_err-place.ensures.1 in
     let bytes = subst (λ (block : List ℕ). All (λ b. b < 256) block) c.as_slice.ensures c.are_bytes.ensures in
-    let received = subst (λ (block : List ℕ). HasReceived c.args.self.now (section_with c.args.cid block) (Ok c.in_ok-receive.field-0)) c.as_slice-2.ensures
-    (record { surplus = c.in_ok-receive.ensures.surplus; received = c.in_ok-receive.ensures.received }) in
+    let received : HasReceived c.args.self.now (section_with c.args.cid c.args.block) (Ok tt) =
+    met_received c.args.self.now (section_with c.args.cid c.args.block) (Ok tt) c.requires.named c.in_ok-meets.ensures.surplus c.in_ok-meets.ensures.met in
     let going = subst (λ (state : VerifierState). IsGoing state sections written) (sym c.self.view_is) h in
     let there = wanted_there _ (section_with c.args.cid c.args.block)
     (subst (λ (state : VerifierState). HasReceived state (section_with c.args.cid c.args.block) (Ok tt)) (sym c.self.view_is) received) in
@@ -61,8 +62,8 @@ returns-in_err-place-clause-stands g c sections written h =
 pub returns-in_err-place-clause-cause : goal.returns-in_err-place-clause-cause
 returns-in_err-place-clause-cause g c =
     let p = err_from_is_err_and c.from_residual-in_err-place.result c.from_residual-in_err-place.ensures.1 in
-    let received = subst (λ (block : List ℕ). HasReceived c.args.self.now (section_with c.args.cid block) (Ok c.in_ok-receive.field-0)) c.as_slice-2.ensures
-    (record { surplus = c.in_ok-receive.ensures.surplus; received = c.in_ok-receive.ensures.received }) in
+    let received : HasReceived c.args.self.now (section_with c.args.cid c.args.block) (Ok tt) =
+    met_received c.args.self.now (section_with c.args.cid c.args.block) (Ok tt) c.requires.named c.in_ok-meets.ensures.surplus c.in_ok-meets.ensures.met in
     let there = wanted_there _ (section_with c.args.cid c.args.block)
     (subst (λ (state : VerifierState). HasReceived state (section_with c.args.cid c.args.block) (Ok tt)) (sym c.self.view_is) received) in
     rw (p.1, p.2) (placed_cause c.self.inside.opener there.at (section_with c.args.cid c.in_ok-block.block) sources.Section (into g.S.Sink.sink c.args.out.now c.place.new.out) c.place.new.self
@@ -71,8 +72,8 @@ returns-in_err-place-clause-cause g c =
 pub returns-clause-stands : goal.returns-clause-stands
 returns-clause-stands g c sections written h =
     let bytes = subst (λ (block : List ℕ). All (λ b. b < 256) block) c.as_slice.ensures c.are_bytes.ensures in
-    let received = subst (λ (block : List ℕ). HasReceived c.args.self.now (section_with c.args.cid block) (Ok c.in_ok-receive.field-0)) c.as_slice-2.ensures
-    (record { surplus = c.in_ok-receive.ensures.surplus; received = c.in_ok-receive.ensures.received }) in
+    let received : HasReceived c.args.self.now (section_with c.args.cid c.args.block) (Ok tt) =
+    met_received c.args.self.now (section_with c.args.cid c.args.block) (Ok tt) c.requires.named c.in_ok-meets.ensures.surplus c.in_ok-meets.ensures.met in
     let going = subst (λ (state : VerifierState). IsGoing state sections written) (sym c.self.view_is) h in
     let there = wanted_there _ (section_with c.args.cid c.args.block)
     (subst (λ (state : VerifierState). HasReceived state (section_with c.args.cid c.args.block) (Ok tt)) (sym c.self.view_is) received) in
