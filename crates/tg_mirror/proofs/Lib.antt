@@ -1,4 +1,3 @@
 mod Digests
-mod Hello
 mod Mirroring
 mod SameReplies

@@ -3,11 +3,13 @@
 
 mod asked;
 mod blocks;
+mod mirrored;
 mod shapes;
 mod stored;
 
 pub use asked::{ALL, Asked, BLOCK, Case, ENTITY, case_of};
 pub use blocks::{Block, Dag, Edge, stored_under};
+pub use mirrored::hello_mirrored;
 pub use shapes::{OddPart, Shape};
 pub use stored::{Stored, chain, chain_down, raw_stored, store, text_of};
 use tg_cid::{Cid, Codec};
