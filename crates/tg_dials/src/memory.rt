@@ -97,6 +97,7 @@ impl MemDial {
         ensures link { IfOk result (λ link. (reply : Items ℕ) × (self.old.replies ≡ reply ∷ self.new.replies) × IsLinkTo self.new reply link) }
         ensures quiet { OnOk result (self.new.faults ≡ self.old.faults) }
         ensures err_rose { OnErr result (Rose self.old.faults self.new.faults) }
+        ensures err_count { OnErr result (self.new.faults ≡ counted self.old.faults) }
         ensures err_kept { OnErr result (self.new.replies ≡ self.old.replies) }
         ensures counted { self.old.faults ≤ self.new.faults }
         ensures call { self.new.made ≡ counted self.old.made }
@@ -144,6 +145,7 @@ impl Dial for MemDial {
 
         ensures fails { Contains self.old.fails self.old.made → IsErr result }
         ensures none_left { self.old.replies ≡ [] → IsErr result }
+        ensures err_count { OnErr result (self.new.faults ≡ counted self.old.faults) }
         ensures err_kept { OnErr result (self.new.replies ≡ self.old.replies) }
         ensures link { IfOk result (λ link. (reply : Items ℕ) × (self.old.replies ≡ reply ∷ self.new.replies) × IsLinkTo self.new reply link) }
         ensures call { self.new.made ≡ counted self.old.made }

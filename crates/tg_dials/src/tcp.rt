@@ -1,5 +1,5 @@
 //! Dials over TCP.
-ghost use Rattle.std.specs.Prelude.{◌≡◌, ◌+◌, ◌≤◌, IfOk, false};
+ghost use Rattle.std.specs.Prelude.{◌≡◌, ◌+◌, ◌≤◌, IfOk, OnErr, false};
 ghost use Rattle.tg_dials.specs.Dials.{IsDialled, IsHungUp, KeepsCalls, KeepsComing, KeepsMissed, at_dial, dialled_link};
 ghost use Rattle.tg_dials.specs.Tcp.{tcp_dial};
 ghost use Rattle.tg_faults.specs.Faults.{Rose, counted};
@@ -91,6 +91,7 @@ impl<R: Net + Drop> Dial for TcpDial<R> {
         ensures counted { self.old.faults ≤ self.new.faults }
 
         ensures silence { IfOk result (λ link. link.silence ≡ Silence.Fails) }
+        ensures err_count { OnErr result (self.new.faults ≡ counted self.old.faults) }
     {
         match link_to(&self.net, addr) {
             Ok(link) => Ok(link),
