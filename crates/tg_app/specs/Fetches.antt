@@ -37,6 +37,7 @@ IsFetchRefusal faults.BadReplyHead refusal = refusal ≡ refusals.BadReplyHead
 IsFetchRefusal faults.BadFraming refusal = refusal ≡ refusals.BadFraming
 IsFetchRefusal (faults.BadCar fault) refusal = refusal ≡ refusals.BadCar
 IsFetchRefusal faults.PeerFault refusal = refusal ≡ refusals.PeerFault
+IsFetchRefusal faults.KeepFault refusal = refusal ≡ refusals.PackFault
 IsFetchRefusal faults.OutOfMemory refusal = refusal ≡ refusals.OutOfMemory
 
 abbrev pub IsFetchEnd : Result ⊤ FetchFault → Option CommandFault → Type 0

@@ -52,6 +52,7 @@ pub(crate) fn refusal_of_fetch(alloc: Global, fault: FetchFault) -> CommandFault
         FetchFault::BadFraming => CommandFault::BadFraming,
         FetchFault::BadCar(_) => CommandFault::BadCar,
         FetchFault::PeerFault => CommandFault::PeerFault,
+        FetchFault::KeepFault => CommandFault::PackFault,
         FetchFault::OutOfMemory => CommandFault::OutOfMemory,
     }
 }

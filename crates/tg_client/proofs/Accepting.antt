@@ -121,6 +121,7 @@ module _ (received : ReceivedLaws) (q : QueryParts) (limits : LimitNumbers) (inp
     only (faults.BadCar car) (no_car, h) =
         absurd (received.unbroken limits.block heard (h.more ++ l.left) h.last all car (broken_whole h.last h.more h.unheard_is) no_car h.brings)
     only faults.InputFault h = own faults.InputFault tt
+    only faults.KeepFault h = own faults.KeepFault tt
     only faults.OutOfMemory h = own faults.OutOfMemory tt
 
 -- ---- sections that fit

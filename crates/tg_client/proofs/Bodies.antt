@@ -52,6 +52,7 @@ not_ended q limits heard sections text (faults.Refused refusals.SinkFault) short
 not_ended q limits heard sections text (faults.Refused refusals.OutOfMemory) short h = h
 not_ended q limits heard sections text (faults.BadCar car) short h = h
 not_ended q limits heard sections text faults.InputFault short h = h
+not_ended q limits heard sections text faults.KeepFault short h = h
 not_ended q limits heard sections text faults.OutOfMemory short h = h
 
 -- of a CAR that came whole the header is, and a block is wanted only where one is behind all sections
@@ -127,6 +128,7 @@ module _ (cars : CarLaws) (received : ReceivedLaws) (verified : VerifiedLaws) (a
     own_end (faults.Refused fault) own = inr own
     own_end (faults.BadCar car) own = own
     own_end faults.InputFault own = own
+    own_end faults.KeepFault own = own
     own_end faults.OutOfMemory own = own
 
     module _ (limits : LimitNumbers) (within : IsWithinLimits q limits d) (car : List ℕ) where

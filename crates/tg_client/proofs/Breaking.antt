@@ -3,16 +3,17 @@ use Rattle.std.specs.Prelude.{⊤}
 use Rattle.std.proofs.Common.{◌≡◌, ℕ, ◌⊎◌, ◌<◌, ◌≤◌, List, [], ◌∷◌, ◌++◌, length, All, Err, refl, ap, sym, subst, ◌∙◌, inl, inr, append_assoc, arith}
 use Rattle.std.proofs.lemmas.List.{length-append}
 use Rattle.tg_car.specs.Faults.{Brings, PassesLimit}
-use Rattle.tg_car.specs.History.{IsAmongSections}
-use Rattle.tg_car.specs.declared.event.Event.{Event}
 use Rattle.tg_car.specs.declared.fault.CarFault.{CarFault}
 use Rattle.tg_car.specs.declared.fault.CarFault.TheVariants as cars
 use Rattle.tg_traversal.specs.Left.{WantedAt}
 use Rattle.tg_model_laws.specs.Stages.{Given}
-use Rattle.tg_model_laws.specs.Tasks.{Task}
+use Rattle.tg_model_laws.specs.Tasks.{Task, spot_of}
 use Rattle.tg_cid.specs.Cid.{CidParts}
+use Rattle.tg_cid.specs.Names.{Names}
 use Rattle.tg_model.specs.Dag.{Dag, Section}
+use Rattle.tg_model.specs.Fits.{Fits, IsInProgress}
 use Rattle.tg_model.specs.LimitNumbers.{LimitNumbers}
+use Rattle.tg_model.specs.PathWalk.{Spot}
 use Rattle.tg_model.specs.Queries.{QueryParts}
 use Rattle.tg_model.specs.declared.limits.LimitKind.TheVariants as kinds
 use Rattle.tg_streams.specs.Streams.{Output, Put}
@@ -25,13 +26,13 @@ use Rattle.tg_verify.specs.Taken.{IsThrough, IsUpTo}
 use Rattle.tg_verify.specs.declared.fault.Refusal.{Refusal}
 use Rattle.tg_verify.specs.declared.fault.Refusal.TheVariants as refusals
 use Rattle.tg_bytes.specs.Lists.{All-split_push}
-use Rattle.tg_client.specs.Body.{IsAfterWanted, IsBehindHeader, IsLastWanted, IsOneLess, IsStopped, IsTakenBy, unknown}
+use Rattle.tg_client.specs.Body.{IsAfterWanted, IsBehindHeader, IsLastWanted, IsOneLess, IsStoppedAt, IsTakenBy, unknown}
 use Rattle.tg_client.specs.Ends.{EndsBy, IsBrokenBy, IsWaiting, IsWithinReceived, SaysFor, fault_of_car, fault_of_refusal}
-use Rattle.tg_client.specs.Received.{HasHeader, HasReceived, sections_given}
+use Rattle.tg_client.specs.Received.{HasHeader, HasReceived}
 use Rattle.tg_client.specs.ReceivedLaws.{ReceivedLaws}
 use Rattle.tg_client.specs.declared.fault.ClientFault.{ClientFault}
 use Rattle.tg_client.specs.declared.fault.ClientFault.TheVariants as faults
-use Rattle.tg_client.proofs.Going.{held_front, surplus_of}
+use Rattle.tg_client.proofs.Going.{held_front}
 
 -- ---- by the reader
 
@@ -166,18 +167,14 @@ module _ (q : QueryParts) (limits : LimitNumbers) (written : List ℕ) (now : �
   taken_first refusals.OutOfMemory h = inl all_of_none
 
 -- at a place behind the header, or a section
-module _ (received : ReceivedLaws) (q : QueryParts) (limits : LimitNumbers) (bytes heard rest : List ℕ) (whole : bytes ≡ heard ++ rest) (within : IsWithinReceived limits heard) (sections : List Section)
+module _ (received : ReceivedLaws) (q : QueryParts) (limits : LimitNumbers) (heard rest : List ℕ) (within : IsWithinReceived limits heard) (sections : List Section)
     (after : HasReceived limits.block heard sections) (behind : IsBehindHeader q limits heard sections) (written text : List ℕ) (out : Output) (put : Put text out)
-    (before taken : ℕ)
-    (extra : (number : ℕ) → IsSurplus q limits sections (written ++ text) number → taken ≡ before → IsStopped q limits taken bytes written out (faults.Refused (refusals.Extra number))) where
+    (before taken : ℕ) (wanted_there : (number : ℕ) → IsSurplus q limits sections (written ++ text) number → ⊥) where
   there : (fault : ClientFault) → EndsBy q limits unknown heard rest sections (written ++ text) (Err fault)
-      → ForEachSound q (λ d. SaysFor q d sections (written ++ text) (Err fault)) → IsAfterWanted q limits heard sections fault → IsTakenBy fault sections taken → IsStopped q limits taken bytes written out fault
+      → ForEachSound q (λ d. SaysFor q d sections (written ++ text) (Err fault)) → IsAfterWanted q limits heard sections fault → IsTakenBy fault sections taken
+      → IsStoppedAt q limits taken heard rest sections written out fault
   there fault ends sound wanted counted = record {
-    heard = heard;
-    unheard = rest;
-    whole = whole;
     within = within;
-    sections = sections;
     received = after;
     text = text;
     put = put;
@@ -211,8 +208,9 @@ module _ (received : ReceivedLaws) (q : QueryParts) (limits : LimitNumbers) (byt
       by (inr (wanted, none)) = none
 
   pub refused_there : (fault : Refusal) → HasRefused q limits sections (written ++ text) fault → HasPutCause (Err fault) out
-      → ForEachSound q (λ d. AnswersFor q d sections (written ++ text) (Err fault)) → TakenAs sections before taken fault → IsStopped q limits taken bytes written out (fault_of_refusal fault)
-  refused_there (refusals.Extra number) h cause sound c = extra number h c
+      → ForEachSound q (λ d. AnswersFor q d sections (written ++ text) (Err fault)) → TakenAs sections before taken fault
+      → IsStoppedAt q limits taken heard rest sections written out (fault_of_refusal fault)
+  refused_there (refusals.Extra number) h cause sound c = absurd (wanted_there number h)
   refused_there (refusals.Limit kinds.Block number) h cause sound c = absurd (none_large number h)
   refused_there (refusals.Limit kinds.Received number) h cause sound c = absurd (none_received number h)
   refused_there (refusals.Truncated want number) h cause sound c = absurd cause
@@ -237,45 +235,50 @@ no_surplus : (q : QueryParts) (limits : LimitNumbers) (written : List ℕ) (numb
 no_surplus q limits written number h =
     let none : 0 ≡ length (h.taken ++ h.section ∷ []) = ap length h.received in omega (arith, none, length-append h.taken (h.section ∷ []))
 
+-- nor a block that its CID doesn't name
+pub none_refused : (q : QueryParts) (limits : LimitNumbers) (written : List ℕ) (cid : CidParts) → HasRefused q limits [] written (refusals.BadDigest cid) → ⊥
+none_refused q limits written cid (inl h) = let none : 0 ≡ length (h.taken ++ h.section ∷ []) = ap length h.received in omega (arith, none, length-append h.taken (h.section ∷ []))
+none_refused q limits written cid (inr h) = h.cause
+
+-- and where its CID names the last block it isn't refused for that
+pub named_not_refused : (q : QueryParts) (limits : LimitNumbers) (sections : List Section) (section : Section) (written : List ℕ) (cid : CidParts)
+    → HasRefused q limits (sections ++ section ∷ []) written (refusals.BadDigest cid) → Names section.cid section.block → ⊥
+named_not_refused q limits sections section written cid (inr h) named = h.cause
+named_not_refused q limits sections section written cid (inl h) named = by h.cause
+  where
+    by : HasSectionCause q limits h.up_to.given h.up_to.later h.at h.section (refusals.BadDigest cid) → ⊥
+    by (inr (wanted, none)) = none
+    by (inl (is, misnamed)) =
+        let (_, same) = last_same sections h.taken section h.section h.received in
+        misnamed.misnamed (subst (λ (s : Section). Names s.cid s.block) same named)
+
+-- what fits doesn't want a block
+abbrev pub FitsOrWants : Type 0
+FitsOrWants = (q : QueryParts) (sections : List Section) (a b : Dag) (x : List ℕ) (w : Spot) → Fits a q sections x → IsInProgress b q sections w → ⊥
+
 -- at a section where a block was wanted
-module _ (laws : AnswerLaws) (received : ReceivedLaws) (q : QueryParts) (limits : LimitNumbers) (heard part rest : List ℕ) (given : List Event) (sections : List Section) (section : Section)
-    (before : HasReceived limits.block heard sections) (after : HasReceived limits.block (heard ++ part) (sections ++ section ∷ []))
-    (past : (bytes : List ℕ) × IsAmongSections limits.block heard given bytes) (are : sections_given given ≡ sections) (some : 0 < length (part ++ rest)) (written text : List ℕ) (out : Output) (put : Put text out) (at : WantedAt) (up_to : IsUpTo q limits sections written at)
-    (few : length heard < limits.received) (within : IsWithinReceived limits (heard ++ part)) (header : HasHeader limits.block (heard ++ part)) (old now : ℕ) (counted : old ≡ count_of sections) where
+module _ (laws : AnswerLaws) (apart : FitsOrWants) (received : ReceivedLaws) (q : QueryParts) (limits : LimitNumbers) (heard rest : List ℕ) (sections : List Section) (section : Section)
+    (after : HasReceived limits.block heard (sections ++ section ∷ [])) (written text : List ℕ) (out : Output) (put : Put text out) (at : WantedAt)
+    (up_to : IsUpTo q limits sections written at) (within : IsWithinReceived limits heard) (header : HasHeader limits.block heard) (old now : ℕ) where
   last_wanted : IsLastWanted q limits (sections ++ section ∷ [])
   last_wanted = record { taken = sections; section = section; sections_are = refl; text = written; at = at; up_to = up_to }
 
-  extra_ends : (number : ℕ) → IsSurplus q limits (sections ++ section ∷ []) (written ++ text) number → now ≡ old → IsStopped q limits now (heard ++ (part ++ rest)) written out (faults.Refused (refusals.Extra number))
-  extra_ends number h stays =
+  not_surplus : (number : ℕ) → IsSurplus q limits (sections ++ section ∷ []) (written ++ text) number → ⊥
+  not_surplus number h =
       let (same, _) = last_same sections h.taken section h.section h.received in
-      let through : IsThrough q limits sections (written ++ text) = subst (λ (l : List Section). IsThrough q limits l (written ++ text)) (sym same) h.through in
-      let number_is = h.number_is ∙ ap (λ (l : List Section). count_of l) (sym same) in
-      let more : 0 < length (past.0 ++ (part ++ rest)) = omega (arith, some, length-append past.0 (part ++ rest)) in
-      record {
-        heard = heard;
-        unheard = part ++ rest;
-        whole = refl;
-        within = omega (arith, few);
-        sections = sections;
-        received = before;
-        text = text;
-        put = put;
-        ends = surplus_of q limits limits.block heard (part ++ rest) given sections (written ++ text) number past are more (omega (arith, few)) through number_is;
-        sound = λ d sound root. (laws.answer_front q d sections (written ++ text) (laws.sound_through q limits d sections (written ++ text) sound root through), tt);
-        wanted = tt;
-        counted = stays ∙ counted;
-      }
+      let fit = laws.through q limits sections (written ++ text) (subst (λ (l : List Section). IsThrough q limits l (written ++ text)) (sym same) h.through) in
+      let going = laws.up_to q limits sections written at up_to in
+      apart q sections fit.s going.s (written ++ text) (spot_of at.want at.cid) fit.fits going.progress
 
   pub refused_now : (fault : Refusal) → HasRefused q limits (sections ++ section ∷ []) (written ++ text) fault → HasPutCause (Err fault) out
       → ForEachSound q (λ d. AnswersFor q d (sections ++ section ∷ []) (written ++ text) (Err fault)) → TakenAs (sections ++ section ∷ []) old now fault
-      → IsStopped q limits now (heard ++ (part ++ rest)) written out (fault_of_refusal fault)
-  refused_now = refused_there received q limits (heard ++ (part ++ rest)) (heard ++ part) rest (sym (append_assoc heard part rest)) within (sections ++ section ∷ []) after
-      (record { header = header; last = inr last_wanted }) written text out put old now extra_ends
+      → IsStoppedAt q limits now heard rest (sections ++ section ∷ []) written out (fault_of_refusal fault)
+  refused_now = refused_there received q limits heard rest within (sections ++ section ∷ []) after (record { header = header; last = inr last_wanted }) written text out put old now not_surplus
 
 -- where the header is whole
-module _ (received : ReceivedLaws) (q : QueryParts) (limits : LimitNumbers) (bytes heard rest : List ℕ) (whole : bytes ≡ heard ++ rest) (within : IsWithinReceived limits heard)
+module _ (received : ReceivedLaws) (q : QueryParts) (limits : LimitNumbers) (heard rest : List ℕ) (within : IsWithinReceived limits heard)
     (after : HasReceived limits.block heard []) (header : HasHeader limits.block heard) (written text : List ℕ) (out : Output) (put : Put text out) (now : ℕ) where
   pub refused_first : (fault : Refusal) → HasRefused q limits [] (written ++ text) fault → HasPutCause (Err fault) out
-      → ForEachSound q (λ d. AnswersFor q d [] (written ++ text) (Err fault)) → TakenAs [] 0 now fault → IsStopped q limits now bytes written out (fault_of_refusal fault)
-  refused_first = refused_there received q limits bytes heard rest whole within [] after (record { header = header; last = inl refl }) written text out put 0 now
-      (λ number h none. absurd (no_surplus q limits (written ++ text) number h))
+      → ForEachSound q (λ d. AnswersFor q d [] (written ++ text) (Err fault)) → TakenAs [] 0 now fault → IsStoppedAt q limits now heard rest [] written out (fault_of_refusal fault)
+  refused_first = refused_there received q limits heard rest within [] after (record { header = header; last = inl refl }) written text out put 0 now
+      (λ number h. no_surplus q limits (written ++ text) number h)

@@ -2,10 +2,9 @@
 use Rattle.std.proofs.Common.{ℕ, List, [], ◌++◌}
 use Rattle.tg_client.specs.Body.{WentOn}
 use Rattle.tg_client.specs.declared.body.CarBody.{CarBody}
-use Rattle.tg_streams.specs.Joining.{SinkJoins, SourceJoins, put_nothing, took_nothing, took_took, took_untaken}
+use Rattle.tg_streams.specs.Joining.{SinkJoins, SourceJoins, put_nothing, put_put, took_nothing, took_took, took_untaken}
 use Rattle.tg_streams.specs.Streams.{Ended, Input, Output, SinkMeaning, SourceMeaning, Took, Untaken, into, through}
 use Rattle.tg_client.specs.Body.{IsBody}
-use Rattle.tg_client.proofs.Feeding.{went_further}
 
 -- these bytes were taken, and the body stands for them
 pub record HasCome (body : CarBody) (input : Input) (out : Output) : Type 0 where
@@ -29,7 +28,12 @@ module _ {I S : Type 0} (m : SourceMeaning I) (joins : SourceJoins I m) (n : Sin
   come_more a b c x y z old new bytes come took went = record {
     heard = come.heard ++ bytes;
     took = took_took I m a b c come.heard bytes joins come.took took;
-    went = went_further n puts x y z [] come.went.text come.went.put new (come.heard ++ bytes) went;
+    went = record {
+      sections = went.sections;
+      text = come.went.text ++ went.text;
+      put = put_put S n x y z come.went.text went.text puts come.went.put went.put;
+      is_body = went.is_body;
+    };
   }
 
   pub ended_there : (a b c : I) → Ended (through m b c) → Ended (through m a c)

@@ -18,7 +18,7 @@ use Rattle.tg_verify.specs.Laws.{AnswerLaws}
 use Rattle.tg_verify.specs.Sound.{ForEachSound, IsItsFront}
 use Rattle.tg_verify.specs.State.{count_of}
 use Rattle.tg_verify.specs.Taken.{IsGoing, IsThrough}
-use Rattle.tg_client.specs.Body.{IsAfterWanted, IsBody, IsBodyAt, IsStopped, IsTakenBy, unknown}
+use Rattle.tg_client.specs.Body.{IsAfterWanted, IsBody, IsBodyAt, IsStoppedAt, IsTakenBy, unknown}
 use Rattle.tg_client.specs.Ends.{EndsBy, HasSurplus, IsBeforeHeader, IsHeld, IsHeldExactly, IsWaiting, IsWithinReceived, SaysFor}
 use Rattle.tg_client.specs.Received.{HasReceived, IsCarOf, in_car, out_of_car, sections_given}
 use Rattle.tg_client.specs.declared.body.CarBody.{CarBody}
@@ -87,15 +87,12 @@ held_front laws q limits heard sections written (inr through) d sound root = law
 
 -- ---- a refusal with which nothing more is put
 
-pub stopped_here : (q : QueryParts) (limits : LimitNumbers) (taken : ℕ) (bytes heard unheard : List ℕ) (sections : List Section) (written : List ℕ) (out : Output) (fault : ClientFault) → bytes ≡ heard ++ unheard
+pub stopped_here : (q : QueryParts) (limits : LimitNumbers) (taken : ℕ) (heard unheard : List ℕ) (sections : List Section) (written : List ℕ) (out : Output) (fault : ClientFault)
     → IsWithinReceived limits heard → HasReceived limits.block heard sections → Put [] out → EndsBy q limits unknown heard unheard sections written (Err fault)
-    → ForEachSound q (λ d. SaysFor q d sections written (Err fault)) → IsAfterWanted q limits heard sections fault → IsTakenBy fault sections taken → IsStopped q limits taken bytes written out fault
-stopped_here q limits taken bytes heard unheard sections written out fault whole within received put ends sound wanted counted = record {
-  heard = heard;
-  unheard = unheard;
-  whole = whole;
+    → ForEachSound q (λ d. SaysFor q d sections written (Err fault)) → IsAfterWanted q limits heard sections fault → IsTakenBy fault sections taken
+    → IsStoppedAt q limits taken heard unheard sections written out fault
+stopped_here q limits taken heard unheard sections written out fault within received put ends sound wanted counted = record {
   within = within;
-  sections = sections;
   received = received;
   text = [];
   put = put;

@@ -62,6 +62,7 @@ module _ (cars : CarLaws) (received : ReceivedLaws) (q : QueryParts) (limits : L
   early (faults.BadCar car) (no_car, h) w =
       absurd (received.unbroken limits.block heard (h.more ++ l.left) h.last [] car (broken_whole h.last h.more h.unheard_is) no_car h.brings)
   early faults.InputFault h w = inr tt
+  early faults.KeepFault h w = inr tt
   early faults.OutOfMemory h w = inr tt
 
 module _ (cars : CarLaws) (received : ReceivedLaws) (q : QueryParts) (limits : LimitNumbers) (input : Input) (out : Output) (bytes : List ℕ) (told : input.left_old ≡ Some bytes)

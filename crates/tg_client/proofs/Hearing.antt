@@ -103,6 +103,7 @@ ends_there q limits input heard sections text (Err (faults.Refused refusals.Sink
 ends_there q limits input heard sections text (Err (faults.Refused refusals.OutOfMemory)) ended h = absurd h
 ends_there q limits input heard sections text (Err (faults.BadCar car)) ended h = absurd h
 ends_there q limits input heard sections text (Err faults.InputFault) ended h = absurd h
+ends_there q limits input heard sections text (Err faults.KeepFault) ended h = absurd h
 ends_there q limits input heard sections text (Err faults.OutOfMemory) ended h = absurd h
 
 pub end_heard : (limits : LimitNumbers) (q : QueryParts) (input : Input) (out : Output) (heard : List ℕ) (sections : List Section) (text : List ℕ) (result : Result ⊤ ClientFault) → Took heard input → Ended input
@@ -148,6 +149,7 @@ known q limits input heard unheard sections text (faults.Refused refusals.SinkFa
 known q limits input heard unheard sections text (faults.Refused refusals.OutOfMemory) h = h
 known q limits input heard unheard sections text (faults.BadCar car) h = h
 known q limits input heard unheard sections text faults.InputFault h = h
+known q limits input heard unheard sections text faults.KeepFault h = h
 known q limits input heard unheard sections text faults.OutOfMemory h = h
 
 pub stop_heard : (limits : LimitNumbers) (q : QueryParts) (input : Input) (out : Output) (bytes : List ℕ) (fault : ClientFault) → Took bytes input → (taken : ℕ) → IsStopped q limits taken bytes [] out fault
@@ -186,23 +188,26 @@ end_cause input out (Err (faults.Refused refusals.SinkFault)) heard put is = abs
 end_cause input out (Err (faults.Refused refusals.OutOfMemory)) heard put is = (heard, put)
 end_cause input out (Err (faults.BadCar car)) heard put is = (heard, put)
 end_cause input out (Err faults.InputFault) heard put is = absurd (is _ refl)
+end_cause input out (Err faults.KeepFault) heard put is = absurd (is _ refl)
 end_cause input out (Err faults.OutOfMemory) heard put is = (heard, put)
 
-pub stop_cause : (input : Input) (out : Output) (fault : ClientFault) → input.faults_new ≡ input.faults_old → HasOutCause out fault → HasStreamCause input out (Err fault)
-stop_cause input out (faults.Refused (refusals.Truncated want number)) heard h = (heard, h)
-stop_cause input out (faults.Refused (refusals.Extra number)) heard h = (heard, h)
-stop_cause input out (faults.Refused (refusals.Limit kind number)) heard h = (heard, h)
-stop_cause input out (faults.Refused (refusals.BadDigest cid)) heard h = (heard, h)
-stop_cause input out (faults.Refused (refusals.WrongBlock want got)) heard h = (heard, h)
-stop_cause input out (faults.Refused (refusals.BadBlock cid fault)) heard h = (heard, h)
-stop_cause input out (faults.Refused (refusals.BadSize declared actual)) heard h = (heard, h)
-stop_cause input out (faults.Refused (refusals.NotFolder segment)) heard h = (heard, h)
-stop_cause input out (faults.Refused (refusals.NotThere segment)) heard h = (heard, h)
-stop_cause input out (faults.Refused refusals.SinkFault) heard h = (heard, h)
-stop_cause input out (faults.Refused refusals.OutOfMemory) heard h = (heard, h)
-stop_cause input out (faults.BadCar car) heard h = (heard, h)
-stop_cause input out faults.InputFault heard h = absurd h
-stop_cause input out faults.OutOfMemory heard h = (heard, h)
+pub stop_cause : (input : Input) (out : Output) (fault : ClientFault) → input.faults_new ≡ input.faults_old → (fault ≡ faults.KeepFault → ⊥) → HasOutCause out fault
+    → HasStreamCause input out (Err fault)
+stop_cause input out (faults.Refused (refusals.Truncated want number)) heard unkept h = (heard, h)
+stop_cause input out (faults.Refused (refusals.Extra number)) heard unkept h = (heard, h)
+stop_cause input out (faults.Refused (refusals.Limit kind number)) heard unkept h = (heard, h)
+stop_cause input out (faults.Refused (refusals.BadDigest cid)) heard unkept h = (heard, h)
+stop_cause input out (faults.Refused (refusals.WrongBlock want got)) heard unkept h = (heard, h)
+stop_cause input out (faults.Refused (refusals.BadBlock cid fault)) heard unkept h = (heard, h)
+stop_cause input out (faults.Refused (refusals.BadSize declared actual)) heard unkept h = (heard, h)
+stop_cause input out (faults.Refused (refusals.NotFolder segment)) heard unkept h = (heard, h)
+stop_cause input out (faults.Refused (refusals.NotThere segment)) heard unkept h = (heard, h)
+stop_cause input out (faults.Refused refusals.SinkFault) heard unkept h = (heard, h)
+stop_cause input out (faults.Refused refusals.OutOfMemory) heard unkept h = (heard, h)
+stop_cause input out (faults.BadCar car) heard unkept h = (heard, h)
+stop_cause input out faults.InputFault heard unkept h = absurd h
+stop_cause input out faults.KeepFault heard unkept h = absurd (unkept refl)
+stop_cause input out faults.OutOfMemory heard unkept h = (heard, h)
 
 -- quiet before
 module _ {S : Type 0} (m : SinkMeaning S) (a b c : S) (quiet : OutputQuiet (into m a b)) where
@@ -220,4 +225,5 @@ module _ {S : Type 0} (m : SinkMeaning S) (a b c : S) (quiet : OutputQuiet (into
   out_cause_from (faults.Refused refusals.OutOfMemory) h = h ∙ quiet
   out_cause_from (faults.BadCar car) h = h ∙ quiet
   out_cause_from faults.InputFault h = absurd h
+  out_cause_from faults.KeepFault h = h ∙ quiet
   out_cause_from faults.OutOfMemory h = h ∙ quiet

@@ -1,6 +1,7 @@
 mod Sections
 mod Fronts
 mod Whole
+mod Kept
 mod Refusals
 mod Coming
 mod Going

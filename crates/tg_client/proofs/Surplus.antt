@@ -189,6 +189,7 @@ module _ (laws : AnswerLaws) (verified : VerifiedLaws) (fronts : FitsByFronts) (
         breaks (past z rest is e) = waits_over z rest text is e h.waits
         breaks (before y z rest e is) = received.unbroken limits.block heard z h.last all fault (whole_at y z h.last e (next_is y z h.last h.more e h.unheard_is)) no_car h.brings
     over faults.InputFault h w = inr tt
+    over faults.KeepFault h w = inr tt
     over faults.OutOfMemory h w = inr tt
 
     -- it isn't accepted

@@ -100,7 +100,20 @@ IsTakenBy (faults.Refused (refusals.WrongBlock want got)) sections taken = IsOne
 IsTakenBy (faults.Refused fault) sections taken = (taken ≡ count_of sections) ⊎ IsOneLess sections taken
 IsTakenBy (faults.BadCar fault) sections taken = taken ≡ count_of sections
 IsTakenBy faults.InputFault sections taken = taken ≡ count_of sections
+IsTakenBy faults.KeepFault sections taken = taken ≡ count_of sections
 IsTakenBy faults.OutOfMemory sections taken = (taken ≡ count_of sections) ⊎ IsOneLess sections taken
+
+-- these bytes were heard and those came behind them when there was a refusal; these sections stand whole in what was
+-- heard, so many of them are told as taken, and a text was put before
+pub record IsStoppedAt (q : QueryParts) (limits : LimitNumbers) (taken : ℕ) (heard unheard : List ℕ) (sections : List Section) (written : List ℕ) (out : Output) (fault : ClientFault) : Type 0 where
+  pub within : IsWithinReceived limits heard
+  pub received : HasReceived limits.block heard sections
+  pub text : List ℕ
+  pub put : Put text out
+  pub ends : EndsBy q limits unknown heard unheard sections (written ++ text) (Err fault)
+  pub sound : ForEachSound q (λ d. SaysFor q d sections (written ++ text) (Err fault))
+  pub wanted : IsAfterWanted q limits heard sections fault
+  pub counted : IsTakenBy fault sections taken
 
 -- in these bytes there was a refusal, with so many sections told as taken, and a text was put before
 pub record IsStopped (q : QueryParts) (limits : LimitNumbers) (taken : ℕ) (bytes written : List ℕ) (out : Output) (fault : ClientFault) : Type 0 where

@@ -15,11 +15,13 @@ use Rattle.tg_model.specs.LimitNumbers.{LimitNumbers}
 use Rattle.tg_model.specs.Queries.{QueryParts}
 use Rattle.tg_model.specs.declared.limits.LimitKind.TheVariants as kinds
 use Rattle.tg_streams.specs.Streams.{Ended, Input, InputQuiet, InputRose, Output, OutputQuiet, OutputRose, Put, Took}
-use Rattle.tg_verify.specs.Refusals.{HasRefused, IsCutShort}
+use Rattle.tg_verify.specs.Refusals.{HasRefused, IsCutShort, IsNamedBlock}
 use Rattle.tg_verify.specs.Sound.{ForEachSound, IsItsAnswer, IsItsFront, SaysOfDag}
 use Rattle.tg_verify.specs.State.{count_of}
 use Rattle.tg_verify.specs.Taken.{IsThrough, IsUpTo}
 use Rattle.tg_verify.specs.declared.fault.Refusal.{Refusal}
+use Rattle.tg_model.specs.declared.stores.KeepFault.{KeepFault}
+use Rattle.tg_model.specs.declared.stores.KeepFault.TheVariants as keeps
 use Rattle.tg_verify.specs.declared.fault.Refusal.TheVariants as refusals
 
 -- ---- what was heard
@@ -78,6 +80,20 @@ pub record IsBrokenBy (q : QueryParts) (limits : LimitNumbers) (heard unheard : 
   pub brings : why (heard ++ last ∷ [])
   pub within : length heard < limits.received
 
+-- a block is wanted, and with the next bytes, which may be received, a section stands whole whose CID names its block; it
+-- isn't kept
+pub record IsUnkept (q : QueryParts) (limits : LimitNumbers) (heard unheard : List ℕ) (sections : List Section) (text : List ℕ) : Type 0 where
+  pub at : WantedAt
+  pub up_to : IsUpTo q limits sections text at
+  pub header : HasHeader limits.block heard
+  pub front : List ℕ
+  pub more : List ℕ
+  pub unheard_is : unheard ≡ front ++ more
+  pub section : Section
+  pub received : HasReceived limits.block (heard ++ front) (sections ++ section ∷ [])
+  pub named : IsNamedBlock limits section
+  pub within : length (heard ++ front) ≤ limits.received
+
 -- the input has ended, and all of it was heard
 pub record IsAllHeard (unheard : List ℕ) (input : Input) : Type 0 where
   pub all : unheard ≡ []
@@ -110,6 +126,7 @@ EndsBy q limits input heard unheard sections text (Err (faults.BadCar fault)) =
     (IsNoCar fault × IsBrokenBy q limits heard unheard sections text (λ bytes. Brings limits.block bytes fault))
 EndsBy q limits input heard unheard sections text (Err faults.InputFault) =
     ((unheard ≡ []) × IsHeld q limits heard sections text)
+EndsBy q limits input heard unheard sections text (Err faults.KeepFault) = IsUnkept q limits heard unheard sections text
 EndsBy q limits input heard unheard sections text (Err faults.OutOfMemory) =
     (HasRefused q limits sections text refusals.OutOfMemory ⊎ IsHeld q limits heard sections text)
 
@@ -137,9 +154,10 @@ pub record Verifies (q : QueryParts) (limits : LimitNumbers) (input : Input) (ou
   pub ends : EndsBy q limits input heard unheard sections text result
   pub sound : ForEachSound q (λ d. SaysFor q d sections text result)
 
--- faults of the input and of out come where one was counted, and nowhere else
+-- faults of the input and of out come where one was counted, and nowhere else; and none is of a keeper
 abbrev pub HasStreamCause : Input → Output → Result ⊤ ClientFault → Type 0
 HasStreamCause input out (Err faults.InputFault) = InputRose input × OutputQuiet out
+HasStreamCause input out (Err faults.KeepFault) = ⊥
 HasStreamCause input out (Err (faults.Refused refusals.SinkFault)) = InputQuiet input × OutputRose out
 HasStreamCause input out result = InputQuiet input × OutputQuiet out
 
@@ -148,6 +166,7 @@ HasStreamCause input out result = InputQuiet input × OutputQuiet out
 -- a counted fault, or want of memory
 abbrev pub IsOwnEnd : ClientFault → Type 0
 IsOwnEnd faults.InputFault = ⊤
+IsOwnEnd faults.KeepFault = ⊤
 IsOwnEnd faults.OutOfMemory = ⊤
 IsOwnEnd (faults.Refused refusals.SinkFault) = ⊤
 IsOwnEnd other = ⊥
@@ -175,3 +194,8 @@ abbrev pub fault_of_car : CarFault → ClientFault
 fault_of_car (cars.BlockLimit at number) = faults.Refused (refusals.Limit kinds.Block number)
 fault_of_car cars.OutOfMemory = faults.OutOfMemory
 fault_of_car car = faults.BadCar car
+
+-- a fault of a keeper; its want of memory is the client's own
+abbrev pub fault_of_keep : KeepFault → ClientFault
+fault_of_keep keeps.Failed = faults.KeepFault
+fault_of_keep keeps.OutOfMemory = faults.OutOfMemory

@@ -2,4 +2,5 @@ pub mod Received
 pub mod ReceivedLaws
 pub mod Ends
 pub mod Body
+pub mod Keeping
 pub mod BodyLaws

@@ -2,7 +2,9 @@
 ghost use Rattle.std.specs.Prelude.{◌≡◌, ◌↔◌, ◌++◌, ◌+◌, ◌<◌, ◌≤◌, [], ℕ, List as Items, Err, None, Some, IfErr, IfOk, IsTrue};
 ghost use Rattle.std.specs.Prelude.{MatchResult, length, take};
 ghost use Rattle.tg_client.specs.Body.{HasEnded, HasOutCause, IsBody, IsEndFault, IsStopped, WentOn};
+ghost use Rattle.tg_client.specs.Keeping.{HasKeepCause, StoppedKeeping, WentOnKeeping};
 ghost use Rattle.tg_model.specs.Dag.{Section};
+ghost use Rattle.tg_model.specs.Stores.{kept_in};
 ghost use Rattle.tg_streams.specs.Streams.{OutputQuiet, into};
 ghost use Rattle.tg_verify.specs.Absences.{path_limits, path_query};
 ghost use Rattle.tg_verify.specs.State.{next_cid, written_count};
@@ -12,7 +14,7 @@ use crate::fault::ClientFault;
 use crate::laws;
 use std::alloc::{AllocError, Global};
 use tg_car::{CarReader, Event};
-use tg_model::{LimitKind, Limits, Query};
+use tg_model::{DropKeep, Keep, LimitKind, Limits, Query};
 use tg_streams::Sink;
 use tg_verify::{Refusal, Verifier};
 
@@ -76,7 +78,8 @@ impl CarBody {
         }
     }
 
-    /// Whether no block is wanted: all sections came that the query asks for, or the verifier refused one.
+    /// Whether no block is wanted: all sections came that the query asks for, or the verifier refused, but for a section
+    /// whose CID doesn't name its block.
     pub fn is_whole(&self) -> bool
         ensures { IsTrue result ↔ (next_cid self.now.verifier.refused self.now.verifier.left.wanted ≡ None) }
     {
@@ -118,16 +121,63 @@ impl CarBody {
             (λ _. WentOn self.new (heard ++ piece.now) written (into S.sink out.old out.new))
             (λ fault. IsStopped self.old.verifier.left.query self.old.verifier.limits
             self.new.verifier.taken (heard ++ piece.now) written (into S.sink out.old out.new) fault) }
+        // Nothing is kept, and so no keeper fails.
+        ensures unkept { self.old.refused ≡ None → result ≡ Err ClientFault.KeepFault → ⊥ }
         ensures again { (fault : ClientFault) → self.old.refused ≡ Some fault
             → (result ≡ Err fault) × (self.new ≡ self.old) × (out.new ≡ out.old) }
         ensures refused { MatchResult result (λ _. self.new.refused ≡ None) (λ fault. self.new.refused ≡ Some fault) }
     {
+        self.feed_keep(piece, &mut DropKeep::new(), out)
+    }
+
+    /// Takes all of a piece, and hands the keeper each section whose CID names its block directly before the verifier takes
+    /// it; a section's block is hashed once in all.
+    ///
+    /// Errors, at the first byte where one holds: `Refused` with a `Limit` of kind `Received` where more bytes came
+    /// than may; with `Extra` behind the last wanted section; with a `Limit` of kind `Block` where a section declares
+    /// too large a block; with a refusal of the verifier at the last byte of the header or of a section; `BadCar` where
+    /// no CAR goes on so; `KeepFault` where the keeper failed at a section; and `OutOfMemory`. Each further call gives the
+    /// same error and changes nothing.
+    pub fn feed_keep<K: Keep, S: Sink>(
+        &mut self,
+        piece: &[u8],
+        keep: &mut K,
+        out: &mut S,
+    ) -> Result<(), ClientFault>
+        ensures query { self.new.verifier.left.query ≡ self.old.verifier.left.query }
+        ensures limits { self.new.verifier.limits ≡ self.old.verifier.limits }
+        ensures most { self.new.most ≡ self.old.most }
+        ensures heard { self.old.heard ≤ self.old.most
+            → IfOk result (λ _. (self.new.heard ≡ self.old.heard + length piece.now)
+            × (self.new.heard ≤ self.new.most)) }
+        ensures cause { self.old.refused ≡ None → self.old.verifier.refused ≡ None → MatchResult result
+            (λ _. (self.new.verifier.refused ≡ None) × OutputQuiet (into S.sink out.old out.new))
+            (λ fault. HasOutCause (into S.sink out.old out.new) fault) }
+        ensures stands { (heard : Items ℕ) (sections : Items Section) (written : Items ℕ)
+            → IsBody self.old heard sections written → MatchResult result
+            (λ _. WentOn self.new (heard ++ piece.now) written (into S.sink out.old out.new))
+            (λ fault. IsStopped self.old.verifier.left.query self.old.verifier.limits
+            self.new.verifier.taken (heard ++ piece.now) written (into S.sink out.old out.new) fault) }
+        // Which sections were kept.
+        ensures kept { (heard : Items ℕ) (sections : Items Section) (written : Items ℕ)
+            → IsBody self.old heard sections written → MatchResult result
+            (λ _. WentOnKeeping self.new (heard ++ piece.now) sections written (into S.sink out.old out.new)
+            (kept_in K.keeper keep.old keep.new))
+            (λ fault. StoppedKeeping self.old.verifier.left.query self.old.verifier.limits self.new.verifier.taken
+            heard piece.now sections written (into S.sink out.old out.new)
+            (kept_in K.keeper keep.old keep.new) fault) }
+        ensures keep_cause { self.old.refused ≡ None → HasKeepCause (kept_in K.keeper keep.old keep.new) result }
+        ensures again { (fault : ClientFault) → self.old.refused ≡ Some fault
+            → (result ≡ Err fault) × (self.new ≡ self.old) × (keep.new ≡ keep.old) × (out.new ≡ out.old) }
+        ensures refused { MatchResult result (λ _. self.new.refused ≡ None) (λ fault. self.new.refused ≡ Some fault) }
+    {
+        tg_model_laws::kept_sections();
         if let Some(fault) = self.refused {
             return Err(fault);
         }
         let mut at = 0;
         while at < piece.len() {
-            at += self.take(&piece[at..], out)?;
+            at += self.take(&piece[at..], keep, out)?;
         }
         Ok(())
     }
@@ -176,9 +226,14 @@ impl CarBody {
     }
 
     /// Takes bytes of a piece that has some, up to the end of the header or of a section, and says how many. A byte
-    /// that is one too many isn't looked at. Errors: those of `feed`. Each further call gives the same error and changes
+    /// that is one too many isn't looked at. Errors: those of `feed_keep`. Each further call gives the same error and changes
     /// nothing.
-    pub fn take<S: Sink>(&mut self, piece: &[u8], out: &mut S) -> Result<usize, ClientFault>
+    pub fn take<K: Keep, S: Sink>(
+        &mut self,
+        piece: &[u8],
+        keep: &mut K,
+        out: &mut S,
+    ) -> Result<usize, ClientFault>
         requires { 0 < length piece.now }
         ensures query { self.new.verifier.left.query ≡ self.old.verifier.left.query }
         ensures limits { self.new.verifier.limits ≡ self.old.verifier.limits }
@@ -193,20 +248,34 @@ impl CarBody {
             (λ n. WentOn self.new (heard ++ take n piece.now) written (into S.sink out.old out.new))
             (λ fault. IsStopped self.old.verifier.left.query self.old.verifier.limits
             self.new.verifier.taken (heard ++ piece.now) written (into S.sink out.old out.new) fault) }
+        // Which sections were kept.
+        ensures kept { (heard : Items ℕ) (sections : Items Section) (written : Items ℕ)
+            → IsBody self.old heard sections written → MatchResult result
+            (λ n. WentOnKeeping self.new (heard ++ take n piece.now) sections written (into S.sink out.old out.new)
+            (kept_in K.keeper keep.old keep.new))
+            (λ fault. StoppedKeeping self.old.verifier.left.query self.old.verifier.limits self.new.verifier.taken
+            heard piece.now sections written (into S.sink out.old out.new)
+            (kept_in K.keeper keep.old keep.new) fault) }
+        ensures keep_cause { self.old.refused ≡ None → HasKeepCause (kept_in K.keeper keep.old keep.new) result }
         ensures again { (fault : ClientFault) → self.old.refused ≡ Some fault
-            → (result ≡ Err fault) × (self.new ≡ self.old) × (out.new ≡ out.old) }
+            → (result ≡ Err fault) × (self.new ≡ self.old) × (keep.new ≡ keep.old) × (out.new ≡ out.old) }
         ensures refused { MatchResult result (λ _. self.new.refused ≡ None) (λ fault. self.new.refused ≡ Some fault) }
     {
         if let Some(fault) = self.refused {
             return Err(fault);
         }
-        let end = self.advance(piece, out);
+        let end = self.advance(piece, keep, out);
         self.refused = fault_in(&end);
         end
     }
 
-    /// Takes bytes so where nothing was refused. Errors: those of `feed`.
-    fn advance<S: Sink>(&mut self, piece: &[u8], out: &mut S) -> Result<usize, ClientFault>
+    /// Takes bytes so where nothing was refused. Errors: those of `feed_keep`.
+    fn advance<K: Keep, S: Sink>(
+        &mut self,
+        piece: &[u8],
+        keep: &mut K,
+        out: &mut S,
+    ) -> Result<usize, ClientFault>
         requires { 0 < length piece.now }
         ensures query { self.new.verifier.left.query ≡ self.old.verifier.left.query }
         ensures limits { self.new.verifier.limits ≡ self.old.verifier.limits }
@@ -217,13 +286,17 @@ impl CarBody {
         ensures cause { self.old.verifier.refused ≡ None → MatchResult result
             (λ _. (self.new.verifier.refused ≡ None) × OutputQuiet (into S.sink out.old out.new))
             (λ fault. HasOutCause (into S.sink out.old out.new) fault) }
-        ensures stands { (heard : Items ℕ) (sections : Items Section) (written : Items ℕ)
+        ensures kept { (heard : Items ℕ) (sections : Items Section) (written : Items ℕ)
             → IsBody self.old heard sections written → MatchResult result
-            (λ n. WentOn self.new (heard ++ take n piece.now) written (into S.sink out.old out.new))
-            (λ fault. IsStopped self.old.verifier.left.query self.old.verifier.limits
-            self.new.verifier.taken (heard ++ piece.now) written (into S.sink out.old out.new) fault) }
+            (λ n. WentOnKeeping self.new (heard ++ take n piece.now) sections written (into S.sink out.old out.new)
+            (kept_in K.keeper keep.old keep.new))
+            (λ fault. StoppedKeeping self.old.verifier.left.query self.old.verifier.limits self.new.verifier.taken
+            heard piece.now sections written (into S.sink out.old out.new)
+            (kept_in K.keeper keep.old keep.new) fault) }
+        ensures keep_cause { HasKeepCause (kept_in K.keeper keep.old keep.new) result }
     {
         tg_verify::laws::verified_answers();
+        tg_model_laws::one_fit();
         laws::received_sections();
         if self.heard >= self.most {
             return Err(ClientFault::Refused(Refusal::Limit {
@@ -243,7 +316,10 @@ impl CarBody {
                 self.verifier.start(out)?;
             }
             Event::Section { section, .. } => {
-                self.verifier.section(section.cid, section.block, out)?;
+                self.verifier.named(&section.cid, section.block.as_slice())?;
+                keep.keep(section.cid, section.block.as_slice())?;
+                self.verifier
+                    .section_named(section.cid, section.block, out)?;
             }
         }
         Ok(taken)

@@ -1,7 +1,7 @@
 //! Why what came isn't the answer to a query.
 use std::alloc::AllocError;
 use tg_car::CarFault;
-use tg_model::LimitKind;
+use tg_model::{KeepFault, LimitKind};
 use tg_verify::Refusal;
 use thiserror::Error;
 
@@ -17,6 +17,9 @@ pub enum ClientFault {
     /// A fault of the input was counted.
     #[error("InputFault")]
     InputFault,
+    /// A fault of the keeper was counted.
+    #[error("PackFault")]
+    KeepFault,
     /// No memory was found.
     #[error("OutOfMemory")]
     OutOfMemory,
@@ -62,6 +65,20 @@ impl From<CarFault> for ClientFault {
             }),
             CarFault::OutOfMemory => ClientFault::OutOfMemory,
             car => ClientFault::BadCar(car),
+        }
+    }
+}
+
+impl From<KeepFault> for ClientFault {
+    ghost use Rattle.std.specs.Prelude.{◌≡◌};
+    ghost use Rattle.tg_client.specs.Ends.{fault_of_keep};
+
+    ghost from_gives = { λ keep fault. fault ≡ fault_of_keep keep };
+
+    fn from(keep: KeepFault) -> ClientFault {
+        match keep {
+            KeepFault::Failed => ClientFault::KeepFault,
+            KeepFault::OutOfMemory => ClientFault::OutOfMemory,
         }
     }
 }

@@ -48,6 +48,7 @@ TellsVerify (clients.Refused (verifiers.Truncated want sections)) refusal =
 TellsVerify (clients.Refused verifiers.OutOfMemory) refusal = refusal ≡ refusals.OutOfMemory
 TellsVerify (clients.BadCar fault) refusal = refusal ≡ refusals.BadCar
 TellsVerify clients.InputFault refusal = refusal ≡ refusals.InputFault
+TellsVerify clients.KeepFault refusal = refusal ≡ refusals.PackFault
 TellsVerify clients.OutOfMemory refusal = refusal ≡ refusals.OutOfMemory
 
 -- where the text of a CID has to be shown, memory may be wanted for it

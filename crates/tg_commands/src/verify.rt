@@ -40,6 +40,7 @@ fn refusal_of(alloc: Global, fault: ClientFault) -> CommandFault
         ClientFault::Refused(fault) => refusal_of_verifier(alloc, fault),
         ClientFault::BadCar(_) => CommandFault::BadCar,
         ClientFault::InputFault => CommandFault::InputFault,
+        ClientFault::KeepFault => CommandFault::PackFault,
         ClientFault::OutOfMemory => CommandFault::OutOfMemory,
     }
 }

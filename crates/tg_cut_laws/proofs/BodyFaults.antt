@@ -29,6 +29,7 @@ due_end q limits heard unheard sections text (clients.Refused (refusals.Truncate
 due_end q limits heard unheard sections text (clients.Refused _) due ends = tt
 due_end q limits heard unheard sections text (clients.BadCar car) due ends = tt
 due_end q limits heard unheard sections text clients.InputFault due ends = absurd due
+due_end q limits heard unheard sections text clients.KeepFault due ends = absurd due
 due_end q limits heard unheard sections text clients.OutOfMemory due ends = absurd due
 
 -- of the CAR that shows an absence
@@ -40,6 +41,7 @@ due_absence q limits heard unheard sections text (clients.Refused (refusals.Trun
 due_absence q limits heard unheard sections text (clients.Refused _) due ends = tt
 due_absence q limits heard unheard sections text (clients.BadCar car) due ends = tt
 due_absence q limits heard unheard sections text clients.InputFault due ends = absurd due
+due_absence q limits heard unheard sections text clients.KeepFault due ends = absurd due
 due_absence q limits heard unheard sections text clients.OutOfMemory due ends = absurd due
 
 -- of a block: it is due, or says that no more come

@@ -115,6 +115,7 @@ module _ (q : QueryParts) (limits : LimitNumbers) (heard unheard : List ℕ) (se
   by_end (faults.Refused (refusals.Limit kinds.Reused number)) due h w = by_sections (refusals.Limit kinds.Reused number) tt (λ n e. cc e) h w
   by_end (faults.BadCar fault) due h w = by_fault fault h.0 h.1
   by_end faults.InputFault due h w = absurd due
+  by_end faults.KeepFault due h w = absurd due
   by_end faults.OutOfMemory due h w = absurd due
 
 -- how these bytes are refused

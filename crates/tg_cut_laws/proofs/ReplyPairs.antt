@@ -66,6 +66,7 @@ head_taken q head (faults.Refused refusal) due stops framed taken = stops
 head_taken q head faults.BadReplyHead due stops framed taken = stops
 head_taken q head (faults.BadCar car) due stops framed taken = stops
 head_taken q head faults.PeerFault due stops framed taken = stops
+head_taken q head faults.KeepFault due stops framed taken = stops
 
 -- a status of neither is that of no head that is taken
 no_status : (q : QueryParts) (head : ReplyHead) → head.status ≢ 200 → (IsAbsenceHead q head → ⊥) → (head.status ≡ 200) ⊎ IsAbsenceHead q head → ⊥
@@ -82,6 +83,7 @@ head_once q head (faults.Status a) (faults.Refused refusal) due also s t = absur
 head_once q head (faults.Status a) faults.BadReplyHead due also s t = absurd t
 head_once q head (faults.Status a) (faults.BadCar car) due also s t = absurd t
 head_once q head (faults.Status a) faults.PeerFault due also s t = absurd t
+head_once q head (faults.Status a) faults.KeepFault due also s t = absurd t
 head_once q head faults.BadFraming (faults.Status b) due also s t = absurd (no_status q head t.1 t.2 s.0)
 head_once q head faults.BadFraming faults.BadFraming due also s t = refl
 head_once q head faults.BadFraming faults.BadType due also s t = absurd (t.1 s.1)
@@ -90,6 +92,7 @@ head_once q head faults.BadFraming (faults.Refused refusal) due also s t = absur
 head_once q head faults.BadFraming faults.BadReplyHead due also s t = absurd t
 head_once q head faults.BadFraming (faults.BadCar car) due also s t = absurd t
 head_once q head faults.BadFraming faults.PeerFault due also s t = absurd t
+head_once q head faults.BadFraming faults.KeepFault due also s t = absurd t
 head_once q head faults.BadType (faults.Status b) due also s t = absurd (t.1 s.0)
 head_once q head faults.BadType faults.BadFraming due also s t = absurd (s.1 t.1)
 head_once q head faults.BadType faults.BadType due also s t = refl
@@ -98,11 +101,13 @@ head_once q head faults.BadType (faults.Refused refusal) due also s t = absurd t
 head_once q head faults.BadType faults.BadReplyHead due also s t = absurd t
 head_once q head faults.BadType (faults.BadCar car) due also s t = absurd t
 head_once q head faults.BadType faults.PeerFault due also s t = absurd t
+head_once q head faults.BadType faults.KeepFault due also s t = absurd t
 head_once q head faults.OutOfMemory g due also s t = absurd due
 head_once q head (faults.Refused refusal) g due also s t = absurd s
 head_once q head faults.BadReplyHead g due also s t = absurd s
 head_once q head (faults.BadCar car) g due also s t = absurd s
 head_once q head faults.PeerFault g due also s t = absurd s
+head_once q head faults.KeepFault g due also s t = absurd s
 
 -- ---- two places behind one head
 

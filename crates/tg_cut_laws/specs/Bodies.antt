@@ -13,11 +13,12 @@ use Rattle.tg_model.specs.Queries.{QueryParts}
 use Rattle.tg_verify.specs.Taken.{IsThrough}
 use Rattle.tg_verify.specs.declared.fault.Refusal.TheVariants as refusals
 
--- a refusal of what the reply is: no fault of out or of the peer, and no want of memory
+-- a refusal of what the reply is: no fault of out, of the peer or of a keeper, and no want of memory
 abbrev pub IsDueFault : FetchFault → Type 0
 IsDueFault (faults.Refused refusals.SinkFault) = ⊥
 IsDueFault (faults.Refused refusals.OutOfMemory) = ⊥
 IsDueFault faults.PeerFault = ⊥
+IsDueFault faults.KeepFault = ⊥
 IsDueFault faults.OutOfMemory = ⊥
 IsDueFault other = ⊤
 

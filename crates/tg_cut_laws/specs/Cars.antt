@@ -20,6 +20,7 @@ abbrev pub IsDueEnd : ClientFault → Type 0
 IsDueEnd (faults.Refused refusal) = IsDue refusal
 IsDueEnd (faults.BadCar fault) = ⊤
 IsDueEnd faults.InputFault = ⊥
+IsDueEnd faults.KeepFault = ⊥
 IsDueEnd faults.OutOfMemory = ⊥
 
 -- in these bytes the CAR is refused: these sections stand whole in what was heard before, and this is written for them

@@ -43,6 +43,7 @@ module _ {S : Type 0} (m : SinkMeaning S) (a b c : S) (quiet : OutputQuiet (into
   cause_from A B faults.BadFraming h = h ∙ quiet
   cause_from A B (faults.BadCar car) h = h ∙ quiet
   cause_from A B faults.PeerFault h = h ∙ quiet
+  cause_from A B faults.KeepFault h = h ∙ quiet
   cause_from A B faults.OutOfMemory h = h ∙ quiet
 
   pub end_cause : (A : Type 0) (result : Result A FetchFault) → QuietUnlessSink {A = A} (into m b c) result → QuietUnlessSink {A = A} (into m a c) result
@@ -60,6 +61,7 @@ by_refusal q limits heard over out faults.BadReplyHead other h = h
 by_refusal q limits heard over out faults.BadFraming other h = h
 by_refusal q limits heard over out (faults.BadCar car) other h = h
 by_refusal q limits heard over out faults.PeerFault other h = absurd (other refl)
+by_refusal q limits heard over out faults.KeepFault other h = h
 by_refusal q limits heard over out faults.OutOfMemory other h = h
 
 quiet_refusal : (link : LinkStep) (fault : FetchFault) → fault ≢ faults.PeerFault → LinkQuiet link → RoseAtPeerFault link (Err fault)
@@ -70,6 +72,7 @@ quiet_refusal link faults.BadReplyHead other h = h
 quiet_refusal link faults.BadFraming other h = h
 quiet_refusal link (faults.BadCar car) other h = h
 quiet_refusal link faults.PeerFault other h = absurd (other refl)
+quiet_refusal link faults.KeepFault other h = h
 quiet_refusal link faults.OutOfMemory other h = h
 
 -- nothing was refused yet, behind this that was heard, with this text put for it

@@ -43,14 +43,15 @@ miss_refused (no_directory i) (refusals.NotFolder segment) m = m
 miss_refused _ _ m = absurd m
 
 -- of the CAR that shows an absence; out has no part in it
-miss_cause : (miss : Miss) (cause : ClientFault) → IsMissOrOwnEnd miss cause → cause ≢ clients.InputFault → absence_fault cause ≢ faults.Refused refusals.SinkFault
+miss_cause : (miss : Miss) (cause : ClientFault) → IsMissOrOwnEnd miss cause → cause ≢ clients.InputFault → cause ≢ clients.KeepFault → absence_fault cause ≢ faults.Refused refusals.SinkFault
     → IsMissOrMemory miss (absence_fault cause)
-miss_cause miss (clients.Refused fault) (inl m) not_input not_sink = miss_refused miss fault m
-miss_cause miss (clients.Refused refusals.SinkFault) (inr own) not_input not_sink = absurd (not_sink refl)
-miss_cause miss (clients.Refused _) (inr own) not_input not_sink = absurd own
-miss_cause miss (clients.BadCar car) own not_input not_sink = absurd own
-miss_cause miss clients.InputFault own not_input not_sink = absurd (not_input refl)
-miss_cause miss clients.OutOfMemory own not_input not_sink = tt
+miss_cause miss (clients.Refused fault) (inl m) not_input not_keep not_sink = miss_refused miss fault m
+miss_cause miss (clients.Refused refusals.SinkFault) (inr own) not_input not_keep not_sink = absurd (not_sink refl)
+miss_cause miss (clients.Refused _) (inr own) not_input not_keep not_sink = absurd own
+miss_cause miss (clients.BadCar car) own not_input not_keep not_sink = absurd own
+miss_cause miss clients.InputFault own not_input not_keep not_sink = absurd (not_input refl)
+miss_cause miss clients.KeepFault own not_input not_keep not_sink = absurd (not_keep refl)
+miss_cause miss clients.OutOfMemory own not_input not_keep not_sink = tt
 
 -- the head of an absence that has a framing isn't refused
 absence_head : (miss : Miss) (q : QueryParts) (head : ReplyHead) (fault : FetchFault) → IsAbsenceHead q head → (head.framing ≡ framings.Broken → ⊥) → HeadStops q head fault
@@ -132,7 +133,7 @@ module _ (heads : HeadLaws) (one_head : OneFinalHead) (pieces : BodyPieceLaws) (
         let missed = cars.nowhere (path_query q) (path_limits limits) s miss n.body h.heard h.unheard sections b.said b.cause shown.opened shown.ends shown.within
         (of_car given left h.heard h.unheard sections whole h.whole h.received) b.ends in
         let not_sink : absence_fault b.cause ≢ faults.Refused refusals.SinkFault = λ e. b.not_sink (b.fault_is ∙ e) in
-        (subst (IsMissOrMemory miss) (sym b.fault_is) (miss_cause miss b.cause missed b.not_input not_sink), b.no_text)
+        (subst (IsMissOrMemory miss) (sym b.fault_is) (miss_cause miss b.cause missed b.not_input b.not_keep not_sink), b.no_text)
     stops given left sections text fault whole (BodyStops.reaches b) =
         let h = b.are_heard in absurd (not_through given left h.heard h.unheard sections b.said whole h.whole h.received b.through)
     stops given left sections text fault whole (BodyStops.block b) = absurd (no_answer b.is_head)

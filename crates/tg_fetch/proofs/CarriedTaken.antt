@@ -46,6 +46,7 @@ own_client (clients.Refused refusals.SinkFault) own = tt
 own_client (clients.Refused _) own = absurd own
 own_client (clients.BadCar car) own = absurd own
 own_client clients.InputFault own = tt
+own_client clients.KeepFault own = tt
 own_client clients.OutOfMemory own = tt
 
 own_refusal : (cause : Refusal) → IsOwnRefusal cause → ((want : CidParts) (number : ℕ) → cause ≡ refusals.Truncated want number → ⊥)

@@ -90,6 +90,7 @@ heads_refused q limits heard piece written out faults.BadType h none put few sto
 heads_refused q limits heard piece written out faults.BadFraming h none put few stop = absurd stop
 heads_refused q limits heard piece written out (faults.BadCar car) h none put few stop = absurd stop
 heads_refused q limits heard piece written out faults.PeerFault h none put few stop = absurd stop
+heads_refused q limits heard piece written out faults.KeepFault h none put few stop = absurd stop
 
 pub heads_stop : (client : Client) (heads : HeadsState) (heard piece written : List ℕ) (out : Output) (fault : FetchFault) → client.stage ≡ stages.Heads heads → IsOpen client heard written → Put [] out
     → length heard + length piece ≤ client.limits.received → HeadsStop (heard ++ piece) fault → IsRefused client.query client.limits heard piece false written out fault
@@ -133,6 +134,7 @@ says_nothing q head faults.BadReplyHead stops d = tt
 says_nothing q head faults.BadFraming stops d = tt
 says_nothing q head (faults.BadCar car) stops d = tt
 says_nothing q head faults.PeerFault stops d = tt
+says_nothing q head faults.KeepFault stops d = tt
 says_nothing q head faults.OutOfMemory stops d = tt
 
 pub head_stops : (client : Client) (heads : HeadsState) (heard piece written : List ℕ) (out : Output) (taken : ℕ) (head : ReplyHead) (fault : FetchFault) → client.stage ≡ stages.Heads heads

@@ -36,6 +36,7 @@ of_client : (cause : ClientFault) → fault_of_client cause ≡ faults.PeerFault
 of_client (clients.Refused refusal) e = absurd (let no : ⊥ = cc in no)
 of_client (clients.BadCar car) e = absurd (let no : ⊥ = cc in no)
 of_client clients.InputFault e = refl
+of_client clients.KeepFault e = absurd (let no : ⊥ = cc in no)
 of_client clients.OutOfMemory e = absurd (let no : ⊥ = cc in no)
 
 of_absence : (cause : ClientFault) → absence_fault cause ≡ faults.PeerFault → cause ≡ clients.InputFault
@@ -52,6 +53,7 @@ of_absence (clients.Refused (refusals.Truncated want number)) e = absurd (let no
 of_absence (clients.Refused refusals.OutOfMemory) e = absurd (let no : ⊥ = cc in no)
 of_absence (clients.BadCar car) e = absurd (let no : ⊥ = cc in no)
 of_absence clients.InputFault e = refl
+of_absence clients.KeepFault e = absurd (let no : ⊥ = cc in no)
 of_absence clients.OutOfMemory e = absurd (let no : ⊥ = cc in no)
 
 of_refusal : (cause : Refusal) → fault_of_refusal cause ≡ faults.PeerFault → ⊥

@@ -141,6 +141,7 @@ own_answer sends own counted store q d limits addr next rest sent held within pr
 -- a fault that is one's own, and not the peer's
 out_or_memory : (fault : FetchFault) → IsOwnFault fault → (fault ≡ faults.PeerFault → ⊥) → IsOutOrMemory fault
 out_or_memory (faults.Refused refusals.SinkFault) own not_peer = tt
+out_or_memory faults.KeepFault own not_peer = tt
 out_or_memory faults.OutOfMemory own not_peer = tt
 out_or_memory faults.PeerFault own not_peer = absurd (not_peer refl)
 out_or_memory _ own not_peer = absurd own

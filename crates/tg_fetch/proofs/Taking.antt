@@ -76,6 +76,7 @@ says_for : (q : QueryParts) (d : Dag) (sections : List Section) (text : List ℕ
 says_for q d sections text (clients.Refused refusal) (front, says) = (front, refused_says q d sections refusal says)
 says_for q d sections text (clients.BadCar car) front = (front, tt)
 says_for q d sections text clients.InputFault front = (front, tt)
+says_for q d sections text clients.KeepFault front = (front, tt)
 says_for q d sections text clients.OutOfMemory front = (front, tt)
 
 -- a text that is too large is larger than the limit
@@ -103,6 +104,7 @@ says_of_path nowhere q d sound car sections said (clients.Refused refusal) most 
     (nothing_front q d sections, path_says nowhere q d sound car sections refusal (λ number is. most number (ap clients.Refused is)) says)
 says_of_path nowhere q d sound car sections said (clients.BadCar fault) most front = (nothing_front q d sections, tt)
 says_of_path nowhere q d sound car sections said clients.InputFault most front = (nothing_front q d sections, tt)
+says_of_path nowhere q d sound car sections said clients.KeepFault most front = (nothing_front q d sections, tt)
 says_of_path nowhere q d sound car sections said clients.OutOfMemory most front = (nothing_front q d sections, tt)
 
 says_of_refusal : (q : QueryParts) (d : Dag) (sections : List Section) (fault : Refusal) → SaysOfDag q d sections fault → SaysOf q d sections (fault_of_refusal fault)
@@ -188,6 +190,7 @@ is_short q limits heard sections text (clients.Refused refusals.SinkFault) e = a
 is_short q limits heard sections text (clients.Refused refusals.OutOfMemory) e = absurd e
 is_short q limits heard sections text (clients.BadCar car) e = absurd e
 is_short q limits heard sections text clients.InputFault e = absurd e
+is_short q limits heard sections text clients.KeepFault e = absurd e
 is_short q limits heard sections text clients.OutOfMemory e = absurd e
 
 module _ (q : QueryParts) (limits : LimitNumbers) (head : ReplyHead) (body : CarBody) (given written : List ℕ) (h : IsTakingAnswer q limits head body given written) where
@@ -285,9 +288,9 @@ module _ (q : QueryParts) (limits : LimitNumbers) (head : ReplyHead) (body : Car
         λ d is root. (nothing_front q d w.sections, tt),
       )
 
-  shown : OwnNowhere → (m : Output) (taken : ℕ) (bytes : List ℕ) (cause : ClientFault) → cause ≢ clients.InputFault → absence_fault cause ≢ faults.Refused refusals.SinkFault
+  shown : OwnNowhere → (m : Output) (taken : ℕ) (bytes : List ℕ) (cause : ClientFault) → cause ≢ clients.InputFault → cause ≢ clients.KeepFault → absence_fault cause ≢ faults.Refused refusals.SinkFault
       → IsStopped (path_query q) (path_limits limits) taken bytes h.said m cause → Stops bytes (absence_fault cause)
-  shown nowhere m taken bytes cause not_input not_sink s = (
+  shown nowhere m taken bytes cause not_input not_keep not_sink s = (
     s.sections,
     BodyStops.absence (record {
       is_head = h.is_head;
@@ -295,6 +298,7 @@ module _ (q : QueryParts) (limits : LimitNumbers) (head : ReplyHead) (body : Car
       said = h.said ++ s.text;
       cause = cause;
       not_input = not_input;
+      not_keep = not_keep;
       fault_is = refl;
       not_sink = not_sink;
       ends = s.ends;
@@ -305,10 +309,10 @@ module _ (q : QueryParts) (limits : LimitNumbers) (head : ReplyHead) (body : Car
         (most_output (path_query q) (path_limits limits) s.heard s.unheard s.sections (h.said ++ s.text) cause refl s.ends) (s.sound d is root),
   )
 
-  pub shows_stop : {taken : ℕ} → OwnNowhere → (m : Output) (bytes : List ℕ) (cause : ClientFault) → HasOutCause m cause → absence_fault cause ≢ faults.Refused refusals.SinkFault
-      → IsStopped body.verifier.left.query body.verifier.limits taken bytes h.said m cause → Stops bytes (absence_fault cause)
-  shows_stop {taken} nowhere m bytes cause has not_sink s =
-      shown nowhere m taken bytes cause (never_of_input m cause has) not_sink
+  pub shows_stop : {taken : ℕ} → OwnNowhere → (m : Output) (bytes : List ℕ) (cause : ClientFault) → HasOutCause m cause → cause ≢ clients.KeepFault
+      → absence_fault cause ≢ faults.Refused refusals.SinkFault → IsStopped body.verifier.left.query body.verifier.limits taken bytes h.said m cause → Stops bytes (absence_fault cause)
+  shows_stop {taken} nowhere m bytes cause has not_keep not_sink s =
+      shown nowhere m taken bytes cause (never_of_input m cause has) not_keep not_sink
       (subst (λ (n : LimitNumbers). IsStopped (path_query q) n taken bytes h.said m cause) h.limits_are
       (subst (λ (p : QueryParts). IsStopped p body.verifier.limits taken bytes h.said m cause) h.query s))
 
@@ -390,6 +394,7 @@ never_of_sink (clients.Refused (refusals.Truncated want number)) quiet e = cc e
 never_of_sink (clients.Refused refusals.OutOfMemory) quiet e = cc e
 never_of_sink (clients.BadCar car) quiet e = cc e
 never_of_sink clients.InputFault quiet e = cc e
+never_of_sink clients.KeepFault quiet e = cc e
 never_of_sink clients.OutOfMemory quiet e = cc e
 
 -- ---- faults of out
@@ -414,6 +419,7 @@ quiet_block out limits bytes quiet faults.BadReplyHead is = quiet
 quiet_block out limits bytes quiet faults.BadFraming is = quiet
 quiet_block out limits bytes quiet (faults.BadCar car) is = quiet
 quiet_block out limits bytes quiet faults.PeerFault is = quiet
+quiet_block out limits bytes quiet faults.KeepFault is = quiet
 
 -- ---- the root's block
 
@@ -529,6 +535,7 @@ says_of_block q limits d bytes faults.BadReplyHead is = tt
 says_of_block q limits d bytes faults.BadFraming is = tt
 says_of_block q limits d bytes (faults.BadCar car) is = tt
 says_of_block q limits d bytes faults.PeerFault is = tt
+says_of_block q limits d bytes faults.KeepFault is = tt
 says_of_block q limits d bytes faults.OutOfMemory is = tt
 
 module _ (q : QueryParts) (limits : LimitNumbers) (head : ReplyHead) (raw : RawBlock) (given : List ℕ) (h : IsTakingBlock q limits head raw given) where

@@ -113,13 +113,15 @@ pub record AnswerStops (q : QueryParts) (limits : LimitNumbers) (head : ReplyHea
   pub ends : EndsBy q limits unknown are_heard.heard are_heard.unheard sections text (Err cause)
   pub wanted : IsAfterWanted q limits are_heard.heard sections cause
 
--- the CAR that would show an absence is refused, or shows that a segment of the path leads nowhere; out has no part in it
+-- the CAR that would show an absence is refused, or shows that a segment of the path leads nowhere; out and a keeper have no
+-- part in it
 pub record AbsenceStops (q : QueryParts) (limits : LimitNumbers) (head : ReplyHead) (bytes : List ℕ) (sections : List Section) (text : List ℕ) (fault : FetchFault) : Type 0 where
   pub is_head : IsAbsenceHead q head
   pub are_heard : AreHeard limits bytes sections
   pub said : List ℕ
   pub cause : ClientFault
   pub not_input : cause ≢ clients.InputFault
+  pub not_keep : cause ≢ clients.KeepFault
   pub fault_is : fault ≡ absence_fault cause
   pub not_sink : fault ≢ faults.Refused refusals.SinkFault
   pub ends : EndsBy (path_query q) (path_limits limits) unknown are_heard.heard are_heard.unheard sections said (Err cause)

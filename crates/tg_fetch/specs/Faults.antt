@@ -20,6 +20,7 @@ abbrev pub fault_of_client : ClientFault → FetchFault
 fault_of_client (clients.Refused refusal) = faults.Refused refusal
 fault_of_client (clients.BadCar car) = faults.BadCar car
 fault_of_client clients.InputFault = faults.PeerFault
+fault_of_client clients.KeepFault = faults.KeepFault
 fault_of_client clients.OutOfMemory = faults.OutOfMemory
 
 -- a fault of the CAR that shows that a path leads nowhere: bytes behind the terminal's section say that it leads to one

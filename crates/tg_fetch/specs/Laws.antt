@@ -43,10 +43,11 @@ CarriesWithin q = CarriesWithinBy (IsAnswerHead q) q
 abbrev pub CarriesAbsenceWithin : QueryParts → LimitNumbers → List ℕ → Bool → List Section → Type 0
 CarriesAbsenceWithin q = CarriesWithinBy (IsAbsenceHead q) q
 
--- a fault of out or of the peer, or want of memory
+-- a fault of out, of the peer or of a keeper, or want of memory
 abbrev pub IsOwnFault : FetchFault → Type 0
 IsOwnFault (faults.Refused refusals.SinkFault) = ⊤
 IsOwnFault faults.PeerFault = ⊤
+IsOwnFault faults.KeepFault = ⊤
 IsOwnFault faults.OutOfMemory = ⊤
 IsOwnFault other = ⊥
 

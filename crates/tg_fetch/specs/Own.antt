@@ -29,9 +29,10 @@ pub record IsFed (client : Client) (heard piece written : List ℕ) (out : Outpu
   pub ends : FeedEnds client heard piece written out result
   pub short : result ≡ Ok progresses.More → IsShortAt client.query client.limits client.stage (heard ++ piece)
 
--- a fault of out, or want of memory
+-- a fault of out or of a keeper, or want of memory
 abbrev pub IsOutOrMemory : FetchFault → Type 0
 IsOutOrMemory (faults.Refused refusals.SinkFault) = ⊤
+IsOutOrMemory faults.KeepFault = ⊤
 IsOutOrMemory faults.OutOfMemory = ⊤
 IsOutOrMemory other = ⊥
 

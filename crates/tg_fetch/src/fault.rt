@@ -31,6 +31,9 @@ pub enum FetchFault {
     /// A fault of the dial or of its link was counted.
     #[error("PeerFault")]
     PeerFault,
+    /// A fault of the keeper was counted.
+    #[error("PackFault")]
+    KeepFault,
     /// No memory was found.
     #[error("OutOfMemory")]
     OutOfMemory,
@@ -84,6 +87,7 @@ impl From<ClientFault> for FetchFault {
             ClientFault::Refused(refusal) => FetchFault::Refused(refusal),
             ClientFault::BadCar(car) => FetchFault::BadCar(car),
             ClientFault::InputFault => FetchFault::PeerFault,
+            ClientFault::KeepFault => FetchFault::KeepFault,
             ClientFault::OutOfMemory => FetchFault::OutOfMemory,
         }
     }

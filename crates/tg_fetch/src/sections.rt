@@ -165,6 +165,7 @@ fn shown_by(fault: ClientFault) -> FetchFault
         },
         ClientFault::BadCar(car) => FetchFault::BadCar(car),
         ClientFault::InputFault => FetchFault::PeerFault,
+        ClientFault::KeepFault => FetchFault::KeepFault,
         ClientFault::OutOfMemory => FetchFault::OutOfMemory,
     }
 }

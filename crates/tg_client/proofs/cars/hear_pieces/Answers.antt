@@ -1,4 +1,4 @@
-use Rattle.std.proofs.Common.{◌≡◌, ◌<◌, ◌++◌, [], ℕ, List, refl, ap, subst, ◌∙◌, take, length, append-nil, arith}
+use Rattle.std.proofs.Common.{◌≡◌, ◌<◌, ◌++◌, [], ℕ, List, refl, ap, subst, ◌∙◌, take, length, append-nil, arith, Err}
 use Rattle.std.specs.Prelude.{IfErr, Result, ⊤}
 use Rattle.std.proofs.lemmas.List.{length-take-le}
 use Rattle.std.proofs.lemmas.Result.{err_from_is_err_and}
@@ -11,7 +11,7 @@ use Rattle.tg_client.specs.Body.{HasEnded, IsEndFault, IsStopped}
 use Rattle.tg_client.specs.Ends.{IsWithinReceived}
 use Rattle.tg_client.specs.declared.fault.ClientFault.{ClientFault}
 use Rattle.tg_client.proofs.Coming.{come_first, come_more, come_none, ended_there}
-use Rattle.tg_client.proofs.Feeding.{stopped_on}
+use Rattle.tg_client.proofs.Feeding.{stopped_behind}
 use Rattle.tg_client.proofs.Going.{is_within}
 use Rattle.tg_client.proofs.Hearing.{end_cause, end_heard, fault_heard, out_cause_from, stop_cause, stop_heard}
 use Rattle.tg_client.proofs.cars.hear_pieces.Goals as goal
@@ -98,6 +98,7 @@ returns-in_err-feed-clause-cause g c =
     let p = err_from_is_err_and c.from_residual.result c.from_residual.ensures.1 in
     rw (p.1, p.2)
     (stop_cause (through g.I.Source.source c.args.input.now c.take_piece.new.source) (into g.S.Sink.sink c.args.out.now c.feed.new.out) c.in_err-feed.field-0.0 (c.in-Ok.ensures.quiet ∙ inv.heard_quiet)
+    (λ is. c.in_err-feed.ensures.unkept inv.unrefused (ap (λ (f : ClientFault). Err f) is))
     (out_cause_from g.S.Sink.sink c.args.out.now c.loop-filled.out c.feed.new.out inv.put_quiet c.in_err-feed.field-0.0 (c.in_err-feed.ensures.cause inv.unrefused inv.fresh)))
 
 pub returns-in_err-feed-clause-verifies : goal.returns-in_err-feed-clause-verifies
@@ -113,6 +114,6 @@ returns-in_err-feed-clause-verifies g c =
     rw (p.1, p.2)
     (stop_heard c.args.body.now.verifier.limits c.args.body.now.verifier.left.query (through g.I.Source.source c.args.input.now c.take_piece.new.source) (into g.S.Sink.sink c.args.out.now c.feed.new.out) bytes fault
     (took_took _ g.I.Source.source c.args.input.now c.loop-filled.input c.take_piece.new.source come.heard (take c.in-Ok.filled c.take_piece.new.buf) g.met.I.Source.joins come.took c.in-Ok.ensures.took) c.feed.new.self.verifier.taken
-    (stopped_on g.S.Sink.sink g.met.S.Sink.joins c.args.out.now c.loop-filled.out c.feed.new.out [] w.text w.put c.args.body.now.verifier.left.query c.args.body.now.verifier.limits c.feed.new.self.verifier.taken bytes fault
+    (stopped_behind g.S.Sink.sink g.met.S.Sink.joins c.args.out.now c.loop-filled.out c.feed.new.out [] w.text w.put c.args.body.now.verifier.left.query c.args.body.now.verifier.limits c.feed.new.self.verifier.taken bytes fault
     (subst (λ (n : LimitNumbers). IsStopped c.args.body.now.verifier.left.query n c.feed.new.self.verifier.taken bytes w.text after fault) inv.limits
     (subst (λ (q : QueryParts). IsStopped q old.verifier.limits c.feed.new.self.verifier.taken bytes w.text after fault) inv.query (c.in_err-feed.ensures.stands come.heard w.sections w.text w.is_body)))))

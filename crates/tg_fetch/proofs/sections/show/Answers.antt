@@ -1,5 +1,6 @@
-use Rattle.std.proofs.Common.{rules, ◌++◌, None}
+use Rattle.std.proofs.Common.{Err, rules, ap, ◌++◌, None}
 use Rattle.std.specs.Prelude.{◌≢◌}
+use Rattle.tg_client.specs.declared.fault.ClientFault.{ClientFault}
 use Rattle.tg_fetch.proofs.Taking.{never_of_sink, none_wanted, shows_on, shows_stop, shows_terminal}
 use Rattle.tg_fetch.proofs.sections.show.Goals as goal
 
@@ -21,7 +22,8 @@ pub returns-in-Err-clause-shows : goal.returns-in-Err-clause-shows
 returns-in-Err-clause-shows c q limits head given h =
     let e = c.in-Err.ensures in
     let cause = e.cause h.is_body.unrefused h.is_body.fresh in
-    let stop = shows_stop q limits head c.args.body.now given h c.own_absences.ensures.nowhere _ (given ++ c.args.part.now) c.in-Err.fault cause (never_of_sink c.in-Err.fault cause)
+    let stop = shows_stop q limits head c.args.body.now given h c.own_absences.ensures.nowhere _ (given ++ c.args.part.now) c.in-Err.fault cause
+    (λ is. e.unkept h.is_body.unrefused (ap (λ (f : ClientFault). Err f) is)) (never_of_sink c.in-Err.fault cause)
     (e.stands given h.sections h.said h.is_body) in
     rw c.shown_by.ensures stop
 

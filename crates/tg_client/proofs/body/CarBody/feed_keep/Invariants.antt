@@ -1,9 +1,11 @@
 -- what was taken of the piece so far
 use Rattle.std.proofs.Common.{◌≡◌, ◌≤◌, ◌+◌, ◌++◌, ◌-◌, ℕ, List, None, length, take}
-use Rattle.tg_client.specs.Body.{IsBody, WentOn}
+use Rattle.tg_client.specs.Body.{IsBody}
+use Rattle.tg_client.specs.Keeping.{WentOnKeeping}
 use Rattle.tg_model.specs.Dag.{Section}
+use Rattle.tg_model.specs.Stores.{KeepingQuiet, kept_in}
 use Rattle.tg_streams.specs.Streams.{OutputQuiet, into}
-use Rattle.tg_client.proofs.body.CarBody.feed.Given as goal
+use Rattle.tg_client.proofs.body.CarBody.feed_keep.Given as goal
 
 abbrev pub invariant-loop-at : goal.invariant-loop-at
 invariant-loop-at g l = record {
@@ -14,8 +16,9 @@ invariant-loop-at g l = record {
   within : l.at ≤ length l.piece;
   heard : l.fn.self.heard ≤ l.fn.self.most → (l.self.heard ≡ l.fn.self.heard + l.at) × (l.self.heard ≤ l.self.most);
   cause : l.fn.self.verifier.refused ≡ None → (l.self.verifier.refused ≡ None) × OutputQuiet (into g.S.Sink.sink l.fn.out l.out);
-  stands : (heard : List ℕ) (sections : List Section) (written : List ℕ) → IsBody l.fn.self heard sections written
-      → WentOn l.self (heard ++ take l.at l.piece) written (into g.S.Sink.sink l.fn.out l.out);
+  quiet : KeepingQuiet (kept_in g.K.Keep.keeper l.fn.keep l.keep);
+  kept : (heard : List ℕ) (sections : List Section) (written : List ℕ) → IsBody l.fn.self heard sections written
+      → WentOnKeeping l.self (heard ++ take l.at l.piece) sections written (into g.S.Sink.sink l.fn.out l.out) (kept_in g.K.Keep.keeper l.fn.keep l.keep);
 }
 
 abbrev pub decreases-loop-at : goal.decreases-loop-at
