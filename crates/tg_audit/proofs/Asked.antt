@@ -1,5 +1,5 @@
 -- What is said through a door to a request, and what a client makes of it over a dial.
-use Rattle.std.proofs.Common.{Bool, Err, List, MatchResult, None, Ok, Option, Some, [], ap, append-nil, append_assoc, arith, false, inl, inr, length, length-append, lit<, refl, subst, sym, true, ℕ, ◌++◌, ◌<◌, ◌∙◌, ◌∷◌, ◌≡◌, ◌≤◌, ◌⊎◌}
+use Rattle.std.proofs.Common.{Bool, Err, List, MatchResult, None, Ok, Option, Some, [], ap, append-nil, append_assoc, arith, false, inl, inr, length, length-append, lit<, refl, subst, suc, sym, true, zero, ℕ, ◌++◌, ◌<◌, ◌∙◌, ◌∷◌, ◌≡◌, ◌≤◌, ◌⊎◌}
 use Rattle.std.specs.List.{list_any}
 use Rattle.std.specs.Option.{option_map}
 use Rattle.std.specs.Prelude.{Result, drop, ⊤, ◌≢◌, ◌||◌}
@@ -27,10 +27,10 @@ use Rattle.tg_model.specs.Queries.{QueryParts}
 use Rattle.tg_model.specs.Stores.{Store}
 use Rattle.tg_query.specs.Requests.{request_text}
 use Rattle.tg_reply.specs.SentLaws.{SentStays}
-use Rattle.tg_reply.specs.Sent.{Sent, SentBy, SentInFull, closed_by}
+use Rattle.tg_reply.specs.Sent.{Sent, SentBy, SentInFull, closed_by, failed_in}
 use Rattle.tg_reply.specs.Shapes.{SentOver}
 use Rattle.tg_serve.specs.Saying.{all_said, more_came}
-use Rattle.tg_serve.specs.Serving.{AreHeardOf, AreServed, HasHappened, LinkRun, SaidAll, SaidBy, ServesDoor, and_calls, call_of, is_limit, is_memory}
+use Rattle.tg_serve.specs.Serving.{AreHeardOf, AreServed, HasHappened, LinkRun, SaidAll, ServesDoor, and_calls, call_of, is_limit, is_memory, is_positive}
 use Rattle.tg_serve.specs.declared.Happened.{Happened}
 use Rattle.tg_streams.specs.Streams.{into}
 use Rattle.tg_verify.specs.declared.fault.Refusal.TheVariants as refusals
@@ -48,6 +48,10 @@ either_not : (x y : Bool) → false ≡ (x || y) → (x ≡ false) × (y ≡ fal
 either_not false false e = (refl, refl)
 either_not false true e = absurd (cc e)
 either_not true y e = absurd (cc e)
+
+none_positive : (n : ℕ) → is_positive n ≡ false → n ≡ 0
+none_positive zero e = refl
+none_positive (suc n) e = absurd (cc e)
 
 or_none : (x : Bool) → (x || false) ≡ x
 or_none true = refl
@@ -86,7 +90,7 @@ module _ (stays : SentStays) (told : Option Store) (q : QueryParts) (tell : Type
   pub past : ServesDoor told standard.received 1 tell before now door happened → happened.limit ≡ true → standard.received < length (request_text q audit_addr)
   past so limit = past_by so.runs so.served so.heard (few_of (length so.runs) (door.shut_new ≡ true) so.ended) so.has_happened.limit limit
 
-  module _ (memory : happened.memory ≡ false) (fault : happened.fault ≡ false) (limit : happened.limit ≡ false) (tells : tell)
+  module _ (memory : happened.memory ≡ false) (store : happened.store ≡ false) (fault : happened.fault ≡ false) (limit : happened.limit ≡ false) (tells : tell)
       (none : door.served_old ≡ Some []) where
     module _ (said : List ℕ) (calls : List Call) (call : Call) (told_is : door.served_new ≡ Some (calls ++ call ∷ [])) (said_is : call.said ≡ said) where
       call_by : (run : LinkRun) → (door.served_new ≡ and_calls door.served_old (run ∷ [])) ⊎ ((door.served_new ≡ None) × DoorRose door) → call ≡ call_of run
@@ -96,11 +100,13 @@ module _ (stays : SentStays) (told : Option Store) (q : QueryParts) (tell : Type
           last_is calls call (call_of run) (cc all)
       call_by run (inr lost) = absurd (let no : None ≡ Some (calls ++ call ∷ []) = sym lost.0 ∙ told_is in cc)
 
-      replied_by : (run : LinkRun) → IsHeardOf (request_text q audit_addr) run.heard run.over → SaidAll told run → call ≡ call_of run → IsReplied told q said
-      replied_by run h s same = record {
+      replied_by : (run : LinkRun) → IsHeardOf (request_text q audit_addr) run.heard run.over → SaidAll told run → is_positive run.served.store ≡ false → call ≡ call_of run
+          → IsReplied told q said
+      replied_by run h s quiet same = record {
         sent = s.sent;
         rest = s.rest;
         sent_is = full_of stays told (request_text q audit_addr) run.heard run.over s.sent s.rest h s.sent_is s.ended;
+        unbroken = none_positive (failed_in s.sent) (sym (ap is_positive s.numbers.store_are) ∙ quiet);
         reply_is = sym said_is ∙ ap (λ (c : Call). c.said) same ∙ s.said_is;
       }
 
@@ -117,7 +123,7 @@ module _ (stays : SentStays) (told : Option Store) (q : QueryParts) (tell : Type
           let unfailed = (either_not unadmitted (run.failed || false) (sym fault ∙ has.fault)).1 in
           let whole = all_said told standard.received run run.end served.0 (sym (or_none (is_memory run.end)) ∙ (sym has.memory ∙ memory))
           (sym (or_none run.failed) ∙ unfailed) (sym (or_none (is_limit run.end)) ∙ (sym has.limit ∙ limit)) in
-          replied_by run (heard_by run [] heard) whole (call_by run (told_are tells))
+          replied_by run (heard_by run [] heard) whole (sym (or_none (is_positive run.served.store)) ∙ (sym has.store ∙ store)) (call_by run (told_are tells))
       by_runs (run ∷ (other ∷ runs)) unadmitted served heard few has told_are left ends = absurd (omega (arith, few))
 
       replied : ServesDoor told standard.received 1 tell before now door happened → IsReplied told q said

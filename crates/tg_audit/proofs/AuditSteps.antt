@@ -2,7 +2,8 @@
 use Rattle.std.proofs.Common.{Err, List, MatchResult, Ok, Option, Result, [], ap, arith, drop, get_or, inl, inr, length, refl, subst, sym, take, ℕ, ◌+◌, ◌++◌, ◌<◌, ◌∙◌, ◌∷◌, ◌≡◌}
 use Rattle.std.proofs.lemmas.List.{drop_more, length-take, take-append-drop, take_more}
 use Rattle.tg_audit.specs.Asking.{IsAnsweredBy, IsUnanswered}
-use Rattle.tg_audit.specs.Audits.{AreAnswered, IsAnsweredAs, IsAuditTree, IsAudited, IsImportedSo, IsUnabsent, IsUnansweredAs, IsUnaudited, IsUnexpected, StopsAt}
+use Rattle.tg_audit.specs.Complete.{HasCauseIfDenied, IsAuditTree}
+use Rattle.tg_audit.specs.Audits.{AreAnswered, AuditEnds, IsAnsweredAs, IsAudited, IsImportedSo, IsUnabsent, IsUnansweredAs, IsUnaudited, IsUnexpected, StopsAt}
 use Rattle.tg_audit.specs.Packing.{IsPackedOf, IsUnattached}
 use Rattle.tg_tree.specs.declared.tree.Tree.{Tree}
 use Rattle.tg_audit.specs.declared.fault.AuditFault.{AuditFault}
@@ -15,6 +16,7 @@ use Rattle.tg_draws.specs.declared.drawing.Drawn.{Drawn}
 use Rattle.tg_model.specs.Queries.{QueryParts}
 use Rattle.tg_model.specs.Stores.{Store}
 use Rattle.tg_store.specs.AttachedPacks.{IsAttachedIn}
+use Rattle.tg_streams.specs.Streams.{Output, OutputQuiet, Unput}
 
 -- ---- one query
 
@@ -133,3 +135,16 @@ module _ (seed files : ℕ) (tree : Tree) (expected : List Hashed) (drawn : IsAu
       → MatchResult result (IsAudited seed files) (IsUnaudited seed files)
   audited_as (Ok text) h = imported_so (λ p e. IsAnsweredAs p e text) h
   audited_as (Err fault) h = unaudited_as fault h
+
+-- ---- how it ends
+
+-- with nothing put
+pub unaudited_ends : (seed files : ℕ) (out : Output) (fault : AuditFault) → IsUnaudited seed files fault → HasCauseIfDenied seed files fault → Unput out → OutputQuiet out
+    → AuditEnds seed files out (Err fault)
+unaudited_ends seed files out (audits.Import fault) h denial unput quiet = record { cause = h; denial = denial; unput = unput; quiet = quiet }
+unaudited_ends seed files out (audits.Pack fault) h denial unput quiet = record { cause = h; denial = denial; unput = unput; quiet = quiet }
+unaudited_ends seed files out (audits.Client fault) h denial unput quiet = record { cause = h; denial = denial; unput = unput; quiet = quiet }
+unaudited_ends seed files out (audits.Limit number) h denial unput quiet = record { cause = h; denial = denial; unput = unput; quiet = quiet }
+unaudited_ends seed files out (audits.Differs query) h denial unput quiet = record { cause = h; denial = denial; unput = unput; quiet = quiet }
+unaudited_ends seed files out audits.SinkFault h denial unput quiet = absurd h.is_so
+unaudited_ends seed files out audits.OutOfMemory h denial unput quiet = record { cause = h; denial = denial; unput = unput; quiet = quiet }

@@ -2,3 +2,13 @@ mod Addrs
 mod Asked
 mod AuditSteps
 mod PackedTrees
+mod Members
+mod OwnQueries
+mod Holding
+mod Orders
+mod Alike
+mod OneText
+mod Denials
+mod DagEntries
+mod DrawnAnswers
+mod PackCauses

@@ -13,7 +13,7 @@ use Rattle.tg_model.specs.LimitNumbers.{LimitNumbers, standard}
 use Rattle.tg_model.specs.Queries.{QueryParts}
 use Rattle.tg_model.specs.Stores.{Store}
 use Rattle.tg_query.specs.Requests.{request_text}
-use Rattle.tg_reply.specs.Sent.{Sent, SentInFull, sent_bytes}
+use Rattle.tg_reply.specs.Sent.{Sent, SentInFull, failed_in, sent_bytes}
 use Rattle.tg_reply.specs.Shapes.{SentOver}
 
 -- the address that the requests name
@@ -22,11 +22,12 @@ audit_addr = codes "127.0.0.1:80"
 
 -- ---- the reply
 
--- all that is sent over a store for the request of a query
+-- all that is sent over a store for the request of a query, and the store broke off nowhere
 pub record IsReplied (told : Option Store) (q : QueryParts) (reply : List ℕ) : Type 0 where
   pub sent : List Sent
   pub rest : List ℕ
   pub sent_is : SentInFull (SentOver told) (request_text q audit_addr) sent rest
+  pub unbroken : failed_in sent ≡ 0
   pub reply_is : reply ≡ sent_bytes sent
 
 -- or there is none: the request has more bytes than may be received; want of memory is free

@@ -2,17 +2,14 @@
 -- what was drawn alone (this project's own).
 use Rattle.std.specs.Prelude.{Err, List, Ok, Option, Result, [], length, ⊤, ℕ, ◌+◌, ◌++◌, ◌∷◌, ◌≡◌, ◌≢◌, ◌⊎◌}
 use Rattle.tg_audit.specs.Asking.{IsAnsweredBy, IsRefusedBy, IsUnanswered}
+use Rattle.tg_audit.specs.Complete.{HasCauseIfDenied, IsAuditTree}
 use Rattle.tg_audit.specs.Packing.{CauseIn, IsPackedOf, IsUnpacked}
 use Rattle.tg_audit.specs.declared.fault.AuditFault.{AuditFault}
 use Rattle.tg_audit.specs.declared.fault.AuditFault.TheVariants as audits
 use Rattle.tg_audit.specs.declared.packing.Packed.{Packed}
-use Rattle.tg_audit_texts.specs.Expected.{AreExpected}
 use Rattle.tg_audit_texts.specs.Queries.{absent_query, answer_queries}
 use Rattle.tg_audit_texts.specs.Summary.{summary_text}
 use Rattle.tg_audit_texts.specs.declared.hashing.Hashed.{Hashed}
-use Rattle.tg_draws.specs.Draws.{IsDrawn}
-use Rattle.tg_draws.specs.Trees.{IsTreeOf}
-use Rattle.tg_draws.specs.declared.drawing.Drawn.{Drawn}
 use Rattle.tg_fetch.specs.declared.fault.FetchFault.{FetchFault}
 use Rattle.tg_fetch.specs.declared.fault.FetchFault.TheVariants as fetches
 use Rattle.tg_model.specs.Queries.{QueryParts}
@@ -91,13 +88,6 @@ IsUnansweredAs packed expected audits.OutOfMemory = ⊤
 IsUnansweredAs packed expected (audits.Import fault) = ⊥
 IsUnansweredAs packed expected audits.SinkFault = ⊥
 
--- the folder that a seed draws, with so many files in `many`, and the answers that are expected of it
-pub record IsAuditTree (seed files : ℕ) (tree : Tree) (expected : List Hashed) : Type 0 where
-  pub drawn : Drawn
-  pub drawn_is : IsDrawn seed files drawn
-  pub tree_is : IsTreeOf drawn tree
-  pub expected_are : AreExpected drawn expected
-
 -- it is imported, and this holds of the pack
 pub record IsImportedSo (seed files : ℕ) (holds : Packed → List Hashed → Type 0) : Type 0 where
   pub tree : Tree
@@ -138,9 +128,10 @@ pub record AuditedInPart (seed files : ℕ) (out : Output) : Type 0 where
   pub text_is : IsAudited seed files text
   pub front : PutFront text out
 
--- nothing was put
+-- nothing was put; and a query that is refused, or has another answer, has a cause in the folder's DAG
 pub record Unaudited (seed files : ℕ) (out : Output) (fault : AuditFault) : Type 0 where
   pub cause : IsUnaudited seed files fault
+  pub denial : HasCauseIfDenied seed files fault
   pub unput : Unput out
   pub quiet : OutputQuiet out
 

@@ -1,4 +1,9 @@
 pub mod Faults
 pub mod Packing
 pub mod Asking
+pub mod Own
+pub mod Holding
+pub mod Complete
 pub mod Audits
+pub mod Denials
+pub mod OneText

@@ -29,7 +29,7 @@ const PIECE: usize = 65_536;
 /// that a dial in memory reaches. The reply is held, and the answer hashed as it comes.
 ///
 /// RFC 9112; Trustless Gateway specification. Errors: `Client` where the client refuses the reply; `Limit` where the
-/// request has more bytes than may be received on a link; and `OutOfMemory`.
+/// request has more bytes than may be received on a link; and `OutOfMemory`, also where the store failed.
 pub fn ask<B: Blocks>(alloc: Global, query: &Query, blocks: &mut B) -> Result<Hashed, AuditFault>
     ensures told { MatchResult result (IsAnsweredBy (B.blocks.stored blocks.old) query.now)
         (IsUnanswered (B.blocks.stored blocks.old) query.now) }
@@ -61,7 +61,8 @@ fn reply_to<B: Blocks>(
         let number = limits.number(LimitKind::Received);
         return Err(AuditFault::Limit { number });
     }
-    if happened.memory || happened.fault {
+    // A fault of a door, or of a store, in memory comes for want of memory alone.
+    if happened.memory || happened.store || happened.fault {
         return Err(AuditFault::OutOfMemory);
     }
     last_said(door)

@@ -8,6 +8,7 @@ ghost use Rattle.tg_streams.specs.Streams.{into};
 
 use crate::asking::ask;
 use crate::fault::AuditFault;
+use crate::laws;
 use crate::packing::{Packed, attach, import_tree};
 use std::alloc::Global;
 use tg_audit_texts::{Hashed, absent_query, answer_queries, expected_answers, summary_text};
@@ -27,12 +28,15 @@ const ABSENT: u64 = 9;
 ///
 /// This project's own text. `files` is 1 to 1,000,000. Errors, with which nothing was put: `Import` and `Pack` where the
 /// folder can't be imported and attached; `Client`, `Limit` and `Differs` for the first query that is refused or whose
-/// answer isn't the expected one; and `OutOfMemory`; and `SinkFault` where out failed in the text.
+/// answer isn't the expected one, which comes only where two different blocks of the folder's DAG have one SHA-256, a query
+/// isn't within the standard limits, or the DAG's bundle or its listing of `many` isn't the expected one; and `OutOfMemory`,
+/// also where a store, a door or a dial in memory failed; and `SinkFault` where out failed in the text.
 pub fn audit<S: Sink>(alloc: Global, seed: u64, files: u32, out: &mut S) -> Result<(), AuditFault>
     requires some { 0 < files }
     requires few { files ≤ 1000000 }
     ensures { AuditEnds seed files (into S.sink out.old out.new) result }
 {
+    laws::denied_audits();
     let text = audited(alloc, seed, files)?;
     match put_all(out, text.as_slice()) {
         Ok(()) => Ok(()),

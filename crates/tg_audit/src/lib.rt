@@ -6,6 +6,7 @@
 mod asking;
 mod auditing;
 mod fault;
+pub mod laws;
 mod packing;
 
 pub use asking::ask;

@@ -46,5 +46,5 @@ returns-clause-told g c =
     let so = subst (λ (most : ℕ). ServesDoor (blocks.stored c.args.blocks.now) most 1 (LinksTell mem_link) (blocks.faults c.args.blocks.now)
     (blocks.faults c.serve_door-happened.new.blocks) door c.serve_door-happened.result) (ap (λ (l : LimitNumbers). l.received) c.requires) c.serve_door-happened.ensures.serves in
     told_reply c.sent_joins.ensures.stays (blocks.stored c.args.blocks.now) q (LinksTell mem_link) (blocks.faults c.args.blocks.now)
-    (blocks.faults c.serve_door-happened.new.blocks) door c.serve_door-happened.result coming c.if-happened-2.false c.if-happened-3.false c.if-happened.false
+    (blocks.faults c.serve_door-happened.new.blocks) door c.serve_door-happened.result coming c.if-happened-2.false c.if-happened-3.false c.if-happened-4.false c.if-happened.false
     (λ link. (refl, refl)) (ap (λ (d : DoorState). d.served) c.new-door.ensures) so c.last_said.result c.last_said.ensures

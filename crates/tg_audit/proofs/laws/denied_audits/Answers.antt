@@ -1,0 +1,6 @@
+use Rattle.tg_audit.proofs.Denials.{denials}
+use Rattle.tg_audit.proofs.laws.denied_audits.Goals as goal
+
+pub returns : goal.returns
+returns c = denials c.own_queries.ensures.answered c.own_queries.ensures.refused c.attached_packs.ensures.collides c.attached_packs.ensures.holds c.good_names.ensures c.paths.ensures
+    c.one_cause.ensures.none c.spelling_laws.ensures c.one_spelling.ensures c.traversals.ensures.everything

@@ -1,0 +1,64 @@
+//! Laws of what an audit finds, over the definitions alone. Each is the contract of a function that does nothing.
+ghost use Rattle.tg_audit.specs.Denials.{DenialsHaveCauses};
+ghost use Rattle.tg_audit.specs.Holding.{AttachedHolds, CollidesOrNot};
+ghost use Rattle.tg_audit.specs.OneText.{OneAuditText};
+ghost use Rattle.tg_audit.specs.Own.{OwnIsAnswered, OwnIsRefused};
+
+/// A query that is asked over a store that holds the blocks of a sound DAG, within the standard limits, has the DAG's
+/// answer; and where a segment of its path leads nowhere it is refused for that segment. Want of memory is free.
+///
+/// RFC 9112; Trustless Gateway specification; Path Gateway specification, Path Resolution.
+pub fn own_queries()
+    ensures answered { OwnIsAnswered }
+    ensures refused { OwnIsRefused }
+{
+    tg_heard::own_requests();
+    tg_heard::own_replies_carry();
+    tg_answering::own_replies();
+    tg_reply::one_writing();
+    tg_reply::sent_is_determined();
+    tg_fetch::laws::carried_replies();
+    tg_fetch::laws::carried_absences();
+    tg_model_laws::paths();
+    tg_model_laws::own_sections();
+    tg_model_laws::own_absences();
+    tg_model_laws::against_every_peer();
+}
+
+/// What is attached of a pack with a folder's DAG holds the DAG's blocks, where one block stands under each CID; else two
+/// different blocks of the DAG have one SHA-256.
+///
+/// CARv1 specification.
+pub fn attached_packs()
+    ensures collides { CollidesOrNot }
+    ensures holds { AttachedHolds }
+{
+    tg_car::laws::car_laws();
+}
+
+/// A query of an audit is refused, or has another answer than the expected one, or the pack isn't attached, only where two different blocks of the
+/// folder's DAG have one SHA-256; or where a query isn't within the standard limits, or the DAG's bundle or its listing of
+/// `many` isn't the one that is expected. The other answers are the DAG's.
+///
+/// This project's own text.
+pub fn denied_audits()
+    ensures { DenialsHaveCauses }
+{
+    own_queries();
+    attached_packs();
+    tg_model::laws::good_names();
+    tg_model_laws::paths();
+    tg_model_laws::traversals();
+    tg_store::laws::one_cause();
+    tg_varint::laws::spelling_laws();
+    tg_cid::laws::one_spelling();
+}
+
+/// Two audits of one seed and number of files that end well tell the same text, or two names of `many` have one hash.
+///
+/// This project's own text; UnixFS specification, HAMTDirectory.
+pub fn one_text()
+    ensures { OneAuditText }
+{
+    tg_layout_laws::one_layout();
+}
