@@ -87,18 +87,23 @@ fn say_evaluated(alloc: Global, blocks: &[StoredBlock], query: &Query, answer: &
 /// Says what a walk gives.
 fn say_walked(alloc: Global, blocks: &[StoredBlock], query: &Query, answer: &mut Answer) {
     match (store_of(alloc, blocks), Walk::new(alloc, query)) {
-        (Some(mut store), Ok(mut walk)) => say_counted(&mut walk, &mut store, answer),
+        (Some(mut store), Ok(mut walk)) => {
+            answer.text("walk");
+            say_ended(&mut walk, &mut store, answer);
+        }
         _ => answer.text("no walk"),
     }
 }
 
-fn say_counted(walk: &mut Walk, store: &mut MemStore, answer: &mut Answer) {
+/// Says how many blocks a walk gives, and how it ends.
+pub fn say_ended(walk: &mut Walk, store: &mut MemStore, answer: &mut Answer) {
     for given in 0..1_000 {
         match goes_on(walk, store) {
             Ok(true) => {}
             Ok(false) => return say_count(given, "whole", answer),
             Err(WalkFault::TooDeep) => return say_count(given, "TooDeep", answer),
             Err(WalkFault::Gone { .. }) => return say_count(given, "Gone", answer),
+            Err(WalkFault::BadBlock { .. }) => return say_count(given, "BadBlock", answer),
             Err(_) => return say_count(given, "otherwise", answer),
         }
     }
@@ -107,7 +112,6 @@ fn say_counted(walk: &mut Walk, store: &mut MemStore, answer: &mut Answer) {
 
 /// Says how many blocks a walk gave, and how it ended.
 fn say_count(count: u64, end: &str, answer: &mut Answer) {
-    answer.text("walk");
     answer.number(count);
     answer.text(end);
 }

@@ -8,6 +8,7 @@ mod faults;
 mod kinds;
 mod queries;
 mod ranges;
+mod shards;
 mod steps;
 mod walks;
 
@@ -61,6 +62,7 @@ fn answer_dags(dags: &mut Dags, kind: &str, given: &[Bytes], answer: &mut Answer
 fn answer_alone(alloc: Global, kind: &str, given: &[Bytes], answer: &mut Answer) {
     match kind {
         "chain" => chains::answer(alloc, given, answer),
+        "shards" => shards::answer(alloc, given, answer),
         "read" => kinds::answer_read(alloc, given, answer),
         "kind" => kinds::answer_kind(alloc, given, answer),
         "place" => kinds::answer_place(alloc, given, answer),
