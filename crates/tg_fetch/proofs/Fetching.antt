@@ -55,6 +55,7 @@ module _ {L : Type 0} (m : LinkMeaning L) (source : SourceMeaning L) (sink : Sin
     rose_by (Err faults.BadFraming) h = h ∙ still
     rose_by (Err (faults.BadCar car)) h = h ∙ still
     rose_by (Err faults.PeerFault) h = subst (λ (n : ℕ). Rose n (source.faults l₂)) still h
+    rose_by (Err faults.KeepFault) h = h ∙ still
     rose_by (Err faults.OutOfMemory) h = h ∙ still
 
     -- the request was put, and this heard
