@@ -43,7 +43,7 @@ module _ {S : Type 0} (m : SinkMeaning S) (a b c : S) (quiet : OutputQuiet (into
   cause_from A B faults.BadFraming h = h ∙ quiet
   cause_from A B (faults.BadCar car) h = h ∙ quiet
   cause_from A B faults.PeerFault h = h ∙ quiet
-  cause_from A B faults.KeepFault h = h ∙ quiet
+  cause_from A B faults.KeepFault h = absurd h
   cause_from A B faults.OutOfMemory h = h ∙ quiet
 
   pub end_cause : (A : Type 0) (result : Result A FetchFault) → QuietUnlessSink {A = A} (into m b c) result → QuietUnlessSink {A = A} (into m a c) result

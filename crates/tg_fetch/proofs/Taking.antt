@@ -419,7 +419,49 @@ quiet_block out limits bytes quiet faults.BadReplyHead is = quiet
 quiet_block out limits bytes quiet faults.BadFraming is = quiet
 quiet_block out limits bytes quiet (faults.BadCar car) is = quiet
 quiet_block out limits bytes quiet faults.PeerFault is = quiet
-quiet_block out limits bytes quiet faults.KeepFault is = quiet
+quiet_block out limits bytes quiet faults.KeepFault is = absurd is
+
+-- a fault of the answer's CAR that is none of a keeper
+pub quiet_answer : (out : Output) (cause : ClientFault) → cause ≢ clients.KeepFault → HasOutCause out cause → QuietUnlessSink {A = ⊤} out (Err (fault_of_client cause))
+quiet_answer out (clients.Refused refusals.SinkFault) not has = has
+quiet_answer out (clients.Refused (refusals.Extra number)) not has = has
+quiet_answer out (clients.Refused (refusals.Limit kind number)) not has = has
+quiet_answer out (clients.Refused (refusals.BadDigest cid)) not has = has
+quiet_answer out (clients.Refused (refusals.WrongBlock want got)) not has = has
+quiet_answer out (clients.Refused (refusals.BadBlock cid fault)) not has = has
+quiet_answer out (clients.Refused (refusals.BadSize declared actual)) not has = has
+quiet_answer out (clients.Refused (refusals.NotFolder segment)) not has = has
+quiet_answer out (clients.Refused (refusals.NotThere segment)) not has = has
+quiet_answer out (clients.Refused (refusals.Truncated want number)) not has = has
+quiet_answer out (clients.Refused refusals.OutOfMemory) not has = has
+quiet_answer out (clients.BadCar car) not has = has
+quiet_answer out clients.InputFault not has = absurd has
+quiet_answer out clients.KeepFault not has = absurd (not refl)
+quiet_answer out clients.OutOfMemory not has = has
+
+-- a fault that is neither of out nor of a keeper
+pub quiet_other : (out : Output) (result : Result ⊤ FetchFault) → (result ≡ Err (faults.Refused refusals.SinkFault) → ⊥) → (result ≡ Err faults.KeepFault → ⊥) → OutputQuiet out
+    → QuietUnlessSink out result
+quiet_other out (Ok done) sink keep quiet = quiet
+quiet_other out (Err (faults.Refused refusals.SinkFault)) sink keep quiet = absurd (sink refl)
+quiet_other out (Err (faults.Refused (refusals.Extra number))) sink keep quiet = quiet
+quiet_other out (Err (faults.Refused (refusals.Limit kind number))) sink keep quiet = quiet
+quiet_other out (Err (faults.Refused (refusals.BadDigest cid))) sink keep quiet = quiet
+quiet_other out (Err (faults.Refused (refusals.WrongBlock want got))) sink keep quiet = quiet
+quiet_other out (Err (faults.Refused (refusals.BadBlock cid fault))) sink keep quiet = quiet
+quiet_other out (Err (faults.Refused (refusals.BadSize declared actual))) sink keep quiet = quiet
+quiet_other out (Err (faults.Refused (refusals.NotFolder segment))) sink keep quiet = quiet
+quiet_other out (Err (faults.Refused (refusals.NotThere segment))) sink keep quiet = quiet
+quiet_other out (Err (faults.Refused (refusals.Truncated want number))) sink keep quiet = quiet
+quiet_other out (Err (faults.Refused refusals.OutOfMemory)) sink keep quiet = quiet
+quiet_other out (Err (faults.Status number)) sink keep quiet = quiet
+quiet_other out (Err faults.BadType) sink keep quiet = quiet
+quiet_other out (Err faults.BadReplyHead) sink keep quiet = quiet
+quiet_other out (Err faults.BadFraming) sink keep quiet = quiet
+quiet_other out (Err (faults.BadCar car)) sink keep quiet = quiet
+quiet_other out (Err faults.PeerFault) sink keep quiet = quiet
+quiet_other out (Err faults.KeepFault) sink keep quiet = absurd (keep refl)
+quiet_other out (Err faults.OutOfMemory) sink keep quiet = quiet
 
 -- ---- the root's block
 

@@ -35,7 +35,8 @@ fault_of_http https.HeadLimit = faults.BadReplyHead
 fault_of_http https.BadFraming = faults.BadFraming
 fault_of_http https.OutOfMemory = faults.OutOfMemory
 
--- a fault of out comes where one was counted, and nowhere else
+-- a fault of out comes where one was counted, and nowhere else; and none is of a keeper
 abbrev pub QuietUnlessSink : {A : Type 0} → Output → Result A FetchFault → Type 0
 QuietUnlessSink out (Err (faults.Refused refusals.SinkFault)) = OutputRose out
+QuietUnlessSink out (Err faults.KeepFault) = ⊥
 QuietUnlessSink out result = OutputQuiet out

@@ -144,6 +144,7 @@ fn show(body: &mut CarBody, part: &[u8]) -> Result<(), FetchFault>
         × ForEachSound q (FrontAndSays q sections [] fault)) }
     ensures cause { body.old.refused ≡ None → body.old.verifier.refused ≡ None
         → result ≡ Err (FetchFault.Refused Refusal.SinkFault) → ⊥ }
+    ensures unkept { body.old.refused ≡ None → result ≡ Err FetchFault.KeepFault → ⊥ }
 {
     tg_client::laws::standing_bodies();
     tg_model_laws::own_absences();
