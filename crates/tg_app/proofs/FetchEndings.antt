@@ -50,6 +50,7 @@ fetch_status faults.BadReplyHead = 3
 fetch_status faults.BadFraming = 3
 fetch_status (faults.BadCar fault) = 3
 fetch_status faults.PeerFault = 5
+fetch_status faults.KeepFault = 6
 fetch_status faults.OutOfMemory = 8
 
 -- where the text of a CID has to be shown
@@ -69,6 +70,7 @@ refusal_status faults.BadReplyHead refusal h = inl (ap status_of h)
 refusal_status faults.BadFraming refusal h = inl (ap status_of h)
 refusal_status (faults.BadCar fault) refusal h = inl (ap status_of h)
 refusal_status faults.PeerFault refusal h = inl (ap status_of h)
+refusal_status faults.KeepFault refusal h = inl (ap status_of h)
 refusal_status faults.OutOfMemory refusal h = inl (ap status_of h)
 
 end_status : (fault : FetchFault) (end : Option CommandFault) → IsFetchEnd (Err fault) end → IsStatusOf fault (exit_status end)
@@ -108,6 +110,7 @@ no_fetch_usage parts dial out h = no_usage_by h.result h.end_is
 rose_at_6 : (out : Output) (fault : FetchFault) → fetch_status fault ≡ 6 → QuietUnlessSink {A = ⊤} out (Err fault) → OutputRose out
 rose_at_6 out (faults.Refused verifiers.SinkFault) e cause = cause
 rose_at_6 out (faults.Refused fault) e cause = cc
+rose_at_6 out faults.KeepFault e cause = absurd cause
 rose_at_6 out fault e cause = cc
 
 rose_by : (out : Output) (result : Result ⊤ FetchFault) (end : Option CommandFault) → exit_status end ≡ 6 → IsFetchEnd result end → QuietUnlessSink out result → OutputRose out
@@ -125,6 +128,7 @@ quiet_by : (out : Output) (result : Result ⊤ FetchFault) (end : Option Command
 quiet_by out (Ok done) end ne is cause = cause
 quiet_by out (Err (faults.Refused verifiers.SinkFault)) end ne is cause = absurd (ne (sink_is_6 end is))
 quiet_by out (Err (faults.Refused fault)) end ne is cause = cause
+quiet_by out (Err faults.KeepFault) end ne is cause = absurd cause
 quiet_by out (Err fault) end ne is cause = cause
 
 pub fetch_quiet : (parts : FetchParts) (dial : Dialling) (out : Output) (end : Option CommandFault) → exit_status end ≢ 6 → FetchAnswers parts dial out end → OutputQuiet out
@@ -278,6 +282,7 @@ own_8 : (parts : FetchParts) (dial : Dialling) (out : Output) (text : List ℕ) 
 own_8 parts dial out text (Ok done) end no_dial no_out is ends cause put = inr (ap exit_status is, put)
 own_8 parts dial out text (Err (faults.Refused verifiers.SinkFault)) end no_dial no_out is ends cause own = absurd (no_out cause)
 own_8 parts dial out text (Err faults.PeerFault) end no_dial no_out is ends cause own = absurd (no_dial (peer_rose parts.query standard parts.addr dial out ends))
+own_8 parts dial out text (Err faults.KeepFault) end no_dial no_out is ends cause own = absurd cause
 own_8 parts dial out text (Err faults.OutOfMemory) end no_dial no_out (refusal, is, tells) ends cause own = inl (ap exit_status is ∙ ap status_of tells)
 own_8 parts dial out text (Err (faults.Refused fault)) end no_dial no_out is ends cause own = absurd own
 own_8 parts dial out text (Err fault) end no_dial no_out is ends cause own = absurd own

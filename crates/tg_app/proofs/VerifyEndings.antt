@@ -42,6 +42,7 @@ status_for (clients.Refused verifiers.OutOfMemory) = 8
 status_for (clients.Refused fault) = 3
 status_for (clients.BadCar fault) = 3
 status_for clients.InputFault = 6
+status_for clients.KeepFault = 6
 status_for clients.OutOfMemory = 8
 
 tells_status : (fault : ClientFault) (refusal : CommandFault) → TellsVerify fault refusal → status_of refusal ≡ status_for fault
@@ -58,6 +59,7 @@ tells_status (clients.Refused (verifiers.Truncated want sections)) refusal (text
 tells_status (clients.Refused verifiers.OutOfMemory) refusal h = ap status_of h
 tells_status (clients.BadCar fault) refusal h = ap status_of h
 tells_status clients.InputFault refusal h = ap status_of h
+tells_status clients.KeepFault refusal h = ap status_of h
 tells_status clients.OutOfMemory refusal h = ap status_of h
 
 -- the refusal has the status of its fault, or memory was wanted for its line
@@ -86,6 +88,7 @@ no_verify_usage q input out ends = no_usage ends.fault (has_status ends.fault Us
 
 rose_at_6 : (input : Input) (out : Output) (fault : ClientFault) → status_for fault ≡ 6 → HasStreamCause input out (Err fault) → InputRose input ⊎ OutputRose out
 rose_at_6 input out clients.InputFault e cause = inl cause.0
+rose_at_6 input out clients.KeepFault e cause = absurd cause
 rose_at_6 input out (clients.Refused verifiers.SinkFault) e cause = inr cause.1
 rose_at_6 input out (clients.Refused fault) e cause = cc
 rose_at_6 input out fault e cause = cc
@@ -101,12 +104,14 @@ verify_fault q input out (Some refusal) e ends = rose_of input out ends.fault re
 
 quiet_else : (input : Input) (out : Output) (fault : ClientFault) → (status_for fault ≡ 6 → ⊥) → HasStreamCause input out (Err fault) → InputQuiet input × OutputQuiet out
 quiet_else input out clients.InputFault ne cause = absurd (ne refl)
+quiet_else input out clients.KeepFault ne cause = absurd cause
 quiet_else input out (clients.Refused verifiers.SinkFault) ne cause = absurd (ne refl)
 quiet_else input out (clients.Refused fault) ne cause = cause
 quiet_else input out fault ne cause = cause
 
 some_shown : (fault : ClientFault) → ShowsSome fault → status_for fault ≡ 6 → ⊥
 some_shown clients.InputFault some e = absurd some
+some_shown clients.KeepFault some e = absurd some
 some_shown (clients.Refused verifiers.SinkFault) some e = absurd some
 some_shown (clients.Refused fault) some e = cc
 some_shown fault some e = cc
@@ -190,6 +195,7 @@ verify_nothing_of misses q input out (Some refusal) e ends =
 own_8 : (input : Input) (out : Output) (fault : ClientFault) (refusal : CommandFault) → (InputRose input → ⊥) → (OutputRose out → ⊥) → IsOwnEnd fault
     → IsVerifyRefusal fault refusal → HasStreamCause input out (Err fault) → status_of refusal ≡ 8
 own_8 input out clients.InputFault refusal no_in no_out own tells cause = absurd (no_in cause.0)
+own_8 input out clients.KeepFault refusal no_in no_out own tells cause = absurd cause
 own_8 input out (clients.Refused verifiers.SinkFault) refusal no_in no_out own tells cause = absurd (no_out cause.1)
 own_8 input out clients.OutOfMemory refusal no_in no_out own (inl tells) cause = ap status_of tells
 own_8 input out clients.OutOfMemory refusal no_in no_out own (inr memory) cause = ap status_of memory.1
@@ -238,6 +244,7 @@ says_line q d sections text (clients.Refused (verifiers.Truncated want number)) 
 says_line q d sections text (clients.Refused verifiers.OutOfMemory) refusal h says = rw h tt
 says_line q d sections text (clients.BadCar car) refusal h says = rw h tt
 says_line q d sections text clients.InputFault refusal h says = rw h tt
+says_line q d sections text clients.KeepFault refusal h says = rw h tt
 says_line q d sections text clients.OutOfMemory refusal h says = rw h tt
 
 line_for : (q : QueryParts) (d : Dag) (sections : List Section) (text : List ℕ) (fault : ClientFault) (refusal : CommandFault) → IsVerifyRefusal fault refusal → SaysFor q d sections text (Err fault)

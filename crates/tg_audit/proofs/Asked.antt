@@ -150,6 +150,7 @@ not_own : (before now : Hashing) (fault : FetchFault) → QuietUnlessSink {A = �
 not_own before now (fetches.Refused refusals.SinkFault) cause peer memory own = none_rose cause
 not_own before now (fetches.Refused refusal) cause peer memory own = own
 not_own before now fetches.PeerFault cause peer memory own = peer refl
+not_own before now fetches.KeepFault cause peer memory own = cause
 not_own before now fetches.OutOfMemory cause peer memory own = memory refl
 not_own before now fault cause peer memory own = own
 
@@ -245,4 +246,5 @@ module _ (q : QueryParts) (reply : List ℕ) (dial : Dialling) (before now : Has
   unheard fetches.BadFraming cause ends = refusal fetches.BadFraming (λ e. cc e) (λ e. cc e) cause ends
   unheard (fetches.BadCar car) cause ends = refusal (fetches.BadCar car) (λ e. cc e) (λ e. cc e) cause ends
   unheard fetches.PeerFault cause ends = tt
+  unheard fetches.KeepFault cause ends = absurd cause
   unheard fetches.OutOfMemory cause ends = tt

@@ -345,6 +345,7 @@ module _ (laws : QueryLaws) (store : Store) (q : QueryParts) (d : Dag) (own : Is
     miss_of (fetches.Refused refusal) h not = h
     miss_of fetches.OutOfMemory h not = absurd (not tt)
     miss_of fetches.PeerFault h not = absurd h
+    miss_of fetches.KeepFault h not = absurd h
     miss_of (fetches.Status status) h not = absurd h
     miss_of fetches.BadType h not = absurd h
     miss_of fetches.BadReplyHead h not = absurd h
