@@ -128,5 +128,5 @@ pub unaudited : (parts : AuditParts) (out : Output) → OutputUntouched out → 
 unaudited parts out unput = record {
   result = Err faults.OutOfMemory;
   end_is = (refusals.OutOfMemory, refl, refl);
-  ends = record { cause = tt; unput = unput.unput; quiet = unput.quiet };
+  ends = record { cause = tt; denial = tt; unput = unput.unput; quiet = unput.quiet };
 }
