@@ -1,5 +1,6 @@
 //! The rows of `tg_fetch`: clients that are fed replies in pieces of any lengths, own ones and those of a peer that lies,
-//! and fetches over dials in memory, whose calls fail in turn, and over a socket.
+//! fetches over dials in memory, whose calls fail in turn, and over a socket; and in which pieces inputs, replies and
+//! requests are taken.
 #![tactic(auto)]
 
 mod asking;
@@ -7,7 +8,9 @@ mod chains;
 mod cuts;
 mod faults;
 mod fetching;
+mod noting;
 mod own;
+mod pieces;
 mod replies;
 mod sockets;
 
@@ -52,6 +55,8 @@ fn answer_kind(judge: &mut Replied, kind: &str, given: &[Bytes], answer: &mut An
     match kind {
         "block" => own::keep(alloc, &mut judge.store, given, answer),
         "chain" => chains::answer(alloc, given, answer),
+        "link" => pieces::answer_link(alloc, &mut judge.store, given, answer),
+        "lane" => pieces::answer_lane(alloc, &mut judge.store, given, answer),
         _ => {
             let given = given_of(alloc, given);
             if given.is_bad {
@@ -68,6 +73,8 @@ fn answer_asked(judge: &mut Replied, kind: &str, given: &Given, answer: &mut Ans
     match kind {
         "reply" => replies::answer(alloc, given, answer),
         "cut" => cuts::answer(alloc, given, answer),
+        "car" => pieces::answer_car(alloc, given, answer),
+        "fetched" => pieces::answer_fetch(alloc, given, answer),
         "own" => own::answer(alloc, &mut judge.store, given, answer),
         "fetch" => fetching::answer(alloc, given, answer),
         "each" => fetching::answer_each(alloc, given, answer),
