@@ -164,6 +164,7 @@ fn end_of(alloc: Global, query: &Query, store: &mut PackStore<MemPack>) -> &'sta
         Ok(_) => "answered",
         Err(AuditFault::Client(FetchFault::Refused(Refusal::NotThere { segment: 0 }))) => "absent",
         Err(AuditFault::Client(_)) => "refused by the client",
+        Err(AuditFault::OutOfMemory) => "out of memory",
         Err(_) => "another fault",
     }
 }
