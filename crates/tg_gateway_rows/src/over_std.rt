@@ -1,6 +1,7 @@
 //! Sources, sinks and links over a stream of std whose calls answer what a row says.
 ghost use Rattle.std.specs.Prelude.{◌≤◌, IfOk};
 
+use crate::fields::number_up_to;
 use std::alloc::Global;
 use std::io;
 use std::io::{ErrorKind, Read, Write};
@@ -61,6 +62,9 @@ impl Write for Script {
     }
 }
 
+/// How often a call comes at most.
+const MOST_TIMES: u64 = 1_000;
+
 /// The call that a field names.
 fn call_of(field: &Bytes) -> Option<Call> {
     match from_utf8(field.as_slice()) {
@@ -74,14 +78,22 @@ fn call_of(field: &Bytes) -> Option<Call> {
     }
 }
 
-/// A stream whose first calls answer what these fields name.
+/// A stream whose first calls answer what these fields name: a number says how often the next one comes.
 fn script_of(alloc: Global, given: &[Bytes]) -> Option<Script> {
     let mut calls = List::new(alloc);
+    let mut times = 1;
     for field in given {
-        match call_of(field) {
-            Some(call) if calls.push(call).is_ok() => {}
-            _ => return None,
+        if let Some(number) = number_up_to(field, MOST_TIMES) {
+            times = number;
+            continue;
         }
+        let call = call_of(field)?;
+        for _ in 0..times {
+            if calls.push(call).is_err() {
+                return None;
+            }
+        }
+        times = 1;
     }
     Some(Script { calls, made: 0 })
 }
