@@ -6,5 +6,5 @@ mod GoodNames
 mod Listings
 mod NamesInOrder
 mod SoFar
-pub mod Filled
+mod Filled
 mod Once

@@ -4,8 +4,9 @@ ghost use Rattle.tg_bytes.specs.Told.{IsNothing};
 ghost use Rattle.tg_files.specs.Folders.{FolderQuiet, SameFolder, folder_step};
 ghost use Rattle.tg_files.specs.Packs.{pack_step};
 ghost use Rattle.tg_import.specs.Imported.{AreOptions};
-ghost use Rattle.tg_import.specs.Packing.{Grows, GrowsWithRoot, IsPacked, IsPackingCause, IsUnfinished, StaysTold};
-ghost use Rattle.tg_import.specs.Packing.{StopsWriting, WritesPack};
+ghost use Rattle.tg_import.specs.Packing.{IsPacked, IsPackingCause};
+ghost use Rattle.tg_store.specs.Filling.{Grows, GrowsWithRoot, IsUnfinished, StaysTold};
+ghost use Rattle.tg_store.specs.Filling.{StopsWriting, WritesPack};
 ghost use Rattle.tg_store.specs.Finishing.{IsNew};
 
 use crate::fault::ImportFault;
@@ -42,6 +43,7 @@ pub fn import_pack<F: Folder, P: Pack>(
     ensures written { IfOk result.1 (λ found. WritesPack found.0 (pack_step P.pack pack result.0)) }
     ensures stopped { OnErr result.1 (StopsWriting (pack_step P.pack pack result.0)) }
 {
+    tg_store::laws::filled_packs::<P>();
     let mut store = match PackStore::create(alloc, pack) {
         Ok(store) => store,
         Err(refused) => return (refused.pack, Err(ImportFault::Keep)),
@@ -72,7 +74,7 @@ fn fill<F: Folder, P: Pack>(
     ensures written { IfOk result (λ found. GrowsWithRoot found.0 (pack_step P.pack store.old.pack store.new.pack)) }
     ensures stopped { OnErr result (Grows (pack_step P.pack store.old.pack store.new.pack)) }
 {
-    tg_store::laws::pack_laws::<P>();
+    tg_store::laws::filled_packs::<P>();
     let (root, summary) = import(alloc, folder, store, options)?;
     match store.finish(root) {
         Ok(()) => Ok((root, summary)),

@@ -11,3 +11,4 @@ mod Stepping
 mod Moving
 mod Scanning
 mod Finished
+mod Filled

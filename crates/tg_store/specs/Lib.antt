@@ -7,5 +7,6 @@ pub mod PackLaws
 pub mod PackReads
 pub mod PackWrites
 pub mod Finishing
+pub mod Filling
 pub mod Attaching
 pub mod AttachedPacks

@@ -1,6 +1,7 @@
 -- A store in a pack: where its blocks lie, what is stored, and how it grows.
 use Rattle.std.specs.Prelude.{◌≡◌, ◌≤◌, ◌<◌, ◌+◌, ◌-◌, ◌^◌, ⊤, ℕ, Bool, true, List, [], ◌∷◌, ◌++◌, length, take, drop}
 use Rattle.std.specs.Prelude.{replicate, All, Option, Some, None}
+use Rattle.std.specs.List.{sum_by}
 use Rattle.std.specs.Map.{keys_of, lookup}
 use Rattle.tg_cid.specs.Limits.{max_block_len}
 use Rattle.tg_car.specs.CarText.{HeaderText, SectionText}
@@ -28,6 +29,10 @@ unfinished_root = 0 ∷ 1 ∷ 0x55 ∷ 0x12 ∷ 0x20 ∷ replicate 32 0
 -- the bytes at a place
 abbrev pub block_at : List ℕ → Place → List ℕ
 block_at content place = take place.size (drop place.offset content)
+
+-- how many bytes the blocks at these places have together
+abbrev pub bytes_at : List (Key × Place) → ℕ
+bytes_at places = sum_by (λ (entry : Key × Place). entry.1.size) places
 
 -- what is stored: it is told where the pack tells its content
 abbrev pub stored_in : Option (List ℕ) → List (Key × Place) → Option Store

@@ -1,15 +1,18 @@
 //! The laws of stores in packs, for proofs.
-ghost use Rattle.std.specs.Prelude.{◌≡◌, ◌≢◌, ◌∷◌, [], ℕ, List, Some, map};
+ghost use Rattle.std.specs.Prelude.{◌≡◌, ◌≢◌, ◌∷◌, [], ℕ, IfSome, List, Some, map};
 ghost use Rattle.tg_car.specs.CarText.{CarText};
 ghost use Rattle.tg_cid.specs.Cid.{CidParts};
 ghost use Rattle.tg_cid.specs.declared.cid.HashKind.TheVariants as hashes;
+ghost use Rattle.tg_files.specs.Packs.{pack_step};
 ghost use Rattle.tg_model.specs.Dag.{Section};
 ghost use Rattle.tg_model.specs.Stores.{Kept, Store, kept_in};
 ghost use Rattle.tg_store.specs.Attaching.{HasPackCause, IsAttached};
 ghost use Rattle.tg_store.specs.Entries.{first_of_each, store_of};
-ghost use Rattle.tg_store.specs.Finishing.{IsFinished, IsNew, unfinished_cid};
+ghost use Rattle.tg_store.specs.Filling.{Grows, GrowsWithRoot, IsCarOfRoot, IsUnfinished, StaysTold, StopsWriting, WritesPack};
+ghost use Rattle.tg_store.specs.Finishing.{IsCreated, IsFinished, IsNew, IsNotCreated, IsNotFinished, unfinished_cid};
 ghost use Rattle.tg_store.specs.Packs.{HasKept, PackStoreState, block_at, in_car, unfinished_root};
 ghost use Rattle.tg_store.specs.declared.fault.PackFault.{PackFault};
+ghost use Rattle.tg_store.specs.declared.fault.PackRefused.{PackRefused};
 
 use crate::pack_store::PackStore;
 use tg_files::Pack;
@@ -25,6 +28,33 @@ pub fn pack_laws<P: Pack>()
         → P.pack.content b.pack ≡ Some content → CarText (unfinished_root
         ∷ []) (map in_car (first_of_each sections)) content }
 {}
+
+/// What was done to a pack that a store fills, and what it holds, as far as it is told: before it is finished a CAR of the
+/// unfinished root, and once it is finished one with that root. A pack that tells what it holds tells it when it is finished.
+///
+/// CARv1 specification.
+pub fn filled_packs<P: Pack>()
+    ensures unfinished { (a b : PackStoreState P) (sections : List Section) → IsNew P.pack a → HasKept P.pack a b sections
+        → Grows (pack_step P.pack a.pack b.pack) × IfSome (P.pack.content b.pack) IsUnfinished }
+    ensures finished { (a b c : PackStoreState P) (sections : List Section) (root : CidParts) → IsNew P.pack a
+        → HasKept P.pack a b sections → IsFinished P.pack b c root
+        → GrowsWithRoot root (pack_step P.pack a.pack c.pack) × IfSome (P.pack.content c.pack) (IsCarOfRoot root sections) }
+    ensures told { (a b c : PackStoreState P) (sections : List Section) (root : CidParts)
+        → Kept sections (kept_in ⟦<PackStore<P> as Keep>⟧.keeper a b) → IsFinished P.pack b c root
+        → StaysTold (P.pack.content a.pack) (P.pack.content c.pack) }
+    ensures failed { (a b c : PackStoreState P) (sections : List Section) (fault : PackFault) → IsNew P.pack a
+        → HasKept P.pack a b sections → IsNotFinished P.pack b c fault
+        → Grows (pack_step P.pack a.pack c.pack) × IfSome (P.pack.content c.pack) IsUnfinished }
+    // With the header that was written first.
+    ensures stopped { (pack c : P) (a : PackStoreState P) → IsCreated P.pack pack a → Grows (pack_step P.pack a.pack c)
+        → StopsWriting (pack_step P.pack pack c) }
+    ensures written { (pack c : P) (a : PackStoreState P) (root : CidParts) → IsCreated P.pack pack a
+        → GrowsWithRoot root (pack_step P.pack a.pack c) → WritesPack root (pack_step P.pack pack c) }
+    ensures refused { (pack : P) (refused : PackRefused P) → IsNotCreated P.pack pack refused
+        → StopsWriting (pack_step P.pack pack refused.pack) }
+{
+    pack_laws::<P>();
+}
 
 /// A pack that was created, in which sections were kept and which was finished, is attached again, as far as it is
 /// told, and as the same map: what it holds is a CAR that no cause refuses, and under each CID stands the block that

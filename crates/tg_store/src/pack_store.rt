@@ -1,5 +1,5 @@
 //! A store in a pack, by offsets.
-ghost use Rattle.std.specs.Prelude.{◌≡◌, ◌≢◌, ◌+◌, ◌∷◌, [], true, length, IfErr, IfOk, IfSome, MatchResult, OnOk};
+ghost use Rattle.std.specs.Prelude.{◌≡◌, ◌≢◌, ◌+◌, ◌-◌, ◌^◌, ◌∷◌, [], true, length, min, IfErr, IfOk, IfSome, MatchResult, OnOk};
 ghost use Rattle.tg_bytes.specs.Told.{IsNothing};
 ghost use Rattle.tg_cid.specs.Cid.{CidParts};
 ghost use Rattle.tg_cid.specs.declared.cid.HashKind.{HashKind};
@@ -9,7 +9,7 @@ ghost use Rattle.tg_store.specs.AttachedPacks.{HasAttached, HasRefused, IsGivenF
 ghost use Rattle.tg_store.specs.Attaching.{HasPackCause};
 ghost use Rattle.tg_store.specs.declared.fault.PackFault.{PackFault};
 ghost use Rattle.tg_store.specs.Finishing.{IsFinished, IsNotFinished, IsCreated, IsNotCreated, unfinished_cid};
-ghost use Rattle.tg_store.specs.Packs.{HasKept, HasSearched, stored_in};
+ghost use Rattle.tg_store.specs.Packs.{HasKept, HasSearched, bytes_at, stored_in};
 ghost use Rattle.tg_store.specs.PackLaws.{kept_joins, kept_rests, searched_joins, searched_rests, told_store};
 
 use crate::attach::scan;
@@ -139,6 +139,24 @@ impl<P: Pack> PackStore<P> {
             }),
             Err(fault) => Err(PackRefused { fault, pack }),
         }
+    }
+
+    /// Of how many CIDs it has a block, those with identity aside, and a CIDv0 being one with its CIDv1 form.
+    pub fn blocks(&self) -> u64
+        ensures { result ≡ length self.now.places }
+    {
+        self.places.len() as u64
+    }
+
+    /// How many bytes these blocks have together, or 2^64 - 1 where they are more.
+    pub fn bytes(&self) -> u64
+        ensures { result ≡ min (bytes_at self.now.places) (2 ^ 64 - 1) }
+    {
+        let mut bytes = 0_u64;
+        for (_, place) in self.places.iter() {
+            bytes = bytes.saturating_add(place.size);
+        }
+        bytes
     }
 
     /// The pack, as the store left it. It takes no memory.

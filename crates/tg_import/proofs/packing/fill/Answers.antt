@@ -1,19 +1,27 @@
-use Rattle.std.proofs.Common.{rules, ◌∙◌, ℕ, List, [], Option, IfSome, subst, sym}
+use Rattle.std.proofs.Common.{rules, ◌∙◌, []}
 use Rattle.std.proofs.lemmas.Result.{err_from_is_err_and}
 use Rattle.tg_import.specs.Counting.{nothing}
 use Rattle.tg_import.specs.Refused.{max_levels}
-use Rattle.tg_import.specs.Packing.{IsUnfinished}
-use Rattle.tg_import.proofs.Filled.{failed_grows, finished_car, finished_grows, finished_told, kept_grows, kept_unfinished, packing_cause, sections_of_cause}
+use Rattle.tg_import.proofs.Filled.{packing_cause, sections_of_cause}
 use Rattle.tg_import.proofs.Once.{once_order}
-use Rattle.tg_store.specs.Finishing.{HasFinishCause}
-use Rattle.tg_store.specs.declared.fault.PackFault.TheVariants.{OutOfMemory}
 use Rattle.tg_import.proofs.packing.fill.Goals as goal
 
 pub returns-in_err-root-clause-unfinished : goal.returns-in_err-root-clause-unfinished
 returns-in_err-root-clause-unfinished g c =
     let p = err_from_is_err_and c.from_residual.result c.from_residual.ensures.1 in
     let kept = sections_of_cause max_levels c.args.options (g.F.Folder.folder.tree c.args.folder.now) [] nothing c.in_err-root.field-0.0 _ _ c.in_err-root.ensures.cause in
-    rw (p.1) (kept_unfinished g.P.Pack.pack c.pack_laws.ensures c.args.store.now c.import.new.keep kept.0 c.requires.new kept.1)
+    rw (p.1) (c.filled_packs.ensures.unfinished c.args.store.now c.import.new.keep kept.0 c.requires.new kept.1).1
+
+pub returns-in_err-root-clause-stopped : goal.returns-in_err-root-clause-stopped
+returns-in_err-root-clause-stopped g c =
+    let p = err_from_is_err_and c.from_residual.result c.from_residual.ensures.1 in
+    let kept = sections_of_cause max_levels c.args.options (g.F.Folder.folder.tree c.args.folder.now) [] nothing c.in_err-root.field-0.0 _ _ c.in_err-root.ensures.cause in
+    rw (p.1) (c.filled_packs.ensures.unfinished c.args.store.now c.import.new.keep kept.0 c.requires.new kept.1).0
+
+pub returns-in_err-root-clause-cause : goal.returns-in_err-root-clause-cause
+returns-in_err-root-clause-cause g c =
+    let p = err_from_is_err_and c.from_residual.result c.from_residual.ensures.1 in
+    rw (p.1, p.2) (packing_cause c.args.options (g.F.Folder.folder.tree c.args.folder.now) c.in_err-root.field-0.0 _ _ _ c.in_err-root.ensures.cause (λ q. q) (λ r. record { rose = r; counted = c.in_err-root.ensures.err_counted }))
 
 pub returns-in-Ok-clause-packed : goal.returns-in-Ok-clause-packed
 returns-in-Ok-clause-packed g c =
@@ -26,54 +34,41 @@ returns-in-Ok-clause-packed g c =
       sections = kept.sections;
       all = kept.all;
       order = once_order made.0 kept.sections kept.all kept.imported.plain kept.order;
-      content = finished_car g.P.Pack.pack c.pack_laws.ensures c.args.store.now c.import.new.keep c.finish.new.self kept.sections c.in_ok-root.root c.requires.new kept.keeps.kept.moved c.in-Ok.ensures.finished;
+      content = (c.filled_packs.ensures.finished c.args.store.now c.import.new.keep c.finish.new.self kept.sections c.in_ok-root.root c.requires.new kept.keeps.kept.moved c.in-Ok.ensures.finished).1;
       quiet = c.in-Ok.ensures.finished.quiet ∙ kept.keeps.quiet;
     }
+
+pub returns-in-Ok-clause-told : goal.returns-in-Ok-clause-told
+returns-in-Ok-clause-told g c =
+    let kept = c.in_ok-root.ensures.imported.1 in
+    c.filled_packs.ensures.told c.args.store.now c.import.new.keep c.finish.new.self kept.sections c.in_ok-root.root kept.keeps.kept c.in-Ok.ensures.finished
+
+pub returns-in-Ok-clause-written : goal.returns-in-Ok-clause-written
+returns-in-Ok-clause-written g c =
+    let kept = c.in_ok-root.ensures.imported.1 in
+    (c.filled_packs.ensures.finished c.args.store.now c.import.new.keep c.finish.new.self kept.sections c.in_ok-root.root c.requires.new kept.keeps.kept.moved c.in-Ok.ensures.finished).0
 
 pub returns-in-Err-OutOfMemory-clause-unfinished :
     goal.returns-in-Err-OutOfMemory-clause-unfinished
 returns-in-Err-OutOfMemory-clause-unfinished g c =
     let kept = c.in_ok-root.ensures.imported.1 in
-    let cause : HasFinishCause g.P.Pack.pack c.import.new.keep.pack c.finish.new.self.pack OutOfMemory =
-    subst (HasFinishCause g.P.Pack.pack c.import.new.keep.pack c.finish.new.self.pack) c.in-Err-OutOfMemory.field-0-is c.in-Err-OutOfMemory.ensures.failed.cause in
-    subst (λ (o : Option (List ℕ)). IfSome o IsUnfinished) (sym cause.0.content)
-    (kept_unfinished g.P.Pack.pack c.pack_laws.ensures c.args.store.now c.import.new.keep kept.sections c.requires.new kept.keeps.kept.moved)
-
-pub returns-in-Ok-clause-told : goal.returns-in-Ok-clause-told
-returns-in-Ok-clause-told g c =
-    let kept = c.in_ok-root.ensures.imported.1 in
-    finished_told g.P.Pack.pack c.pack_laws.ensures c.args.store.now c.import.new.keep c.finish.new.self kept.sections c.in_ok-root.root kept.keeps.kept.stored c.in-Ok.ensures.finished
-
-pub returns-in_err-root-clause-cause : goal.returns-in_err-root-clause-cause
-returns-in_err-root-clause-cause g c =
-    let p = err_from_is_err_and c.from_residual.result c.from_residual.ensures.1 in
-    rw (p.1, p.2) (packing_cause c.args.options (g.F.Folder.folder.tree c.args.folder.now) c.in_err-root.field-0.0 _ _ _ c.in_err-root.ensures.cause (λ q. q) (λ r. record { rose = r; counted = c.in_err-root.ensures.err_counted }))
-
-pub returns-in_err-root-clause-stopped : goal.returns-in_err-root-clause-stopped
-returns-in_err-root-clause-stopped g c =
-    let p = err_from_is_err_and c.from_residual.result c.from_residual.ensures.1 in
-    let kept = sections_of_cause max_levels c.args.options (g.F.Folder.folder.tree c.args.folder.now) [] nothing c.in_err-root.field-0.0 _ _ c.in_err-root.ensures.cause in
-    rw (p.1) (kept_grows g.P.Pack.pack g.met.P.Pack.joins c.args.store.now c.import.new.keep kept.0 kept.1)
-
-pub returns-in-Ok-clause-written : goal.returns-in-Ok-clause-written
-returns-in-Ok-clause-written g c =
-    let kept = c.in_ok-root.ensures.imported.1 in
-    finished_grows g.P.Pack.pack g.met.P.Pack.joins c.args.store.now c.import.new.keep c.finish.new.self kept.sections c.in_ok-root.root kept.keeps.kept.moved c.in-Ok.ensures.finished
+    (c.filled_packs.ensures.failed c.args.store.now c.import.new.keep c.finish.new.self kept.sections _ c.requires.new kept.keeps.kept.moved c.in-Err-OutOfMemory.ensures.failed).1
 
 pub returns-in-Err-OutOfMemory-clause-stopped : goal.returns-in-Err-OutOfMemory-clause-stopped
 returns-in-Err-OutOfMemory-clause-stopped g c =
     let kept = c.in_ok-root.ensures.imported.1 in
-    failed_grows g.P.Pack.pack g.met.P.Pack.joins c.args.store.now c.import.new.keep c.finish.new.self kept.sections _ kept.keeps.kept.moved c.in-Err-OutOfMemory.ensures.failed
+    (c.filled_packs.ensures.failed c.args.store.now c.import.new.keep c.finish.new.self kept.sections _ c.requires.new kept.keeps.kept.moved c.in-Err-OutOfMemory.ensures.failed).0
 
 pub returns-in-Err : goal.returns-in-Err
 returns-in-Err g c =
-    let kept = c.in_ok-root.ensures.imported.1 in record {
+    let kept = c.in_ok-root.ensures.imported.1 in
+    let failed = c.filled_packs.ensures.failed c.args.store.now c.import.new.keep c.finish.new.self kept.sections c.in-Err.field-0 c.requires.new kept.keeps.kept.moved c.in-Err.ensures.failed in record {
       packed = tt;
       told = tt;
       quiet = tt;
       same = c.in_ok-root.ensures.same;
       cause = search rules;
-      unfinished = search rules;
+      unfinished = failed.1;
       written = tt;
-      stopped = failed_grows g.P.Pack.pack g.met.P.Pack.joins c.args.store.now c.import.new.keep c.finish.new.self kept.sections c.in-Err.field-0 kept.keeps.kept.moved c.in-Err.ensures.failed;
+      stopped = failed.0;
     }
