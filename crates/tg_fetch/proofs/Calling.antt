@@ -6,7 +6,6 @@ use Rattle.tg_faults.specs.Faults.{Rose}
 use Rattle.tg_fetch.proofs.HearingOn.{StandsOpen, refused_not, stands_open}
 use Rattle.tg_fetch.specs.Calls.{HeardBy, HeardRefused, LinkHeard, RoseAtPeerFault}
 use Rattle.tg_fetch.specs.Clients.{EndEnds, FedAll, FedMore, FeedEnds, StandsFor}
-use Rattle.tg_fetch.specs.Faults.{QuietUnlessSink}
 use Rattle.tg_fetch.specs.Replies.{IsRefused}
 use Rattle.tg_fetch.specs.declared.client.Client.{Client}
 use Rattle.tg_fetch.specs.declared.fault.FetchFault.{FetchFault}
@@ -18,37 +17,8 @@ use Rattle.tg_model.specs.LimitNumbers.{LimitNumbers}
 use Rattle.tg_model.specs.Queries.{QueryParts}
 use Rattle.tg_streams.specs.Joining.{SinkJoins, put_nothing, put_put}
 use Rattle.tg_streams.specs.Streams.{Ended, InputQuiet, InputRose, Output, OutputQuiet, Put, SinkMeaning, SourceMeaning, Untaken, into, through}
-use Rattle.tg_verify.specs.declared.fault.Refusal.TheVariants as refusals
 use Rattle.tg_verify.specs.declared.verifier.Progress.{Progress}
 use Rattle.tg_verify.specs.declared.verifier.Progress.TheVariants as progresses
-
--- ---- faults of out
-
-module _ {S : Type 0} (m : SinkMeaning S) (a b c : S) (quiet : OutputQuiet (into m a b)) where
-  pub cause_from : (A B : Type 0) (fault : FetchFault) → QuietUnlessSink {A = A} (into m b c) (Err fault) → QuietUnlessSink {A = B} (into m a c) (Err fault)
-  cause_from A B (faults.Refused (refusals.Truncated want number)) h = h ∙ quiet
-  cause_from A B (faults.Refused (refusals.Extra number)) h = h ∙ quiet
-  cause_from A B (faults.Refused (refusals.Limit kind number)) h = h ∙ quiet
-  cause_from A B (faults.Refused (refusals.BadDigest cid)) h = h ∙ quiet
-  cause_from A B (faults.Refused (refusals.WrongBlock want got)) h = h ∙ quiet
-  cause_from A B (faults.Refused (refusals.BadBlock cid fault)) h = h ∙ quiet
-  cause_from A B (faults.Refused (refusals.BadSize declared actual)) h = h ∙ quiet
-  cause_from A B (faults.Refused (refusals.NotFolder segment)) h = h ∙ quiet
-  cause_from A B (faults.Refused (refusals.NotThere segment)) h = h ∙ quiet
-  cause_from A B (faults.Refused refusals.SinkFault) h = subst (λ (n : ℕ). Rose n (m.faults c)) quiet h
-  cause_from A B (faults.Refused refusals.OutOfMemory) h = h ∙ quiet
-  cause_from A B (faults.Status status) h = h ∙ quiet
-  cause_from A B faults.BadType h = h ∙ quiet
-  cause_from A B faults.BadReplyHead h = h ∙ quiet
-  cause_from A B faults.BadFraming h = h ∙ quiet
-  cause_from A B (faults.BadCar car) h = h ∙ quiet
-  cause_from A B faults.PeerFault h = h ∙ quiet
-  cause_from A B faults.KeepFault h = absurd h
-  cause_from A B faults.OutOfMemory h = h ∙ quiet
-
-  pub end_cause : (A : Type 0) (result : Result A FetchFault) → QuietUnlessSink {A = A} (into m b c) result → QuietUnlessSink {A = A} (into m a c) result
-  end_cause A (Ok done) h = h ∙ quiet
-  end_cause A (Err fault) h = cause_from A A fault h
 
 -- ---- a refusal isn't of the peer
 
@@ -88,17 +58,17 @@ pub record HasHeard (q : QueryParts) (limits : LimitNumbers) (client : Client) (
   pub put_quiet : OutputQuiet out
 
 -- what is left of a text is none, where all is
-none_behind : (front more : List ℕ) → [] ≡ front ++ more → more ≡ []
+pub none_behind : (front more : List ℕ) → [] ≡ front ++ more → more ≡ []
 none_behind [] more e = sym e
 none_behind (n ∷ front) more e = absurd (let no : ⊥ = cc in no)
 
 -- a piece in two parts, behind others
-whole_behind : (heard piece front more : List ℕ) → piece ≡ front ++ more → heard ++ piece ≡ (heard ++ front) ++ more
+pub whole_behind : (heard piece front more : List ℕ) → piece ≡ front ++ more → heard ++ piece ≡ (heard ++ front) ++ more
 whole_behind heard piece front more e = ap (λ (l : List ℕ). heard ++ l) e ∙ sym (append_assoc heard front more)
 
 module _ {L S : Type 0} (m : LinkMeaning L) (source : SourceMeaning L) (hears : TakesAreHeard L m source) (sink : SinkMeaning S) (joins : SinkJoins S sink) where
   -- nothing was heard
-  pub heard_nothing : (client : Client) (l : L) (s : S) → sink.wrote s s [] → StandsFor client [] []
+  abbrev pub heard_nothing : (client : Client) (l : L) (s : S) → sink.wrote s s [] → StandsFor client [] []
       → HasHeard client.query client.limits client (link_step m source l l) (into sink s s)
   heard_nothing client l s rests stands = record {
     heard = [];
@@ -113,7 +83,7 @@ module _ {L S : Type 0} (m : LinkMeaning L) (source : SourceMeaning L) (hears : 
   }
 
   -- bytes are taken
-  spoke_took : (l₀ l₁ l₂ : L) (heard piece : List ℕ) → Spoke (link_step m source l₀ l₁) heard [] → source.took l₁ l₂ piece
+  pub spoke_took : (l₀ l₁ l₂ : L) (heard piece : List ℕ) → Spoke (link_step m source l₀ l₁) heard [] → source.took l₁ l₂ piece
       → Spoke (link_step m source l₀ l₂) (heard ++ piece) []
   spoke_took l₀ l₁ l₂ heard piece spoke took = spoke_hears m source l₀ l₁ l₂ heard [] spoke piece (hears l₁ l₂ piece took)
 

@@ -50,7 +50,7 @@ pub no_end : (taken : ℕ) (told : Body) → told ≡ bodies.Need → ◌≡◌ 
 no_end taken told need end = cc (need, ap said end)
 
 -- where the body is whole and accepted the reply is the answer
-pub answered : (q : QueryParts) (limits : LimitNumbers) (heard rest given written : List ℕ) (head : ReplyHead) (out : Output) (ended : Bool) → FinalHead heard head rest
+abbrev pub answered : (q : QueryParts) (limits : LimitNumbers) (heard rest given written : List ℕ) (head : ReplyHead) (out : Output) (ended : Bool) → FinalHead heard head rest
     → BodyText head.framing given rest → (head.framing ≡ framings.UntilClose → ended ≡ true) → TakesWhole q limits head given written out → HasAnswered q limits heard ended written out
 answered q limits heard rest given written head out ended final body_is closed t = record {
   text = t.text;
@@ -74,7 +74,7 @@ answered q limits heard rest given written head out ended final body_is closed t
 }
 
 -- where it is whole and isn't accepted
-pub failed : (q : QueryParts) (limits : LimitNumbers) (heard front more piece rest given written : List ℕ) (head : ReplyHead) (out : Output) (ended : Bool) (fault : FetchFault)
+abbrev pub failed : (q : QueryParts) (limits : LimitNumbers) (heard front more piece rest given written : List ℕ) (head : ReplyHead) (out : Output) (ended : Bool) (fault : FetchFault)
     → piece ≡ front ++ more → length (heard ++ front) ≤ limits.received → FinalHead (heard ++ front) head rest → BodyText head.framing given rest → (head.framing ≡ framings.UntilClose → ended ≡ true)
     → FailsTaking q limits head given written out fault → IsRefused q limits heard piece ended written out fault
 failed q limits heard front more piece rest given written head out ended fault whole within final body_is closed t = record {
@@ -99,7 +99,7 @@ module _ (q : QueryParts) (limits : LimitNumbers) (old : Content) (heard written
   told_as reader piece taken told body is reads = subst (λ (b : Body). StandsFor reader (with_body before piece taken b)) is reads
 
   -- the framing of the reader
-  front_by : (reader : BodyReader) (given rest : List ℕ) → reader.framing ≡ old.reader.framing
+  pub front_by : (reader : BodyReader) (given rest : List ℕ) → reader.framing ≡ old.reader.framing
       → StandsFor reader (record { fed = rest; given = given; ended = false; stop = None }) → BodyFront h.head.framing given rest
   front_by reader given rest same reads = subst (λ (f : Framing). BodyFront f given rest) (same ∙ h.framing) reads.exact.so_far
 
@@ -144,7 +144,7 @@ module _ (q : QueryParts) (limits : LimitNumbers) (old : Content) (heard written
       rw rest_is (omega (arith, was.1, open_yet))
 
   -- a part of it is refused
-  pub part_refused : HeadLaws → (reader : BodyReader) (given front more piece : List ℕ) (out : Output) (fault : FetchFault) → piece ≡ front ++ more → length (heard ++ front) ≤ limits.received
+  abbrev pub part_refused : HeadLaws → (reader : BodyReader) (given front more piece : List ℕ) (out : Output) (fault : FetchFault) → piece ≡ front ++ more → length (heard ++ front) ≤ limits.received
       → reader.framing ≡ old.reader.framing → StandsFor reader (record { fed = h.rest ++ front; given = given; ended = false; stop = None })
       → StopsTaking q limits h.head given written out fault → IsRefused q limits heard piece false written out fault
   part_refused heads reader given front more piece out fault whole within same reads t = record {
@@ -168,7 +168,7 @@ module _ (q : QueryParts) (limits : LimitNumbers) (old : Content) (heard written
   }
 
   -- the link ended behind it
-  pub has_ended : BodyText h.head.framing h.given h.rest → length heard ≤ limits.received → (out : Output) (result : Result ⊤ FetchFault) → EndsTaking q limits h.head h.given written out result
+  abbrev pub has_ended : BodyText h.head.framing h.given h.rest → length heard ≤ limits.received → (out : Output) (result : Result ⊤ FetchFault) → EndsTaking q limits h.head h.given written out result
       → ContentEnds q limits heard written out result
   has_ended text within out (Ok done) t = answered q limits heard h.rest h.given written h.head out true h.final text (λ e. refl) t
   has_ended text within out (Err fault) t =
@@ -177,7 +177,7 @@ module _ (q : QueryParts) (limits : LimitNumbers) (old : Content) (heard written
 
   module _ (stands : BodyStands) (S : Type 0) (m : SinkMeaning S) (a : S) (rests : m.wrote a a []) where
     -- it is refused before its next byte
-    here : (piece : List ℕ) (ended : Bool) (fault : FetchFault) → length heard ≤ limits.received
+    abbrev pub here : (piece : List ℕ) (ended : Bool) (fault : FetchFault) → length heard ≤ limits.received
         → ((sections : List Section) → IsOpenBody q limits h.head h.given sections written → RefusedBy q limits heard piece ended sections written fault)
         → ((d : Dag) (sections : List Section) → SaysOf q d sections fault) → IsRefused q limits heard piece ended written (into m a a) fault
     here piece ended fault within refused says =
@@ -195,11 +195,11 @@ module _ (q : QueryParts) (limits : LimitNumbers) (old : Content) (heard written
           sound = subst (λ (t : List ℕ). ForEachSound q (FrontAndSays q o.sections t fault)) (sym (append-nil written)) (λ d sound root. (o.front d sound root, says d o.sections));
         }
 
-    front : BodyFront h.head.framing h.given h.rest
+    pub front : BodyFront h.head.framing h.given h.rest
     front = front_by old.reader h.given h.rest refl h.reads
 
     -- the framing is broken, or memory is wanted
-    pub framing_refused : (piece : List ℕ) (fault : HttpFault) → length heard + length piece ≤ limits.received → HasFeedCause h.head.framing h.rest h.given piece fault
+    abbrev pub framing_refused : (piece : List ℕ) (fault : HttpFault) → length heard + length piece ≤ limits.received → HasFeedCause h.head.framing h.rest h.given piece fault
         → IsRefused q limits heard piece false written (into m a a) (fault_of_http fault)
     framing_refused piece https.BadHead few cause = absurd cause
     framing_refused piece https.HeadLimit few cause = absurd cause
@@ -226,7 +226,7 @@ module _ (q : QueryParts) (limits : LimitNumbers) (old : Content) (heard written
         (λ sections body. memory refl (inr (record { head = h.head; rest = h.rest; final = h.final; framed = h.framed; given = h.given; front = front; body = body }))) (λ d sections. tt)
 
     -- the link ended inside of it
-    pub cut_refused : (fault : HttpFault) → length heard ≤ limits.received → HasEndCause h.head.framing h.rest h.given fault → IsRefused q limits heard [] true written (into m a a) (fault_of_http fault)
+    abbrev pub cut_refused : (fault : HttpFault) → length heard ≤ limits.received → HasEndCause h.head.framing h.rest h.given fault → IsRefused q limits heard [] true written (into m a a) (fault_of_http fault)
     cut_refused https.BadHead few cause = absurd cause
     cut_refused https.HeadLimit few cause = absurd cause
     cut_refused https.OutOfMemory few cause = absurd cause

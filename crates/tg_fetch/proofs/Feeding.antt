@@ -42,10 +42,10 @@ front_of : (all : Option (List ℕ)) → IsFrontOfAnswer [] all
 front_of (Some text) = (text, refl)
 front_of None = refl
 
-front_none : (q : QueryParts) (d : Dag) (sections : List Section) (text : List ℕ) → text ≡ [] → IsItsFront q d sections text
+pub front_none : (q : QueryParts) (d : Dag) (sections : List Section) (text : List ℕ) → text ≡ [] → IsItsFront q d sections text
 front_none q d sections text none = subst (λ (t : List ℕ). IsItsFront q d sections t) (sym none) (inl (front_of (answer q d)))
 
-pub refused_none : (q : QueryParts) (limits : LimitNumbers) (heard piece written : List ℕ) (ended : Bool) (out : Output) (fault : FetchFault) (front more : List ℕ) → piece ≡ front ++ more → Put [] out
+abbrev pub refused_none : (q : QueryParts) (limits : LimitNumbers) (heard piece written : List ℕ) (ended : Bool) (out : Output) (fault : FetchFault) (front more : List ℕ) → piece ≡ front ++ more → Put [] out
     → written ≡ [] → length (heard ++ front) ≤ limits.received → RefusedBy q limits (heard ++ front) more ended [] [] fault → ((d : Dag) → SaysOf q d [] fault) → IsRefused q limits heard piece ended written out fault
 refused_none q limits heard piece written ended out fault front more whole put none within refused says =
     let same : written ++ [] ≡ [] = append-nil written ∙ none in
@@ -61,10 +61,10 @@ refused_none q limits heard piece written ended out fault front more whole put n
       sound = λ d sound root. (front_none q d [] (written ++ []) same, says d);
     }
 
-open_head : (heads : HeadsState) (heard : List ℕ) → IsInHeads heads heard → IsOpenHead heard
+pub open_head : (heads : HeadsState) (heard : List ℕ) → IsInHeads heads heard → IsOpenHead heard
 open_head heads heard h = record { count = heads.interims; behind = heads.came; interims = h.interims; few = h.few; waiting = h.waiting }
 
-open_here : (heard : List ℕ) → IsOpenHead heard → IsOpenHead (heard ++ [])
+pub open_here : (heard : List ℕ) → IsOpenHead heard → IsOpenHead (heard ++ [])
 open_here heard h = subst IsOpenHead (sym (append-nil heard)) h
 
 pub in_content : (q : QueryParts) (limits : LimitNumbers) (stage : Stage) (content : Content) (heard written : List ℕ) → stage ≡ stages.Content content → IsAt q limits stage heard written
@@ -76,7 +76,7 @@ pub in_heads : (q : QueryParts) (limits : LimitNumbers) (stage : Stage) (heads :
 in_heads q limits stage heads heard written e h = subst (λ (s : Stage). IsAt q limits s heard written) e h
 
 -- the heads are refused
-heads_refused : (q : QueryParts) (limits : LimitNumbers) (heard piece written : List ℕ) (out : Output) (fault : FetchFault) → IsOpenHead heard → written ≡ [] → Put [] out
+abbrev pub heads_refused : (q : QueryParts) (limits : LimitNumbers) (heard piece written : List ℕ) (out : Output) (fault : FetchFault) → IsOpenHead heard → written ≡ [] → Put [] out
     → length heard + length piece ≤ limits.received → HeadsStop (heard ++ piece) fault → IsRefused q limits heard piece false written out fault
 heads_refused q limits heard piece written out faults.BadReplyHead h none put few stop =
     refused_none q limits heard piece written false out faults.BadReplyHead piece [] (sym (append-nil piece)) put none (omega (arith, few, length-append heard piece))
@@ -92,18 +92,18 @@ heads_refused q limits heard piece written out (faults.BadCar car) h none put fe
 heads_refused q limits heard piece written out faults.PeerFault h none put few stop = absurd stop
 heads_refused q limits heard piece written out faults.KeepFault h none put few stop = absurd stop
 
-pub heads_stop : (client : Client) (heads : HeadsState) (heard piece written : List ℕ) (out : Output) (fault : FetchFault) → client.stage ≡ stages.Heads heads → IsOpen client heard written → Put [] out
+abbrev pub heads_stop : (client : Client) (heads : HeadsState) (heard piece written : List ℕ) (out : Output) (fault : FetchFault) → client.stage ≡ stages.Heads heads → IsOpen client heard written → Put [] out
     → length heard + length piece ≤ client.limits.received → HeadsStop (heard ++ piece) fault → IsRefused client.query client.limits heard piece false written out fault
 heads_stop client heads heard piece written out fault e h put few stop =
-    let (inside, none) = in_heads client.query client.limits client.stage heads heard written e h.at in
-    heads_refused client.query client.limits heard piece written out fault (open_head heads heard inside) none put few stop
+    let at = in_heads client.query client.limits client.stage heads heard written e h.at in
+    heads_refused client.query client.limits heard piece written out fault (open_head heads heard at.0) at.1 put few stop
 
-pub heads_cut : (client : Client) (heads : HeadsState) (heard written : List ℕ) (out : Output) → client.stage ≡ stages.Heads heads → IsOpen client heard written → Put [] out
+abbrev pub heads_cut : (client : Client) (heads : HeadsState) (heard written : List ℕ) (out : Output) → client.stage ≡ stages.Heads heads → IsOpen client heard written → Put [] out
     → IsRefused client.query client.limits heard [] true written out faults.BadReplyHead
 heads_cut client heads heard written out e h put =
-    let (inside, none) = in_heads client.query client.limits client.stage heads heard written e h.at in
-    refused_none client.query client.limits heard [] written true out faults.BadReplyHead [] [] refl put none (omega (arith, h.within, ap (λ (l : List ℕ). length l) (append-nil heard)))
-    (cut_head refl refl refl (open_here heard (open_head heads heard inside)) refl refl) (λ d. tt)
+    let at = in_heads client.query client.limits client.stage heads heard written e h.at in
+    refused_none client.query client.limits heard [] written true out faults.BadReplyHead [] [] refl put at.1 (omega (arith, h.within, ap (λ (l : List ℕ). length l) (append-nil heard)))
+    (cut_head refl refl refl (open_here heard (open_head heads heard at.0)) refl refl) (λ d. tt)
 
 none_taken : (taken : ℕ) → 0 < taken → taken ≡ 0 → ⊥
 none_taken taken some e = omega (arith, some, e)
@@ -126,7 +126,7 @@ front_few heard piece taken most few =
     omega (arith, few, length-append heard (take taken piece), length-append (take taken piece) (drop taken piece), ap (λ (l : List ℕ). length l) (take-append-drop taken piece))
 
 -- the final head is
-says_nothing : (q : QueryParts) (head : ReplyHead) (fault : FetchFault) → HeadStops q head fault → (d : Dag) → SaysOf q d [] fault
+pub says_nothing : (q : QueryParts) (head : ReplyHead) (fault : FetchFault) → HeadStops q head fault → (d : Dag) → SaysOf q d [] fault
 says_nothing q head (faults.Refused refusal) stops d = absurd stops
 says_nothing q head (faults.Status status) stops d = tt
 says_nothing q head faults.BadType stops d = tt
@@ -137,12 +137,12 @@ says_nothing q head faults.PeerFault stops d = tt
 says_nothing q head faults.KeepFault stops d = tt
 says_nothing q head faults.OutOfMemory stops d = tt
 
-pub head_stops : (client : Client) (heads : HeadsState) (heard piece written : List ℕ) (out : Output) (taken : ℕ) (head : ReplyHead) (fault : FetchFault) → client.stage ≡ stages.Heads heads
+abbrev pub head_stops : (client : Client) (heads : HeadsState) (heard piece written : List ℕ) (out : Output) (taken : ℕ) (head : ReplyHead) (fault : FetchFault) → client.stage ≡ stages.Heads heads
     → IsOpen client heard written → Put [] out → FinalHead (heard ++ take taken piece) head [] → length heard + length piece ≤ client.limits.received → HeadStops client.query head fault
     → IsRefused client.query client.limits heard piece false written out fault
 head_stops client heads heard piece written out taken head fault e h put final few stops =
-    let (inside, none) = in_heads client.query client.limits client.stage heads heard written e h.at in
-    refused_none client.query client.limits heard piece written false out fault (take taken piece) (drop taken piece) (sym (take-append-drop taken piece)) put none (front_few heard piece taken client.limits.received few)
+    let at = in_heads client.query client.limits client.stage heads heard written e h.at in
+    refused_none client.query client.limits heard piece written false out fault (take taken piece) (drop taken piece) (sym (take-append-drop taken piece)) put at.1 (front_few heard piece taken client.limits.received few)
     (at_head (record { head = head; final = final; stops = stops }) refl refl) (says_nothing client.query head fault stops)
 
 -- ---- a step goes on
@@ -179,7 +179,7 @@ content_at q limits content head heard written final m none = subst (λ (t : Lis
   taking = m.taking;
 })
 
-all_taken : (taken : ℕ) (bytes : List ℕ) → taken ≡ length bytes → take taken bytes ≡ bytes
+pub all_taken : (taken : ℕ) (bytes : List ℕ) → taken ≡ length bytes → take taken bytes ≡ bytes
 all_taken taken bytes all = take_all taken bytes (omega (arith, all))
 
 -- how it goes on behind heads: all bytes were taken, or some
@@ -226,7 +226,7 @@ module _ {S : Type 0} (m : SinkMeaning S) (joins : SinkJoins S m) (a b c : S) (w
     is_open = subst (λ (t : List ℕ). IsOpen client heard t) (append_assoc written text f.text) f.is_open;
   }
 
-  pub answered_after : (q : QueryParts) (limits : LimitNumbers) (heard : List ℕ) → HasAnswered q limits heard false (written ++ text) (into m b c) → HasAnswered q limits heard false written (into m a c)
+  abbrev pub answered_after : (q : QueryParts) (limits : LimitNumbers) (heard : List ℕ) → HasAnswered q limits heard false (written ++ text) (into m b c) → HasAnswered q limits heard false written (into m a c)
   answered_after q limits heard h =
       let same : (written ++ text) ++ h.text ≡ written ++ (text ++ h.text) = append_assoc written text h.text in
       record {
@@ -238,7 +238,7 @@ module _ {S : Type 0} (m : SinkMeaning S) (joins : SinkJoins S m) (a b c : S) (w
         sound = subst (λ (t : List ℕ). ForEachSound q (λ d. IsItsAnswer q d h.sections t)) same h.sound;
       }
 
-  pub refused_after : (q : QueryParts) (limits : LimitNumbers) (heard piece : List ℕ) (fault : FetchFault) → IsRefused q limits heard piece false (written ++ text) (into m b c) fault
+  abbrev pub refused_after : (q : QueryParts) (limits : LimitNumbers) (heard piece : List ℕ) (fault : FetchFault) → IsRefused q limits heard piece false (written ++ text) (into m b c) fault
       → IsRefused q limits heard piece false written (into m a c) fault
   refused_after q limits heard piece fault r =
       let same : (written ++ text) ++ r.text ≡ written ++ (text ++ r.text) = append_assoc written text r.text in
@@ -268,7 +268,7 @@ still_few heard bytes front rest old new e same few =
     subst (λ (l : LimitNumbers). length (heard ++ front) + length rest ≤ l.received) (sym same)
     (omega (arith, length-append heard front, length-append front rest, ap (λ (l : List ℕ). length l) e, few))
 
-pub refused_behind : (q : QueryParts) (limits : LimitNumbers) (heard bytes front rest written : List ℕ) (out : Output) (fault : FetchFault) → bytes ≡ front ++ rest
+abbrev pub refused_behind : (q : QueryParts) (limits : LimitNumbers) (heard bytes front rest written : List ℕ) (out : Output) (fault : FetchFault) → bytes ≡ front ++ rest
     → IsRefused q limits (heard ++ front) rest false written out fault → IsRefused q limits heard bytes false written out fault
 refused_behind q limits heard bytes front rest written out fault e r = record {
   front = front ++ r.front;
@@ -282,7 +282,7 @@ refused_behind q limits heard bytes front rest written out fault e r = record {
   sound = r.sound;
 }
 
-pub answered_all : (q : QueryParts) (limits : LimitNumbers) (heard bytes front rest written : List ℕ) (out : Output) (taken : ℕ) → bytes ≡ front ++ rest
+abbrev pub answered_all : (q : QueryParts) (limits : LimitNumbers) (heard bytes front rest written : List ℕ) (out : Output) (taken : ℕ) → bytes ≡ front ++ rest
     → length (heard ++ front) + length rest ≤ limits.received → HasAnswered q limits ((heard ++ front) ++ take taken rest) false written out → FedAll q limits heard bytes written out
 answered_all q limits heard bytes front rest written out taken e few h =
     let taken_is : rest ≡ take taken rest ++ drop taken rest = sym (take-append-drop taken rest) in
@@ -334,7 +334,7 @@ not_done taken told on e = on_done (sym on ∙ ap done_of e)
 
 -- ---- a piece of which a front was fed
 
-pub answered_front : (q : QueryParts) (limits : LimitNumbers) (heard front tail piece written : List ℕ) (out : Output) → piece ≡ front ++ tail → FedAll q limits heard front written out
+abbrev pub answered_front : (q : QueryParts) (limits : LimitNumbers) (heard front tail piece written : List ℕ) (out : Output) → piece ≡ front ++ tail → FedAll q limits heard front written out
     → FedAll q limits heard piece written out
 answered_front q limits heard front tail piece written out e f = record {
   front = f.front;
@@ -353,7 +353,7 @@ pub record OpenReply (q : QueryParts) (limits : LimitNumbers) (heard text : List
   pub is_open : IsOpenBefore heard sections text ⊎ IsShortBehind q limits heard sections text
   pub front : ForEachSound q (λ d. IsItsFront q d sections text)
 
-pub at_open : BodyStands → (q : QueryParts) (limits : LimitNumbers) (stage : Stage) (heard written : List ℕ) → IsAt q limits stage heard written → IsShortAt q limits stage heard
+abbrev pub at_open : BodyStands → (q : QueryParts) (limits : LimitNumbers) (stage : Stage) (heard written : List ℕ) → IsAt q limits stage heard written → IsShortAt q limits stage heard
     → OpenReply q limits heard written
 at_open stands q limits (stages.Heads heads) heard written (h, none) short = record {
   sections = [];
@@ -381,7 +381,7 @@ at_open stands q limits (stages.Content content) heard written t short =
 at_open stands q limits stages.Done heard written h short = absurd h
 
 -- as many bytes came as may be received, and a further one
-pub passed : BodyStands → (client : Client) (heard front tail piece written : List ℕ) (out : Output) → piece ≡ front ++ tail → length (heard ++ front) ≡ client.limits.received → 0 < length tail
+abbrev pub passed : BodyStands → (client : Client) (heard front tail piece written : List ℕ) (out : Output) → piece ≡ front ++ tail → length (heard ++ front) ≡ client.limits.received → 0 < length tail
     → FedMore client (heard ++ front) written out → IsShortAt client.query client.limits client.stage (heard ++ front)
     → IsRefused client.query client.limits heard piece false written out (faults.Refused (refusals.Limit kinds.Received client.limits.received))
 passed stands client heard front tail piece written out e full some f short =

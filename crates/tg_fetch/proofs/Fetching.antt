@@ -98,7 +98,7 @@ module _ {D L : Type 0} (dial : DialMeaning D) (links : LinkMeaning L) (source :
   calls_behind (inl is) = inl (told_behind is)
   calls_behind (inr (none, rose)) = inr (none, rose_behind rose)
 
-  hung_up : IsHungUp (view_of links source y) (at_dial dial a c)
+  pub hung_up : IsHungUp (view_of links source y) (at_dial dial a c)
   hung_up = record {
     calls = calls_behind done.calls;
     failed = λ is. rose_behind (done.failed is);

@@ -103,16 +103,16 @@ front_none : (written : List ℕ) (o : Option (List ℕ)) → written ≡ [] →
 front_none written (Some text) none = (text, ap (λ (l : List ℕ). l ++ text) (sym none))
 front_none written None none = none
 
-sound_none : (q : QueryParts) (sections : List Section) (written : List ℕ) → written ≡ [] → ForEachSound q (λ d. IsItsFront q d sections written)
+pub sound_none : (q : QueryParts) (sections : List Section) (written : List ℕ) → written ≡ [] → ForEachSound q (λ d. IsItsFront q d sections written)
 sound_none q sections written none d sound root = inl (front_none written (answer q d) none)
 
 -- the body, by its bytes, with what it says of each sound DAG
-record BodyOpen (q : QueryParts) (limits : LimitNumbers) (head : ReplyHead) (given written : List ℕ) : Type 0 where
-  sections : List Section
-  body : IsOpenBody q limits head given sections written
-  sound : ForEachSound q (λ d. IsItsFront q d sections written)
+pub record BodyOpen (q : QueryParts) (limits : LimitNumbers) (head : ReplyHead) (given written : List ℕ) : Type 0 where
+  pub sections : List Section
+  pub body : IsOpenBody q limits head given sections written
+  pub sound : ForEachSound q (λ d. IsItsFront q d sections written)
 
-body_open : BodyStands → (q : QueryParts) (limits : LimitNumbers) (head : ReplyHead) (s : Sections) (given written : List ℕ)
+abbrev pub body_open : BodyStands → (q : QueryParts) (limits : LimitNumbers) (head : ReplyHead) (s : Sections) (given written : List ℕ)
     → IsTaking q limits head s given written → BodyOpen q limits head given written
 body_open stand q limits head (takings.Answer body) given written t =
     let here = stand body given t.sections written t.is_body in
@@ -144,7 +144,7 @@ pub record StandsOpen (q : QueryParts) (limits : LimitNumbers) (heard text : Lis
   pub is_open : IsOpenReply q limits heard sections text
   pub sound : ForEachSound q (λ d. IsItsFront q d sections text)
 
-open_at : BodyStands → (q : QueryParts) (limits : LimitNumbers) (stage : Stage) (heard written : List ℕ) → IsAt q limits stage heard written
+abbrev pub open_at : BodyStands → (q : QueryParts) (limits : LimitNumbers) (stage : Stage) (heard written : List ℕ) → IsAt q limits stage heard written
     → StandsOpen q limits heard written
 open_at stand q limits (stages.Heads heads) heard written (h, none) = record {
   sections = [];
@@ -172,6 +172,6 @@ open_at stand q limits (stages.Content content) heard written h =
     }
 open_at stand q limits stages.Done heard written h = absurd h
 
-pub stands_open : BodyStands → (client : Client) (heard written : List ℕ) → StandsFor client heard written
+abbrev pub stands_open : BodyStands → (client : Client) (heard written : List ℕ) → StandsFor client heard written
     → StandsOpen client.query client.limits heard written
 stands_open stand client heard written h = open_at stand client.query client.limits client.stage heard written h.is_open.at

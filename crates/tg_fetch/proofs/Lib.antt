@@ -8,6 +8,10 @@ mod OwnExchanges
 mod PathCounts
 mod Receiving
 mod Taking
+mod KeptSections
+mod TakenSections
+mod KeptReplies
+mod KeptCalls
 mod TakingHeads
 mod Standing
 mod Contents

@@ -12,7 +12,7 @@ false_true e = cc
 
 module _ (tail : List ℕ) where
   module _ (q : QueryParts) (limits : LimitNumbers) (heard unheard : List ℕ) (sections : List Section) (text : List ℕ) (fault : FetchFault) where
-    refused_longer : RefusedBy q limits heard unheard false sections text fault → RefusedBy q limits heard (unheard ++ tail) false sections text fault
+    pub refused_longer : RefusedBy q limits heard unheard false sections text fault → RefusedBy q limits heard (unheard ++ tail) false sections text fault
     refused_longer (bad_head f h s t) = bad_head f h s t
     refused_longer (cut_head f e u o s t) = absurd (false_true e)
     refused_longer (at_head r s t) = at_head r s t
@@ -37,7 +37,7 @@ module _ (tail : List ℕ) where
     refused_longer (memory f o) = memory f o
 
 -- so is one that says where in it
-pub refused_front : (q : QueryParts) (limits : LimitNumbers) (heard front tail piece written : List ℕ) (out : Output) (fault : FetchFault) → piece ≡ front ++ tail
+abbrev pub refused_front : (q : QueryParts) (limits : LimitNumbers) (heard front tail piece written : List ℕ) (out : Output) (fault : FetchFault) → piece ≡ front ++ tail
     → IsRefused q limits heard front false written out fault → IsRefused q limits heard piece false written out fault
 refused_front q limits heard front tail piece written out fault e r = record {
   front = r.front;

@@ -19,7 +19,7 @@ none_is_front : (all : Option (List ℕ)) → IsFrontOfAnswer [] all
 none_is_front (Some text) = (text, refl)
 none_is_front None = refl
 
-none_written : (q : QueryParts) (sections : List Section) (text : List ℕ) → text ≡ [] → ForEachSound q (λ d. IsItsFront q d sections text)
+pub none_written : (q : QueryParts) (sections : List Section) (text : List ℕ) → text ≡ [] → ForEachSound q (λ d. IsItsFront q d sections text)
 none_written q sections text none = subst (λ (t : List ℕ). ForEachSound q (λ d. IsItsFront q d sections t)) (sym none) (λ d sound root. inl (none_is_front (answer_of q d)))
 
 -- an open body, with what is written a front of each sound DAG's answer
@@ -30,14 +30,14 @@ pub record OpenSo (q : QueryParts) (limits : LimitNumbers) (head : ReplyHead) (g
 
 module _ (stands : BodyStands) (q : QueryParts) (limits : LimitNumbers) (head : ReplyHead) where
   -- of a CAR for these query and limits
-  stands_for : (asked : QueryParts) (most : LimitNumbers) (body : CarBody) (given : List ℕ) (sections : List Section) (written : List ℕ) → body.verifier.left.query ≡ asked
+  pub stands_for : (asked : QueryParts) (most : LimitNumbers) (body : CarBody) (given : List ℕ) (sections : List Section) (written : List ℕ) → body.verifier.left.query ≡ asked
       → body.verifier.limits ≡ most → StandsSo body.verifier.left.query body.verifier.limits body.verifier.left.wanted given sections written
       → StandsSo asked most body.verifier.left.wanted given sections written
   stands_for asked most body given sections written query limits_are s =
       subst (λ (l : LimitNumbers). StandsSo asked l body.verifier.left.wanted given sections written) limits_are
       (subst (λ (a : QueryParts). StandsSo a body.verifier.limits body.verifier.left.wanted given sections written) query s)
 
-  answer_open : (body : CarBody) (given written : List ℕ) → IsTakingAnswer q limits head body given written → OpenSo q limits head given written
+  abbrev pub answer_open : (body : CarBody) (given written : List ℕ) → IsTakingAnswer q limits head body given written → OpenSo q limits head given written
   answer_open body given written t =
       let s = stands_for q limits body given t.sections written t.query t.limits_are (stands body given t.sections written t.is_body) in
       record {
@@ -46,7 +46,7 @@ module _ (stands : BodyStands) (q : QueryParts) (limits : LimitNumbers) (head : 
         front = s.front;
       }
 
-  absence_open : (body : CarBody) (given written : List ℕ) → IsTakingAbsence q limits head body given → written ≡ [] → OpenSo q limits head given written
+  abbrev pub absence_open : (body : CarBody) (given written : List ℕ) → IsTakingAbsence q limits head body given → written ≡ [] → OpenSo q limits head given written
   absence_open body given written t none =
       let s = stands_for (path_query q) (path_limits limits) body given t.sections t.said t.query t.limits_are (stands body given t.sections t.said t.is_body) in
       record {
@@ -55,7 +55,7 @@ module _ (stands : BodyStands) (q : QueryParts) (limits : LimitNumbers) (head : 
         front = none_written q t.sections written none;
       }
 
-  pub taking_is_open : (sections : Sections) (given written : List ℕ) → IsTaking q limits head sections given written → OpenSo q limits head given written
+  abbrev pub taking_is_open : (sections : Sections) (given written : List ℕ) → IsTaking q limits head sections given written → OpenSo q limits head given written
   taking_is_open (takings.Answer body) given written t = answer_open body given written t
   taking_is_open (takings.Absence body) given written t = absence_open body given written t.0 t.1
   taking_is_open (takings.Block raw) given written t = record {

@@ -71,7 +71,7 @@ refused_says q d sections (refusals.Limit kinds.Output number) says = inl says
 refused_says q d sections (refusals.Limit kind number) says = says
 refused_says q d sections fault says = says
 
-says_for : (q : QueryParts) (d : Dag) (sections : List Section) (text : List ℕ) (cause : ClientFault) → SaysFor q d sections text (Err cause)
+pub says_for : (q : QueryParts) (d : Dag) (sections : List Section) (text : List ℕ) (cause : ClientFault) → SaysFor q d sections text (Err cause)
     → FrontAndSays q sections text (fault_of_client cause) d
 says_for q d sections text (clients.Refused refusal) (front, says) = (front, refused_says q d sections refusal says)
 says_for q d sections text (clients.BadCar car) front = (front, tt)
@@ -121,7 +121,7 @@ says_of_refusal q d sections (refusals.Truncated want number) says = says
 says_of_refusal q d sections refusals.OutOfMemory says = tt
 
 -- no fault of a body is of the input
-never_of_input : (out : Output) (cause : ClientFault) → HasOutCause out cause → cause ≢ clients.InputFault
+pub never_of_input : (out : Output) (cause : ClientFault) → HasOutCause out cause → cause ≢ clients.InputFault
 never_of_input out cause has e = subst (λ (f : ClientFault). HasOutCause out f) e has
 
 -- ---- the answer's CAR
@@ -142,7 +142,7 @@ module _ (q : QueryParts) (limits : LimitNumbers) (head : ReplyHead) (body : Car
     };
   }
 
-  stopped : (taken : ℕ) (bytes : List ℕ) (out : Output) (cause : ClientFault) → cause ≢ clients.InputFault → IsStopped q limits taken bytes written out cause
+  abbrev pub stopped : (taken : ℕ) (bytes : List ℕ) (out : Output) (cause : ClientFault) → cause ≢ clients.InputFault → IsStopped q limits taken bytes written out cause
       → StopsTaking q limits head bytes written out (fault_of_client cause)
   stopped taken bytes out cause not_input s = record {
     text = s.text;
@@ -169,13 +169,13 @@ module _ (q : QueryParts) (limits : LimitNumbers) (head : ReplyHead) (body : Car
       (subst (λ (p : QueryParts). IsStopped p body.verifier.limits taken bytes written out cause) h.query s))
 
 -- where no more bytes come only a block that is wanted, or the header, is why it isn't accepted
-record IsShort (q : QueryParts) (limits : LimitNumbers) (heard : List ℕ) (sections : List Section) (text : List ℕ) (cause : ClientFault) : Type 0 where
-  want : CidParts
-  number : ℕ
-  cause_is : cause ≡ clients.Refused (refusals.Truncated want number)
-  short : IsEndedShort q limits heard sections text want number
+pub record IsShort (q : QueryParts) (limits : LimitNumbers) (heard : List ℕ) (sections : List Section) (text : List ℕ) (cause : ClientFault) : Type 0 where
+  pub want : CidParts
+  pub number : ℕ
+  pub cause_is : cause ≡ clients.Refused (refusals.Truncated want number)
+  pub short : IsEndedShort q limits heard sections text want number
 
-is_short : (q : QueryParts) (limits : LimitNumbers) (heard : List ℕ) (sections : List Section) (text : List ℕ) (cause : ClientFault) → EndsAt q limits heard sections text (Err cause)
+pub is_short : (q : QueryParts) (limits : LimitNumbers) (heard : List ℕ) (sections : List Section) (text : List ℕ) (cause : ClientFault) → EndsAt q limits heard sections text (Err cause)
     → IsShort q limits heard sections text cause
 is_short q limits heard sections text (clients.Refused (refusals.Truncated want number)) e = record { want = want; number = number; cause_is = refl; short = e }
 is_short q limits heard sections text (clients.Refused (refusals.Extra number)) e = absurd e
@@ -194,7 +194,7 @@ is_short q limits heard sections text clients.KeepFault e = absurd e
 is_short q limits heard sections text clients.OutOfMemory e = absurd e
 
 module _ (q : QueryParts) (limits : LimitNumbers) (head : ReplyHead) (body : CarBody) (given written : List ℕ) (h : IsTakingAnswer q limits head body given written) where
-  ended : (out : Output) → Put [] out → (cause : ClientFault) → HasEnded q limits given h.sections written (Err cause) → FailsTaking q limits head given written out (fault_of_client cause)
+  abbrev pub ended : (out : Output) → Put [] out → (cause : ClientFault) → HasEnded q limits given h.sections written (Err cause) → FailsTaking q limits head given written out (fault_of_client cause)
   ended out put cause e =
       let s = is_short q limits given h.sections written cause e.ends in
       record {
@@ -215,16 +215,16 @@ module _ (q : QueryParts) (limits : LimitNumbers) (head : ReplyHead) (body : Car
       }
 
   -- of the query and the limits that the verifier has
-  by_its : (result : Result ⊤ ClientFault) → HasEnded body.verifier.left.query body.verifier.limits given h.sections written result → HasEnded q limits given h.sections written result
+  pub by_its : (result : Result ⊤ ClientFault) → HasEnded body.verifier.left.query body.verifier.limits given h.sections written result → HasEnded q limits given h.sections written result
   by_its result e =
       subst (λ (n : LimitNumbers). HasEnded q n given h.sections written result) h.limits_are
       (subst (λ (p : QueryParts). HasEnded p body.verifier.limits given h.sections written result) h.query e)
 
-  pub ends_short : (out : Output) → Put [] out → (cause : ClientFault) → HasEnded body.verifier.left.query body.verifier.limits given h.sections written (Err cause)
+  abbrev pub ends_short : (out : Output) → Put [] out → (cause : ClientFault) → HasEnded body.verifier.left.query body.verifier.limits given h.sections written (Err cause)
       → FailsTaking q limits head given written out (fault_of_client cause)
   ends_short out put cause e = ended out put cause (by_its (Err cause) e)
 
-  pub ends_whole : (out : Output) → Put [] out → HasEnded body.verifier.left.query body.verifier.limits given h.sections written (Ok tt)
+  abbrev pub ends_whole : (out : Output) → Put [] out → HasEnded body.verifier.left.query body.verifier.limits given h.sections written (Ok tt)
       → TakesWhole q limits head given written out
   ends_whole out put raw =
       let e = by_its (Ok tt) raw in
@@ -420,24 +420,6 @@ quiet_block out limits bytes quiet faults.BadFraming is = quiet
 quiet_block out limits bytes quiet (faults.BadCar car) is = quiet
 quiet_block out limits bytes quiet faults.PeerFault is = quiet
 quiet_block out limits bytes quiet faults.KeepFault is = absurd is
-
--- a fault of the answer's CAR that is none of a keeper
-pub quiet_answer : (out : Output) (cause : ClientFault) → cause ≢ clients.KeepFault → HasOutCause out cause → QuietUnlessSink {A = ⊤} out (Err (fault_of_client cause))
-quiet_answer out (clients.Refused refusals.SinkFault) not has = has
-quiet_answer out (clients.Refused (refusals.Extra number)) not has = has
-quiet_answer out (clients.Refused (refusals.Limit kind number)) not has = has
-quiet_answer out (clients.Refused (refusals.BadDigest cid)) not has = has
-quiet_answer out (clients.Refused (refusals.WrongBlock want got)) not has = has
-quiet_answer out (clients.Refused (refusals.BadBlock cid fault)) not has = has
-quiet_answer out (clients.Refused (refusals.BadSize declared actual)) not has = has
-quiet_answer out (clients.Refused (refusals.NotFolder segment)) not has = has
-quiet_answer out (clients.Refused (refusals.NotThere segment)) not has = has
-quiet_answer out (clients.Refused (refusals.Truncated want number)) not has = has
-quiet_answer out (clients.Refused refusals.OutOfMemory) not has = has
-quiet_answer out (clients.BadCar car) not has = has
-quiet_answer out clients.InputFault not has = absurd has
-quiet_answer out clients.KeepFault not has = absurd (not refl)
-quiet_answer out clients.OutOfMemory not has = has
 
 -- a fault that is neither of out nor of a keeper
 pub quiet_other : (out : Output) (result : Result ⊤ FetchFault) → (result ≡ Err (faults.Refused refusals.SinkFault) → ⊥) → (result ≡ Err faults.KeepFault → ⊥) → OutputQuiet out

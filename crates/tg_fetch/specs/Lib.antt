@@ -6,6 +6,8 @@ pub mod Replies
 pub mod Clients
 pub mod Calls
 pub mod Received
+pub mod Keeping
+pub mod KeepingSteps
 pub mod Laws
 pub mod Watched
 pub mod Own

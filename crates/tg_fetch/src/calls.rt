@@ -5,6 +5,8 @@ ghost use Rattle.tg_heard.specs.Exchanges.{HasOneBlockEach};
 ghost use Rattle.tg_fetch.specs.Calls.{FetchEnds, LinkCalled, LinkHeard};
 ghost use Rattle.tg_fetch.specs.Clients.{StandsFor};
 ghost use Rattle.tg_fetch.specs.Faults.{QuietUnlessSink};
+ghost use Rattle.tg_fetch.specs.Keeping.{FetchKeeps, HasFaultCause, StandIn};
+ghost use Rattle.tg_fetch.specs.KeepingSteps.{HeardKeeps, LinkKeeps};
 ghost use Rattle.tg_fetch.specs.Laws.{IsAcceptedElse, IsNowhereElse, IsNowhereIn, IsOwnNowhere, TellsAbsence, TellsCarried};
 ghost use Rattle.tg_fetch.specs.Received.{SoundCall};
 ghost use Rattle.tg_links.specs.Steps.{link_step};
@@ -12,6 +14,7 @@ ghost use Rattle.tg_model.specs.Answer.{answer};
 ghost use Rattle.tg_model.specs.Dag.{Dag, Section, root_cid};
 ghost use Rattle.tg_model.specs.Fits.{Fits};
 ghost use Rattle.tg_model.specs.Sound.{IsSound};
+ghost use Rattle.tg_model.specs.Stores.{kept_in};
 ghost use Rattle.tg_model.specs.Traversal.{block_list};
 ghost use Rattle.tg_model_laws.specs.Tasks.{Miss};
 ghost use Rattle.tg_query.specs.Requests.{IsAddr};
@@ -28,7 +31,7 @@ use std::mem::drop;
 use tg_bytes::zeros;
 use tg_dials::Dial;
 use tg_links::Link;
-use tg_model::{Limits, Query};
+use tg_model::{DropKeep, Keep, Limits, Query};
 use tg_streams::{Sink, put_all};
 use tg_verify::Progress;
 
@@ -79,55 +82,121 @@ pub fn fetch<D: Dial, S: Sink, W: Watch>(
         → TellsAbsence query.now limits (at_dial D.dial dial.old dial.new) (block_list query.now d)
         → IsNowhereElse miss (into S.sink out.old out.new) result }
 {
-    tg_model_laws::own_sections();
-    tg_model_laws::against_every_peer();
-    tg_model_laws::own_absences();
-    laws::carried_replies();
-    laws::carried_absences();
-    let end = dialled(alloc, query, limits, addr, dial, out, watch);
-    watch.ended();
-    end
+    fetch_keep(
+        alloc,
+        query,
+        limits,
+        addr,
+        dial,
+        &mut DropKeep::new(),
+        out,
+        watch,
+    )
 }
 
-/// Fetches it so, and tells `watch` of each piece, but not that it has ended. Errors: those of `fetch`.
-fn dialled<D: Dial, S: Sink, W: Watch>(
+/// Fetches what a query asks for, as `fetch` does, and hands the keeper each section of the answer's CAR whose CID names its
+/// block, directly before it is verified; a block is hashed once in all. Nothing is kept of a raw block, nor of a CAR that
+/// shows that the path leads nowhere.
+///
+/// Errors: those of `fetch`, and `KeepFault` where the keeper failed at a section. What was put and kept before stays.
+/// RFC 9112; Trustless Gateway specification, CAR responses.
+pub fn fetch_keep<D: Dial, K: Keep, S: Sink, W: Watch>(
     alloc: Global,
     query: &Query,
     limits: Limits,
     addr: &str,
     dial: &mut D,
+    keep: &mut K,
+    out: &mut S,
+    watch: &mut W,
+) -> Result<(), FetchFault>
+    requires { IsAddr addr.now }
+    // One call: what was said and heard, how it ended, and what that says of each sound DAG with the query's root.
+    ensures ends { FetchEnds query.now limits addr.now (at_dial D.dial dial.old dial.new) (into S.sink out.old out.new) result }
+    // Which sections of what was heard were kept.
+    ensures kept { FetchKeeps query.now limits (at_dial D.dial dial.old dial.new) (into S.sink out.old out.new)
+        (kept_in K.keeper keep.old keep.new) result }
+    ensures cause { HasFaultCause (into S.sink out.old out.new) (kept_in K.keeper keep.old keep.new) result }
+    // The others are those of `fetch`.
+    ensures sound { SoundCall query.now limits (at_dial D.dial dial.old dial.new) (into S.sink out.old out.new) result }
+    ensures fitting { (d : Dag) (sections : Items Section) (text : Items ℕ) → Fits d query.now sections text
+        → IsWithinLimits query.now limits d → TellsCarried query.now limits (at_dial D.dial dial.old dial.new) sections
+        → IsAcceptedElse text (into S.sink out.old out.new) result }
+    ensures own { (d : Dag) (text : Items ℕ) → IsSound d → root_cid d ≡ query.now.root
+        → answer query.now d ≡ Some text → HasOneBlockEach d
+        → IsWithinLimits query.now limits d
+        → TellsCarried query.now limits (at_dial D.dial dial.old dial.new) (block_list query.now d)
+        → IsAcceptedElse text (into S.sink out.old out.new) result }
+    ensures nowhere { (d : Dag) (miss : Miss) → IsNowhereIn query.now limits d miss
+        → TellsAbsence query.now limits (at_dial D.dial dial.old dial.new) (block_list (path_query query.now) d)
+        → IsNowhereElse miss (into S.sink out.old out.new) result }
+    ensures own_nowhere { (d : Dag) (miss : Miss) → IsOwnNowhere query.now limits d miss
+        → TellsAbsence query.now limits (at_dial D.dial dial.old dial.new) (block_list query.now d)
+        → IsNowhereElse miss (into S.sink out.old out.new) result }
+{
+    tg_model_laws::own_sections();
+    tg_model_laws::against_every_peer();
+    tg_model_laws::own_absences();
+    laws::carried_replies();
+    laws::carried_absences();
+    let end = dialled(alloc, query, limits, addr, dial, keep, out, watch);
+    watch.ended();
+    end
+}
+
+/// Fetches it so, and tells `watch` of each piece, but not that it has ended. Errors: those of `fetch`.
+fn dialled<D: Dial, K: Keep, S: Sink, W: Watch>(
+    alloc: Global,
+    query: &Query,
+    limits: Limits,
+    addr: &str,
+    dial: &mut D,
+    keep: &mut K,
     out: &mut S,
     watch: &mut W,
 ) -> Result<(), FetchFault>
     requires { IsAddr addr.now }
     ensures ends { FetchEnds query.now limits addr.now (at_dial D.dial dial.old dial.new) (into S.sink out.old out.new) result }
-    ensures cause { QuietUnlessSink (into S.sink out.old out.new) result }
+    ensures kept { FetchKeeps query.now limits (at_dial D.dial dial.old dial.new) (into S.sink out.old out.new)
+        (kept_in K.keeper keep.old keep.new) result }
+    ensures cause { HasFaultCause (into S.sink out.old out.new) (kept_in K.keeper keep.old keep.new) result }
 {
     let mut link = dial.dial(addr)?;
-    let end = call(alloc, query, limits, addr, &mut link, out, watch);
+    let end = call(alloc, query, limits, addr, &mut link, keep, out, watch);
     dial.done(link);
     end
 }
 
 /// Puts the request for a query into a link, through which nothing went yet, and feeds the reply to a client. Errors:
 /// those of `fetch`.
-fn call<K: Link, S: Sink, W: Watch>(
+fn call<L: Link, K: Keep, S: Sink, W: Watch>(
     alloc: Global,
     query: &Query,
     limits: Limits,
     addr: &str,
-    link: &mut K,
+    link: &mut L,
+    keep: &mut K,
     out: &mut S,
     watch: &mut W,
 ) -> Result<(), FetchFault>
     requires { IsAddr addr.now }
-    ensures called { LinkCalled query.now limits addr.now (link_step K.link K.Source.source link.old link.new) (into S.sink out.old out.new) result }
-    ensures cause { QuietUnlessSink (into S.sink out.old out.new) result }
+    ensures called { LinkCalled query.now limits addr.now (link_step L.link L.Source.source link.old link.new) (into S.sink out.old out.new) result }
+    ensures kept { LinkKeeps query.now limits (link_step L.link L.Source.source link.old link.new)
+        (into S.sink out.old out.new) (kept_in K.keeper keep.old keep.new) result }
+    ensures cause { HasFaultCause (into S.sink out.old out.new) (kept_in K.keeper keep.old keep.new) result }
 {
     match begun(alloc, query, limits) {
         Ok((client, room)) => {
             let (mut client, mut room) = (client, room);
-            let end = ask(&mut client, room.as_mut_slice(), addr, link, out, watch);
+            let end = ask(
+                &mut client,
+                room.as_mut_slice(),
+                addr,
+                link,
+                keep,
+                out,
+                watch,
+            );
             // A client that goes at the end of its scope takes the prover minutes.
             drop(client);
             end
@@ -141,6 +210,7 @@ fn begun(alloc: Global, query: &Query, limits: Limits) -> Result<(Client, Vec<u8
     ensures query { IfOk result (λ begun. begun.0.query ≡ query.now) }
     ensures limits { IfOk result (λ begun. begun.0.limits ≡ limits) }
     ensures stands { IfOk result (λ begun. StandsFor begun.0 [] []) }
+    ensures none { IfOk result (λ begun. StandIn begun.0.query begun.0.limits [] []) }
     ensures room { IfOk result (λ begun. 0 < length begun.1.items) }
 {
     let room = zeros(alloc, PIECE_LEN)?;
@@ -149,46 +219,58 @@ fn begun(alloc: Global, query: &Query, limits: Limits) -> Result<(Client, Vec<u8
 
 /// Puts the request of a client, which is new, into a link, and feeds it the reply through this room. Errors: those of
 /// `fetch`.
-fn ask<K: Link, S: Sink, W: Watch>(
+fn ask<L: Link, K: Keep, S: Sink, W: Watch>(
     client: &mut Client,
     room: &mut [u8],
     addr: &str,
-    link: &mut K,
+    link: &mut L,
+    keep: &mut K,
     out: &mut S,
     watch: &mut W,
 ) -> Result<(), FetchFault>
     requires addr { IsAddr addr.now }
     requires fresh { StandsFor client.old [] [] }
+    requires none { StandIn client.old.query client.old.limits [] [] }
     requires room { 0 < length room.old }
-    ensures called { LinkCalled client.old.query client.old.limits addr.now (link_step K.link K.Source.source link.old link.new) (into S.sink out.old out.new) result }
-    ensures cause { QuietUnlessSink (into S.sink out.old out.new) result }
+    ensures called { LinkCalled client.old.query client.old.limits addr.now (link_step L.link L.Source.source link.old link.new) (into S.sink out.old out.new) result }
+    ensures kept { LinkKeeps client.old.query client.old.limits (link_step L.link L.Source.source link.old link.new)
+        (into S.sink out.old out.new) (kept_in K.keeper keep.old keep.new) result }
+    ensures cause { HasFaultCause (into S.sink out.old out.new) (kept_in K.keeper keep.old keep.new) result }
 {
     let request = client.request(addr)?;
     put_all(link, request.as_slice())?;
-    hear(client, room, link, out, watch)
+    hear(client, room, link, keep, out, watch)
 }
 
 /// Feeds a client, which is new, with what a link's peer says, through this room, until the reply is whole or the peer
 /// says no more, and tells `watch` behind each piece how far it has come. Errors: those of the client, and `PeerFault` where the link failed.
-fn hear<K: Link, S: Sink, W: Watch>(
+fn hear<L: Link, K: Keep, S: Sink, W: Watch>(
     client: &mut Client,
     room: &mut [u8],
-    link: &mut K,
+    link: &mut L,
+    keep: &mut K,
     out: &mut S,
     watch: &mut W,
 ) -> Result<(), FetchFault>
     requires fresh { StandsFor client.old [] [] }
+    requires none { StandIn client.old.query client.old.limits [] [] }
     requires room { 0 < length room.old }
-    ensures heard { LinkHeard client.old.query client.old.limits (link_step K.link K.Source.source link.old link.new) (into S.sink out.old out.new) result }
-    ensures cause { QuietUnlessSink (into S.sink out.old out.new) result }
+    ensures heard { LinkHeard client.old.query client.old.limits (link_step L.link L.Source.source link.old link.new) (into S.sink out.old out.new) result }
+    ensures kept { HeardKeeps client.old.query client.old.limits (link_step L.link L.Source.source link.old link.new)
+        (into S.sink out.old out.new) (kept_in K.keeper keep.old keep.new) result }
+    ensures cause { HasFaultCause (into S.sink out.old out.new) (kept_in K.keeper keep.old keep.new) result }
 {
     tg_client::laws::standing_bodies();
+    tg_client::laws::received_sections();
+    tg_model_laws::kept_sections();
+    tg_heard::heads_go_on();
+    tg_heard::bodies_go_on();
     loop {
         let size = link.take(room)?;
         if size == 0 {
             return client.end(out);
         }
-        if client.feed(&room[..size], out)? == Progress::Done {
+        if client.feed_keep(&room[..size], keep, out)? == Progress::Done {
             return Ok(());
         }
         watch.told(client.told());

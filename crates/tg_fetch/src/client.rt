@@ -2,9 +2,13 @@
 ghost use Rattle.std.specs.Prelude.{◌≡◌, ◌++◌, ◌+◌, ◌<◌, ◌^◌, ◌≤◌, [], ℕ, List as Items, Err, IfOk, MatchResult, None, Ok, Some, length};
 ghost use Rattle.tg_fetch.specs.Clients.{EndEnds, FeedEnds, IsOpen, IsShortAt, StandsFor, StepEnds};
 ghost use Rattle.tg_fetch.specs.Faults.{QuietUnlessSink};
+ghost use Rattle.tg_fetch.specs.Keeping.{EndKeeps, FeedKeeps, HasFaultCause, StandIn, unkept};
+ghost use Rattle.tg_fetch.specs.KeepingSteps.{StepKeeps};
 ghost use Rattle.tg_fetch.specs.Watched.{told_of};
 ghost use Rattle.tg_fetch.specs.declared.client.Stage.{Stage};
 ghost use Rattle.tg_fetch.specs.declared.fault.FetchFault.{FetchFault};
+ghost use Rattle.tg_model.specs.Dag.{Section};
+ghost use Rattle.tg_model.specs.Stores.{kept_in};
 ghost use Rattle.tg_query.specs.Requests.{IsAddr, request_text};
 ghost use Rattle.tg_streams.specs.Streams.{into};
 ghost use Rattle.tg_verify.specs.declared.verifier.Progress.{Progress};
@@ -16,7 +20,7 @@ use crate::watch::Told;
 use std::alloc::{AllocError, Global};
 use std::mem::{self, drop};
 use tg_bytes::Bytes;
-use tg_model::{Form, LimitKind, Limits, Query, well_formed};
+use tg_model::{DropKeep, Form, Keep, LimitKind, Limits, Query, well_formed};
 use tg_query::print_request;
 use tg_streams::Sink;
 use tg_traversal::copied_path;
@@ -65,7 +69,10 @@ impl Client {
         ensures query { IfOk result (λ client. client.query ≡ query.now) }
         ensures limits { IfOk result (λ client. client.limits ≡ limits) }
         ensures stands { IfOk result (λ client. StandsFor client [] []) }
+        // No section stands whole in nothing.
+        ensures fresh { IfOk result (λ client. StandIn client.query client.limits [] []) }
     {
+        tg_heard::heads_go_on();
         Ok(Client {
             alloc,
             query: copied_query(alloc, query)?,
@@ -107,6 +114,7 @@ impl Client {
         // Where more is wanted a body of stated length isn't whole.
         ensures short { (heard written : Items ℕ) → StandsFor self.old heard written → result ≡ Ok Progress.More
             → IsShortAt self.new.query self.new.limits self.new.stage (heard ++ piece.now) }
+        // Nothing is kept, and so no keeper fails.
         ensures cause { (heard written : Items ℕ) → StandsFor self.old heard written
             → QuietUnlessSink (into S.sink out.old out.new) result }
         ensures done { self.old.refused ≡ None → self.old.stage ≡ Stage.Done
@@ -115,10 +123,48 @@ impl Client {
             → (result ≡ Err fault) × (self.new ≡ self.old) × (out.new ≡ out.old) }
         ensures refused { MatchResult result (λ _. self.new.refused ≡ None) (λ fault. self.new.refused ≡ Some fault) }
     {
+        self.feed_keep(piece, &mut DropKeep::new(), out)
+    }
+
+    /// Takes a piece of the reply, as `feed` does, and hands the keeper each section of the answer's CAR whose CID names its
+    /// block, directly before it is verified; a block is hashed once in all. Nothing is kept of a raw block, nor of a CAR
+    /// that shows that the path leads nowhere.
+    ///
+    /// Errors: those of `feed`, and `KeepFault` where the keeper failed at a section. What was put and kept before stays.
+    /// Each further call gives the same error and changes nothing.
+    ///
+    /// Trustless Gateway specification, CAR responses.
+    pub fn feed_keep<K: Keep, S: Sink>(
+        &mut self,
+        piece: &[u8],
+        keep: &mut K,
+        out: &mut S,
+    ) -> Result<Progress, FetchFault>
+        ensures query { self.new.query ≡ self.old.query }
+        ensures limits { self.new.limits ≡ self.old.limits }
+        // What came, this piece with it, and what is written for it.
+        ensures ends { (heard written : Items ℕ) → StandsFor self.old heard written
+            → FeedEnds self.new heard piece.now written (into S.sink out.old out.new) result }
+        // Where more is wanted a body of stated length isn't whole.
+        ensures short { (heard written : Items ℕ) → StandsFor self.old heard written → result ≡ Ok Progress.More
+            → IsShortAt self.new.query self.new.limits self.new.stage (heard ++ piece.now) }
+        // Which sections were kept.
+        ensures kept { (heard written : Items ℕ) (before : Items Section) → StandsFor self.old heard written
+            → StandIn self.old.query self.old.limits heard before
+            → FeedKeeps self.new heard piece.now before written (into S.sink out.old out.new)
+            (kept_in K.keeper keep.old keep.new) result }
+        ensures cause { (heard written : Items ℕ) → StandsFor self.old heard written
+            → HasFaultCause (into S.sink out.old out.new) (kept_in K.keeper keep.old keep.new) result }
+        ensures done { self.old.refused ≡ None → self.old.stage ≡ Stage.Done
+            → (result ≡ Ok Progress.Done) × (self.new ≡ self.old) × (keep.new ≡ keep.old) × (out.new ≡ out.old) }
+        ensures again { (fault : FetchFault) → self.old.refused ≡ Some fault
+            → (result ≡ Err fault) × (self.new ≡ self.old) × (keep.new ≡ keep.old) × (out.new ≡ out.old) }
+        ensures refused { MatchResult result (λ _. self.new.refused ≡ None) (λ fault. self.new.refused ≡ Some fault) }
+    {
         if let Some(fault) = self.refused {
             return Err(fault);
         }
-        let end = self.hear(piece, out);
+        let end = self.hear(piece, keep, out);
         self.refused = end.as_ref().err().copied();
         end
     }
@@ -147,6 +193,10 @@ impl Client {
         ensures limits { self.new.limits ≡ self.old.limits }
         ensures ends { (heard written : Items ℕ) → StandsFor self.old heard written
             → EndEnds self.old.query self.old.limits heard written (into S.sink out.old out.new) result }
+        // Which sections were kept before.
+        ensures kept { (heard written : Items ℕ) (before : Items Section)
+            → StandsFor self.old heard written → StandIn self.old.query self.old.limits heard before
+            → EndKeeps self.old.query self.old.limits heard before written (into S.sink out.old out.new) unkept result }
         ensures cause { (heard written : Items ℕ) → StandsFor self.old heard written
             → QuietUnlessSink (into S.sink out.old out.new) result }
         ensures done { self.old.refused ≡ None → self.old.stage ≡ Stage.Done
@@ -165,8 +215,13 @@ impl Client {
         end
     }
 
-    /// Takes a piece, up to the byte where more came than may be received. Errors: those of `feed`.
-    fn hear<S: Sink>(&mut self, piece: &[u8], out: &mut S) -> Result<Progress, FetchFault>
+    /// Takes a piece, up to the byte where more came than may be received. Errors: those of `feed_keep`.
+    fn hear<K: Keep, S: Sink>(
+        &mut self,
+        piece: &[u8],
+        keep: &mut K,
+        out: &mut S,
+    ) -> Result<Progress, FetchFault>
         requires { self.old.refused ≡ None }
         ensures query { self.new.query ≡ self.old.query }
         ensures limits { self.new.limits ≡ self.old.limits }
@@ -175,17 +230,24 @@ impl Client {
             → FeedEnds self.new heard piece.now written (into S.sink out.old out.new) result }
         ensures short { (heard written : Items ℕ) → IsOpen self.old heard written → result ≡ Ok Progress.More
             → IsShortAt self.new.query self.new.limits self.new.stage (heard ++ piece.now) }
+        ensures kept { (heard written : Items ℕ) (before : Items Section) → IsOpen self.old heard written
+            → StandIn self.old.query self.old.limits heard before
+            → FeedKeeps self.new heard piece.now before written (into S.sink out.old out.new)
+            (kept_in K.keeper keep.old keep.new) result }
         ensures cause { (heard written : Items ℕ) → IsOpen self.old heard written
-            → QuietUnlessSink (into S.sink out.old out.new) result }
+            → HasFaultCause (into S.sink out.old out.new) (kept_in K.keeper keep.old keep.new) result }
         ensures done { self.old.stage ≡ Stage.Done
-            → (result ≡ Ok Progress.Done) × (self.new ≡ self.old) × (out.new ≡ out.old) }
+            → (result ≡ Ok Progress.Done) × (self.new ≡ self.old) × (keep.new ≡ keep.old) × (out.new ≡ out.old) }
     {
         tg_client::laws::standing_bodies();
+        tg_client::laws::received_sections();
+        tg_heard::heads_go_on();
+        tg_heard::bodies_go_on();
         let most = self.limits.number(LimitKind::Received);
         let may = most - self.heard.min(most);
         let room = may.min(piece.len() as u64) as usize;
         let (front, past) = piece.split_at(room);
-        if self.look(front, out)? == Progress::Done {
+        if self.look(front, keep, out)? == Progress::Done {
             return Ok(Progress::Done);
         }
         if past.is_empty() {
@@ -197,8 +259,13 @@ impl Client {
         }))
     }
 
-    /// Looks at bytes, of which no more come than may be received. Errors: those of `feed`.
-    fn look<S: Sink>(&mut self, bytes: &[u8], out: &mut S) -> Result<Progress, FetchFault>
+    /// Looks at bytes, of which no more come than may be received. Errors: those of `feed_keep`.
+    fn look<K: Keep, S: Sink>(
+        &mut self,
+        bytes: &[u8],
+        keep: &mut K,
+        out: &mut S,
+    ) -> Result<Progress, FetchFault>
         requires unrefused { self.old.refused ≡ None }
         requires most { self.old.limits.received < 2 ^ 64 }
         ensures query { self.new.query ≡ self.old.query }
@@ -211,15 +278,22 @@ impl Client {
         ensures short { (heard written : Items ℕ) → IsOpen self.old heard written
             → length heard + length bytes.now ≤ self.old.limits.received → result ≡ Ok Progress.More
             → IsShortAt self.new.query self.new.limits self.new.stage (heard ++ bytes.now) }
+        ensures kept { (heard written : Items ℕ) (before : Items Section) → IsOpen self.old heard written
+            → length heard + length bytes.now ≤ self.old.limits.received
+            → StandIn self.old.query self.old.limits heard before
+            → FeedKeeps self.new heard bytes.now before written (into S.sink out.old out.new)
+            (kept_in K.keeper keep.old keep.new) result }
         ensures cause { (heard written : Items ℕ) → IsOpen self.old heard written
             → length heard + length bytes.now ≤ self.old.limits.received
-            → QuietUnlessSink (into S.sink out.old out.new) result }
+            → HasFaultCause (into S.sink out.old out.new) (kept_in K.keeper keep.old keep.new) result }
         ensures done { self.old.stage ≡ Stage.Done
-            → (result ≡ Ok Progress.Done) × (self.new ≡ self.old) × (out.new ≡ out.old) }
+            → (result ≡ Ok Progress.Done) × (self.new ≡ self.old) × (keep.new ≡ keep.old) × (out.new ≡ out.old) }
     {
+        tg_model_laws::kept_sections();
+        tg_heard::heads_go_on();
         let mut rest = bytes;
         loop {
-            let (taken, told) = self.step(rest, out)?;
+            let (taken, told) = self.step(rest, keep, out)?;
             match told {
                 Move::On => rest = &rest[taken..],
                 Move::Wait => return Ok(Progress::More),
@@ -229,8 +303,13 @@ impl Client {
     }
 
     /// Takes bytes up to the next end of a head, of a part of the body, or of the reply, and says how many, and how it
-    /// goes on. Errors: those of `feed`.
-    fn step<S: Sink>(&mut self, bytes: &[u8], out: &mut S) -> Result<(usize, Move), FetchFault>
+    /// goes on. Errors: those of `feed_keep`.
+    fn step<K: Keep, S: Sink>(
+        &mut self,
+        bytes: &[u8],
+        keep: &mut K,
+        out: &mut S,
+    ) -> Result<(usize, Move), FetchFault>
         requires unrefused { self.old.refused ≡ None }
         requires most { self.old.limits.received < 2 ^ 64 }
         ensures query { self.new.query ≡ self.old.query }
@@ -243,11 +322,18 @@ impl Client {
             → StepEnds self.new heard bytes.now written (into S.sink out.old out.new) result }
         ensures short { (heard written : Items ℕ) → IsOpen self.old heard written → IfOk result (λ told. told.1 ≡ Move.Wait
             → IsShortAt self.new.query self.new.limits self.new.stage (heard ++ bytes.now)) }
+        ensures kept { (heard written : Items ℕ) (before : Items Section) → IsOpen self.old heard written
+            → length heard + length bytes.now ≤ self.old.limits.received
+            → StandIn self.old.query self.old.limits heard before
+            → StepKeeps self.old.query self.old.limits heard bytes.now before written (into S.sink out.old out.new)
+            (kept_in K.keeper keep.old keep.new) result }
         ensures cause { (heard written : Items ℕ) → IsOpen self.old heard written
-            → QuietUnlessSink (into S.sink out.old out.new) result }
+            → HasFaultCause (into S.sink out.old out.new) (kept_in K.keeper keep.old keep.new) result }
         ensures done { self.old.stage ≡ Stage.Done
-            → (result ≡ Ok (0, Move.Done)) × (self.new ≡ self.old) × (out.new ≡ out.old) }
+            → (result ≡ Ok (0, Move.Done)) × (self.new ≡ self.old) × (keep.new ≡ keep.old) × (out.new ≡ out.old) }
     {
+        tg_heard::heads_go_on();
+        tg_heard::bodies_go_on();
         match &mut self.stage {
             Stage::Heads(heads) => {
                 let (taken, head) = heads.take(bytes)?;
@@ -261,7 +347,7 @@ impl Client {
                 Ok((taken, told))
             }
             Stage::Content(content) => {
-                let (taken, told) = content.take(bytes, out)?;
+                let (taken, told) = content.take(bytes, keep, out)?;
                 self.heard = self.heard.saturating_add(taken as u64);
                 if told != Move::Done {
                     return Ok((taken, told));
@@ -281,12 +367,16 @@ impl Client {
         ensures unrefused { self.new.refused ≡ None }
         ensures ends { (heard written : Items ℕ) → IsOpen self.old heard written
             → EndEnds self.old.query self.old.limits heard written (into S.sink out.old out.new) result }
+        ensures kept { (heard written : Items ℕ) (before : Items Section)
+            → IsOpen self.old heard written → StandIn self.old.query self.old.limits heard before
+            → EndKeeps self.old.query self.old.limits heard before written (into S.sink out.old out.new) unkept result }
         ensures cause { (heard written : Items ℕ) → IsOpen self.old heard written
             → QuietUnlessSink (into S.sink out.old out.new) result }
         ensures done { self.old.stage ≡ Stage.Done
             → (result ≡ Ok tt) × (self.new ≡ self.old) × (out.new ≡ out.old) }
         ensures whole { result ≡ Ok tt → self.new.stage ≡ Stage.Done }
     {
+        tg_heard::heads_go_on();
         match &mut self.stage {
             Stage::Heads(_) => Err(FetchFault::BadReplyHead),
             Stage::Content(content) => {

@@ -1,13 +1,17 @@
 //! The body of a reply behind its final head, while it comes.
-ghost use Rattle.std.specs.Prelude.{◌≡◌, ◌↔◌, ◌++◌, ◌+◌, ◌<◌, ◌≤◌, ℕ, List as Items, IfOk, IfSome, IsTrue, MatchResult, true, length, take};
+ghost use Rattle.std.specs.Prelude.{◌≡◌, ◌↔◌, ◌++◌, ◌+◌, ◌<◌, ◌≤◌, [], ℕ, List as Items, IfOk, IfSome, IsTrue, MatchResult, true, length, take};
 ghost use Rattle.tg_fetch.specs.Faults.{QuietUnlessSink};
+ghost use Rattle.tg_fetch.specs.Keeping.{HasFaultCause, KeptRefused, StandIn, unkept};
+ghost use Rattle.tg_fetch.specs.KeepingSteps.{ContentEndKeeps, ContentKeeps, TakenIn};
 ghost use Rattle.tg_fetch.specs.Replies.{ContentEnds, ContentSteps, ContentStops, HeadStops, IsInContent, IsShortIn, MovesOn};
 ghost use Rattle.tg_fetch.specs.Watched.{told_in};
 ghost use Rattle.tg_heard.specs.Carried.{HasAskedType};
 ghost use Rattle.tg_http.specs.Fields.{is_identity};
 ghost use Rattle.tg_http.specs.declared.reply.ReplyHead.{ReplyHead};
+ghost use Rattle.tg_model.specs.Dag.{Section};
 ghost use Rattle.tg_model.specs.LimitNumbers.{LimitNumbers};
 ghost use Rattle.tg_model.specs.Queries.{QueryParts};
+ghost use Rattle.tg_model.specs.Stores.{kept_in};
 ghost use Rattle.tg_streams.specs.Streams.{into};
 
 use crate::fault::FetchFault;
@@ -16,7 +20,7 @@ use crate::watch::Told;
 use std::alloc::Global;
 use tg_body::{Body, BodyReader};
 use tg_http::{Framing, ReplyHead};
-use tg_model::{Form, Limits, Query};
+use tg_model::{Form, Keep, Limits, Query};
 use tg_query::is_type_of;
 use tg_streams::Sink;
 
@@ -56,6 +60,7 @@ impl Content {
         ensures begins { MatchResult result
             (λ content. MovesOn query.now limits head.now content)
             (λ fault. HeadStops query.now head.now fault) }
+        ensures fresh { IfOk result (λ content. TakenIn content.sections limits [] []) }
     {
         let asked = has_asked_type(query, head);
         let absent = head.status == 404 && asked && query.form() == Form::Car;
@@ -79,12 +84,14 @@ impl Content {
         })
     }
 
-    /// Takes bytes of the body, and says how many, and how it goes on: `Done` where the body is whole and accepted.
+    /// Takes bytes of the body, hands the keeper the sections of the answer's CAR, and says how many, and how it goes on:
+    /// `Done` where the body is whole and accepted.
     ///
     /// Errors: `BadFraming` at the first byte with which no body of the framing goes on; and those of `Sections`.
-    pub(crate) fn take<S: Sink>(
+    pub(crate) fn take<K: Keep, S: Sink>(
         &mut self,
         bytes: &[u8],
+        keep: &mut K,
         out: &mut S,
     ) -> Result<(usize, Move), FetchFault>
         ensures within { IfOk result (λ told. told.0 ≤ length bytes.now) }
@@ -99,9 +106,20 @@ impl Content {
         ensures short { (q : QueryParts) (limits : LimitNumbers) (heard written : Items ℕ)
             → IsInContent q limits self.old heard written
             → IfOk result (λ told. told.1 ≡ Move.Wait → IsShortIn q limits self.new (heard ++ bytes.now)) }
+        // Which sections were kept.
+        ensures kept { (q : QueryParts) (limits : LimitNumbers) (heard written : Items ℕ) (before : Items Section)
+            → IsInContent q limits self.old heard written → length heard + length bytes.now ≤ limits.received
+            → StandIn q limits heard before → MatchResult result
+            (λ told. ContentKeeps q limits (heard ++ take told.0 bytes.now) before written (into S.sink out.old out.new)
+            (kept_in K.keeper keep.old keep.new) told.1)
+            (λ fault. KeptRefused q limits heard bytes.now before written (into S.sink out.old out.new)
+            (kept_in K.keeper keep.old keep.new) fault) }
         ensures cause { (q : QueryParts) (limits : LimitNumbers) (heard written : Items ℕ)
-            → IsInContent q limits self.old heard written → QuietUnlessSink (into S.sink out.old out.new) result }
+            → IsInContent q limits self.old heard written
+            → HasFaultCause (into S.sink out.old out.new) (kept_in K.keeper keep.old keep.new) result }
     {
+        tg_heard::bodies_go_on();
+        tg_client::laws::received_sections();
         tg_heard::heads_go_on();
         tg_client::laws::standing_bodies();
         tg_heard::heard_is_one();
@@ -109,7 +127,7 @@ impl Content {
         match told {
             Body::Need => Ok((taken, Move::Wait)),
             Body::Part { start, end } => {
-                self.sections.take(&bytes[start..end], out)?;
+                self.sections.take(&bytes[start..end], keep, out)?;
                 Ok((taken, Move::On))
             }
             Body::End => {
@@ -133,10 +151,18 @@ impl Content {
         ensures ends { (q : QueryParts) (limits : LimitNumbers) (heard written : Items ℕ)
             → IsInContent q limits self.old heard written → length heard ≤ limits.received
             → ContentEnds q limits heard written (into S.sink out.old out.new) result }
+        // Which sections were kept before.
+        ensures kept { (q : QueryParts) (limits : LimitNumbers) (heard written : Items ℕ) (before : Items Section)
+            → IsInContent q limits self.old heard written → length heard ≤ limits.received
+            → StandIn q limits heard before
+            → ContentEndKeeps q limits heard before written (into S.sink out.old out.new) unkept result }
         ensures cause { (q : QueryParts) (limits : LimitNumbers) (heard written : Items ℕ)
             → IsInContent q limits self.old heard written → QuietUnlessSink (into S.sink out.old out.new) result }
     {
+        tg_heard::heads_go_on();
+        tg_heard::bodies_go_on();
         tg_client::laws::standing_bodies();
+        tg_client::laws::received_sections();
         self.reader.end()?;
         self.sections.end(out)
     }

@@ -3,12 +3,15 @@ ghost use Rattle.std.specs.Prelude.{◌++◌, ◌≡◌, [], ℕ, List as Items,
 ghost use Rattle.tg_fetch.specs.Bodies.{BodyStops, EndsTaking, FrontAndSays, IsBlockFault, IsTaking, IsTakingAbsence};
 ghost use Rattle.tg_fetch.specs.Bodies.{IsTakingBlock, StopsTaking, TakesOn};
 ghost use Rattle.tg_fetch.specs.Faults.{QuietUnlessSink, absence_fault};
+ghost use Rattle.tg_fetch.specs.Keeping.{HasFaultCause, unkept};
+ghost use Rattle.tg_fetch.specs.KeepingSteps.{BodyEndKeeps, BodyKeeps, TakenIn};
 ghost use Rattle.tg_fetch.specs.Watched.{told_in};
 ghost use Rattle.tg_heard.specs.Carried.{IsAbsenceHead, IsAnswerHead};
 ghost use Rattle.tg_http.specs.declared.reply.ReplyHead.{ReplyHead};
 ghost use Rattle.tg_model.specs.Dag.{Section};
 ghost use Rattle.tg_model.specs.LimitNumbers.{LimitNumbers};
 ghost use Rattle.tg_model.specs.Queries.{QueryParts};
+ghost use Rattle.tg_model.specs.Stores.{kept_in};
 ghost use Rattle.tg_streams.specs.Streams.{into};
 ghost use Rattle.tg_verify.specs.Sound.{ForEachSound};
 
@@ -19,7 +22,7 @@ use std::mem;
 use tg_bytes::Bytes;
 use tg_cid::Cid;
 use tg_client::{CarBody, ClientFault};
-use tg_model::{Form, LimitKind, Limits, Query};
+use tg_model::{Form, Keep, LimitKind, Limits, Query};
 use tg_streams::{DropSink, Sink};
 use tg_verify::{Refusal, Verifier};
 
@@ -53,9 +56,11 @@ impl Sections {
         query: &Query,
         limits: Limits,
     ) -> Result<Sections, AllocError>
-        ensures { (head : ReplyHead) → IsAnswerHead query.now head
+        ensures taking { (head : ReplyHead) → IsAnswerHead query.now head
             → IfOk result (λ sections. IsTaking query.now limits head sections [] []) }
+        ensures fresh { IfOk result (λ sections. TakenIn sections limits [] []) }
     {
+        tg_client::laws::standing_bodies();
         match query.form() {
             Form::Car => Ok(Sections::Answer(CarBody::new(alloc, query, limits)?)),
             Form::Raw => Ok(Sections::Block(RawBlock::new(alloc, query, limits)?)),
@@ -69,25 +74,41 @@ impl Sections {
         query: &Query,
         limits: Limits,
     ) -> Result<Sections, AllocError>
-        ensures { (head : ReplyHead) → IsAbsenceHead query.now head
+        ensures taking { (head : ReplyHead) → IsAbsenceHead query.now head
             → IfOk result (λ sections. IsTaking query.now limits head sections [] []) }
+        ensures fresh { IfOk result (λ sections. TakenIn sections limits [] []) }
     {
         tg_client::laws::standing_bodies();
         Ok(Sections::Absence(CarBody::absence(alloc, query, limits)?))
     }
 
-    /// Takes a part of the body. Errors: those of `CarBody::feed`; of an absence `Status` with 404 once the terminal
-    /// came, whatever follows it; and of a raw block a `Limit` of kind `Block` where it is too large.
-    pub(crate) fn take<S: Sink>(&mut self, part: &[u8], out: &mut S) -> Result<(), FetchFault>
+    /// Takes a part of the body, and hands the keeper the sections of the answer's CAR. Errors: those of
+    /// `CarBody::feed_keep`; of an absence `Status` with 404 once the terminal came, whatever follows it; and of a raw block
+    /// a `Limit` of kind `Block` where it is too large.
+    pub(crate) fn take<K: Keep, S: Sink>(
+        &mut self,
+        part: &[u8],
+        keep: &mut K,
+        out: &mut S,
+    ) -> Result<(), FetchFault>
         ensures takes { (q : QueryParts) (limits : LimitNumbers) (head : ReplyHead) (given written : Items ℕ)
             → IsTaking q limits head self.old given written → MatchResult result
             (λ _. TakesOn q limits head self.new (given ++ part.now) written (into S.sink out.old out.new))
             (λ fault. StopsTaking q limits head (given ++ part.now) written (into S.sink out.old out.new) fault) }
+        // Which sections were kept.
+        ensures kept { (q : QueryParts) (limits : LimitNumbers) (head : ReplyHead) (given written : Items ℕ)
+            (before : Items Section) → IsTaking q limits head self.old given written
+            → TakenIn self.old limits given before
+            → BodyKeeps q limits head self.old self.new (given ++ part.now) before written
+            (into S.sink out.old out.new) (kept_in K.keeper keep.old keep.new) result }
         ensures cause { (q : QueryParts) (limits : LimitNumbers) (head : ReplyHead) (given written : Items ℕ)
-            → IsTaking q limits head self.old given written → QuietUnlessSink (into S.sink out.old out.new) result }
+            → IsTaking q limits head self.old given written
+            → HasFaultCause (into S.sink out.old out.new) (kept_in K.keeper keep.old keep.new) result }
     {
+        tg_client::laws::standing_bodies();
+        tg_client::laws::received_sections();
         match self {
-            Sections::Answer(body) => Ok(body.feed(part, out)?),
+            Sections::Answer(body) => Ok(body.feed_keep(part, keep, out)?),
             Sections::Absence(body) => show(body, part),
             Sections::Block(block) => block.add(part),
         }
@@ -120,9 +141,16 @@ impl Sections {
         ensures ends { (q : QueryParts) (limits : LimitNumbers) (head : ReplyHead) (given written : Items ℕ)
             → IsTaking q limits head self.old given written
             → EndsTaking q limits head given written (into S.sink out.old out.new) result }
+        // Which sections were kept before.
+        ensures kept { (q : QueryParts) (limits : LimitNumbers) (head : ReplyHead) (given written : Items ℕ)
+            (before : Items Section) → IsTaking q limits head self.old given written
+            → TakenIn self.old limits given before
+            → BodyEndKeeps q limits head self.old given before written (into S.sink out.old out.new) unkept result }
         ensures cause { (q : QueryParts) (limits : LimitNumbers) (head : ReplyHead) (given written : Items ℕ)
             → IsTaking q limits head self.old given written → QuietUnlessSink (into S.sink out.old out.new) result }
     {
+        tg_client::laws::standing_bodies();
+        tg_client::laws::received_sections();
         match self {
             Sections::Answer(body) => Ok(body.end()?),
             Sections::Absence(body) => {

@@ -1,7 +1,13 @@
+use Rattle.std.proofs.Common.{inr}
+use Rattle.tg_fetch.proofs.KeptCalls.{keeps_none}
 use Rattle.tg_fetch.proofs.Fetching.{called_not}
 use Rattle.tg_fetch.proofs.calls.call.Goals as goal
 
 pub returns-in-Err-clause-called : goal.returns-in-Err-clause-called
 returns-in-Err-clause-called g c =
-    called_not g.K.Link.link g.K.Source.source g.K.Sink.sink g.met.K.Link.says g.met.K.Link.one_count c.args.query.now c.args.limits c.args.addr.now
+    called_not g.L.Link.link g.L.Source.source g.L.Sink.sink g.met.L.Link.says g.met.L.Link.one_count c.args.query.now c.args.limits c.args.addr.now
     g.S.Sink.sink c.args.link.now c.args.out.now (g.met.S.Sink.rests c.args.out.now)
+
+pub returns-in-Err-clause-kept : goal.returns-in-Err-clause-kept
+returns-in-Err-clause-kept g c =
+    inr (keeps_none g.S.Sink.sink c.args.out.now (g.met.S.Sink.rests c.args.out.now) g.K.Keep.keeper c.args.keep.now (g.met.K.Keep.rests c.args.keep.now) _ tt)

@@ -1,6 +1,10 @@
-use Rattle.std.proofs.Common.{refl}
+use Rattle.std.proofs.Common.{inr, refl}
+use Rattle.tg_fetch.proofs.KeptCalls.{called_keeps, keeps_none}
+use Rattle.tg_dials.specs.Dials.{at_dial}
+use Rattle.tg_links.specs.Views.{view_of}
+use Rattle.tg_model.specs.Stores.{kept_in}
 use Rattle.std.proofs.lemmas.Result.{err_from_is_err_and}
-use Rattle.tg_fetch.proofs.Fetching.{fetch_called, fetch_missed}
+use Rattle.tg_fetch.proofs.Fetching.{fetch_called, fetch_missed, hung_up}
 use Rattle.tg_streams.specs.Streams.{into}
 use Rattle.tg_fetch.proofs.calls.dialled.Goals as goal
 
@@ -14,10 +18,23 @@ returns-in_err-link-clause-ends g c =
 pub returns-in_err-link-clause-cause : goal.returns-in_err-link-clause-cause
 returns-in_err-link-clause-cause g c =
     let p = err_from_is_err_and c.from_residual.result c.from_residual.ensures.1 in
-    rw (p.1, p.2) refl
+    rw (p.1, p.2) (refl, refl)
 
 pub returns-clause-ends : goal.returns-clause-ends
 returns-clause-ends g c =
     fetch_called g.D.Dial.dial g.D.Link.Link.link g.D.Link.Source.source c.args.dial.now c.dial.new.self c.done.new.self c.in_ok-link.link c.call-end.new.link
     c.in_ok-link.ensures.dialled c.dial.ensures.calls c.done.ensures.done c.done.ensures.missed c.done.ensures.coming c.args.query.now c.args.limits c.args.addr.now
     (into g.S.Sink.sink c.args.out.now c.call-end.new.out) c.call-end.result (c.done.ensures.address _ _ c.dial.ensures.address) c.call-end.ensures.called
+
+pub returns-in_err-link-clause-kept : goal.returns-in_err-link-clause-kept
+returns-in_err-link-clause-kept g c =
+    let p = err_from_is_err_and c.from_residual.result c.from_residual.ensures.1 in
+    rw (p.1, p.2) (inr (keeps_none g.S.Sink.sink c.args.out.now (g.met.S.Sink.rests c.args.out.now) g.K.Keep.keeper c.args.keep.now (g.met.K.Keep.rests c.args.keep.now) _ tt))
+
+pub returns-clause-kept : goal.returns-clause-kept
+returns-clause-kept g c =
+    called_keeps c.args.query.now c.args.limits (at_dial g.D.Dial.dial c.args.dial.now c.done.new.self) (view_of g.D.Link.Link.link g.D.Link.Source.source c.in_ok-link.link)
+    (view_of g.D.Link.Link.link g.D.Link.Source.source c.call-end.new.link) c.in_ok-link.ensures.dialled.0.heard
+    (hung_up g.D.Dial.dial g.D.Link.Link.link g.D.Link.Source.source c.args.dial.now c.dial.new.self c.done.new.self c.in_ok-link.link c.call-end.new.link
+    c.in_ok-link.ensures.dialled c.dial.ensures.calls c.done.ensures.done c.done.ensures.missed c.done.ensures.coming)
+    (into g.S.Sink.sink c.args.out.now c.call-end.new.out) (kept_in g.K.Keep.keeper c.args.keep.now c.call-end.new.keep) c.call-end.result c.call-end.ensures.kept

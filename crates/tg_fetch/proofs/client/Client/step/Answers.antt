@@ -10,6 +10,9 @@ use Rattle.tg_fetch.specs.declared.client.Stage.TheVariants as stages
 use Rattle.tg_fetch.specs.contracts.content.Move.{the_type}
 use Rattle.tg_fetch.specs.declared.content.Move.TheVariants as moves
 use Rattle.tg_fetch.proofs.Feeding.{all_or_none, content_at, content_step, counted, done_step, false_true, goes_on, head_stops, heads_at, heads_none, heads_some, heads_step, heads_stop, in_content, in_heads, not_false}
+use Rattle.tg_fetch.proofs.KeptReplies.{before_heads, begins_keeping, head_keeps, heads_keep, heads_stand, open_of, stands_nothing, step_keeps}
+use Rattle.tg_fetch.proofs.KeptSections.{none_kept}
+use Rattle.tg_model.specs.Stores.{kept_in}
 use Rattle.tg_fetch.proofs.client.Client.step.Goals as goal
 
 pub returns-in_err-taken-in-Heads-clause-ends : goal.returns-in_err-taken-in-Heads-clause-ends
@@ -96,3 +99,81 @@ returns-else-ne-clause-ends g c heard written h few =
     let done : told ≡ moves.Done = same_true the_type (search rules) _ _ (not_false _ c.if-ne.ensures) in
     done_step told new old.query old.limits c.take-in-Content.new.self heard bytes written (into g.S.Sink.sink c.args.out.now c.take-in-Content.new.out) c.in_ok-taken-in-Content.taken done refl refl c.enter-in-Content.ensures
     (c.in_ok-taken-in-Content.ensures.takes old.query old.limits heard written inside few)
+
+-- ---- which sections were kept
+
+pub returns-in_err-taken-in-Heads-clause-kept : goal.returns-in_err-taken-in-Heads-clause-kept
+returns-in_err-taken-in-Heads-clause-kept g c heard written before h few stand =
+    let p = err_from_is_err_and c.from_residual.result c.from_residual.ensures.1 in
+    let old = c.args.self.now in
+    let inside = in_heads old.query old.limits old.stage c.in-Heads.heads heard written c.in-Heads.is h.at in
+    rw (p.1, p.2)
+    (heads_keep old c.in-Heads.heads heard written c.in-Heads.is h c.heads_go_on.ensures before stand (into g.S.Sink.sink c.args.out.now c.args.out.now)
+    (put_nothing _ g.S.Sink.sink c.args.out.now (g.met.S.Sink.rests c.args.out.now)) (kept_in g.K.Keep.keeper c.args.keep.now c.args.keep.now)
+    (none_kept g.K.Keep.keeper c.args.keep.now (g.met.K.Keep.rests c.args.keep.now)) c.args.bytes.now c.in_err-taken-in-Heads.field-0.0 few (c.in_err-taken-in-Heads.ensures.takes heard inside.0))
+
+pub returns-in_default-clause-kept : goal.returns-in_default-clause-kept
+returns-in_default-clause-kept g c heard written before h few stand =
+    let old = c.args.self.now in
+    let bytes = c.args.bytes.now in
+    let taken = c.in_ok-taken-in-Heads.taken in
+    let all = heard ++ take taken bytes in
+    let out = into g.S.Sink.sink c.args.out.now c.args.out.now in
+    let put = put_nothing _ g.S.Sink.sink c.args.out.now (g.met.S.Sink.rests c.args.out.now) in
+    let keeping = kept_in g.K.Keep.keeper c.args.keep.now c.args.keep.now in
+    let kept = none_kept g.K.Keep.keeper c.args.keep.now (g.met.K.Keep.rests c.args.keep.now) in
+    let laws = c.heads_go_on.ensures in
+    let inside = in_heads old.query old.limits old.stage c.in-Heads.heads heard written c.in-Heads.is h.at in
+    let there = heads_none c.take.new.self all c.in_ok-taken-in-Heads.head c.in_default.is (c.in_ok-taken-in-Heads.ensures.takes heard inside.0) in
+    let none = before_heads old c.in-Heads.heads heard written c.in-Heads.is h laws before stand out put keeping kept in
+    step_keeps laws old.query old.limits c.behind_heads-told.result all before written out keeping c.behind_heads-told.ensures.done
+    (stands_nothing old.query old.limits all before keeping (heads_stand laws old.query old.limits all before (open_of c.take.new.self all there) none) kept)
+
+pub returns-in_err-content-in-Heads-clause-kept : goal.returns-in_err-content-in-Heads-clause-kept
+returns-in_err-content-in-Heads-clause-kept g c heard written before h few stand =
+    let p = err_from_is_err_and c.from_residual-in_err-content-in-Heads.result c.from_residual-in_err-content-in-Heads.ensures.1 in
+    let old = c.args.self.now in
+    let bytes = c.args.bytes.now in
+    let taken = c.in_ok-taken-in-Heads.taken in
+    let inside = in_heads old.query old.limits old.stage c.in-Heads.heads heard written c.in-Heads.is h.at in
+    let final = heads_some c.take.new.self (heard ++ take taken bytes) c.in_ok-taken-in-Heads.head c.in-Some.head c.in-Some.is (c.in_ok-taken-in-Heads.ensures.takes heard inside.0) in
+    rw (p.1, p.2)
+    (head_keeps old c.in-Heads.heads heard written c.in-Heads.is h c.heads_go_on.ensures before stand (into g.S.Sink.sink c.args.out.now c.args.out.now)
+    (put_nothing _ g.S.Sink.sink c.args.out.now (g.met.S.Sink.rests c.args.out.now)) (kept_in g.K.Keep.keeper c.args.keep.now c.args.keep.now)
+    (none_kept g.K.Keep.keeper c.args.keep.now (g.met.K.Keep.rests c.args.keep.now)) bytes c.in-Some.head taken c.in_err-content-in-Heads.field-0.0 few final
+    c.in_err-content-in-Heads.ensures.begins)
+
+pub returns-in_ok-content-in-Heads-clause-kept : goal.returns-in_ok-content-in-Heads-clause-kept
+returns-in_ok-content-in-Heads-clause-kept g c heard written before h few stand =
+    let old = c.args.self.now in
+    let bytes = c.args.bytes.now in
+    let taken = c.in_ok-taken-in-Heads.taken in
+    let all = heard ++ take taken bytes in
+    let out = into g.S.Sink.sink c.args.out.now c.args.out.now in
+    let put = put_nothing _ g.S.Sink.sink c.args.out.now (g.met.S.Sink.rests c.args.out.now) in
+    let keeping = kept_in g.K.Keep.keeper c.args.keep.now c.args.keep.now in
+    let kept = none_kept g.K.Keep.keeper c.args.keep.now (g.met.K.Keep.rests c.args.keep.now) in
+    let laws = c.heads_go_on.ensures in
+    let inside = in_heads old.query old.limits old.stage c.in-Heads.heads heard written c.in-Heads.is h.at in
+    let final = heads_some c.take.new.self all c.in_ok-taken-in-Heads.head c.in-Some.head c.in-Some.is (c.in_ok-taken-in-Heads.ensures.takes heard inside.0) in
+    let none = before_heads old c.in-Heads.heads heard written c.in-Heads.is h laws before stand out put keeping kept in
+    let made = c.in_ok-content-in-Heads in
+    step_keeps laws old.query old.limits c.behind_heads-told.result all before written out keeping c.behind_heads-told.ensures.done
+    (begins_keeping laws old.query old.limits c.bodies_go_on.ensures made.content c.in-Some.head all before keeping final made.ensures.begins made.ensures.fresh none kept)
+
+pub returns-in_err-taken-in-Content-clause-kept : goal.returns-in_err-taken-in-Content-clause-kept
+returns-in_err-taken-in-Content-clause-kept g c heard written before h few stand =
+    let p = err_from_is_err_and c.from_residual-in_err-taken-in-Content.result c.from_residual-in_err-taken-in-Content.ensures.1 in
+    let old = c.args.self.now in
+    rw (p.1, p.2)
+    (c.in_err-taken-in-Content.ensures.kept old.query old.limits heard written before (in_content old.query old.limits old.stage c.in-Content.content heard written c.in-Content.is h.at) few stand)
+
+pub returns-then-ne-clause-kept : goal.returns-then-ne-clause-kept
+returns-then-ne-clause-kept g c heard written before h few stand =
+    let old = c.args.self.now in
+    c.in_ok-taken-in-Content.ensures.kept old.query old.limits heard written before (in_content old.query old.limits old.stage c.in-Content.content heard written c.in-Content.is h.at) few stand
+
+pub returns-else-ne-clause-kept : goal.returns-else-ne-clause-kept
+returns-else-ne-clause-kept g c heard written before h few stand =
+    let old = c.args.self.now in
+    c.in_ok-taken-in-Content.ensures.kept old.query old.limits heard written before (in_content old.query old.limits old.stage c.in-Content.content heard written c.in-Content.is h.at) few stand

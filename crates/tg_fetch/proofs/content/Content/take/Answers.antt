@@ -7,9 +7,12 @@ use Rattle.tg_body.specs.History.{HasFeedCause}
 use Rattle.tg_body.specs.State.{StandsFor}
 use Rattle.tg_body.specs.declared.body.Body.TheVariants as bodies
 use Rattle.tg_http.specs.declared.framing.Framing.{Framing}
+use Rattle.tg_model.specs.Stores.{kept_in}
 use Rattle.tg_streams.specs.Streams.{into}
 use Rattle.tg_fetch.proofs.Contents.{answered, closed_by, failed, framing_refused, goes_on, is_short, no_end, part_refused, takes_nothing, text_by, told_as}
 use Rattle.tg_fetch.proofs.Feeding.{front_few}
+use Rattle.tg_fetch.proofs.KeptReplies.{content_stands, framing_keeps, goes_on_nothing, part_keeps, taken_here, whole_answered, whole_refused}
+use Rattle.tg_fetch.proofs.KeptSections.{none_kept}
 use Rattle.tg_fetch.proofs.content.Content.take.Goals as goal
 
 pub returns-in_err-taken-clause-takes : goal.returns-in_err-taken-clause-takes
@@ -89,3 +92,86 @@ returns-in_ok-end-in-End-clause-takes g c q limits heard written h few =
     (text_by q limits c.args.self.now heard written h c.feed.new.self h.given (h.rest ++ front) c.in_ok-taken.ensures.framing reads)
     (closed_by q limits c.args.self.now heard written h c.feed.new.self h.given (h.rest ++ front) false c.in_ok-taken.ensures.framing reads)
     (c.in_ok-end-in-End.ensures.ends q limits h.head h.given written h.taking)
+
+-- ---- which sections were kept
+
+pub returns-in_err-taken-clause-kept : goal.returns-in_err-taken-clause-kept
+returns-in_err-taken-clause-kept g c q limits heard written before h few stand =
+    let p = err_from_is_err_and c.from_residual.result c.from_residual.ensures.1 in
+    let stopped = c.in_err-taken.ensures.stands _ h.reads in
+    let fault = c.in_err-taken.field-0.0 in
+    let cause : HasFeedCause h.head.framing h.rest h.given c.args.bytes.now fault =
+    subst (λ (f : Framing). HasFeedCause f h.rest h.given c.args.bytes.now fault) (c.in_err-taken.ensures.framing ∙ h.framing) stopped.exact.stopped.1 in
+    rw (p.1, p.2)
+    (framing_keeps c.heads_go_on.ensures c.bodies_go_on.ensures q limits c.args.self.now heard written h c.standing_bodies.ensures c.received_sections.ensures.one
+    _ g.S.Sink.sink c.args.out.now (g.met.S.Sink.rests c.args.out.now) before (kept_in g.K.Keep.keeper c.args.keep.now c.args.keep.now) stand
+    (none_kept g.K.Keep.keeper c.args.keep.now (g.met.K.Keep.rests c.args.keep.now)) c.args.bytes.now fault few cause)
+
+pub returns-in_err-take-in-Part-clause-kept : goal.returns-in_err-take-in-Part-clause-kept
+returns-in_err-take-in-Part-clause-kept g c q limits heard written before h few stand =
+    let p = err_from_is_err_and c.from_residual-in_err-take-in-Part.result c.from_residual-in_err-take-in-Part.ensures.1 in
+    let piece : List ℕ = c.args.bytes.now in
+    let part : List ℕ = slice_range piece c.in-Part.start c.in-Part.end in
+    let reads = told_as q limits c.args.self.now heard written h c.feed.new.self piece c.in_ok-taken.taken c.in_ok-taken.told
+    (bodies.Part c.in-Part.start c.in-Part.end) c.in-Part.is (c.in_ok-taken.ensures.stands _ h.reads) in
+    rw (p.1, p.2)
+    (part_keeps c.heads_go_on.ensures c.bodies_go_on.ensures q limits c.args.self.now heard written h c.feed.new.self (h.given ++ part) (take c.in_ok-taken.taken piece)
+    (drop c.in_ok-taken.taken piece) piece before (into g.S.Sink.sink c.args.out.now c.take.new.out) (kept_in g.K.Keep.keeper c.args.keep.now c.take.new.keep)
+    c.in_err-take-in-Part.field-0.0 (sym (take-append-drop c.in_ok-taken.taken piece)) (front_few heard piece c.in_ok-taken.taken limits.received few) c.in_ok-taken.ensures.framing reads
+    (c.in_err-take-in-Part.ensures.kept q limits h.head h.given written before h.taking
+    (taken_here c.heads_go_on.ensures c.bodies_go_on.ensures q limits c.args.self.now heard written h before stand)))
+
+pub returns-in_err-end-in-End-clause-kept : goal.returns-in_err-end-in-End-clause-kept
+returns-in_err-end-in-End-clause-kept g c q limits heard written before h few stand =
+    let p = err_from_is_err_and c.from_residual-in_err-end-in-End.result c.from_residual-in_err-end-in-End.ensures.1 in
+    let piece : List ℕ = c.args.bytes.now in
+    let front : List ℕ = take c.in_ok-taken.taken piece in
+    let keeping = kept_in g.K.Keep.keeper c.args.keep.now c.args.keep.now in
+    let reads = told_as q limits c.args.self.now heard written h c.feed.new.self piece c.in_ok-taken.taken c.in_ok-taken.told
+    bodies.End c.in-End.is (c.in_ok-taken.ensures.stands _ h.reads) in
+    let text = text_by q limits c.args.self.now heard written h c.feed.new.self h.given (h.rest ++ front) c.in_ok-taken.ensures.framing reads in
+    rw (p.1, p.2)
+    (whole_refused c.heads_go_on.ensures c.bodies_go_on.ensures q limits c.args.self.now heard written h front (drop c.in_ok-taken.taken piece) piece before
+    (into g.S.Sink.sink c.args.out.now c.end.new.out) keeping c.in_err-end-in-End.field-0.0 (sym (take-append-drop c.in_ok-taken.taken piece))
+    (front_few heard piece c.in_ok-taken.taken limits.received few) text
+    (closed_by q limits c.args.self.now heard written h c.feed.new.self h.given (h.rest ++ front) false c.in_ok-taken.ensures.framing reads)
+    (none_kept g.K.Keep.keeper c.args.keep.now (g.met.K.Keep.rests c.args.keep.now))
+    (c.in_err-end-in-End.ensures.kept q limits h.head h.given written before h.taking
+    (taken_here c.heads_go_on.ensures c.bodies_go_on.ensures q limits c.args.self.now heard written h before stand)))
+
+pub returns-in-Need-clause-kept : goal.returns-in-Need-clause-kept
+returns-in-Need-clause-kept g c q limits heard written before h few stand =
+    let piece : List ℕ = c.args.bytes.now in
+    let reads = told_as q limits c.args.self.now heard written h c.feed.new.self piece c.in_ok-taken.taken c.in_ok-taken.told
+    bodies.Need c.in-Need.is (c.in_ok-taken.ensures.stands _ h.reads) in
+    content_stands c.heads_go_on.ensures c.bodies_go_on.ensures q limits c.args.self.now heard written h c.feed.new.self c.args.self.now.sections h.given
+    (take c.in_ok-taken.taken piece) written before (kept_in g.K.Keep.keeper c.args.keep.now c.args.keep.now) c.in_ok-taken.ensures.framing reads h.taking
+    (goes_on_nothing c.args.self.now.sections limits h.given before (kept_in g.K.Keep.keeper c.args.keep.now c.args.keep.now)
+    (taken_here c.heads_go_on.ensures c.bodies_go_on.ensures q limits c.args.self.now heard written h before stand)
+    (none_kept g.K.Keep.keeper c.args.keep.now (g.met.K.Keep.rests c.args.keep.now)))
+
+pub returns-in_ok-take-in-Part-clause-kept : goal.returns-in_ok-take-in-Part-clause-kept
+returns-in_ok-take-in-Part-clause-kept g c q limits heard written before h few stand =
+    let piece : List ℕ = c.args.bytes.now in
+    let part : List ℕ = slice_range piece c.in-Part.start c.in-Part.end in
+    let reads = told_as q limits c.args.self.now heard written h c.feed.new.self piece c.in_ok-taken.taken c.in_ok-taken.told
+    (bodies.Part c.in-Part.start c.in-Part.end) c.in-Part.is (c.in_ok-taken.ensures.stands _ h.reads) in
+    let t = c.in_ok-take-in-Part.ensures.takes q limits h.head h.given written h.taking in
+    content_stands c.heads_go_on.ensures c.bodies_go_on.ensures q limits c.args.self.now heard written h c.feed.new.self c.take.new.self (h.given ++ part)
+    (take c.in_ok-taken.taken piece) (written ++ t.text) before (kept_in g.K.Keep.keeper c.args.keep.now c.take.new.keep) c.in_ok-taken.ensures.framing reads t.taking
+    (c.in_ok-take-in-Part.ensures.kept q limits h.head h.given written before h.taking
+    (taken_here c.heads_go_on.ensures c.bodies_go_on.ensures q limits c.args.self.now heard written h before stand))
+
+pub returns-in_ok-end-in-End-clause-kept : goal.returns-in_ok-end-in-End-clause-kept
+returns-in_ok-end-in-End-clause-kept g c q limits heard written before h few stand =
+    let piece : List ℕ = c.args.bytes.now in
+    let front : List ℕ = take c.in_ok-taken.taken piece in
+    let keeping = kept_in g.K.Keep.keeper c.args.keep.now c.args.keep.now in
+    let reads = told_as q limits c.args.self.now heard written h c.feed.new.self piece c.in_ok-taken.taken c.in_ok-taken.told
+    bodies.End c.in-End.is (c.in_ok-taken.ensures.stands _ h.reads) in
+    whole_answered c.heads_go_on.ensures c.bodies_go_on.ensures q limits c.args.self.now heard written h front before (into g.S.Sink.sink c.args.out.now c.end.new.out) keeping
+    (text_by q limits c.args.self.now heard written h c.feed.new.self h.given (h.rest ++ front) c.in_ok-taken.ensures.framing reads)
+    (closed_by q limits c.args.self.now heard written h c.feed.new.self h.given (h.rest ++ front) false c.in_ok-taken.ensures.framing reads)
+    (none_kept g.K.Keep.keeper c.args.keep.now (g.met.K.Keep.rests c.args.keep.now))
+    (c.in_ok-end-in-End.ensures.kept q limits h.head h.given written before h.taking
+    (taken_here c.heads_go_on.ensures c.bodies_go_on.ensures q limits c.args.self.now heard written h before stand))

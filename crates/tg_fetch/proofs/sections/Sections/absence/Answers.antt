@@ -2,8 +2,8 @@ use Rattle.std.proofs.Common.{[], refl}
 use Rattle.tg_fetch.proofs.Taking.{some_wanted}
 use Rattle.tg_fetch.proofs.sections.Sections.absence.Goals as goal
 
-pub returns : goal.returns
-returns c head is =
+pub returns-clause-taking : goal.returns-clause-taking
+returns-clause-taking c head is =
     let made = c.in_ok-absence in (
       record {
         is_head = is;
