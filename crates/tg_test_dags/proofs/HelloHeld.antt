@@ -3,7 +3,7 @@ use Rattle.std.proofs.Common.{All, List, Option, Some, [], ap, arith, inl, inr, 
 use Rattle.std.proofs.lemmas.List.Elements.{All-cons, All-contains, All-nil}
 use Rattle.std.specs.Prelude.{None, bytes_eq, if◌then◌else◌}
 use Rattle.tg_cid.specs.Cid.{CidParts}
-use Rattle.tg_mirror.specs.Mirrored.{CollisionWithin, HoldsHashed, HoldsNothing, MirroredHolds, ServesAs, ServesHashed}
+use Rattle.tg_mirror_laws.specs.Mirrored.{CollisionWithin, HoldsHashed, HoldsNothing, MirroredHolds, ServesAs, ServesHashed}
 use Rattle.tg_model.specs.Dag.{Section}
 use Rattle.tg_model.specs.Sound.{IsSound}
 use Rattle.tg_model.specs.Stores.{AddsEach, IsStore, Store}

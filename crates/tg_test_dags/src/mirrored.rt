@@ -1,6 +1,6 @@
 //! The worked example of what a mirror holds: a directory over a file of three leaves.
 ghost use Rattle.std.specs.Prelude.{All, None, Some, [], ◌≡◌};
-ghost use Rattle.tg_mirror.specs.Mirrored.{HoldsNothing, ServesAs};
+ghost use Rattle.tg_mirror_laws.specs.Mirrored.{HoldsNothing, ServesAs};
 ghost use Rattle.tg_model.specs.Stores.{AddsEach, IsStore, Store};
 ghost use Rattle.tg_model.specs.Traversal.{block_list};
 ghost use Rattle.tg_model.specs.declared.queries.Scope.TheVariants as scopes;
@@ -19,5 +19,5 @@ pub fn hello_mirrored()
         → AddsEach old new all_sections → ServesAs new whole_dag }
 {
     tg_oracle::example_whole();
-    tg_mirror::laws::mirrored_dags();
+    tg_mirror_laws::laws::mirrored_dags();
 }

@@ -1,0 +1,3 @@
+mod Digests
+mod Mirroring
+mod SameReplies
