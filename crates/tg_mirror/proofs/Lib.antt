@@ -1,3 +1,5 @@
-mod Digests
-mod Mirroring
-mod SameReplies
+mod Counts
+mod Serving
+mod Keeping
+mod Steps
+mod Ends

@@ -1,4 +1,11 @@
-//! The mirror: a whole DAG is fetched from a gateway that isn't trusted into a store that serves as its original.
+//! The mirror: a whole DAG is fetched from a gateway that isn't trusted into a pack that serves as its original.
 #![tactic(auto)]
 
-pub mod laws;
+mod fault;
+mod filling;
+mod mirrored;
+mod mirroring;
+
+pub use fault::MirrorFault;
+pub use mirrored::Mirrored;
+pub use mirroring::mirror;
