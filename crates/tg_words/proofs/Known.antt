@@ -1,9 +1,10 @@
 -- The options that stand in words have the names of the command.
-use Rattle.std.proofs.Common.{ℕ, inl, inr, List, [], ◌∷◌, Option, Some, None, sym, subst}
+use Rattle.std.proofs.Common.{◌≡◌, ℕ, inl, inr, List, [], ◌∷◌, Option, Some, None, refl, sym, subst}
 use Rattle.std.specs.Prelude.{Contains}
 use Rattle.tg_bytes.specs.Lists.{none_in}
+use Rattle.tg_words.specs.CommandLine.{no_names}
 use Rattle.tg_words.specs.Words.{Names, Given, Item, positional, valued, flag, ItemsSpelling, options_of, WordsSpelling}
-use Rattle.tg_words.proofs.Naming.{first_or_later}
+use Rattle.tg_words.proofs.Naming.{at_first, first_or_later}
 
 -- each option of a command has one of the command's names, and a value where that name is one with a value
 abbrev pub IsKnown : Names → List ℕ → Option (List ℕ) → Type 0
@@ -31,3 +32,12 @@ known_by names (flag name ∷ items) front spelled =
 
 pub known : (names : Names) (words texts_in : List (List ℕ)) (options : List Given) → WordsSpelling names words texts_in options → AreKnown names options
 known names words texts_in options s = subst (AreKnown names) (sym s.reading.options_are) (known_by names s.reading.items s.reading.front s.reading.spelled)
+
+-- a command without options has none
+pub no_options_by : (options : List Given) → AreKnown no_names options → options ≡ []
+no_options_by [] known = refl
+no_options_by ((name, Some value) ∷ options) known = absurd (none_in name (known (name, Some value) (at_first (name, Some value) (name, Some value) options refl)))
+no_options_by ((name, None) ∷ options) known = absurd (none_in name (known (name, None) (at_first (name, None) (name, None) options refl)))
+
+pub no_options : (words texts_in : List (List ℕ)) (options : List Given) → WordsSpelling no_names words texts_in options → WordsSpelling no_names words texts_in []
+no_options words texts_in options s = subst (λ o. WordsSpelling no_names words texts_in o) (no_options_by options (known no_names words texts_in options s)) s

@@ -16,6 +16,7 @@ mod ExportAnswers
 mod FetchAnswers
 mod Addrs
 mod ImportAnswers
+mod MirrorAnswers
 mod VerifyAnswers
 mod ServeAnswers
 mod AuditAnswers

@@ -13,11 +13,12 @@ use Rattle.tg_words.specs.CommandLine.{OperandLine, CidHexLine, CidLine, OneCidL
 use Rattle.tg_model.specs.Queries.{QueryParts}
 use Rattle.tg_words.specs.FetchLines.{fetch_names}
 use Rattle.tg_words.specs.ImportLines.{import_names}
+use Rattle.tg_words.specs.MirrorLines.{mirror_names}
 use Rattle.tg_words.specs.QueryWords.{query_names}
 use Rattle.tg_words.specs.ServeLines.{serve_names}
 use Rattle.tg_words.specs.Operands.{Answers, Exact, OneCid, QueryBy, RawGiven, givens, texts_of, value_at}
 use Rattle.tg_words.specs.declared.Command.{Command}
-use Rattle.tg_words.specs.declared.Command.TheVariants.{Check, Node, CidToHex, CidToText, Export, Import, Verify, Serve, Fetch, Audit, Help, Version}
+use Rattle.tg_words.specs.declared.Command.TheVariants.{Check, Node, CidToHex, CidToText, Export, Import, Verify, Serve, Fetch, Mirror, Audit, Help, Version}
 use Rattle.tg_words.specs.declared.WordsFault.{WordsFault}
 use Rattle.tg_words.specs.declared.WordsFault.TheVariants.{Usage, OutOfMemory}
 use Rattle.tg_words.specs.declared.operands.GivenOption.{GivenOption}
@@ -27,9 +28,10 @@ use Rattle.tg_words.proofs.AuditAnswers.{audit_by, audit_form, audit_line, one_a
 use Rattle.tg_words.proofs.ExportAnswers.{export_by, export_form, export_line, one_export}
 use Rattle.tg_words.proofs.FetchAnswers.{fetch_by, fetch_form, fetch_line, one_fetch}
 use Rattle.tg_words.proofs.ImportAnswers.{import_by, import_form, import_line, one_import}
+use Rattle.tg_words.proofs.MirrorAnswers.{mirror_by, mirror_form, mirror_line, one_mirror}
 use Rattle.tg_words.proofs.ServeAnswers.{one_serve, serve_by, serve_form, serve_line}
 use Rattle.tg_words.proofs.VerifyAnswers.{verify_by, verify_form, verify_line}
-use Rattle.tg_words.proofs.Known.{AreKnown, known}
+use Rattle.tg_words.proofs.Known.{AreKnown, known, no_options}
 use Rattle.tg_words.proofs.Naming.{are_by, at_first, later_too, first_or_later}
 
 -- `check` and `node`
@@ -39,15 +41,6 @@ IsOneCid make rest command = (cid : CidParts) × (command ≡ make cid) × OneCi
 one_cid_of : (name : List ℕ) (make : CidParts → Command) (rest : List (List ℕ)) (cid : CidParts) → OneCidLine name (name ∷ rest) cid → IsOneCid make rest (make cid)
 one_cid_of name make rest cid line =
     (cid, refl, record { text = line.text; operands = the_line name no_names rest (line.text ∷ []) [] line.line; text_is = line.text_is })
-
--- a command without options has none
-no_options_by : (options : List Given) → AreKnown no_names options → options ≡ []
-no_options_by [] known = refl
-no_options_by ((name, Some value) ∷ options) known = absurd (none_in name (known (name, Some value) (at_first (name, Some value) (name, Some value) options refl)))
-no_options_by ((name, None) ∷ options) known = absurd (none_in name (known (name, None) (at_first (name, None) (name, None) options refl)))
-
-pub no_options : (words texts_in : List (List ℕ)) (options : List Given) → WordsSpelling no_names words texts_in options → WordsSpelling no_names words texts_in []
-no_options words texts_in options s = subst (λ o. WordsSpelling no_names words texts_in o) (no_options_by options (known no_names words texts_in options s)) s
 
 -- `cid`
 abbrev pub hex_option : List ℕ → Given
@@ -109,7 +102,8 @@ IsAsked name rest command =
     (Where (bytes_eq name (codes "verify")) (IsOf verify_form rest command)
     (Where (bytes_eq name (codes "serve")) (IsOf serve_form rest command)
     (Where (bytes_eq name (codes "fetch")) (IsOf fetch_form rest command)
-    (Where (bytes_eq name (codes "audit")) (IsOf audit_form rest command) ⊥))))))))
+    (Where (bytes_eq name (codes "mirror")) (IsOf mirror_form rest command)
+    (Where (bytes_eq name (codes "audit")) (IsOf audit_form rest command) ⊥)))))))))
 
 named : (name other : List ℕ) (rest more : List (List ℕ)) (command : Command) → name ∷ rest ≡ other ∷ more
     → (OperandLine (other ∷ rest) command → IsAsked other rest command) → OperandLine (name ∷ rest) command → IsAsked name rest command
@@ -127,6 +121,7 @@ asked_by_line name rest (Import parts) line = named name (codes "import") rest l
 asked_by_line name rest (Verify query) line = named name (codes "verify") rest line.line.rest (Verify query) line.line.begins (verify_line rest query) line
 asked_by_line name rest (Serve parts) line = named name (codes "serve") rest line.line.rest (Serve parts) line.line.begins (serve_line rest parts) line
 asked_by_line name rest (Fetch parts) line = named name (codes "fetch") rest line.line.rest (Fetch parts) line.line.begins (fetch_line rest parts) line
+asked_by_line name rest (Mirror parts) line = named name (codes "mirror") rest line.line.rest (Mirror parts) line.line.begins (mirror_line rest parts) line
 asked_by_line name rest (Audit parts) line = named name (codes "audit") rest line.line.rest (Audit parts) line.line.begins (audit_line rest parts) line
 asked_by_line name rest (Help topic) line = absurd line
 asked_by_line name rest Version line = absurd line
@@ -145,6 +140,9 @@ serve_lines = record { reads = asked_by_line (codes "serve"); writes = serve_by 
 
 pub fetch_lines : Lines fetch_form
 fetch_lines = record { reads = asked_by_line (codes "fetch"); writes = fetch_by }
+
+pub mirror_lines : Lines mirror_form
+mirror_lines = record { reads = asked_by_line (codes "mirror"); writes = mirror_by }
 
 pub audit_lines : Lines audit_form
 audit_lines = record { reads = asked_by_line (codes "audit"); writes = audit_by }
@@ -267,6 +265,8 @@ one_line one_cid no_front one_query one_raw words (Serve parts) b line other =
     one_of_form serve_form words line.line.rest (Serve parts) b serve_lines (are_by serve_names refl) one_serve line.line.begins line other
 one_line one_cid no_front one_query one_raw words (Fetch parts) b line other =
     one_of_form fetch_form words line.line.rest (Fetch parts) b fetch_lines (are_by fetch_names refl) (one_fetch one_raw one_query) line.line.begins line other
+one_line one_cid no_front one_query one_raw words (Mirror parts) b line other =
+    one_of_form mirror_form words line.line.rest (Mirror parts) b mirror_lines (are_by mirror_names refl) (one_mirror one_cid) line.line.begins line other
 one_line one_cid no_front one_query one_raw words (Audit parts) b line other =
     one_of_form audit_form words line.line.rest (Audit parts) b audit_lines (are_by audit_names refl) one_audit line.line.begins line other
 one_line one_cid no_front one_query one_raw words (Help topic) b line other = absurd line

@@ -1,13 +1,14 @@
--- The answers to the lines of a command whose positional words are of one form, as none, one or two.
+-- The answers to the lines of a command whose positional words are of one form, as none, one, two or three.
 use Rattle.std.proofs.Common.{◌≡◌, ℕ, List, [], ◌∷◌, Ok, Err, refl, sym, ap, ap₂, ◌∙◌, subst}
 use Rattle.std.specs.Prelude.{Result, ⊤}
 use Rattle.tg_bytes.specs.Lists.{same_only}
 use Rattle.tg_words.specs.Words.{Names, Given, Line, WordsSpelling}
-use Rattle.tg_words.specs.CommandLine.{OperandLine}
+use Rattle.tg_words.specs.CommandLine.{OperandLine, no_names}
 use Rattle.tg_words.specs.Operands.{Answers, Exact}
 use Rattle.tg_words.specs.declared.Command.{Command}
 use Rattle.tg_words.specs.declared.WordsFault.{WordsFault}
 use Rattle.tg_words.specs.declared.WordsFault.TheVariants.{OutOfMemory}
+use Rattle.tg_words.proofs.Known.{known, no_options_by}
 use Rattle.tg_words.proofs.Readings.{AreNames, one_spelling_of_words}
 
 -- an answer that lacks a part
@@ -32,6 +33,18 @@ abbrev pub two_words : Writing (List ℕ × List ℕ)
 two_words = record {
   texts = λ pair. pair.0 ∷ pair.1 ∷ [];
   one = λ a b same. let are = two_are a.0 a.1 b.0 b.1 same in ap₂ (λ first second. (first, second)) are.0 are.1;
+}
+
+pub same_three : (a b c : List ℕ) (others : List ℕ × List ℕ × List ℕ) → a ≡ others.0 → b ≡ others.1 → c ≡ others.2 → (a, b, c) ≡ others
+same_three a b c (x, y, z) first second third = cc
+
+pub three_are : (a b c d e f : List ℕ) → a ∷ b ∷ c ∷ [] ≡ d ∷ e ∷ f ∷ [] → (a ≡ d) × (b ≡ e) × (c ≡ f)
+three_are a b c d e f same = let first : a ≡ d = cc in let second : b ≡ e = cc in let third : c ≡ f = cc in (first, second, third)
+
+abbrev pub three_words : Writing (List ℕ × List ℕ × List ℕ)
+three_words = record {
+  texts = λ three. three.0 ∷ three.1 ∷ three.2 ∷ [];
+  one = λ a b same. let are = three_are a.0 a.1 a.2 b.0 b.1 b.2 same in same_three a.0 a.1 a.2 b are.0 are.1 are.2;
 }
 
 -- a command's name and options, how its positional words are written, and what these and the options ask
@@ -118,6 +131,14 @@ pub two_only : (names : Names) (rest : List (List ℕ)) (first second : List ℕ
     → ((a b : List ℕ) (more : List Given) → WordsSpelling names rest (a ∷ b ∷ []) more → (first ≡ a) × (second ≡ b) × (options ≡ more))
     → (pair : List ℕ × List ℕ) (more : List Given) → WordsSpelling names rest (two_words.texts pair) more → ((first, second) ≡ pair) × (options ≡ more)
 two_only names rest first second options only pair more s = let same = only pair.0 pair.1 more s in (ap₂ (λ a b. (a, b)) same.0 same.1, same.2)
+
+-- and of three, where the command has no options
+pub three_only : (rest : List (List ℕ)) (first second third : List ℕ)
+    → ((a b c : List ℕ) (more : List Given) → WordsSpelling no_names rest (a ∷ b ∷ c ∷ []) more → (first ≡ a) × (second ≡ b) × (third ≡ c))
+    → (three : List ℕ × List ℕ × List ℕ) (more : List Given) → WordsSpelling no_names rest (three_words.texts three) more → ((first, second, third) ≡ three) × ([] ≡ more)
+three_only rest first second third only three more s =
+    let same = only three.0 three.1 three.2 more s in
+    (same_three first second third three same.0 same.1 same.2, sym (no_options_by more (known no_names rest (three_words.texts three) more s)))
 
 -- the words are one command
 pub one_of_form : {Words Parts : Type 0} (form : Form Words Parts) (words rest : List (List ℕ)) (a b : Command) → Lines form → AreNames form.names

@@ -1,5 +1,5 @@
 -- What asks for help or for the version, that words ask for one thing, and the answer to them.
-use Rattle.std.proofs.Common.{◌≡◌, ◌≢◌, ℕ, ◌≤◌, ◌⊎◌, inl, inr, List, [], ◌∷◌, length, codes, Option, Some, None, Ok, Err, refl, sym, ap, ◌∙◌, subst, arith, Bool, true, false, cond}
+use Rattle.std.proofs.Common.{◌≡◌, ◌≢◌, ℕ, ◌≤◌, ◌⊎◌, inl, inr, List, [], ◌∷◌, length, codes, Option, Some, None, Ok, Err, refl, sym, ap, ◌∙◌, arith, Bool, true, cond}
 use Rattle.std.specs.Prelude.{◌==◌, Result, IfOk, IfSome, IsErrOf, MatchResult}
 use Rattle.std.proofs.lemmas.Bool.Decides.{nat_tests}
 use Rattle.std.specs.Str.{bytes_eq}
@@ -7,7 +7,7 @@ use Rattle.tg_words.specs.CommandLine.{AskNoText, BeginsCommand, CommandLine, He
 use Rattle.tg_words.specs.Names.{name_text}
 use Rattle.tg_words.specs.Operands.{Answers}
 use Rattle.tg_words.specs.declared.Command.{Command}
-use Rattle.tg_words.specs.declared.Command.TheVariants.{Check, Node, CidToHex, CidToText, Export, Import, Verify, Serve, Fetch, Audit, Help, Version}
+use Rattle.tg_words.specs.declared.Command.TheVariants.{Check, Node, CidToHex, CidToText, Export, Import, Verify, Serve, Fetch, Mirror, Audit, Help, Version}
 use Rattle.tg_words.specs.declared.WordsFault.{WordsFault}
 use Rattle.tg_words.specs.declared.WordsFault.TheVariants.{Usage, OutOfMemory}
 use Rattle.tg_words.specs.declared.names.CommandName.{CommandName}
@@ -26,9 +26,10 @@ named word =
     (cond (bytes_eq word (codes "verify")) (Some names.Verify)
     (cond (bytes_eq word (codes "serve")) (Some names.Serve)
     (cond (bytes_eq word (codes "fetch")) (Some names.Fetch)
+    (cond (bytes_eq word (codes "mirror")) (Some names.Mirror)
     (cond (bytes_eq word (codes "audit")) (Some names.Audit)
     (cond (bytes_eq word (codes "help")) (Some names.Help)
-    (cond (bytes_eq word (codes "version")) (Some names.Version) None))))))))))
+    (cond (bytes_eq word (codes "version")) (Some names.Version) None)))))))))))
 
 is_named : (name : CommandName) → named (name_text name) ≡ Some name
 is_named names.Check = refl
@@ -39,6 +40,7 @@ is_named names.Import = refl
 is_named names.Verify = refl
 is_named names.Serve = refl
 is_named names.Fetch = refl
+is_named names.Mirror = refl
 is_named names.Audit = refl
 is_named names.Help = refl
 is_named names.Version = refl
@@ -60,6 +62,7 @@ of_help names.Import = refl
 of_help names.Verify = refl
 of_help names.Serve = refl
 of_help names.Fetch = refl
+of_help names.Mirror = refl
 of_help names.Audit = refl
 of_help names.Help = refl
 of_help names.Version = refl
@@ -166,6 +169,7 @@ begins_by words (Import parts) line = record { name = names.Import; rest = line.
 begins_by words (Verify query) line = record { name = names.Verify; rest = line.line.rest; begins = line.line.begins }
 begins_by words (Serve parts) line = record { name = names.Serve; rest = line.line.rest; begins = line.line.begins }
 begins_by words (Fetch parts) line = record { name = names.Fetch; rest = line.line.rest; begins = line.line.begins }
+begins_by words (Mirror parts) line = record { name = names.Mirror; rest = line.line.rest; begins = line.line.begins }
 begins_by words (Audit parts) line = record { name = names.Audit; rest = line.line.rest; begins = line.line.begins }
 begins_by words (Help topic) line = absurd line
 begins_by words Version line = absurd line

@@ -3,6 +3,7 @@ pub mod Words
 pub mod QueryWords
 pub mod ExportLines
 pub mod ImportLines
+pub mod MirrorLines
 pub mod VerifyLines
 pub mod ServeLines
 pub mod FetchLines

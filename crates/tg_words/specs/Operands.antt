@@ -31,6 +31,7 @@ use Rattle.tg_words.specs.AuditLines.{AuditParts}
 use Rattle.tg_words.specs.ExportLines.{ExportParts}
 use Rattle.tg_words.specs.FetchLines.{FetchParts}
 use Rattle.tg_words.specs.ImportLines.{ImportParts, NumberText}
+use Rattle.tg_words.specs.MirrorLines.{MayRootPack, MirrorParts}
 use Rattle.tg_words.specs.QueryWords.{DupsText, ScopeText, dups_for, scope_for}
 use Rattle.tg_words.specs.ServeLines.{ServeParts}
 use Rattle.tg_words.specs.Words.{Names, Given, WordsSpelling}
@@ -103,6 +104,15 @@ pub record ImportGiven (folder pack : List ℕ) (options : List Given) (parts : 
   pub chunk : NumberGiven (value_at options (codes "chunk")) 1 max_block_len 1048576 parts.chunk
   pub width : NumberGiven (value_at options (codes "width")) 2 4096 1024 parts.width
   pub shard : NumberGiven (value_at options (codes "shard")) 0 1048576 262144 parts.shard
+
+-- a mirror from a gateway at this address of the DAG below the root with this text, into this pack
+pub record MirrorGiven (addr text pack : List ℕ) (parts : MirrorParts) : Type 0 where
+  pub addr_is : parts.addr ≡ addr
+  pub is_addr : IsAddr addr
+  pub root : CidText parts.root text
+  pub may : MayRootPack parts.root
+  pub pack_is : parts.pack ≡ pack
+  pub named : pack ≢ []
 
 -- the number that a value writes, which must stand; it is from `low` to `high`
 pub record NumberNeeded (value : Option (List ℕ)) (low high number : ℕ) : Type 0 where

@@ -89,7 +89,7 @@ fn raw_query(alloc: Global, target: &str, options: &[GivenOption]) -> Result<Que
 
 /// Whether a word has the form HOST:PORT of an address: 3 to 255 visible bytes of ASCII, and behind the last colon one
 /// to five digits that write a port from 1 to 65,535.
-fn is_addr(word: &str) -> bool
+pub fn is_addr(word: &str) -> bool
     ensures { IsTrue result ↔ IsAddr word.now }
 {
     let bytes = word.as_bytes();

@@ -219,6 +219,14 @@ const FETCH: CommandRow = CommandHelp {
     example: "fetch localhost:8080 bafybeihtdtunwt2sx7qvwdcknhnwretbb4zmjieise77ebt4pqxbabimfy/h",
 };
 
+const MIRROR: CommandRow = CommandHelp {
+    name: "mirror",
+    about: "copies all below a root from a gateway into PACK, checked while it comes",
+    forms: &["mirror HOST:PORT ROOT PACK"],
+    options: &[],
+    example: "mirror localhost:8080 bafybeihtdtunwt2sx7qvwdcknhnwretbb4zmjieise77ebt4pqxbabimfy copy.car",
+};
+
 const AUDIT: CommandRow = CommandHelp {
     name: "audit",
     about: "imports, serves and fetches a drawn folder in memory, and compares the answers",
@@ -275,6 +283,7 @@ pub fn help_for(name: CommandName) -> CommandRow
         CommandName::Verify => VERIFY,
         CommandName::Serve => SERVE,
         CommandName::Fetch => FETCH,
+        CommandName::Mirror => MIRROR,
         CommandName::Audit => AUDIT,
         CommandName::Help => HELP,
         CommandName::Version => THIS_VERSION,

@@ -1,7 +1,7 @@
 //! The words of the command line: the grammar of the program's commands, and its reader.
 //!
 //! A command is a name of `CommandName`, a row of help, one line of `dispatch` and a constructor, which has the words behind
-//! the command's name read by `no_operand`, `one_operand`, `two_operands` or, where they are of another form,
+//! the command's name read by `no_operand`, `one_operand`, `two_operands`, `three_operands` or, where they are of another form,
 //! `operands_of`.
 #![tactic(auto)]
 
@@ -21,6 +21,7 @@ mod exports;
 mod fetches;
 mod help;
 mod imports;
+mod mirrors;
 mod names;
 mod operands;
 mod queries;
@@ -40,6 +41,8 @@ pub use help::{
 use hex::FromHexError;
 pub use imports::Import;
 use imports::import_of;
+pub use mirrors::Mirror;
+use mirrors::mirror_of;
 pub use names::CommandName;
 pub use operands::{GivenOption, Operands, OptionNames, operands_of};
 use operands::{one_operand, one_word, value_of};
@@ -92,6 +95,11 @@ pub enum Command {
     /// ADDR is HOST:PORT: 3 to 255 visible bytes of ASCII, and behind the last colon one to five digits that write a
     /// port of 1 to 65,535. S, R, D and the scope are as in `export`; with `--raw` no other option stands, and no path.
     Fetch(Fetch),
+    /// `mirror ADDR ROOT PACK`: all below a root is fetched from a gateway, checked block by block, and written into a pack.
+    ///
+    /// ADDR is as in `fetch`. ROOT is the text of a CIDv1 with sha2-256, other than the root of a pack that isn't finished,
+    /// which is raw with 32 zero bytes of digest. PACK isn't empty.
+    Mirror(Mirror),
     /// `audit --seed N --files N`: the folder that a seed draws is imported in memory, and the answers to queries of it
     /// are compared with what was drawn.
     ///
@@ -304,6 +312,7 @@ fn dispatch(alloc: Global, command: CommandName, words: &[String]) -> Result<Com
         CommandName::Verify => verify_of(alloc, words),
         CommandName::Serve => serve_of(alloc, words),
         CommandName::Fetch => fetch_of(alloc, words),
+        CommandName::Mirror => mirror_of(alloc, words),
         CommandName::Audit => audit_of(alloc, words),
         CommandName::Help | CommandName::Version => Err(WordsFault::Usage),
     }
@@ -359,7 +368,7 @@ fn cid(alloc: Global, words: &[String]) -> Result<Command, WordsFault>
 }
 
 /// The CID that a text spells.
-fn cid_of_text(alloc: Global, text: &str) -> Result<Cid, WordsFault>
+pub(crate) fn cid_of_text(alloc: Global, text: &str) -> Result<Cid, WordsFault>
     ensures found { IfOk result (λ cid. CidText cid text.now) }
     ensures only { (cid : CidParts) → CidText cid text.now
         → MatchResult result (λ found. found ≡ cid) (λ e. e ≡ WordsFault.OutOfMemory) }

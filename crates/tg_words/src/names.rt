@@ -23,6 +23,8 @@ pub enum CommandName {
     Serve,
     /// `fetch`.
     Fetch,
+    /// `mirror`.
+    Mirror,
     /// `audit`.
     Audit,
     /// `help`.
@@ -33,10 +35,11 @@ pub enum CommandName {
 
 impl CommandName {
     /// All of them, in the order in which help tells them.
-    pub const ALL: &'static [CommandName; 11] = &[
+    pub const ALL: &'static [CommandName; 12] = &[
         CommandName::Import,
         CommandName::Serve,
         CommandName::Fetch,
+        CommandName::Mirror,
         CommandName::Export,
         CommandName::Verify,
         CommandName::Check,
@@ -68,6 +71,8 @@ impl CommandName {
             Some(CommandName::Serve)
         } else if word == "fetch" {
             Some(CommandName::Fetch)
+        } else if word == "mirror" {
+            Some(CommandName::Mirror)
         } else if word == "audit" {
             Some(CommandName::Audit)
         } else if word == "help" {

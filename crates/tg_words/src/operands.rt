@@ -137,6 +137,28 @@ pub fn two_operands<'a>(
     Ok((first, second, found.options))
 }
 
+/// The three positional words that words spell, where the command has options of these names, which are left out.
+///
+/// Errors: as in `one_operand`.
+pub fn three_operands<'a>(
+    alloc: Global,
+    words: &'a [String],
+    names: OptionNames<'a>,
+) -> Result<(&'a str, &'a str, &'a str), WordsFault>
+    requires { IsTrue (are_names (names_of names)) }
+    ensures found { IfOk result (λ found. (options : List Given)
+        × WordsSpelling (names_of names.entry) (map string_bytes words.now)
+        (found.0.now ∷ found.1.now ∷ found.2.now ∷ []) options) }
+    ensures only { (first second third : List ℕ) (options : List Given)
+        → WordsSpelling (names_of names.entry) (map string_bytes words.now) (first ∷ second ∷ third ∷ []) options
+        → MatchResult result (λ found. (found.0.now ≡ first) × (found.1.now ≡ second) × (found.2.now ≡ third))
+        (λ e. e ≡ WordsFault.OutOfMemory) }
+{
+    let found = operands_of(alloc, words, names)?;
+    let (first, second, third) = three_words(found.positional.as_slice()).ok_or(WordsFault::Usage)?;
+    Ok((first, second, third))
+}
+
 /// The command whose arguments are positional words of any number and the options of these names.
 fn command_of<'a>(alloc: Global, names: OptionNames<'a>) -> Result<Command<'a>, AllocError>
     ensures { IfOk result (λ command. app_of command ≡ app_for (names_of names.entry)) }
@@ -246,6 +268,17 @@ fn two_words<'a>(words: &[&'a str]) -> Option<(&'a str, &'a str)>
 {
     let (first, rest) = words.split_first()?;
     Some((*first, one_word(rest)?))
+}
+
+/// The three words that stand alone.
+fn three_words<'a>(words: &[&'a str]) -> Option<(&'a str, &'a str, &'a str)>
+    ensures some { IfSome result (λ three. texts_of words.now ≡ three.0.now ∷ three.1.now ∷ three.2.now ∷ []) }
+    ensures none { IfNone result ((first second third : List ℕ)
+        → texts_of words.now ≢ first ∷ second ∷ third ∷ []) }
+{
+    let (first, rest) = words.split_first()?;
+    let (second, third) = two_words(rest)?;
+    Some((*first, second, third))
 }
 
 /// A word as a string of its own, where it isn't empty.

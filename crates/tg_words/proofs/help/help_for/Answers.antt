@@ -30,6 +30,9 @@ returns-in-Serve c = at_name _ _ _ c.in-Serve.is refl
 pub returns-in-Fetch : goal.returns-in-Fetch
 returns-in-Fetch c = at_name _ _ _ c.in-Fetch.is refl
 
+pub returns-in-Mirror : goal.returns-in-Mirror
+returns-in-Mirror c = at_name _ _ _ c.in-Mirror.is refl
+
 pub returns-in-Audit : goal.returns-in-Audit
 returns-in-Audit c = at_name _ _ _ c.in-Audit.is refl
 
