@@ -1,5 +1,6 @@
 //! Dials that make links to peers.
-ghost use Rattle.std.specs.Prelude.{◌≤◌, ℕ, List};
+ghost use Rattle.std.specs.List.{slice_get};
+ghost use Rattle.std.specs.Prelude.{◌≡◌, ◌<◌, ◌≤◌, ℕ, List, None, Some};
 ghost use Rattle.tg_dials.specs.Dials.{DialMeaning, IsDialled, IsHungUp, KeepsCalls, KeepsComing, KeepsMissed, at_dial, dialled_link};
 ghost use Rattle.tg_links.specs.Views.{view_of};
 
@@ -26,6 +27,18 @@ pub trait Dial {
         ensures address { dial.dialled self.old self.new addr.now }
         ensures counted { dial.faults self.old ≤ dial.faults self.new };
 
+    /// Whether a take of a link that it made needn't wait: something is to be taken of it, or its peer's end, or its peer is late.
+    /// Nothing is promised of it: it may say so of any link.
+    fn is_ready(&mut self, link: &Self::Link) -> bool
+        ensures { self.new ≡ self.old };
+
+    /// Waits until a take of one of these links, which it made, needn't wait, and gives that one's place. Nothing is promised of
+    /// it but that a link stands there.
+    fn wait(&mut self, links: &[Option<Self::Link>]) -> usize
+        requires { (place : ℕ) × (link : Self.Link) × (slice_get links.now place ≡ Some (Some link)) }
+        ensures same { self.new ≡ self.old }
+        ensures place { (link : Self.Link) × (slice_get links.now result ≡ Some (Some link)) };
+
     /// Takes back a link that it made, and tells what went through it. A fault of the link is one of the dial; so is
     /// want of memory to tell of it, behind which nothing is told any more.
     fn done(&mut self, link: Self::Link)
@@ -33,4 +46,18 @@ pub trait Dial {
         ensures missed { KeepsMissed (at_dial dial self.old self.new) }
         ensures coming { KeepsComing (at_dial dial self.old self.new) }
         ensures address { (before : Self) (addr : List ℕ) → dial.dialled before self.old addr → dial.dialled before self.new addr };
+}
+
+/// The place of the first of these links, or 0 where there is none.
+pub fn first_link<L>(links: &[Option<L>]) -> usize
+    ensures first { (before : ℕ) → before < result → slice_get links.now before ≡ Some None }
+    ensures link { (place : ℕ) (link : L) → slice_get links.now place ≡ Some (Some link)
+        → (first : L) × (slice_get links.now result ≡ Some (Some first)) }
+{
+    for (place, link) in links.iter().enumerate() {
+        if link.is_some() {
+            return place;
+        }
+    }
+    0
 }

@@ -5,6 +5,6 @@ mod dial;
 mod memory;
 mod tcp;
 
-pub use dial::Dial;
+pub use dial::{Dial, first_link};
 pub use memory::MemDial;
 pub use tcp::TcpDial;

@@ -6,7 +6,7 @@ ghost use Rattle.tg_faults.specs.Faults.{Rose, counted};
 ghost use Rattle.tg_links.specs.Memory.{mem_hearing, mem_link};
 ghost use Rattle.tg_links.specs.Views.{and_call, is_failed, view_of};
 
-use crate::dial::Dial;
+use crate::dial::{Dial, first_link};
 use std::alloc::Global;
 use std::marker::Model;
 use tg_bytes::{Bytes, List};
@@ -158,6 +158,16 @@ impl Dial for MemDial {
                 Err(fault)
             }
         }
+    }
+
+    /// Each link is.
+    fn is_ready(&mut self, _link: &MemLink) -> bool {
+        true
+    }
+
+    /// It gives the first one's place.
+    fn wait(&mut self, links: &[Option<MemLink>]) -> usize {
+        first_link(links)
     }
 
     /// It takes over the number of calls that the link made. Of a link whose calls failed one fault is counted, however many

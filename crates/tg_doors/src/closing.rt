@@ -1,11 +1,10 @@
 //! Streams of links that were given back, which are heard out before they are closed.
-use crate::asked::Asked;
 use libc::types::pollfd;
 use std::alloc::Global;
 use std::io::{ErrorKind, Read};
 use std::net::OpenStream;
 use std::os::fd::AsRawFd;
-use tg_links::monotonic_millis;
+use tg_links::{Asked, monotonic_millis};
 use tg_streams::read_on;
 
 /// How many streams are heard out at once at most.

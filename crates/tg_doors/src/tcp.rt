@@ -9,7 +9,6 @@ ghost use Rattle.tg_doors.specs.Tcp.{IsPassing, IsPassingCode, IsPassingKind, lo
 ghost use Rattle.tg_faults.specs.Faults.{Rose, counted};
 ghost use Rattle.tg_links.specs.Tcp.{tcp_hearing, tcp_link};
 
-use crate::asked::Asked;
 use crate::closing::ClosingStreams;
 use crate::door::Door;
 use libc::types::pollfd;
@@ -19,7 +18,7 @@ use std::marker::Model;
 use std::net::{IpAddr, Ipv4Addr, Net, OpenListener, OpenStream, SocketAddr};
 use std::os::fd::{AsRawFd, RawFd};
 use tg_faults::Failed;
-use tg_links::{Silence, TcpLink, monotonic_millis};
+use tg_links::{Asked, Silence, TcpLink, monotonic_millis};
 
 /// How many milliseconds one call of `wait` waits at most.
 const PATIENCE: u64 = 60_000;

@@ -68,11 +68,14 @@ enum Exchange {
 /// bytes came in the last 60 seconds, though it isn't answered yet; and one that took fewer than 65,536 bytes of a reply in
 /// the last 60 seconds in which puts waited for it. Each request, and each reply, has 60 seconds at first. The bytes are
 /// counted by seconds, so that a fault comes up to a second late. The peer of a link that was dialled is waited for, however
-/// slow it is.
+/// slow it is, but for one that is hurried: there a reply of which fewer than 65,536 bytes came in the last 60 seconds is a
+/// fault.
 #[derive(Drop)]
 pub struct TcpLink<T> {
     stream: T,
     silence: Silence,
+    /// Whether a peer that is slow is a fault.
+    hurried: bool,
     over: bool,
     faults: u64,
     exchange: Exchange,
@@ -100,6 +103,7 @@ impl<T> TcpLink<T> {
         TcpLink {
             stream,
             silence,
+            hurried: silence == Silence::Ends,
             over: false,
             faults: 0,
             exchange: Exchange::Begins,
@@ -107,6 +111,16 @@ impl<T> TcpLink<T> {
             waited: 0,
             stalled_at: None,
         }
+    }
+
+    /// The same link, on which a peer that is slow is a fault, for one of several peers of which none may hold the others: a
+    /// dialled one that was silent for 60 seconds, or gave fewer than 65,536 bytes of its reply in the last 60.
+    pub fn hurried(self) -> TcpLink<T>
+        ensures { result ≡ self }
+    {
+        let mut link = self;
+        link.hurried = true;
+        link
     }
 
     /// How many calls failed.
@@ -117,22 +131,25 @@ impl<T> TcpLink<T> {
     }
 
     /// How many milliseconds are left until a take of the link needn't wait, whatever comes: until its peer was silent for 60
-    /// seconds, or its request has been coming too slowly.
+    /// seconds, or what it says has been coming too slowly.
     pub fn patience(&self) -> u64 {
         let now = monotonic_millis();
         let silent = PATIENCE.saturating_sub(now.saturating_sub(self.moved_at));
         match &self.exchange {
-            Exchange::Asks(rate) if self.silence == Silence::Ends => silent.min(rate.left(now)),
+            Exchange::Asks(rate) if self.hurried => silent.min(rate.left(now)),
             _ => silent,
         }
     }
 
-    /// Whether the peer gave too little of its request, where that is a fault.
-    fn asks_slowly(&self) -> bool {
-        match &self.exchange {
-            Exchange::Asks(rate) => {
-                self.silence == Silence::Ends && rate.left(monotonic_millis()) == 0
-            }
+    /// Whether the peer gave too little of what it says, where that is a fault; of a dialled one that is hurried also where it
+    /// was silent for 60 seconds.
+    fn is_late(&self) -> bool {
+        if !self.hurried {
+            return false;
+        }
+        match (self.silence, &self.exchange) {
+            (Silence::Fails, _) => self.patience() == 0,
+            (Silence::Ends, Exchange::Asks(rate)) => rate.left(monotonic_millis()) == 0,
             _ => false,
         }
     }
@@ -143,9 +160,7 @@ impl<T> TcpLink<T> {
         let stalled = now.saturating_sub(self.stalled_at.unwrap_or(now));
         let silent = PATIENCE.saturating_sub(stalled);
         match &self.exchange {
-            Exchange::Replies(rate) if self.silence == Silence::Ends => {
-                silent.min(rate.left(self.waited))
-            }
+            Exchange::Replies(rate) if self.hurried => silent.min(rate.left(self.waited)),
             _ => silent,
         }
     }
@@ -253,7 +268,7 @@ impl<T: OpenStream + Drop> TcpLink<T> {
 }
 
 impl<T: AsRawFd> TcpLink<T> {
-    /// The number of the connection's socket, by which a door waits for it.
+    /// The number of the connection's socket, by which a door or a dial waits for it.
     pub fn socket(&self) -> RawFd {
         self.stream.as_raw_fd()
     }
@@ -299,8 +314,7 @@ impl<T: Read> Source for TcpLink<T> {
 
     /// One read, begun anew where it is interrupted. A link that is over gives nothing at once, and so does a buffer
     /// without room. Where the peer is silent for 60 seconds the link is over, or it is a fault, as the link was made;
-    /// any other error of the stream is a fault, and so is a request that has been coming too slowly, of which nothing more
-    /// is read.
+    /// any other error of the stream is a fault, and so is a peer that is late, of which nothing more is read.
     fn take(&mut self, buf: &mut [u8]) -> Result<usize, Failed>
         ensures within { IfOk result (λ n. n ≤ length buf.new) }
         ensures took { IfOk result (λ n. Took (take n buf.new) (through (tcp_hearing T.remaining) self.old self.new)) }
@@ -327,7 +341,7 @@ impl<T: Read> Source for TcpLink<T> {
         if self.over || buf.is_empty() {
             return Ok(0);
         }
-        if self.asks_slowly() {
+        if self.is_late() {
             return Err(self.fault());
         }
         let read = read_on(&mut self.stream, buf);

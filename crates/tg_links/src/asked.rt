@@ -3,7 +3,8 @@ use libc::net::{POLLIN, poll};
 use libc::types::pollfd;
 use std::os::fd::RawFd;
 
-/// How many descriptors are waited for at most: a door's own, 64 of streams that are closing, and 64 of links.
+/// How many descriptors are waited for at most: those of a door, which are its own, 64 of streams that are closing, and 64 of
+/// links.
 const MOST: usize = 129;
 
 /// A place for a descriptor.
@@ -13,17 +14,19 @@ const NONE: pollfd = pollfd {
     revents: 0,
 };
 
-/// Descriptors, in order, of which each is waited for until a read of it, or an `accept`, needn't wait: until bytes or a
-/// connection came, or the end, or an error.
+/// Descriptors, 129 at most, in order, of which each is waited for until a read of it, or an `accept`, needn't wait: until bytes
+/// or a connection came, or the end, or an error.
+///
+/// POSIX.1-2017, `poll`. No clause speaks of what is told.
 #[derive(Drop)]
-pub(crate) struct Asked {
+pub struct Asked {
     places: [pollfd; MOST],
     count: usize,
 }
 
 impl Asked {
     /// None.
-    pub(crate) fn new() -> Asked {
+    pub fn new() -> Asked {
         Asked {
             places: [NONE; MOST],
             count: 0,
@@ -31,7 +34,7 @@ impl Asked {
     }
 
     /// Asks for one more, behind the others, where there is room.
-    pub(crate) fn ask(&mut self, fd: RawFd) {
+    pub fn ask(&mut self, fd: RawFd) {
         if let Some(place) = self.places.get_mut(self.count) {
             place.fd = fd;
             self.count += 1;
@@ -40,7 +43,7 @@ impl Asked {
 
     /// Waits until one of them is ready, or for so many milliseconds, or until a signal comes (`poll`, POSIX.1-2017), and says
     /// whether that could be done.
-    pub(crate) fn wait(&mut self, millis: u64) -> bool {
+    pub fn wait(&mut self, millis: u64) -> bool {
         let timeout = i32::try_from(millis).unwrap_or(i32::MAX);
         match self.places.get_mut(..self.count) {
             Some(places) => poll(places, timeout) >= 0 || os::errno() == libc::EINTR,
@@ -49,7 +52,7 @@ impl Asked {
     }
 
     /// What was told of those from this place on.
-    pub(crate) fn told(&self, from: usize) -> &[pollfd] {
+    pub fn told(&self, from: usize) -> &[pollfd] {
         match self.places.get(from..self.count) {
             Some(places) => places,
             None => &[],
