@@ -1,6 +1,7 @@
 pub mod Contents
 pub mod CountsWithin
 pub mod Depths
+pub mod FileSizes
 pub mod Fronts
 pub mod ListFronts
 pub mod NamedBlocks

@@ -167,6 +167,13 @@ impl MemSink {
         self.content.as_slice()
     }
 
+    /// What was put, all of it.
+    pub fn into_bytes(self) -> Bytes
+        ensures { result ≡ self.content }
+    {
+        self.content
+    }
+
     /// How many calls failed.
     pub fn count(&self) -> u64
         ensures { result ≡ self.now.faults }
