@@ -1,0 +1,4 @@
+mod Accepted
+mod Roots
+mod Slices
+mod Written
