@@ -1,6 +1,6 @@
 //! The rows of `tg_fetch`: clients that are fed replies in pieces of any lengths, own ones and those of a peer that lies,
-//! fetches over dials in memory, whose calls fail in turn, and over a socket; and in which pieces inputs, replies and
-//! requests are taken.
+//! fetches over dials in memory, whose calls fail in turn, and over a socket; in which pieces inputs, replies and requests are
+//! taken; and swarms of `tg_swarm`, step by step.
 #![tactic(auto)]
 
 mod asking;
@@ -13,6 +13,7 @@ mod own;
 mod pieces;
 mod replies;
 mod sockets;
+mod swarms;
 
 use crate::asking::{Given, given_of};
 use std::process::ExitCode;
@@ -55,6 +56,7 @@ fn answer_kind(judge: &mut Replied, kind: &str, given: &[Bytes], answer: &mut An
     match kind {
         "block" => own::keep(alloc, &mut judge.store, given, answer),
         "chain" => chains::answer(alloc, given, answer),
+        "swarm" => swarms::answer(alloc, given, answer),
         "link" => pieces::answer_link(alloc, &mut judge.store, given, answer),
         "lane" => pieces::answer_lane(alloc, &mut judge.store, given, answer),
         _ => {

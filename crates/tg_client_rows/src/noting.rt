@@ -9,7 +9,7 @@ ghost use Rattle.tg_streams.specs.Memory.{mem_sink, mem_source, sink_joins, sink
 
 use std::cell::Cell;
 use std::marker::Model;
-use tg_dials::{Dial, MemDial};
+use tg_dials::{Dial, MemDial, first_link};
 use tg_doors::{Door, MemDoor};
 use tg_faults::Failed;
 use tg_links::{Link, MemLink};
@@ -212,6 +212,14 @@ impl<'a> Dial for NotedDial<'a> {
             notes: self.notes,
             says: false,
         })
+    }
+
+    fn is_ready(&mut self, _link: &NotedLink<'a>) -> bool {
+        true
+    }
+
+    fn wait(&mut self, links: &[Option<NotedLink<'a>>]) -> usize {
+        first_link(links)
     }
 
     fn done(&mut self, link: NotedLink<'a>) {

@@ -1,0 +1,17 @@
+mod Accepting
+mod EachJob
+mod Ended
+mod Events
+mod Keeping
+mod Lists
+mod Longer
+mod Lowest
+mod Parting
+mod PeerJobs
+mod Places
+mod Putting
+mod Rooted
+mod Rooting
+mod Sound
+mod Starting
+mod Unfinished

@@ -1,0 +1,10 @@
+mod Asking
+mod Beginning
+mod Hanging
+mod Listening
+mod Lists
+mod Moments
+mod Refusals
+mod Running
+mod Stopping
+mod Telling
