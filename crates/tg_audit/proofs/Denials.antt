@@ -5,6 +5,8 @@ use Rattle.std.specs.Bool.{Decides}
 use Rattle.std.specs.List.{AllByRecursion, list_all}
 use Rattle.std.specs.Prelude.{IfSome, codes, nat_lt, ◌≢◌, ◌&&◌}
 use Rattle.tg_audit.proofs.Addrs.{audit_addr_is}
+use Rattle.tg_audit.proofs.BlockSizes.{BlockLaws}
+use Rattle.tg_audit.proofs.ImportCauses.{import_causes}
 use Rattle.tg_audit.proofs.OwnQueries.{sent_of_dag}
 use Rattle.tg_audit.proofs.PackCauses.{Everything, NoneCaused, few_blocks, no_pack_cause}
 use Rattle.tg_audit.specs.Asking.{audit_addr}
@@ -306,15 +308,16 @@ module _ (answered : OwnIsAnswered) (refused : OwnIsRefused) (collides : Collide
       cause = inr not_expected;
     }
 
-  pub denials : NoneCaused → SpellingLaws → OneSpelling → Everything → DenialsHaveCauses
-  denials none spellings cids everything seed files (audits.Client fault) some h =
+  pub denials : BlockLaws → NoneCaused → SpellingLaws → OneSpelling → Everything → DenialsHaveCauses
+  denials blocks none spellings cids everything seed files (audits.Client fault) some few h =
       cause_of seed files h.tree h.expected h.drawn h.packed h.packed_is (audits.Client fault) some (λ e. cc e) h.is_so
-  denials none spellings cids everything seed files (audits.Limit number) some h =
+  denials blocks none spellings cids everything seed files (audits.Limit number) some few h =
       cause_of seed files h.tree h.expected h.drawn h.packed h.packed_is (audits.Limit number) some (λ e. cc e) h.is_so
-  denials none spellings cids everything seed files (audits.Differs query) some h =
+  denials blocks none spellings cids everything seed files (audits.Differs query) some few h =
       cause_of seed files h.tree h.expected h.drawn h.packed h.packed_is (audits.Differs query) some (λ e. cc e) h.is_so
-  denials none spellings cids everything seed files (audits.Import fault) some h = tt
-  denials none spellings cids everything seed files (audits.Pack fault) some h =
+  denials blocks none spellings cids everything seed files (audits.Import fault) some few h =
+      import_causes blocks tests seed files h.drawn.drawn h.tree fault few h.drawn.drawn_is h.drawn.tree_is h.cause
+  denials blocks none spellings cids everything seed files (audits.Pack fault) some few h =
       pack_cause none spellings cids everything seed files h.tree h.expected h.drawn h.packed h.packed_is fault h.is_so
-  denials none spellings cids everything seed files audits.SinkFault some h = tt
-  denials none spellings cids everything seed files audits.OutOfMemory some h = tt
+  denials blocks none spellings cids everything seed files audits.SinkFault some few h = tt
+  denials blocks none spellings cids everything seed files audits.OutOfMemory some few h = tt

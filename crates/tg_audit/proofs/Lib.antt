@@ -12,3 +12,11 @@ mod Denials
 mod DagEntries
 mod DrawnAnswers
 mod PackCauses
+mod BlockSizes
+mod FileSizes
+mod NameSlots
+mod FolderSizes
+mod ImportLevels
+mod FileNames
+mod LightFolders
+mod ImportCauses

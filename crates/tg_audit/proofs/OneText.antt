@@ -5,7 +5,8 @@ use Rattle.std.proofs.lemmas.List.Elements.{All-cons, All-contains, All-nil, All
 use Rattle.std.specs.Prelude.{codes, nat_lt, ◌%◌, ◌*◌, ◌++◌}
 use Rattle.tg_audit.proofs.Alike.{shows_both}
 use Rattle.tg_audit.proofs.Orders.{HaveOneKey, one_of_orders}
-use Rattle.tg_audit.specs.OneText.{OneAuditText, TwoNamesCollide}
+use Rattle.tg_audit.specs.Names.{TwoNamesCollide}
+use Rattle.tg_audit.specs.OneText.{OneAuditText}
 use Rattle.tg_audit.specs.Packing.{HoldsImported, audit_options}
 use Rattle.tg_audit_texts.specs.Expected.{AreExpected, AreHashed, IsOrder, file_record, files_bundled, first_of, last_of, named_from, numbers_from, part}
 use Rattle.tg_audit_texts.specs.Hashing.{IsHashOf}

@@ -11,7 +11,8 @@ use Rattle.tg_import.specs.Refused.{HasFolderFault, max_levels}
 use Rattle.tg_import.specs.declared.fault.ImportFault.{ImportFault}
 use Rattle.tg_import.specs.declared.fault.ImportFault.TheVariants as imports
 use Rattle.tg_import.specs.declared.summary.Summary.{Summary}
-use Rattle.tg_import.specs.Packing.{IsCarOfRoot, IsPacked, IsPackingCause, StaysTold}
+use Rattle.tg_import.specs.Packing.{IsPacked, IsPackingCause}
+use Rattle.tg_store.specs.Filling.{IsCarOfRoot, StaysTold}
 use Rattle.tg_tree.specs.declared.tree.Tree.{Tree}
 
 -- what was told is told

@@ -3,6 +3,7 @@
 -- one that is expected.
 use Rattle.std.specs.Prelude.{All, List, None, Some, [], codes, false, true, ⊤, ℕ, ◌++◌, ◌∷◌, ◌≡◌, ◌⊎◌}
 use Rattle.tg_audit.specs.Holding.{TwoBlocksCollide}
+use Rattle.tg_audit.specs.Names.{TwoNamesCollide}
 use Rattle.tg_audit.specs.Packing.{HoldsImported}
 use Rattle.tg_audit.specs.declared.fault.AuditFault.{AuditFault}
 use Rattle.tg_audit.specs.declared.fault.AuditFault.TheVariants as audits
@@ -11,9 +12,11 @@ use Rattle.tg_audit_texts.specs.Queries.{absent_query, answer_queries, car_query
 use Rattle.tg_audit_texts.specs.declared.hashing.Hashed.{Hashed}
 use Rattle.tg_cid.specs.Cid.{CidParts}
 use Rattle.tg_draws.specs.Draws.{IsDrawn}
-use Rattle.tg_draws.specs.Trees.{IsTreeOf}
+use Rattle.tg_draws.specs.Trees.{IsTreeOf, file_name}
 use Rattle.tg_draws.specs.declared.drawing.Drawn.{Drawn}
 use Rattle.tg_heard.specs.Exchanges.{IsWithin}
+use Rattle.tg_import.specs.declared.fault.ImportFault.{ImportFault}
+use Rattle.tg_import.specs.declared.fault.ImportFault.TheVariants as imports
 use Rattle.tg_model.specs.Answer.{answer}
 use Rattle.tg_model.specs.Dag.{Dag, root_cid}
 use Rattle.tg_model.specs.LimitNumbers.{standard}
@@ -57,12 +60,18 @@ pub record HasDenialCause (seed files : ℕ) : Type 0 where
   pub dag : IsAuditDag seed files expected d
   pub cause : TwoBlocksCollide d ⊎ (IsAsExpected dag.drawn.drawn d → ⊥)
 
--- a client's refusal, another answer, a request that is too long, and a pack that isn't attached come only with such a cause
+-- two files of `many` have names with one hash, and the fault shows these names
+pub record HaveOneHash (files : ℕ) (fault : ImportFault) : Type 0 where
+  pub two : TwoNamesCollide files
+  pub fault_is : fault ≡ imports.SameHash (file_name two.one) (file_name two.other)
+
+-- a client's refusal, another answer, a request that is too long, and a pack that isn't attached come only with such a cause, and a
+-- folder that can't be imported only with such names
 abbrev pub HasCauseIfDenied : ℕ → ℕ → AuditFault → Type 0
 HasCauseIfDenied seed files (audits.Client fault) = HasDenialCause seed files
 HasCauseIfDenied seed files (audits.Limit number) = HasDenialCause seed files
 HasCauseIfDenied seed files (audits.Differs query) = HasDenialCause seed files
 HasCauseIfDenied seed files (audits.Pack fault) = HasDenialCause seed files
-HasCauseIfDenied seed files (audits.Import fault) = ⊤
+HasCauseIfDenied seed files (audits.Import fault) = HaveOneHash files fault
 HasCauseIfDenied seed files audits.SinkFault = ⊤
 HasCauseIfDenied seed files audits.OutOfMemory = ⊤

@@ -6,4 +6,5 @@ pub mod Holding
 pub mod Complete
 pub mod Audits
 pub mod Denials
+pub mod Names
 pub mod OneText

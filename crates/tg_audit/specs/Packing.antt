@@ -9,7 +9,7 @@ use Rattle.tg_import.specs.Imported.{IsImported}
 use Rattle.tg_import.specs.Refused.{HasFolderFault, max_levels}
 use Rattle.tg_import.specs.declared.summary.Options.{Options}
 use Rattle.tg_import_file.specs.Files.{AreBlocksOf}
-use Rattle.tg_import.specs.Packing.{IsCarOfRoot}
+use Rattle.tg_store.specs.Filling.{IsCarOfRoot}
 use Rattle.tg_model.specs.Dag.{Dag, Section, root_cid}
 use Rattle.tg_store.specs.AttachedPacks.{IsAttachedIn}
 use Rattle.tg_store.specs.Attaching.{HasPackCause}

@@ -38,9 +38,10 @@ pub fn attached_packs()
 
 /// A query of an audit is refused, or has another answer than the expected one, or the pack isn't attached, only where two different blocks of the
 /// folder's DAG have one SHA-256; or where a query isn't within the standard limits, or the DAG's bundle or its listing of
-/// `many` isn't the one that is expected. The other answers are the DAG's.
+/// `many` isn't the one that is expected. The other answers are the DAG's. And the folder isn't imported only where two
+/// files of `many` have names with one hash, which the fault shows.
 ///
-/// This project's own text.
+/// This project's own text; UnixFS specification, HAMTDirectory.
 pub fn denied_audits()
     ensures { DenialsHaveCauses }
 {
@@ -52,6 +53,9 @@ pub fn denied_audits()
     tg_store::laws::one_cause();
     tg_varint::laws::spelling_laws();
     tg_cid::laws::one_spelling();
+    tg_node_writing::laws::written_nodes();
+    tg_dagpb::laws::one_text();
+    tg_unixfs::laws::one_data();
 }
 
 /// Two audits of one seed and number of files that end well tell the same text, or two names of `many` have one hash.

@@ -10,5 +10,5 @@ returns-in_err-text g c =
     let fault = c.in_err-text.field-0.0 in
     rw (p.1, p.2)
     (unaudited_ends c.args.seed c.args.files (into g.S.Sink.sink c.args.out.now c.args.out.now) fault c.in_err-text.ensures
-    (c.denied_audits.ensures c.args.seed c.args.files fault c.requires.some c.in_err-text.ensures)
+    (c.denied_audits.ensures c.args.seed c.args.files fault c.requires.some c.requires.few c.in_err-text.ensures)
     (record { moved = g.met.S.Sink.rests c.args.out.now; held = refl }) refl)

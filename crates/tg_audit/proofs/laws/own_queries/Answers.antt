@@ -1,4 +1,4 @@
-use Rattle.tg_audit.proofs.OwnQueries.{QueryLaws, own_answered, own_refused}
+use Rattle.tg_audit.proofs.OwnQueries.{own_answered, own_refused}
 use Rattle.tg_audit.proofs.laws.own_queries.Goals as goal
 
 pub returns-clause-answered : goal.returns-clause-answered

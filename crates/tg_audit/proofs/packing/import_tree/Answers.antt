@@ -7,7 +7,8 @@ use Rattle.tg_files.specs.Folders.{FolderState, folder_step, mem_folder}
 use Rattle.tg_files.specs.Packs.{PackState, mem_pack, pack_step}
 use Rattle.tg_import.specs.declared.fault.ImportFault.{ImportFault}
 use Rattle.tg_import.specs.declared.summary.Summary.{Summary}
-use Rattle.tg_import.specs.Packing.{IsPacked, IsPackingCause, StaysTold}
+use Rattle.tg_import.specs.Packing.{IsPacked, IsPackingCause}
+use Rattle.tg_store.specs.Filling.{StaysTold}
 use Rattle.tg_audit.proofs.packing.import_tree.Goals as goal
 
 pub returns-in_err-root : goal.returns-in_err-root
