@@ -11,7 +11,7 @@ use Rattle.tg_words.specs.CommandLine.{CommandLine}
 use Rattle.tg_words.specs.Help.{help_text, version_text}
 use Rattle.tg_words.specs.ImportLines.{ImportParts}
 use Rattle.tg_words.specs.declared.Command.{Command}
-use Rattle.tg_words.specs.declared.Command.TheVariants.{Audit, Check, Node, CidToHex, CidToText, Export, Fetch, Help, Import, Serve, Verify, Version}
+use Rattle.tg_words.specs.declared.Command.TheVariants.{Audit, Check, Node, CidToHex, CidToText, Export, Fetch, Help, Import, Mirror, Serve, Verify, Version}
 use Rattle.tg_export.specs.Cars.{CarEnds}
 use Rattle.tg_export.specs.Packed.{ExportEnds, HasPackedCause, IsExportedElse}
 use Rattle.tg_export.specs.declared.fault.ExportFault.{ExportFault}
@@ -46,6 +46,7 @@ use Rattle.tg_commands.specs.declared.fault.CommandFault.TheVariants.{Usage, Bad
 use Rattle.tg_app.proofs.AuditEndings.{audit_quiet, no_audit_usage, unaudited}
 use Rattle.tg_app.proofs.ServeEndings.{no_serve_usage, serve_quiet}
 use Rattle.tg_app.proofs.FetchEndings.{fetch_fault, fetch_quiet, no_fetch_usage}
+use Rattle.tg_app.proofs.MirrorEndings.{mirror_quiet, no_mirror_usage}
 use Rattle.tg_app.proofs.Segments.{no_segment}
 use Rattle.tg_app.proofs.Statuses.{differs, not_zero}
 use Rattle.tg_app.proofs.VerifyEndings.{no_verify_usage, unverified, verify_fault, verify_quiet}
@@ -72,6 +73,7 @@ memory_ends words (Verify q) objects uses line all = (all.files, unverified q ob
 memory_ends words (Serve parts) objects uses line all =
     (all.files.folder, all.streams.untaken, inr (inr (record { same = all.files.pack; unput = all.streams.unput; same_door = all.door; end_is = refl })))
 memory_ends words (Fetch parts) objects uses line all = absurd uses
+memory_ends words (Mirror parts) objects uses line all = absurd uses
 memory_ends words (Audit parts) objects uses line all = (all.files, all.streams.untaken, unaudited parts objects.out all.streams.unput)
 memory_ends words (Help topic) objects uses line all = (all.files, all.streams.untaken, all.streams.unput)
 memory_ends words Version objects uses line all = (all.files, all.streams.untaken, all.streams.unput)
@@ -187,6 +189,7 @@ no_usage (Import parts) objects ends = no_import_usage parts objects.files objec
 no_usage (Verify q) objects ends = no_verify_usage q objects.input objects.out ends.1
 no_usage (Serve parts) objects ends = no_serve_usage parts objects.files.pack objects.files.same_pack objects.out objects.door ends.2
 no_usage (Fetch parts) objects ends = no_fetch_usage parts objects.dial.dialling objects.out ends.2
+no_usage (Mirror parts) objects ends = no_mirror_usage parts objects.files objects.dial objects.out ends.2
 no_usage (Audit parts) objects ends = no_audit_usage parts objects.out ends.2
 no_usage (Help topic) objects ends = absurd ends.2
 no_usage Version objects ends = absurd ends.2
@@ -222,6 +225,7 @@ command_kept (Export parts) objects end uses ends = absurd uses
 command_kept (Import parts) objects end uses ends = absurd uses
 command_kept (Serve parts) objects end uses ends = absurd uses
 command_kept (Fetch parts) objects end uses ends = ends.0
+command_kept (Mirror parts) objects end uses ends = absurd uses
 command_kept (Audit parts) objects end uses ends = absurd uses
 command_kept (Help topic) objects end uses ends = ends.0
 command_kept Version objects end uses ends = ends.0
@@ -281,6 +285,7 @@ command_fault (Export parts) objects end uses e ends = absurd uses
 command_fault (Import parts) objects end uses e ends = absurd uses
 command_fault (Serve parts) objects end uses e ends = absurd uses
 command_fault (Fetch parts) objects end uses e ends = inr (fetch_fault parts objects.dial.dialling objects.out end e ends.2)
+command_fault (Mirror parts) objects end uses e ends = absurd uses
 command_fault (Audit parts) objects end uses e ends = absurd uses
 command_fault (Help topic) objects end uses e ends = inr (print_fault (λ text. text ≡ help_text topic) objects.out end e ends.2)
 command_fault Version objects end uses e ends = inr (print_fault (λ text. text ≡ version_text) objects.out end e ends.2)
@@ -324,6 +329,7 @@ command_passed (Import parts) objects end reads e ends = absurd reads
 command_passed (Verify q) objects end reads e ends = absurd reads
 command_passed (Serve parts) objects end reads e ends = absurd reads
 command_passed (Fetch parts) objects end reads e ends = absurd reads
+command_passed (Mirror parts) objects end reads e ends = absurd reads
 command_passed (Audit parts) objects end reads e ends = absurd reads
 command_passed (Help topic) objects end reads e ends = absurd reads
 command_passed Version objects end reads e ends = absurd reads
@@ -416,6 +422,7 @@ command_quiet (Import parts) objects end ne ends = (ends.0.quiet, import_quiet p
 command_quiet (Verify q) objects end ne ends = verify_quiet q objects.input objects.out end ne ends.1
 command_quiet (Serve parts) objects end ne ends = (ends.1.quiet, serve_quiet parts objects.files.pack objects.files.same_pack objects.out objects.door end ne ends.2)
 command_quiet (Fetch parts) objects end ne ends = (ends.1.quiet, fetch_quiet parts objects.dial.dialling objects.out end ne ends.2)
+command_quiet (Mirror parts) objects end ne ends = (ends.1.quiet, mirror_quiet parts objects.files objects.dial objects.out end ne ends.2)
 command_quiet (Audit parts) objects end ne ends = (ends.1.quiet, audit_quiet parts objects.out end ne ends.2)
 command_quiet (Help topic) objects end ne ends = (ends.1.quiet, print_quiet (λ text. text ≡ help_text topic) objects.out end ne ends.2)
 command_quiet Version objects end ne ends = (ends.1.quiet, print_quiet (λ text. text ≡ version_text) objects.out end ne ends.2)

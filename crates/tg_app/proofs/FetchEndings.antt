@@ -42,7 +42,7 @@ use Rattle.tg_words.specs.FetchLines.{FetchParts}
 -- ---- the status of each fault
 
 -- where memory is found for its line
-abbrev fetch_status : FetchFault → ℕ
+abbrev pub fetch_status : FetchFault → ℕ
 fetch_status (faults.Refused fault) = status_for (clients.Refused fault)
 fetch_status (faults.Status status) = 4
 fetch_status faults.BadType = 3
@@ -59,10 +59,10 @@ ShowsText (faults.Refused fault) = ShowsSome (clients.Refused fault)
 ShowsText other = ⊥
 
 -- the status is that of the fault, or memory was wanted for its line
-abbrev IsStatusOf : FetchFault → ℕ → Type 0
+abbrev pub IsStatusOf : FetchFault → ℕ → Type 0
 IsStatusOf fault n = (n ≡ fetch_status fault) ⊎ (ShowsText fault × (n ≡ 8))
 
-refusal_status : (fault : FetchFault) (refusal : CommandFault) → IsFetchRefusal fault refusal → IsStatusOf fault (status_of refusal)
+pub refusal_status : (fault : FetchFault) (refusal : CommandFault) → IsFetchRefusal fault refusal → IsStatusOf fault (status_of refusal)
 refusal_status (faults.Refused fault) refusal h = has_status (clients.Refused fault) refusal h
 refusal_status (faults.Status status) refusal h = inl (ap status_of h)
 refusal_status faults.BadType refusal h = inl (ap status_of h)
@@ -76,7 +76,7 @@ refusal_status faults.OutOfMemory refusal h = inl (ap status_of h)
 end_status : (fault : FetchFault) (end : Option CommandFault) → IsFetchEnd (Err fault) end → IsStatusOf fault (exit_status end)
 end_status fault end (refusal, is, tells) = subst (IsStatusOf fault) (sym (ap exit_status is)) (refusal_status fault refusal tells)
 
-by_status : (n : ℕ) (fault : FetchFault) → nat_eq n 8 ≡ false → IsStatusOf fault n → fetch_status fault ≡ n
+pub by_status : (n : ℕ) (fault : FetchFault) → nat_eq n 8 ≡ false → IsStatusOf fault n → fetch_status fault ≡ n
 by_status n fault apart (inl e) = sym e
 by_status n fault apart (inr memory) = absurd (differs n 8 apart memory.1)
 
@@ -176,7 +176,7 @@ fetch_other_of parts dial out end e h = other_by parts dial out h.result end e h
 
 -- ---- status 5
 
-peer_at_5 : (fault : FetchFault) → fetch_status fault ≡ 5 → fault ≡ faults.PeerFault
+pub peer_at_5 : (fault : FetchFault) → fetch_status fault ≡ 5 → fault ≡ faults.PeerFault
 peer_at_5 faults.PeerFault e = refl
 peer_at_5 (faults.Refused (verifiers.Extra sections)) e = cc
 peer_at_5 (faults.Refused fault) e = cc
@@ -192,7 +192,7 @@ link_rose q limits addr link out (inl whole) = whole.rose
 link_rose q limits addr link out (inr front) = front.why
 
 -- a fault of the peer is one of the dial, or of the link that was given back to it
-peer_rose : (q : QueryParts) (limits : LimitNumbers) (addr : List ℕ) (dial : Dialling) (out : Output) → FetchEnds q limits addr dial out (Err faults.PeerFault) → DialRose dial
+pub peer_rose : (q : QueryParts) (limits : LimitNumbers) (addr : List ℕ) (dial : Dialling) (out : Output) → FetchEnds q limits addr dial out (Err faults.PeerFault) → DialRose dial
 peer_rose q limits addr dial out (inl call) =
     let rose = link_rose q limits addr (between call.made call.link) out call.called in
     call.hung_up.failed (failed_by call.link.faults (subst (λ (n : ℕ). Rose n call.link.faults) call.is_new.faults rose))

@@ -4,6 +4,7 @@ mod Endings
 mod Segments
 mod VerifyEndings
 mod FetchEndings
+mod MirrorEndings
 mod OwnBlocks
 mod OwnCars
 mod OwnAnswers
@@ -12,3 +13,4 @@ mod ServeSteps
 mod ServeEndings
 mod Running
 mod FetchSteps
+mod MirrorSteps

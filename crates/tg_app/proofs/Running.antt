@@ -4,6 +4,7 @@ use Rattle.tg_app.proofs.AuditEndings.{audited_of, denied_of}
 use Rattle.tg_app.proofs.Endings.{agrees, answered_of, checked_of, did_of, ends_of, export_answered_of, export_nothing_of, exported_of, fault_of, import_answered_of, imported_of, kept_dial_of, kept_door_of, kept_of, text_answered_of, text_put_of}
 use Rattle.tg_app.proofs.Endings.{memory_isnt, memory_of, node_answered_of, node_other_of, noded_of, nowhere_of, other_of, passed_of, printed_of, quiet_of, refused_of, untouched_of, usage_of}
 use Rattle.tg_app.proofs.FetchEndings.{dialled_of, fetch_absent_of, fetch_answered_of, fetch_nothing_of, fetch_other_of, fetch_rose_of, fetch_vouched_of, fetched_of}
+use Rattle.tg_app.proofs.MirrorEndings.{mirror_answered_of, mirror_fault_of, mirror_left_of, mirror_rose_of, mirror_unbegun, mirror_vouched_of, mirrored_of}
 use Rattle.tg_app.proofs.OwnCars.{AttachAlike, own_car_of}
 use Rattle.tg_app.proofs.OwnAnswers.{AnswerTexts, own_answer_of}
 use Rattle.tg_app.proofs.OwnDone.{DoneLaws, has_answer}
@@ -14,7 +15,7 @@ use Rattle.tg_commands.specs.CidLines.{HexLine, TextLine}
 use Rattle.tg_app.specs.Commands.{CommandEnds, Ends, NoMemoryEnds, UsesNoDial}
 use Rattle.tg_commands.specs.Lines.{Says, exit_status}
 use Rattle.tg_commands.specs.Node.{NodeStatus}
-use Rattle.tg_app.specs.Runs.{Asks, AuditRun, CheckRun, CidHexRun, CidTextRun, ExportRun, FetchRun, ImportRun, NodeRun, Run, Runs, ServeRun, TextRun, VerifyRun, WordsRun}
+use Rattle.tg_app.specs.Runs.{Asks, AuditRun, CheckRun, CidHexRun, CidTextRun, ExportRun, FetchRun, ImportRun, MirrorRun, NodeRun, Run, Runs, ServeRun, TextRun, VerifyRun, WordsRun}
 use Rattle.tg_commands.specs.declared.fault.CommandFault.{CommandFault}
 use Rattle.tg_cid.specs.Cid.{CidParts}
 use Rattle.tg_model.specs.Queries.{QueryParts}
@@ -27,10 +28,11 @@ use Rattle.tg_words.specs.ExportLines.{ExportParts}
 use Rattle.tg_words.specs.FetchLines.{FetchParts}
 use Rattle.tg_words.specs.Help.{help_text, version_text}
 use Rattle.tg_words.specs.ImportLines.{ImportParts}
+use Rattle.tg_words.specs.MirrorLines.{MirrorParts}
 use Rattle.tg_words.specs.ServeLines.{ServeParts}
 use Rattle.tg_words.specs.declared.names.CommandName.{CommandName}
 use Rattle.tg_words.specs.declared.Command.{Command}
-use Rattle.tg_words.specs.declared.Command.TheVariants.{Audit, Check, CidToHex, CidToText, Export, Fetch, Help, Import, Node, Serve, Verify, Version}
+use Rattle.tg_words.specs.declared.Command.TheVariants.{Audit, Check, CidToHex, CidToText, Export, Fetch, Help, Import, Mirror, Node, Serve, Verify, Version}
 
 -- how the words of a run end, its status and its line
 module _ (run : Run) (end : Option CommandFault) (through : ThroughFits) (front : AnswerIsFront) (misses : VerifiedMisses)
@@ -180,6 +182,30 @@ module _ (run : Run) (end : Option CommandFault) (through : ThroughFits) (front 
             vouched_answer = λ d sound root. inr (fetch_vouched_of front parts d dial out run.err run.status end sound root status line did.2);
           }
 
+  -- no memory was found for the words, or the command ended as itself: the mirror says both
+  mirror_ends : (parts : MirrorParts) → NoMemoryEnds run.objects end ⊎ CommandEnds (Mirror parts) run.objects end → CommandEnds (Mirror parts) run.objects end
+  mirror_ends parts (inl memory) =
+      let all = memory.untouched in
+      (all.files.folder, all.streams.untaken, mirror_unbegun parts run.objects.files run.objects.dial run.objects.out end memory.end_is all.files.pack all.dial all.streams.unput)
+  mirror_ends parts (inr did) = did
+
+  mirror_run : (parts : MirrorParts) → Asks run (Mirror parts) → MirrorRun parts run
+  mirror_run parts asked =
+      let did = mirror_ends parts (did_of run.words (Mirror parts) run.objects end asked ends) in
+      let files = run.objects.files in
+      let dial = run.objects.dial in
+      let out = run.objects.out in
+      record {
+        ends = (end, status, did, line);
+        mirrored = λ zero. mirrored_of parts files dial out end (has zero) did.2;
+        vouched = λ d sound root zero. mirror_vouched_of parts d files dial out end (has zero) sound root did.2;
+        left = λ ne. mirror_left_of parts files dial out end (λ zero. ne (status ∙ zero)) did.2;
+        dial_fault = λ five. mirror_rose_of parts files dial out end (has five) did.2;
+        fault = λ six. mirror_fault_of parts files dial out end (has six) did.2;
+        answered = λ good no_dial no_pack no_out. subst (λ (n : ℕ). (n ≡ 8) ⊎ (n ≡ 0)) (sym status)
+            (mirror_answered_of parts files dial out end good no_dial no_pack no_out did.2);
+      }
+
   audit_run : (parts : AuditParts) → Asks run (Audit parts) → AuditRun parts run
   audit_run parts asked =
       let did = by (Audit parts) tt asked in
@@ -225,6 +251,7 @@ module _ (run : Run) (end : Option CommandFault) (through : ThroughFits) (front 
     verify = verify_run;
     serve = serve_run;
     fetch = fetch_run;
+    mirror = mirror_run;
     audit = audit_run;
     help = help_run;
     version = version_run;

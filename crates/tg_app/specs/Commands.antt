@@ -3,7 +3,7 @@ use Rattle.std.specs.Prelude.{◌≡◌, ℕ, ◌⊎◌, ⊤, List, Option, Some
 use Rattle.tg_words.specs.CommandLine.{CommandLine}
 use Rattle.tg_words.specs.Help.{help_text, version_text}
 use Rattle.tg_words.specs.declared.Command.{Command}
-use Rattle.tg_words.specs.declared.Command.TheVariants.{Audit, Check, Node, CidToHex, CidToText, Export, Fetch, Help, Import, Serve, Verify, Version}
+use Rattle.tg_words.specs.declared.Command.TheVariants.{Audit, Check, Node, CidToHex, CidToText, Export, Fetch, Help, Import, Mirror, Serve, Verify, Version}
 use Rattle.tg_streams.specs.Streams.{Output}
 use Rattle.tg_commands.specs.Lines.{Says, exit_status}
 use Rattle.tg_commands.specs.Blocks.{InputUntouched, Untouched}
@@ -13,6 +13,7 @@ use Rattle.tg_commands.specs.Node.{NodeEnds}
 use Rattle.tg_commands.specs.CidLines.{HexLine, TextLine, PrintEnds}
 use Rattle.tg_commands.specs.Exports.{ExportAnswers}
 use Rattle.tg_app.specs.Fetches.{FetchAnswers}
+use Rattle.tg_app.specs.Mirrors.{MirrorAnswers}
 use Rattle.tg_commands.specs.Imports.{ImportAnswers}
 use Rattle.tg_commands.specs.Files.{SameFiles}
 use Rattle.tg_app.specs.Objects.{Objects}
@@ -36,6 +37,8 @@ CommandEnds (Serve parts) objects end =
     objects.files.same_folder × InputUntouched objects.input × ServeAnswers parts objects.files.pack objects.files.same_pack objects.out objects.door end
 CommandEnds (Fetch parts) objects end =
     SameFiles objects.files × InputUntouched objects.input × FetchAnswers parts objects.dial.dialling objects.out end
+CommandEnds (Mirror parts) objects end =
+    objects.files.same_folder × InputUntouched objects.input × MirrorAnswers parts objects.files objects.dial objects.out end
 CommandEnds (Import parts) objects end =
     InputUntouched objects.input × ImportAnswers parts objects.files objects.out end
 CommandEnds (Audit parts) objects end = SameFiles objects.files × InputUntouched objects.input × AuditAnswers parts objects.out end
@@ -55,6 +58,7 @@ UsesNoFiles (Export parts) = ⊥
 UsesNoFiles (Import parts) = ⊥
 UsesNoFiles (Serve parts) = ⊥
 UsesNoFiles (Fetch parts) = ⊤
+UsesNoFiles (Mirror parts) = ⊥
 UsesNoFiles (Audit parts) = ⊥
 UsesNoFiles (Help topic) = ⊤
 UsesNoFiles Version = ⊤
@@ -70,6 +74,7 @@ UsesNoDoor (Verify q) = ⊤
 UsesNoDoor (Export parts) = ⊤
 UsesNoDoor (Import parts) = ⊤
 UsesNoDoor (Fetch parts) = ⊤
+UsesNoDoor (Mirror parts) = ⊤
 UsesNoDoor (Audit parts) = ⊤
 UsesNoDoor (Help topic) = ⊤
 UsesNoDoor Version = ⊤
@@ -77,6 +82,7 @@ UsesNoDoor Version = ⊤
 -- a command that is handed no dial, and leaves it as it was
 abbrev pub UsesNoDial : Command → Type 0
 UsesNoDial (Fetch parts) = ⊥
+UsesNoDial (Mirror parts) = ⊥
 UsesNoDial (Check cid) = ⊤
 UsesNoDial (Node cid) = ⊤
 UsesNoDial (CidToHex cid) = ⊤

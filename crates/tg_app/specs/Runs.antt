@@ -8,6 +8,7 @@ use Rattle.tg_app.specs.Commands.{AllUntouched, Answers, CommandEnds, Ends, IsNo
 use Rattle.tg_app.specs.Commands.{UsesNoFiles}
 use Rattle.tg_app.specs.Commands.{WantsMemory}
 use Rattle.tg_commands.specs.Exports.{Exported, ExportedNothing, HasAnswer, HoldsDag, IsRisen}
+use Rattle.tg_app.specs.Mirrors.{IsGoodMirrorReply, IsLeftMirror, IsMirroredInto, VouchedMirror}
 use Rattle.tg_app.specs.Fetches.{Fetched, FetchedStatus, IsAbsentReply, IsGoodReply, VouchedFetch, miss_refusal}
 use Rattle.tg_commands.specs.Imports.{Imported, IsGoodFolder, options_of}
 use Rattle.tg_commands.specs.Lines.{PutAll, Says}
@@ -40,10 +41,11 @@ use Rattle.tg_words.specs.ExportLines.{ExportParts}
 use Rattle.tg_words.specs.FetchLines.{FetchParts}
 use Rattle.tg_words.specs.Help.{help_text, version_text}
 use Rattle.tg_words.specs.ImportLines.{ImportParts}
+use Rattle.tg_words.specs.MirrorLines.{MirrorParts}
 use Rattle.tg_words.specs.ServeLines.{ServeParts}
 use Rattle.tg_words.specs.declared.names.CommandName.{CommandName}
 use Rattle.tg_words.specs.declared.Command.{Command}
-use Rattle.tg_words.specs.declared.Command.TheVariants.{Audit, Check, CidToHex, CidToText, Export, Fetch, Help, Import, Node, Serve, Verify, Version}
+use Rattle.tg_words.specs.declared.Command.TheVariants.{Audit, Check, CidToHex, CidToText, Export, Fetch, Help, Import, Mirror, Node, Serve, Verify, Version}
 
 -- a run: the words behind the program's name, what became of the objects and of err, and the exit status
 pub record Run : Type 1 where
@@ -78,7 +80,7 @@ pub record WordsRun (run : Run) : Type 0 where
   pub kept : (command : Command) → Asks run command → UsesNoFiles command → SameFiles run.objects.files
   -- and no command but `serve` touches the door
   pub kept_door : (command : Command) → Asks run command → UsesNoDoor command → run.objects.door.same_door
-  -- nor any but `fetch` the dial
+  -- nor any but `fetch` and `mirror` the dial
   pub kept_dial : (command : Command) → Asks run command → UsesNoDial command → run.objects.dial.same_dial
   -- status 6 of a command that uses no files comes where a fault of the input or of out was counted; at every other status of
   -- any command none was
@@ -211,6 +213,27 @@ pub record FetchRun (parts : FetchParts) (run : Run) : Type 0 where
   pub vouched_answer : (d : Dag) → IsSound d → root_cid d ≡ parts.query.root
       → ((run.status ≡ 8) × AllUntouched run.objects) ⊎ VouchedFetch parts d run.objects.dial.dialling run.objects.out run.err run.status
 
+-- `mirror`: one call to a gateway, and what became of the pack
+pub record MirrorRun (parts : MirrorParts) (run : Run) : Type 0 where
+  pub ends : EndsAs (Mirror parts) run
+  -- at 0 the reply was accepted, the pack, as far as it is told, is the CAR of its sections with that root, and out tells how many
+  -- blocks it has
+  pub mirrored : run.status ≡ 0 → IsMirroredInto parts run.objects.files.pack run.objects.dial.dialling run.objects.out
+  -- for every sound DAG with the root, whatever was heard, however it was cut: the pack holds each of its blocks with sha2-256,
+  -- and what it replies to a query for the root is what any store replies that holds the DAG; or a received block and one of the
+  -- DAG, or two blocks of the DAG, are different bytes with one SHA-256
+  pub vouched : (d : Dag) → IsSound d → root_cid d ≡ parts.root → run.status ≡ 0
+      → VouchedMirror parts d run.objects.files.pack run.objects.dial.dialling
+  -- at another status it is what it was, or isn't finished, or is whole, where the refusal came behind that
+  pub left : run.status ≢ 0 → IsLeftMirror parts run.objects.files run.objects.dial.dialling
+  -- at 5 a fault of the dial or of its link was counted, and at 6 one of the pack or of out
+  pub dial_fault : run.status ≡ 5 → DialRose run.objects.dial.dialling
+  pub fault : run.status ≡ 6 → PackRose run.objects.files.pack ⊎ OutputRose run.objects.out
+  -- a reply that carries the sections of a sound DAG's own traversal, or sections that fit, is mirrored where no fault is counted
+  -- and memory is found
+  pub answered : IsGoodMirrorReply parts.root run.objects.dial.dialling → (DialRose run.objects.dial.dialling → ⊥)
+      → (PackRose run.objects.files.pack → ⊥) → (OutputRose run.objects.out → ⊥) → (run.status ≡ 8) ⊎ (run.status ≡ 0)
+
 -- `audit`: nothing but out and err changed
 pub record AuditRun (parts : AuditParts) (run : Run) : Type 0 where
   pub ends : EndsAs (Audit parts) run
@@ -243,6 +266,7 @@ pub record Runs (run : Run) : Type 0 where
   pub verify : (q : QueryParts) → Asks run (Verify q) → VerifyRun q run
   pub serve : (parts : ServeParts) → Asks run (Serve parts) → ServeRun parts run
   pub fetch : (parts : FetchParts) → Asks run (Fetch parts) → FetchRun parts run
+  pub mirror : (parts : MirrorParts) → Asks run (Mirror parts) → MirrorRun parts run
   pub audit : (parts : AuditParts) → Asks run (Audit parts) → AuditRun parts run
   pub help : (topic : Option CommandName) → Asks run (Help topic) → TextRun (Help topic) (help_text topic) run
   pub version : Asks run Version → TextRun Version version_text run

@@ -3,6 +3,7 @@
 
 mod audit;
 mod fetching;
+mod mirroring;
 mod serve;
 mod top;
 

@@ -1,6 +1,6 @@
 //! Files whose only leaf lies far below the root.
 use crate::runs::run_setup;
-use crate::said::say_ran;
+use crate::said::{say_ran, say_streams};
 use crate::setup::Setup;
 use std::alloc::{AllocError, Global};
 use std::str::from_utf8;
@@ -51,6 +51,48 @@ fn chain_setup(alloc: Global, nodes: u64) -> Result<Setup, AllocError> {
     Ok(setup)
 }
 
+/// Says the status, out and err of a `mirror` of that file from a peer that replies with its CAR.
+pub fn answer_mirrored(alloc: Global, given: &[Bytes], answer: &mut Answer) {
+    match given.first() {
+        Some(nodes) => match number_of(nodes.as_slice()) {
+            Some(nodes) => answer_mirrored_chain(alloc, nodes, answer),
+            None => answer.text("no number"),
+        },
+        None => answer.text("no number"),
+    }
+}
+
+fn answer_mirrored_chain(alloc: Global, nodes: u64, answer: &mut Answer) {
+    match mirror_setup(alloc, nodes) {
+        Ok(mut setup) => match run_setup(alloc, &mut setup, 4096) {
+            Some(ran) => say_streams(&ran, answer),
+            None => answer.text("no run"),
+        },
+        Err(_) => answer.lack(),
+    }
+}
+
+/// `mirror` of the root, where the peer replies with the CAR.
+fn mirror_setup(alloc: Global, nodes: u64) -> Result<Setup, AllocError> {
+    let blocks = chain(alloc, nodes)?;
+    let root = root_of(blocks.as_slice());
+    let text = root.to_text(alloc)?;
+    let car = car_of(alloc, root, blocks.as_slice())?;
+    let mut reply = Bytes::of(alloc, CAR_HEAD)?;
+    reply.push_all(car.as_slice())?;
+    let mut fields = List::new(alloc);
+    fields.push(Bytes::of(alloc, b"mirror")?)?;
+    fields.push(Bytes::of(alloc, b"a:1")?)?;
+    fields.push(text)?;
+    fields.push(Bytes::of(alloc, b"p")?)?;
+    fields.push(Bytes::of(alloc, b":reply")?)?;
+    fields.push(reply)?;
+    Ok(Setup::of(alloc, fields.as_slice()))
+}
+
+/// The head of a reply whose CAR goes on until the link closes.
+const CAR_HEAD: &[u8] = b"HTTP/1.1 200 OK\r\nContent-Type: application/vnd.ipld.car\r\n\r\n";
+
 /// A block and its CID.
 type Named = (Cid, Bytes);
 
@@ -67,7 +109,7 @@ fn chain(alloc: Global, nodes: u64) -> Result<List<Named>, AllocError> {
     Ok(blocks)
 }
 
-/// A DAG-PB node of 54 bytes: one link with an empty name and the Tsize 1, and the data of a file of one byte with one part.
+/// A DAG-PB node of 52 bytes: one link with an empty name and the Tsize 1, and the data of a file of one byte with one part.
 fn node_over(alloc: Global, below: Cid) -> Result<Bytes, AllocError> {
     let hash = below.to_bytes(alloc)?;
     let mut block = Bytes::of(alloc, b"\x12\x2a\x0a\x24")?;

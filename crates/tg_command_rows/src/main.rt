@@ -57,6 +57,7 @@ fn answer_kind(alloc: Global, kind: &str, given: &[Bytes], answer: &mut Answer) 
         "cuts" => cuts::answer(alloc, fields, answer),
         "changing" => changing::answer(alloc, fields, answer),
         "chain" => chains::answer(alloc, given, answer),
+        "mirrored-chain" => chains::answer_mirrored(alloc, given, answer),
         "length" => chains::answer_length(given, answer),
         _ => answer_audit(alloc, kind, given, answer),
     }

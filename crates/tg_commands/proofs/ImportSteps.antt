@@ -18,7 +18,8 @@ use Rattle.tg_import.specs.Counting.{nothing}
 use Rattle.tg_import.specs.Refused.{HasFolderFault, max_levels}
 use Rattle.tg_import.specs.declared.fault.ImportFault.{ImportFault}
 use Rattle.tg_import.specs.declared.fault.ImportFault.TheVariants as faults
-use Rattle.tg_import.specs.Packing.{IsBegun, IsPacked, IsPackingCause, IsUnfinished, StopsWriting, WritesPack}
+use Rattle.tg_import.specs.Packing.{IsPacked, IsPackingCause}
+use Rattle.tg_store.specs.Filling.{IsBegun, IsUnfinished, StopsWriting, WritesPack}
 use Rattle.tg_store.specs.Packs.{IsGrowth}
 use Rattle.tg_words.specs.ImportLines.{ImportParts}
 use Rattle.tg_streams.specs.Streams.{Output, PutFront}

@@ -20,7 +20,8 @@ use Rattle.tg_import.specs.declared.fault.ImportFault.{ImportFault}
 use Rattle.tg_import.specs.declared.fault.ImportFault.TheVariants as faults
 use Rattle.tg_import.specs.declared.summary.Options.{Options}
 use Rattle.tg_import.specs.declared.summary.Summary.{Summary}
-use Rattle.tg_import.specs.Packing.{IsBegun, IsPacked, IsPackingCause, IsUnfinished}
+use Rattle.tg_import.specs.Packing.{IsPacked, IsPackingCause}
+use Rattle.tg_store.specs.Filling.{IsBegun, IsUnfinished}
 use Rattle.tg_model.specs.Texts.{escaped}
 use Rattle.tg_streams.specs.Streams.{Output, PutFront}
 use Rattle.tg_tree.specs.declared.tree.Tree.{Tree}

@@ -109,7 +109,7 @@ fn lines(alloc: Global, root: &Cid, summary: &Summary) -> Result<Bytes, AllocErr
 }
 
 /// Adds a label and a number to a text. The error is want of memory.
-fn push_number(text: &mut Bytes, label: &[u8], number: u64) -> Result<(), AllocError>
+pub fn push_number(text: &mut Bytes, label: &[u8], number: u64) -> Result<(), AllocError>
     ensures { OnOk result (text.new ≡ text.old ++ (label.now ++ decimal number)) }
 {
     text.push_all(label)?;

@@ -1,4 +1,4 @@
-use Rattle.std.proofs.Common.{◌≡◌, ◌<◌, ◌≤◌, arith, Option, List, ℕ, inr, subst, refl}
+use Rattle.std.proofs.Common.{◌≡◌, ◌<◌, ◌≤◌, arith, Option, List, ℕ, inl, inr, subst, refl}
 use Rattle.tg_app.specs.Commands.{CommandEnds, Ends, TheCommand, UsesNoDial, UsesNoDoor}
 use Rattle.tg_app.specs.Objects.{Objects}
 use Rattle.tg_commands.specs.declared.fault.CommandFault.{CommandFault}
@@ -6,9 +6,10 @@ use Rattle.tg_query.specs.Requests.{IsAddr}
 use Rattle.tg_words.specs.AuditLines.{AuditParts}
 use Rattle.tg_words.specs.CommandLine.{CommandLine}
 use Rattle.tg_words.specs.FetchLines.{FetchParts}
+use Rattle.tg_words.specs.MirrorLines.{MayRootPack, MirrorParts}
 use Rattle.tg_words.specs.ServeLines.{ServeParts}
 use Rattle.tg_words.specs.declared.Command.{Command}
-use Rattle.tg_words.specs.declared.Command.TheVariants.{Audit, Fetch, Serve}
+use Rattle.tg_words.specs.declared.Command.TheVariants.{Audit, Fetch, Mirror, Serve}
 use Rattle.tg_app.proofs.top.command.Goals as goal
 
 -- the words spell the command that was read alone, and it ended so
@@ -21,6 +22,13 @@ the_ends {words} {objects} {end} {read} {command} spelled only is ends door dial
 -- the address of a spelled `fetch` is one
 is_addr : (words : List (List ℕ)) (read : Command) (parts : FetchParts) → CommandLine words read → read ≡ Fetch parts → IsAddr parts.addr
 is_addr words read parts spelled is = let line = subst (CommandLine words) is spelled in line.1.addr
+
+-- and that of a spelled `mirror`, whose root a pack may have
+is_mirror_addr : (words : List (List ℕ)) (read : Command) (parts : MirrorParts) → CommandLine words read → read ≡ Mirror parts → IsAddr parts.addr
+is_mirror_addr words read parts spelled is = let line = subst (CommandLine words) is spelled in line.1.addr
+
+may_root : (words : List (List ℕ)) (read : Command) (parts : MirrorParts) → CommandLine words read → read ≡ Mirror parts → MayRootPack parts.root
+may_root words read parts spelled is = let line = subst (CommandLine words) is spelled in line.1.may
 
 -- the number of lanes of a spelled `serve`
 some_lanes : (words : List (List ℕ)) (read : Command) (parts : ServeParts) → CommandLine words read → read ≡ Serve parts → 1 ≤ parts.lanes
@@ -35,6 +43,12 @@ serve-requires-clause-lanes g c =
 
 pub fetch_answer-requires : goal.fetch_answer-requires
 fetch_answer-requires g c = is_addr _ _ _ c.in_ok-cid.ensures.found c.in-Fetch.is
+
+pub mirror_dag-requires-clause-addr : goal.mirror_dag-requires-clause-addr
+mirror_dag-requires-clause-addr g c = is_mirror_addr _ _ _ c.in_ok-cid.ensures.found c.in-Mirror.is
+
+pub mirror_dag-requires-clause-root : goal.mirror_dag-requires-clause-root
+mirror_dag-requires-clause-root g c = may_root _ _ _ c.in_ok-cid.ensures.found c.in-Mirror.is
 
 pub returns-in-Check-clause-ends : goal.returns-in-Check-clause-ends
 returns-in-Check-clause-ends g c =
@@ -79,6 +93,11 @@ returns-in-Fetch-clause-ends g c =
     the_ends c.in_ok-cid.ensures.found c.in_ok-cid.ensures.only c.in-Fetch.is
     (record { folder = refl; pack = refl }, record { untaken = record { moved = g.met.I.Source.rests _; left = refl }; quiet = refl }, c.fetch_answer.ensures)
     (λ none. refl) (λ uses. absurd uses)
+
+pub returns-in-Mirror-clause-ends : goal.returns-in-Mirror-clause-ends
+returns-in-Mirror-clause-ends g c =
+    the_ends c.in_ok-cid.ensures.found c.in_ok-cid.ensures.only c.in-Mirror.is
+    (refl, record { untaken = record { moved = g.met.I.Source.rests _; left = refl }; quiet = refl }, inl c.mirror_dag.ensures.ends) (λ none. refl) (λ uses. absurd uses)
 
 -- the number of files of a spelled `audit`
 some_files : (words : List (List ℕ)) (read : Command) (parts : AuditParts) → CommandLine words read → read ≡ Audit parts → 0 < parts.files

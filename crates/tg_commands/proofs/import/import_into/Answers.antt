@@ -7,7 +7,8 @@ use Rattle.tg_commands.specs.Files.{files_between}
 use Rattle.tg_files.specs.Folders.{FolderQuiet, folder_step}
 use Rattle.tg_files.specs.Packs.PackWrite.{attach}
 use Rattle.tg_files.specs.Packs.{Did, pack_step}
-use Rattle.tg_import.specs.Packing.{IsPacked, IsPackingCause, IsUnfinished, StopsWriting, WritesPack}
+use Rattle.tg_import.specs.Packing.{IsPacked, IsPackingCause}
+use Rattle.tg_store.specs.Filling.{IsUnfinished, StopsWriting, WritesPack}
 use Rattle.tg_streams.specs.Streams.{into}
 use Rattle.tg_words.specs.ImportLines.{ImportParts}
 use Rattle.tg_commands.proofs.import.import_into.Goals as goal
