@@ -2,6 +2,7 @@
 //! the InterPlanetary File System, and fetches and verifies from servers that nobody has to trust.
 #![tactic(auto)]
 
+mod noted;
 mod progress;
 
 ghost use Rattle.std.specs.Prelude.{◌≡◌, ◌⊎◌, [], pos, ◌≤ℤ◌, drop, false, map, string_bytes, IsSome, IsTrue, IfErr, IfOk};
@@ -11,7 +12,8 @@ ghost use Rattle.tg_app.specs.Objects.{objects_between};
 ghost use Rattle.tg_app.specs.Runs.{IsUnrun, Run, Runs};
 ghost use Rattle.tg_streams.specs.Streams.{into};
 
-use crate::progress::Progress;
+use crate::noted::{FailedEntry, Noted};
+use crate::progress::{Clearing, Counted, Progress, Shown, Watching};
 use std::alloc::{AllocError, Global};
 use std::env::Args;
 use std::fs::File;
@@ -34,16 +36,26 @@ const NO_COMMAND: u8 = 2;
 /// The exit status of a fault of the door, of the dial or of a link.
 const PEER_FAILED: u8 = 5;
 
+/// The exit status of a fault of the folder, among others.
+const OBJECT_FAILED: u8 = 6;
+
 fn main(rt: HostRuntime) -> ExitCode {
+    let progress = Progress::new(rt, env::args(&rt));
     let names = TempNames::drawn(&rt);
-    let mut folder = HostFolder::new(rt, names);
-    let mut pack = Some(HostPack::new(rt, names));
+    let failed = FailedEntry::new(rt.alloc());
+    let mut folder = Noted {
+        inner: HostFolder::new(rt, names),
+        failed: &failed,
+    };
+    let mut pack = Some(Shown::new(HostPack::new(rt, names), &progress, Counted::Packed));
     let mut door = TcpDoor::new(rt);
     let mut dial = TcpDial::new(rt);
-    let mut input = StdSource::new(rt.stdin());
-    let mut out = StdSink::new(rt.stdout());
-    let mut err = StdSink::new(rt.stderr());
-    let mut progress = Progress::new(rt);
+    let mut input = Shown::new(StdSource::new(rt.stdin()), &progress, Counted::Taken);
+    let mut out = Shown::new(StdSink::new(rt.stdout()), &progress, Counted::Put);
+    let mut err = Clearing {
+        inner: StdSink::new(rt.stderr()),
+        progress: &progress,
+    };
     let status = answer(
         rt.alloc(),
         holds_streams(&rt),
@@ -55,11 +67,15 @@ fn main(rt: HostRuntime) -> ExitCode {
         &mut input,
         &mut out,
         &mut err,
-        &mut progress,
+        &mut Watching {
+            progress: &progress,
+        },
     );
+    progress.clear();
     match status {
         NO_COMMAND => progress.hint(),
         PEER_FAILED => progress.tell_why(dial.why()),
+        OBJECT_FAILED => progress.tell_entry(failed.take()),
         _ => {}
     }
     ExitCode::from(status)
@@ -68,8 +84,8 @@ fn main(rt: HostRuntime) -> ExitCode {
 /// Does what the arguments behind the first ask for, over these objects, and answers the exit status: that of `run`; or 6
 /// where a standard stream is missing and isn't `held`, and only there, or 8 where no memory is found for the words, and
 /// then all objects are as they were. Arguments that aren't UTF-8 are no command. A status other than 0 puts one line on
-/// err, and a fault of err changes nothing else. The line of progress of a `fetch` isn't put into `err`: it goes straight
-/// to the host's err, and no clause speaks of it.
+/// err, and a fault of err changes nothing else. The line of progress isn't put into `err`: it goes straight to the host's err,
+/// and no clause speaks of it.
 fn answer<F: Folder, P: Pack, L: Door, D: Dial, I: Source, O: Sink, E: Sink, W: Watch>(
     alloc: Global,
     held: bool,
