@@ -18,19 +18,8 @@ head -c 400000000 /dev/urandom >"$made/large/f"
 head -c 81920000 /dev/urandom | split -b 4096 -a 5 -d - "$made/many/f"
 port=18285
 
-# served PACK COMMAND..: the time of a command in ms, while the pack is served to one link
-served() {
-    local pack=$1 begun pid
-    shift
-    rm -f "$made/line"
-    "$program" serve "$pack" --port $port --count 1 >"$made/line" &
-    pid=$!
-    while [ ! -s "$made/line" ]; do sleep 0.05; done
-    begun=$(date +%s%N)
-    "$@" || echo "failed: $*" >&2
-    echo $((($(date +%s%N) - begun) / 1000000))
-    wait "$pid"
-}
+# shellcheck source=bench/served.sh disable=SC1091
+. bench/served.sh
 
 ours() { /usr/bin/time -f '%M' -o "$made/held" "$program" fetch "127.0.0.1:$port" "$@" >"$made/out"; }
 
@@ -42,9 +31,7 @@ compare() {
     shift 3
     for _ in 1 2 3; do
         echo "$(served "$pack" ours "$@") $(cat "$made/held") $(served "$pack" theirs "$url")"
-    done | awk -v name="$name" '
-        { if (!n++ || $1 < least) least = $1; if ($2 > most) most = $2; if (n == 1 || $3 < other) other = $3 }
-        END { printf "%s: tgate %d ms, curl | sha256sum %d ms, tgate / theirs %.2f, most memory %d KB\n", name, least, other, least / other, most }'
+    done | ratio "$name" "curl | sha256sum"
 }
 
 echo "load before: $(cut -d' ' -f1-3 /proc/loadavg)"
