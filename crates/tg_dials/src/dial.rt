@@ -13,7 +13,7 @@ use tg_links::Link;
 /// `calls` is what went through the links that were given back, or `None`; `missed` counts the calls of `dial` that
 /// failed; `faults` counts those, the links that were given back with a fault of their own, and where no memory was found
 /// to tell of one. Both stand still at 2 ^ 64 - 1. `dialled` says that between two of its moments the peer at an address
-/// was dialled: only a `dial` of that address shows it.
+/// was dialled: only a `dial` of that address shows it, of the moment behind it and of all that follow.
 pub trait Dial {
     type Link: Link;
 
@@ -24,7 +24,8 @@ pub trait Dial {
         ensures dialled { IsDialled (at_dial dial self.old self.new)
             (dialled_link Self.Link.link Self.Link.Source.source result) }
         ensures calls { KeepsCalls (at_dial dial self.old self.new) }
-        ensures address { dial.dialled self.old self.new addr.now }
+        ensures address { (before : Self) → dial.dialled before self.new addr.now }
+        ensures others { (before : Self) (addr : List ℕ) → dial.dialled before self.old addr → dial.dialled before self.new addr }
         ensures counted { dial.faults self.old ≤ dial.faults self.new };
 
     /// Whether a take of a link that it made needn't wait: something is to be taken of it, or its peer's end, or its peer is late.

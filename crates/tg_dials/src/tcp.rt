@@ -11,6 +11,7 @@ use crate::dial::{Dial, first_link};
 use std::io;
 use std::io::ErrorKind;
 use std::marker::Model;
+use std::mem::drop;
 use std::net::{Net, ToSocketAddrs};
 use std::os::fd::AsRawFd;
 use std::time::Duration;
@@ -133,7 +134,8 @@ impl<R: Net + Drop> Dial for TcpDial<R> {
         first_ready(links)
     }
 
-    /// It finishes the link, whose last errors are no faults.
+    /// It finishes the link, whose last errors are no faults; the link to one of several peers is closed at once, since the others
+    /// would wait for it.
     fn done(&mut self, link: TcpLink<R::Stream>)
         ensures done { IsHungUp (view_of tcp_link (tcp_hearing R.Stream.remaining) link)
             (at_dial tcp_dial self.old self.new) }
@@ -146,7 +148,11 @@ impl<R: Net + Drop> Dial for TcpDial<R> {
         if link.count() != 0 {
             self.fault();
         }
-        link.finish();
+        if self.hurried {
+            drop(link);
+        } else {
+            link.finish();
+        }
     }
 }
 

@@ -13,7 +13,7 @@ returns-in_err-link-clause-ends g c =
     let p = err_from_is_err_and c.from_residual.result c.from_residual.ensures.1 in
     rw (p.1, p.2)
     (fetch_missed g.D.Dial.dial g.S.Sink.sink c.args.query.now c.args.limits c.args.addr.now c.args.dial.now c.dial.new.self c.args.out.now c.in_err-link.field-0.0
-    (g.met.S.Sink.rests c.args.out.now) c.dial.ensures.address c.in_err-link.ensures.dialled c.dial.ensures.calls)
+    (g.met.S.Sink.rests c.args.out.now) (c.dial.ensures.address _) c.in_err-link.ensures.dialled c.dial.ensures.calls)
 
 pub returns-in_err-link-clause-cause : goal.returns-in_err-link-clause-cause
 returns-in_err-link-clause-cause g c =
@@ -24,7 +24,7 @@ pub returns-clause-ends : goal.returns-clause-ends
 returns-clause-ends g c =
     fetch_called g.D.Dial.dial g.D.Link.Link.link g.D.Link.Source.source c.args.dial.now c.dial.new.self c.done.new.self c.in_ok-link.link c.call-end.new.link
     c.in_ok-link.ensures.dialled c.dial.ensures.calls c.done.ensures.done c.done.ensures.missed c.done.ensures.coming c.args.query.now c.args.limits c.args.addr.now
-    (into g.S.Sink.sink c.args.out.now c.call-end.new.out) c.call-end.result (c.done.ensures.address _ _ c.dial.ensures.address) c.call-end.ensures.called
+    (into g.S.Sink.sink c.args.out.now c.call-end.new.out) c.call-end.result (c.done.ensures.address _ _ (c.dial.ensures.address _)) c.call-end.ensures.called
 
 pub returns-in_err-link-clause-kept : goal.returns-in_err-link-clause-kept
 returns-in_err-link-clause-kept g c =
