@@ -65,6 +65,13 @@ CarriedIsAnswer = (q : QueryParts) (limits : LimitNumbers) (d : Dag) (all : List
     → IsAnswered q limits heard ended sections text
     → (sections ≡ all) × (text ≡ answer)
 
+-- ---- a reply that is refused
+
+-- it isn't for a fault of the peer, which is one of its link
+abbrev pub NoPeerFault : Type 0
+NoPeerFault = (q : QueryParts) (limits : LimitNumbers) (heard unheard : List ℕ) (ended : Bool) (sections : List Section) (text : List ℕ)
+    → RefusedBy q limits heard unheard ended sections text faults.PeerFault → ⊥
+
 -- ---- a reply that shows that the path leads nowhere
 
 -- in a DAG, opened for the query's path alone, this segment leads nowhere, and its blocks pass no limit

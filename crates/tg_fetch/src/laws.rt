@@ -1,5 +1,5 @@
 //! What follows from how a reply is heard.
-ghost use Rattle.tg_fetch.specs.Laws.{AbsenceIsNoAnswer, AbsenceIsTold, CarriedIsAnswer, CarriedIsTaken};
+ghost use Rattle.tg_fetch.specs.Laws.{AbsenceIsNoAnswer, AbsenceIsTold, CarriedIsAnswer, CarriedIsTaken, NoPeerFault};
 ghost use Rattle.tg_fetch.specs.Own.{OwnIsFed};
 ghost use Rattle.tg_streams.specs.Streams.{into};
 
@@ -21,6 +21,13 @@ pub fn carried_replies()
     tg_verify::laws::verified_answers();
     tg_model_laws::verified_sections();
 }
+
+/// No reply is refused for a fault of the peer, which is one of its link.
+///
+/// This project's own.
+pub fn refused_replies()
+    ensures { NoPeerFault }
+{}
 
 /// A reply that carries the blocks of a path of which a segment leads nowhere, and passes no limit, is refused in none of
 /// its fronts but for that segment, with nothing put, and for want of memory, however it is cut; and none is accepted.
