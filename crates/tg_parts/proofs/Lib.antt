@@ -1,4 +1,5 @@
 mod Accepted
+mod OwnBlocks
 mod Roots
 mod Slices
 mod Written

@@ -10,9 +10,9 @@ use Rattle.tg_model.specs.Sound.{IsFileKind, IsSound}
 use Rattle.tg_model.specs.declared.kinds.Kind.{Kind}
 use Rattle.tg_model.specs.declared.kinds.Kind.TheVariants.{Basic, File, Raw, Shard, Symlink}
 use Rattle.tg_model_laws.specs.FileSizes.{TotalIsLength}
-use Rattle.tg_parts.proofs.Accepted.{accepted_is}
+use Rattle.tg_parts.proofs.Accepted.{accepted_is, accepted_stay}
 use Rattle.tg_parts.specs.Connections.{Connection, IsRootOfFile, all_sections}
-use Rattle.tg_parts.specs.PartLaws.{RootIs, RootIsRead, SaysRoot, SaysTotal, TotalIsTold}
+use Rattle.tg_parts.specs.PartLaws.{RootIs, RootIsRead, RootsStay, SaysRoot, SaysTotal, TotalIsTold, TotalsStay}
 use Rattle.tg_parts.specs.Parts.{root_query}
 use Rattle.tg_verify.specs.Sound.{IsItsAnswer}
 
@@ -81,3 +81,10 @@ told sizes root connections total d r sound (inr pair) = inr pair
 pub total_is_told : Computes → TotalIsLength → TotalIsTold
 total_is_told computes sizes root connections total d r sound named =
     told sizes root connections total d r sound (root_is_read computes root connections r.block d r.block_is sound named)
+
+pub roots_stay : RootsStay
+roots_stay connections more root block h = record { accepted = accepted_stay connections more (root_query root) block h.accepted; bytes = h.bytes }
+
+pub totals_stay : TotalsStay
+totals_stay connections more root total h =
+    record { block = h.block; block_is = roots_stay connections more root h.block h.block_is; kind = h.kind; reads = h.reads; file = h.file; total_is = h.total_is }

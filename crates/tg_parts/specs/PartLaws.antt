@@ -1,14 +1,15 @@
 -- Laws of the parts of a file.
-use Rattle.std.specs.Prelude.{Err, List, Ok, Some, length, take, ℕ, ◌*◌, ◌++◌, ◌<◌, ◌≡◌, ◌≤◌, ◌⊎◌}
+use Rattle.std.specs.Prelude.{All, Contains, Err, List, Ok, Some, length, take, ℕ, ◌*◌, ◌++◌, ◌<◌, ◌≡◌, ◌≤◌, ◌⊎◌}
 use Rattle.tg_cid.specs.Cid.{CidParts}
 use Rattle.tg_model.specs.Answer.{answer}
 use Rattle.tg_model.specs.ByteRanges.{slice_of}
 use Rattle.tg_model.specs.Computed.{read}
 use Rattle.tg_model.specs.Content.{content}
-use Rattle.tg_model.specs.Dag.{Dag, bare, node, root_cid, unopened}
+use Rattle.tg_model.specs.Dag.{Dag, bare, blocks, node, root_cid, unopened}
 use Rattle.tg_model.specs.Fits.{CollisionPair}
 use Rattle.tg_model.specs.Queries.{QueryParts}
 use Rattle.tg_model.specs.Sound.{IsSound}
+use Rattle.tg_model.specs.Traversal.{block_list, opened_list}
 use Rattle.tg_model.specs.declared.fault.BlockFault.{BlockFault}
 use Rattle.tg_model.specs.declared.kinds.Kind.{Kind}
 use Rattle.tg_model_laws.specs.FileSizes.{HasFileRoot, root_total}
@@ -59,6 +60,13 @@ abbrev pub TotalIsTold : Type 0
 TotalIsTold = (root : CidParts) (connections : List Connection) (total : ℕ) (d : Dag) → IsRootOfFile root connections total → IsSound d
     → root_cid d ≡ root → SaysTotal total d ⊎ CollisionPair (all_sections connections) d
 
+-- and both stay so with further connections
+abbrev pub RootsStay : Type 0
+RootsStay = (connections more : List Connection) (root : CidParts) (block : List ℕ) → IsRootBlock root connections block → IsRootBlock root (connections ++ more) block
+
+abbrev pub TotalsStay : Type 0
+TotalsStay = (connections more : List Connection) (root : CidParts) (total : ℕ) → IsRootOfFile root connections total → IsRootOfFile root (connections ++ more) total
+
 -- ---- what is written
 
 -- a front of the content, and all of it once all parts are
@@ -77,3 +85,13 @@ PartsAreContent = (root : CidParts) (size total n : ℕ) (connections : List Con
 -- what was accepted stays so with further connections
 abbrev pub AcceptedStay : Type 0
 AcceptedStay = (connections more : List Connection) (q : QueryParts) (text : List ℕ) → WasAccepted connections q text → WasAccepted (connections ++ more) q text
+
+-- ---- a DAG's own traversal
+
+-- the sections that a sound DAG's own traversal opens are blocks of it
+abbrev pub OpenedAreBlocks : Type 0
+OpenedAreBlocks = (q : QueryParts) (d : Dag) → IsSound d → root_cid d ≡ q.root → All (λ section. Contains (blocks d) section) (opened_list q d)
+
+-- and so are those that it sends
+abbrev pub OwnAreBlocks : Type 0
+OwnAreBlocks = (q : QueryParts) (d : Dag) → IsSound d → root_cid d ≡ q.root → All (λ section. Contains (blocks d) section) (block_list q d)

@@ -1,7 +1,7 @@
 //! The parts of a file, each asked for by its range of bytes. Each law is the contract of a function that does nothing.
 #![tactic(auto)]
 
-ghost use Rattle.tg_parts.specs.PartLaws.{AcceptedStay, AllSlicesJoin, PartIsSlice, PartsAreContent, RootIsRead, SlicesJoin, TotalIsTold};
+ghost use Rattle.tg_parts.specs.PartLaws.{AcceptedStay, AllSlicesJoin, OpenedAreBlocks, OwnAreBlocks, PartIsSlice, PartsAreContent, RootIsRead, RootsStay, SlicesJoin, TotalIsTold, TotalsStay};
 
 /// The slices of the first parts of bytes, one behind another, are a front of them, and those of all parts all of them.
 ///
@@ -25,6 +25,8 @@ pub fn file_parts()
 pub fn accepted_roots()
     ensures read { RootIsRead }
     ensures total { TotalIsTold }
+    ensures block_stays { RootsStay }
+    ensures total_stays { TotalsStay }
 {
     tg_model::laws::readings();
     tg_model_laws::file_sizes();
@@ -42,3 +44,11 @@ pub fn accepted_parts()
     file_parts();
     accepted_roots();
 }
+
+/// The sections that a sound DAG's own traversal opens are blocks of it, and so are those that it sends.
+///
+/// UnixFS specification; Trustless Gateway specification, CAR responses.
+pub fn own_blocks()
+    ensures opened { OpenedAreBlocks }
+    ensures sent { OwnAreBlocks }
+{}
