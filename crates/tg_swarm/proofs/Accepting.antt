@@ -1,11 +1,13 @@
 -- What stands of a swarm once a job is finished.
-use Rattle.std.proofs.Common.{Err, List, Ok, Result, [], ap, arith, refl, subst, suc, sym, zero, ℕ, ◌++◌, ◌-◌, ◌∙◌, ◌≡◌, ◌≤◌}
+use Rattle.std.proofs.Common.{Err, List, None, Ok, Result, Some, [], ap, arith, length, length-set, refl, subst, suc, sym, zero, ℕ, ◌++◌, ◌-◌, ◌∙◌, ◌≡◌, ◌≤◌}
 use Rattle.tg_fetch.specs.declared.client.Client.{Client}
 use Rattle.tg_parts.specs.Connections.{AreAnswers, Connection, WasAccepted}
 use Rattle.tg_parts.specs.Connections as connected
 use Rattle.tg_streams.specs.Streams.{Output}
+use Rattle.std.specs.List.{slice_get}
 use Rattle.tg_swarm.proofs.Keeping.{kept_closes, part_finished}
-use Rattle.tg_swarm.specs.Jobs.{HasFailed, HasOpened, HasPut, IsAlmost, IsProgress, JobsState, with_part}
+use Rattle.tg_swarm.proofs.Places.{texts_more, texts_within}
+use Rattle.tg_swarm.specs.Jobs.{HasFailed, HasOpened, HasPut, IsAlmost, IsProgress, JobsState, finished_count, with_part}
 use Rattle.tg_swarm.specs.Peers.{HasJob}
 use Rattle.tg_swarm.specs.Said.{AcceptedEnds, FailedIn, HasAccepted, IsAccepting, IsRooting, RootedEnds}
 use Rattle.tg_swarm.specs.Swarms.{AnswersFor, AnswersJob, IsPlanned, SwarmState, asked_of, query_for}
@@ -61,6 +63,7 @@ module _ (old : SwarmState) (call : Call Client) (connections : List Connection)
       stands = h.stands;
       progress_is = h.progress_is;
       closed = λ plan o. let done = h.closed (plan ∙ plan_is) in omega (arith, o.is_at, done, first_job);
+      fewer = h.fewer;
     }
     by_result new out (Err fault) h = h
 
@@ -113,6 +116,19 @@ module _ (old : SwarmState) (call : Call Client) (connections : List Connection)
       progress_is = far p.jobs.almost.within;
       closed = λ plan o.
           kept_closes old.jobs ready call.job call.text.content f.is_open (subst (λ (j : JobsState Client). HasOpened j ready) kept_is opened) o;
+      fewer = omega (
+        arith,
+        opened.same,
+        opened.finished,
+        ap (λ (j : JobsState Client). length j.parts) kept_is,
+        ap (λ (j : JobsState Client). finished_count j) kept_is,
+        length-set old.jobs.parts (call.job - old.jobs.written) (Some call.text.content),
+        texts_more old.jobs.parts (call.job - old.jobs.written) call.text.content
+            (subst (λ (n : ℕ). slice_get old.jobs.parts n ≡ Some None) (omega (arith, f.is_open.is_at)) f.is_open.unfinished),
+        texts_within ready.parts,
+        p.jobs.almost.within,
+        p.jobs.almost.fits,
+      );
     }
 
     pub part_failed : (ready : JobsState Client) (out : Output) → HasFailed (AnswersJob (asked_of old connections)) ready written out

@@ -6,13 +6,12 @@ use Rattle.std.proofs.lemmas.Option.{slice_get_within}
 use Rattle.std.specs.List.{slice_get}
 use Rattle.std.specs.Prelude.{slice_set}
 use Rattle.tg_bytes.specs.Told.{grown}
-use Rattle.tg_fetch.specs.Received.{AreReceived}
 use Rattle.tg_fetch.specs.declared.client.Client.{Client}
 use Rattle.tg_fetch.specs.declared.fault.FetchFault.{FetchFault}
 use Rattle.tg_model.specs.LimitNumbers.{LimitNumbers}
 use Rattle.tg_model.specs.Queries.{QueryParts}
 use Rattle.tg_parts.specs.Connections.{Connection, WasAccepted}
-use Rattle.tg_parts.specs.PartLaws.{AcceptedStay}
+use Rattle.tg_parts.specs.PartLaws.{AcceptedStay, RootsStay, TotalsStay}
 use Rattle.tg_streams.specs.Streams.{Output, OutputQuiet, Put, SinkMeaning, Unput, into}
 use Rattle.tg_swarm.proofs.Keeping.{busy_again, left_alone, none_has}
 use Rattle.tg_swarm.proofs.Longer.{stands_longer}
@@ -21,7 +20,7 @@ use Rattle.tg_swarm.proofs.Starting.{set_in, stands_peers}
 use Rattle.tg_swarm.specs.Jobs.{IsOpen, IsProgress}
 use Rattle.tg_swarm.specs.Peers.{AreRefused, HasJob, IsRefusedPeer, job_of}
 use Rattle.tg_swarm.specs.Said.{AcceptedEnds, CallHeard, IsAccepting, IsBlaming, IsText, RootSays}
-use Rattle.tg_swarm.specs.Swarms.{AfterEvent, AnswersJob, CallStands, EventEnds, GoesOn, IsBlamed, IsTold, PeerAfter, RootAccepted, StandsFor, SwarmState, asked_of, bytes_of, query_of}
+use Rattle.tg_swarm.specs.Swarms.{AfterEvent, AnswersJob, CallStands, EventEnds, GoesOn, IsBlamed, IsHeardAnswer, IsTold, PeerAfter, RootAccepted, StandsFor, SwarmState, asked_of, bytes_of, query_of}
 use Rattle.tg_swarm.specs.declared.fault.SwarmFault.{SwarmFault}
 use Rattle.tg_swarm.specs.declared.fault.SwarmFault.TheVariants as faults
 use Rattle.tg_swarm.specs.declared.peers.Call.{Call}
@@ -291,9 +290,9 @@ module _ (old : SwarmState) (at : ℕ) (call : Call Client) (busy : slice_get ol
           → IsTold call.client.limits call.client.query (heard ++ bytes_of event) connections (with_over connections)
       over_told connections = inr (
         its_text.sections,
-        subst (λ (q : QueryParts). AreReceived call.client.limits.block (heard ++ bytes_of event) q its_text.sections) c.query
-            (subst (λ (l : LimitNumbers). AreReceived l.block
-            (heard ++ bytes_of event) later.client.query its_text.sections) c.limits its_text.received),
+        subst (λ (q : QueryParts). IsHeardAnswer q call.client.limits (heard ++ bytes_of event) its_text.sections) c.query
+            (subst (λ (l : LimitNumbers). IsHeardAnswer later.client.query l
+            (heard ++ bytes_of event) its_text.sections) c.limits its_text.answered),
         refl,
       )
 
@@ -308,11 +307,12 @@ module _ (old : SwarmState) (at : ℕ) (call : Call Client) (busy : slice_get ol
                 (c.query ∙ query_is) its_text.sound;
           }
 
-      pub over_accepting : AcceptedStay → (taken : SwarmState) → taken ≡ set_in old at kinds.Idle → (connections : List Connection) (written : List ℕ)
-          → StandsFor old connections written → IsAccepting taken later (with_over connections) written
-      over_accepting stay taken taken_is connections written h =
+      pub over_accepting : AcceptedStay → RootsStay → TotalsStay → (taken : SwarmState) → taken ≡ set_in old at kinds.Idle
+          → (connections : List Connection) (written : List ℕ) → StandsFor old connections written
+          → IsAccepting taken later (with_over connections) written
+      over_accepting stay block_stays total_stays taken taken_is connections written h =
           subst (λ (t : SwarmState). IsAccepting t later (with_over connections) written) (sym taken_is)
-          (accepting later same (with_over connections) written (stands_longer stay connections (over ∷ []) old written h)
+          (accepting later same (with_over connections) written (stands_longer stay block_stays total_stays connections (over ∷ []) old written h)
           (over_accepted connections))
 
 -- ---- the other peers

@@ -1,4 +1,5 @@
 mod Accepting
+mod BusyCounts
 mod EachJob
 mod Ended
 mod Events
@@ -14,4 +15,5 @@ mod Rooted
 mod Rooting
 mod Sound
 mod Starting
+mod Steps
 mod Unfinished

@@ -2,10 +2,10 @@
 use Rattle.std.proofs.Common.{List, suc, zero, ℕ, ◌++◌, ◌+◌}
 use Rattle.tg_cid.specs.Cid.{CidParts}
 use Rattle.tg_fetch.specs.declared.client.Client.{Client}
-use Rattle.tg_parts.specs.Connections.{AreAnswers, Connection, IsRootBlock, IsRootOfFile}
+use Rattle.tg_parts.specs.Connections.{AreAnswers, Connection}
 use Rattle.tg_parts.specs.Connections as connected
-use Rattle.tg_parts.specs.PartLaws.{AcceptedStay}
-use Rattle.tg_parts.specs.Parts.{part_query, root_query}
+use Rattle.tg_parts.specs.PartLaws.{AcceptedStay, RootsStay, TotalsStay}
+use Rattle.tg_parts.specs.Parts.{part_query}
 use Rattle.tg_swarm.specs.Jobs.{IsAlmost, JobsState}
 use Rattle.tg_swarm.specs.Swarms.{AnswersFor, AnswersJob, IsPlanned, StandsFor, SwarmState, asked_of}
 use Rattle.tg_swarm.specs.declared.swarm.Plan.{Plan}
@@ -32,23 +32,16 @@ answers_for old new each (suc n) written (connected.more m before text first a) 
 
 -- ---- further connections
 
-module _ (stay : AcceptedStay) (connections more : List Connection) where
-  block_stays : (root : CidParts) (block : List ℕ) → IsRootBlock root connections block → IsRootBlock root (connections ++ more) block
-  block_stays root block h = record { accepted = stay connections more (root_query root) block h.accepted; bytes = h.bytes }
-
-  file_stays : (root : CidParts) (total : ℕ) → IsRootOfFile root connections total → IsRootOfFile root (connections ++ more) total
-  file_stays root total h =
-      record { block = h.block; block_is = block_stays root h.block h.block_is; kind = h.kind; reads = h.reads; file = h.file; total_is = h.total_is }
-
+module _ (stay : AcceptedStay) (block_stays : RootsStay) (total_stays : TotalsStay) (connections more : List Connection) where
   answer_stays : (root : CidParts) (part : ℕ) (plan : Plan) (job : ℕ) (text : List ℕ) → AnswersFor root part plan connections job text
       → AnswersFor root part plan (connections ++ more) job text
-  answer_stays root part plans.Root job text h = block_stays root text h
+  answer_stays root part plans.Root job text h = block_stays connections more root text h
   answer_stays root part (plans.Parts total) job text h = stay connections more (part_query root part total job) text h
 
   planned_stays : (root : CidParts) (part : ℕ) (plan : Plan) (jobs : JobsState Client) (written : List ℕ)
       → IsPlanned root part plan jobs connections written → IsPlanned root part plan jobs (connections ++ more) written
   planned_stays root part plans.Root jobs written h = h
-  planned_stays root part (plans.Parts total) jobs written h = (file_stays root total h.0, h.1)
+  planned_stays root part (plans.Parts total) jobs written h = (total_stays connections more root total h.0, h.1)
 
   pub stands_longer : (s : SwarmState) (written : List ℕ) → StandsFor s connections written → StandsFor s (connections ++ more) written
   stands_longer s written h = record {

@@ -4,7 +4,6 @@ use Rattle.std.specs.Borrow.{Bor}
 use Rattle.std.specs.Prelude.{MatchResult, ⊤}
 use Rattle.tg_fetch.specs.Clients.{EndEnds, FedAll, FedMore, FeedEnds, IsOpen}
 use Rattle.tg_fetch.specs.Clients as clients
-use Rattle.tg_fetch.specs.Received.{carried}
 use Rattle.tg_fetch.specs.declared.client.Client.{Client}
 use Rattle.tg_fetch.specs.declared.fault.FetchFault.{FetchFault}
 use Rattle.tg_model.specs.LimitNumbers.{LimitNumbers}
@@ -29,8 +28,15 @@ text_all : (q : QueryParts) (limits : LimitNumbers) (old new : SinkState) (heard
     → FedAll q limits heard piece old.content (into mem_sink old new) → IsText q limits (heard ++ piece) new.content
 text_all q limits old new heard piece a = record {
   sections = a.sections;
-  received = carried (heard ++ a.front) a.more false
-      (ap (λ (x : List ℕ). heard ++ x) a.whole ∙ sym (append_assoc heard a.front a.more)) a.answered.carries;
+  answered = record {
+    front = heard ++ a.front;
+    more = a.more;
+    whole = ap (λ (x : List ℕ). heard ++ x) a.whole ∙ sym (append_assoc heard a.front a.more);
+    ended = false;
+    last = λ no. absurd (let f : false ≡ true = no in cc);
+    text = old.content ++ a.text;
+    answered = a.answered;
+  };
   sound = subst (λ (t : List ℕ). ForEachSound q (λ d. IsItsAnswer q d a.sections t)) (sym a.put.moved.content) a.sound;
 }
 
@@ -63,7 +69,7 @@ end_text : (q : QueryParts) (limits : LimitNumbers) (old new : SinkState) (heard
     → clients.EndedWhole q limits heard old.content (into mem_sink old new) → IsText q limits (heard ++ []) new.content
 end_text q limits old new heard e = record {
   sections = e.sections;
-  received = carried heard [] true refl e.answered.carries;
+  answered = record { front = heard; more = []; whole = refl; ended = true; last = λ yes. refl; text = old.content ++ e.text; answered = e.answered };
   sound = subst (λ (t : List ℕ). ForEachSound q (λ d. IsItsAnswer q d e.sections t)) (sym e.put.moved.content) e.sound;
 }
 

@@ -2,7 +2,8 @@
 use Rattle.std.proofs.Common.{List, None, Option, Some, [], add-one, ap, arith, drop, length, refl, length-append, suc, sym, zero, ℕ, ◌++◌}
 use Rattle.std.proofs.Common.{◌+◌, ◌<◌, ◌∙◌, ◌∷◌, ◌≡◌, ◌≢◌}
 use Rattle.std.specs.List.{slice_get}
-use Rattle.std.specs.Prelude.{slice_set}
+use Rattle.std.specs.Prelude.{slice_set, ◌≤◌}
+use Rattle.tg_swarm.specs.Jobs.{text_count}
 
 pub get_set_same : {X : Type 0} (xs : List X) (i : ℕ) (x : X) → i < length xs → slice_get (slice_set xs i x) i ≡ Some x
 get_set_same [] i x h = absurd (omega (arith, h))
@@ -29,22 +30,32 @@ get_before [] (suc k) t h = absurd (cc h)
 get_before (y ∷ xs) zero t h = h
 get_before (y ∷ xs) (suc k) t h = get_before xs k t h
 
--- how many are finished
-abbrev pub finished : {A : Type 0} → List (Option A) → ℕ
-finished [] = 0
-finished (None ∷ xs) = finished xs
-finished (Some t ∷ xs) = 1 + finished xs
-
-pub finished_push : {A : Type 0} (xs : List (Option A)) → finished (xs ++ None ∷ []) ≡ finished xs
-finished_push [] = refl
-finished_push (None ∷ xs) = finished_push xs
-finished_push (Some t ∷ xs) = ap (λ n. 1 + n) (finished_push xs)
+-- how many texts there are
+texts_push : (xs : List (Option (List ℕ))) → text_count (xs ++ None ∷ []) ≡ text_count xs
+texts_push [] = refl
+texts_push (None ∷ xs) = texts_push xs
+texts_push (Some t ∷ xs) = ap (λ n. 1 + n) (texts_push xs)
 
 -- the first is taken
-pub finished_moved : {A : Type 0} (xs : List (Option A)) (t : A) → slice_get xs 0 ≡ Some (Some t) → finished (drop 1 xs ++ None ∷ []) < finished xs
-finished_moved [] t h = absurd (cc h)
-finished_moved (None ∷ xs) t h = absurd (cc h)
-finished_moved (Some u ∷ xs) t h = omega (arith, finished_push xs)
+pub texts_moved : (xs : List (Option (List ℕ))) (t : List ℕ) → slice_get xs 0 ≡ Some (Some t)
+    → 1 + text_count (drop 1 xs ++ None ∷ []) ≡ text_count xs
+texts_moved [] t h = absurd (cc h)
+texts_moved (None ∷ xs) t h = absurd (cc h)
+texts_moved (Some u ∷ xs) t h = ap (λ n. 1 + n) (texts_push xs)
+
+-- one more is there
+pub texts_more : (xs : List (Option (List ℕ))) (k : ℕ) (t : List ℕ) → slice_get xs k ≡ Some None
+    → text_count (slice_set xs k (Some t)) ≡ 1 + text_count xs
+texts_more [] k t h = absurd (cc h)
+texts_more (None ∷ xs) zero t h = refl
+texts_more (Some u ∷ xs) zero t h = absurd (cc h)
+texts_more (None ∷ xs) (suc k) t h = texts_more xs k t h
+texts_more (Some u ∷ xs) (suc k) t h = ap (λ n. 1 + n) (texts_more xs k t h)
+
+pub texts_within : (xs : List (Option (List ℕ))) → text_count xs ≤ length xs
+texts_within [] = omega arith
+texts_within (None ∷ xs) = omega (arith, texts_within xs)
+texts_within (Some t ∷ xs) = omega (arith, texts_within xs)
 
 get_left : {X : Type 0} (xs ys : List X) (k : ℕ) → k < length xs → slice_get (xs ++ ys) k ≡ slice_get xs k
 get_left [] ys k h = absurd (omega (arith, h))

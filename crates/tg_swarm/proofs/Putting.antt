@@ -3,9 +3,9 @@ use Rattle.std.proofs.Common.{List, None, Option, Some, [], add-one, ap, append_
 use Rattle.std.proofs.Common.{subst, sym, ℕ, ◌++◌, ◌+◌, ◌-◌, ◌<◌, ◌^◌, ◌∙◌, ◌∷◌, ◌≡◌}
 use Rattle.std.specs.List.{slice_get}
 use Rattle.tg_swarm.proofs.Keeping.{first_put}
-use Rattle.tg_swarm.proofs.Places.{finished, finished_moved, moved_back, moved_length}
+use Rattle.tg_swarm.proofs.Places.{moved_back, moved_length, texts_moved}
 use Rattle.tg_parts.specs.Connections.{AreAnswers, more}
-use Rattle.tg_swarm.specs.Jobs.{HasFailed, HasOpened, IsAlmost, JobsState, moved_up}
+use Rattle.tg_swarm.specs.Jobs.{HasFailed, HasOpened, IsAlmost, JobsState, moved_up, text_count}
 use Rattle.tg_swarm.specs.Swarms.{AnswersJob, Asked}
 use Rattle.tg_streams.specs.Joining.{SinkJoins, put_nothing, put_put, put_put_front}
 use Rattle.tg_streams.specs.Streams.{Output, OutputQuiet, Put, PutFront, SinkMeaning, into}
@@ -35,6 +35,7 @@ opened_more : {C : Type 0} (old s : JobsState C) (text : List ℕ) → HasOpened
 opened_more old s text h first = record {
   grown = omega (arith, h.grown);
   same = moved_length s.parts text first ∙ h.same;
+  finished = omega (arith, texts_moved s.parts text first, h.finished);
   opened = λ job below o. h.opened job below (record {
     place = o.place + 1;
     is_at = omega (arith, o.is_at);
@@ -80,7 +81,7 @@ putting_none S m s a rests = record {
   moved = λ asked written almost answers. record {
     texts = subst (AreAnswers (AnswersJob asked) s.written) (sym (append-nil written)) answers;
     almost = almost;
-    opened = record { grown = omega arith; same = refl; opened = λ job below o. o };
+    opened = record { grown = omega arith; same = refl; finished = refl; opened = λ job below o. o };
   };
 }
 
@@ -120,7 +121,7 @@ module _ {C : Type 0} (S : Type 0) (m : SinkMeaning S) (joins : SinkJoins S m) (
 
 -- fewer texts are kept
 pub finished_step : {C : Type 0} (s moved new : JobsState C) (written : ℕ) (text : List ℕ) → slice_get s.parts 0 ≡ Some (Some text)
-    → moved ≡ moved_up s → new ≡ record moved { written = written } → finished new.parts < finished s.parts
+    → moved ≡ moved_up s → new ≡ record moved { written = written } → text_count new.parts < text_count s.parts
 finished_step {C} s moved new written text first up one =
     let e : new.parts ≡ drop 1 s.parts ++ None ∷ [] = ap (λ (t : JobsState C). t.parts) one ∙ ap (λ (t : JobsState C). t.parts) up in
-    subst (λ (xs : List (Option (List ℕ))). finished xs < finished s.parts) (sym e) (finished_moved s.parts text first)
+    subst (λ (xs : List (Option (List ℕ))). text_count xs < text_count s.parts) (sym e) (omega (arith, texts_moved s.parts text first))

@@ -9,9 +9,10 @@ use Rattle.tg_parts.specs.Connections.{AreAnswers, Connection, IsRootBlock, IsRo
 use Rattle.tg_parts.specs.Connections as connected
 use Rattle.tg_parts.specs.Parts.{part_count}
 use Rattle.tg_streams.specs.Streams.{Output, OutputQuiet, Put, Unput}
+use Rattle.tg_swarm.proofs.Places.{texts_within}
 use Rattle.tg_swarm.proofs.Rooting.{FileIs, KindIsNot, placed_fault}
 use Rattle.tg_swarm.specs.Said.{IsBeginning, IsPuttingRoot, IsRooting, RootSays, RootedEnds, StopsBy, fault_of_block}
-use Rattle.tg_swarm.specs.Swarms.{AnswersFor, AnswersJob, IsNotFile, IsPlanned, StandsFor, SwarmState, asked_of}
+use Rattle.tg_swarm.specs.Swarms.{AnswersFor, AnswersJob, IsNotFile, IsPlanned, StandsFor, SwarmState, asked_of, jobs_left, one_if_root}
 use Rattle.tg_swarm.specs.declared.fault.SwarmFault.{SwarmFault}
 use Rattle.tg_swarm.specs.declared.fault.SwarmFault.TheVariants as faults
 use Rattle.tg_swarm.specs.declared.swarm.Plan.{Plan}
@@ -30,6 +31,13 @@ module _ (old : SwarmState) (block : List ℕ) (connections : List Connection) (
   pub root_says : (says : List ℕ → Type 0) (out : Output) → says block → Unput out → OutputQuiet out → RootSays old connections says out
   root_says says out is unput quiet =
       record { plan = r.plan; block = block; block_is = root_block; says_so = is; unput = unput; quiet = quiet }
+
+  -- a job less is left
+  root_one : one_if_root old.plan ≡ 1
+  root_one = ap one_if_root r.plan
+
+  fewer_by : (new later : SwarmState) → new ≡ later → jobs_left later < jobs_left old → jobs_left new < jobs_left old
+  fewer_by new later is less = subst (λ (t : SwarmState). jobs_left t < jobs_left old) (sym is) less
 
   -- ---- a file
 
@@ -74,6 +82,8 @@ module _ (old : SwarmState) (block : List ℕ) (connections : List Connection) (
         stands = stands;
         progress_is = b.2 stands.jobs.almost.within;
         closed = λ plan. absurd (let e : plans.Parts total ≡ plans.Root = sym (ap (λ (t : SwarmState). t.plan) b.0) ∙ plan in cc);
+        fewer = fewer_by new (record old { plan = plans.Parts total; jobs = record old.jobs { count = part_count old.part total; written = 0 } }) b.0
+            (omega (arith, root_one, texts_within old.jobs.parts, r.written));
       }
   begun new total out (Err fault) file b put unput quiet =
       subst (λ (f : SwarmFault). StopsBy old new connections [] out f) (sym b.1)
@@ -122,6 +132,7 @@ module _ (old : SwarmState) (block : List ℕ) (connections : List Connection) (
         stands = stands;
         progress_is = p.3 stands.jobs.almost.within;
         closed = λ plan. ap (λ (t : SwarmState). t.jobs.written) is;
+        fewer = fewer_by new (record old { jobs = record old.jobs { written = 1 } }) is (omega (arith, root_one, texts_within old.jobs.parts, r.written));
       }
   root_put new out (Err faults.SinkFault) raw p = record {
     failed = record {

@@ -71,10 +71,21 @@ with_part s place text = record s { parts = slice_set s.parts place (Some text) 
 abbrev pub moved_up : {C : Type 0} → JobsState C → JobsState C
 moved_up s = record s { parts = drop 1 s.parts ++ None ∷ [] }
 
--- of the jobs that could be asked before, none is open now that wasn't
+-- how many of these texts are there
+abbrev pub text_count : List (Option (List ℕ)) → ℕ
+text_count [] = 0
+text_count (None ∷ parts) = text_count parts
+text_count (Some text ∷ parts) = 1 + text_count parts
+
+-- how many jobs are finished, be they done with or kept
+abbrev pub finished_count : {C : Type 0} → JobsState C → ℕ
+finished_count s = s.written + text_count s.parts
+
+-- of the jobs that could be asked before, none is open now that wasn't, and as many are finished as before
 pub record HasOpened {C : Type 0} (old new : JobsState C) : Type 0 where
   pub grown : old.written ≤ new.written
   pub same : length new.parts ≡ length old.parts
+  pub finished : finished_count new ≡ finished_count old
   pub opened : (job : ℕ) → job < old.written + length old.parts → IsOpen new job → IsOpen old job
 
 -- how far it is

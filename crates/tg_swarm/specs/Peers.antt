@@ -1,6 +1,6 @@
 -- Which jobs are asked of which peers.
 use Rattle.std.specs.List.{slice_get}
-use Rattle.std.specs.Prelude.{List, None, Option, Some, [], slice_set, ⊤, ℕ, ◌∷◌, ◌≡◌}
+use Rattle.std.specs.Prelude.{List, None, Option, Some, [], map, slice_set, sum, ⊤, ℕ, ◌∷◌, ◌≡◌}
 use Rattle.tg_fetch.specs.declared.fault.FetchFault.{FetchFault}
 use Rattle.tg_swarm.specs.declared.peers.Peer.{Peer}
 use Rattle.tg_swarm.specs.declared.peers.Peer.TheVariants as kinds
@@ -21,6 +21,15 @@ abbrev pub IsRefusedPeer : {C : Type 0} → Peer C → Type 0
 IsRefusedPeer kinds.Idle = ⊥
 IsRefusedPeer (kinds.Busy call) = ⊥
 IsRefusedPeer (kinds.Refused fault) = ⊤
+
+-- of how many peers something is asked
+abbrev pub one_if_busy : {C : Type 0} → Peer C → ℕ
+one_if_busy kinds.Idle = 0
+one_if_busy (kinds.Busy call) = 1
+one_if_busy (kinds.Refused fault) = 0
+
+abbrev pub busy_count : {C : Type 0} → List (Peer C) → ℕ
+busy_count peers = sum (map one_if_busy peers)
 
 -- this peer has the job
 abbrev pub HasJob : {C : Type 0} → List (Peer C) → ℕ → ℕ → Type 0

@@ -1,7 +1,6 @@
 -- What the steps of a swarm's calls say.
 use Rattle.std.specs.Prelude.{Err, List, None, Ok, Result, [], length, min, ℕ, ◌++◌, ◌+◌, ◌-◌, ◌<◌, ◌^◌, ◌≡◌, ◌≤◌}
 use Rattle.tg_fetch.specs.Clients as clients
-use Rattle.tg_fetch.specs.Received.{AreReceived}
 use Rattle.tg_fetch.specs.declared.client.Client.{Client}
 use Rattle.tg_fetch.specs.declared.fault.FetchFault.{FetchFault}
 use Rattle.tg_model.specs.Computed.{read}
@@ -17,7 +16,7 @@ use Rattle.tg_parts.specs.Parts.{part_count, root_query}
 use Rattle.tg_streams.specs.Streams.{Output, OutputQuiet, Put, PutFront, Unput}
 use Rattle.tg_swarm.specs.Jobs.{AreNone, HasFailed, IsJobs, IsOpen, IsProgress}
 use Rattle.tg_swarm.specs.Peers.{AreRefused, HasJob, slice_with}
-use Rattle.tg_swarm.specs.Swarms.{AnswersJob, IsBlamed, IsNotFile, IsPeersOwn, StandsFor, SwarmState, asked_of, bytes_of, query_of}
+use Rattle.tg_swarm.specs.Swarms.{AnswersJob, IsBlamed, IsHeardAnswer, IsNotFile, IsPeersOwn, StandsFor, SwarmState, asked_of, bytes_of, jobs_left, query_of}
 use Rattle.tg_swarm.specs.declared.fault.SwarmFault.{SwarmFault}
 use Rattle.tg_swarm.specs.declared.fault.SwarmFault.TheVariants as faults
 use Rattle.tg_swarm.specs.declared.peers.Call.{Call}
@@ -40,10 +39,10 @@ IsInRange part plan count = (0 < part) × (part ≤ 2 ^ 24) × IsPlanInRange par
 
 -- ---- a busy peer's client is told of an event
 
--- the text is the answer, by the sections that stand in what was heard
+-- the text is the answer, by the sections that what was heard carries
 pub record IsText (q : QueryParts) (limits : LimitNumbers) (heard text : List ℕ) : Type 0 where
   pub sections : List Section
-  pub received : AreReceived limits.block heard q sections
+  pub answered : IsHeardAnswer q limits heard sections
   pub sound : ForEachSound q (λ d. IsItsAnswer q d sections text)
 
 abbrev pub HeardSo : Call Client → List ℕ → PeerEvent → Result Progress FetchFault → Type 0
@@ -86,6 +85,7 @@ pub record HasAccepted (old new : SwarmState) (connections : List Connection) (w
   pub stands : StandsFor new connections (written ++ text)
   pub progress_is : IsProgress new.jobs progress
   pub closed : new.plan ≡ old.plan → IsOpen new.jobs job → ⊥
+  pub fewer : jobs_left new < jobs_left old
 
 -- what the root's block says that was accepted
 pub record RootSays (old : SwarmState) (connections : List Connection) (says : List ℕ → Type 0) (out : Output) : Type 0 where
@@ -128,16 +128,17 @@ pub record IsRooting (old : SwarmState) (block : List ℕ) (connections : List C
   pub jobs : IsJobs (AnswersJob (asked_of old connections)) old.jobs
   pub nobody : (i job : ℕ) → HasJob old.jobs.peers i job → ⊥
 
-pub record HasRooted (new : SwarmState) (connections : List Connection) (out : Output) (progress : Progress) : Type 0 where
+pub record HasRooted (old new : SwarmState) (connections : List Connection) (out : Output) (progress : Progress) : Type 0 where
   pub text : List ℕ
   pub put : Put text out
   pub quiet : OutputQuiet out
   pub stands : StandsFor new connections text
   pub progress_is : IsProgress new.jobs progress
   pub closed : new.plan ≡ plans.Root → new.jobs.written ≡ 1
+  pub fewer : jobs_left new < jobs_left old
 
 abbrev pub RootedEnds : SwarmState → SwarmState → List Connection → List ℕ → Output → Result Progress SwarmFault → Type 0
-RootedEnds old new connections block out (Ok progress) = HasRooted new connections out progress
+RootedEnds old new connections block out (Ok progress) = HasRooted old new connections out progress
 RootedEnds old new connections block out (Err fault) = StopsBy old new connections [] out fault
 
 -- it has no kind, or no memory was found

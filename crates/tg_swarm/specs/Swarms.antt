@@ -1,10 +1,9 @@
 -- What a swarm stands for, and what its calls say (Trustless Gateway specification, entity-bytes).
 use Rattle.std.specs.List.{slice_get}
-use Rattle.std.specs.Prelude.{Bool, Err, List, None, Ok, Option, Result, Some, [], false, length, true, ⊤, ℕ, ◌++◌, ◌<◌, ◌∷◌, ◌≡◌, ◌⊎◌}
+use Rattle.std.specs.Prelude.{Bool, Err, List, None, Ok, Option, Result, Some, [], false, length, map, min, sum, true, ⊤, ℕ, ◌*◌, ◌+◌, ◌++◌, ◌-◌, ◌^◌, ◌<◌, ◌∷◌, ◌≡◌, ◌⊎◌}
 use Rattle.tg_cid.specs.Cid.{CidParts}
 use Rattle.tg_fetch.specs.Clients as clients
-use Rattle.tg_fetch.specs.Received.{AreReceived}
-use Rattle.tg_fetch.specs.Replies.{RefusedBy}
+use Rattle.tg_fetch.specs.Replies.{IsAnswered, RefusedBy}
 use Rattle.tg_fetch.specs.declared.client.Client.{Client}
 use Rattle.tg_fetch.specs.declared.fault.FetchFault.{FetchFault}
 use Rattle.tg_fetch.specs.declared.fault.FetchFault.TheVariants as fetches
@@ -19,15 +18,17 @@ use Rattle.tg_model.specs.declared.limits.LimitKind.TheVariants as limit_kinds
 use Rattle.tg_parts.specs.Connections.{AreAnswers, Connection, IsRootBlock, IsRootOfFile, WasAccepted}
 use Rattle.tg_parts.specs.Parts.{part_count, part_query, root_query}
 use Rattle.tg_streams.specs.Streams.{Output, OutputQuiet, Put, Unput}
-use Rattle.tg_swarm.specs.Jobs.{AreNone, HasFailed, IsJobs, IsLowest, IsOpen, IsProgress, IsWaiting, JobsState}
-use Rattle.tg_swarm.specs.Peers.{AreRefused, slice_with}
+use Rattle.tg_swarm.specs.Jobs.{AreNone, HasFailed, IsJobs, IsLowest, IsOpen, IsProgress, IsWaiting, JobsState, finished_count}
+use Rattle.tg_swarm.specs.Peers.{AreRefused, busy_count, slice_with}
 use Rattle.tg_swarm.specs.declared.fault.SwarmFault.{SwarmFault}
 use Rattle.tg_swarm.specs.declared.fault.SwarmFault.TheVariants as faults
 use Rattle.tg_swarm.specs.declared.peers.Call.{Call}
+use Rattle.tg_swarm.specs.declared.peers.Peer.{Peer}
 use Rattle.tg_swarm.specs.declared.peers.Peer.TheVariants as kinds
 use Rattle.tg_swarm.specs.declared.swarm.PeerEvent.{PeerEvent}
 use Rattle.tg_swarm.specs.declared.swarm.PeerEvent.TheVariants as events
 use Rattle.tg_swarm.specs.declared.swarm.Plan.{Plan}
+use Rattle.tg_swarm.specs.declared.swarm.SwarmTold.{SwarmTold}
 use Rattle.tg_swarm.specs.declared.swarm.Plan.TheVariants as plans
 use Rattle.tg_verify.specs.declared.fault.Refusal.TheVariants as refusals
 use Rattle.tg_verify.specs.declared.verifier.Progress.{Progress}
@@ -170,10 +171,20 @@ AfterEvent old new at call heard event (Err other) = ⊤
 
 -- ---- how an event ends
 
+-- what was heard is the answer to a query, which these sections carry, and what follows it isn't looked at
+pub record IsHeardAnswer (q : QueryParts) (limits : LimitNumbers) (heard : List ℕ) (sections : List Section) : Type 0 where
+  pub front : List ℕ
+  pub more : List ℕ
+  pub whole : heard ≡ front ++ more
+  pub ended : Bool
+  pub last : ended ≡ true → more ≡ []
+  pub text : List ℕ
+  pub answered : IsAnswered q limits front ended sections text
+
 -- what came is told of its connection where that is over: no more connections than before, or one more, with what was heard in it
 abbrev pub IsTold : LimitNumbers → QueryParts → List ℕ → List Connection → List Connection → Type 0
 IsTold limits q heard before later =
-    (later ≡ before) ⊎ ((sections : List Section) × AreReceived limits.block heard q sections
+    (later ≡ before) ⊎ ((sections : List Section) × IsHeardAnswer q limits heard sections
     × (later ≡ before ++ record { query = q; heard = heard; sections = sections } ∷ []))
 
 -- it goes on: a text was put, all that could be, and some peer is left
@@ -229,6 +240,48 @@ EndsBy old new connections written call heard out faults.OutOfMemory = Unput out
 abbrev pub EventEnds : SwarmState → SwarmState → List Connection → List ℕ → Call Client → List ℕ → Output → Result Progress SwarmFault → Type 0
 EventEnds old new connections written call heard out (Ok progress) = GoesOn old new connections written call heard out progress
 EventEnds old new connections written call heard out (Err fault) = EndsBy old new connections written call heard out fault
+
+-- ---- how far it is
+
+-- how many bytes the file has, once the root's block told it, and how many of them were put
+abbrev pub total_in : Plan → Option ℕ
+total_in plans.Root = None
+total_in (plans.Parts total) = Some total
+
+abbrev pub put_in : ℕ → Plan → ℕ → ℕ
+put_in part plans.Root written = 0
+put_in part (plans.Parts total) written = min (written * part) total
+
+abbrev pub told_of : SwarmState → SwarmTold
+told_of s = record { bytes = put_in s.part s.plan s.jobs.written; total = total_in s.plan; busy = busy_count s.jobs.peers }
+
+-- ---- how much is left to do
+
+-- how many more jobs can be finished at most, of a file of any size: as many as there are numbers of jobs and places for texts, less
+-- those that are finished; and one more while the root's block is asked for
+abbrev pub one_if_root : Plan → ℕ
+one_if_root plans.Root = 1
+one_if_root (plans.Parts total) = 0
+
+abbrev pub jobs_left : SwarmState → ℕ
+jobs_left s = one_if_root s.plan + (2 ^ 64 + length s.jobs.parts) - finished_count s.jobs
+
+-- how many more steps a peer can take at most until its job is finished or it is refused: it is asked, says its bytes one by one, no
+-- more than the limit of what is received, and says no more
+abbrev pub steps_left : ℕ → Peer Client → ℕ
+steps_left received kinds.Idle = received + 2
+steps_left received (kinds.Busy call) = received + 1 - call.client.heard
+steps_left received (kinds.Refused fault) = 0
+
+-- how many more steps all peers can take at most, where each job that is finished may cost as many as a peer has, and one besides
+abbrev pub left_to_do : SwarmState → ℕ
+left_to_do s = jobs_left s * (s.limits.received + 3) + sum (map (steps_left s.limits.received) s.jobs.peers)
+
+-- an event that tells something: a byte at least, an end, or a failure
+abbrev pub TellsSome : PeerEvent → Type 0
+TellsSome (events.Piece piece) = 0 < length piece.now
+TellsSome events.Ended = ⊤
+TellsSome events.Failed = ⊤
 
 -- ---- what stays
 

@@ -4,11 +4,11 @@ ghost use Rattle.std.specs.Prelude.{◌≡◌, ◌≤◌, ◌<◌, ◌++◌, ◌
 ghost use Rattle.tg_parts.specs.Connections.{AreAnswers};
 ghost use Rattle.tg_streams.specs.Streams.{OutputQuiet, into};
 ghost use Rattle.tg_swarm.specs.Jobs.{AreIdle, AreNone, HasFailed, HasOpened, HasPut, IsAlmost, IsLowest, IsProgress, IsWaiting, moved_up, with_part};
-ghost use Rattle.tg_swarm.specs.Peers.{AreRefused, refusal_of, slice_with};
+ghost use Rattle.tg_swarm.specs.Peers.{AreRefused, busy_count, refusal_of, slice_with};
 ghost use Rattle.tg_swarm.specs.Swarms.{AnswersJob, Asked};
 ghost use Rattle.tg_swarm.specs.declared.peers.Peer.TheVariants.{Busy, Idle};
 
-use crate::peers::{Call, Peer, is_asked, none_left, set_peer, take_call};
+use crate::peers::{Call, Peer, busy_count, is_asked, none_left, set_peer, take_call};
 use std::alloc::{AllocError, Global};
 use std::marker::Model;
 use std::mem::{drop, replace};
@@ -100,6 +100,20 @@ impl<C: Drop> Jobs<C> {
         ensures { IsTrue result ↔ AreRefused self.now.peers }
     {
         none_left(self.peers.as_slice())
+    }
+
+    /// How many jobs are done with.
+    pub(crate) fn written(&self) -> u64
+        ensures { result ≡ self.now.written }
+    {
+        self.written
+    }
+
+    /// Of how many peers something is asked.
+    pub(crate) fn busy_count(&self) -> usize
+        ensures { result ≡ busy_count self.now.peers }
+    {
+        busy_count(self.peers.as_slice())
     }
 
     /// Whether all jobs are done with.

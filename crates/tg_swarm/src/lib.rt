@@ -10,4 +10,4 @@ mod swarm;
 pub use fault::SwarmFault;
 pub use jobs::Jobs;
 pub use peers::{Call, Peer};
-pub use swarm::{PeerEvent, Plan, Swarm};
+pub use swarm::{PeerEvent, Plan, Swarm, SwarmTold};

@@ -1,7 +1,7 @@
 //! Peers, each with the job that is asked of it.
 ghost use Rattle.std.specs.List.{slice_get};
 ghost use Rattle.std.specs.Prelude.{◌≡◌, ◌↔◌, ◌<◌, IsTrue, MatchOption, None, Some, length};
-ghost use Rattle.tg_swarm.specs.Peers.{AreRefused, IsAsked, IsRefusedPeer, job_of, refusal_of, slice_with};
+ghost use Rattle.tg_swarm.specs.Peers.{AreRefused, IsAsked, IsRefusedPeer, busy_count, job_of, refusal_of, slice_with};
 ghost use Rattle.tg_swarm.specs.declared.peers.Peer.TheVariants.{Busy, Idle};
 
 use std::mem::{drop, replace};
@@ -80,6 +80,19 @@ pub(crate) fn is_asked<C>(peers: &[Peer<C>], job: u64) -> bool
         }
     }
     false
+}
+
+/// Of how many of the peers something is asked.
+pub(crate) fn busy_count<C>(peers: &[Peer<C>]) -> usize
+    ensures { result ≡ busy_count peers.now }
+{
+    let mut busy = 0;
+    for peer in peers {
+        if peer.is_busy() {
+            busy += 1;
+        }
+    }
+    busy
 }
 
 /// Whether each peer was refused.

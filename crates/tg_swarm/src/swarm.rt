@@ -1,6 +1,6 @@
 //! One file from several peers, of whom none is trusted.
 ghost use Rattle.std.specs.List.{slice_get};
-ghost use Rattle.std.specs.Prelude.{◌≡◌, ◌≤◌, ◌<◌, ◌++◌, ◌*◌, ◌^◌, ◌↔◌, [], ℕ, List as Items, All, Err, IfOk, IsTrue, MatchOption, MatchResult, None, Ok, OnErr, OnOk, Some, length};
+ghost use Rattle.std.specs.Prelude.{◌≡◌, ◌≤◌, ◌<◌, ◌++◌, ◌*◌, ◌^◌, ◌↔◌, [], ⊤, ℕ, List as Items, All, Err, IfOk, IsTrue, MatchOption, MatchResult, None, Ok, OnErr, OnOk, Some, length};
 ghost use Rattle.tg_parts.specs.Connections.{Connection};
 ghost use Rattle.tg_parts.specs.Parts.{part_count};
 ghost use Rattle.tg_fetch.specs.declared.fault.FetchFault.TheVariants.{PeerFault};
@@ -8,14 +8,15 @@ ghost use Rattle.tg_streams.specs.Streams.{into};
 ghost use Rattle.tg_swarm.specs.Jobs.{IsProgress, OthersStay};
 ghost use Rattle.tg_swarm.specs.Peers.{refusal_of};
 ghost use Rattle.tg_swarm.specs.Said.{AcceptedEnds, CallHeard, IsAccepting, IsBeginning, IsBlaming, IsPuttingRoot, IsRooting, RootedEnds, fault_of_block};
-ghost use Rattle.tg_swarm.specs.Swarms.{AfterEvent, CallStands, EventEnds, HasAsked, IsAsBefore, NothingAsked, SettingsStay, StandsFor, bytes_of, limits_of, query_of};
+ghost use Rattle.tg_swarm.specs.Swarms.{AfterEvent, CallStands, EventEnds, HasAsked, IsAsBefore, NothingAsked, SettingsStay, StandsFor, TellsSome, bytes_of, left_to_do, limits_of, query_of, told_of};
 ghost use Rattle.tg_swarm.specs.declared.peers.Peer.{Peer};
 ghost use Rattle.tg_swarm.specs.declared.peers.Peer.TheVariants.{Busy, Idle, Refused};
 ghost use Rattle.tg_swarm.specs.declared.fault.SwarmFault.{SwarmFault};
 ghost use Rattle.tg_swarm.specs.declared.fault.SwarmFault.TheVariants.{NoPeerLeft};
-ghost use Rattle.tg_swarm.specs.declared.swarm.PeerEvent.TheVariants.{Failed};
+ghost use Rattle.tg_swarm.specs.declared.swarm.PeerEvent.TheVariants.{Ended, Failed};
 ghost use Rattle.tg_swarm.specs.declared.swarm.Plan.TheVariants.{Parts};
 ghost use Rattle.tg_model.specs.declared.limits.LimitKind.{LimitKind};
+ghost use Rattle.tg_verify.specs.declared.verifier.Progress.TheVariants.{More};
 
 use crate::fault::SwarmFault;
 use crate::jobs::Jobs;
@@ -51,6 +52,17 @@ pub enum Plan {
     Root,
     /// The parts of a file with so many bytes.
     Parts { total: u64 },
+}
+
+/// How far a swarm has come.
+#[derive(Clone, Copy, Debug, PartialEq, Eq)]
+pub struct SwarmTold {
+    /// How many bytes of a file in parts were put.
+    pub bytes: u64,
+    /// How many it has, once its root's block was accepted.
+    pub total: Option<u64>,
+    /// Of how many peers something is asked.
+    pub busy: usize,
 }
 
 /// One file from up to 16 peers, of whom none is trusted: first the root's block is asked of a peer, and then the file by parts of
@@ -119,6 +131,7 @@ impl Swarm {
         ensures err { OnErr result (self.new ≡ self.old) }
         ensures stands { (connections : Items Connection) (written : Items ℕ) → StandsFor self.old connections written
             → StandsFor self.new connections written }
+        ensures shorter { IfOk result (λ asked. MatchOption asked ⊤ (λ _. left_to_do self.new < left_to_do self.old)) }
     {
         if self.ended.is_some() || !self.jobs.is_idle(peer) {
             return Ok(None);
@@ -169,6 +182,10 @@ impl Swarm {
         ensures settings { SettingsStay self.old self.new }
         ensures count { OnErr result (self.new.jobs.count ≡ self.old.jobs.count) }
         ensures plan { (total : ℕ) → self.old.plan ≡ Parts total → self.new.plan ≡ Parts total }
+        // Each that tells something leaves less to do.
+        ensures shorter { (connections : Items Connection) (written heard : Items ℕ) (call : Call Client)
+            → StandsFor self.old connections written → slice_get self.old.jobs.peers peer ≡ Some (Busy call)
+            → CallStands self.old call heard → TellsSome event.entry → OnOk result (left_to_do self.new < left_to_do self.old) }
         ensures again { (fault : SwarmFault) → self.old.ended ≡ Some fault
             → (result ≡ Err fault) × (self.new ≡ self.old) × (out.new ≡ out.old) }
         ensures refused { MatchResult result (λ _. self.new.ended ≡ None) (λ fault. self.new.ended ≡ Some fault) }
@@ -190,6 +207,25 @@ impl Swarm {
         ensures { result ≡ length self.now.jobs.peers }
     {
         self.jobs.peer_count()
+    }
+
+    /// How far it has come.
+    pub fn told(&self) -> SwarmTold
+        ensures { result ≡ told_of self.now }
+    {
+        let busy = self.jobs.busy_count();
+        match self.plan {
+            Plan::Root => SwarmTold {
+                bytes: 0,
+                total: None,
+                busy,
+            },
+            Plan::Parts { total } => SwarmTold {
+                bytes: self.jobs.written().saturating_mul(self.part).min(total),
+                total: Some(total),
+                busy,
+            },
+        }
     }
 
     /// Whether something is asked of a peer.
@@ -268,8 +304,12 @@ impl Swarm {
         ensures count { OnErr result (self.new.jobs.count ≡ self.old.jobs.count) }
         ensures plan { (total : ℕ) → self.old.plan ≡ Parts total → self.new.plan ≡ Parts total }
         ensures ended { self.new.ended ≡ self.old.ended }
+        ensures shorter { (connections : Items Connection) (written heard : Items ℕ) (call : Call Client)
+            → StandsFor self.old connections written → slice_get self.old.jobs.peers peer ≡ Some (Busy call)
+            → CallStands self.old call heard → TellsSome event.entry → OnOk result (left_to_do self.new < left_to_do self.old) }
     {
         tg_parts::accepted_parts();
+        tg_parts::accepted_roots();
         let Some(call) = self.jobs.take_busy(peer) else {
             return Ok(self.jobs.progress());
         };
@@ -415,6 +455,7 @@ fn count_of(total: u64, part: u64) -> u64
 fn heard(call: &mut Call<Client>, event: PeerEvent<'_>) -> Result<Progress, FetchFault>
     ensures heard { (heard : Items ℕ) → CallHeard call.old call.new heard event.entry result }
     ensures failed { event.entry ≡ Failed → result ≡ Err PeerFault }
+    ensures ended { event.entry ≡ Ended → result ≡ Ok More → ⊥ }
     ensures job { call.new.job ≡ call.old.job }
 {
     match event {

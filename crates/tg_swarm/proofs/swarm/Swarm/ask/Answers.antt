@@ -2,6 +2,7 @@ use Rattle.std.proofs.Common.{ap, subst, sym, ◌∙◌}
 use Rattle.std.specs.List.{slice_get}
 use Rattle.tg_fetch.specs.declared.client.Client.{Client}
 use Rattle.tg_swarm.proofs.Starting.{has_asked, not_ended, nothing_asked, set_is, stands_asked}
+use Rattle.tg_swarm.proofs.Steps.{asked_shorter}
 use Rattle.tg_swarm.proofs.swarm.Swarm.ask.Goals as goal
 use Rattle.tg_swarm.specs.Jobs.{IsLowest}
 use Rattle.tg_swarm.specs.Swarms.{SwarmState}
@@ -49,4 +50,21 @@ returns-clause-stands c =
     let same = c.self.view_is in
     stands_asked c.args.self.now (record inside { jobs = c.set.new.self }) c.args.peer call c.requires
     (subst (λ s. IsLowest s.jobs c.in-Some.job) same c.in-Some.ensures.lowest)
+    (set_is inside c.args.self.now c.set.new.self c.args.peer (Busy call) same c.set.ensures)
+
+pub returns-clause-shorter : goal.returns-clause-shorter
+returns-clause-shorter c =
+    let inside : SwarmState = record {
+      root = c.self.inside.root;
+      part = c.self.inside.part;
+      limits = c.self.inside.limits;
+      plan = c.self.inside.plan;
+      jobs = c.self.inside.jobs;
+      ended = c.self.inside.ended;
+    }
+    in
+    let call : Call Client = record { job = c.in-Some.job; client = c.in_ok-new.field-0; text = c.new-3.result } in
+    let same = c.self.view_is in
+    asked_shorter c.args.self.now (record inside { jobs = c.set.new.self }) c.args.peer call
+    (ap (λ s. slice_get s.jobs.peers c.args.peer) (sym same) ∙ c.is_idle.ensures.0 (cc c.if-not-is_idle.false))
     (set_is inside c.args.self.now c.set.new.self c.args.peer (Busy call) same c.set.ensures)

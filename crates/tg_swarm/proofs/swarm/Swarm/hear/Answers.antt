@@ -7,6 +7,7 @@ use Rattle.tg_parts.specs.Connections.{Connection}
 use Rattle.tg_streams.specs.Streams.{into}
 use Rattle.tg_swarm.proofs.Events.{accepted_after, accepted_ends, blamed_after, blamed_ends, blamed_others, heard_as, its_call, kept_others, more_after, more_ends, over_accepting, over_told, put_nothing, set_others, unput_still, with_over}
 use Rattle.tg_swarm.proofs.Starting.{set_in, set_is}
+use Rattle.tg_swarm.proofs.Steps.{accepted_shorter, blamed_shorter, more_shorter, piece_tells}
 use Rattle.tg_swarm.proofs.Unfinished.{blamed_before, blamed_failed, idle_then, more_before}
 use Rattle.tg_swarm.proofs.swarm.Swarm.hear.Goals as goal
 use Rattle.tg_swarm.specs.Jobs.{JobsState}
@@ -119,7 +120,7 @@ returns-in-Ok-Done-clause-ends g c = λ connections written heard call h busy st
     (into g.S.Sink.sink c.args.out.now c.accept.new.out) c.accept.result) taken_is
     (c.accept.ensures.ends longer written
     (over_accepting c.args.self.now c.args.peer call busy c.heard.new.call heard c.args.event same stands says
-    c.accepted_parts.ensures.stay taken taken_is connections written h))
+    c.accepted_parts.ensures.stay c.accepted_roots.ensures.block_stays c.accepted_roots.ensures.total_stays taken taken_is connections written h))
     in
     let peers : c.accept.new.self.jobs.peers ≡ slice_set c.args.self.now.jobs.peers c.args.peer Idle =
     c.accept.ensures.peers ∙ ap (λ (t : SwarmState). t.jobs.peers) taken_is
@@ -157,7 +158,7 @@ returns-in-Ok-Done-clause-peer g c = λ connections written heard call h busy st
     (into g.S.Sink.sink c.args.out.now c.accept.new.out) c.accept.result) taken_is
     (c.accept.ensures.ends longer written
     (over_accepting c.args.self.now c.args.peer call busy c.heard.new.call heard c.args.event same stands says
-    c.accepted_parts.ensures.stay taken taken_is connections written h))
+    c.accepted_parts.ensures.stay c.accepted_roots.ensures.block_stays c.accepted_roots.ensures.total_stays taken taken_is connections written h))
     in
     let peers : c.accept.new.self.jobs.peers ≡ slice_set c.args.self.now.jobs.peers c.args.peer Idle =
     c.accept.ensures.peers ∙ ap (λ (t : SwarmState). t.jobs.peers) taken_is
@@ -385,3 +386,83 @@ returns-in-Err-clause-failed g c = λ is going.
     let fault_is : c.in-Err.fault ≡ PeerFault = cc same in
     blamed_failed c.args.self.now taken c.args.peer c.in-Some.call busy taken_is c.blame.new.self c.in-Err.fault c.blame.result fault_is
     c.blame.ensures
+
+-- ---- less is left to do
+
+pub returns-in-Ok-More-clause-shorter : goal.returns-in-Ok-More-clause-shorter
+returns-in-Ok-More-clause-shorter g c = λ connections written heard call h busy stands some.
+    let inside : SwarmState = record {
+      root = c.self.inside.root;
+      part = c.self.inside.part;
+      limits = c.self.inside.limits;
+      plan = c.self.inside.plan;
+      jobs = c.self.inside.jobs;
+      ended = c.self.inside.ended;
+    }
+    in
+    let taken : SwarmState = record inside { jobs = c.take_busy.new.self } in
+    let taken_is : taken ≡ set_in c.args.self.now c.args.peer Idle =
+    set_is inside c.args.self.now c.take_busy.new.self c.args.peer Idle c.self.view_is c.in-Some.ensures.1
+    in
+    let one : c.in-Some.call ≡ call = its_call inside c.args.self.now c.args.peer c.in-Some.call call c.self.view_is c.in-Some.ensures.0 busy in
+    let new : SwarmState = record inside { jobs = c.set.new.self } in
+    let new_is : new ≡ set_in taken c.args.peer (Busy c.heard.new.call) =
+    ap (λ (j : JobsState Client). record inside { jobs = j }) c.set.ensures
+    in
+    let says : CallHeard call c.heard.new.call heard c.args.event (Ok More) =
+    heard_as c.in-Some.call call c.heard.new.call heard c.args.event c.heard.result (Ok More) one
+    (c.in-Ok-More.is ∙ ap (λ (p : Progress). Ok p) c.in-Ok-More.field-0-is) (c.heard.ensures.heard heard)
+    in
+    more_shorter c.args.self.now c.args.peer call heard busy stands taken new c.heard.new.call c.args.event taken_is new_is says
+    (piece_tells c.args.event c.heard.result some (c.in-Ok-More.is ∙ ap (λ (p : Progress). Ok p) c.in-Ok-More.field-0-is) c.heard.ensures.ended
+    c.heard.ensures.failed)
+
+pub returns-in-Ok-Done-clause-shorter : goal.returns-in-Ok-Done-clause-shorter
+returns-in-Ok-Done-clause-shorter g c = λ connections written heard call h busy stands some.
+    let inside : SwarmState = record {
+      root = c.self.inside.root;
+      part = c.self.inside.part;
+      limits = c.self.inside.limits;
+      plan = c.self.inside.plan;
+      jobs = c.self.inside.jobs;
+      ended = c.self.inside.ended;
+    }
+    in
+    let taken : SwarmState = record inside { jobs = c.take_busy.new.self } in
+    let taken_is : taken ≡ set_in c.args.self.now c.args.peer Idle =
+    set_is inside c.args.self.now c.take_busy.new.self c.args.peer Idle c.self.view_is c.in-Some.ensures.1
+    in
+    let one : c.in-Some.call ≡ call = its_call inside c.args.self.now c.args.peer c.in-Some.call call c.self.view_is c.in-Some.ensures.0 busy in
+    let same : c.heard.new.call.job ≡ call.job = c.heard.ensures.job ∙ ap (λ (t : Call Client). t.job) one in
+    let says : CallHeard call c.heard.new.call heard c.args.event (Ok Done) =
+    heard_as c.in-Some.call call c.heard.new.call heard c.args.event c.heard.result (Ok Done) one
+    (c.in-Ok-Done.is ∙ ap (λ (p : Progress). Ok p) c.in-Ok-Done.field-0-is) (c.heard.ensures.heard heard)
+    in
+    let longer : List Connection = with_over c.args.self.now c.args.peer call busy c.heard.new.call heard c.args.event same stands says connections in
+    let ends : AcceptedEnds (set_in c.args.self.now c.args.peer Idle) c.accept.new.self longer written c.heard.new.call
+    (into g.S.Sink.sink c.args.out.now c.accept.new.out) c.accept.result =
+    subst (λ (t : SwarmState). AcceptedEnds t c.accept.new.self longer written c.heard.new.call
+    (into g.S.Sink.sink c.args.out.now c.accept.new.out) c.accept.result) taken_is
+    (c.accept.ensures.ends longer written
+    (over_accepting c.args.self.now c.args.peer call busy c.heard.new.call heard c.args.event same stands says
+    c.accepted_parts.ensures.stay c.accepted_roots.ensures.block_stays c.accepted_roots.ensures.total_stays taken taken_is connections written h))
+    in
+    accepted_shorter c.args.self.now c.args.peer call heard busy stands taken c.accept.new.self c.heard.new.call longer written
+    (into g.S.Sink.sink c.args.out.now c.accept.new.out) c.accept.result taken_is c.accept.ensures.settings c.accept.ensures.peers ends
+
+pub returns-in-Err-clause-shorter : goal.returns-in-Err-clause-shorter
+returns-in-Err-clause-shorter g c = λ connections written heard call h busy stands some.
+    let inside : SwarmState = record {
+      root = c.self.inside.root;
+      part = c.self.inside.part;
+      limits = c.self.inside.limits;
+      plan = c.self.inside.plan;
+      jobs = c.self.inside.jobs;
+      ended = c.self.inside.ended;
+    }
+    in
+    let taken : SwarmState = record inside { jobs = c.take_busy.new.self } in
+    let taken_is : taken ≡ set_in c.args.self.now c.args.peer Idle =
+    set_is inside c.args.self.now c.take_busy.new.self c.args.peer Idle c.self.view_is c.in-Some.ensures.1
+    in
+    blamed_shorter c.args.self.now c.args.peer call heard busy stands taken c.blame.new.self c.in-Err.fault c.blame.result taken_is c.blame.ensures
