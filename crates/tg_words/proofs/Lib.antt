@@ -19,6 +19,7 @@ mod ImportAnswers
 mod MirrorAnswers
 mod VerifyAnswers
 mod ServeAnswers
+mod SwarmAnswers
 mod AuditAnswers
 mod Lines
 mod Told

@@ -16,9 +16,10 @@ use Rattle.tg_words.specs.ImportLines.{import_names}
 use Rattle.tg_words.specs.MirrorLines.{mirror_names}
 use Rattle.tg_words.specs.QueryWords.{query_names}
 use Rattle.tg_words.specs.ServeLines.{serve_names}
+use Rattle.tg_words.specs.SwarmLines.{swarm_names}
 use Rattle.tg_words.specs.Operands.{Answers, Exact, OneCid, QueryBy, RawGiven, givens, texts_of, value_at}
 use Rattle.tg_words.specs.declared.Command.{Command}
-use Rattle.tg_words.specs.declared.Command.TheVariants.{Check, Node, CidToHex, CidToText, Export, Import, Verify, Serve, Fetch, Mirror, Audit, Help, Version}
+use Rattle.tg_words.specs.declared.Command.TheVariants.{Check, Node, CidToHex, CidToText, Export, Import, Verify, Serve, Fetch, Mirror, Swarm, Audit, Help, Version}
 use Rattle.tg_words.specs.declared.WordsFault.{WordsFault}
 use Rattle.tg_words.specs.declared.WordsFault.TheVariants.{Usage, OutOfMemory}
 use Rattle.tg_words.specs.declared.operands.GivenOption.{GivenOption}
@@ -30,6 +31,7 @@ use Rattle.tg_words.proofs.FetchAnswers.{fetch_by, fetch_form, fetch_line, one_f
 use Rattle.tg_words.proofs.ImportAnswers.{import_by, import_form, import_line, one_import}
 use Rattle.tg_words.proofs.MirrorAnswers.{mirror_by, mirror_form, mirror_line, one_mirror}
 use Rattle.tg_words.proofs.ServeAnswers.{one_serve, serve_by, serve_form, serve_line}
+use Rattle.tg_words.proofs.SwarmAnswers.{one_swarm, swarm_by, swarm_form, swarm_line}
 use Rattle.tg_words.proofs.VerifyAnswers.{verify_by, verify_form, verify_line}
 use Rattle.tg_words.proofs.Known.{AreKnown, known, no_options}
 use Rattle.tg_words.proofs.Naming.{are_by, at_first, later_too, first_or_later}
@@ -103,7 +105,8 @@ IsAsked name rest command =
     (Where (bytes_eq name (codes "serve")) (IsOf serve_form rest command)
     (Where (bytes_eq name (codes "fetch")) (IsOf fetch_form rest command)
     (Where (bytes_eq name (codes "mirror")) (IsOf mirror_form rest command)
-    (Where (bytes_eq name (codes "audit")) (IsOf audit_form rest command) ⊥)))))))))
+    (Where (bytes_eq name (codes "swarm")) (IsOf swarm_form rest command)
+    (Where (bytes_eq name (codes "audit")) (IsOf audit_form rest command) ⊥))))))))))
 
 named : (name other : List ℕ) (rest more : List (List ℕ)) (command : Command) → name ∷ rest ≡ other ∷ more
     → (OperandLine (other ∷ rest) command → IsAsked other rest command) → OperandLine (name ∷ rest) command → IsAsked name rest command
@@ -122,6 +125,7 @@ asked_by_line name rest (Verify query) line = named name (codes "verify") rest l
 asked_by_line name rest (Serve parts) line = named name (codes "serve") rest line.line.rest (Serve parts) line.line.begins (serve_line rest parts) line
 asked_by_line name rest (Fetch parts) line = named name (codes "fetch") rest line.line.rest (Fetch parts) line.line.begins (fetch_line rest parts) line
 asked_by_line name rest (Mirror parts) line = named name (codes "mirror") rest line.line.rest (Mirror parts) line.line.begins (mirror_line rest parts) line
+asked_by_line name rest (Swarm parts) line = named name (codes "swarm") rest line.line.rest (Swarm parts) line.line.begins (swarm_line rest parts) line
 asked_by_line name rest (Audit parts) line = named name (codes "audit") rest line.line.rest (Audit parts) line.line.begins (audit_line rest parts) line
 asked_by_line name rest (Help topic) line = absurd line
 asked_by_line name rest Version line = absurd line
@@ -143,6 +147,9 @@ fetch_lines = record { reads = asked_by_line (codes "fetch"); writes = fetch_by 
 
 pub mirror_lines : Lines mirror_form
 mirror_lines = record { reads = asked_by_line (codes "mirror"); writes = mirror_by }
+
+pub swarm_lines : Lines swarm_form
+swarm_lines = record { reads = asked_by_line (codes "swarm"); writes = swarm_by }
 
 pub audit_lines : Lines audit_form
 audit_lines = record { reads = asked_by_line (codes "audit"); writes = audit_by }
@@ -267,6 +274,8 @@ one_line one_cid no_front one_query one_raw words (Fetch parts) b line other =
     one_of_form fetch_form words line.line.rest (Fetch parts) b fetch_lines (are_by fetch_names refl) (one_fetch one_raw one_query) line.line.begins line other
 one_line one_cid no_front one_query one_raw words (Mirror parts) b line other =
     one_of_form mirror_form words line.line.rest (Mirror parts) b mirror_lines (are_by mirror_names refl) (one_mirror one_cid) line.line.begins line other
+one_line one_cid no_front one_query one_raw words (Swarm parts) b line other =
+    one_of_form swarm_form words line.line.rest (Swarm parts) b swarm_lines (are_by swarm_names refl) (one_swarm one_cid) line.line.begins line other
 one_line one_cid no_front one_query one_raw words (Audit parts) b line other =
     one_of_form audit_form words line.line.rest (Audit parts) b audit_lines (are_by audit_names refl) one_audit line.line.begins line other
 one_line one_cid no_front one_query one_raw words (Help topic) b line other = absurd line

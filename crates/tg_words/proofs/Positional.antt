@@ -1,4 +1,4 @@
--- The answers to the lines of a command whose positional words are of one form, as none, one, two or three.
+-- The answers to the lines of a command whose positional words are of one form, as none, one, two, three or any number.
 use Rattle.std.proofs.Common.{◌≡◌, ℕ, List, [], ◌∷◌, Ok, Err, refl, sym, ap, ap₂, ◌∙◌, subst}
 use Rattle.std.specs.Prelude.{Result, ⊤}
 use Rattle.tg_bytes.specs.Lists.{same_only}
@@ -46,6 +46,9 @@ three_words = record {
   texts = λ three. three.0 ∷ three.1 ∷ three.2 ∷ [];
   one = λ a b same. let are = three_are a.0 a.1 a.2 b.0 b.1 b.2 same in same_three a.0 a.1 a.2 b are.0 are.1 are.2;
 }
+
+abbrev pub many_words : Writing (List (List ℕ))
+many_words = record { texts = λ words. words; one = λ a b same. same }
 
 -- a command's name and options, how its positional words are written, and what these and the options ask
 pub record Form (Words Parts : Type 0) : Type 1 where

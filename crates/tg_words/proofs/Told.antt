@@ -7,7 +7,7 @@ use Rattle.tg_words.specs.CommandLine.{AskNoText, BeginsCommand, CommandLine, He
 use Rattle.tg_words.specs.Names.{name_text}
 use Rattle.tg_words.specs.Operands.{Answers}
 use Rattle.tg_words.specs.declared.Command.{Command}
-use Rattle.tg_words.specs.declared.Command.TheVariants.{Check, Node, CidToHex, CidToText, Export, Import, Verify, Serve, Fetch, Mirror, Audit, Help, Version}
+use Rattle.tg_words.specs.declared.Command.TheVariants.{Check, Node, CidToHex, CidToText, Export, Import, Verify, Serve, Fetch, Mirror, Swarm, Audit, Help, Version}
 use Rattle.tg_words.specs.declared.WordsFault.{WordsFault}
 use Rattle.tg_words.specs.declared.WordsFault.TheVariants.{Usage, OutOfMemory}
 use Rattle.tg_words.specs.declared.names.CommandName.{CommandName}
@@ -27,9 +27,10 @@ named word =
     (cond (bytes_eq word (codes "serve")) (Some names.Serve)
     (cond (bytes_eq word (codes "fetch")) (Some names.Fetch)
     (cond (bytes_eq word (codes "mirror")) (Some names.Mirror)
+    (cond (bytes_eq word (codes "swarm")) (Some names.Swarm)
     (cond (bytes_eq word (codes "audit")) (Some names.Audit)
     (cond (bytes_eq word (codes "help")) (Some names.Help)
-    (cond (bytes_eq word (codes "version")) (Some names.Version) None)))))))))))
+    (cond (bytes_eq word (codes "version")) (Some names.Version) None))))))))))))
 
 is_named : (name : CommandName) → named (name_text name) ≡ Some name
 is_named names.Check = refl
@@ -41,6 +42,7 @@ is_named names.Verify = refl
 is_named names.Serve = refl
 is_named names.Fetch = refl
 is_named names.Mirror = refl
+is_named names.Swarm = refl
 is_named names.Audit = refl
 is_named names.Help = refl
 is_named names.Version = refl
@@ -63,6 +65,7 @@ of_help names.Verify = refl
 of_help names.Serve = refl
 of_help names.Fetch = refl
 of_help names.Mirror = refl
+of_help names.Swarm = refl
 of_help names.Audit = refl
 of_help names.Help = refl
 of_help names.Version = refl
@@ -170,6 +173,7 @@ begins_by words (Verify query) line = record { name = names.Verify; rest = line.
 begins_by words (Serve parts) line = record { name = names.Serve; rest = line.line.rest; begins = line.line.begins }
 begins_by words (Fetch parts) line = record { name = names.Fetch; rest = line.line.rest; begins = line.line.begins }
 begins_by words (Mirror parts) line = record { name = names.Mirror; rest = line.line.rest; begins = line.line.begins }
+begins_by words (Swarm parts) line = record { name = names.Swarm; rest = line.line.rest; begins = line.line.begins }
 begins_by words (Audit parts) line = record { name = names.Audit; rest = line.line.rest; begins = line.line.begins }
 begins_by words (Help topic) line = absurd line
 begins_by words Version line = absurd line

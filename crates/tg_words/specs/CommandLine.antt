@@ -4,7 +4,7 @@ use Rattle.hex.specs.Hex.{decode_of}
 use Rattle.tg_cid.specs.Cid.{CidParts}
 use Rattle.tg_cid.specs.Spelling.{CidText, CidBytes}
 use Rattle.tg_words.specs.declared.Command.{Command}
-use Rattle.tg_words.specs.declared.Command.TheVariants.{Check, Node, CidToHex, CidToText, Export, Import, Verify, Serve, Fetch, Mirror, Audit}
+use Rattle.tg_words.specs.declared.Command.TheVariants.{Check, Node, CidToHex, CidToText, Export, Import, Verify, Serve, Fetch, Mirror, Swarm, Audit}
 use Rattle.tg_words.specs.declared.Command.TheVariants.{Help, Version}
 use Rattle.tg_words.specs.declared.names.CommandName.{CommandName}
 use Rattle.tg_words.specs.AuditLines.{AuditLine}
@@ -13,6 +13,7 @@ use Rattle.tg_words.specs.FetchLines.{FetchLine}
 use Rattle.tg_words.specs.ImportLines.{ImportLine}
 use Rattle.tg_words.specs.MirrorLines.{MirrorLine}
 use Rattle.tg_words.specs.ServeLines.{ServeLine}
+use Rattle.tg_words.specs.SwarmLines.{SwarmLine}
 use Rattle.tg_words.specs.VerifyLines.{VerifyLine}
 use Rattle.tg_words.specs.Names.{name_text}
 use Rattle.tg_words.specs.Words.{Names, Line}
@@ -94,6 +95,7 @@ OperandLine words (Verify query) = VerifyLine words query
 OperandLine words (Serve parts) = ServeLine words parts
 OperandLine words (Fetch parts) = FetchLine words parts
 OperandLine words (Mirror parts) = MirrorLine words parts
+OperandLine words (Swarm parts) = SwarmLine words parts
 OperandLine words (Audit parts) = AuditLine words parts
 OperandLine words (Help topic) = ⊥
 OperandLine words Version = ⊥

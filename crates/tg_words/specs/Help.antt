@@ -10,7 +10,7 @@ use Rattle.tg_words.specs.declared.help.OptionValue.TheVariants.{Nothing, Number
 use Rattle.tg_words.specs.declared.help.TheConstants as table
 use Rattle.tg_words.specs.declared.names.CommandName.{CommandName}
 use Rattle.tg_words.specs.declared.names.TheConstants.CommandName.{ALL}
-use Rattle.tg_words.specs.declared.names.CommandName.TheVariants.{Check, Node, Cid, Export, Import, Verify, Serve, Fetch, Mirror, Audit, Help, Version}
+use Rattle.tg_words.specs.declared.names.CommandName.TheVariants.{Check, Node, Cid, Export, Import, Verify, Serve, Fetch, Mirror, Swarm, Audit, Help, Version}
 
 -- ---- the rows as texts
 
@@ -73,6 +73,7 @@ help_of Verify = constant_texts table.VERIFY
 help_of Serve = constant_texts table.SERVE
 help_of Fetch = constant_texts table.FETCH
 help_of Mirror = constant_texts table.MIRROR
+help_of Swarm = constant_texts table.SWARM
 help_of Audit = constant_texts table.AUDIT
 help_of Help = constant_texts table.HELP
 help_of Version = constant_texts table.THIS_VERSION

@@ -6,6 +6,7 @@ pub mod ImportLines
 pub mod MirrorLines
 pub mod VerifyLines
 pub mod ServeLines
+pub mod SwarmLines
 pub mod FetchLines
 pub mod AuditLines
 pub mod CommandLine

@@ -1,5 +1,5 @@
 -- What the reader of a command's operands keeps and answers, and how faults of the crates below are faults of words.
-use Rattle.std.specs.Prelude.{◌≡◌, ◌≢◌, ℕ, ◌≤◌, Bool, List, [], ◌∷◌, map, find, codes, Option, Some, None, option_map}
+use Rattle.std.specs.Prelude.{◌≡◌, ◌≢◌, ℕ, ◌≤◌, All, Bool, List, [], ◌∷◌, map, find, codes, Option, Some, None, option_map}
 use Rattle.std.specs.Prelude.{option_and_then, Result, MatchResult, IfOk, false, length, true}
 use Rattle.std.specs.List.{list_any}
 use Rattle.std.specs.Option.{unwrap_or}
@@ -34,6 +34,7 @@ use Rattle.tg_words.specs.ImportLines.{ImportParts, NumberText}
 use Rattle.tg_words.specs.MirrorLines.{MayRootPack, MirrorParts}
 use Rattle.tg_words.specs.QueryWords.{DupsText, ScopeText, dups_for, scope_for}
 use Rattle.tg_words.specs.ServeLines.{ServeParts}
+use Rattle.tg_words.specs.SwarmLines.{SwarmParts}
 use Rattle.tg_words.specs.Words.{Names, Given, WordsSpelling}
 use denote.Ref.{Bor}
 
@@ -127,6 +128,16 @@ pub record ServeGiven (pack : List ℕ) (options : List Given) (parts : ServePar
   pub port : NumberNeeded (value_at options (codes "port")) 0 65535 parts.port
   pub count : NumberNeeded (value_at options (codes "count")) 1 1000000 parts.count
   pub lanes : NumberGiven (value_at options (codes "lanes")) 1 64 1 parts.lanes
+
+-- a swarm for the file under the root with the first of these texts, of gateways at the others, with these options
+pub record SwarmGiven (texts : List (List ℕ)) (options : List Given) (parts : SwarmParts) : Type 0 where
+  pub text : List ℕ
+  pub texts_are : texts ≡ text ∷ parts.addrs
+  pub root : CidText parts.root text
+  pub addrs : All IsAddr parts.addrs
+  pub some : 1 ≤ length parts.addrs
+  pub most : length parts.addrs ≤ 16
+  pub part : NumberGiven (value_at options (codes "part")) 1 16777216 4194304 parts.part
 
 -- the block of a root that a word names without a path, where no other option stands
 pub record RawGiven (target : List ℕ) (options : List Given) (query : QueryParts) : Type 0 where

@@ -227,6 +227,22 @@ const MIRROR: CommandRow = CommandHelp {
     example: "mirror localhost:8080 bafybeihtdtunwt2sx7qvwdcknhnwretbb4zmjieise77ebt4pqxbabimfy copy.car",
 };
 
+const SWARM: CommandRow = CommandHelp {
+    name: "swarm",
+    about: "fetches a file by parts from several gateways at once, and writes it, checked while it comes",
+    forms: &["swarm ROOT HOST:PORT.. [--part N]"],
+    options: &[OptionHelp {
+        name: "part",
+        value: OptionValue::Number {
+            low: 1,
+            high: 16_777_216,
+            default: Some(4_194_304),
+        },
+        about: "how many bytes are asked of a gateway at once",
+    }],
+    example: "swarm bafkreifzjut3te2nhyekklss27nh3k72ysco7y32koao5eei66wof36n5e localhost:8080 localhost:8081",
+};
+
 const AUDIT: CommandRow = CommandHelp {
     name: "audit",
     about: "imports, serves and fetches a drawn folder in memory, and compares the answers",
@@ -284,6 +300,7 @@ pub fn help_for(name: CommandName) -> CommandRow
         CommandName::Serve => SERVE,
         CommandName::Fetch => FETCH,
         CommandName::Mirror => MIRROR,
+        CommandName::Swarm => SWARM,
         CommandName::Audit => AUDIT,
         CommandName::Help => HELP,
         CommandName::Version => THIS_VERSION,

@@ -26,6 +26,7 @@ mod names;
 mod operands;
 mod queries;
 mod serves;
+mod swarms;
 mod verifies;
 
 pub use audits::Audit;
@@ -48,7 +49,9 @@ pub use operands::{GivenOption, Operands, OptionNames, operands_of};
 use operands::{one_operand, one_word, value_of};
 pub use serves::Serve;
 use serves::serve_of;
-use std::alloc::{AllocError, Global};
+use std::alloc::{AllocError, AllocFailed, Global};
+pub use swarms::Swarm;
+use swarms::swarm_of;
 use tg_cid::{Cid, CidFault};
 use tg_model::Query;
 use tg_query::QueryFault;
@@ -100,6 +103,12 @@ pub enum Command {
     /// ADDR is as in `fetch`. ROOT is the text of a CIDv1 with sha2-256, other than the root of a pack that isn't finished,
     /// which is raw with 32 zero bytes of digest. PACK isn't empty.
     Mirror(Mirror),
+    /// `swarm ROOT ADDR.. [--part N]`: the file under a root is fetched by parts from several gateways, checked block by block,
+    /// and written to out.
+    ///
+    /// ROOT is the text of a CID, and each of the 1 to 16 ADDR is as in `fetch`. A part has 1 to 16,777,216 bytes, or else
+    /// 4,194,304; N is 1 to 20 decimal digits.
+    Swarm(Swarm),
     /// `audit --seed N --files N`: the folder that a seed draws is imported in memory, and the answers to queries of it
     /// are compared with what was drawn.
     ///
@@ -131,6 +140,17 @@ impl From<AllocError> for WordsFault {
     ghost from_gives = { λ _ fault. fault ≡ OutOfMemory };
 
     fn from(_: AllocError) -> WordsFault {
+        WordsFault::OutOfMemory
+    }
+}
+
+impl<T: Drop> From<AllocFailed<T>> for WordsFault {
+    ghost use Rattle.std.specs.Prelude.{◌≡◌};
+    ghost use Rattle.tg_words.specs.declared.WordsFault.TheVariants.{OutOfMemory};
+
+    ghost from_gives = { λ _ fault. fault ≡ OutOfMemory };
+
+    fn from(_: AllocFailed<T>) -> WordsFault {
         WordsFault::OutOfMemory
     }
 }
@@ -313,6 +333,7 @@ fn dispatch(alloc: Global, command: CommandName, words: &[String]) -> Result<Com
         CommandName::Serve => serve_of(alloc, words),
         CommandName::Fetch => fetch_of(alloc, words),
         CommandName::Mirror => mirror_of(alloc, words),
+        CommandName::Swarm => swarm_of(alloc, words),
         CommandName::Audit => audit_of(alloc, words),
         CommandName::Help | CommandName::Version => Err(WordsFault::Usage),
     }

@@ -25,6 +25,8 @@ pub enum CommandName {
     Fetch,
     /// `mirror`.
     Mirror,
+    /// `swarm`.
+    Swarm,
     /// `audit`.
     Audit,
     /// `help`.
@@ -35,11 +37,12 @@ pub enum CommandName {
 
 impl CommandName {
     /// All of them, in the order in which help tells them.
-    pub const ALL: &'static [CommandName; 12] = &[
+    pub const ALL: &'static [CommandName; 13] = &[
         CommandName::Import,
         CommandName::Serve,
         CommandName::Fetch,
         CommandName::Mirror,
+        CommandName::Swarm,
         CommandName::Export,
         CommandName::Verify,
         CommandName::Check,
@@ -73,6 +76,8 @@ impl CommandName {
             Some(CommandName::Fetch)
         } else if word == "mirror" {
             Some(CommandName::Mirror)
+        } else if word == "swarm" {
+            Some(CommandName::Swarm)
         } else if word == "audit" {
             Some(CommandName::Audit)
         } else if word == "help" {

@@ -1,4 +1,4 @@
-use Rattle.std.proofs.Common.{All, Bool, List, [], ◌∷◌, arith, codes, refl, true, ℕ, ◌≡◌, ◌≤◌}
+use Rattle.std.proofs.Common.{All, List, [], ◌∷◌, arith, codes, refl, true, ℕ, ◌≡◌, ◌≤◌}
 use Rattle.std.specs.List.{list_all}
 use Rattle.std.specs.Prelude.{nat_le, ◌&&◌}
 use Rattle.std.proofs.lemmas.Bool.{and_parts, leb-true}

@@ -33,6 +33,9 @@ returns-in-Fetch c = at_name _ _ _ c.in-Fetch.is refl
 pub returns-in-Mirror : goal.returns-in-Mirror
 returns-in-Mirror c = at_name _ _ _ c.in-Mirror.is refl
 
+pub returns-in-Swarm : goal.returns-in-Swarm
+returns-in-Swarm c = at_name _ _ _ c.in-Swarm.is refl
+
 pub returns-in-Audit : goal.returns-in-Audit
 returns-in-Audit c = at_name _ _ _ c.in-Audit.is refl
 
