@@ -1,10 +1,16 @@
 mod Asking
 mod Beginning
+mod Calls
+mod Causes
+mod Counting
 mod Hanging
 mod Listening
 mod Lists
 mod Moments
 mod Refusals
 mod Running
+mod Serving
+mod Stepping
 mod Stopping
 mod Telling
+mod Vouching

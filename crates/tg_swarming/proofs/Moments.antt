@@ -1,6 +1,6 @@
 -- A swarm that runs, from one moment to the next.
-use Rattle.std.proofs.Common.{Bor, Err, List, Ok, Result, Some, [], length, map, slice_index_or, subst, suc, sym, zero, ℕ, ◌<◌, ◌∷◌, ◌≡◌}
-use Rattle.std.proofs.lemmas.Option.{slice_get-get_or}
+use Rattle.std.proofs.Common.{All, Err, List, Ok, Result, Some, [], ap, length, map, slice_index_or, subst, suc, sym, zero, ℕ, ◌<◌, ◌∙◌, ◌∷◌, ◌≡◌}
+use Rattle.std.proofs.lemmas.Option.{get_or_from_slice_get, slice_get-get_or, slice_get_within}
 use Rattle.std.specs.List.{slice_get}
 use Rattle.tg_swarming.specs.Rounds.{GoOn, GoSo, HasAddr, HasAddrs, IsRunning, Meanings, Moment, Setup, Stop}
 use Rattle.tg_swarm.specs.declared.fault.SwarmFault.{SwarmFault}
@@ -10,12 +10,19 @@ get_map f [] k x is = absurd (cc is)
 get_map f (y ∷ xs) zero x is = cc is
 get_map f (y ∷ xs) (suc k) x is = get_map f xs k x is
 
--- the address at a peer's place
-pub has_addr : (addrs : List (Bor (List ℕ))) (k : ℕ) (d : Bor (List ℕ)) → k < length addrs → (setup : Setup) → HasAddrs (map (λ addr. addr.now) addrs) setup
-    → HasAddr k (slice_index_or addrs k d).now setup
-has_addr addrs k d lt setup is =
-    subst (λ (xs : List (List ℕ)). slice_get xs k ≡ Some (slice_index_or addrs k d).now) (sym is)
-    (get_map (λ (addr : Bor (List ℕ)). addr.now) addrs k (slice_index_or addrs k d) (slice_get-get_or addrs k d lt))
+-- the text at a peer's place
+pub text_at : {X : Type 0} (bytes : X → List ℕ) (addrs : List X) (k : ℕ) (x : X) (text : List ℕ) → k < length addrs → x ≡ slice_index_or addrs k x → text ≡ bytes x
+    → slice_get (map bytes addrs) k ≡ Some text
+text_at bytes addrs k x text lt at is =
+    get_map bytes addrs k (slice_index_or addrs k x) (slice_get-get_or addrs k x lt) ∙ ap Some (sym (is ∙ ap bytes at))
+
+-- is its address
+pub has_addr : {X : Type 0} (bytes : X → List ℕ) (addrs : List X) (k : ℕ) (x : X) (text : List ℕ) → k < length addrs → x ≡ slice_index_or addrs k x → text ≡ bytes x
+    → (setup : Setup) → HasAddrs (map bytes addrs) setup → HasAddr k text setup
+has_addr bytes addrs k x text lt at is setup same = subst (λ (xs : List (List ℕ)). slice_get xs k ≡ Some text) (sym same) (text_at bytes addrs k x text lt at is)
+
+pub all_at : {X : Type 0} (P : X → Type 0) (xs : List X) (k : ℕ) (x : X) → slice_get xs k ≡ Some x → All P xs → P x
+all_at P xs k x is all = subst P (get_or_from_slice_get xs k x x is) (all k x (slice_get_within xs k x is))
 
 module _ {D L S : Type 0} (m : Meanings D L S) where
   -- which runs are spoken of

@@ -1,6 +1,5 @@
 -- Why a swarm ends, and what was put by then.
-use Rattle.std.proofs.Common.{Err, List, Ok, Some, [], ap, arith, inl, inr, length, refl, subst, suc, sym, zero, ℕ, ◌+◌, ◌++◌, ◌<◌, ◌∙◌, ◌∷◌, ◌≡◌, ◌≤◌}
-use Rattle.std.proofs.lemmas.List.Elements.{Contains-append_left}
+use Rattle.std.proofs.Common.{Err, List, Ok, Some, [], ap, arith, inl, inr, length, refl, subst, suc, sym, zero, ℕ, ◌++◌, ◌<◌, ◌∙◌, ◌∷◌, ◌≡◌}
 use Rattle.std.specs.List.{slice_get}
 use Rattle.tg_cid.specs.Cid.{CidParts}
 use Rattle.tg_fetch.specs.declared.client.Client.{Client}
@@ -8,14 +7,16 @@ use Rattle.tg_model.specs.Computed.{read}
 use Rattle.tg_model.specs.LimitNumbers.{LimitNumbers}
 use Rattle.tg_model.specs.Queries.{QueryParts}
 use Rattle.tg_model.specs.declared.kinds.Kind.TheVariants.{Raw}
-use Rattle.tg_parts.specs.Connections.{AreAnswers, Connection, IsRootBlock, IsRootOfFile, WasAccepted}
+use Rattle.tg_dials.specs.Dials.{Dialling}
+use Rattle.tg_parts.specs.Connections.{AreAnswers, Connection, IsRootBlock, IsRootOfFile}
 use Rattle.tg_parts.specs.Connections as connected
-use Rattle.tg_parts.specs.Parts.{root_query}
+use Rattle.tg_parts.specs.PartLaws.{TotalsStay}
 use Rattle.tg_streams.specs.Joining.{SinkJoins, put_put_front, put_unput}
 use Rattle.tg_streams.specs.Streams.{OutputQuiet, Put, SinkMeaning, Unput, into}
-use Rattle.tg_swarm.specs.Peers.{AreRefused}
-use Rattle.tg_swarming.specs.Rounds.{FrontPut, IsFor, OutStops, Over, RootStops, Setup, StopsSo, spoilt_count}
-use Rattle.tg_swarm.specs.Swarms.{AnswersJob, EndsBy, IsNotFile, IsPlanned, IsTold, OutFailed, RootAccepted, StandsFor, SwarmState, asked_of}
+use Rattle.tg_swarming.proofs.Causes.{AreCounted}
+use Rattle.tg_swarming.proofs.Refusals.{all_refused}
+use Rattle.tg_swarming.specs.Rounds.{AllRefused, FrontPut, IsFor, OutStops, Over, RootStops, Setup, StopsSo}
+use Rattle.tg_swarm.specs.Swarms.{AnswersJob, EndsBy, IsNotFile, IsPlanned, IsTold, NoneLeft, OutFailed, RootAccepted, StandsFor, SwarmState, asked_of}
 use Rattle.tg_swarm.specs.declared.fault.SwarmFault.{SwarmFault}
 use Rattle.tg_swarm.specs.declared.fault.SwarmFault.TheVariants as faults
 use Rattle.tg_swarm.specs.declared.peers.Call.{Call}
@@ -29,32 +30,18 @@ none_written answers (suc n) written (connected.more m before text first a) e = 
 
 -- ---- further connections
 
-accepted_longer : (connections more : List Connection) (q : QueryParts) (text : List ℕ) → WasAccepted connections q text → WasAccepted (connections ++ more) q text
-accepted_longer connections more q text h =
-    record { connection = h.connection; among = Contains-append_left connections more h.connection h.among; query_is = h.query_is; answer = h.answer }
-
-file_longer : (connections more : List Connection) (root : CidParts) (total : ℕ) → IsRootOfFile root connections total → IsRootOfFile root (connections ++ more) total
-file_longer connections more root total h = record {
-  block = h.block;
-  block_is = record { accepted = accepted_longer connections more (root_query root) h.block h.block_is.accepted; bytes = h.block_is.bytes };
-  kind = h.kind;
-  reads = h.reads;
-  file = h.file;
-  total_is = h.total_is;
-}
-
-file_told : (limits : LimitNumbers) (q : QueryParts) (heard : List ℕ) (before later : List Connection) (root : CidParts) (total : ℕ) → IsTold limits q heard before later
-    → IsRootOfFile root before total → IsRootOfFile root later total
-file_told limits q heard before later root total (inl same) h = subst (λ (cs : List Connection). IsRootOfFile root cs total) (sym same) h
-file_told limits q heard before later root total (inr (sections, received, is)) h =
+file_told : TotalsStay → (limits : LimitNumbers) (q : QueryParts) (heard : List ℕ) (before later : List Connection) (root : CidParts) (total : ℕ)
+    → IsTold limits q heard before later → IsRootOfFile root before total → IsRootOfFile root later total
+file_told totals limits q heard before later root total (inl same) h = subst (λ (cs : List Connection). IsRootOfFile root cs total) (sym same) h
+file_told totals limits q heard before later root total (inr (sections, answered, is)) h =
     subst (λ (cs : List Connection). IsRootOfFile root cs total) (sym is)
-    (file_longer before (record { query = q; heard = heard; sections = sections } ∷ []) root total h)
+    (totals before (record { query = q; heard = heard; sections = sections } ∷ []) root total h)
 
 -- ---- an event ends it
 
-module _ {S : Type 0} (sink : SinkMeaning S) (joins : SinkJoins S sink) (setup : Setup) (start s t : S) (old new : SwarmState) (connections : List Connection)
-    (written : List ℕ) (is_for : IsFor setup old) (stands : StandsFor old connections written) (put : Put written (into sink start s))
-    (quiet : OutputQuiet (into sink start s)) where
+module _ {S : Type 0} (sink : SinkMeaning S) (joins : SinkJoins S sink) (totals : TotalsStay) (setup : Setup) (start s t : S) (old new : SwarmState)
+    (size : length new.jobs.peers ≡ length old.jobs.peers) (connections : List Connection) (written : List ℕ) (is_for : IsFor setup old) (stands : StandsFor old connections written)
+    (put : Put written (into sink start s)) (quiet : OutputQuiet (into sink start s)) where
   pub front_put : Unput (into sink s t) → OutputQuiet (into sink s t) → FrontPut setup connections (into sink start t)
   front_put unput still = record {
     s = old;
@@ -63,6 +50,21 @@ module _ {S : Type 0} (sink : SinkMeaning S) (joins : SinkJoins S sink) (setup :
     stands = stands;
     put = put_unput S sink start s t written joins put unput;
     quiet = still ∙ quiet;
+  }
+
+  -- no peer is left
+  pub none_left : (dial : Dialling) (overs : List Over) (missed : ℕ) → NoneLeft new (into sink s t) → AreCounted setup dial overs missed new.jobs.peers
+      → AllRefused setup new dial (into sink start t) connections overs missed
+  none_left dial overs missed none counted = record {
+    front = front_put none.unput none.quiet;
+    refused = none.refused;
+    peers = size ∙ is_for.peers;
+    caused = counted.0;
+    few =
+        let all = all_refused new.jobs.peers none.refused in
+        let number = is_for.peers in
+        let most = counted.1 in
+        omega (arith, size, all, number, most);
   }
 
   module _ (heard : List ℕ) (call : Call Client) (peer : ℕ) (busy : slice_get old.jobs.peers peer ≡ Some (kinds.Busy call)) where
@@ -104,33 +106,34 @@ module _ {S : Type 0} (sink : SinkMeaning S) (joins : SinkJoins S sink) (setup :
           );
       file = λ total plan.
           let planned = subst (λ (p : Plan). IsPlanned old.root old.part p old.jobs connections written) plan stands.planned in
-          file_told call.client.limits call.client.query heard connections f.later old.root total f.told planned.0;
+          file_told totals call.client.limits call.client.query heard connections f.later old.root total f.told planned.0;
       front = put_put_front S sink start s t written f.failed.text joins put quiet f.failed.front;
     }
 
-    -- what came by then, and why it ends: where no peer is left their number is told of
-    pub record StopsLater (fault : SwarmFault) : Type 0 where
+    -- what came by then, and why it ends: where no peer is left it is told why each was refused
+    pub record StopsLater (dial : Dialling) (fault : SwarmFault) : Type 0 where
       pub later : List Connection
       pub told : IsTold call.client.limits call.client.query heard connections later
-      pub so : (overs : List Over) (missed : ℕ) → (fault ≡ faults.NoPeerLeft → AreRefused new.jobs.peers → length setup.addrs ≤ missed + spoilt_count overs)
-          → StopsSo setup (into sink start t) fault later overs missed
+      pub so : (overs : List Over) (missed : ℕ) → (fault ≡ faults.NoPeerLeft → AreCounted setup dial overs missed new.jobs.peers)
+          → StopsSo setup new dial (into sink start t) fault later overs missed
 
-    pub stops : new.jobs.count ≡ old.jobs.count → (fault : SwarmFault) → EndsBy old new connections written call heard (into sink s t) fault → StopsLater fault
-    stops count faults.NoPeerLeft e =
-        record { later = connections; told = inl refl; so = λ overs missed many. (front_put e.unput e.quiet, many refl e.refused) }
-    stops count faults.NotFile e =
-        record { later = e.later; told = e.told; so = λ overs missed many. root_stops (λ root later block. IsNotFile root later block) e }
-    stops count (faults.BadRoot fault) e =
-        record { later = e.later; told = e.told; so = λ overs missed many. root_stops (λ root later block. read root block ≡ Err fault) e }
-    stops count (faults.Limit kind number) (kind_is, number_is, e) =
+    pub stops : new.jobs.count ≡ old.jobs.count → (dial : Dialling) (fault : SwarmFault) → EndsBy old new connections written call heard (into sink s t) fault
+        → StopsLater dial fault
+    stops count dial faults.NoPeerLeft e =
+        record { later = connections; told = inl refl; so = λ overs missed counted. none_left dial overs missed e (counted refl) }
+    stops count dial faults.NotFile e =
+        record { later = e.later; told = e.told; so = λ overs missed counted. root_stops (λ root later block. IsNotFile root later block) e }
+    stops count dial (faults.BadRoot fault) e =
+        record { later = e.later; told = e.told; so = λ overs missed counted. root_stops (λ root later block. read root block ≡ Err fault) e }
+    stops count dial (faults.Limit kind number) (kind_is, number_is, e) =
         record {
           later = e.later;
           told = e.told;
-          so = λ overs missed many. (
+          so = λ overs missed counted. (
             kind_is,
             number_is ∙ ap (λ (l : LimitNumbers). l.output) is_for.limits,
             root_stops (λ root later block. (total : ℕ) × IsRootOfFile root later total × (number < total)) e,
           );
         }
-    stops count faults.SinkFault e = record { later = e.later; told = e.told; so = λ overs missed many. out_stops count e }
-    stops count faults.OutOfMemory e = record { later = connections; told = inl refl; so = λ overs missed many. front_put e.0 e.1 }
+    stops count dial faults.SinkFault e = record { later = e.later; told = e.told; so = λ overs missed counted. out_stops count e }
+    stops count dial faults.OutOfMemory e = record { later = connections; told = inl refl; so = λ overs missed counted. front_put e.0 e.1 }

@@ -1,12 +1,13 @@
 -- What a dial tells of the links that were given back, one step after another.
-use Rattle.std.proofs.Common.{All, Contains, List, None, Option, [], ap, arith, inl, inr, refl, subst, suc, sym, true, ℕ, ◌+◌, ◌++◌, ◌<◌, ◌∙◌, ◌∷◌, ◌≡◌, ◌≤◌, ◌⊎◌}
+use Rattle.std.proofs.Common.{All, Contains, List, None, Option, [], ap, ap₂, arith, inl, inr, refl, subst, suc, sym, true, ℕ, ◌+◌, ◌++◌, ◌<◌, ◌∙◌, ◌∷◌, ◌≡◌, ◌≤◌, ◌⊎◌}
+use Rattle.std.proofs.lemmas.List.Sums.{sum-map, sum_by-append}
 use Rattle.std.proofs.lemmas.List.Elements.{Contains-append_left, Contains-push_cases}
 use Rattle.tg_dials.specs.Dials.{DialMeaning, DialQuiet, DialRose, IsHungUp, KeepsCalls, KeepsMissed, at_dial}
 use Rattle.tg_faults.specs.Faults.{counted}
 use Rattle.tg_links.specs.Views.{and_call, is_failed, told_call}
 use Rattle.tg_links.specs.declared.call.Call as told
 use Rattle.tg_parts.specs.Connections.{Connection}
-use Rattle.tg_swarming.specs.Rounds.{DialTells, Over, WasHeardOn, and_overs, one_if, spoilt_count}
+use Rattle.tg_swarming.specs.Rounds.{DialTells, IsOver, Over, Setup, WasHeardOn, and_overs, one_if, spoilt_count}
 
 -- ---- one link more
 
@@ -15,19 +16,36 @@ pub overs_more : (calls : Option (List told.Call)) (overs : List Over) (o : Over
 overs_more calls [] o = refl
 overs_more calls (first ∷ overs) o = overs_more (and_call calls (told_call first.link)) overs o
 
-pub spoilt_more : (overs : List Over) (o : Over) → spoilt_count (overs ++ o ∷ []) ≡ spoilt_count overs + one_if o.spoilt
-spoilt_more [] o = omega arith
-spoilt_more (first ∷ overs) o = let more = spoilt_more overs o in omega (arith, more)
+spoilt_both : (overs more : List Over) → spoilt_count (overs ++ more) ≡ spoilt_count overs + spoilt_count more
+spoilt_both overs more =
+    let count = λ (o : Over). one_if o.refusal in
+    sum-map count (overs ++ more) ∙ sum_by-append count overs more ∙ sym (ap₂ (λ (m n : ℕ). m + n) (sum-map count overs) (sum-map count more))
+
+pub spoilt_more : (overs : List Over) (o : Over) → spoilt_count (overs ++ o ∷ []) ≡ spoilt_count overs + one_if o.refusal
+spoilt_more overs o = spoilt_both overs (o ∷ []) ∙ omega arith
 
 pub spoilt_least : (overs more : List Over) → spoilt_count overs ≤ spoilt_count (overs ++ more)
-spoilt_least [] more = omega arith
-spoilt_least (first ∷ overs) more = let least = spoilt_least overs more in omega (arith, least)
+spoilt_least overs more = omega (arith, spoilt_both overs more)
 
 pub heard_more : (overs more : List Over) (c : Connection) → WasHeardOn overs c → WasHeardOn (overs ++ more) c
-heard_more overs more c h = record { over = h.over; among = Contains-append_left overs more h.over h.among; query = h.query; heard = h.heard }
+heard_more overs more c h =
+    record { over = h.over; among = Contains-append_left overs more h.over h.among; query = h.query; heard = h.heard; answered = h.answered }
 
 pub all_heard : (overs more : List Over) (cs : List Connection) → All (WasHeardOn overs) cs → All (WasHeardOn (overs ++ more)) cs
 all_heard overs more cs all = λ k d lt. heard_more overs more _ (all k d lt)
+
+-- ---- what was dialled
+
+-- what was dialled by then was dialled by this later moment
+abbrev pub DialledStay : {D : Type 0} → DialMeaning D → D → D → Type 0
+DialledStay {D} d b c = (first : D) (addr : List ℕ) → d.dialled first b addr → d.dialled first c addr
+
+module _ (setup : Setup) (old new : List ℕ → Type 0) (on : (addr : List ℕ) → old addr → new addr) where
+  pub over_on : (o : Over) → IsOver setup old o → IsOver setup new o
+  over_on o h = record { peer = h.peer; dialled = on o.addr h.dialled; asked = h.asked; said = h.said; whole = h.whole; why = h.why }
+
+  pub overs_on : (overs : List Over) → All (IsOver setup old) overs → All (IsOver setup new) overs
+  overs_on overs all k d lt = over_on _ (all k d lt)
 
 -- ---- a dial
 

@@ -2,5 +2,7 @@
 #![tactic(auto)]
 
 mod rounds;
+mod watch;
 
 pub use rounds::run_swarm;
+pub use watch::SwarmWatch;

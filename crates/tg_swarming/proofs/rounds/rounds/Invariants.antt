@@ -1,9 +1,18 @@
-use Rattle.std.proofs.Common.{map}
-use Rattle.tg_swarming.specs.Rounds.{GoOn, HasAddrs, meanings, moment_of}
+use Rattle.std.proofs.Common.{map, string_bytes}
+use Rattle.tg_swarm.specs.Swarms.{left_to_do}
+use Rattle.tg_swarming.specs.Counts.{KeepsCount, open_count}
+use Rattle.tg_swarming.specs.Rounds.{AreLinked, GoOn, HasAddrs, IsUnended, meanings, moment_of}
 use Rattle.tg_swarming.proofs.rounds.rounds.Given as goal
 
--- what ran at the beginning runs
-abbrev pub invariant-loop : goal.invariant-loop
-invariant-loop g l =
-    GoOn (meanings g.D.Dial.dial g.D.Link.Link.link g.D.Link.Source.source g.S.Sink.sink) (HasAddrs (map (λ addr. addr.now) l.fn.addrs))
-    (moment_of l.fn.swarm l.fn.lines.links.items l.fn.dial l.fn.out) (moment_of l.swarm l.lines.links.items l.dial l.out)
+-- what ran at the beginning runs, as many links are told of, and more is wanted
+abbrev pub invariant-loop-watch : goal.invariant-loop-watch
+invariant-loop-watch g l = record {
+  goes : GoOn (meanings g.D.Dial.dial g.D.Link.Link.link g.D.Link.Source.source g.S.Sink.sink) (HasAddrs (map string_bytes l.fn.addrs))
+      (moment_of l.fn.swarm l.fn.lines l.fn.dial l.fn.out) (moment_of l.swarm l.lines l.dial l.out);
+  count : KeepsCount g.D.Dial.dial l.fn.dial (open_count l.fn.lines) l.dial (open_count l.lines);
+  unended : IsUnended l.swarm;
+  linked : AreLinked l.swarm l.lines;
+}
+
+abbrev pub decreases-loop-watch : goal.decreases-loop-watch
+decreases-loop-watch g l = left_to_do l.swarm
