@@ -2,7 +2,8 @@
 use Rattle.std.proofs.Common.{◌≡◌, ◌≢◌, ◌⊎◌, ◌∙◌, Err, Ok, Option, Some, ap, inl, inr, refl, subst, sym, ℕ}
 use Rattle.std.specs.Prelude.{Result, ⊤}
 use Rattle.tg_app.proofs.FetchEndings.{no_fetch_refusal}
-use Rattle.tg_app.proofs.Statuses.{differs, not_zero}
+use Rattle.tg_app.proofs.Refusals.{audit_refusal_own}
+use Rattle.tg_app.proofs.Statuses.{IsOwn, differs, not_zero}
 use Rattle.tg_app.specs.Audits.{AuditAnswers, AuditDenied, IsAuditEnd, IsAuditRefusal}
 use Rattle.tg_commands.specs.Blocks.{OutputUntouched}
 use Rattle.tg_commands.specs.Exports.{IsExportRefusal, TellsExport}
@@ -80,6 +81,15 @@ no_usage_by (Err fault) (refusal, is, tells) = no_usage_for fault (subst (IsAudi
 pub no_audit_usage : (parts : AuditParts) (out : Output) → AuditAnswers parts out (Some refusals.Usage) → ⊥
 no_audit_usage parts out h = no_usage_by h.result h.end_is
 
+-- ---- a status of its own
+
+own_by : (result : Result ⊤ AuditFault) (refusal : CommandFault) → IsAuditEnd result (Some refusal) → IsOwn refusal
+own_by (Ok done) refusal is = λ words status e. cc
+own_by (Err fault) refusal (told, is, tells) = λ words status e. audit_refusal_own fault told tells words status (cc)
+
+pub audit_own : (parts : AuditParts) (out : Output) (refusal : CommandFault) → AuditAnswers parts out (Some refusal) → IsOwn refusal
+audit_own parts out refusal h = own_by h.result refusal h.end_is
+
 -- ---- status 6
 
 sink_is_6 : (end : Option CommandFault) → IsAuditEnd (Err faults.SinkFault) end → exit_status end ≡ 6
@@ -102,7 +112,7 @@ audit_quiet parts out end ne h = quiet_by parts.seed parts.files out h.result en
 
 audited_by : (seed files : ℕ) (out : Output) (result : Result ⊤ AuditFault) (end : Option CommandFault) → exit_status end ≡ 0 → IsAuditEnd result end → AuditEnds seed files out result → Audited seed files out
 audited_by seed files out (Ok done) end e is h = h
-audited_by seed files out (Err fault) end e (refusal, is, tells) h = absurd (not_zero refusal (sym (ap exit_status is) ∙ e))
+audited_by seed files out (Err fault) end e (refusal, is, tells) h = absurd (not_zero refusal (audit_refusal_own fault refusal tells) (sym (ap exit_status is) ∙ e))
 
 pub audited_of : (parts : AuditParts) (out : Output) (end : Option CommandFault) → exit_status end ≡ 0 → AuditAnswers parts out end → Audited parts.seed parts.files out
 audited_of parts out end e h = audited_by parts.seed parts.files out h.result end e h.end_is h.ends

@@ -1,7 +1,7 @@
 -- What each exit status says, from how the words end.
 use Rattle.std.proofs.Common.{◌+◌, ◌≡◌, ◌≢◌, ℕ, ◌<◌, ◌≤◌, ◌⊎◌, inl, inr, List, [], ◌∷◌, ◌++◌, length, Option, Some, None, Err, refl, sym, ap, ◌∙◌, subst, arith, append-nil, length-append, nat_eq, false}
 use Rattle.std.proofs.lemmas.Bool.Decides.{eqb_tells}
-use Rattle.std.specs.Prelude.{IsSome}
+use Rattle.std.specs.Prelude.{IsSome, ⊤}
 use Rattle.tg_bytes.specs.Told.{after_front, IsNothing}
 use Rattle.tg_cid.specs.Cid.{CidParts}
 use Rattle.tg_cid.specs.Names.{Names, IsDigestOf}
@@ -11,7 +11,7 @@ use Rattle.tg_words.specs.CommandLine.{CommandLine}
 use Rattle.tg_words.specs.Help.{help_text, version_text}
 use Rattle.tg_words.specs.ImportLines.{ImportParts}
 use Rattle.tg_words.specs.declared.Command.{Command}
-use Rattle.tg_words.specs.declared.Command.TheVariants.{Audit, Check, Node, CidToHex, CidToText, Export, Fetch, Help, Import, Mirror, Serve, Verify, Version}
+use Rattle.tg_words.specs.declared.Command.TheVariants.{Audit, Check, Node, CidToHex, CidToText, Export, Fetch, Help, Import, Mirror, Serve, Swarm, Verify, Version}
 use Rattle.tg_export.specs.Cars.{CarEnds}
 use Rattle.tg_export.specs.Packed.{ExportEnds, HasPackedCause, IsExportedElse}
 use Rattle.tg_export.specs.declared.fault.ExportFault.{ExportFault}
@@ -42,13 +42,15 @@ use Rattle.tg_commands.specs.Imports.{ImportAnswers, Imported, IsGoodFolder, IsI
 use Rattle.tg_commands.specs.Files.{Files, SameFiles}
 use Rattle.tg_app.specs.Objects.{Objects}
 use Rattle.tg_commands.specs.declared.fault.CommandFault.{CommandFault}
-use Rattle.tg_commands.specs.declared.fault.CommandFault.TheVariants.{Usage, BadDigest, BadBlock, BlockLimit, InputFault, SinkFault, OutOfMemory}
-use Rattle.tg_app.proofs.AuditEndings.{audit_quiet, no_audit_usage, unaudited}
-use Rattle.tg_app.proofs.ServeEndings.{no_serve_usage, serve_quiet}
-use Rattle.tg_app.proofs.FetchEndings.{fetch_fault, fetch_quiet, no_fetch_usage}
-use Rattle.tg_app.proofs.MirrorEndings.{mirror_quiet, no_mirror_usage}
+use Rattle.tg_commands.specs.declared.fault.CommandFault.TheVariants.{Usage, BadDigest, BadBlock, BlockLimit, InputFault, NoPeerLeft, SinkFault, OutOfMemory}
+use Rattle.tg_app.proofs.AuditEndings.{audit_own, audit_quiet, no_audit_usage, unaudited}
+use Rattle.tg_app.proofs.ServeEndings.{no_serve_peers, no_serve_usage, serve_quiet}
+use Rattle.tg_app.proofs.FetchEndings.{fetch_answers_own, fetch_fault, fetch_quiet, no_fetch_usage}
+use Rattle.tg_app.proofs.MirrorEndings.{mirror_own, mirror_quiet, no_mirror_usage}
+use Rattle.tg_app.proofs.Refusals.{export_refusal_own, import_refusal_own, verify_own}
 use Rattle.tg_app.proofs.Segments.{no_segment}
-use Rattle.tg_app.proofs.Statuses.{differs, not_zero}
+use Rattle.tg_app.proofs.Statuses.{IsOwn, IsPeersEnd, differs, eight_is, not_zero, two_is}
+use Rattle.tg_app.proofs.SwarmEndings.{no_swarm_usage, swarm_fault, swarm_memory, swarm_quiet}
 use Rattle.tg_app.proofs.VerifyEndings.{no_verify_usage, unverified, verify_fault, verify_quiet}
 
 -- ---- the command that the words spell
@@ -74,6 +76,7 @@ memory_ends words (Serve parts) objects uses line all =
     (all.files.folder, all.streams.untaken, inr (inr (record { same = all.files.pack; unput = all.streams.unput; same_door = all.door; end_is = refl })))
 memory_ends words (Fetch parts) objects uses line all = absurd uses
 memory_ends words (Mirror parts) objects uses line all = absurd uses
+memory_ends words (Swarm parts) objects uses line all = absurd uses
 memory_ends words (Audit parts) objects uses line all = (all.files, all.streams.untaken, unaudited parts objects.out all.streams.unput)
 memory_ends words (Help topic) objects uses line all = (all.files, all.streams.untaken, all.streams.unput)
 memory_ends words Version objects uses line all = (all.files, all.streams.untaken, all.streams.unput)
@@ -100,24 +103,6 @@ usage_differs refusal apart e = differs 2 (status_of refusal) apart (ap status_o
 
 nine_differs : (refusal given : CommandFault) → nat_eq (status_of given) 9 ≡ false → refusal ≡ given → status_of refusal ≡ 9 → ⊥
 nine_differs refusal given apart is e = differs (status_of given) 9 apart (sym (ap status_of is) ∙ e)
-
--- ---- ends by their status
-
-eight_is : (end : Option CommandFault) → exit_status end ≡ 8 → end ≡ Some OutOfMemory
-eight_is (Some OutOfMemory) e = refl
-eight_is end e = cc
-
-two_is : (end : Option CommandFault) → exit_status end ≡ 2 → end ≡ Some Usage
-two_is (Some Usage) e = refl
-two_is end e = cc
-
-usage_has_2 : (end : Option CommandFault) → end ≡ Some Usage → exit_status end ≡ 8 → ⊥
-usage_has_2 end e eight = let two : exit_status (Some Usage) ≡ 8 = sym (ap exit_status e) ∙ eight in cc
-
-pub memory_of : (words : List (List ℕ)) (objects : Objects) (end : Option CommandFault) → exit_status end ≡ 8 → Ends words objects end → WantsMemory words objects
-memory_of words objects end e (inl none) = absurd (usage_has_2 end none.end_is e)
-memory_of words objects end e (inr (inl memory)) = inl memory.untouched
-memory_of words objects end e (inr (inr did)) = inr (did.command, did.the, subst (CommandEnds did.command objects) (eight_is end e) did.ends)
 
 -- no command ends as one that is none
 no_export_tells : (fault : ExportFault) → TellsExport fault Usage → ⊥
@@ -190,9 +175,73 @@ no_usage (Verify q) objects ends = no_verify_usage q objects.input objects.out e
 no_usage (Serve parts) objects ends = no_serve_usage parts objects.files.pack objects.files.same_pack objects.out objects.door ends.2
 no_usage (Fetch parts) objects ends = no_fetch_usage parts objects.dial.dialling objects.out ends.2
 no_usage (Mirror parts) objects ends = no_mirror_usage parts objects.files objects.dial objects.out ends.2
+no_usage (Swarm parts) objects ends = no_swarm_usage parts objects.dial objects.out (Some Usage) refl ends.2
 no_usage (Audit parts) objects ends = no_audit_usage parts objects.out ends.2
 no_usage (Help topic) objects ends = absurd ends.2
 no_usage Version objects ends = absurd ends.2
+
+-- ---- statuses of their own
+
+export_own : (path : List ℕ) (q : QueryParts) (step : PackStep) (same : Type 0) (out : Output) (refusal : CommandFault) → ExportAnswers path q step same out (Some refusal) → IsOwn refusal
+export_own path q step same out refusal (inl refused) = export_refusal_own refused.fault refusal refused.tells
+export_own path q step same out refusal (inr (inl none)) = λ words status e. let is = none.is in cc
+export_own path q step same out refusal (inr (inr unbegun)) = λ words status e. let is = unbegun.is in cc
+
+import_own : (parts : ImportParts) (files : Files) (out : Output) (refusal : CommandFault) → ImportAnswers parts files out (Some refusal) → IsOwn refusal
+import_own parts files out refusal (inl (inl refused)) = import_refusal_own refused.fault refusal refused.is
+import_own parts files out refusal (inr (inl none)) = λ words status e. let is = none.is in cc
+import_own parts files out refusal (inl (inr (inl none))) = λ words status e. let is = none.is in cc
+import_own parts files out refusal (inl (inr (inr (inl unput)))) = λ words status e. let is = unput.is in cc
+import_own parts files out refusal (inl (inr (inr (inr unsaid)))) = λ words status e. let is = unsaid.is in cc
+import_own parts files out refusal (inr (inr unbegun)) = λ words status e. let is = unbegun.is in cc
+
+-- no command but `swarm` ends as one whose peers were all refused
+abbrev IsSwarm : Command → Type 0
+IsSwarm (Swarm parts) = ⊤
+IsSwarm other = ⊥
+
+peers_of : (command : Command) (objects : Objects) (words : List ℕ) (status : ℕ) → CommandEnds command objects (Some (NoPeerLeft words status)) → IsSwarm command
+peers_of (Check cid) objects words status ends = absurd ends.1.0
+peers_of (Node cid) objects words status ends = absurd ends.1.0
+peers_of (CidToHex cid) objects words status ends = absurd ends.2
+peers_of (CidToText cid) objects words status ends = absurd ends.2
+peers_of (Export parts) objects words status ends =
+    export_own parts.pack parts.query objects.files.pack objects.files.same_pack objects.out (NoPeerLeft words status) ends.2 words status refl
+peers_of (Import parts) objects words status ends = import_own parts objects.files objects.out (NoPeerLeft words status) ends.1 words status refl
+peers_of (Verify q) objects words status ends = verify_own ends.1.fault (NoPeerLeft words status) ends.1.tells words status refl
+peers_of (Serve parts) objects words status ends =
+    no_serve_peers parts objects.files.pack objects.files.same_pack objects.out objects.door words status ends.2
+peers_of (Fetch parts) objects words status ends = fetch_answers_own parts objects.dial.dialling objects.out (NoPeerLeft words status) ends.2 words status refl
+peers_of (Mirror parts) objects words status ends = mirror_own parts objects.files objects.dial objects.out (NoPeerLeft words status) ends.2 words status refl
+peers_of (Swarm parts) objects words status ends = tt
+peers_of (Audit parts) objects words status ends = audit_own parts objects.out (NoPeerLeft words status) ends.2 words status refl
+peers_of (Help topic) objects words status ends = absurd ends.2
+peers_of Version objects words status ends = absurd ends.2
+
+peers_end : (command : Command) (objects : Objects) (end : Option CommandFault) → IsPeersEnd end → CommandEnds command objects end → IsSwarm command
+peers_end command objects end (words, status, is) ends = peers_of command objects words status (subst (CommandEnds command objects) is ends)
+
+-- ---- ends by their status
+
+memory_is : (command : Command) (objects : Objects) (end : Option CommandFault) → exit_status end ≡ 8 → CommandEnds command objects end → end ≡ Some OutOfMemory
+memory_is (Swarm parts) objects end e ends = swarm_memory parts objects.dial objects.out end e ends.2
+memory_is command objects end e ends = elim (eight_is end e) [ inl is ↦ is | inr peers ↦ absurd (peers_end command objects end peers ends) ]
+
+never_2 : (command : Command) (objects : Objects) (end : Option CommandFault) → exit_status end ≡ 2 → CommandEnds command objects end → ⊥
+never_2 (Swarm parts) objects end e ends = no_swarm_usage parts objects.dial objects.out end e ends.2
+never_2 command objects end e ends = elim (two_is end e) [
+  | inl is ↦ no_usage command objects (subst (CommandEnds command objects) is ends)
+  | inr peers ↦ absurd (peers_end command objects end peers ends)
+]
+
+usage_has_2 : (end : Option CommandFault) → end ≡ Some Usage → exit_status end ≡ 8 → ⊥
+usage_has_2 end e eight = let two : exit_status (Some Usage) ≡ 8 = sym (ap exit_status e) ∙ eight in cc
+
+pub memory_of : (words : List (List ℕ)) (objects : Objects) (end : Option CommandFault) → exit_status end ≡ 8 → Ends words objects end → WantsMemory words objects
+memory_of words objects end e (inl none) = absurd (usage_has_2 end none.end_is e)
+memory_of words objects end e (inr (inl memory)) = inl memory.untouched
+memory_of words objects end e (inr (inr did)) =
+    inr (did.command, did.the, subst (CommandEnds did.command objects) (memory_is did.command objects end e did.ends) did.ends)
 
 memory_isnt_2 : (end : Option CommandFault) → end ≡ Some OutOfMemory → exit_status end ≡ 2 → ⊥
 memory_isnt_2 end e two = let eight : exit_status (Some OutOfMemory) ≡ 2 = sym (ap exit_status e) ∙ two in cc
@@ -200,7 +249,7 @@ memory_isnt_2 end e two = let eight : exit_status (Some OutOfMemory) ≡ 2 = sym
 no_command_of : (words : List (List ℕ)) (objects : Objects) (end : Option CommandFault) → exit_status end ≡ 2 → Ends words objects end → NoCommandEnds words objects end
 no_command_of words objects end e (inl none) = none
 no_command_of words objects end e (inr (inl memory)) = absurd (memory_isnt_2 end memory.end_is e)
-no_command_of words objects end e (inr (inr did)) = absurd (no_usage did.command objects (subst (CommandEnds did.command objects) (two_is end e) did.ends))
+no_command_of words objects end e (inr (inr did)) = absurd (never_2 did.command objects end e did.ends)
 
 pub usage_of : (words : List (List ℕ)) (objects : Objects) (end : Option CommandFault) → exit_status end ≡ 2 → Ends words objects end → IsNoCommand words
 usage_of words objects end e ends = (no_command_of words objects end e ends).none
@@ -226,6 +275,7 @@ command_kept (Import parts) objects end uses ends = absurd uses
 command_kept (Serve parts) objects end uses ends = absurd uses
 command_kept (Fetch parts) objects end uses ends = ends.0
 command_kept (Mirror parts) objects end uses ends = absurd uses
+command_kept (Swarm parts) objects end uses ends = ends.0
 command_kept (Audit parts) objects end uses ends = absurd uses
 command_kept (Help topic) objects end uses ends = ends.0
 command_kept Version objects end uses ends = ends.0
@@ -286,6 +336,7 @@ command_fault (Import parts) objects end uses e ends = absurd uses
 command_fault (Serve parts) objects end uses e ends = absurd uses
 command_fault (Fetch parts) objects end uses e ends = inr (fetch_fault parts objects.dial.dialling objects.out end e ends.2)
 command_fault (Mirror parts) objects end uses e ends = absurd uses
+command_fault (Swarm parts) objects end uses e ends = inr (swarm_fault parts objects.dial objects.out end e ends.2)
 command_fault (Audit parts) objects end uses e ends = absurd uses
 command_fault (Help topic) objects end uses e ends = inr (print_fault (λ text. text ≡ help_text topic) objects.out end e ends.2)
 command_fault Version objects end uses e ends = inr (print_fault (λ text. text ≡ version_text) objects.out end e ends.2)
@@ -330,6 +381,7 @@ command_passed (Verify q) objects end reads e ends = absurd reads
 command_passed (Serve parts) objects end reads e ends = absurd reads
 command_passed (Fetch parts) objects end reads e ends = absurd reads
 command_passed (Mirror parts) objects end reads e ends = absurd reads
+command_passed (Swarm parts) objects end reads e ends = absurd reads
 command_passed (Audit parts) objects end reads e ends = absurd reads
 command_passed (Help topic) objects end reads e ends = absurd reads
 command_passed Version objects end reads e ends = absurd reads
@@ -423,6 +475,7 @@ command_quiet (Verify q) objects end ne ends = verify_quiet q objects.input obje
 command_quiet (Serve parts) objects end ne ends = (ends.1.quiet, serve_quiet parts objects.files.pack objects.files.same_pack objects.out objects.door end ne ends.2)
 command_quiet (Fetch parts) objects end ne ends = (ends.1.quiet, fetch_quiet parts objects.dial.dialling objects.out end ne ends.2)
 command_quiet (Mirror parts) objects end ne ends = (ends.1.quiet, mirror_quiet parts objects.files objects.dial objects.out end ne ends.2)
+command_quiet (Swarm parts) objects end ne ends = (ends.1.quiet, swarm_quiet parts objects.dial objects.out end ne ends.2)
 command_quiet (Audit parts) objects end ne ends = (ends.1.quiet, audit_quiet parts objects.out end ne ends.2)
 command_quiet (Help topic) objects end ne ends = (ends.1.quiet, print_quiet (λ text. text ≡ help_text topic) objects.out end ne ends.2)
 command_quiet Version objects end ne ends = (ends.1.quiet, print_quiet (λ text. text ≡ version_text) objects.out end ne ends.2)
@@ -437,7 +490,7 @@ quiet_of words objects end ne (inr (inr did)) = command_quiet did.command object
 
 pub exported_of : (path : List ℕ) (q : QueryParts) (step : PackStep) (same : Type 0) (out : Output) (end : Option CommandFault) → exit_status end ≡ 0 → ExportAnswers path q step same out end → Exported path q step out
 exported_of path q step same out None e ends = ends
-exported_of path q step same out (Some refusal) e ends = absurd (not_zero refusal e)
+exported_of path q step same out (Some refusal) e ends = absurd (not_zero refusal (export_own path q step same out refusal ends) e)
 
 tells_9 : (fault : ExportFault) (refusal : CommandFault) → status_of refusal ≡ 9 → TellsExport fault refusal → LeadsNowhere fault
 tells_9 (exports.Pack (packs.NotCar at)) refusal e h = absurd (nine_differs _ _ refl h e)
@@ -519,7 +572,7 @@ export_answered_of path q step same out (Some refusal) answer no_pack no_out (in
 
 pub imported_of : (parts : ImportParts) (files : Files) (out : Output) (end : Option CommandFault) → exit_status end ≡ 0 → ImportAnswers parts files out end → Imported parts files out
 imported_of parts files out None e ends = ends
-imported_of parts files out (Some refusal) e ends = absurd (not_zero refusal e)
+imported_of parts files out (Some refusal) e ends = absurd (not_zero refusal (import_own parts files out refusal ends) e)
 
 good_8 : (options : Options) (files : Files) (fault : ImportFault) (refusal : CommandFault) → IsGoodFolder options files.folder.tree_new
     → (FolderRose files.folder → ⊥) → (PackRose files.pack → ⊥) → IsPackingCause options files.folder.tree_new fault files.folder files.pack
@@ -570,7 +623,8 @@ passed_limit bytes input told passed = longer passed.bytes bytes input.left_new 
 
 pub checked_of : (cid : CidParts) (input : Input) (out : Output) (end : Option CommandFault) → exit_status end ≡ 0 → CheckEnds cid input out end → Checked cid input out
 checked_of cid input out None e ends = ends
-checked_of cid input out (Some refusal) e ends = absurd (not_zero refusal e)
+checked_of cid input out (Some (NoPeerLeft words status)) e ends = absurd ends.0
+checked_of cid input out (Some refusal) e ends = cc
 
 pub other_of : (cid : CidParts) (input : Input) (out : Output) (end : Option CommandFault) → exit_status end ≡ 3 → CheckEnds cid input out end → CheckedOther cid input out
 other_of cid input out (Some (BadDigest text)) e ends = record { read = ends.0.1; unput = ends.1 }
@@ -630,7 +684,8 @@ answered_of cid bytes input out (Some refusal) told no_in no_out ends = absurd e
 
 pub noded_of : (cid : CidParts) (input : Input) (out : Output) (end : Option CommandFault) → exit_status end ≡ 0 → NodeEnds cid input out end → Noded cid input out
 noded_of cid input out None e ends = ends
-noded_of cid input out (Some refusal) e ends = absurd (not_zero refusal e)
+noded_of cid input out (Some (NoPeerLeft words status)) e ends = absurd ends.0
+noded_of cid input out (Some refusal) e ends = cc
 
 pub node_other_of : (cid : CidParts) (input : Input) (out : Output) (end : Option CommandFault) → exit_status end ≡ 3 → NodeEnds cid input out end → NodedOther cid input out
 node_other_of cid input out (Some (BadDigest text)) e ends = inl (record { read = ends.0.1; unput = ends.1 })
@@ -668,13 +723,15 @@ node_answered_of cid bytes input out (Some refusal) told no_in no_out ends = abs
 
 pub printed_of : (IsLine : List ℕ → Type 0) (out : Output) (end : Option CommandFault) → exit_status end ≡ 0 → PrintEnds IsLine out end → PutsLine IsLine out
 printed_of IsLine out None e ends = ends
-printed_of IsLine out (Some refusal) e ends = absurd (not_zero refusal e)
+printed_of IsLine out (Some (NoPeerLeft words status)) e ends = absurd ends
+printed_of IsLine out (Some refusal) e ends = cc
 
 -- ---- `help` and `version`
 
 pub text_put_of : (text : List ℕ) (out : Output) (end : Option CommandFault) → exit_status end ≡ 0 → PrintEnds (λ line. line ≡ text) out end → PutAll text out
 text_put_of text out None e ends = subst (λ (line : List ℕ). PutAll line out) ends.line_is ends.put
-text_put_of text out (Some refusal) e ends = absurd (not_zero refusal e)
+text_put_of text out (Some (NoPeerLeft words status)) e ends = absurd ends
+text_put_of text out (Some refusal) e ends = cc
 
 pub text_answered_of : (text : List ℕ) (out : Output) (end : Option CommandFault) → (OutputRose out → ⊥) → PrintEnds (λ line. line ≡ text) out end
     → (exit_status end ≡ 8) ⊎ (exit_status end ≡ 0)

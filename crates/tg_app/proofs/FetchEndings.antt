@@ -1,7 +1,8 @@
 -- What each exit status says of `fetch`.
 use Rattle.std.proofs.Common.{◌+◌, ◌<◌, ◌≡◌, ◌≢◌, ◌⊎◌, ◌∙◌, Bool, Err, List, [], Ok, Option, Some, ap, arith, inl, inr, nat_eq, false, refl, suc, sym, subst, true, zero, ℕ}
 use Rattle.std.specs.Prelude.{Result, ⊤, ◌^◌}
-use Rattle.tg_app.proofs.Statuses.{differs, not_zero}
+use Rattle.tg_app.proofs.Refusals.{fetch_own}
+use Rattle.tg_app.proofs.Statuses.{IsOwn, differs, not_zero}
 use Rattle.tg_app.proofs.VerifyEndings.{ended_none, has_status, refused_none, status_for, unput_of}
 use Rattle.tg_commands.specs.Blocks.{OutputUntouched}
 use Rattle.tg_app.specs.Fetches.{Fetched, FetchedStatus, FetchAnswers, IsAbsentReply, IsFetchEnd, IsFetchRefusal, IsGoodReply, SaysFetchLine, VouchedFetch, miss_refusal}
@@ -105,6 +106,15 @@ no_usage_by (Err fault) is = never_2 fault (fault_has 2 fault (Some refusals.Usa
 pub no_fetch_usage : (parts : FetchParts) (dial : Dialling) (out : Output) → FetchAnswers parts dial out (Some refusals.Usage) → ⊥
 no_fetch_usage parts dial out h = no_usage_by h.result h.end_is
 
+-- ---- a status of its own
+
+own_by : (result : Result ⊤ FetchFault) (refusal : CommandFault) → IsFetchEnd result (Some refusal) → IsOwn refusal
+own_by (Ok done) refusal is = λ words status e. cc
+own_by (Err fault) refusal (told, is, tells) = λ words status e. fetch_own fault told tells words status (cc)
+
+pub fetch_answers_own : (parts : FetchParts) (dial : Dialling) (out : Output) (refusal : CommandFault) → FetchAnswers parts dial out (Some refusal) → IsOwn refusal
+fetch_answers_own parts dial out refusal h = own_by h.result refusal h.end_is
+
 -- ---- status 6
 
 rose_at_6 : (out : Output) (fault : FetchFault) → fetch_status fault ≡ 6 → QuietUnlessSink {A = ⊤} out (Err fault) → OutputRose out
@@ -137,7 +147,7 @@ fetch_quiet parts dial out end ne h = quiet_by out h.result end ne h.end_is h.ca
 -- ---- status 0
 
 never_0 : (fault : FetchFault) (end : Option CommandFault) → exit_status end ≡ 0 → IsFetchEnd (Err fault) end → ⊥
-never_0 fault end e (refusal, is, tells) = not_zero refusal (sym (ap exit_status is) ∙ e)
+never_0 fault end e (refusal, is, tells) = not_zero refusal (fetch_own fault refusal tells) (sym (ap exit_status is) ∙ e)
 
 fetched_by : (parts : FetchParts) (dial : Dialling) (out : Output) (result : Result ⊤ FetchFault) (end : Option CommandFault) → exit_status end ≡ 0 → IsFetchEnd result end
     → FetchEnds parts.query standard parts.addr dial out result → QuietUnlessSink out result → Fetched parts dial out

@@ -1,10 +1,13 @@
 mod Statuses
+mod Refusals
 mod AuditEndings
 mod Endings
 mod Segments
 mod VerifyEndings
 mod FetchEndings
 mod MirrorEndings
+mod PathlessReplies
+mod SwarmEndings
 mod OwnBlocks
 mod OwnCars
 mod OwnAnswers
@@ -14,3 +17,5 @@ mod ServeEndings
 mod Running
 mod FetchSteps
 mod MirrorSteps
+mod Peers
+mod SwarmSteps

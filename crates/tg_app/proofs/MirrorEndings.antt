@@ -2,7 +2,8 @@
 use Rattle.std.proofs.Common.{◌≡◌, ◌≢◌, ◌⊎◌, ◌∙◌, Err, None, Option, Some, ap, false, inl, inr, nat_eq, refl, subst, sym, ℕ}
 use Rattle.std.specs.Prelude.{⊤}
 use Rattle.tg_app.proofs.FetchEndings.{by_status, fetch_status, no_fetch_refusal, peer_at_5, peer_rose, refusal_status, IsStatusOf}
-use Rattle.tg_app.proofs.Statuses.{differs, not_zero}
+use Rattle.tg_app.proofs.Refusals.{mirror_refusal_own}
+use Rattle.tg_app.proofs.Statuses.{IsOwn, differs, not_zero}
 use Rattle.tg_app.specs.Mirrors.{IsDoneElse, IsGoodMirrorReply, IsInMirror, IsLeftMirror, IsMirrorRefusal, IsMirroredInto, MirrorAnswers, MirrorEnds, MirrorUnbegun, VouchedMirror}
 use Rattle.tg_app.specs.Objects.{DialUse}
 use Rattle.tg_commands.specs.Blocks.{OutputUntouched}
@@ -52,6 +53,18 @@ pub no_mirror_usage : (parts : MirrorParts) (files : Files) (dial : DialUse) (ou
 no_mirror_usage parts files dial out (inl handled) = no_usage_in parts files.pack dial out handled.ends
 no_mirror_usage parts files dial out (inr (refusal, e, unbegun)) = let wrong : Some refusals.Usage ≡ Some refusals.OutOfMemory = e ∙ ap Some unbegun.is in cc
 
+-- ---- a status of its own
+
+own_in : (parts : MirrorParts) (pack : PackStep) (dial : DialUse) (out : Output) (refusal : CommandFault) → MirrorEnds parts pack dial out (Some refusal) → IsOwn refusal
+own_in parts pack dial out refusal (inl refused) = mirror_refusal_own refused.fault refusal refused.is
+own_in parts pack dial out refusal (inr (inl none)) = λ words status e. let is = none.is in cc
+own_in parts pack dial out refusal (inr (inr (inl unput))) = λ words status e. let is = unput.is in cc
+own_in parts pack dial out refusal (inr (inr (inr unsaid))) = λ words status e. let is = unsaid.is in cc
+
+pub mirror_own : (parts : MirrorParts) (files : Files) (dial : DialUse) (out : Output) (refusal : CommandFault) → MirrorAnswers parts files dial out (Some refusal) → IsOwn refusal
+mirror_own parts files dial out refusal (inl handled) = own_in parts files.pack dial out refusal handled.ends
+mirror_own parts files dial out refusal (inr (told, is, unbegun)) = λ words status e. let memory = unbegun.is in cc
+
 -- ---- want of memory before anything was done
 
 pub mirror_unbegun : (parts : MirrorParts) (files : Files) (dial : DialUse) (out : Output) (end : Option CommandFault) → end ≡ Some refusals.OutOfMemory
@@ -67,7 +80,7 @@ unbegun_8 files dial out end refusal e unbegun = ap exit_status e ∙ ap status_
 pub mirrored_of : (parts : MirrorParts) (files : Files) (dial : DialUse) (out : Output) (end : Option CommandFault) → exit_status end ≡ 0 → MirrorAnswers parts files dial out end
     → IsMirroredInto parts files.pack dial.dialling out
 mirrored_of parts files dial out None e (inl handled) = handled.ends
-mirrored_of parts files dial out (Some refusal) e ends = absurd (not_zero refusal e)
+mirrored_of parts files dial out (Some refusal) e ends = absurd (not_zero refusal (mirror_own parts files dial out refusal ends) e)
 mirrored_of parts files dial out end e (inr (refusal, is, unbegun)) =
     absurd (differs 8 0 refl (sym (unbegun_8 files dial out end refusal is unbegun) ∙ e))
 

@@ -2,6 +2,7 @@
 use Rattle.std.proofs.Common.{All, List, append-nil, length, None, Option, Some, [], ap, arith, map, subst, sym, ℕ, ◌++◌, ◌∙◌, ◌∷◌, ◌≡◌, ◌≤◌}
 use Rattle.std.proofs.lemmas.List.Elements.{All-cons, All-nil}
 use Rattle.tg_app.proofs.Endings.{whole_is}
+use Rattle.tg_app.proofs.Refusals.{verify_own}
 use Rattle.tg_app.proofs.Statuses.{not_zero}
 use Rattle.tg_commands.specs.Lines.{exit_status}
 use Rattle.tg_commands.specs.Verify.{IsItsCar, VerifyEnds}
@@ -42,7 +43,7 @@ all_within (section ∷ sections) most few =
 
 pub own_answer_of : AnswerTexts → (q : QueryParts) (d : Dag) (text bytes : List ℕ) (input : Input) (out : Output) (end : Option CommandFault) → exit_status end ≡ 0 → VerifyEnds q input out end
     → input.left_old ≡ Some bytes → IsItsCar q d text bytes → Put text out
-own_answer_of laws q d text bytes input out (Some refusal) zero ends told its = absurd (not_zero refusal zero)
+own_answer_of laws q d text bytes input out (Some refusal) zero ends told its = absurd (not_zero refusal (verify_own ends.fault refusal ends.tells) zero)
 own_answer_of laws q d text bytes input out None zero ends told its =
     let did = ends.verifies in
     let heard : did.heard ++ did.unheard ≡ bytes = whole_is (did.heard ++ did.unheard) bytes input.left_new (sym told ∙ did.took.left) did.ends.0.ended.nothing in

@@ -20,10 +20,10 @@ use Rattle.tg_model.specs.Stores.{Store}
 use Rattle.tg_model.specs.Traversal.{Traversal, block_list, sections_of, sent, traversal}
 use Rattle.tg_model_laws.specs.Depths.{CutsAtDepths, ShowsDownTo, down_to}
 use Rattle.tg_model_laws.specs.Stores.{Holds}
+use Rattle.tg_parts.specs.PartLaws.{OpenedAreBlocks}
 use Rattle.tg_store.specs.AttachedPacks.{IsAttachedIn}
 use Rattle.tg_store.specs.Attaching.{IsAttached}
 use Rattle.tg_streams.specs.Streams.{Output, Put}
-use Rattle.tg_model_laws.specs.BesideSound.{BesideLaws}
 use Rattle.tg_model_laws.specs.Stages.{Given, ending}
 use Rattle.tg_model_laws.specs.StoreWalks.{WalkEnds}
 use Rattle.tg_verify.specs.Laws.{IsWithinLimits}
@@ -39,7 +39,7 @@ client_car root sections bytes car =
     ((0 ∷ car.header_is.0) ∷ [], record { header = car.header; rest = car.rest; whole = car.whole; header_is = car.header_is.2; sections_are = car.sections_are })
 
 -- a walk that comes through gives the whole traversal of the DAG that the store holds
-module _ (beside : BesideLaws) (cuts : CutsAtDepths) (shows : ShowsDownTo) (q : QueryParts) (d : Dag) (sound : IsSound d) (root : root_cid d ≡ q.root) where
+module _ (opened : OpenedAreBlocks) (cuts : CutsAtDepths) (shows : ShowsDownTo) (q : QueryParts) (d : Dag) (sound : IsSound d) (root : root_cid d ≡ q.root) where
   walked_through : (store : Store) (given : Given) → Holds store d → WalkEnds q store max_depth given whole → traversal q d ≡ ending given whole
   walked_through store given holds ends =
       let shown : down_to max_depth 1 (store_view store q.root) ≡ down_to max_depth 1 d =
@@ -70,7 +70,7 @@ module _ (beside : BesideLaws) (cuts : CutsAtDepths) (shows : ShowsDownTo) (q : 
             sound = sound;
             root = root;
             answers = answers;
-            one_each = one_each_of beside q d sound root store holds;
+            one_each = one_each_of opened q d sound root store holds;
             is_car = subst (IsCarOf ends.bytes) (sym own) (client_car q.root ends.sections ends.bytes ends.car);
             within = few;
           },

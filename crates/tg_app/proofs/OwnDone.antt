@@ -26,11 +26,13 @@ use Rattle.tg_model_laws.specs.TakenBlocks.{opened_by}
 use Rattle.tg_model_laws.specs.Stages.{Given, nothing_given, place_of, up_to_next, with_place}
 use Rattle.tg_model_laws.specs.StoreWalks.{IsWalked, WalkEnds, WalkLaws}
 use Rattle.tg_model_laws.specs.Tasks.{Task, Want, depth_of, fault_at, give_entries, give_text, node_want, open_block, position_of, segment_want, start, stop_at, stop_of, tasks_of, tasks_then, terminal_fault, terminal_want, text_at}
+use Rattle.tg_parts.specs.PartLaws.{OpenedAreBlocks}
 use Rattle.tg_walk.specs.Walks.{max_depth}
 
--- the laws of walks over a store and beside a DAG, and of sound DAGs
+-- the laws of walks over a store and beside a DAG, of the blocks that are opened, and of sound DAGs
 pub record DoneLaws : Type 0 where
   pub beside : BesideLaws
+  pub opened : OpenedAreBlocks
   pub walks : WalkLaws
   pub computed : (cid : CidParts) (block : List ℕ) (kind : Kind) → All (λ b. b < 256) block → (read cid block ≡ Ok kind) ↔ Reads cid block kind
   pub alike : (d : Dag) (path : List (List ℕ)) → IsSound d → EndsAlike (path_walk path d).end (lookup_path path d)
@@ -49,14 +51,14 @@ greatest_has [] ys p most few = omega (arith, few)
 greatest_has (x ∷ xs) ys p most few = greatest_has xs ys p most (omega (arith, few))
 
 -- no text and no entry comes first
-abbrev pub HasNext : List (Task CidParts) → Type 0
+abbrev HasNext : List (Task CidParts) → Type 0
 HasNext [] = ⊤
 HasNext (open_block w cid ∷ tasks) = ⊤
 HasNext (give_text text ∷ tasks) = ⊥
 HasNext (give_entries met ∷ tasks) = ⊥
 HasNext (stop_at miss ∷ tasks) = ⊤
 
-pub next_then : (tasks : List (Task CidParts)) → HasNext (tasks_then tasks)
+next_then : (tasks : List (Task CidParts)) → HasNext (tasks_then tasks)
 next_then [] = tt
 next_then (open_block w cid ∷ tasks) = tt
 next_then (give_text text ∷ tasks) = next_then tasks

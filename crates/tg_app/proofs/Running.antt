@@ -9,13 +9,14 @@ use Rattle.tg_app.proofs.OwnCars.{AttachAlike, own_car_of}
 use Rattle.tg_app.proofs.OwnAnswers.{AnswerTexts, own_answer_of}
 use Rattle.tg_app.proofs.OwnDone.{DoneLaws, has_answer}
 use Rattle.tg_app.proofs.ServeEndings.{NoneCaused, door_fault_of, serve_answered_of, served_of}
+use Rattle.tg_app.proofs.SwarmEndings.{swarm_runs}
 use Rattle.tg_app.proofs.VerifyEndings.{verified_of, verify_answered_of, verify_nothing_of, vouched_of}
 use Rattle.tg_commands.specs.Check.{CheckStatus}
 use Rattle.tg_commands.specs.CidLines.{HexLine, TextLine}
 use Rattle.tg_app.specs.Commands.{CommandEnds, Ends, NoMemoryEnds, UsesNoDial}
 use Rattle.tg_commands.specs.Lines.{Says, exit_status}
 use Rattle.tg_commands.specs.Node.{NodeStatus}
-use Rattle.tg_app.specs.Runs.{Asks, AuditRun, CheckRun, CidHexRun, CidTextRun, ExportRun, FetchRun, ImportRun, MirrorRun, NodeRun, Run, Runs, ServeRun, TextRun, VerifyRun, WordsRun}
+use Rattle.tg_app.specs.Runs.{Asks, AuditRun, CheckRun, CidHexRun, CidTextRun, ExportRun, FetchRun, ImportRun, MirrorRun, NodeRun, Run, Runs, ServeRun, SwarmRun, TextRun, VerifyRun, WordsRun}
 use Rattle.tg_commands.specs.declared.fault.CommandFault.{CommandFault}
 use Rattle.tg_cid.specs.Cid.{CidParts}
 use Rattle.tg_model.specs.Queries.{QueryParts}
@@ -30,9 +31,10 @@ use Rattle.tg_words.specs.Help.{help_text, version_text}
 use Rattle.tg_words.specs.ImportLines.{ImportParts}
 use Rattle.tg_words.specs.MirrorLines.{MirrorParts}
 use Rattle.tg_words.specs.ServeLines.{ServeParts}
+use Rattle.tg_words.specs.SwarmLines.{SwarmParts}
 use Rattle.tg_words.specs.declared.names.CommandName.{CommandName}
 use Rattle.tg_words.specs.declared.Command.{Command}
-use Rattle.tg_words.specs.declared.Command.TheVariants.{Audit, Check, CidToHex, CidToText, Export, Fetch, Help, Import, Mirror, Node, Serve, Verify, Version}
+use Rattle.tg_words.specs.declared.Command.TheVariants.{Audit, Check, CidToHex, CidToText, Export, Fetch, Help, Import, Mirror, Node, Serve, Swarm, Verify, Version}
 
 -- how the words of a run end, its status and its line
 module _ (run : Run) (end : Option CommandFault) (through : ThroughFits) (front : AnswerIsFront) (misses : VerifiedMisses)
@@ -106,7 +108,7 @@ module _ (run : Run) (end : Option CommandFault) (through : ThroughFits) (front 
         nothing = λ nine told. export_nothing_of parts.pack parts.query pack same run.objects.out end (has nine) told did.2;
         answered = λ answer no_pack no_out. subst (λ (n : ℕ). (n ≡ 8) ⊎ (n ≡ 0)) (sym status)
             (export_answered_of parts.pack parts.query pack same run.objects.out end answer no_pack no_out did.2);
-        own_car = λ d text held sound root answers few zero. own_car_of dones.beside cuts shows parts.query d sound root alike text answers few run.objects.out parts.pack pack held
+        own_car = λ d text held sound root answers few zero. own_car_of dones.opened cuts shows parts.query d sound root alike text answers few run.objects.out parts.pack pack held
             (exported_of parts.pack parts.query pack same run.objects.out end (has zero) did.2);
         own_done = λ d text held sound root answers shallow no_pack no_out. subst (λ (n : ℕ). (n ≡ 8) ⊎ (n ≡ 0)) (sym status)
             (export_answered_of parts.pack parts.query pack same run.objects.out end (has_answer dones parts.query d text pack.content_old held sound root answers shallow) no_pack no_out did.2);
@@ -206,6 +208,10 @@ module _ (run : Run) (end : Option CommandFault) (through : ThroughFits) (front 
             (mirror_answered_of parts files dial out end good no_dial no_pack no_out did.2);
       }
 
+  swarm_run : (parts : SwarmParts) → Asks run (Swarm parts) → SwarmRun parts run
+  swarm_run parts asked =
+      swarm_runs parts run end status line (kept_door_of run.words (Swarm parts) run.objects end asked tt ends) (did_of run.words (Swarm parts) run.objects end asked ends)
+
   audit_run : (parts : AuditParts) → Asks run (Audit parts) → AuditRun parts run
   audit_run parts asked =
       let did = by (Audit parts) tt asked in
@@ -252,6 +258,7 @@ module _ (run : Run) (end : Option CommandFault) (through : ThroughFits) (front 
     serve = serve_run;
     fetch = fetch_run;
     mirror = mirror_run;
+    swarm = swarm_run;
     audit = audit_run;
     help = help_run;
     version = version_run;

@@ -4,7 +4,7 @@ use Rattle.std.proofs.lemmas.Bool.{or_parts}
 use Rattle.std.proofs.lemmas.List.Elements.{All-cons, All-head, All-nil, All-tail}
 use Rattle.std.specs.List.{list_any}
 use Rattle.std.specs.Prelude.{Result, if◌then◌else◌, take, ⊤, ◌^◌, ◌||◌}
-use Rattle.tg_app.proofs.Statuses.{not_zero}
+use Rattle.tg_app.proofs.Statuses.{differs}
 use Rattle.tg_commands.specs.Exports.{IsAttachedPack, pack_refusal}
 use Rattle.tg_commands.specs.Lines.{exit_status, status_of}
 use Rattle.tg_app.specs.Objects.{Entrance}
@@ -64,12 +64,18 @@ five_by false true false passed e = cc
 five_by false false false true e = cc
 five_by false false false false e = cc
 
-usage_by : (memory store fault passed : Bool) → Some refusals.Usage ≡ end_by memory store fault passed → ⊥
-usage_by true store fault passed e = cc
-usage_by false true fault passed e = cc
-usage_by false false true passed e = cc
-usage_by false false false true e = cc
-usage_by false false false false e = cc
+-- it isn't that of words that are no command, nor of a swarm
+abbrev IsItsEnd : Option CommandFault → Type 0
+IsItsEnd (Some refusals.Usage) = ⊥
+IsItsEnd (Some (refusals.NoPeerLeft words status)) = ⊥
+IsItsEnd other = ⊤
+
+end_is_its : (memory store fault passed : Bool) → IsItsEnd (end_by memory store fault passed)
+end_is_its true store fault passed = tt
+end_is_its false true fault passed = tt
+end_is_its false false true passed = tt
+end_is_its false false false true = tt
+end_is_its false false false false = tt
 
 -- without a fault of the store and one of the door
 left_by : (memory store fault passed : Bool) → (store ≡ true → ⊥) → (fault ≡ true → ⊥) → (exit_status (end_by memory store fault passed) ≡ 8)
@@ -82,27 +88,28 @@ left_by false false false false no_store no_fault = inr (inr refl)
 
 -- ---- no command ends as one that is none
 
-no_pack_usage : (fault : PackFault) → Some refusals.Usage ≡ Some (pack_refusal fault) → ⊥
-no_pack_usage (packs.NotCar at) e = cc
-no_pack_usage (packs.BadDigest at) e = cc
-no_pack_usage packs.Unfinished e = cc
-no_pack_usage (packs.Truncated at) e = cc
-no_pack_usage packs.Failed e = cc
-no_pack_usage (packs.BlockLimit at) e = cc
-no_pack_usage packs.OutOfMemory e = cc
+pack_is_its : (fault : PackFault) → IsItsEnd (Some (pack_refusal fault))
+pack_is_its (packs.NotCar at) = tt
+pack_is_its fault = tt
 
-no_end_usage : (result : Result Happened ServeFault) → Some refusals.Usage ≡ serve_end result → ⊥
-no_end_usage (Ok happened) e = usage_by happened.memory happened.store happened.fault happened.limit e
-no_end_usage (Err (faults.Pack fault)) e = no_pack_usage fault e
-no_end_usage (Err faults.DoorFault) e = cc
-no_end_usage (Err faults.SinkFault) e = cc
-no_end_usage (Err faults.OutOfMemory) e = cc
+serve_is_its : (result : Result Happened ServeFault) → IsItsEnd (serve_end result)
+serve_is_its (Ok happened) = end_is_its happened.memory happened.store happened.fault happened.limit
+serve_is_its (Err (faults.Pack fault)) = pack_is_its fault
+serve_is_its (Err fault) = tt
+
+is_its : (parts : ServeParts) (step : PackStep) (same_pack : Type 0) (out : Output) (door : Entrance) (end : Option CommandFault)
+    → ServeAnswers parts step same_pack out door end → IsItsEnd end
+is_its parts step same_pack out door end (inl ended) = subst IsItsEnd (sym ended.end_is) (serve_is_its ended.result)
+is_its parts step same_pack out door end (inr (inl none)) = subst IsItsEnd (sym (none.end_is ∙ ap Some none.unattached.is)) tt
+is_its parts step same_pack out door end (inr (inr unbegun)) = subst IsItsEnd (sym unbegun.end_is) tt
 
 pub no_serve_usage : (parts : ServeParts) (step : PackStep) (same_pack : Type 0) (out : Output) (door : Entrance)
     → ServeAnswers parts step same_pack out door (Some refusals.Usage) → ⊥
-no_serve_usage parts step same_pack out door (inl ended) = no_end_usage ended.result ended.end_is
-no_serve_usage parts step same_pack out door (inr (inl none)) = let e = none.end_is in let is = none.unattached.is in cc
-no_serve_usage parts step same_pack out door (inr (inr unbegun)) = let e = unbegun.end_is in cc
+no_serve_usage parts step same_pack out door answers = is_its parts step same_pack out door (Some refusals.Usage) answers
+
+pub no_serve_peers : (parts : ServeParts) (step : PackStep) (same_pack : Type 0) (out : Output) (door : Entrance) (words : List ℕ) (status : ℕ)
+    → ServeAnswers parts step same_pack out door (Some (refusals.NoPeerLeft words status)) → ⊥
+no_serve_peers parts step same_pack out door words status answers = is_its parts step same_pack out door (Some (refusals.NoPeerLeft words status)) answers
 
 -- ---- faults of out that weren't counted
 
@@ -149,7 +156,8 @@ whole_by parts step out door (Ok happened) attached e h asked =
       each = each_said h.told standard.received step.faults_old step.faults_new serves.runs serves.served (sym has.memory ∙ none.no_memory) fault.1 (sym has.limit ∙ none.no_limit);
       quiet = serves.quiet none.no_fault;
     }
-whole_by parts step out door (Err (faults.Pack fault)) attached e h asked = absurd (not_zero (pack_refusal fault) e)
+whole_by parts step out door (Err (faults.Pack (packs.NotCar at))) attached e h asked = cc
+whole_by parts step out door (Err (faults.Pack fault)) attached e h asked = cc
 whole_by parts step out door (Err faults.DoorFault) attached e h asked = cc
 whole_by parts step out door (Err faults.SinkFault) attached e h asked = cc
 whole_by parts step out door (Err faults.OutOfMemory) attached e h asked = cc
@@ -157,8 +165,8 @@ whole_by parts step out door (Err faults.OutOfMemory) attached e h asked = cc
 pub served_of : (parts : ServeParts) (step : PackStep) (same_pack : Type 0) (out : Output) (door : Entrance) (end : Option CommandFault) → exit_status end ≡ 0
     → ServeAnswers parts step same_pack out door end → ServedWhole parts step out door
 served_of parts step same_pack out door end e (inl ended) = whole_by parts step out door ended.result ended.attached (sym (ap exit_status ended.end_is) ∙ e) ended.served ended.asked
-served_of parts step same_pack out door end e (inr (inl none)) = absurd (not_zero none.refusal (sym (ap exit_status none.end_is) ∙ e))
-served_of parts step same_pack out door end e (inr (inr unbegun)) = absurd (not_zero refusals.OutOfMemory (sym (ap exit_status unbegun.end_is) ∙ e))
+served_of parts step same_pack out door end e (inr (inl none)) = absurd (differs 6 0 refl (sym (ap exit_status (none.end_is ∙ ap Some none.unattached.is)) ∙ e))
+served_of parts step same_pack out door end e (inr (inr unbegun)) = absurd (differs 8 0 refl (sym (ap exit_status unbegun.end_is) ∙ e))
 
 -- ---- status 5
 

@@ -6,6 +6,7 @@ use Rattle.tg_commands.specs.Lines.{Says, exit_status, status_of}
 use Rattle.tg_commands.specs.Verify.{IsGoodCar, IsNoAnswer, IsVerifyRefusal, NotAccepted, SaysLine, ShowsSome, TellsVerify, VerifiedInput, VerifyEnds, Vouched}
 use Rattle.tg_commands.specs.declared.fault.CommandFault.{CommandFault}
 use Rattle.tg_commands.specs.declared.fault.CommandFault.TheVariants.{OutOfMemory, Usage}
+use Rattle.tg_app.proofs.Refusals.{verify_own}
 use Rattle.tg_app.proofs.Statuses.{differs, not_zero}
 use Rattle.tg_bytes.specs.Told.{after_front, grown}
 use Rattle.tg_car.specs.CarText.{header_map}
@@ -145,7 +146,7 @@ verified_of q input out None law e ends =
       no_fault = ends.cause.1;
       sound = did.sound;
     }
-verified_of q input out (Some refusal) law e ends = absurd (not_zero refusal e)
+verified_of q input out (Some refusal) law e ends = absurd (not_zero refusal (verify_own ends.fault refusal ends.tells) e)
 
 -- ---- status 9
 
@@ -281,7 +282,7 @@ module _ (law : AnswerIsFront) (q : QueryParts) (d : Dag) (input : Input) (out e
   vouched_of (Some refusal) e line ends =
       let did = ends.verifies in
       let says = did.sound d sound root in
-      vouched_at (Err ends.fault) (Some refusal) e line did (λ zero. absurd (not_zero refusal zero)) (front_at_fault q d did.sections did.text ends.fault says)
+      vouched_at (Err ends.fault) (Some refusal) e line did (λ zero. absurd (not_zero refusal (verify_own ends.fault refusal ends.tells) zero)) (front_at_fault q d did.sections did.text ends.fault says)
       (λ nine. nowhere_for q d did.sections did.text ends.fault refusal nine (has_status ends.fault refusal ends.tells) says)
       (line_for q d did.sections did.text ends.fault refusal ends.tells says)
 

@@ -3,7 +3,7 @@ use Rattle.std.specs.Prelude.{◌≡◌, ℕ, ◌⊎◌, ⊤, List, Option, Some
 use Rattle.tg_words.specs.CommandLine.{CommandLine}
 use Rattle.tg_words.specs.Help.{help_text, version_text}
 use Rattle.tg_words.specs.declared.Command.{Command}
-use Rattle.tg_words.specs.declared.Command.TheVariants.{Audit, Check, Node, CidToHex, CidToText, Export, Fetch, Help, Import, Mirror, Serve, Verify, Version}
+use Rattle.tg_words.specs.declared.Command.TheVariants.{Audit, Check, Node, CidToHex, CidToText, Export, Fetch, Help, Import, Mirror, Serve, Swarm, Verify, Version}
 use Rattle.tg_streams.specs.Streams.{Output}
 use Rattle.tg_commands.specs.Lines.{Says, exit_status}
 use Rattle.tg_commands.specs.Blocks.{InputUntouched, Untouched}
@@ -18,6 +18,7 @@ use Rattle.tg_commands.specs.Imports.{ImportAnswers}
 use Rattle.tg_commands.specs.Files.{SameFiles}
 use Rattle.tg_app.specs.Objects.{Objects}
 use Rattle.tg_app.specs.Serves.{ServeAnswers}
+use Rattle.tg_app.specs.Swarms.{SwarmAnswers}
 use Rattle.tg_commands.specs.Verify.{VerifyEnds}
 use Rattle.tg_commands.specs.declared.fault.CommandFault.{CommandFault}
 use Rattle.tg_commands.specs.declared.fault.CommandFault.TheVariants.{Usage, OutOfMemory}
@@ -39,6 +40,8 @@ CommandEnds (Fetch parts) objects end =
     SameFiles objects.files × InputUntouched objects.input × FetchAnswers parts objects.dial.dialling objects.out end
 CommandEnds (Mirror parts) objects end =
     objects.files.same_folder × InputUntouched objects.input × MirrorAnswers parts objects.files objects.dial objects.out end
+CommandEnds (Swarm parts) objects end =
+    SameFiles objects.files × InputUntouched objects.input × SwarmAnswers parts objects.dial objects.out end
 CommandEnds (Import parts) objects end =
     InputUntouched objects.input × ImportAnswers parts objects.files objects.out end
 CommandEnds (Audit parts) objects end = SameFiles objects.files × InputUntouched objects.input × AuditAnswers parts objects.out end
@@ -59,6 +62,7 @@ UsesNoFiles (Import parts) = ⊥
 UsesNoFiles (Serve parts) = ⊥
 UsesNoFiles (Fetch parts) = ⊤
 UsesNoFiles (Mirror parts) = ⊥
+UsesNoFiles (Swarm parts) = ⊤
 UsesNoFiles (Audit parts) = ⊥
 UsesNoFiles (Help topic) = ⊤
 UsesNoFiles Version = ⊤
@@ -75,6 +79,7 @@ UsesNoDoor (Export parts) = ⊤
 UsesNoDoor (Import parts) = ⊤
 UsesNoDoor (Fetch parts) = ⊤
 UsesNoDoor (Mirror parts) = ⊤
+UsesNoDoor (Swarm parts) = ⊤
 UsesNoDoor (Audit parts) = ⊤
 UsesNoDoor (Help topic) = ⊤
 UsesNoDoor Version = ⊤
@@ -83,6 +88,7 @@ UsesNoDoor Version = ⊤
 abbrev pub UsesNoDial : Command → Type 0
 UsesNoDial (Fetch parts) = ⊥
 UsesNoDial (Mirror parts) = ⊥
+UsesNoDial (Swarm parts) = ⊥
 UsesNoDial (Check cid) = ⊤
 UsesNoDial (Node cid) = ⊤
 UsesNoDial (CidToHex cid) = ⊤

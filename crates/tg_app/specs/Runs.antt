@@ -16,6 +16,7 @@ use Rattle.tg_commands.specs.Node.{NodeEnds, NodeStatus, Noded, NodedOther}
 use Rattle.tg_commands.specs.Files.{SameFiles}
 use Rattle.tg_app.specs.Objects.{Objects}
 use Rattle.tg_app.specs.Serves.{IsGoodPack, ServedWhole}
+use Rattle.tg_app.specs.Swarms.{HasSwarmPair, IsWholeSwarm, VouchedSwarm, swarm_setup}
 use Rattle.tg_commands.specs.Verify.{IsGoodCar, IsItsCar, VerifiedInput, Vouched}
 use Rattle.tg_audit.specs.Audits.{Audited}
 use Rattle.tg_commands.specs.declared.fault.CommandFault.TheVariants.{FolderFault, OutOfMemory}
@@ -26,12 +27,16 @@ use Rattle.tg_doors.specs.Doors.{DoorRose}
 use Rattle.tg_files.specs.Folders.{FolderRose}
 use Rattle.tg_files.specs.Packs.{PackRose}
 use Rattle.tg_model.specs.Answer.{answer}
+use Rattle.tg_model.specs.Content.{content}
 use Rattle.tg_model.specs.Counts.{counts}
 use Rattle.tg_model.specs.Dag.{Dag, root_cid}
 use Rattle.tg_model.specs.LimitNumbers.{standard}
 use Rattle.tg_model.specs.Queries.{QueryParts}
 use Rattle.tg_model.specs.Sound.{IsSound}
+use Rattle.tg_model_laws.specs.FileSizes.{HasFileRoot, root_total}
 use Rattle.tg_model_laws.specs.Tasks.{Miss}
+use Rattle.tg_swarming.specs.Counts.{AllBack}
+use Rattle.tg_swarming.specs.Sound.{IsServed, IsServedAt}
 use Rattle.tg_streams.specs.Streams.{InputQuiet, InputRose, Output, OutputQuiet, OutputRose, Put}
 use Rattle.tg_verify.specs.Laws.{IsWithinLimits}
 use Rattle.tg_walk.specs.Walks.{max_depth}
@@ -43,9 +48,10 @@ use Rattle.tg_words.specs.Help.{help_text, version_text}
 use Rattle.tg_words.specs.ImportLines.{ImportParts}
 use Rattle.tg_words.specs.MirrorLines.{MirrorParts}
 use Rattle.tg_words.specs.ServeLines.{ServeParts}
+use Rattle.tg_words.specs.SwarmLines.{SwarmParts}
 use Rattle.tg_words.specs.declared.names.CommandName.{CommandName}
 use Rattle.tg_words.specs.declared.Command.{Command}
-use Rattle.tg_words.specs.declared.Command.TheVariants.{Audit, Check, CidToHex, CidToText, Export, Fetch, Help, Import, Mirror, Node, Serve, Verify, Version}
+use Rattle.tg_words.specs.declared.Command.TheVariants.{Audit, Check, CidToHex, CidToText, Export, Fetch, Help, Import, Mirror, Node, Serve, Swarm, Verify, Version}
 
 -- a run: the words behind the program's name, what became of the objects and of err, and the exit status
 pub record Run : Type 1 where
@@ -80,7 +86,7 @@ pub record WordsRun (run : Run) : Type 0 where
   pub kept : (command : Command) → Asks run command → UsesNoFiles command → SameFiles run.objects.files
   -- and no command but `serve` touches the door
   pub kept_door : (command : Command) → Asks run command → UsesNoDoor command → run.objects.door.same_door
-  -- nor any but `fetch` and `mirror` the dial
+  -- nor any but `fetch`, `mirror` and `swarm` the dial
   pub kept_dial : (command : Command) → Asks run command → UsesNoDial command → run.objects.dial.same_dial
   -- status 6 of a command that uses no files comes where a fault of the input or of out was counted; at every other status of
   -- any command none was
@@ -234,6 +240,32 @@ pub record MirrorRun (parts : MirrorParts) (run : Run) : Type 0 where
   pub answered : IsGoodMirrorReply parts.root run.objects.dial.dialling → (DialRose run.objects.dial.dialling → ⊥)
       → (PackRose run.objects.files.pack → ⊥) → (OutputRose run.objects.out → ⊥) → (run.status ≡ 8) ⊎ (run.status ≡ 0)
 
+-- `swarm`: calls to the gateways, by the root's block and then by parts, and what went to out
+pub record SwarmRun (parts : SwarmParts) (run : Run) : Type 0 where
+  pub ends : EndsAs (Swarm parts) run
+  -- at 0 all of the file was put, each of its parts accepted of one of the peers
+  pub swarmed : run.status ≡ 0 → IsWholeSwarm parts run.objects.dial.dialling run.objects.out
+  -- at 9 the root is no file, and nothing was put
+  pub nothing : run.status ≡ 9 → OutputUntouched run.objects.out
+  -- each link that was made was given back, as far as the dial tells; of 8, where no memory was found before, it isn't said
+  pub back : run.status ≢ 8 → AllBack run.objects.dial.dialling
+  -- at 5 a fault of the dial or of a link was counted, and at 6 one of out
+  pub dial_fault : run.status ≡ 5 → DialRose run.objects.dial.dialling
+  pub fault : run.status ≡ 6 → OutputRose run.objects.out
+  -- for every sound DAG with the root, whatever was heard, of whichever peers, however it was cut: at 0 out grew by the file, and else
+  -- by a front of it; or a received block and one of the DAG are different bytes with one SHA-256; but where no memory was found,
+  -- and nothing was done
+  pub vouched : (d : Dag) → IsSound d → root_cid d ≡ parts.root
+      → ((run.status ≡ 8) × AllUntouched run.objects) ⊎ VouchedSwarm parts d run.objects.dial.dialling run.objects.out run.err run.status
+  -- one gateway that serves a sound DAG rightly whose root is a file is enough, whatever the others say: where no fault is counted and
+  -- memory is found the file is put, or there is such a pair
+  pub one_right : (d : Dag) (addr : List ℕ) → HasFileRoot d → root_total d ≤ standard.output
+      → IsServedAt (swarm_setup parts) d addr run.objects.dial.dialling → (DialRose run.objects.dial.dialling → ⊥) → (OutputRose run.objects.out → ⊥)
+      → (run.status ≡ 8) ⊎ (((run.status ≡ 0) × Put (content d) run.objects.out) ⊎ HasSwarmPair parts d run.objects.dial.dialling)
+  -- where all peers serve a sound DAG rightly whose root is a file, no fault is counted and memory is found, the file is put
+  pub answered : (d : Dag) → IsServed (swarm_setup parts) d run.objects.dial.dialling → (DialRose run.objects.dial.dialling → ⊥)
+      → (OutputRose run.objects.out → ⊥) → (run.status ≡ 8) ⊎ ((run.status ≡ 0) × Put (content d) run.objects.out)
+
 -- `audit`: nothing but out and err changed
 pub record AuditRun (parts : AuditParts) (run : Run) : Type 0 where
   pub ends : EndsAs (Audit parts) run
@@ -267,6 +299,7 @@ pub record Runs (run : Run) : Type 0 where
   pub serve : (parts : ServeParts) → Asks run (Serve parts) → ServeRun parts run
   pub fetch : (parts : FetchParts) → Asks run (Fetch parts) → FetchRun parts run
   pub mirror : (parts : MirrorParts) → Asks run (Mirror parts) → MirrorRun parts run
+  pub swarm : (parts : SwarmParts) → Asks run (Swarm parts) → SwarmRun parts run
   pub audit : (parts : AuditParts) → Asks run (Audit parts) → AuditRun parts run
   pub help : (topic : Option CommandName) → Asks run (Help topic) → TextRun (Help topic) (help_text topic) run
   pub version : Asks run Version → TextRun Version version_text run

@@ -5,8 +5,12 @@ mod audit;
 mod fetching;
 mod mirroring;
 mod serve;
+mod swarming;
 mod top;
 
+pub use swarming::fetch_word;
 pub use tg_commands::CommandFault;
-pub use tg_fetch::{Told, Watch};
+pub use tg_fetch::{FetchFault, Told, Watch};
+pub use tg_swarm::SwarmTold;
+pub use tg_swarming::SwarmWatch;
 pub use top::{no_streams, out_of_memory, run};

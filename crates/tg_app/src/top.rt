@@ -11,6 +11,7 @@ use crate::audit::audit_build;
 use crate::fetching::fetch_answer;
 use crate::mirroring::mirror_dag;
 use crate::serve::serve;
+use crate::swarming::swarm_file;
 use std::alloc::Global;
 use tg_commands::CommandFault;
 use tg_commands::check::check;
@@ -25,27 +26,38 @@ use tg_doors::Door;
 use tg_fetch::Watch;
 use tg_files::{Folder, Pack};
 use tg_streams::{Sink, Source};
+use tg_swarming::SwarmWatch;
 use tg_words::Command;
 
 /// Does what the words ask for, the words being those after the program's name, and answers the exit status.
 ///
 /// 0 the command is done; 2 the words are no command; 3 the block on input isn't the CID's, or `node` finds a fault in
-/// it, or the CAR on input isn't what `verify` asks for, or a reply isn't what `fetch` or `mirror` asks for, or `audit`
-/// has another answer than it expects; 4 the reply to `fetch` or `mirror` has another status than 200; 5 a fault of the
-/// door, of the dial or of a link was counted; 6 a fault of the folder, of the pack, of the input or of out was counted,
+/// it, or the CAR on input isn't what `verify` asks for, or a reply isn't what `fetch` or `mirror` asks for, or the root of
+/// `swarm` has no kind, or `audit` has another answer than it expects; 4 the reply to `fetch` or `mirror` has another status than
+/// 200; 5 a fault of the door, of the dial or of a link was counted; 6 a fault of the folder, of the pack, of the input or of out was counted,
 /// or the pack's or the folder's content is refused, or a stored block has changed; 7 a limit is passed: a block of more
 /// than 2,097,152 bytes, a block more than 512 deep, an input or a link of more than 2^40 bytes, one of `verify`'s other
 /// limits, a folder on level 33, a name of more than 255 bytes, a file or a folder that is too large; 8 want of memory;
-/// 9 the path of an `export` or of a `verify` leads nowhere, or that of a `fetch`. A status other than 6 says that no
+/// 9 the path of an `export` or of a `verify` leads nowhere, or that of a `fetch`, or the root of `swarm` is no file. A `swarm` of which
+/// each gateway was refused has the status of `fetch` for the first refusal. A status other than 6 says that no
 /// fault of the input or of out was counted. A status other than 0 puts one line on err, and a fault of err changes
 /// nothing else.
 ///
-/// `watch` is told how far a `fetch` or a `mirror` has come, and that it has ended before its line is put; it has no part
-/// in what is said here.
+/// `watch` is told how far a `fetch`, a `mirror` or a `swarm` has come, that one of the first two has ended before its line is put,
+/// and which gateway a `swarm` refused; it has no part in what is said here.
 ///
 /// What each status says stands in `Runs`: a record for the words, and one for each command, whose last field for
 /// `verify` and for `fetch` is the answer that every sound DAG vouches for.
-pub fn run<F: Folder, P: Pack, L: Door, D: Dial, I: Source, O: Sink, E: Sink, W: Watch>(
+pub fn run<
+    F: Folder,
+    P: Pack,
+    L: Door,
+    D: Dial,
+    I: Source,
+    O: Sink,
+    E: Sink,
+    W: Watch + SwarmWatch,
+>(
     alloc: Global,
     words: &[String],
     folder: &mut F,
@@ -57,6 +69,8 @@ pub fn run<F: Folder, P: Pack, L: Door, D: Dial, I: Source, O: Sink, E: Sink, W:
     err: &mut E,
     watch: &mut W,
 ) -> u8
+where
+    D::Link: Drop,
     // The pack is there, and is given back, as the command left it.
     requires pack { IsSome pack.old }
     ensures back { IsSome pack.new }
@@ -79,6 +93,7 @@ pub fn run<F: Folder, P: Pack, L: Door, D: Dial, I: Source, O: Sink, E: Sink, W:
     tg_store::laws::finished_packs::<P>();
     tg_store::laws::one_cause();
     tg_model_laws::beside_dags();
+    tg_parts::own_blocks();
     tg_model_laws::store_walks();
     tg_model_laws::verified_sections();
     tg_verify::laws::verified_answers();
@@ -87,7 +102,7 @@ pub fn run<F: Folder, P: Pack, L: Door, D: Dial, I: Source, O: Sink, E: Sink, W:
 }
 
 /// Does what the words ask for.
-fn command<F: Folder, P: Pack, L: Door, D: Dial, I: Source, O: Sink, W: Watch>(
+fn command<F: Folder, P: Pack, L: Door, D: Dial, I: Source, O: Sink, W: Watch + SwarmWatch>(
     alloc: Global,
     words: &[String],
     folder: &mut F,
@@ -98,6 +113,8 @@ fn command<F: Folder, P: Pack, L: Door, D: Dial, I: Source, O: Sink, W: Watch>(
     out: &mut O,
     watch: &mut W,
 ) -> Result<(), CommandFault>
+where
+    D::Link: Drop,
     requires { IsSome pack.old }
     ensures back { IsSome pack.new }
     ensures ends { Ends (map string_bytes words.now)
@@ -116,6 +133,7 @@ fn command<F: Folder, P: Pack, L: Door, D: Dial, I: Source, O: Sink, W: Watch>(
         Command::Serve(asked) => serve(alloc, &asked, pack, door, out),
         Command::Fetch(asked) => fetch_answer(alloc, &asked, dial, out, watch),
         Command::Mirror(asked) => mirror_dag(alloc, &asked, pack, dial, out, watch),
+        Command::Swarm(asked) => swarm_file(alloc, &asked, dial, out, watch),
         Command::Audit(asked) => audit_build(alloc, &asked, out),
         Command::Help(topic) => help(alloc, topic, out),
         Command::Version => version(out),

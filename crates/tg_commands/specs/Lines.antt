@@ -15,7 +15,7 @@ use Rattle.tg_commands.specs.declared.fault.CommandFault.TheVariants.{BadReceive
 use Rattle.tg_commands.specs.declared.fault.CommandFault.TheVariants.{NoRoot, NotThere, NotFolder, BadStored, Gone, Changed}
 use Rattle.tg_commands.specs.declared.fault.CommandFault.TheVariants.{TooDeep, DeepFolder, BadName, LongName, SameHash}
 use Rattle.tg_commands.specs.declared.fault.CommandFault.TheVariants.{BadFraming, BadReplyHead, BadType, DoorFault, NotPlain, PeerFault}
-use Rattle.tg_commands.specs.declared.fault.CommandFault.TheVariants.{Differs, Status, StoreFault, TooBig}
+use Rattle.tg_commands.specs.declared.fault.CommandFault.TheVariants.{BadRoot, Differs, NoPeerLeft, NotFile, Status, StoreFault, TooBig}
 use Rattle.tg_model.specs.declared.fault.BlockFault.{BlockFault}
 use Rattle.tg_model.specs.declared.fault.BlockFault.TheVariants as blocks
 use Rattle.tg_model.specs.declared.limits.LimitKind.{LimitKind}
@@ -72,6 +72,9 @@ status_of BadType = 3
 status_of BadReplyHead = 3
 status_of BadFraming = 3
 status_of PeerFault = 5
+status_of (NoPeerLeft words status) = status
+status_of NotFile = 9
+status_of (BadRoot fault) = 3
 status_of (Differs query) = 3
 
 -- what is at fault of a block, behind its CID
@@ -170,6 +173,9 @@ word_of BadType = codes "BadType"
 word_of BadReplyHead = codes "BadReplyHead"
 word_of BadFraming = codes "BadFraming"
 word_of PeerFault = codes "PeerFault"
+word_of (NoPeerLeft words status) = codes "NoPeerLeft" ++ words
+word_of NotFile = codes "NotFile"
+word_of (BadRoot fault) = codes "BadRoot" ++ fault_word fault
 word_of (Differs query) = codes "Differs " ++ decimal query
 
 -- the line: the program's name, the word with its detail, a line feed

@@ -97,6 +97,13 @@ pub enum CommandFault {
     BadFraming,
     /// A fault of the dial or of its link was counted.
     PeerFault,
+    /// Each peer of a swarm was refused: the word of each refusal, in the order of their addresses, each behind a space, and the
+    /// exit status of the first one.
+    NoPeerLeft { words: Bytes, status: u8 },
+    /// The root of a swarm is a directory, a shard or a symbolic link.
+    NotFile,
+    /// The block of a swarm's root, which was accepted, has no kind.
+    BadRoot { fault: BlockFault },
     /// The query of an audit with this number has another answer than the one that is expected of it.
     Differs { query: u64 },
 }
@@ -147,6 +154,7 @@ impl CommandFault {
             | CommandFault::BadType
             | CommandFault::BadReplyHead
             | CommandFault::BadFraming
+            | CommandFault::BadRoot { .. }
             | CommandFault::Differs { .. } => 3,
             CommandFault::Status { .. } => 4,
             CommandFault::DoorFault | CommandFault::PeerFault => 5,
@@ -173,8 +181,11 @@ impl CommandFault {
             | CommandFault::LongName { .. }
             | CommandFault::TooBig { .. } => 7,
             CommandFault::OutOfMemory => 8,
-            CommandFault::NoRoot | CommandFault::NotThere { .. } | CommandFault::NotFolder { .. } =>
-                9,
+            CommandFault::NoRoot
+            | CommandFault::NotThere { .. }
+            | CommandFault::NotFolder { .. }
+            | CommandFault::NotFile => 9,
+            CommandFault::NoPeerLeft { status, .. } => *status,
         }
     }
 
@@ -280,6 +291,9 @@ impl CommandFault {
             CommandFault::BadReplyHead => (b"BadReplyHead", b"", b"", b""),
             CommandFault::BadFraming => (b"BadFraming", b"", b"", b""),
             CommandFault::PeerFault => (b"PeerFault", b"", b"", b""),
+            CommandFault::NoPeerLeft { words, .. } => (b"NoPeerLeft", words.as_slice(), b"", b""),
+            CommandFault::NotFile => (b"NotFile", b"", b"", b""),
+            CommandFault::BadRoot { fault } => (b"BadRoot", fault_word(fault), b"", b""),
             CommandFault::Differs { .. } => (b"Differs ", first, b"", b""),
         }
     }

@@ -21,7 +21,7 @@ use std::io::ErrorKind;
 use std::os::fd::{AsFd, AsRawFd, IntoRawFd, RawFd};
 use std::process::ExitCode;
 use std::{env, io};
-use tg_app::{Watch, no_streams, out_of_memory, run};
+use tg_app::{SwarmWatch, Watch, no_streams, out_of_memory, run};
 use tg_dials::{Dial, TcpDial};
 use tg_doors::{Door, TcpDoor};
 use tg_files::{Folder, HostFolder, HostPack, Pack, TempNames};
@@ -50,6 +50,9 @@ fn main(rt: HostRuntime) -> ExitCode {
     let mut pack = Some(Shown::new(HostPack::new(rt, names), &progress, Counted::Packed));
     let mut door = TcpDoor::new(rt);
     let mut dial = TcpDial::new(rt);
+    if asks_swarm(env::args(&rt)) {
+        dial.hurry();
+    }
     let mut input = Shown::new(StdSource::new(rt.stdin()), &progress, Counted::Taken);
     let mut out = Shown::new(StdSink::new(rt.stdout()), &progress, Counted::Put);
     let mut err = Clearing {
@@ -86,7 +89,7 @@ fn main(rt: HostRuntime) -> ExitCode {
 /// then all objects are as they were. Arguments that aren't UTF-8 are no command. A status other than 0 puts one line on
 /// err, and a fault of err changes nothing else. The line of progress isn't put into `err`: it goes straight to the host's err,
 /// and no clause speaks of it.
-fn answer<F: Folder, P: Pack, L: Door, D: Dial, I: Source, O: Sink, E: Sink, W: Watch>(
+fn answer<F: Folder, P: Pack, L: Door, D: Dial, I: Source, O: Sink, E: Sink, W: Watch + SwarmWatch>(
     alloc: Global,
     held: bool,
     args: io::Result<Args>,
@@ -99,6 +102,8 @@ fn answer<F: Folder, P: Pack, L: Door, D: Dial, I: Source, O: Sink, E: Sink, W: 
     err: &mut E,
     watch: &mut W,
 ) -> u8
+where
+    D::Link: Drop,
     requires { IsSome pack.old }
     ensures ran { IsTrue held → IfOk args (λ given. Runs (record {
       words = map string_bytes (drop 1 (into_iter_items given));
@@ -160,6 +165,17 @@ fn behind_first(alloc: Global, args: Args) -> Result<Vec<String>, AllocError>
     ensures { IfOk result (λ words. words.items ≡ drop 1 (into_iter_items args)) }
 {
     args.skip(1).collect(alloc)
+}
+
+/// Whether these arguments name the command that dials several peers, none of which may hold the others.
+fn asks_swarm(args: io::Result<Args>) -> bool {
+    match args {
+        Ok(args) => args
+            .skip(1)
+            .next()
+            .is_some_and(|word| word.as_str() == "swarm"),
+        Err(_) => false,
+    }
 }
 
 /// Sees to it that no file which the program opens is taken for a standard stream: where the program was started

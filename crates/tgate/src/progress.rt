@@ -1,5 +1,5 @@
 //! What a terminal shows beside out and the line of a refusal: the line of progress of a command, where help is, why no
-//! connection came, and which entry of a folder couldn't be read.
+//! connection came, which peer of a swarm was refused, and which entry of a folder couldn't be read.
 use std::cell::Cell;
 use std::env::Args;
 use std::io;
@@ -7,7 +7,7 @@ use std::io::{IsTerminal, Write};
 use std::marker::Model;
 use std::rt::HostRuntime;
 use std::time::{Duration, Instant};
-use tg_app::{Told, Watch};
+use tg_app::{FetchFault, SwarmTold, SwarmWatch, Told, Watch, fetch_word};
 use tg_bytes::Bytes;
 use tg_faults::Failed;
 use tg_files::Pack;
@@ -87,6 +87,24 @@ impl Progress {
         }
     }
 
+    /// Says which peer of a swarm was refused, and for what, where err is a terminal and out isn't.
+    fn tell_refused(&self, addr: &str, fault: FetchFault) {
+        if !self.rt.stderr().is_terminal() || self.rt.stdout().is_terminal() {
+            return;
+        }
+        self.clear();
+        self.say(b"peer ");
+        self.say(addr.as_bytes());
+        self.say(b" refused: ");
+        self.say(fetch_word(fault));
+        self.say(b"\n");
+    }
+
+    /// Writes to the host's err.
+    fn say(&self, text: &[u8]) {
+        let _ = self.rt.stderr().write_all(text);
+    }
+
     /// Says which entry of the folder couldn't be read, where err is a terminal and there is one.
     pub fn tell_entry(&self, path: Option<Bytes>) {
         let Some(path) = path else {
@@ -156,7 +174,7 @@ fn counted_of(args: io::Result<Args>) -> Option<Counted> {
     }
 }
 
-/// Who is told how far a `fetch` or a `mirror` has come.
+/// Who is told how far a `fetch`, a `mirror` or a `swarm` has come, and which peers a `swarm` refused.
 #[derive(Drop)]
 pub struct Watching<'a> {
     pub progress: &'a Progress,
@@ -177,6 +195,31 @@ impl Watch for Watching<'_> {
 
     fn ended(&mut self) {
         self.progress.clear();
+    }
+}
+
+impl SwarmWatch for Watching<'_> {
+    fn went(&mut self, told: SwarmTold) {
+        let SwarmTold {
+            bytes,
+            total: Some(total),
+            busy,
+        } = told
+        else {
+            return;
+        };
+        if !self.progress.is_due() {
+            return;
+        }
+        if let Ok(line) = format!(in self.progress.rt.alloc();
+            "\r{bytes} of {total} bytes, {busy} peers\x1b[K"
+        ) {
+            self.progress.write(line.as_bytes());
+        }
+    }
+
+    fn refused(&mut self, addr: &str, fault: FetchFault) {
+        self.progress.tell_refused(addr, fault);
     }
 }
 

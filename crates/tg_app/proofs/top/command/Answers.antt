@@ -1,4 +1,4 @@
-use Rattle.std.proofs.Common.{◌≡◌, ◌<◌, ◌≤◌, arith, Option, List, ℕ, inl, inr, subst, refl}
+use Rattle.std.proofs.Common.{◌≡◌, ◌<◌, ◌≤◌, All, arith, length, Option, List, ℕ, inl, inr, subst, refl}
 use Rattle.tg_app.specs.Commands.{CommandEnds, Ends, TheCommand, UsesNoDial, UsesNoDoor}
 use Rattle.tg_app.specs.Objects.{Objects}
 use Rattle.tg_commands.specs.declared.fault.CommandFault.{CommandFault}
@@ -8,8 +8,9 @@ use Rattle.tg_words.specs.CommandLine.{CommandLine}
 use Rattle.tg_words.specs.FetchLines.{FetchParts}
 use Rattle.tg_words.specs.MirrorLines.{MayRootPack, MirrorParts}
 use Rattle.tg_words.specs.ServeLines.{ServeParts}
+use Rattle.tg_words.specs.SwarmLines.{SwarmParts}
 use Rattle.tg_words.specs.declared.Command.{Command}
-use Rattle.tg_words.specs.declared.Command.TheVariants.{Audit, Fetch, Mirror, Serve}
+use Rattle.tg_words.specs.declared.Command.TheVariants.{Audit, Fetch, Mirror, Serve, Swarm}
 use Rattle.tg_app.proofs.top.command.Goals as goal
 
 -- the words spell the command that was read alone, and it ended so
@@ -30,6 +31,17 @@ is_mirror_addr words read parts spelled is = let line = subst (CommandLine words
 may_root : (words : List (List ℕ)) (read : Command) (parts : MirrorParts) → CommandLine words read → read ≡ Mirror parts → MayRootPack parts.root
 may_root words read parts spelled is = let line = subst (CommandLine words) is spelled in line.1.may
 
+-- the addresses of a spelled `swarm`, and how many bytes a part has
+are_addrs : (words : List (List ℕ)) (read : Command) (parts : SwarmParts) → CommandLine words read → read ≡ Swarm parts → All IsAddr parts.addrs
+are_addrs words read parts spelled is = let line = subst (CommandLine words) is spelled in line.1.addrs
+
+few_addrs : (words : List (List ℕ)) (read : Command) (parts : SwarmParts) → CommandLine words read → read ≡ Swarm parts
+    → (1 ≤ length parts.addrs) × (length parts.addrs ≤ 16)
+few_addrs words read parts spelled is = let line = subst (CommandLine words) is spelled in (line.1.some, line.1.most)
+
+is_part : (words : List (List ℕ)) (read : Command) (parts : SwarmParts) → CommandLine words read → read ≡ Swarm parts → (1 ≤ parts.part) × (parts.part ≤ 16777216)
+is_part words read parts spelled is = let line = subst (CommandLine words) is spelled in (line.1.part.least, line.1.part.most)
+
 -- the number of lanes of a spelled `serve`
 some_lanes : (words : List (List ℕ)) (read : Command) (parts : ServeParts) → CommandLine words read → read ≡ Serve parts → 1 ≤ parts.lanes
 some_lanes words read parts spelled is = let line = subst (CommandLine words) is spelled in line.1.lanes.least
@@ -49,6 +61,15 @@ mirror_dag-requires-clause-addr g c = is_mirror_addr _ _ _ c.in_ok-cid.ensures.f
 
 pub mirror_dag-requires-clause-root : goal.mirror_dag-requires-clause-root
 mirror_dag-requires-clause-root g c = may_root _ _ _ c.in_ok-cid.ensures.found c.in-Mirror.is
+
+pub swarm_file-requires-clause-addrs : goal.swarm_file-requires-clause-addrs
+swarm_file-requires-clause-addrs g c = are_addrs _ _ _ c.in_ok-cid.ensures.found c.in-Swarm.is
+
+pub swarm_file-requires-clause-number : goal.swarm_file-requires-clause-number
+swarm_file-requires-clause-number g c = few_addrs _ _ _ c.in_ok-cid.ensures.found c.in-Swarm.is
+
+pub swarm_file-requires-clause-part : goal.swarm_file-requires-clause-part
+swarm_file-requires-clause-part g c = is_part _ _ _ c.in_ok-cid.ensures.found c.in-Swarm.is
 
 pub returns-in-Check-clause-ends : goal.returns-in-Check-clause-ends
 returns-in-Check-clause-ends g c =
@@ -98,6 +119,12 @@ pub returns-in-Mirror-clause-ends : goal.returns-in-Mirror-clause-ends
 returns-in-Mirror-clause-ends g c =
     the_ends c.in_ok-cid.ensures.found c.in_ok-cid.ensures.only c.in-Mirror.is
     (refl, record { untaken = record { moved = g.met.I.Source.rests _; left = refl }; quiet = refl }, inl c.mirror_dag.ensures.ends) (λ none. refl) (λ uses. absurd uses)
+
+pub returns-in-Swarm-clause-ends : goal.returns-in-Swarm-clause-ends
+returns-in-Swarm-clause-ends g c =
+    the_ends c.in_ok-cid.ensures.found c.in_ok-cid.ensures.only c.in-Swarm.is
+    (record { folder = refl; pack = refl }, record { untaken = record { moved = g.met.I.Source.rests _; left = refl }; quiet = refl }, c.swarm_file.ensures)
+    (λ none. refl) (λ uses. absurd uses)
 
 -- the number of files of a spelled `audit`
 some_files : (words : List (List ℕ)) (read : Command) (parts : AuditParts) → CommandLine words read → read ≡ Audit parts → 0 < parts.files

@@ -6,5 +6,5 @@ returns-clause-runs g c =
     runs _ _ c.verified_answers.ensures.through c.verified_answers.ensures.answer_front c.verified_sections.ensures.misses
     c.cut_traversals.ensures.cut c.cut_traversals.ensures.shown c.finished_packs.ensures.same c.one_cause.ensures.none
     (record { through = c.verified_answers.ensures.through; received = c.received_sections.ensures; alike = c.one_fit.ensures.fits; own = c.own_sections.ensures })
-    (record { beside = c.beside_dags.ensures; walks = c.store_walks.ensures; computed = c.readings.ensures.computed; alike = c.paths.ensures; through = c.traversals.ensures.through })
+    (record { beside = c.beside_dags.ensures; opened = c.own_blocks.ensures.opened; walks = c.store_walks.ensures; computed = c.readings.ensures.computed; alike = c.paths.ensures; through = c.traversals.ensures.through })
     c.tell.ensures.status c.tell.ensures.line c.command-end.ensures.ends
