@@ -205,6 +205,10 @@ impl<'a> Dial for NotedDial<'a> {
 
     ghost dial = { mem_dial };
 
+    fn hurry(&mut self) {
+        self.inner.hurry();
+    }
+
     fn dial(&mut self, addr: &str) -> Result<NotedLink<'a>, Failed> {
         let inner = self.inner.dial(addr)?;
         Ok(NotedLink {

@@ -19,6 +19,11 @@ pub trait Dial {
 
     ghost dial: { DialMeaning Self };
 
+    /// Makes the peers that it dials from now on some of several, of which none may hold the others. How long it waits for each
+    /// is no part of any promise.
+    fn hurry(&mut self)
+        ensures { self.new ≡ self.old };
+
     /// A link to the peer at an address HOST:PORT. The error is a fault of the dial.
     fn dial(&mut self, addr: &str) -> Result<Self::Link, Failed>
         ensures dialled { IsDialled (at_dial dial self.old self.new)

@@ -137,6 +137,9 @@ impl Dial for MemDial {
 
     ghost dial = { mem_dial };
 
+    /// Nobody waits here.
+    fn hurry(&mut self) {}
+
     /// It fails where the call's number stands in the list or no peer is left, and for want of memory alone besides.
     fn dial(&mut self, _addr: &str) -> Result<MemLink, Failed>
         ensures dialled { IsDialled (at_dial mem_dial self.old self.new) (dialled_link mem_link mem_hearing result) }

@@ -31,7 +31,7 @@ const WAIT: u64 = 60_000;
 ///
 /// A host is an IPv4 address, an IPv6 address in brackets, or a name, whose addresses are tried in turn; each is given
 /// up after 30 seconds. A peer that says nothing for 60 seconds is a fault of its link, and so is a write to it of which
-/// the system takes no byte for 60 seconds. A dial to several peers gives an address up after 5 seconds, and a peer of which
+/// the system takes no byte for 60 seconds. Where it is hurried an address is given up after 5 seconds, and a peer of which
 /// fewer than 65,536 bytes came in the last 60 seconds is a fault of its link too.
 #[derive(Drop)]
 pub struct TcpDial<R: Net> {
@@ -66,13 +66,6 @@ impl<R: Net> TcpDial<R> {
         }
     }
 
-    /// The same dial, to several peers, of which none may hold the others.
-    pub fn hurry(&mut self)
-        ensures { self.new ≡ self.old }
-    {
-        self.hurried = true;
-    }
-
     /// Why no link came at the last `dial` that gave none: that the host's name isn't known, or an error of the connection to
     /// the last address that was tried. It tells what the system says, for a person to read, and no clause speaks of it.
     pub fn why(&self) -> Option<io::Error> {
@@ -101,6 +94,12 @@ impl<R: Net + Drop> Dial for TcpDial<R> {
     type Link = TcpLink<R::Stream>;
 
     ghost dial = { tcp_dial };
+
+    /// An address is given up after 5 seconds then, a link is closed at once when it is given back, and a peer of which fewer than
+    /// 65,536 bytes came in the last 60 seconds is a fault of its link.
+    fn hurry(&mut self) {
+        self.hurried = true;
+    }
 
     /// It waits for the connection.
     fn dial(&mut self, addr: &str) -> Result<TcpLink<R::Stream>, Failed>

@@ -87,6 +87,7 @@ where
     tg_fetch::laws::refused_replies();
     tg_model_laws::own_sections();
     tg_model_laws::against_every_peer();
+    dial.hurry();
     let mut lines = Lines::new(alloc, addrs.len())?;
     let end = rounds(alloc, swarm, addrs, &mut lines, dial, out, watch);
     hang_up(&mut lines, dial);
