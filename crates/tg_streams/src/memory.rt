@@ -153,8 +153,17 @@ impl MemSink {
         ensures { result ≡ record
             { content = []; piece = piece; fails = calls.fails; calls = calls.made; faults = calls.faults } }
     {
+        MemSink::onto(Bytes::new(alloc), piece, calls)
+    }
+
+    /// A sink that holds these bytes, behind which the same is put; room that they have is used for it.
+    pub fn onto(content: Bytes, piece: usize, calls: Calls) -> MemSink
+        requires { 0 < piece }
+        ensures { result ≡ record
+            { content = content; piece = piece; fails = calls.fails; calls = calls.made; faults = calls.faults } }
+    {
         MemSink {
-            content: Bytes::new(alloc),
+            content,
             piece,
             calls,
         }

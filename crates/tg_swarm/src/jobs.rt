@@ -19,13 +19,15 @@ use tg_streams::{Sink, put_all};
 use tg_verify::Progress;
 
 /// Jobs in order, `count` in all, of which the first `written` are done with, and the peers that have some of the others. Of those
-/// behind the first ones, as many as `parts` has places, the text of a finished one is kept until all lower ones are put.
+/// behind the first ones, as many as `parts` has places, the text of a finished one is kept until all lower ones are put. The room
+/// of one that was put is there for another; contracts don't see it.
 #[derive(Drop)]
 pub struct Jobs<C> {
     count: u64,
     written: u64,
     parts: Vec<Option<Bytes>>,
     peers: Vec<Peer<C>>,
+    rooms: Vec<Bytes>,
 }
 
 impl<C> Model for Jobs<C> {
@@ -49,7 +51,29 @@ impl<C: Drop> Jobs<C> {
             written: 0,
             parts: no_parts(alloc, peers)?,
             peers: idle_peers(alloc, peers)?,
+            rooms: Vec::new(alloc),
         })
+    }
+
+    /// An empty text with room for the next one: that of a text that was put, or else for so many bytes. The error is want of
+    /// memory.
+    pub(crate) fn room(&mut self, alloc: Global, len: usize) -> Result<Bytes, AllocError>
+        ensures empty { IfOk result (λ room. room ≡ []) }
+        ensures same { self.new ≡ self.old }
+    {
+        let Some(room) = self.rooms.pop() else {
+            return Ok(Bytes::from(Vec::with_capacity(alloc, len)?));
+        };
+        let mut room = room;
+        room.clear();
+        Ok(room)
+    }
+
+    /// Keeps the room of a text that was put, or lets it go where memory is wanted for that.
+    fn keep_room(&mut self, text: Bytes)
+        ensures { self.new ≡ self.old }
+    {
+        let _ = self.rooms.push(text);
     }
 
     /// So many jobs in place of the ones there were, none of which is done with.
@@ -204,6 +228,7 @@ impl<C: Drop> Jobs<C> {
     {
         while let Some(text) = self.take_first() {
             put_all(out, text.as_slice())?;
+            self.keep_room(text);
             self.count_one();
         }
         Ok(())

@@ -26,6 +26,7 @@ use std::marker::Model;
 use std::mem::drop;
 use tg_bytes::{Bytes, List};
 use tg_cid::Cid;
+use tg_faults::Calls;
 use tg_fetch::{Client, FetchFault};
 use tg_model::{BlockFault, LimitKind, Limits, PlacedKind, Query, Scope, Span, reads_in_place};
 use tg_streams::{MemSink, Sink, put_all};
@@ -140,11 +141,11 @@ impl Swarm {
             return Ok(None);
         };
         let query = self.query(job);
-        let call = Call {
-            job,
-            client: Client::new(self.alloc, &query, self.client_limits())?,
-            text: MemSink::new(self.alloc, PIECE, List::new(self.alloc)),
-        };
+        let client = Client::new(self.alloc, &query, self.client_limits())?;
+        let len = self.room_len(job);
+        let room = self.jobs.room(self.alloc, len)?;
+        let text = MemSink::onto(room, PIECE, Calls::new(List::new(self.alloc)));
+        let call = Call { job, client, text };
         self.jobs.set(peer, Peer::Busy(call));
         Ok(Some(query))
     }
@@ -263,6 +264,17 @@ impl Swarm {
         let span = Span::from_start(start, Some(end - 1));
         let path = List::new(self.alloc);
         Query::car(self.root, path, Scope::Entity, Some(span), true)
+    }
+
+    /// How many bytes the text of a job has room for at once: those of a part, and none of the root's block.
+    fn room_len(&self, job: u64) -> usize {
+        match self.plan {
+            Plan::Root => 0,
+            Plan::Parts { total } => {
+                let start = job.saturating_mul(self.part);
+                total.saturating_sub(start).min(self.part) as usize
+            }
+        }
     }
 
     /// The limits of a client: of the root's block the swarm compares the total, and its client counts no output.
