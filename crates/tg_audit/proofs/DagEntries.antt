@@ -24,7 +24,7 @@ use Rattle.tg_tree.specs.declared.tree.Tree.{Tree, out-Tree}
 
 -- ---- each entry shows what has its name
 
-abbrev IsShownIn : Tree → DirEntry → Type 0
+abbrev pub IsShownIn : Tree → DirEntry → Type 0
 IsShownIn tree e = (below : Tree) × (child tree e.name ≡ Some below) × Shows e.dag below
 
 slot_shown : (name : Option (List ℕ)) (d : Dag) (tree : Tree) → (ShowsInside d tree → All (IsShownIn tree) (entries d))
@@ -164,6 +164,9 @@ directory_of tree (node section (Symlink target) children) s h = absurd (no_link
 -- what stands under a name
 pub record StandsAt (options : LayoutOptions) (d : Dag) (name : List ℕ) (below : Tree) : Type 0 where
   pub dag : Dag
+  pub entry : DirEntry
+  pub among : Contains (entries d) entry
+  pub dag_is : entry.dag ≡ dag
   pub shows : Shows dag below
   pub laid : IsLaidAt options top dag
   pub leads : (i : ℕ) (path : List (List ℕ)) → lookup_from i (name ∷ path) d ≡ lookup_from (i + 1) path dag
@@ -172,14 +175,17 @@ pub stands_at : (options : LayoutOptions) (tree : Tree) (d : Dag) (name : List �
     → child tree name ≡ Some below → StandsAt options d name below
 stands_at options tree d name below s shown laid is =
     let dir = directory_of tree d s shown in
-    let (e, among, named, entry) = entry_found (entries d) name ((dir.names.names name).1 (found_key (entries_of tree) name below is)) in
-    let (other, other_is, shows) = All-contains (IsShownIn tree) (entries d) e dir.shown among in
+    let (e, in_entries, named, first) = entry_found (entries d) name ((dir.names.names name).1 (found_key (entries_of tree) name below is)) in
+    let (other, other_is, shows) = All-contains (IsShownIn tree) (entries d) e dir.shown in_entries in
     let same : other ≡ below = (let both : Some other ≡ Some below = sym other_is ∙ (ap (child tree) named ∙ is) in cc both) in
     record {
       dag = e.dag;
+      entry = e;
+      among = in_entries;
+      dag_is = refl;
       shows = subst (Shows e.dag) same shows;
-      laid = All-contains (IsLaidEntry options) (entries d) e (entries_laid options top d laid) among;
-      leads = λ i path. rw (dir.directory, entry) refl;
+      laid = All-contains (IsLaidEntry options) (entries d) e (entries_laid options top d laid) in_entries;
+      leads = λ i path. rw (dir.directory, first) refl;
     }
 
 -- and where there is no such name

@@ -1,5 +1,6 @@
 -- Why a query of an audit is refused, or has another answer than the expected one.
-use Rattle.std.proofs.Common.{All, Bool, Contains, List, None, Option, Some, [], ap, false, inl, inr, length, lit<, lit≤, ltb-true, refl, subst, sym, true, ℕ, ◌+◌, ◌++◌, ◌<◌, ◌∙◌, ◌∷◌, ◌≡◌, ◌≤◌}
+use Rattle.std.proofs.Common.{All, Bool, Contains, List, None, Option, Some, [], ap, arith, false, inl, inr, length, lit<, lit≤, ltb-true, refl, subst, sym, true, ℕ, ◌++◌, ◌<◌, ◌∙◌, ◌∷◌, ◌≡◌, ◌≤◌}
+use Rattle.std.proofs.lemmas.Bool.Decides.{nat_tests}
 use Rattle.std.proofs.lemmas.List.Elements.{All-cons, All-contains, All-contains_itself, All-from_recursion, All-nil, Contains-append_left, Contains-append_right, Contains-push}
 use Rattle.std.specs.Bool.{Decides}
 use Rattle.std.specs.List.{AllByRecursion, list_all}
@@ -8,11 +9,18 @@ use Rattle.tg_audit.proofs.Addrs.{audit_addr_is}
 use Rattle.tg_audit.proofs.BlockSizes.{BlockLaws}
 use Rattle.tg_audit.proofs.ImportCauses.{import_causes}
 use Rattle.tg_audit.proofs.OwnQueries.{sent_of_dag}
+use Rattle.tg_audit.proofs.WithinLimits.{WithinLaws}
+use Rattle.tg_audit.proofs.WithinQueries.{few_shards, within_shards}
 use Rattle.tg_audit.proofs.PackCauses.{Everything, NoneCaused, few_blocks, no_pack_cause}
 use Rattle.tg_audit.specs.Asking.{audit_addr}
 use Rattle.tg_audit.specs.Audits.{AreAnswered, IsDeniedAs, IsUnabsent, IsUnexpected, StopsAt, not_there}
-use Rattle.tg_audit.proofs.DrawnAnswers.{AnswersAs, absent_ends, drawn_answers}
-use Rattle.tg_audit.specs.Complete.{HasDenialCause, IsAsExpected, IsAuditTree, bundle_query}
+use Rattle.tg_audit.proofs.DrawnAnswers.{AnswersAs, absent_ends, bundle_query, drawn_answers}
+use Rattle.tg_audit.proofs.ExpectedTexts.{bundle_is, listing_is}
+use Rattle.tg_audit.proofs.FileSizes.{IsAt}
+use Rattle.tg_audit.proofs.FileTexts.{short_at}
+use Rattle.tg_audit.proofs.LightFolders.{imported_at}
+use Rattle.tg_audit.specs.Complete.{HasDenialCause, IsAuditTree}
+use Rattle.tg_audit.specs.Shards.{HasFewShards, HasManyShards}
 use Rattle.tg_audit.specs.Denials.{DenialsHaveCauses}
 use Rattle.tg_audit.specs.Holding.{AttachedHolds, CollidesOrNot, HoldsSpelled}
 use Rattle.tg_audit.specs.Own.{IsMissOrMemory, IsOwnQuery, OwnIsAnswered, OwnIsRefused}
@@ -42,10 +50,11 @@ use Rattle.tg_model.specs.Ends.{EndsAlike}
 use Rattle.tg_model.specs.Lookup.{lookup_path}
 use Rattle.tg_model.specs.PathWalk.{path_walk, stopped}
 use Rattle.tg_model.specs.PathWalk as walks
-use Rattle.tg_model.specs.Sound.{IsSound}
+use Rattle.tg_model.specs.Sound.{IsSound, top}
 use Rattle.tg_model.specs.Traversal.{block_list, traversal}
 use Rattle.tg_model.specs.declared.queries.Form.TheVariants as forms
 use Rattle.tg_model.specs.declared.queries.Scope.TheVariants as scopes
+use Rattle.tg_model_laws.specs.FileSizes.{TotalIsLength}
 use Rattle.tg_model_laws.specs.Tasks.{no_entry}
 use Rattle.tg_reply.specs.Bodies.{IsSpelled}
 use Rattle.tg_store.specs.AttachedPacks.{IsAttachedIn}
@@ -132,6 +141,10 @@ good_queries root = all
     all : All (IsGoodQuery root) (answer_queries root ++ absent_query root ∷ [])
     all = All-from_recursion (IsGoodQuery root) (answer_queries root ++ absent_query root ∷ []) nine
 
+-- all nine queries of a DAG are within the limits
+abbrev AreWithinLimits : Dag → Type 0
+AreWithinLimits d = All (λ q. IsWithin q standard d) (answer_queries (root_cid d) ++ absent_query (root_cid d) ∷ [])
+
 -- ---- over the attached store
 
 -- the root's block is one of a whole DAG
@@ -199,7 +212,7 @@ module _ (answered : OwnIsAnswered) (refused : OwnIsRefused) (tests : GoodNames)
   is_not_there (fetches.Refused (refusals.NotThere segment)) h = ap (λ (i : ℕ). fetches.Refused (refusals.NotThere i)) h
   is_not_there _ h = absurd h
 
-  module _ (expected : List Hashed) (within : All (λ q. IsWithin q standard d) (answer_queries (root_cid d) ++ absent_query (root_cid d) ∷ []))
+  module _ (expected : List Hashed) (within : AreWithinLimits d)
       (answers : AnswersAs d (answer_queries (root_cid d)) expected) (absent : (traversal (absent_query (root_cid d)) d).end ≡ stopped (walks.not_there 0)) where
     abbrev all_queries : List QueryParts
     all_queries = answer_queries (root_cid d) ++ absent_query (root_cid d) ∷ []
@@ -243,17 +256,51 @@ told_store (Some bytes) None content e attached = absurd attached
 told_store (Some bytes) (Some store) content e attached =
     let same : bytes ≡ content = cc e in (store, refl, subst (λ (l : List ℕ). IsAttached l store) same attached)
 
+-- what isn't so where one block stands under each CID and all queries are within the limits has a cause
+module _ (collides : CollidesOrNot) (laws : WithinLaws) (seed files : ℕ) (tree : Tree) (expected : List Hashed) (drawn : IsAuditTree seed files tree expected) (packed : Packed)
+    (packed_is : IsPackedOf tree packed) (some : 0 < files) (few : files ≤ 1000000) (no : HasOneBlockEach packed_is.d → AreWithinLimits packed_is.d → ⊥) where
+  no_few : HasOneBlockEach packed_is.d → HasFewShards packed_is.d → ⊥
+  no_few one shards = no one
+      (within_shards laws seed files drawn.drawn tree packed_is.content packed_is.d some few drawn.drawn_is drawn.tree_is packed_is.holds one shards)
+
+  many : HasOneBlockEach packed_is.d → HasManyShards files packed_is.d
+  many one = by (nat_lt 393113 files) refl
+    where
+      by : (b : Bool) → nat_lt 393113 files ≡ b → HasManyShards files packed_is.d
+      by true e = record { shards = no_few one; more = ltb-true 393113 files e }
+      by false e = absurd (no_few one
+          (few_shards laws seed files drawn.drawn tree packed_is.content packed_is.d (grind (arith, nat_tests, e)) drawn.drawn_is drawn.tree_is packed_is.holds))
+
+  caused : HasDenialCause seed files
+  caused = record {
+    d = packed_is.d;
+    expected = expected;
+    dag = record { tree = tree; drawn = drawn; content = packed_is.content; holds = packed_is.holds };
+    cause = elim (collides packed_is.d packed_is.holds.imported.sound packed_is.holds.imported.plain) [
+      | inl two ↦ inl two
+      | inr one ↦ inr (many one)
+    ];
+  }
+
 module _ (answered : OwnIsAnswered) (refused : OwnIsRefused) (collides : CollidesOrNot) (attached_holds : AttachedHolds) (tests : GoodNames)
-    (alike : (d : Dag) (path : List (List ℕ)) → IsSound d → EndsAlike (path_walk path d).end (lookup_path path d)) where
+    (alike : (d : Dag) (path : List (List ℕ)) → IsSound d → EndsAlike (path_walk path d).end (lookup_path path d)) (sizes : TotalIsLength)
+    (within : WithinLaws) where
   module _ (seed files : ℕ) (tree : Tree) (expected : List Hashed) (drawn : IsAuditTree seed files tree expected) (packed : Packed) (packed_is : IsPackedOf tree packed)
-      (fault : AuditFault) (some : 0 < files) (not_memory : fault ≢ audits.OutOfMemory) (denied : IsDeniedAs packed expected fault) where
+      (fault : AuditFault) (some : 0 < files) (few : files ≤ 1000000) (not_memory : fault ≢ audits.OutOfMemory) (denied : IsDeniedAs packed expected fault) where
     imported_shows : Shows packed_is.d tree
     imported_shows = packed_is.holds.imported.shows
 
-    answers : IsAsExpected drawn.drawn packed_is.d → AnswersAs packed_is.d (answer_queries (root_cid packed_is.d)) expected
-    answers ok =
+    imported_stands : IsAt top packed_is.d
+    imported_stands = imported_at tree [] packed_is.d packed_is.holds.imported
+
+    answers : AnswersAs packed_is.d (answer_queries (root_cid packed_is.d)) expected
+    answers =
         let many : 0 < length drawn.drawn.many = subst (λ (n : ℕ). 0 < n) (sym drawn.drawn_is.many.count_is) some in
-        drawn_answers drawn.drawn tree drawn.tree_is packed_is.d imported_shows packed_is.holds.imported.laid drawn.drawn_is.big.count_is many ok
+        let most : length drawn.drawn.many ≤ 1000000 = subst (λ (n : ℕ). n ≤ 1000000) (sym drawn.drawn_is.many.count_is) few in
+        let short = short_at drawn.drawn_is.between drawn.drawn.many drawn.drawn_is.behind drawn.drawn_is.many.drawn in
+        drawn_answers drawn.drawn tree drawn.tree_is packed_is.d imported_shows packed_is.holds.imported.laid drawn.drawn_is.big.count_is many
+        (bundle_is sizes drawn.drawn tree drawn.tree_is packed_is.d imported_shows imported_stands most short)
+        (listing_is sizes drawn.drawn tree drawn.tree_is packed_is.d imported_shows imported_stands most short)
         drawn.expected_are.texts expected drawn.expected_are.texts_are drawn.expected_are.hashed_are
 
     absent : (traversal (absent_query (root_cid packed_is.d)) packed_is.d).end ≡ stopped (walks.not_there 0)
@@ -261,63 +308,50 @@ module _ (answered : OwnIsAnswered) (refused : OwnIsRefused) (collides : Collide
         absent_ends drawn.drawn tree drawn.tree_is packed_is.d imported_shows packed_is.holds.imported.laid
         (alike packed_is.d (codes "missing" ∷ []) packed_is.holds.imported.sound)
 
-    no_cause : HasOneBlockEach packed_is.d → IsAsExpected drawn.drawn packed_is.d → ⊥
+    no_cause : HasOneBlockEach packed_is.d → AreWithinLimits packed_is.d → ⊥
     no_cause one ok =
         let (store, told_is, attached) = told_store packed.pack.content denied.told packed_is.content packed_is.told denied.attached in
         let held = attached_holds tree packed_is.d packed_is.content store packed_is.holds attached one in
         elim denied.cause [
           | inl stops ↦ not_memory
-              (stops_not answered refused tests packed_is.d store tree packed_is.content packed_is.holds held expected ok.within (answers ok) absent fault
+              (stops_not answered refused tests packed_is.d store tree packed_is.content packed_is.holds held expected ok answers absent fault
               (subst (λ (root : CidParts). StopsAt (Some store) (answer_queries root) expected fault) packed_is.root
               (subst (λ (t : Option Store). StopsAt t (answer_queries packed.root) expected fault) told_is stops)))
           | inr un ↦ not_memory
-              (absent_is answered refused tests packed_is.d store tree packed_is.content packed_is.holds held expected ok.within (answers ok) absent fault
+              (absent_is answered refused tests packed_is.d store tree packed_is.content packed_is.holds held expected ok answers absent fault
               (subst (λ (root : CidParts). IsUnabsent (Some store) (absent_query root) fault) packed_is.root
               (subst (λ (t : Option Store). IsUnabsent t (absent_query packed.root) fault) told_is un.1)))
         ]
 
     cause_of : HasDenialCause seed files
-    cause_of = record {
-      d = packed_is.d;
-      expected = expected;
-      dag = record { tree = tree; drawn = drawn; content = packed_is.content; holds = packed_is.holds };
-      cause = elim (collides packed_is.d packed_is.holds.imported.sound packed_is.holds.imported.plain) [
-        | inl two ↦ inl two
-        | inr one ↦ inr (no_cause one)
-      ];
-    }
+    cause_of = caused collides within seed files tree expected drawn packed packed_is some few no_cause
 
   -- a pack that isn't attached
   module _ (none : NoneCaused) (spellings : SpellingLaws) (cids : OneSpelling) (everything : Everything) (seed files : ℕ) (tree : Tree) (expected : List Hashed)
-      (drawn : IsAuditTree seed files tree expected) (packed : Packed) (packed_is : IsPackedOf tree packed) (fault : PackFault)
+      (drawn : IsAuditTree seed files tree expected) (packed : Packed) (packed_is : IsPackedOf tree packed) (fault : PackFault) (some : 0 < files) (few : files ≤ 1000000)
       (cause : CauseIn packed.pack.content (audits.Pack fault)) where
-    not_expected : IsAsExpected drawn.drawn packed_is.d → ⊥
-    not_expected ok =
+    not_within : AreWithinLimits packed_is.d → ⊥
+    not_within ok =
         let d = packed_is.d in
         let holds = packed_is.holds in
-        let first : IsWithin (bundle_query (root_cid d)) standard d = ok.within 0 (bundle_query (root_cid d)) (lit< tt) in
+        let first : IsWithin (bundle_query (root_cid d)) standard d = ok 0 (bundle_query (root_cid d)) (lit< tt) in
         let small = few_blocks everything d holds.imported.sound holds.imported.plain first.counts_are.block in
         no_pack_cause none spellings cids tree drawn.tree_is.is_folder.sort d packed_is.content holds small fault
         (subst (λ (told : Option (List ℕ)). CauseIn told (audits.Pack fault)) packed_is.told cause)
 
     pack_cause : HasDenialCause seed files
-    pack_cause = record {
-      d = packed_is.d;
-      expected = expected;
-      dag = record { tree = tree; drawn = drawn; content = packed_is.content; holds = packed_is.holds };
-      cause = inr not_expected;
-    }
+    pack_cause = caused collides within seed files tree expected drawn packed packed_is some few (λ one. not_within)
 
   pub denials : BlockLaws → NoneCaused → SpellingLaws → OneSpelling → Everything → DenialsHaveCauses
   denials blocks none spellings cids everything seed files (audits.Client fault) some few h =
-      cause_of seed files h.tree h.expected h.drawn h.packed h.packed_is (audits.Client fault) some (λ e. cc e) h.is_so
+      cause_of seed files h.tree h.expected h.drawn h.packed h.packed_is (audits.Client fault) some few (λ e. cc e) h.is_so
   denials blocks none spellings cids everything seed files (audits.Limit number) some few h =
-      cause_of seed files h.tree h.expected h.drawn h.packed h.packed_is (audits.Limit number) some (λ e. cc e) h.is_so
+      cause_of seed files h.tree h.expected h.drawn h.packed h.packed_is (audits.Limit number) some few (λ e. cc e) h.is_so
   denials blocks none spellings cids everything seed files (audits.Differs query) some few h =
-      cause_of seed files h.tree h.expected h.drawn h.packed h.packed_is (audits.Differs query) some (λ e. cc e) h.is_so
+      cause_of seed files h.tree h.expected h.drawn h.packed h.packed_is (audits.Differs query) some few (λ e. cc e) h.is_so
   denials blocks none spellings cids everything seed files (audits.Import fault) some few h =
       import_causes blocks tests seed files h.drawn.drawn h.tree fault few h.drawn.drawn_is h.drawn.tree_is h.cause
   denials blocks none spellings cids everything seed files (audits.Pack fault) some few h =
-      pack_cause none spellings cids everything seed files h.tree h.expected h.drawn h.packed h.packed_is fault h.is_so
+      pack_cause none spellings cids everything seed files h.tree h.expected h.drawn h.packed h.packed_is fault some few h.is_so
   denials blocks none spellings cids everything seed files audits.SinkFault some few h = tt
   denials blocks none spellings cids everything seed files audits.OutOfMemory some few h = tt

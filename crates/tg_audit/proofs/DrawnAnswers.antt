@@ -5,13 +5,13 @@ use Rattle.std.specs.Map.{keys_of, lookup}
 use Rattle.std.specs.Prelude.{bytes_eq, codes, map, min}
 use Rattle.tg_audit.proofs.DagEntries.{directory_of, file_says, missing_at, stands_at}
 use Rattle.tg_audit.proofs.Members.{first_one, none_in}
-use Rattle.tg_audit.specs.Complete.{IsAsExpected}
 use Rattle.tg_audit.specs.Packing.{audit_options}
-use Rattle.tg_audit_texts.specs.Expected.{AreHashed, AreTexts, first_of, last_of, part}
+use Rattle.tg_audit_texts.specs.Expected.{AreHashed, AreTexts, IsBundle, first_of, last_of, named_from, part}
 use Rattle.tg_audit_texts.specs.Hashing.{IsHashOf}
 use Rattle.tg_audit_texts.specs.Queries.{absent_query, answer_queries, car_query}
 use Rattle.tg_audit_texts.specs.declared.hashing.Hashed.{Hashed}
 use Rattle.tg_bytes.specs.Ascii.{slash}
+use Rattle.tg_cid.specs.Cid.{CidParts}
 use Rattle.tg_draws.specs.Trees.{AreFilesFrom, IsFileOf, IsFolderWith, IsTreeOf}
 use Rattle.tg_draws.specs.declared.drawing.Drawn.{Drawn}
 use Rattle.tg_import.specs.Imported.{layout}
@@ -28,7 +28,7 @@ use Rattle.tg_model.specs.PathWalk as walks
 use Rattle.tg_model.specs.Queries.{QueryParts, SpanParts}
 use Rattle.tg_model.specs.ShowsTree.{Shows}
 use Rattle.tg_model.specs.Sound.{top}
-use Rattle.tg_model.specs.Texts.{dir_line}
+use Rattle.tg_model.specs.Texts.{dir_line, listing}
 use Rattle.tg_model.specs.Traversal.{from_end, traversal}
 use Rattle.tg_model.specs.declared.kinds.Entry.{Entry}
 use Rattle.tg_model.specs.declared.kinds.Kind.TheVariants.{Basic, File, Raw, Shard, Symlink}
@@ -66,7 +66,7 @@ no_lines path es no_child e = refl
 no_lines path [] (with_child d children) e = refl
 no_lines path (entry ∷ es) (with_child d children) e = absurd (cc e)
 
-nothing_in : (tree : Tree) (d : Dag) → IsFolderWith [] tree → Shows d tree → entries d ≡ []
+pub nothing_in : (tree : Tree) (d : Dag) → IsFolderWith [] tree → Shows d tree → entries d ≡ []
 nothing_in tree d is shown =
     let dir = directory_of tree d is.sort shown in
     no_names (entries d) (λ name c. none_in name (subst (λ (l : List (List ℕ)). Contains l name) (ap keys_of is.entries_are) ((dir.names.names name).0 c)))
@@ -87,6 +87,13 @@ empty_says tree (node section (Symlink target) children) is shown laid =
     let dir = directory_of tree (node section (Symlink target) children) is.sort shown in absurd (cc dir.directory)
 
 -- ---- the queries
+
+-- that of the bundle of all, and that of the listing of `many`
+abbrev pub bundle_query : CidParts → QueryParts
+bundle_query root = car_query root [] scopes.All None true
+
+abbrev pub listing_query : CidParts → QueryParts
+listing_query root = car_query root (codes "many" ∷ []) scopes.Entity None false
 
 -- the answers of a DAG to queries
 abbrev AreAnswersOf : Dag → List QueryParts → List (List ℕ) → Type 0
@@ -152,13 +159,15 @@ module _ (drawn : Drawn) (tree : Tree) (is : IsTreeOf drawn tree) (d : Dag) (sho
       end_is (not_reached (walks.gone spot)) h = absurd h
       end_is (not_reached (walks.bad_block spot fault)) h = absurd h
 
-  module _ (size : length drawn.big ≡ 10485760) (some : 0 < length drawn.many) (ok : IsAsExpected drawn d) where
+  module _ (size : length drawn.big ≡ 10485760) (some : 0 < length drawn.many)
+      (bundled : (text : List ℕ) → IsBundle drawn text → answer (bundle_query (root_cid d)) d ≡ Some text)
+      (listed : answer (listing_query (root_cid d)) d ≡ Some (listing (named_from 0 drawn.many))) where
     from_size : (n : ℕ) → n < 10485760 → n < length drawn.big
     from_size n h = subst (λ (l : ℕ). n < l) (sym size) h
 
     all_answers : (texts : List (List ℕ)) → AreTexts drawn texts → AreAnswersOf d (answer_queries (root_cid d)) texts
     all_answers texts t = subst (AreAnswersOf d (answer_queries (root_cid d))) (sym t.are) (
-      ok.bundle t.bundle t.bundle_is,
+      bundled t.bundle t.bundle_is,
       (
         file_answer (codes "big") is.big drawn.big (Some (record { from = froms.Start 1048575; to = Some 1048576 })) true (child_is (codes "big") (Some is.big) refl) is.big_is
             ∙ ap Some (slice_part 1048575 1048576 drawn.big (from_size 1048576 (lit< tt))),
@@ -169,7 +178,7 @@ module _ (drawn : Drawn) (tree : Tree) (is : IsTreeOf drawn tree) (d : Dag) (sho
             file_answer (codes "big") is.big drawn.big (Some (record { from = froms.Start 20000000; to = None })) true (child_is (codes "big") (Some is.big) refl) is.big_is
                 ∙ ap Some (slice_behind 20000000 drawn.big (omega (arith, size))),
             (
-              ok.listing,
+              listed,
               (
                 file_answer (codes "none") is.none [] None true (child_is (codes "none") (Some is.none) refl) is.none_is,
                 (empty_answer, (first_answer drawn.many is.files some is.files_are is.many_is, refl)),

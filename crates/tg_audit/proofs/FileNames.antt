@@ -20,10 +20,10 @@ from_tens : (a b : ℕ) → a / 10 ≡ b / 10 → 48 + a % 10 ≡ 48 + b % 10 �
 from_tens a b tens ones = omega (arith, tens, ones)
 
 -- where the digits above are the same, and this one is
-same_with_digit : (ones a b : ℕ) → a / (ones * 10) ≡ b / (ones * 10) → digit_of ones a ≡ digit_of ones b → a / ones ≡ b / ones
+pub same_with_digit : (ones a b : ℕ) → a / (ones * 10) ≡ b / (ones * 10) → digit_of ones a ≡ digit_of ones b → a / ones ≡ b / ones
 same_with_digit ones a b above here = from_tens (a / ones) (b / ones) (div-div-eq-div-mul a ones 10 ∙ above ∙ sym (div-div-eq-div-mul b ones 10)) here
 
-none_above : (n : ℕ) → n < 1000000 → n / 1000000 ≡ 0
+pub none_above : (n : ℕ) → n < 1000000 → n / 1000000 ≡ 0
 none_above n h = omega (arith, h)
 
 by_one : (n : ℕ) → n / 1 ≡ n

@@ -45,7 +45,7 @@ bytes_both : (xs ys : List (List ℕ)) → bytes_in (xs ++ ys) ≡ bytes_in xs +
 bytes_both [] ys = omega arith
 bytes_both (x ∷ xs) ys = let rest = bytes_both xs ys in omega (arith, rest)
 
-rest_full : (number n m : ℕ) (ns : List ℕ) → AreFull number (n ∷ m ∷ ns) → AreFull number (m ∷ ns)
+pub rest_full : (number n m : ℕ) (ns : List ℕ) → AreFull number (n ∷ m ∷ ns) → AreFull number (m ∷ ns)
 rest_full number n m ns h = record {
   full = λ i k before e. h.full (suc i) k (omega (arith, before)) e;
   last = λ i k is e. h.last (suc i) k (omega (arith, is)) e;
@@ -162,11 +162,11 @@ many_leaves k (p ∷ q ∷ places) (with_child c (with_child d children)) checke
 
 -- ---- Tsizes
 
-no_links : (children : Children) → root_cids children ≡ [] → tsizes_of children ≡ 0
+pub no_links : (children : Children) → root_cids children ≡ [] → tsizes_of children ≡ 0
 no_links no_child e = refl
 no_links (with_child d children) e = absurd (cc e)
 
-no_content : (children : Children) → content_of_children [] children ≡ []
+pub no_content : (children : Children) → content_of_children [] children ≡ []
 no_content no_child = refl
 no_content (with_child d children) = refl
 
@@ -182,7 +182,7 @@ leaf_tsize position (node section (Basic es) children) checked even = absurd eve
 leaf_tsize position (node section (Shard slots) children) checked even = absurd even
 leaf_tsize position (node section (Symlink target) children) checked even = absurd even
 
-leaf_tsizes : (places : List Position) (children : Children) → AreCheckedAt places children → HaveLeavesAt 0 children
+pub leaf_tsizes : (places : List Position) (children : Children) → AreCheckedAt places children → HaveLeavesAt 0 children
     → tsizes_of children ≤ length (content_of_children places children)
 leaf_tsizes places no_child checked even = omega arith
 leaf_tsizes [] (with_child d children) checked even = absurd checked
@@ -192,7 +192,7 @@ leaf_tsizes (place ∷ places) (with_child d children) checked even =
     let both = length-append (content_at place d) (content_of_children places children) in
     omega (arith, here, there, both)
 
-no_names : (parts : List Part) → names_room (map (λ p. []) parts) ≡ 71 * length parts
+pub no_names : (parts : List Part) → names_room (map (λ p. []) parts) ≡ 71 * length parts
 no_names [] = refl
 no_names (p ∷ parts) = let rest = no_names parts in omega (arith, rest)
 
@@ -201,50 +201,60 @@ no_names (p ∷ parts) = let rest = no_names parts in omega (arith, rest)
 pub not_folder : (tree : Tree) (bytes : List ℕ) → bytes_of (Some tree) ≡ Some bytes → sort_within (out-Tree tree) ≡ sorts.Folder → ⊥
 not_folder tree bytes is s = let no : sorts.File ≡ sorts.Folder = sym (file_sort (out-Tree tree) bytes is) ∙ s in cc no
 
-some_one : (a b : List ℕ) → Some a ≡ Some b → a ≡ b
+pub some_one : (a b : List ℕ) → Some a ≡ Some b → a ≡ b
 some_one a b e = cc e
 
 pub record IsLight (most : ℕ) (d : Dag) : Type 0 where
   pub tsize : tsize_of d ≤ most
   pub counts : all_of (counts_of d) ≤ most
 
+-- a file of at most 10,485,760 bytes that isn't a leaf has leaves alone below its root, and at most 1,024 of them
+pub record IsOneLevel (parts : List Part) (children : Children) : Type 0 where
+  pub even : HaveLeavesAt 0 children
+  pub few : length parts ≤ 1024
+  pub chunks : AreFull 1048576 (map length (leaves_of_children children))
+
+pub one_level : (section : Section) (inline : List ℕ) (filesize : Option ℕ) (parts : List Part) (children : Children)
+    → IsAt top (node section (File inline filesize parts) children)
+    → length (content (node section (File inline filesize parts) children)) ≤ 10485760 → IsOneLevel parts children
+one_level section inline filesize parts children h few = by file.depth file.even file.branches
+  where
+    file : IsLaidFile (layout audit_options) (node section (File inline filesize parts) children)
+    file = h.laid.0
+
+    links : length (root_cids children) ≡ length parts
+    links = ap length h.checked.0.links ∙ length-map parts (λ p. p.cid)
+
+    by : (depth : ℕ) → HasLeavesAt depth (node section (File inline filesize parts) children)
+        → (0 < depth → All (λ width. 2 ≤ width) (length parts ∷ [])) → IsOneLevel parts children
+    by zero even branches = absurd even
+    by (suc zero) even branches = record { even = even; few = (file.levels 0).last 0 (length parts) (omega arith) refl; chunks = file.chunks }
+    by (suc (suc k)) even branches =
+        let two : 2 ≤ length parts = All-head (λ width. 2 ≤ width) (length parts) [] (branches (omega arith)) in
+        let more = many_leaves k (map (λ p. part p.size) parts) children h.checked.1 even (omega (arith, two, links)) (file.levels 1)
+        (λ level. file.linked (suc level)) in
+        let full = full_bytes (leaves_of_children children) file.chunks in
+        let bytes = leaf_bytes top (node section (File inline filesize parts) children) h.checked in
+        absurd (omega (arith, more, full, bytes, few))
+
 module _ (laws : BlockLaws) where
   linked_file : (section : Section) (inline : List ℕ) (filesize : Option ℕ) (parts : List Part) (children : Children)
       → IsAt top (node section (File inline filesize parts) children)
       → length (content (node section (File inline filesize parts) children)) ≤ 10485760
       → tsize_of (node section (File inline filesize parts) children) ≤ file_most
-  linked_file section inline filesize parts children h few = by file.depth file.even file.branches
-    where
-      file : IsLaidFile (layout audit_options) (node section (File inline filesize parts) children)
-      file = h.laid.0
-
-      links : length (root_cids children) ≡ length parts
-      links = ap length h.checked.0.links ∙ length-map parts (λ p. p.cid)
-
-      whole_content : length (content (node section (File inline filesize parts) children))
-          ≡ length inline + length (content_of_children (map (λ p. part p.size) parts) children)
-      whole_content = length-append inline (content_of_children (map (λ p. part p.size) parts) children)
-
-      by : (depth : ℕ) → HasLeavesAt depth (node section (File inline filesize parts) children)
-          → (0 < depth → All (λ width. 2 ≤ width) (length parts ∷ []))
-          → length section.block + tsizes_of children ≤ file_most
-      by zero even branches = absurd even
-      by (suc zero) even branches =
-          let many : length parts ≤ 1024 = (file.levels 0).last 0 (length parts) (omega arith) refl in
-          let block = block_fits laws section.block (map (λ p. []) parts) children
-          (file_unix (total_of section (File inline filesize parts)) (map (λ p. p.size) parts)) h.laid.1 h.whole
-          (All-tail HasPlainCid section (blocks_of_children children) h.plain) in
-          let names = no_names parts in
-          let sizes = length-map parts (λ p. p.size) in
-          let rest = leaf_tsizes (map (λ p. part p.size) parts) children h.checked.1 even in
-          omega (arith, many, block, names, sizes, rest, whole_content, few)
-      by (suc (suc k)) even branches =
-          let two : 2 ≤ length parts = All-head (λ width. 2 ≤ width) (length parts) [] (branches (omega arith)) in
-          let more = many_leaves k (map (λ p. part p.size) parts) children h.checked.1 even (omega (arith, two, links)) (file.levels 1)
-          (λ level. file.linked (suc level)) in
-          let full = full_bytes (leaves_of_children children) file.chunks in
-          let bytes = leaf_bytes top (node section (File inline filesize parts) children) h.checked in
-          absurd (omega (arith, more, full, bytes, few))
+  linked_file section inline filesize parts children h few =
+      let level = one_level section inline filesize parts children h few in
+      let whole_content : length (content (node section (File inline filesize parts) children))
+      ≡ length inline + length (content_of_children (map (λ p. part p.size) parts) children) =
+      length-append inline (content_of_children (map (λ p. part p.size) parts) children) in
+      let many = level.few in
+      let block = block_fits laws section.block (map (λ p. []) parts) children
+      (file_unix (total_of section (File inline filesize parts)) (map (λ p. p.size) parts)) h.laid.1 h.whole
+      (All-tail HasPlainCid section (blocks_of_children children) h.plain) in
+      let names = no_names parts in
+      let sizes = length-map parts (λ p. p.size) in
+      let rest = leaf_tsizes (map (λ p. part p.size) parts) children h.checked.1 level.even in
+      omega (arith, many, block, names, sizes, rest, whole_content, few)
 
   pub light_file : (d : Dag) (tree : Tree) (bytes : List ℕ) → IsAt top d → Shows d tree → bytes_of (Some tree) ≡ Some bytes → length bytes ≤ 10485760
       → IsLight file_most d

@@ -32,22 +32,62 @@ use Rattle.tg_tree.specs.declared.items.Sort.TheVariants as sorts
 use Rattle.tg_tree.specs.declared.tree.Tree.{Tree}
 
 -- children where they stand
-record AreAt (places : List Position) (children : Children) : Type 0 where
-  whole : AreWhole children
-  checked : AreCheckedAt places children
-  laid : AreLaidAt (layout audit_options) places children
-  plain : All HasPlainCid (blocks_of_children children)
+pub record AreAt (places : List Position) (children : Children) : Type 0 where
+  pub whole : AreWhole children
+  pub checked : AreCheckedAt places children
+  pub laid : AreLaidAt (layout audit_options) places children
+  pub plain : All HasPlainCid (blocks_of_children children)
 
-first_at : (place : Position) (places : List Position) (d : Dag) (children : Children) → AreAt (place ∷ places) (with_child d children) → IsAt place d
+pub first_at : (place : Position) (places : List Position) (d : Dag) (children : Children) → AreAt (place ∷ places) (with_child d children) → IsAt place d
 first_at place places d children h =
     let plain = all_left HasPlainCid (blocks d) (blocks_of_children children) h.plain in
     record { whole = h.whole.0; checked = h.checked.0; laid = h.laid.0; plain = plain }
 
-rest_at : (place : Position) (places : List Position) (d : Dag) (children : Children) → AreAt (place ∷ places) (with_child d children)
+pub rest_at : (place : Position) (places : List Position) (d : Dag) (children : Children) → AreAt (place ∷ places) (with_child d children)
     → AreAt places children
 rest_at place places d children h =
     let plain = all_right HasPlainCid (blocks d) (blocks_of_children children) h.plain in
     record { whole = h.whole.1; checked = h.checked.1; laid = h.laid.1; plain = plain }
+
+pub shard_children : (position : Position) (section : Section) (slots : List Slot) (children : Children) → IsAt position (node section (Shard slots) children)
+    → AreAt (map (slot_position (passed position)) slots) children
+shard_children position section slots children h =
+    record { whole = h.whole; checked = h.checked.1; laid = h.laid.2; plain = All-tail HasPlainCid section (blocks_of_children children) h.plain }
+
+-- ---- the names of a directory in one block
+
+abbrev pub IsNamed : List (List ℕ) → List ℕ → Type 0
+IsNamed names name = list_any (bytes_eq name) names ≡ true
+
+read_names : (links : List Link) (cids : List CidParts) → AreCids links cids → map (λ e. e.name) (read_entries links cids) ≡ map name_of links
+read_names [] [] h = refl
+read_names [] (cid ∷ cids) h = absurd h
+read_names (link ∷ links) [] h = absurd h
+read_names (link ∷ links) (cid ∷ cids) h = ap (λ (l : List (List ℕ)). name_of link ∷ l) (read_names links cids h.1)
+
+module _ (laws : BlockLaws) where
+  pub entries_differ : (cid : CidParts) (block : List ℕ) (es : List Entry) → Reads cid block (Basic es) → IsDistinct bytes_eq (map (λ e. e.name) es)
+  entries_differ cid block es reads =
+      let r = reads_node cid block (Basic es) (λ e. cc e) reads in
+      elim r.reads [
+        | inl file ↦ let e = file.kind_is in absurd (cc)
+        | inr (inl basic) ↦
+            let e = basic.kind_is in
+            let same : es ≡ read_entries r.links r.cids = cc in
+            subst (IsDistinct bytes_eq) (sym (ap (λ (l : List Entry). map (λ x. x.name) l) same
+            ∙ read_names r.links r.cids r.node.cids_are)) basic.differ
+        | inr (inr (inl shard)) ↦ let e = shard.kind_is in absurd (cc)
+        | inr (inr (inr link)) ↦ let e = link.kind_is in absurd (cc)
+      ]
+
+pub few_entries : (names : List (List ℕ)) (es : List Entry) → All (IsNamed names) (map (λ e. e.name) es) → IsDistinct bytes_eq (map (λ e. e.name) es) → length es ≤ length names
+few_entries names es named differ =
+    let few = length-le_from_is_member nat_list_eq_equiv (map (λ e. e.name) es) names differ
+    (λ q found.
+    All-contains (IsNamed names) (map (λ e. e.name) es) q named
+    (Contains-from_any (λ x y is. (bytes_eq-Decides x y).0 is) q (map (λ e. e.name) es) found)) in
+    let same = length-map es (λ (e : Entry). e.name) in
+    omega (arith, few, same)
 
 -- how much an entry takes at most where so many levels of shards may stand above it
 abbrev cost : ℕ → ℕ
@@ -107,12 +147,6 @@ module _ (laws : BlockLaws) (tree : Tree) (light : HasLightEntries tree) where
       let all = inside h shown in
       let some = all.some in
       record { few = all.few; room = omega (arith, some); tsize = all.tsize; counts = all.counts }
-
-  children_at : (position : Position) (section : Section) (slots : List Slot) (children : Children)
-      → IsAt position (node section (Shard slots) children)
-      → AreAt (map (slot_position (passed position)) slots) children
-  children_at position section slots children h =
-      record { whole = h.whole; checked = h.checked.1; laid = h.laid.2; plain = All-tail HasPlainCid section (blocks_of_children children) h.plain }
 
   slots_ascend : (position : Position) (section : Section) (slots : List Slot) (children : Children)
       → IsAt position (node section (Shard slots) children)
@@ -178,7 +212,7 @@ module _ (laws : BlockLaws) (tree : Tree) (light : HasLightEntries tree) where
     inside_bound zero (node section (Shard slots) children) above deep h shown =
         let few = (few_above above slots h.checked.0.stands).0 in absurd (omega (arith, few, deep))
     inside_bound (suc levels) (node section (Shard slots) children) above deep h shown =
-        let all = slots_bound levels children slots above 0 0 deep (children_at (child_position above) section slots children h)
+        let all = slots_bound levels children slots above 0 0 deep (shard_children (child_position above) section slots children h)
         (slots_ascend (child_position above) section slots children h)
         (few_above above slots h.checked.0.stands).1 h.checked.0.links shown in
         let two : 2 ≤ length (entries_of_slots slots children) = h.laid.0 in
@@ -199,19 +233,16 @@ module _ (laws : BlockLaws) (tree : Tree) (light : HasLightEntries tree) where
 
   -- ---- a directory in one block
 
-  abbrev IsNamed : List ℕ → Type 0
-  IsNamed name = list_any (bytes_eq name) names ≡ true
-
   record AreBoundEntries (es : List Entry) (children : Children) : Type 0 where
     room : names_room (map (λ e. e.name) es) ≤ length es * 80
     tsizes : tsizes_of children ≤ length es * file_most
     counts : all_of (counts_of_children children) ≤ length es * file_most
-    named : All IsNamed (map (λ e. e.name) es)
+    named : All (IsNamed names) (map (λ e. e.name) es)
 
   entries_bound : (es : List Entry) (children : Children) → AreAt (map (λ e. top) es) children → root_cids children ≡ map (λ e. e.cid) es
       → EntriesShow es children tree
       → AreBoundEntries es children
-  entries_bound [] no_child h links shown = record { room = omega arith; tsizes = omega arith; counts = omega arith; named = All-nil IsNamed }
+  entries_bound [] no_child h links shown = record { room = omega arith; tsizes = omega arith; counts = omega arith; named = All-nil (IsNamed names) }
   entries_bound [] (with_child d children) h links shown = absurd h.checked
   entries_bound (e ∷ es) no_child h links shown = absurd (cc links)
   entries_bound (e ∷ es) (with_child d children) h links ((below, is, here), shown) =
@@ -228,37 +259,8 @@ module _ (laws : BlockLaws) (tree : Tree) (light : HasLightEntries tree) where
         room = omega (arith, short, room);
         tsizes = omega (arith, tsize, tsizes);
         counts = omega (arith, counts, all);
-        named = All-cons IsNamed e.name (map (λ e. e.name) es) (sym (is_some-lookup (bytes_eq e.name) (entries_of tree)) ∙ ap is_some is) rest.named;
+        named = All-cons (IsNamed names) e.name (map (λ e. e.name) es) (sym (is_some-lookup (bytes_eq e.name) (entries_of tree)) ∙ ap is_some is) rest.named;
       }
-
-  read_names : (links : List Link) (cids : List CidParts) → AreCids links cids → map (λ e. e.name) (read_entries links cids) ≡ map name_of links
-  read_names [] [] h = refl
-  read_names [] (cid ∷ cids) h = absurd h
-  read_names (link ∷ links) [] h = absurd h
-  read_names (link ∷ links) (cid ∷ cids) h = ap (λ (l : List (List ℕ)). name_of link ∷ l) (read_names links cids h.1)
-
-  entries_differ : (cid : CidParts) (block : List ℕ) (es : List Entry) → Reads cid block (Basic es) → IsDistinct bytes_eq (map (λ e. e.name) es)
-  entries_differ cid block es reads =
-      let r = reads_node cid block (Basic es) (λ e. cc e) reads in
-      elim r.reads [
-        | inl file ↦ let e = file.kind_is in absurd (cc)
-        | inr (inl basic) ↦
-            let e = basic.kind_is in
-            let same : es ≡ read_entries r.links r.cids = cc in
-            subst (IsDistinct bytes_eq) (sym (ap (λ (l : List Entry). map (λ x. x.name) l) same
-            ∙ read_names r.links r.cids r.node.cids_are)) basic.differ
-        | inr (inr (inl shard)) ↦ let e = shard.kind_is in absurd (cc)
-        | inr (inr (inr link)) ↦ let e = link.kind_is in absurd (cc)
-      ]
-
-  few_entries : (es : List Entry) → All IsNamed (map (λ e. e.name) es) → IsDistinct bytes_eq (map (λ e. e.name) es) → length es ≤ length names
-  few_entries es named differ =
-      let few = length-le_from_is_member nat_list_eq_equiv (map (λ e. e.name) es) names differ
-      (λ q found.
-      All-contains IsNamed (map (λ e. e.name) es) q named
-      (Contains-from_any (λ x y is. (bytes_eq-Decides x y).0 is) q (map (λ e. e.name) es) found)) in
-      let same = length-map es (λ (e : Entry). e.name) in
-      omega (arith, few, same)
 
   -- ---- both
 
@@ -271,7 +273,7 @@ module _ (laws : BlockLaws) (tree : Tree) (light : HasLightEntries tree) where
       let plain = All-tail HasPlainCid section (blocks_of_children children) h.plain in
       let all = entries_bound es children
       (record { whole = h.whole; checked = h.checked.1; laid = h.laid.3; plain = plain }) h.checked.0.links shown.1 in
-      let few = few_entries es all.named (entries_differ section.cid section.block es h.checked.0.reads) in
+      let few = few_entries names es all.named (entries_differ laws section.cid section.block es h.checked.0.reads) in
       let block = block_fits laws section.block (map (λ e. e.name) es) children basic_unix h.laid.2 h.whole plain in
       let room = all.room in
       let tsizes = all.tsizes in
@@ -279,7 +281,7 @@ module _ (laws : BlockLaws) (tree : Tree) (light : HasLightEntries tree) where
       record { tsize = omega (arith, few, block, room, tsizes); counts = omega (arith, few, counts) }
   light_folder (node section (Shard slots) children) folder h shown =
       let none = few_above [] slots h.checked.0.stands in
-      let all = slots_bound 7 children slots [] 0 0 (omega arith) (children_at top section slots children h)
+      let all = slots_bound 7 children slots [] 0 0 (omega arith) (shard_children top section slots children h)
       (slots_ascend top section slots children h) none.1 h.checked.0.links shown.1 in
       let block = shard_fits top section slots children h in
       let few = all.few in

@@ -1,5 +1,5 @@
 -- A folder of files that are light isn't imported only where two of its names have one hash.
-use Rattle.std.proofs.Common.{All, Bool, Contains, IfSome, List, Option, Some, [], ap, arith, cond, false, inl, inr, length, refl, subst, suc, sym, true, ℕ, ◌++◌, ◌+◌, ◌∙◌, ◌∷◌, ◌≡◌, ◌≤◌}
+use Rattle.std.proofs.Common.{All, Bool, Contains, IfSome, List, Option, Some, [], ap, arith, cond, false, inl, inr, length, refl, subst, suc, sym, true, ℕ, ◌++◌, ◌∙◌, ◌∷◌, ◌≡◌, ◌≤◌}
 use Rattle.std.proofs.lemmas.List.Elements.{All-cons, All-contains, All-head, All-nil, All-tail}
 use Rattle.std.proofs.lemmas.List.Sorted.{Contains-permutation, IsPermutation-map, IsPermutation-sym}
 use Rattle.std.specs.List.Sorted.{IsPermutation}
@@ -48,7 +48,7 @@ found_in (e ∷ es) name c = by (bytes_eq name e.0) refl (λ d. found_in es name
     ]
 
 -- what holds of each entry holds of the one that has a name
-holds_of : (P : List ℕ → Tree → Type 0) (es : List (List ℕ × Tree)) → All (λ e. P e.0 e.1) es → (name : List ℕ) (b : Tree)
+pub holds_of : (P : List ℕ → Tree → Type 0) (es : List (List ℕ × Tree)) → All (λ e. P e.0 e.1) es → (name : List ℕ) (b : Tree)
     → lookup (bytes_eq name) es ≡ Some b → P name b
 holds_of P [] all name b at = absurd (cc at)
 holds_of P (e ∷ es) all name b at = by (bytes_eq name e.0) refl at (λ at. holds_of P es (All-tail (λ e. P e.0 e.1) e es all) name b at)

@@ -14,7 +14,7 @@ use Rattle.tg_tree.specs.declared.tree.Tree.{Tree}
 
 -- ---- tests
 
-and_both : (a b : Bool) → a && b ≡ true → (a ≡ true) × (b ≡ true)
+pub and_both : (a b : Bool) → a && b ≡ true → (a ≡ true) × (b ≡ true)
 and_both true true h = (refl, refl)
 and_both true false h = absurd (cc h)
 and_both false b h = absurd (cc h)
@@ -135,7 +135,7 @@ used_ascend bits = ascend_filter _ (below (8 * length bits)) 0 (below_ascend (8 
 
 -- ---- names behind slots
 
-has_split : (name above : List ℕ) (slot level : ℕ) → has_slots name level (above ++ slot ∷ []) ≡ true
+pub has_split : (name above : List ℕ) (slot level : ℕ) → has_slots name level (above ++ slot ∷ []) ≡ true
     → (has_slots name level above ≡ true) × (slot_of name (level + length above) ≡ slot)
 has_split name [] slot level h =
     let two = and_both (slot_of name level == slot) true h in

@@ -34,16 +34,16 @@ module _ (h : ℕ → ℕ) where
       zero_here false e = refl
 
   -- the keys don't fall
-  abbrev Rises : List ℕ → Type 0
+  abbrev pub Rises : List ℕ → Type 0
   Rises [] = ⊤
   Rises (x ∷ l) = All (λ y. h x ≤ h y) l × Rises l
 
-  rises_by : (l : List ℕ) → IsNonDecreasingBy h l → Rises l
+  pub rises_by : (l : List ℕ) → IsNonDecreasingBy h l → Rises l
   rises_by [] n = tt
   rises_by (x ∷ l) n = (λ k d less. n 0 (suc k) d (omega arith) (omega (arith, less)), rises_by l (λ i j d le less. n (suc i) (suc j) d (omega (arith, le)) (omega (arith, less))))
 
   -- two lists have the same sums
-  abbrev SameSums : List ℕ → List ℕ → Type 0
+  abbrev pub SameSums : List ℕ → List ℕ → Type 0
   SameSums a b = (f : ℕ → ℕ) → sum_by f a ≡ sum_by f b
 
   not_below : (x y : ℕ) (a b : List ℕ) → SameSums (x ∷ a) (y ∷ b) → All (λ z. h x ≤ h z) a → h x ≤ h y
@@ -61,7 +61,7 @@ module _ (h : ℕ → ℕ) where
           let there : f y ≡ 1 = rw e refl in
           absurd (omega (arith, here, there, sum_cons f x a, sum_cons f y b, none_smaller (h x) a all, same f))
 
-  one_order : (a b : List ℕ) → SameSums a b → Rises a → Rises b → ((x y : ℕ) → Contains a x → Contains b y → h x ≡ h y → x ≡ y) → a ≡ b
+  pub one_order : (a b : List ℕ) → SameSums a b → Rises a → Rises b → ((x y : ℕ) → Contains a x → Contains b y → h x ≡ h y → x ≡ y) → a ≡ b
   one_order [] [] same ra rb apart = refl
   one_order [] (y ∷ b) same ra rb apart = absurd (omega (arith, sum_cons (λ z. 1) y b, same (λ z. 1)))
   one_order (x ∷ a) [] same ra rb apart = absurd (omega (arith, sum_cons (λ z. 1) x a, same (λ z. 1)))

@@ -4,7 +4,7 @@ use Rattle.std.proofs.lemmas.List.Elements.{All-cons, All-contains, All-contains
 use Rattle.std.specs.Prelude.{cond, map, replicate, ◌≢◌, ◌||◌}
 use Rattle.tg_audit.proofs.DagEntries.{directory_of}
 use Rattle.tg_audit.proofs.Holding.{named_each}
-use Rattle.tg_audit.specs.Complete.{bundle_query}
+use Rattle.tg_audit.proofs.DrawnAnswers.{bundle_query}
 use Rattle.tg_audit.specs.Packing.{HoldsImported}
 use Rattle.tg_car.specs.declared.section.Section.{Section as CarSection}
 use Rattle.tg_cid.specs.Cid.{CidParts}

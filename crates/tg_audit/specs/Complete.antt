@@ -1,28 +1,20 @@
 -- How an audit ends by the DAG of its folder: a query is refused, or has another answer than the expected one, only where two
--- different blocks of that DAG have one SHA-256, or where a query isn't within the limits, or the DAG's bundle or listing isn't the
--- one that is expected.
-use Rattle.std.specs.Prelude.{All, List, None, Some, [], codes, false, true, ⊤, ℕ, ◌++◌, ◌∷◌, ◌≡◌, ◌⊎◌}
+-- different blocks of that DAG have one SHA-256, or where the directory `many` has more shards than its listing may remember.
+use Rattle.std.specs.Prelude.{List, ⊤, ℕ, ◌≡◌, ◌⊎◌}
 use Rattle.tg_audit.specs.Holding.{TwoBlocksCollide}
 use Rattle.tg_audit.specs.Names.{TwoNamesCollide}
 use Rattle.tg_audit.specs.Packing.{HoldsImported}
+use Rattle.tg_audit.specs.Shards.{HasManyShards}
 use Rattle.tg_audit.specs.declared.fault.AuditFault.{AuditFault}
 use Rattle.tg_audit.specs.declared.fault.AuditFault.TheVariants as audits
-use Rattle.tg_audit_texts.specs.Expected.{AreExpected, IsBundle, named_from}
-use Rattle.tg_audit_texts.specs.Queries.{absent_query, answer_queries, car_query}
+use Rattle.tg_audit_texts.specs.Expected.{AreExpected}
 use Rattle.tg_audit_texts.specs.declared.hashing.Hashed.{Hashed}
-use Rattle.tg_cid.specs.Cid.{CidParts}
 use Rattle.tg_draws.specs.Draws.{IsDrawn}
 use Rattle.tg_draws.specs.Trees.{IsTreeOf, file_name}
 use Rattle.tg_draws.specs.declared.drawing.Drawn.{Drawn}
-use Rattle.tg_heard.specs.Exchanges.{IsWithin}
 use Rattle.tg_import.specs.declared.fault.ImportFault.{ImportFault}
 use Rattle.tg_import.specs.declared.fault.ImportFault.TheVariants as imports
-use Rattle.tg_model.specs.Answer.{answer}
-use Rattle.tg_model.specs.Dag.{Dag, root_cid}
-use Rattle.tg_model.specs.LimitNumbers.{standard}
-use Rattle.tg_model.specs.Queries.{QueryParts}
-use Rattle.tg_model.specs.Texts.{listing}
-use Rattle.tg_model.specs.declared.queries.Scope.TheVariants as scopes
+use Rattle.tg_model.specs.Dag.{Dag}
 use Rattle.tg_tree.specs.declared.tree.Tree.{Tree}
 
 -- the folder that a seed draws, with so many files in `many`, and the answers that are expected of it
@@ -32,13 +24,6 @@ pub record IsAuditTree (seed files : ℕ) (tree : Tree) (expected : List Hashed)
   pub tree_is : IsTreeOf drawn tree
   pub expected_are : AreExpected drawn expected
 
--- the query of the bundle of all, and that of the listing of `many`
-abbrev pub bundle_query : CidParts → QueryParts
-bundle_query root = car_query root [] scopes.All None true
-
-abbrev pub listing_query : CidParts → QueryParts
-listing_query root = car_query root (codes "many" ∷ []) scopes.Entity None false
-
 -- the DAG of the folder that a seed draws, in a pack, and the answers that are expected of it
 pub record IsAuditDag (seed files : ℕ) (expected : List Hashed) (d : Dag) : Type 0 where
   pub tree : Tree
@@ -46,19 +31,12 @@ pub record IsAuditDag (seed files : ℕ) (expected : List Hashed) (d : Dag) : Ty
   pub content : List ℕ
   pub holds : HoldsImported tree d content
 
--- so the bundle of all and the listing of `many` are the ones that are expected of what was drawn, and all nine queries are within
--- the limits
-pub record IsAsExpected (drawn : Drawn) (d : Dag) : Type 0 where
-  pub within : All (λ q. IsWithin q standard d) (answer_queries (root_cid d) ++ absent_query (root_cid d) ∷ [])
-  pub bundle : (text : List ℕ) → IsBundle drawn text → answer (bundle_query (root_cid d)) d ≡ Some text
-  pub listing : answer (listing_query (root_cid d)) d ≡ Some (listing (named_from 0 drawn.many))
-
--- two different blocks of the folder's DAG have one SHA-256, or it isn't as is expected
+-- two different blocks of the folder's DAG have one SHA-256, or `many` has more shards than its listing may remember
 pub record HasDenialCause (seed files : ℕ) : Type 0 where
   pub d : Dag
   pub expected : List Hashed
   pub dag : IsAuditDag seed files expected d
-  pub cause : TwoBlocksCollide d ⊎ (IsAsExpected dag.drawn.drawn d → ⊥)
+  pub cause : TwoBlocksCollide d ⊎ HasManyShards files d
 
 -- two files of `many` have names with one hash, and the fault shows these names
 pub record HaveOneHash (files : ℕ) (fault : ImportFault) : Type 0 where

@@ -8,3 +8,4 @@ pub mod Audits
 pub mod Denials
 pub mod Names
 pub mod OneText
+pub mod Shards

@@ -28,9 +28,9 @@ const ABSENT: u64 = 9;
 ///
 /// This project's own text. `files` is 1 to 1,000,000. Errors, with which nothing was put: `Import` and `Pack` where the
 /// folder can't be imported and attached; `Client`, `Limit` and `Differs` for the first query that is refused or whose
-/// answer isn't the expected one, which comes only where two different blocks of the folder's DAG have one SHA-256, a query
-/// isn't within the standard limits, or the DAG's bundle or its listing of `many` isn't the expected one; and `OutOfMemory`,
-/// also where a store, a door or a dial in memory failed; and `SinkFault` where out failed in the text.
+/// answer isn't the expected one, which comes only where two different blocks of the folder's DAG have one SHA-256, or
+/// `many` has more shards than its listing may remember, which takes more than 393,113 files; and `OutOfMemory`, also where
+/// a store, a door or a dial in memory failed; and `SinkFault` where out failed in the text.
 pub fn audit<S: Sink>(alloc: Global, seed: u64, files: u32, out: &mut S) -> Result<(), AuditFault>
     requires some { 0 < files }
     requires few { files ≤ 1000000 }

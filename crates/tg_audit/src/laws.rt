@@ -36,9 +36,10 @@ pub fn attached_packs()
     tg_car::laws::car_laws();
 }
 
-/// A query of an audit is refused, or has another answer than the expected one, or the pack isn't attached, only where two different blocks of the
-/// folder's DAG have one SHA-256; or where a query isn't within the standard limits, or the DAG's bundle or its listing of
-/// `many` isn't the one that is expected. The other answers are the DAG's. And the folder isn't imported only where two
+/// A query of an audit is refused, or has another answer than the expected one, or the pack isn't attached, only where two
+/// different blocks of the folder's DAG have one SHA-256; or where the directory `many` has more shards than its listing may
+/// remember, 1,048,575, which takes more than 393,113 files. Its answers are the DAG's, these are the ones that are expected of
+/// what was drawn, and all nine queries are within the standard limits. And the folder isn't imported only where two
 /// files of `many` have names with one hash, which the fault shows.
 ///
 /// This project's own text; UnixFS specification, HAMTDirectory.
@@ -50,6 +51,8 @@ pub fn denied_audits()
     tg_model::laws::good_names();
     tg_model_laws::paths();
     tg_model_laws::traversals();
+    tg_model_laws::cut_traversals();
+    tg_model_laws::file_sizes();
     tg_store::laws::one_cause();
     tg_varint::laws::spelling_laws();
     tg_cid::laws::one_spelling();
