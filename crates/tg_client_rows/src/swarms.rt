@@ -92,7 +92,7 @@ fn ask(alloc: Global, swarm: &mut Swarm, peer: usize, answer: &mut Answer) {
     match swarm.ask(peer) {
         Ok(Some(query)) => say_target(alloc, &query, answer),
         Ok(None) => answer.text("none"),
-        Err(_) => answer.lack(),
+        Err(_) => answer.text("OutOfMemory"),
     }
 }
 

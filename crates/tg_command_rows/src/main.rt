@@ -15,6 +15,7 @@ mod runs;
 mod said;
 mod setup;
 mod steps;
+mod waiting;
 
 use std::alloc::Global;
 use std::process::ExitCode;

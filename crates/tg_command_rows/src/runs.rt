@@ -3,6 +3,7 @@ ghost use Rattle.std.specs.Option.{IsSome};
 ghost use Rattle.std.specs.Prelude.{◌<◌};
 
 use crate::setup::{Object, Setup};
+use crate::waiting::WaitingDial;
 use std::alloc::Global;
 use tg_app::run;
 use tg_bytes::{Bytes, List};
@@ -22,7 +23,7 @@ const MOST_AT_ONCE: usize = 65_536;
 #[derive(Drop)]
 struct Streams {
     door: MemDoor,
-    dial: MemDial,
+    dial: WaitingDial,
     input: MemSource,
     out: MemSink,
     err: MemSink,
@@ -65,7 +66,7 @@ impl Ran {
 
     /// What went through the links of the dial that were given back; none where that isn't told.
     pub fn dialled(&self) -> Option<&List<Call>> {
-        self.streams.dial.calls()
+        self.streams.dial.inner.calls()
     }
 
     /// How many calls of an object failed, of the door and of the dial those of their links too.
@@ -77,7 +78,7 @@ impl Ran {
             Object::Out => self.streams.out.count(),
             Object::Err => self.streams.err.count(),
             Object::Door => self.streams.door.count(),
-            Object::Dial => self.streams.dial.count(),
+            Object::Dial => self.streams.dial.inner.count(),
         }
     }
 
@@ -132,7 +133,10 @@ fn streams_of(alloc: Global, setup: &mut Setup, piece: usize) -> Streams
     let err_fails = setup.numbers(Object::Err);
     Streams {
         door: MemDoor::new(alloc, links, piece, door_fails),
-        dial: MemDial::new(alloc, replies, piece, dial_fails),
+        dial: WaitingDial {
+            inner: MemDial::new(alloc, replies, piece, dial_fails),
+            ready: setup.is_ready(),
+        },
         input: MemSource::new(input, piece, input_fails),
         out: MemSink::new(alloc, piece, out_fails),
         err: MemSink::new(alloc, piece, err_fails),

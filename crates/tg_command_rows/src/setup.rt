@@ -5,6 +5,7 @@
 //! - the folder's entries: `:file NAME BYTES`, `:symlink NAME TARGET`, `:other NAME`, `:below FOLDER NAME BYTES` (a file in
 //!   a folder), `:nested COUNT` (so many folders `d` in one another, with the outermost), `:large` (`folders.rt`);
 //! - `:link BYTES`, what a peer says whose link comes through the door; `:reply BYTES`, what one says that is dialled;
+//! - `:unready`, where the dial says of no link that it is ready;
 //! - `:piece SIZE`, how many bytes one call of a stream or of a link moves at most, and as often as it stands a further run;
 //! - `:fails OBJECT NUMBER`, a call that fails, counted from 0.
 use crate::folders::{counted_folder, nested_folder};
@@ -55,6 +56,7 @@ pub struct Setup {
     input: Bytes,
     links: List<Bytes>,
     replies: List<Bytes>,
+    ready: bool,
     fails: Vec<(Object, u64)>,
     pieces: Vec<usize>,
     fault: Option<&'static str>,
@@ -71,6 +73,7 @@ impl Setup {
             input: Bytes::new(alloc),
             links: List::new(alloc),
             replies: List::new(alloc),
+            ready: true,
             fails: Vec::new(alloc),
             pieces: Vec::new(alloc),
             fault: None,
@@ -146,6 +149,7 @@ impl Setup {
             ":pack" => self.give_pack(first),
             ":link" => self.add_link(first),
             ":reply" => self.add_reply(first),
+            ":unready" => self.forbid_ready(),
             ":piece" => self.add_piece(first),
             ":fails" => self.add_fault(first, second),
             _ => self.take_entry(name, behind),
@@ -225,6 +229,11 @@ impl Setup {
             self.lack();
         }
         1
+    }
+
+    fn forbid_ready(&mut self) -> usize {
+        self.ready = false;
+        0
     }
 
     fn add_piece(&mut self, size: &[u8]) -> usize {
@@ -316,6 +325,11 @@ impl Setup {
             Some(piece) => *piece,
             None => 1,
         }
+    }
+
+    /// Whether the dial says of its links that they are ready.
+    pub fn is_ready(&self) -> bool {
+        self.ready
     }
 
     /// The command's words.
