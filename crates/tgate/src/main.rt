@@ -2,6 +2,8 @@
 //! the InterPlanetary File System, and fetches and verifies from servers that nobody has to trust.
 #![tactic(auto)]
 
+mod exchange;
+mod heads;
 mod noted;
 mod progress;
 
@@ -12,6 +14,8 @@ ghost use Rattle.tg_app.specs.Objects.{objects_between};
 ghost use Rattle.tg_app.specs.Runs.{IsUnrun, Run, Runs};
 ghost use Rattle.tg_streams.specs.Streams.{into};
 
+use crate::exchange::{Exchange, NotedNet};
+use crate::heads::{redirect_line, type_line};
 use crate::noted::{FailedEntry, Noted};
 use crate::progress::{Clearing, Counted, Progress, Shown, Watching};
 use std::alloc::{AllocError, Global};
@@ -33,6 +37,12 @@ const STREAMS: RawFd = 3;
 /// The exit status of words that are no command.
 const NO_COMMAND: u8 = 2;
 
+/// The exit status of a block, a CAR or a reply that isn't what is asked for.
+const NOT_ASKED: u8 = 3;
+
+/// The exit status of a reply with another status than 200.
+const OTHER_STATUS: u8 = 4;
+
 /// The exit status of a fault of the door, of the dial or of a link.
 const PEER_FAILED: u8 = 5;
 
@@ -49,10 +59,11 @@ fn main(rt: HostRuntime) -> ExitCode {
     };
     let mut pack = Some(Shown::new(HostPack::new(rt, names), &progress, Counted::Packed));
     let mut door = TcpDoor::new(rt);
-    let mut dial = TcpDial::new(rt);
-    if asks_swarm(env::args(&rt)) {
-        dial.hurry();
-    }
+    let exchange = Exchange::new(rt, env::args(&rt));
+    let mut dial = TcpDial::new(NotedNet {
+        inner: rt,
+        exchange: &exchange,
+    });
     let mut input = Shown::new(StdSource::new(rt.stdin()), &progress, Counted::Taken);
     let mut out = Shown::new(StdSink::new(rt.stdout()), &progress, Counted::Put);
     let mut err = Clearing {
@@ -77,7 +88,9 @@ fn main(rt: HostRuntime) -> ExitCode {
     progress.clear();
     match status {
         NO_COMMAND => progress.hint(),
-        PEER_FAILED => progress.tell_why(dial.why()),
+        NOT_ASKED => progress.tell(type_line(rt.alloc(), &exchange)),
+        OTHER_STATUS => progress.tell(redirect_line(rt.alloc(), &exchange)),
+        PEER_FAILED => progress.tell_why(dial.why(), exchange.broken()),
         OBJECT_FAILED => progress.tell_entry(failed.take()),
         _ => {}
     }
@@ -165,17 +178,6 @@ fn behind_first(alloc: Global, args: Args) -> Result<Vec<String>, AllocError>
     ensures { IfOk result (λ words. words.items ≡ drop 1 (into_iter_items args)) }
 {
     args.skip(1).collect(alloc)
-}
-
-/// Whether these arguments name the command that dials several peers, none of which may hold the others.
-fn asks_swarm(args: io::Result<Args>) -> bool {
-    match args {
-        Ok(args) => args
-            .skip(1)
-            .next()
-            .is_some_and(|word| word.as_str() == "swarm"),
-        Err(_) => false,
-    }
 }
 
 /// Sees to it that no file which the program opens is taken for a standard stream: where the program was started

@@ -1,5 +1,7 @@
 //! What a terminal shows beside out and the line of a refusal: the line of progress of a command, where help is, why no
-//! connection came, which peer of a swarm was refused, and which entry of a folder couldn't be read.
+//! connection came or why it failed, what the head of a refused reply shows, which peer of a swarm was refused, and which entry of a
+//! folder couldn't be read.
+use crate::exchange::Broken;
 use std::cell::Cell;
 use std::env::Args;
 use std::io;
@@ -74,16 +76,32 @@ impl Progress {
         }
     }
 
-    /// Says why no connection came to the peer that was dialled, where err is a terminal and there is a reason.
-    pub fn tell_why(&self, why: Option<io::Error>) {
-        let Some(why) = why else {
-            return;
-        };
+    /// Says this line, where err is a terminal and there is one.
+    pub fn tell(&self, line: Option<Bytes>) {
+        if let Some(line) = line {
+            if self.rt.stderr().is_terminal() {
+                self.say(line.as_slice());
+            }
+        }
+    }
+
+    /// Says why no connection came to the peer that was dialled, or else why the one that came failed, where err is a terminal and
+    /// there is a reason.
+    pub fn tell_why(&self, why: Option<io::Error>, broken: Option<Broken>) {
         if !self.rt.stderr().is_terminal() {
             return;
         }
-        if let Ok(line) = format!(in self.rt.alloc(); "no connection: {why}\n") {
-            let _ = self.rt.stderr().write_all(line.as_bytes());
+        let alloc = self.rt.alloc();
+        let line = match (why, broken) {
+            (Some(why), _) => format!(in alloc; "no connection: {why}\n"),
+            (None, Some(Broken::Told(why))) => format!(in alloc; "connection failed: {why}\n"),
+            (None, Some(Broken::Silent)) => format!(in alloc;
+                "connection failed: nothing came for 60 seconds\n"
+            ),
+            (None, None) => return,
+        };
+        if let Ok(line) = line {
+            self.say(line.as_bytes());
         }
     }
 
