@@ -1,0 +1,3 @@
+mod Bundles
+mod Members
+mod Shown
