@@ -2,6 +2,7 @@
 use Rattle.std.specs.Prelude.{◌≡◌, ◌≢◌, ℕ, ◌≤◌, List, [], ◌∷◌, ◌++◌, Contains, Option, Some, None, option_map, ⊤}
 use Rattle.std.specs.List.Sorted.{IsPermutation}
 use Rattle.std.specs.Option.{ForSome}
+use Rattle.std.specs.Str.{IsUtf8}
 use Rattle.tg_bytes.specs.Ascii.{slash}
 use Rattle.tg_files.specs.declared.folders.FolderFault.{FolderFault}
 use Rattle.tg_files.specs.declared.folders.FolderFault.TheVariants.{Failed, OutOfMemory}
@@ -85,6 +86,10 @@ Leads tree path item = IsAt item.sort tree (path ++ item.name ∷ [])
 -- a name leads into a folder, and no further: it isn't empty, has no slash, and is neither one dot nor two
 abbrev pub IsEntryName : List ℕ → Type 0
 IsEntryName name = (name ≢ []) × (name ≢ 46 ∷ []) × (name ≢ 46 ∷ 46 ∷ []) × ¬ Contains name slash
+
+-- and it is text
+abbrev pub IsTextName : List ℕ → Type 0
+IsTextName name = IsUtf8 name × IsEntryName name
 
 -- the path of the system that names lead to below a root
 abbrev pub path_below : List ℕ → List (List ℕ) → List ℕ

@@ -1,11 +1,11 @@
 //! Trees of files of the system.
-ghost use Rattle.std.specs.Prelude.{◌≡◌, ◌≤◌, ◌↔◌, length, None, All, IsTrue, IfOk, IfNone, IfSome, IsSomeAnd, OnOk};
+ghost use Rattle.std.specs.Prelude.{◌≡◌, ◌≤◌, ◌↔◌, length, None, All, IsTrue, IsErrOf, IfOk, IfNone, IfSome, IsSomeAnd, OnOk};
 ghost use Rattle.std.specs.Prelude.{Some, ◌≢◌, ◌++◌, ◌∷◌, [], option_map, string_bytes, string_cmp};
 ghost use Rattle.std.specs.BTreeMap.{IsFromIterResult};
 ghost use Rattle.std.specs.Fs.{IsDir, IsFile, IsSymlink, dir_entry_name, file_type, metadata_len};
 ghost use Rattle.std.specs.List.{AllZip};
 ghost use Rattle.tg_bytes.specs.Ascii.{slash};
-ghost use Rattle.tg_files.specs.Folders.{IsEntryName, path_below};
+ghost use Rattle.tg_files.specs.Folders.{IsEntryName, IsTextName, path_below};
 ghost use Rattle.tg_files.specs.System.{HasSort, IsEntryOf, KeepsLevel, listed_at};
 ghost use Rattle.tg_files.specs.TempNames.{BeginsWith, temp_front};
 
@@ -141,7 +141,7 @@ impl<R: Files + AllocGlobal + Clone + Drop> HostFolder<R> {
         let Some(attached) = &self.attached else {
             return Err(FolderFault::Failed);
         };
-        let path = joined(self.rt.alloc(), attached.root.as_str(), names)?;
+        let path = system_path(self.rt.alloc(), attached.root.as_str(), names)?;
         match attached.file(names.len(), path.as_str()) {
             Some(listed) => Ok((path, listed)),
             None => Err(FolderFault::Failed),
@@ -239,7 +239,7 @@ impl Attached {
     ) -> Result<Listing, FolderFault>
         ensures { IfOk result (λ listing. All (λ item. ¬ BeginsWith left_out.now item.name) listing.items) }
     {
-        let path = joined(rt.alloc(), self.root.as_str(), names)?;
+        let path = system_path(rt.alloc(), self.root.as_str(), names)?;
         let path = path.as_str();
         let listing = entries_of(rt, left_out, path)?;
         let depth = names.len();
@@ -416,10 +416,14 @@ fn root_of<R: Files + AllocGlobal>(rt: &R, path: &str) -> io::Result<String>
     Ok(String::from_str(rt.alloc(), path)?)
 }
 
-/// The path that the names lead to below the root. It is a fault where one isn't text or doesn't lead into a folder.
-fn joined(alloc: Global, root: &str, names: &[Bytes]) -> Result<String, FolderFault>
+/// The path of the system that names lead to below a root: each behind a slash.
+///
+/// Errors: `Failed`, which nobody counts, where a name isn't text or doesn't lead into a folder and no further: an empty one, one
+/// with a slash, one dot and two (POSIX.1-2017, 4.13, Pathname Resolution); `OutOfMemory`.
+pub fn system_path(alloc: Global, root: &str, names: &[Bytes]) -> Result<String, FolderFault>
     ensures path { IfOk result (λ path. string_bytes path ≡ path_below root.now names.now) }
-    ensures names { IfOk result (λ _. All IsEntryName names.now) }
+    ensures names { IfOk result (λ _. All IsTextName names.now) }
+    ensures failed { IsErrOf result FolderFault.Failed → ¬ All IsTextName names.now }
 {
     let mut path = String::from_str(alloc, root)?;
     for name in names {

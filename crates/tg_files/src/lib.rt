@@ -13,7 +13,7 @@ mod reading;
 mod temp_names;
 
 pub use folders::{Folder, FolderFault};
-pub use host_folder::HostFolder;
+pub use host_folder::{HostFolder, system_path};
 pub use host_pack::HostPack;
 pub use mem_folder::MemFolder;
 pub use mem_pack::MemPack;

@@ -1,12 +1,12 @@
 -- What is asked at the wanted place, and what the block there is read as.
 use Rattle.tg_traversal.specs.declared.position.Ask.TheVariants as asks
 use Rattle.tg_traversal.specs.declared.position.Position.TheVariants as positions
-use Rattle.std.proofs.Common.{◌≡◌, ◌∙◌, ap, sym, subst, refl, Err, List, None, Ok, Option, Result, Some, [], length, true, inr, ℕ, ◌<◌}
+use Rattle.std.proofs.Common.{◌≡◌, ◌∙◌, ap, sym, subst, refl, Err, List, None, Ok, Option, Result, Some, [], false, length, true, inr, ℕ, ◌<◌}
 use Rattle.tg_cid.specs.Cid.{CidParts}
 use Rattle.tg_traversal.proofs.StepsLeft.{segment_there}
 use Rattle.tg_traversal.specs.Left.{IsFitting, IsOnPath, IsPlaceOnPath, IsReadAs, IsReadHere, LeftState, WantedAt, wanted_at}
 use Rattle.tg_traversal.specs.Opening.{IsReadBy}
-use Rattle.tg_traversal.specs.Places.{standing_of, want_of}
+use Rattle.tg_traversal.specs.Places.{is_terminal, standing_of, want_of}
 use Rattle.tg_model.specs.Dag.{Section}
 use Rattle.tg_traversal.specs.declared.position.Ask.{Ask}
 use Rattle.tg_traversal.specs.declared.position.Place.{Place}
@@ -65,6 +65,18 @@ pub is_read_ask : (q : QueryParts) (ask : Ask) (depth : ℕ) → (ask ≡ asks.T
 is_read_ask q (asks.Segment i position) depth other h = is_read_segment q i position depth h
 is_read_ask q asks.Terminal depth other h = absurd (other refl)
 is_read_ask q (asks.Node reach position) depth other h = refl
+
+-- nor is another ask that is on the path one of the terminal
+is_terminal_segment : (q : QueryParts) (i : ℕ) (position : Position) (depth : ℕ) → IsOnPath (asks.Segment i position) (length q.path)
+    → is_terminal (want_of q.path (asks.Segment i position) depth) ≡ false
+is_terminal_segment q i position depth h =
+    ap is_terminal (segment_there i (standing_of position) q.path depth _ [] (on_path_below i position (length q.path) h) refl)
+
+pub is_terminal_ask : (q : QueryParts) (ask : Ask) (depth : ℕ) → (ask ≡ asks.Terminal → ⊥) → IsOnPath ask (length q.path)
+    → is_terminal (want_of q.path ask depth) ≡ false
+is_terminal_ask q (asks.Segment i position) depth other h = is_terminal_segment q i position depth h
+is_terminal_ask q asks.Terminal depth other h = absurd (other refl)
+is_terminal_ask q (asks.Node reach position) depth other h = refl
 
 -- the position where it stands, but of a terminal
 abbrev pub IsAskAt : Ask → Position → Type 0

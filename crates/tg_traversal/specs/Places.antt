@@ -4,7 +4,7 @@ use Rattle.tg_traversal.specs.declared.position.Ask.TheVariants as asks
 use Rattle.tg_traversal.specs.declared.position.Miss.TheVariants as misses
 use Rattle.tg_traversal.specs.declared.position.Position.TheVariants as positions
 use Rattle.tg_traversal.specs.declared.position.Reach.TheVariants as reaches
-use Rattle.std.specs.Prelude.{List, None, Option, Some, [], drop, if◌then◌else◌, length, ⊤, ℕ, ◌-◌, ◌∷◌, ◌≡◌}
+use Rattle.std.specs.Prelude.{Bool, List, None, Option, Some, [], drop, false, if◌then◌else◌, length, true, ⊤, ℕ, ◌-◌, ◌∷◌, ◌≡◌}
 use Rattle.tg_cid.specs.Cid.{CidParts}
 use Rattle.tg_traversal.specs.declared.position.Ask.{Ask}
 use Rattle.tg_traversal.specs.declared.position.Miss.{Miss}
@@ -62,6 +62,12 @@ abbrev pub role_at : Want → Option Role
 role_at (segment_want i standing name path depth) = None
 role_at (terminal_want depth) = None
 role_at (node_want reach standing depth) = role_in reach standing
+
+-- whether it is the terminal, to which the path of the query leads
+abbrev pub is_terminal : Want → Bool
+is_terminal (segment_want i standing name path depth) = false
+is_terminal (terminal_want depth) = true
+is_terminal (node_want reach standing depth) = false
 
 -- a segment that leads nowhere
 abbrev pub missing_of : Miss → Missing

@@ -1,7 +1,7 @@
 //! What the block at the wanted place is read as.
 ghost use Rattle.std.specs.Prelude.{◌≡◌, ℕ, true, None, Some, MatchResult, List as Items};
 ghost use Rattle.tg_traversal.specs.Left.{IsFitting, IsReadAs, WantedAt};
-ghost use Rattle.tg_traversal.specs.Places.{standing_of};
+ghost use Rattle.tg_traversal.specs.Places.{is_terminal, standing_of};
 ghost use Rattle.tg_model.specs.Placed.{StandsForKind};
 ghost use Rattle.tg_model.specs.Sound.{child, part, shard_fault, top};
 ghost use Rattle.tg_model.specs.declared.kinds.Kind.{Kind};
@@ -28,6 +28,21 @@ impl Frames {
                 Ask::Segment(..) | Ask::Node(..) => true,
             },
             None => true,
+        }
+    }
+
+    /// Whether the place that is wanted now is the query's terminal: the one to which its path leads. It takes no memory.
+    ///
+    /// Trustless Gateway specification, dag-scope.
+    pub fn is_at_terminal(&self) -> bool
+        ensures { (at : WantedAt) → self.now.wanted ≡ Some at → result ≡ is_terminal at.want }
+    {
+        match &self.wanted {
+            Some(place) => match place.ask {
+                Ask::Terminal => true,
+                Ask::Segment(..) | Ask::Node(..) => false,
+            },
+            None => false,
         }
     }
 
