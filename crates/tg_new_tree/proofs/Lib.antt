@@ -1,0 +1,2 @@
+mod MadeLists
+mod Walks

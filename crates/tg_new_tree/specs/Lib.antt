@@ -1,0 +1,3 @@
+pub mod NewTrees
+pub mod Noted
+pub mod Now
