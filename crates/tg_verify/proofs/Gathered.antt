@@ -160,14 +160,16 @@ stepped old before new ends more e h = subst (λ (b : Bool). IsAdvanced old befo
 -- however it ends, that is how it ends from the start
 pub record LeadsOn (old : OpenerState) (before : List ℕ) (now : OpenerState) (ends : List ℕ) : Type 0 where
   pub same : IsSameOpener old now
+  pub terminal : now.terminal ≡ old.terminal
   pub ending : (new : OpenerState) (later : List ℕ) (result : Result ⊤ Refusal) → IsGatheredBy now ends new later result → IsGatheredBy old before new later result
 
 pub leads_none : (old : OpenerState) (before : List ℕ) → LeadsOn old before old before
-leads_none old before = record { same = record { query = refl; limits = refl }; ending = λ new later result h. h }
+leads_none old before = record { same = record { query = refl; limits = refl }; terminal = refl; ending = λ new later result h. h }
 
 pub leads_more : (old now new : OpenerState) (before ends later : List ℕ) → LeadsOn old before now ends → IsNearer now ends new later → IsSameOpener now new
-    → LeadsOn old before new later
-leads_more old now new before ends later h p same = record {
+    → new.terminal ≡ now.terminal → LeadsOn old before new later
+leads_more old now new before ends later h p same told = record {
   same = record { query = same.query ∙ h.same.query; limits = same.limits ∙ h.same.limits };
+  terminal = told ∙ h.terminal;
   ending = λ end last result q. h.ending end last result (nearer_then now new end ends later last result p same q);
 }

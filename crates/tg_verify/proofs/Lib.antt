@@ -9,6 +9,7 @@ mod Fitting
 mod Fronts
 mod Gathered
 mod Going
+mod Leading
 mod Limits
 mod Lists
 mod Misread

@@ -2,6 +2,7 @@
 use Rattle.std.proofs.Common.{[], Err, length, true, ◌≤◌, List, None, Option, Some, ap, append-nil, append_assoc, map, refl, subst, sym, ℕ, ◌++◌, ◌∙◌, ◌∷◌, ◌≡◌}
 use Rattle.std.proofs.lemmas.List.{map-append}
 use Rattle.std.specs.Bool.{⊤}
+use Rattle.std.specs.Prelude.{IfSome}
 use Rattle.tg_cid.specs.Cid.{CidParts}
 use Rattle.tg_listing.specs.Listings.{line_of}
 use Rattle.tg_listing.specs.declared.line.ListingLine.{ListingLine}
@@ -18,11 +19,13 @@ use Rattle.tg_model_laws.specs.SentSections.{taken_as}
 use Rattle.tg_streams.specs.Streams.{Output, Put}
 use Rattle.tg_traversal.specs.FaultLaws.{fault_same}
 use Rattle.tg_traversal.specs.Left.{WantedAt, tasks_left}
+use Rattle.tg_traversal.specs.Places.{is_terminal}
 use Rattle.tg_model_laws.specs.TakenBlocks.{IsReadAt, opened_by}
 use Rattle.tg_model_laws.specs.Stages.{Given, with_place}
 use Rattle.tg_model_laws.specs.Tasks.{Miss, Task, entries_now, no_directory, no_entry, open_block, position_of, tasks_then, text_now}
 use Rattle.tg_model_laws.specs.Verified.{IsKnown, Verified, VerifiedLaws, listing_at_end}
 use Rattle.tg_verify.proofs.Counting.{IsFrom, counted_on, is_passed, is_unpassed}
+use Rattle.tg_verify.proofs.Leading.{led_behind, next_terminal}
 use Rattle.tg_verify.proofs.Misread.{Computes}
 use Rattle.tg_verify.specs.Counting.{AreUnpassed, HasCounted, counts_given}
 use Rattle.tg_verify.specs.History.{HasPutCause, IsPlaceFault}
@@ -31,11 +34,13 @@ use Rattle.tg_verify.specs.Refusals.{HasPlaceCause, IsOver}
 use Rattle.tg_verify.proofs.Reaching.{never_stops, reached_next}
 use Rattle.tg_verify.specs.Reached.{IsOpenedAt, IsReached, stage_of}
 use Rattle.tg_verify.specs.State.{OpenerState, listed_lines, listed_of}
-use Rattle.tg_verify.specs.Steps.{HasOpenCause, IsMissedBehind, IsOverBehind, IsPlaced, IsPlacedAt, IsUnopened, behind}
+use Rattle.tg_verify.specs.Steps.{HasOpenCause, IsMissedBehind, IsOverBehind, IsPlaced, IsPlacedAt, IsToldBehind, IsUnopened, behind}
 use Rattle.tg_verify.specs.Taken.{IsFrontWritten, IsNowhere, most_text}
+use Rattle.tg_verify.specs.Terminals.{IsTerminalAt, LeadsTo, terminal_behind}
 use Rattle.tg_verify.specs.declared.counts.Source.{Source}
 use Rattle.tg_verify.specs.declared.fault.Refusal.{Refusal}
 use Rattle.tg_verify.specs.declared.fault.Refusal.TheVariants as refusals
+use Rattle.tg_verify.specs.declared.terminal.Terminal.{Terminal}
 
 -- ---- names and texts
 
@@ -78,6 +83,7 @@ pub record IsAtPlace (state : OpenerState) (sections : List Section) (given : Gi
   pub small : is_sent_behind state.left.query sections section.cid ≡ true → length section.block ≤ state.limits.block
   pub counted : HasCounted state.left.query state.counts given
   pub lines : state.lines ≡ listed_lines state.left.query.scope given.met
+  pub terminal : IsTerminalAt state.left.query sections given (open_block at.want at.cid ∷ state.left.later) state.terminal
 
 -- the block was opened there: these tasks are left
 pub record IsOpenedUpTo (old : OpenerState) (sections : List Section) (given : Given) (said : List ℕ) (new : OpenerState) : Type 0 where
@@ -88,6 +94,7 @@ pub record IsOpenedUpTo (old : OpenerState) (sections : List Section) (given : G
   pub within : AreUnpassed old.limits (counts_given old.left.query next)
   pub text : next.text ≡ given.text ++ said
   pub lines : new.lines ≡ listed_lines old.left.query.scope next.met
+  pub terminal : IsTerminalAt old.left.query sections next (tasks_left new.left) new.terminal
 
 -- but where out failed nothing is put
 abbrev pub IsNothing : Refusal → List ℕ → Type 0
@@ -187,7 +194,17 @@ module _ (v : VerifiedLaws) (computes : Computes) where
           text = append_assoc given.text (text_of q at section p.kind) (text_now (behind old at section p.kind)) ∙ ap (λ (t : List ℕ). given.text ++ t) (sym p.said_is);
           lines = p.lines ∙ ap (λ (ls : List ListingLine). ls ++ listed_lines q.scope (entries_now (behind old at section p.kind))) h.lines
               ∙ sym (lines_both q.scope given.met (entries_now (behind old at section p.kind)));
+          terminal = subst (λ (t : Option Terminal). IsTerminalAt q all next (tasks_left new.left) t) (sym p.terminal)
+              (subst (λ (tasks : List (Task CidParts)). IsTerminalAt q all next tasks (terminal_behind old.terminal (is_terminal at.want) p.kind)) (sym p.left)
+              (next_terminal v q sections given section h.is_named h.known old.limits at old.left.later h.same (λ kind passes. reads_there q old.limits at section kind h.is_named passes)
+              old.terminal p.kind p.passes h.terminal));
         }
+
+    -- what the path leads to is told, whether it is opened or not
+    pub leads_behind : (t : Option Terminal) → IsToldBehind old at section t → IfSome t (LeadsTo old.left.query (taken_as old.left.query sections section))
+    leads_behind t told =
+        led_behind v old.left.query sections given section h.is_named h.known old.limits at old.left.later h.same (λ kind passes. reads_there old.left.query old.limits at section kind h.is_named passes)
+        old.terminal t h.terminal told
 
     -- ---- or it isn't
 

@@ -67,6 +67,7 @@ module _ (laws : AnswerLaws) (state : VerifierState) (sections : List Section) (
         keeps = record { named = h.keeps.named; remembers = h.keeps.remembers; count = h.keeps.count };
         counted = record { counted = h.counted.counted; within = h.counted.within };
         writes = writes_as state.left.wanted h.writes;
+        terminal = h.terminal;
       })
     where
       writes_as : (wanted : Option WantedAt) → IsWrittenAt state h.given written wanted → IsWrittenAt (record state { refused = refused }) h.given written wanted

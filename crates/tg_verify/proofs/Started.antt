@@ -1,5 +1,5 @@
 -- A verifier before its first section.
-use Rattle.std.proofs.Common.{[], List, ap, map, refl, subst, sym, ◌∙◌, ◌≡◌, arith, false, true, Bool, ℕ, length, ◌-◌}
+use Rattle.std.proofs.Common.{[], List, Option, ap, map, refl, subst, sym, ◌∙◌, ◌≡◌, arith, false, true, Bool, ℕ, length, ◌-◌}
 use Rattle.std.specs.Prelude.{sum}
 use Rattle.tg_cid.specs.Cid.{CidParts}
 use Rattle.tg_listing.specs.Listings.{line_of}
@@ -11,12 +11,15 @@ use Rattle.tg_model.specs.Traversal.{unrepeated}
 use Rattle.tg_model.specs.declared.queries.Scope.{Scope}
 use Rattle.tg_model.specs.declared.queries.Scope.TheVariants as scopes
 use Rattle.tg_model_laws.specs.Stages.{nothing_given}
-use Rattle.tg_model_laws.specs.Tasks.{Task}
+use Rattle.tg_model_laws.specs.Tasks.{Task, start}
 use Rattle.tg_model_laws.specs.Verified.{Verified, VerifiedLaws}
+use Rattle.tg_verify.proofs.Leading.{none_led}
 use Rattle.tg_verify.specs.Counting.{AreUnpassed, counts_given}
 use Rattle.tg_verify.specs.Reached.{IsReached, stage_of}
 use Rattle.tg_verify.specs.State.{VerifierState, listed_of}
 use Rattle.tg_verify.specs.Taken.{IsFresh, IsOn, Remembers}
+use Rattle.tg_verify.specs.Terminals.{IsTerminalAt}
+use Rattle.tg_verify.specs.declared.terminal.Terminal.{Terminal}
 
 none_listed : (scope : Scope) → [] ≡ listed_of scope []
 none_listed scopes.Block = refl
@@ -64,4 +67,6 @@ starts v state fresh = record {
   counted = record { counted = fresh.counted; within = none_passed state.left.query state.limits };
   text = refl;
   lines = fresh.lines ∙ ap (map line_of) (none_listed state.left.query.scope);
+  terminal = subst (λ (tasks : List (Task CidParts)). IsTerminalAt state.left.query [] nothing_given tasks state.terminal) (sym fresh.left)
+      (subst (λ (t : Option Terminal). IsTerminalAt state.left.query [] nothing_given (start state.left.query state.left.query.root) t) (sym fresh.terminal) (none_led v state.left.query));
 }

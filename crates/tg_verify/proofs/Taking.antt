@@ -3,7 +3,7 @@ use Rattle.std.proofs.Common.{[], All, Bool, Contains, Err, List, None, Ok, Opti
 use Rattle.std.proofs.Common.{inl, inr, length-append, refl, subst, sym, true, ℕ, ◌++◌, ◌<◌, ◌∙◌, ◌∷◌, ◌≡◌}
 use Rattle.std.proofs.lemmas.List.Elements.{Contains-push_cases}
 use Rattle.std.proofs.lemmas.List.{map-append}
-use Rattle.std.specs.Prelude.{Result, ⊤}
+use Rattle.std.specs.Prelude.{IfSome, Result, ⊤}
 use Rattle.tg_cid.specs.Cid.{CidParts}
 use Rattle.tg_model.specs.Dag.{Section}
 use Rattle.tg_model.specs.LimitNumbers.{LimitNumbers}
@@ -18,19 +18,22 @@ use Rattle.tg_model_laws.specs.Tasks.{Task, no_directory, no_entry, open_block}
 use Rattle.tg_model_laws.specs.Verified.{Verified, VerifiedLaws}
 use Rattle.tg_verify.proofs.Going.{going_through}
 use Rattle.tg_verify.proofs.Misread.{Computes}
-use Rattle.tg_verify.proofs.Opened.{Ends, IsAtPlace, IsNothing, IsOpenedUpTo, nothing_put, opens_up_to, placed_ends}
+use Rattle.tg_verify.proofs.Leading.{any_led_more, led_now}
+use Rattle.tg_verify.proofs.Opened.{Ends, IsAtPlace, IsNothing, IsOpenedUpTo, leads_behind, nothing_put, opens_up_to, placed_ends}
 use Rattle.tg_verify.proofs.Turning.{kept_section, known_if, pair_of}
 use Rattle.tg_verify.specs.Counting.{AreUnpassed, HasCounted, counts_given}
 use Rattle.tg_verify.specs.History.{HasOn, HasTaken, PutsFor, one_more}
 use Rattle.tg_verify.specs.Refusals.{HasRefused, HasSectionCause, IsRefusedAt, IsWantedBlock}
 use Rattle.tg_verify.specs.Reached.{IsReached, stage_of}
 use Rattle.tg_verify.specs.State.{OpenerState, VerifierState, count_of, listed_lines}
-use Rattle.tg_verify.specs.Steps.{IsPlacedAt, IsReceivedAt, IsSameOpener, section_with}
+use Rattle.tg_verify.specs.Steps.{IsPlacedAt, IsReceivedAt, IsSameOpener, IsToldBehind, section_with}
 use Rattle.tg_verify.specs.Opening.{IsNamed}
 use Rattle.tg_verify.specs.Taken.{AreNamed, IsFrontWritten, IsGoing, IsNowhere, IsOn, IsSentFor, IsWrittenAt, Remembers}
+use Rattle.tg_verify.specs.Terminals.{IsTerminalAt, LeadsTo}
 use Rattle.tg_verify.specs.declared.counts.Source.TheVariants as sources
 use Rattle.tg_verify.specs.declared.fault.Refusal.{Refusal}
 use Rattle.tg_verify.specs.declared.fault.Refusal.TheVariants as refusals
+use Rattle.tg_verify.specs.declared.terminal.Terminal.{Terminal}
 
 -- what is said of a section that comes, by whether a block is wanted
 pub record HasReceived (state : VerifierState) (section : Section) (result : Result ⊤ Refusal) : Type 0 where
@@ -91,10 +94,16 @@ puts_none q limits sections written text refusals.SinkFault e = tt
 puts_none q limits sections written text (refusals.Truncated want number) e = inl e
 puts_none q limits sections written text refusals.OutOfMemory e = inl e
 
+-- what was told of the path stays so, with one more
+pub going_led : (state : VerifierState) (sections more : List Section) (written : List ℕ) → IsGoing state sections written → IfSome state.terminal (LeadsTo state.left.query (sections ++ more))
+going_led state sections more written h =
+    any_led_more state.left.query sections more (sections ++ more) state.terminal refl
+    (led_now state.left.query.scope state.left.query sections h.given (tasks_left state.left) state.terminal h.terminal)
+
 module _ (state : VerifierState) (sections : List Section) (written : List ℕ) (h : IsGoing state sections written) (section : Section) (bytes : All (λ b. b < 256) section.block) where
   -- as an opener sees it
   abbrev opener : OpenerState
-  opener = record { left = state.left; limits = state.limits; lines = state.lines; counts = state.counts }
+  opener = record { left = state.left; limits = state.limits; lines = state.lines; counts = state.counts; terminal = state.terminal }
 
   module _ (at : WantedAt) (wanted : state.left.wanted ≡ Some at) where
     writes_at : IsWrittenAt state h.given written (Some at)
@@ -183,6 +192,7 @@ module _ (state : VerifierState) (sections : List Section) (written : List ℕ) 
       small = λ sends. there.block.block.small;
       counted = h.counted.counted;
       lines = (writes_at there.at there.wanted).1;
+      terminal = subst (λ (w : Option WantedAt). IsTerminalAt state.left.query sections h.given (wanted_tasks w ++ state.left.later) state.terminal) there.wanted h.terminal;
     }
 
     all_sections : taken_as state.left.query sections section ≡ sections ++ section ∷ []
@@ -210,22 +220,22 @@ module _ (state : VerifierState) (sections : List Section) (written : List ℕ) 
         }
 
     pub place_taken : (out : Output) (new : OpenerState) (after : VerifierState) → IsSameOpener opener new → after.left ≡ new.left → after.limits ≡ new.limits → after.lines ≡ new.lines
-        → after.counts ≡ new.counts → HasKept state after section → IsPlacedAt opener there.at section sources.Section out new (Ok tt) → HasOn after (sections ++ section ∷ []) written out
-    place_taken out new after same_opener left limits lines counts kept placed =
+        → after.counts ≡ new.counts → after.terminal ≡ new.terminal → HasKept state after section → IsPlacedAt opener there.at section sources.Section out new (Ok tt) → HasOn after (sections ++ section ∷ []) written out
+    place_taken out new after same_opener left limits lines counts told kept placed =
         let q = state.left.query in
         let o = opens_up_to v computes opener sections h.given there.at section sources.Section at_place placed.said new placed.placed in
         record {
           text = placed.said;
           put = placed.put;
           quiet = placed.quiet;
-          on = on_with new after (taken_as q sections section) (written ++ placed.said) o same_opener left limits lines counts kept
+          on = on_with new after (taken_as q sections section) (written ++ placed.said) o same_opener left limits lines counts told kept
               (o.text ∙ ap (λ (t : List ℕ). t ++ placed.said) (sym (writes_at there.at there.wanted).0)) placed.placed.last all_sections;
         }
       where
         on_with : (new : OpenerState) (after : VerifierState) (all : List Section) (text : List ℕ) {said : List ℕ} (o : IsOpenedUpTo opener all h.given said new) → IsSameOpener opener new
-            → after.left ≡ new.left → after.limits ≡ new.limits → after.lines ≡ new.lines → after.counts ≡ new.counts → HasKept state after section → o.next.text ≡ text
+            → after.left ≡ new.left → after.limits ≡ new.limits → after.lines ≡ new.lines → after.counts ≡ new.counts → after.terminal ≡ new.terminal → HasKept state after section → o.next.text ≡ text
             → (new.left.wanted ≡ None → new.left.later ≡ []) → all ≡ sections ++ section ∷ [] → IsOn after (sections ++ section ∷ []) text
-        on_with new after all text o same_opener left limits lines counts kept text_is last e =
+        on_with new after all text o same_opener left limits lines counts told kept text_is last e =
             let query : after.left.query ≡ state.left.query = ap (λ l. l.query) left ∙ same_opener.query in
             let limits_are : after.limits ≡ state.limits = limits ∙ same_opener.limits in
             record {
@@ -252,4 +262,16 @@ module _ (state : VerifierState) (sections : List Section) (written : List ℕ) 
               };
               text = sym text_is;
               lines = subst (λ (p : QueryParts). after.lines ≡ listed_lines p.scope o.next.met) (sym query) (lines ∙ o.lines);
+              terminal = subst (λ (p : QueryParts). IsTerminalAt p (sections ++ section ∷ []) o.next (tasks_left after.left) after.terminal) (sym query)
+                  (subst (λ (t : Option Terminal). IsTerminalAt state.left.query (sections ++ section ∷ []) o.next (tasks_left after.left) t) (sym told)
+                  (subst (λ (tasks : List (Task CidParts)). IsTerminalAt state.left.query (sections ++ section ∷ []) o.next tasks new.terminal) (sym (ap (λ l. tasks_left l) left))
+                  (subst (λ (ss : List Section). IsTerminalAt state.left.query ss o.next (tasks_left new.left) new.terminal) e o.terminal)));
             }
+
+    -- what the path leads to is told, whether it is opened or not
+    pub led_taken : (new : OpenerState) → new.left.query ≡ state.left.query → IsToldBehind opener there.at section new.terminal
+        → IfSome new.terminal (LeadsTo new.left.query (sections ++ section ∷ []))
+    led_taken new query told =
+        subst (λ (p : QueryParts). IfSome new.terminal (LeadsTo p (sections ++ section ∷ []))) (sym query)
+        (subst (λ (ss : List Section). IfSome new.terminal (LeadsTo state.left.query ss)) all_sections
+        (leads_behind v computes opener sections h.given there.at section sources.Section at_place new.terminal told))

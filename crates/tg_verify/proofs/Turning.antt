@@ -2,6 +2,7 @@
 use Rattle.std.proofs.Common.{[], ◌⊎◌, ◌≢◌, All, Bool, Contains, Err, List, None, Ok, Option, Some, ap, append-nil, append_assoc, arith}
 use Rattle.std.proofs.Common.{false, inl, inr, map, refl, subst, sym, true, ℕ, ◌++◌, ◌<◌, ◌∙◌, ◌∷◌, ◌≡◌, ◌&&◌, ◌||◌, not}
 use Rattle.std.proofs.lemmas.List.Elements.{Contains-append_cases, Contains-append_left, Contains-append_right, Contains-push, Contains-push_cases}
+use Rattle.std.specs.Prelude.{IfSome}
 use Rattle.tg_cid.specs.Cid.{CidParts}
 use Rattle.tg_cid.specs.Names.{IsDigestOf, Names}
 use Rattle.tg_cid.specs.declared.cid.HashKind.{HashKind}
@@ -23,14 +24,16 @@ use Rattle.tg_model_laws.specs.Tasks.{Task, no_directory, no_entry, open_block}
 use Rattle.tg_model_laws.specs.Verified.{IsHad, IsKnown, IsKnownIf, IsOwnBlock, Verified, VerifiedLaws, listing_at_end, written_whole}
 use Rattle.tg_verify.proofs.Counting.{IsFrom, unasked_unsent}
 use Rattle.tg_verify.proofs.Misread.{Computes}
-use Rattle.tg_verify.proofs.Opened.{Ends, IsAtPlace, IsOpenedUpTo, opens_up_to, placed_ends}
+use Rattle.tg_verify.proofs.Leading.{led_now}
+use Rattle.tg_verify.proofs.Opened.{Ends, IsAtPlace, IsOpenedUpTo, leads_behind, opens_up_to, placed_ends}
 use Rattle.tg_verify.specs.History.{HasGone, HasOn, HasStopped}
 use Rattle.tg_verify.specs.Refusals.{HasPlaceCause, IsRefusedBehind}
 use Rattle.tg_verify.specs.Reached.{IsReached, stage_of}
 use Rattle.tg_verify.specs.State.{OpenerState, VerifierState, listed_lines, listed_of}
-use Rattle.tg_verify.specs.Steps.{IsKnownBlock, IsPlacedAt, IsSameOpener, PutOrWants, section_with, source_of}
+use Rattle.tg_verify.specs.Steps.{IsKnownBlock, IsPlacedAt, IsSameOpener, IsToldBehind, PutOrWants, section_with, source_of}
 use Rattle.tg_verify.specs.Opening.{IsNamed}
 use Rattle.tg_verify.specs.Taken.{IsFrontWritten, IsNowhere, IsOn, IsSentFor, IsUnlisted, IsWrittenAt, Remembers}
+use Rattle.tg_verify.specs.Terminals.{IsTerminalAt, LeadsTo}
 use Rattle.tg_verify.specs.declared.counts.Source.{Source}
 use Rattle.tg_verify.specs.declared.counts.Source.TheVariants as sources
 use Rattle.tg_verify.specs.declared.fault.Refusal.{Refusal}
@@ -148,10 +151,14 @@ is_named q sections section source h named bytes = elim h.had [
 
 -- ---- what stands behind it
 
+-- what is told of the path stays so
+pub on_led : (state : VerifierState) (sections : List Section) (written : List ℕ) → IsOn state sections written → IfSome state.terminal (LeadsTo state.left.query sections)
+on_led state sections written h = led_now state.left.query.scope state.left.query sections h.given (tasks_left state.left) state.terminal h.terminal
+
 module _ (v : VerifiedLaws) (computes : Computes) (state : VerifierState) (sections : List Section) (written : List ℕ) (h : IsOn state sections written) where
   -- as an opener sees it
   abbrev opener : OpenerState
-  opener = record { left = state.left; limits = state.limits; lines = state.lines; counts = state.counts }
+  opener = record { left = state.left; limits = state.limits; lines = state.lines; counts = state.counts; terminal = state.terminal }
 
   -- no place is next: all is written
   left_none : state.left.wanted ≡ None → tasks_left state.left ≡ []
@@ -203,6 +210,7 @@ module _ (v : VerifiedLaws) (computes : Computes) (state : VerifierState) (secti
       keeps = record { named = h.keeps.named; remembers = h.keeps.remembers; count = h.keeps.count };
       counted = record { counted = h.counted.counted; within = h.counted.within };
       writes = subst (λ (w : Option WantedAt). IsWrittenAt listed h.given (written ++ listing kept) w) (sym none) (h.ends none, whole_is);
+      terminal = h.terminal;
     };
   }
 
@@ -234,6 +242,7 @@ module _ (v : VerifiedLaws) (computes : Computes) (state : VerifierState) (secti
       keeps = h.keeps;
       counted = h.counted;
       writes = subst (λ (w : Option WantedAt). IsWrittenAt state h.given (written ++ []) w) (sym wanted) (append-nil written ∙ h.text, h.lines);
+      terminal = h.terminal;
     };
   }
 
@@ -261,6 +270,7 @@ module _ (v : VerifiedLaws) (computes : Computes) (state : VerifierState) (secti
       small = λ sends. let both : false ≡ true = sym known.unsent ∙ sends in absurd (cc both);
       counted = h.counted.counted;
       lines = h.lines;
+      terminal = subst (λ (w : Option WantedAt). IsTerminalAt state.left.query sections h.given (wanted_tasks w ++ state.left.later) state.terminal) wanted h.terminal;
     }
 
     same_sections : taken_as state.left.query sections section ≡ sections
@@ -309,7 +319,7 @@ module _ (v : VerifiedLaws) (computes : Computes) (state : VerifierState) (secti
 
     -- it is refused
     pub place_refused : (out : Output) (new : OpenerState) (fault : Refusal) → IsSameOpener opener new → IsPlacedAt opener at section source out new (Err fault)
-        → HasGone (record state { left = new.left; limits = new.limits; lines = new.lines; counts = new.counts }) sections written out (Err fault)
+        → HasGone (record state { left = new.left; limits = new.limits; lines = new.lines; counts = new.counts; terminal = new.terminal }) sections written out (Err fault)
     place_refused out new fault same_opener placed =
         let q = state.left.query in
         let ends : Ends v computes opener sections h.given at section source at_place (taken_as q sections section) written (λ text fault. HasStopped q state.limits sections text fault) = record {
@@ -328,7 +338,7 @@ module _ (v : VerifiedLaws) (computes : Computes) (state : VerifierState) (secti
 
     -- it is opened
     pub place_opened : (out : Output) (new : OpenerState) → IsSameOpener opener new → IsPlacedAt opener at section source out new (Ok tt)
-        → HasOn (record state { left = new.left; limits = new.limits; lines = new.lines; counts = new.counts }) sections written out
+        → HasOn (record state { left = new.left; limits = new.limits; lines = new.lines; counts = new.counts; terminal = new.terminal }) sections written out
     place_opened out new same_opener placed =
         let q = state.left.query in
         let o = opens_up_to v computes opener sections h.given at section source at_place placed.said new placed.placed in
@@ -341,7 +351,7 @@ module _ (v : VerifiedLaws) (computes : Computes) (state : VerifierState) (secti
       where
         on_with : (new : OpenerState) (all : List Section) (text : List ℕ) {said : List ℕ} (o : IsOpenedUpTo opener all h.given said new) → IsSameOpener opener new → o.next.text ≡ text
             → (new.left.wanted ≡ None → new.left.later ≡ []) → all ≡ sections
-            → IsOn (record state { left = new.left; limits = new.limits; lines = new.lines; counts = new.counts }) sections text
+            → IsOn (record state { left = new.left; limits = new.limits; lines = new.lines; counts = new.counts; terminal = new.terminal }) sections text
         on_with new all text o same_opener text_is last e = record {
           given = o.next;
           verified = subst (λ (p : QueryParts). Verified p sections o.next (tasks_left new.left)) (sym same_opener.query)
@@ -362,4 +372,13 @@ module _ (v : VerifiedLaws) (computes : Computes) (state : VerifierState) (secti
           };
           text = sym text_is;
           lines = subst (λ (p : QueryParts). new.lines ≡ listed_lines p.scope o.next.met) (sym same_opener.query) o.lines;
+          terminal = subst (λ (p : QueryParts). IsTerminalAt p sections o.next (tasks_left new.left) new.terminal) (sym same_opener.query)
+              (subst (λ (ss : List Section). IsTerminalAt state.left.query ss o.next (tasks_left new.left) new.terminal) e o.terminal);
         }
+
+    -- what the path leads to is told, whether it is opened or not
+    pub led_turned : (new : OpenerState) → IsSameOpener opener new → IsToldBehind opener at section new.terminal → IfSome new.terminal (LeadsTo new.left.query sections)
+    led_turned new same_opener told =
+        subst (λ (p : QueryParts). IfSome new.terminal (LeadsTo p sections)) (sym same_opener.query)
+        (subst (λ (ss : List Section). IfSome new.terminal (LeadsTo state.left.query ss)) same_sections
+        (leads_behind v computes opener sections h.given at section source at_place new.terminal told))

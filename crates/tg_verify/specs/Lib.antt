@@ -11,3 +11,4 @@ pub mod Steps
 pub mod Own
 pub mod WantsLaws
 pub mod Absences
+pub mod Terminals

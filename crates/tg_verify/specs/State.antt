@@ -12,14 +12,16 @@ use Rattle.tg_model.specs.declared.queries.Scope.TheVariants as scopes
 use Rattle.tg_model.specs.declared.queries.Scope.{Scope}
 use Rattle.tg_verify.specs.declared.counts.Counts.{Counts}
 use Rattle.tg_verify.specs.declared.fault.Refusal.{Refusal}
+use Rattle.tg_verify.specs.declared.terminal.Terminal.{Terminal}
 
 -- what is left of the query's traversal; the limits; the lines of the entries of the directory that is listed, so far;
--- and what is counted
+-- what is counted; and what the path leads to, where it is told
 pub record OpenerState : Type 0 where
   pub left : LeftState
   pub limits : LimitNumbers
   pub lines : List ListingLine
   pub counts : Counts
+  pub terminal : Option Terminal
 
 -- with it the blocks that are remembered, each under its CID; how many sections were taken; and the refusal after which
 -- nothing is taken
@@ -28,6 +30,7 @@ pub record VerifierState : Type 0 where
   pub limits : LimitNumbers
   pub lines : List ListingLine
   pub counts : Counts
+  pub terminal : Option Terminal
   pub seen : List (CidParts × List ℕ)
   pub taken : ℕ
   pub refused : Option Refusal

@@ -2,7 +2,7 @@
 -- and what it says is put.
 use Rattle.std.specs.List.{flat_map}
 use Rattle.std.specs.Prelude.{Bool, Contains, Err, List, None, Ok, Option, Result, Some, [], false, length, true, ⊤, ℕ}
-use Rattle.std.specs.Prelude.{◌++◌, ◌+◌, ◌<◌, ◌∷◌, ◌≡◌}
+use Rattle.std.specs.Prelude.{◌++◌, ◌+◌, ◌<◌, ◌∷◌, ◌≡◌, ◌⊎◌}
 use Rattle.tg_cid.specs.Cid.{CidParts}
 use Rattle.tg_listing.specs.Listings.{line_of, named_entry}
 use Rattle.tg_listing.specs.declared.fault.ListingFault.TheVariants as listings
@@ -23,6 +23,7 @@ use Rattle.tg_model.specs.declared.queries.Scope.TheVariants as scopes
 use Rattle.tg_model.specs.declared.queries.Scope.{Scope}
 use Rattle.tg_streams.specs.Streams.{Output, OutputQuiet, OutputRose, Put, PutFront}
 use Rattle.tg_traversal.specs.Left.{WantedAt, tasks_left}
+use Rattle.tg_traversal.specs.Places.{is_terminal}
 use Rattle.tg_traversal.specs.declared.position.Miss.TheVariants as misses
 use Rattle.tg_traversal.specs.declared.position.Miss.{Miss as FrameMiss}
 use Rattle.tg_model_laws.specs.Tasks.{Miss, Task, entries_now, no_directory, no_entry, stop_at, tasks_then, text_now}
@@ -30,11 +31,13 @@ use Rattle.tg_verify.specs.Counting.{AreUnpassed, HasMet, IsCountedOn, IsFirstPa
 use Rattle.tg_verify.specs.Opening.{PassesAs, tasks_behind, text_of}
 use Rattle.tg_verify.specs.Refusals.{HasReceiptCause, IsBadBlock, IsMissized, IsTooDeep, IsWantedBlock}
 use Rattle.tg_verify.specs.State.{OpenerState, listed_lines, told}
+use Rattle.tg_verify.specs.Terminals.{terminal_behind}
 use Rattle.tg_verify.specs.declared.counts.Counts.{Counts}
 use Rattle.tg_verify.specs.declared.counts.Source.TheVariants as sources
 use Rattle.tg_verify.specs.declared.counts.Source.{Source}
 use Rattle.tg_verify.specs.declared.fault.Refusal.TheVariants as refusals
 use Rattle.tg_verify.specs.declared.fault.Refusal.{Refusal}
+use Rattle.tg_verify.specs.declared.terminal.Terminal.{Terminal}
 
 -- the section with this CID and block
 abbrev pub section_with : CidParts → List ℕ → Section
@@ -173,6 +176,13 @@ pub record IsPlaced (old : OpenerState) (at : WantedAt) (section : Section) (sou
   pub within : AreUnpassed old.limits (numbers_of new.counts)
   pub left : left_of new ≡ tasks_then (behind old at section kind)
   pub last : new.left.wanted ≡ None → new.left.later ≡ []
+  pub terminal : new.terminal ≡ terminal_behind old.terminal (is_terminal at.want) kind
+
+-- what the path leads to is told as before, or as it is behind the block, which passes
+abbrev pub IsToldBehind : OpenerState → WantedAt → Section → Option Terminal → Type 0
+IsToldBehind old at section t =
+    (t ≡ old.terminal)
+    ⊎ ((kind : Option Kind) × PassesAs old.left.query old.limits at section kind × (t ≡ terminal_behind old.terminal (is_terminal at.want) kind))
 
 -- a segment leads nowhere behind the block
 pub record IsMissedBehind (old : OpenerState) (at : WantedAt) (section : Section) (miss : Miss) : Type 0 where

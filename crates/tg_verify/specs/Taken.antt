@@ -15,6 +15,7 @@ use Rattle.tg_model.specs.LimitNumbers.{LimitNumbers}
 use Rattle.tg_verify.specs.Opening.{IsNamed}
 use Rattle.tg_verify.specs.Reached.{IsReached, IsReachedBefore, stage_of}
 use Rattle.tg_verify.specs.State.{VerifierState, count_of, listed_lines}
+use Rattle.tg_verify.specs.Terminals.{IsTerminalAt}
 
 -- these sections were taken, no limit is passed by them, this is written for them, and a block that is sent behind them is wanted
 -- here
@@ -76,6 +77,7 @@ pub record IsFresh (state : VerifierState) : Type 0 where
   pub counted : HasCounted state.left.query state.counts nothing_given
   pub seen : state.seen ≡ []
   pub taken : state.taken ≡ 0
+  pub terminal : state.terminal ≡ None
   pub refused : state.refused ≡ None
 
 -- as long as a block is wanted, the text that was given is written, and the lines of a listing are kept; and then all
@@ -118,6 +120,7 @@ pub record IsGoing (state : VerifierState) (sections : List Section) (written : 
   pub keeps : Keeps state sections
   pub counted : IsCountedWithin state given
   pub writes : IsWrittenAt state given written state.left.wanted
+  pub terminal : IsTerminalAt state.left.query sections given (tasks_left state.left) state.terminal
 
 -- it goes on, and places whose blocks no section brings may come before a section is wanted
 pub record IsOn (state : VerifierState) (sections : List Section) (written : List ℕ) : Type 0 where
@@ -129,3 +132,4 @@ pub record IsOn (state : VerifierState) (sections : List Section) (written : Lis
   pub counted : IsCountedWithin state given
   pub text : written ≡ given.text
   pub lines : state.lines ≡ listed_lines state.left.query.scope given.met
+  pub terminal : IsTerminalAt state.left.query sections given (tasks_left state.left) state.terminal

@@ -11,8 +11,10 @@ mod known;
 pub mod laws;
 mod opener;
 mod settling;
+mod terminal;
 mod verifier;
 
 pub use all::verify_all;
 pub use fault::Refusal;
+pub use terminal::Terminal;
 pub use verifier::{Progress, Verifier};

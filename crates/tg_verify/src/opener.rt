@@ -1,23 +1,27 @@
 //! Blocks that are opened at their places.
 ghost use Rattle.std.specs.Prelude.{◌≡◌, ◌≢◌, ◌++◌, ◌+◌, [], ℕ, List as Items, None, Option, Some, IfOk, MatchResult};
-ghost use Rattle.std.specs.Prelude.{OnErr, OnOk, length};
+ghost use Rattle.std.specs.Prelude.{IfSome, OnErr, OnOk, length};
 ghost use Rattle.tg_model.specs.Dag.{Section};
+ghost use Rattle.tg_model.specs.Placed.{StandsForKind};
 ghost use Rattle.tg_model.specs.Traversal.{ListedEntry, is_asked};
 ghost use Rattle.tg_model.specs.declared.kinds.Kind.{Kind};
 ghost use Rattle.tg_streams.specs.Gathering.{Gave};
 ghost use Rattle.tg_streams.specs.Streams.{OutputQuiet, Put, PutFront, into};
 ghost use Rattle.tg_traversal.specs.BlocksLeft.{HasFewer};
 ghost use Rattle.tg_traversal.specs.Left.{WantedAt, tasks_left, told_wanted};
+ghost use Rattle.tg_traversal.specs.Places.{is_terminal};
 ghost use Rattle.tg_model_laws.specs.Stages.{nothing_given};
 ghost use Rattle.tg_model_laws.specs.Tasks.{start};
 ghost use Rattle.tg_verify.specs.Counting.{HasCounted, HasMet, blocks_added, bytes_added, reused_added};
 ghost use Rattle.tg_verify.specs.State.{told};
 ghost use Rattle.tg_verify.specs.Steps.{HasOpenCause, IsOpenedHere, IsPassingHere, IsPlaced, IsPlacedAt, IsSameOpener};
-ghost use Rattle.tg_verify.specs.Steps.{PutEnds, section_with};
+ghost use Rattle.tg_verify.specs.Steps.{IsToldBehind, PutEnds, section_with};
+ghost use Rattle.tg_verify.specs.Terminals.{terminal_behind};
 
 use crate::checking::limit;
 use crate::counts::{Counts, Source};
 use crate::fault::Refusal;
+use crate::terminal::{Terminal, terminal_of};
 use std::alloc::{AllocError, Global};
 use std::marker::Model;
 use tg_bytes::{Bytes, List};
@@ -29,7 +33,7 @@ use tg_streams::{Gathering, Sink, put_all};
 use tg_traversal::{Frames, PlaceText, SharedBlock, Wanted};
 
 /// Opens the blocks that a query asks for at their places, one after another, and puts what they say. It holds of a
-/// listing the lines, and counts what the limits count.
+/// listing the lines, counts what the limits count, and tells what the path leads to once that block was opened.
 #[derive(Drop)]
 pub(crate) struct Opener {
     pub(crate) alloc: Global,
@@ -38,6 +42,7 @@ pub(crate) struct Opener {
     pub(crate) limits: Limits,
     pub(crate) lines: List<ListingLine>,
     pub(crate) counts: Counts,
+    pub(crate) terminal: Option<Terminal>,
     pub(crate) gathering: Gathering,
 }
 
@@ -54,7 +59,13 @@ impl Model for Opener {
 
     ghost Value = { OpenerState };
 
-    ghost view = { λ o. record { left = o.frames; limits = o.limits; lines = o.lines; counts = o.counts } };
+    ghost view = { λ o. record {
+      left = o.frames;
+      limits = o.limits;
+      lines = o.lines;
+      counts = o.counts;
+      terminal = o.terminal;
+    } };
 
     ghost invariant = { λ o. (o.scope ≡ o.frames.query.scope) × (o.gathering ≡ []) };
 }
@@ -68,6 +79,7 @@ impl Opener {
         ensures wanted { IfOk result (λ o. o.left.wanted ≢ None) }
         ensures lines { IfOk result (λ o. o.lines ≡ []) }
         ensures counted { IfOk result (λ o. HasCounted query.now o.counts nothing_given) }
+        ensures terminal { IfOk result (λ o. o.terminal ≡ None) }
     {
         Ok(Opener {
             alloc,
@@ -76,6 +88,7 @@ impl Opener {
             limits,
             lines: List::new(alloc),
             counts: Counts::new(alloc),
+            terminal: None,
             gathering: Gathering::new(alloc)?,
         })
     }
@@ -111,6 +124,10 @@ impl Opener {
         ensures same { IsSameOpener self.old self.new }
         ensures placed { (at : WantedAt) → self.old.left.wanted ≡ Some at
             → IsPlacedAt self.old at (section_with cid.now block.now) source (into S.sink out.old out.new) self.new result }
+        // What the path leads to is told with the terminal's block, and stays.
+        ensures terminal { (at : WantedAt) → self.old.left.wanted ≡ Some at
+            → IsToldBehind self.old at (section_with cid.now block.now) self.new.terminal }
+        ensures told { IfSome self.old.terminal (λ t. self.new.terminal ≡ Some t) }
         ensures fewer { OnOk result (HasFewer self.old.left self.new.left) }
     {
         let said = self.prepare(cid, block, source)?;
@@ -136,6 +153,9 @@ impl Opener {
             (λ said. IsPlaced self.old at (section_with cid.now block.now) source
             (said.text.line ++ (said.text.bytes.now ++ said.ends)) self.new)
             (λ fault. HasOpenCause self.old at (section_with cid.now block.now) source fault) }
+        ensures terminal { (at : WantedAt) → self.old.left.wanted ≡ Some at
+            → IsToldBehind self.old at (section_with cid.now block.now) self.new.terminal }
+        ensures told { IfSome self.old.terminal (λ t. self.new.terminal ≡ Some t) }
         ensures fewer { OnOk result (HasFewer self.old.left self.new.left) }
     {
         let found = self.checked(cid, block.as_slice())?;
@@ -164,6 +184,11 @@ impl Opener {
         ensures opened { (at : WantedAt) (section : Section) (kind : Option Kind)
             → IsPassingHere self.old at section kind found → section.block ≡ block.now
             → IfOk result (λ text. IsOpenedHere self.old at section kind (text.line ++ text.bytes.now) self.new) }
+        ensures terminal { (at : WantedAt) (section : Section) (kind : Option Kind)
+            → IsPassingHere self.old at section kind found → OnOk result (self.new.terminal
+            ≡ terminal_behind self.old.terminal (is_terminal at.want) kind) }
+        ensures untold { OnErr result (self.new.terminal ≡ self.old.terminal) }
+        ensures told { IfSome self.old.terminal (λ t. self.new.terminal ≡ Some t) }
         ensures fewer { OnOk result (HasFewer self.old.left self.new.left) }
     {
         let Some(found) = found else {
@@ -176,8 +201,24 @@ impl Opener {
         let text = self.frames.text(self.alloc, &found, block.as_slice())?;
         // The limit is at most the standard one, so that what lies below has a depth, too.
         let _deepest = self.limits.number(LimitKind::Depth);
+        let terminal = self.told_with(&found);
         self.frames.open(found, block)?;
+        self.terminal = terminal;
         Ok(text)
+    }
+
+    /// What the path leads to, where it was told before, or where this was read at the wanted place and it is the
+    /// terminal.
+    fn told_with(&self, found: &PlacedKind) -> Option<Terminal>
+        ensures terminal { (at : WantedAt) (block : Items ℕ) (kind : Kind) → self.now.left.wanted ≡ Some at
+            → StandsForKind block found.now kind
+            → result ≡ terminal_behind self.now.terminal (is_terminal at.want) (Some kind) }
+        ensures told { IfSome self.now.terminal (λ t. result ≡ Some t) }
+    {
+        if self.terminal.is_none() && self.frames.is_at_terminal() {
+            return Some(terminal_of(found));
+        }
+        self.terminal
     }
 
     /// Counts a block from this source that is opened, and what is said with it.
@@ -185,6 +226,7 @@ impl Opener {
         ensures left { self.new.left ≡ self.old.left }
         ensures limits { self.new.limits ≡ self.old.limits }
         ensures lines { self.new.lines ≡ self.old.lines }
+        ensures terminal { self.new.terminal ≡ self.old.terminal }
         ensures output { self.new.counts.output ≡ told (self.old.counts.output
             + length (said.now.text.line ++ (said.now.text.bytes.now ++ said.now.ends))) }
         ensures seen_blocks { self.new.counts.seen_blocks ≡ told (self.old.counts.seen_blocks

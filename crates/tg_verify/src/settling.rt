@@ -24,6 +24,7 @@ impl Opener {
     /// Errors: `NotThere` and `NotFolder` where a segment of the path leads nowhere; and `OutOfMemory`.
     pub(crate) fn gather(&mut self, ends: &mut Bytes) -> Result<(), Refusal>
         ensures same { IsSameOpener self.old self.new }
+        ensures terminal { self.new.terminal ≡ self.old.terminal }
         ensures gathered { IsGatheredBy self.old ends.old self.new ends.new result }
     {
         while self.advance(ends)? {}
@@ -35,6 +36,7 @@ impl Opener {
     /// Errors: those of `gather`.
     fn advance(&mut self, ends: &mut Bytes) -> Result<bool, Refusal>
         ensures same { IsSameOpener self.old self.new }
+        ensures terminal { self.new.terminal ≡ self.old.terminal }
         ensures step { IsAdvanced self.old ends.old self.new ends.new result }
     {
         match self.frames.next()? {
@@ -50,6 +52,7 @@ impl Opener {
     /// the line there. The error is want of memory.
     fn meet(&mut self, entry: Entry, directory: u64) -> Result<(), AllocError>
         ensures same { IsSameOpener self.old self.new }
+        ensures terminal { self.new.terminal ≡ self.old.terminal }
         ensures met { (path : Items ℕ) → length path ≡ directory
             → OnOk result (IsMetAt self.old (listed_at path entry) entry self.new) }
     {

@@ -70,6 +70,7 @@ impl Model for Verifier {
       limits = v.opener.limits;
       lines = v.opener.lines;
       counts = v.opener.counts;
+      terminal = v.opener.terminal;
       seen = v.seen.entries;
       taken = v.taken;
       refused = v.refused;

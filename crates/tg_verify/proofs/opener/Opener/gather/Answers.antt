@@ -24,7 +24,7 @@ loop-smaller c = (stepped c.loop.self c.loop.ends c.advance.new.self c.advance.n
 pub loop-preserved : goal.loop-preserved
 loop-preserved c =
     leads_more c.args.self.now c.loop.self c.advance.new.self c.args.ends.now c.loop.ends c.advance.new.ends c.loop.invariant
-    (stepped c.loop.self c.loop.ends c.advance.new.self c.advance.new.ends c.in_ok-advance.field-0 c.if-branch.true c.in_ok-advance.ensures.step).0 c.in_ok-advance.ensures.same
+    (stepped c.loop.self c.loop.ends c.advance.new.self c.advance.new.ends c.in_ok-advance.field-0 c.if-branch.true c.in_ok-advance.ensures.step).0 c.in_ok-advance.ensures.same c.in_ok-advance.ensures.terminal
 
 pub returns-clause-same : goal.returns-clause-same
 returns-clause-same c =

@@ -79,7 +79,7 @@ returns-clause-stands g c sections written h =
     (subst (λ (state : VerifierState). HasReceived state (section_with c.args.cid c.args.block) (Ok tt)) (sym c.self.view_is) received) in
     let out = into g.S.Sink.sink c.args.out.now c.place.new.out in
     place_taken _ sections written going (section_with c.args.cid c.args.block) bytes c.verified_sections.ensures c.readings.ensures.computed there out c.place.new.self _
-    c.in_ok-place.ensures.same refl refl refl refl (record {
+    c.in_ok-place.ensures.same refl refl refl refl refl (record {
       all = λ dups. c.remember.ensures.all (c.self.invariant ∙ dups) ∙ c.make_room.ensures.unchanged;
       each = λ dups none. c.remember.ensures.once (c.self.invariant ∙ dups)
           (λ other there. none other (subst (λ (seen : List (CidParts × List ℕ)). Contains seen (c.args.cid, other)) c.make_room.ensures.unchanged there))

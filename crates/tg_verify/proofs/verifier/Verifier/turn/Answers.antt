@@ -21,7 +21,7 @@ returns-in_err-put_kept_lines-clause-stands g c sections written h =
     let out = into g.S.Sink.sink c.args.out.now c.put_kept_lines.new.out in
     rw (p.1, p.2) (subst
     (λ (o : OpenerState).
-    HasGone (record { left = o.left; limits = o.limits; lines = o.lines; counts = o.counts; seen = c.self.inside.seen.entries; taken = c.self.inside.taken; refused = c.self.inside.refused })
+    HasGone (record { left = o.left; limits = o.limits; lines = o.lines; counts = o.counts; terminal = o.terminal; seen = c.self.inside.seen.entries; taken = c.self.inside.taken; refused = c.self.inside.refused })
     sections written out (Err c.in_err-put_kept_lines.field-0.0)) (sym c.put_kept_lines.ensures.others)
     (lists_front c.verified_sections.ensures c.readings.ensures.computed _ sections written on out c.in_err-put_kept_lines.field-0.0 none
     (c.in_err-put_kept_lines.ensures.put (listed_of c.self.inside.opener.left.query.scope on.given.met) on.lines)))
