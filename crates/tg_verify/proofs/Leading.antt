@@ -148,14 +148,14 @@ module _ (v : VerifiedLaws) (q : QueryParts) (sections : List Section) (given : 
 
     first_told : (kind : Kind) → PassesAs q limits at section (Some kind) → IsTerminalBy q sections given (open_block at.want at.cid ∷ later) None
         → (b : Bool) → is_terminal at.want ≡ b → Behind later (Some kind) (terminal_behind None b (Some kind))
-    first_told kind passes (verified, on, last) b e =
-        subst (λ (l : List (Task CidParts)). Behind l (Some kind) (terminal_behind None b (Some kind))) (sym last)
+    first_told kind passes (verified, rest) b e =
+        subst (λ (l : List (Task CidParts)). Behind l (Some kind) (terminal_behind None b (Some kind))) (sym rest.1)
         (by b e (subst (λ (cid : CidParts). Verified (block_query q) sections given (open_block at.want cid ∷ [])) (sym same)
-        (subst (λ (l : List (Task CidParts)). Verified (block_query q) sections given (open_block at.want at.cid ∷ l)) last verified)))
+        (subst (λ (l : List (Task CidParts)). Verified (block_query q) sections given (open_block at.want at.cid ∷ l)) rest.1 verified)))
       where
         by : (b : Bool) → is_terminal at.want ≡ b → Verified (block_query q) sections given (open_block at.want section.cid ∷ []) → Behind [] (Some kind) (terminal_behind None b (Some kind))
         by true e verified = leads_here at.want kind e passes.0.reads verified
-        by false e verified = on_way at.want kind e on (here kind passes) verified
+        by false e verified = on_way at.want kind e rest.0 (here kind passes) verified
 
     told_next : (t : Option Terminal) (kind : Option Kind) → is_block q.scope ≡ false → PassesAs q limits at section kind → IsTerminalBy q sections given (open_block at.want at.cid ∷ later) t
         → Behind later kind (terminal_behind t (is_terminal at.want) kind)

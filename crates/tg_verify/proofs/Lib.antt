@@ -28,5 +28,6 @@ mod Sections
 mod Shown
 mod Started
 mod Taking
+mod Told
 mod Turning
 mod Turns

@@ -1,6 +1,6 @@
 -- Turns one after another, and a section with the turns behind it.
-use Rattle.std.proofs.Common.{[], Err, List, Ok, append-nil, append_assoc, inl, inr, refl, subst, sym, ℕ, ◌++◌, ◌∙◌, ◌∷◌, ◌≡◌}
-use Rattle.std.specs.Prelude.{IfErr, Result}
+use Rattle.std.proofs.Common.{[], Err, List, None, Ok, Option, Some, append-nil, append_assoc, inl, inr, refl, subst, sym, ℕ, ◌++◌, ◌∙◌, ◌∷◌, ◌≡◌}
+use Rattle.std.specs.Prelude.{IfErr, IfSome, Result}
 use Rattle.tg_faults.specs.Faults.{Rose}
 use Rattle.tg_model.specs.Dag.{Section}
 use Rattle.tg_model.specs.LimitNumbers.{LimitNumbers}
@@ -15,6 +15,7 @@ use Rattle.tg_verify.specs.State.{VerifierState}
 use Rattle.tg_verify.specs.Taken.{IsNowhere, IsOn}
 use Rattle.tg_verify.specs.declared.fault.Refusal.{Refusal}
 use Rattle.tg_verify.specs.declared.fault.Refusal.TheVariants as refusals
+use Rattle.tg_verify.specs.declared.terminal.Terminal.{Terminal}
 use Rattle.tg_verify.specs.declared.verifier.Progress.{Progress}
 use Rattle.tg_model_laws.specs.Tasks.{Miss, no_directory, no_entry}
 
@@ -39,11 +40,21 @@ cause_later m a b c (Err refusals.OutOfMemory) quiet h = h ∙ quiet
 
 -- ---- turns
 
+-- what is told stays
+pub told_still : (t : Option Terminal) → IfSome t (λ x. t ≡ Some x)
+told_still None = tt
+told_still (Some x) = refl
+
+pub told_later : (a b c : Option Terminal) → IfSome a (λ t. b ≡ Some t) → IfSome b (λ t. c ≡ Some t) → IfSome a (λ t. c ≡ Some t)
+told_later None b c h k = tt
+told_later (Some t) b c h k = subst (λ (o : Option Terminal). IfSome o (λ x. c ≡ Some x)) h k
+
 -- the verifier went on from one moment to another
 pub record HasTurnedOn {S : Type 0} (m : SinkMeaning S) (old new : VerifierState) (a b : S) : Type 0 where
   pub same : IsSameVerifier old new
   pub taken : new.taken ≡ old.taken
   pub quiet : OutputQuiet (into m a b)
+  pub told : IfSome old.terminal (λ t. new.terminal ≡ Some t)
   pub stands : (sections : List Section) (written : List ℕ) → IsOn old sections written → HasOn new sections written (into m a b)
 
 pub same_both : (old mid new : VerifierState) → IsSameVerifier old mid → IsSameVerifier mid new → IsSameVerifier old new
@@ -54,6 +65,7 @@ no_turn {S} m state a rests = record {
   same = record { query = refl; limits = refl; refused = refl };
   taken = refl;
   quiet = refl;
+  told = told_still state.terminal;
   stands = λ sections written on. record {
     text = [];
     put = put_nothing S m a rests;
@@ -74,12 +86,13 @@ module _ {S : Type 0} (m : SinkMeaning S) (joins : SinkJoins S m) (a b c : S) (o
         on = subst (λ (t : List ℕ). IsOn new sections t) (append_assoc written on.text next.text) next.on;
       }
 
-  pub one_turn : IsSameVerifier mid new → new.taken ≡ mid.taken → OutputQuiet (into m b c)
+  pub one_turn : IsSameVerifier mid new → new.taken ≡ mid.taken → OutputQuiet (into m b c) → IfSome mid.terminal (λ t. new.terminal ≡ Some t)
       → ((sections : List Section) (written : List ℕ) → IsOn mid sections written → HasOn new sections written (into m b c)) → HasTurnedOn m old new a c
-  one_turn same taken quiet step = record {
+  one_turn same taken quiet told step = record {
     same = same_both old mid new h.same same;
     taken = taken ∙ h.taken;
     quiet = quiet ∙ h.quiet;
+    told = told_later old.terminal mid.terminal new.terminal h.told told;
     stands = λ sections written on. on_later sections written (h.stands sections written on) (λ text. step sections text);
   }
 

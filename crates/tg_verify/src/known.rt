@@ -1,5 +1,6 @@
 //! Places whose blocks no section brings.
-ghost use Rattle.std.specs.Prelude.{◌≡◌, ◌<◌, ℕ, All, List as Items, Err, IfErr, IfOk, MatchResult, None, Ok, Some};
+ghost use Rattle.std.specs.Prelude.{◌≡◌, ◌<◌, ℕ, All, List as Items, Err, IfErr, IfOk, IfSome, MatchResult, None, Ok};
+ghost use Rattle.std.specs.Prelude.{Some};
 ghost use Rattle.tg_model.specs.Dag.{Section};
 ghost use Rattle.tg_streams.specs.Streams.{OutputQuiet, into};
 ghost use Rattle.tg_traversal.specs.BlocksLeft.{blocks_over};
@@ -8,6 +9,7 @@ ghost use Rattle.tg_verify.specs.History.{HasGone, HasPutCause, HasTurned, IsPla
 ghost use Rattle.tg_verify.specs.History.{IsSameVerifier};
 ghost use Rattle.tg_verify.specs.Steps.{IsKnownBlock, source_of};
 ghost use Rattle.tg_verify.specs.Taken.{IsOn};
+ghost use Rattle.tg_verify.specs.Terminals.{LeadsTo};
 
 use crate::checking::are_bytes;
 use crate::counts::Source;
@@ -30,6 +32,10 @@ impl Verifier {
         ensures taken { self.new.taken ≡ self.old.taken }
         ensures stands { (sections : Items Section) (written : Items ℕ) → IsOn self.old sections written
             → HasGone self.new sections written (into S.sink out.old out.new) result }
+        // What the path leads to, by the sections; it stays.
+        ensures terminal { (sections : Items Section) (written : Items ℕ) → IsOn self.old sections written
+            → IfSome self.new.terminal (LeadsTo self.new.left.query sections) }
+        ensures told { IfSome self.old.terminal (λ t. self.new.terminal ≡ Some t) }
         ensures progress { IfOk result (λ progress. IsProgress progress self.new) }
         ensures cause { HasPutCause result (into S.sink out.old out.new) }
         ensures place { IfErr result IsPlaceFault }
@@ -50,6 +56,10 @@ impl Verifier {
         ensures taken { self.new.taken ≡ self.old.taken }
         ensures stands { (sections : Items Section) (written : Items ℕ) → IsOn self.old sections written
             → HasTurned self.new sections written (into S.sink out.old out.new) result }
+        // What the path leads to, by the sections; it stays.
+        ensures terminal { (sections : Items Section) (written : Items ℕ) → IsOn self.old sections written
+            → IfSome self.new.terminal (LeadsTo self.new.left.query sections) }
+        ensures told { IfSome self.old.terminal (λ t. self.new.terminal ≡ Some t) }
         ensures progress { (progress : Progress) → result ≡ Ok (Some progress) → IsProgress progress self.new }
         ensures cause { MatchResult result (λ _. OutputQuiet (into S.sink out.old out.new))
             (λ fault. HasPutCause (Err fault) (into S.sink out.old out.new)) }

@@ -2,6 +2,7 @@
 ghost use Rattle.tg_verify.specs.Absences.{AnsweredLeadsThere};
 ghost use Rattle.tg_verify.specs.Laws.{AnswerLaws};
 ghost use Rattle.tg_verify.specs.Own.{OwnLaws};
+ghost use Rattle.tg_verify.specs.Terminals.{TerminalsTold};
 
 /// What follows from what a verifier stands for: the sections are in progress, or fit, and their text is written;
 /// beside each sound DAG with the query's root it is the DAG's answer, or a front of it, or a received block and one of
@@ -39,3 +40,16 @@ pub fn own_sections_taken()
 pub fn answered_paths()
     ensures { AnsweredLeadsThere }
 {}
+
+/// What sections lead to, of which the last block of a front is the terminal's, is what the query's path leads to in each
+/// sound DAG with the query's root, or a received block and one of the DAG are different bytes with one SHA-256.
+///
+/// Path Gateway specification, Path Resolution; UnixFS specification, node types.
+pub fn told_terminals()
+    ensures { TerminalsTold }
+{
+    tg_model::laws::readings();
+    tg_model_laws::paths();
+    tg_model_laws::beside_dags();
+    tg_model_laws::verified_sections();
+}

@@ -1,6 +1,6 @@
 //! A verifier that is handed a query's sections one by one.
 ghost use Rattle.std.specs.Prelude.{◌≡◌, ◌++◌, ◌∷◌, [], ℕ, List as Items, None, Ok, Option, Some, IfErr, IfOk};
-ghost use Rattle.std.specs.Prelude.{Contains, Err, MatchResult, OnErr, OnOk, false, true, ◌<◌};
+ghost use Rattle.std.specs.Prelude.{Contains, Err, IfSome, MatchResult, OnErr, OnOk, false, true, ◌<◌};
 ghost use Rattle.indexmap.specs.IndexMap.{spare};
 ghost use Rattle.tg_traversal.specs.Left.{WantedAt};
 ghost use Rattle.tg_model.specs.Dag.{Dag, Section};
@@ -15,12 +15,14 @@ ghost use Rattle.tg_verify.specs.Sound.{EndsFor, ForEachSound};
 ghost use Rattle.tg_verify.specs.State.{next_cid, written_count};
 ghost use Rattle.tg_verify.specs.Steps.{section_with};
 ghost use Rattle.tg_verify.specs.Taken.{IsFresh, IsGoing};
+ghost use Rattle.tg_verify.specs.Terminals.{IsTerminalTold, IsToldThen, LeadsTo};
 
 use crate::checking::are_bytes;
 use crate::counts::Source;
 use crate::fault::Refusal;
 use crate::laws;
 use crate::opener::Opener;
+use crate::terminal::Terminal;
 use indexmap::IndexMap;
 use std::alloc::{AllocError, Global};
 use std::marker::Model;
@@ -107,6 +109,10 @@ impl Verifier {
         ensures taken { self.new.taken ≡ self.old.taken }
         // What is written before the first section.
         ensures stands { IsFresh self.old → HasWritten self.new [] [] (into S.sink out.old out.new) result }
+        // What the path leads to in each sound DAG; it never changes, and it is told once all came.
+        ensures terminal { IsFresh self.old → IsTerminalTold self.new.left.query [] self.new.terminal }
+        ensures told { IfSome self.old.terminal (λ t. self.new.terminal ≡ Some t) }
+        ensures reached { IsFresh self.old → IsToldThen self.new.left.query self.new.terminal result }
         ensures progress { IfOk result (λ progress. IsProgress progress self.new) }
         ensures cause { self.old.refused ≡ None → HasPutCause result (into S.sink out.old out.new) }
         // Before sections that fit, or that are in progress, it starts, but for a fault of out and want of memory.
@@ -121,6 +127,7 @@ impl Verifier {
         ensures refused { MatchResult result (λ _. self.new.refused ≡ None) (λ fault. self.new.refused ≡ Some fault) }
     {
         laws::verified_answers();
+        laws::told_terminals();
         tg_model_laws::verified_sections();
         if let Some(fault) = self.refused {
             return Err(fault);
@@ -158,6 +165,16 @@ impl Verifier {
         written_of(self.opener.lines.as_slice(), self.opener.counts.output)
     }
 
+    /// What the query's path leads to, which is told once that block was opened: none before, and none where the block
+    /// alone is asked for, which isn't read. It stays behind a refusal. It takes no memory.
+    ///
+    /// Path Gateway specification, Path Resolution; UnixFS specification, node types.
+    pub fn terminal(&self) -> Option<Terminal>
+        ensures { result ≡ self.now.terminal }
+    {
+        self.opener.terminal
+    }
+
     /// Takes the next section and puts what it says; opens the places behind it whose blocks no section brings, and
     /// puts what they say; and says whether more sections are wanted.
     ///
@@ -184,6 +201,13 @@ impl Verifier {
             → HasWritten self.new (sections ++ section_with cid block
             ∷ []) written (into S.sink out.old out.new) result }
         ensures progress { IfOk result (λ progress. IsProgress progress self.new) }
+        // What the path leads to in each sound DAG; it never changes, and it is told once all came.
+        ensures terminal { (sections : Items Section) (written : Items ℕ) → self.old.refused ≡ None
+            → StandsFor self.old sections written
+            → IsTerminalTold self.new.left.query (sections ++ section_with cid block ∷ []) self.new.terminal }
+        ensures told { IfSome self.old.terminal (λ t. self.new.terminal ≡ Some t) }
+        ensures reached { (sections : Items Section) (written : Items ℕ) → self.old.refused ≡ None
+            → StandsFor self.old sections written → IsToldThen self.new.left.query self.new.terminal result }
         ensures cause { self.old.refused ≡ None → HasPutCause result (into S.sink out.old out.new) }
         // What `sections` tells then.
         ensures counted { self.old.refused ≡ None → IsCounted self.old.taken self.new.taken result }
@@ -203,6 +227,7 @@ impl Verifier {
         ensures refused { MatchResult result (λ _. self.new.refused ≡ None) (λ fault. self.new.refused ≡ Some fault) }
     {
         laws::verified_answers();
+        laws::told_terminals();
         are_bytes(block.as_slice());
         if let Some(fault) = self.refused {
             return Err(fault);
@@ -232,6 +257,13 @@ impl Verifier {
             → HasWritten self.new (sections ++ section_with cid block
             ∷ []) written (into S.sink out.old out.new) result }
         ensures progress { IfOk result (λ progress. IsProgress progress self.new) }
+        // What the path leads to in each sound DAG; it never changes, and it is told once all came.
+        ensures terminal { (sections : Items Section) (written : Items ℕ) → self.old.refused ≡ None
+            → StandsFor self.old sections written
+            → IsTerminalTold self.new.left.query (sections ++ section_with cid block ∷ []) self.new.terminal }
+        ensures told { IfSome self.old.terminal (λ t. self.new.terminal ≡ Some t) }
+        ensures reached { (sections : Items Section) (written : Items ℕ) → self.old.refused ≡ None
+            → StandsFor self.old sections written → IsToldThen self.new.left.query self.new.terminal result }
         ensures cause { self.old.refused ≡ None → HasPutCause result (into S.sink out.old out.new) }
         // What `sections` tells then.
         ensures counted { self.old.refused ≡ None → IsCounted self.old.taken self.new.taken result }
@@ -251,6 +283,7 @@ impl Verifier {
         ensures refused { MatchResult result (λ _. self.new.refused ≡ None) (λ fault. self.new.refused ≡ Some fault) }
     {
         laws::verified_answers();
+        laws::told_terminals();
         if let Some(fault) = self.refused {
             return Err(fault);
         }
@@ -314,6 +347,10 @@ impl Verifier {
         ensures same { IsSameVerifier self.old self.new }
         ensures stands { (sections : Items Section) (written : Items ℕ) → IsGoing self.old sections written
             → HasTaken self.new (sections ++ section_with cid block ∷ []) written (into S.sink out.old out.new) result }
+        // What the path leads to, by the sections; it stays.
+        ensures terminal { (sections : Items Section) (written : Items ℕ) → IsGoing self.old sections written
+            → IfSome self.new.terminal (LeadsTo self.new.left.query (sections ++ section_with cid block ∷ [])) }
+        ensures told { IfSome self.old.terminal (λ t. self.new.terminal ≡ Some t) }
         ensures progress { IfOk result (λ progress. IsProgress progress self.new) }
         ensures cause { HasPutCause result (into S.sink out.old out.new) }
         ensures counted { IsCounted self.old.taken self.new.taken result }
@@ -331,6 +368,10 @@ impl Verifier {
         ensures stands { (sections : Items Section) (written : Items ℕ) → IsGoing self.old sections written
             → HasAccepted self.new (sections ++ section_with cid block ∷ []) written
             (into S.sink out.old out.new) result }
+        // What the path leads to, by the sections; it stays.
+        ensures terminal { (sections : Items Section) (written : Items ℕ) → IsGoing self.old sections written
+            → IfSome self.new.terminal (LeadsTo self.new.left.query (sections ++ section_with cid block ∷ [])) }
+        ensures told { IfSome self.old.terminal (λ t. self.new.terminal ≡ Some t) }
         ensures cause { MatchResult result (λ _. OutputQuiet (into S.sink out.old out.new))
             (λ fault. HasPutCause (Err fault) (into S.sink out.old out.new)) }
         ensures counted { MatchResult result (λ _. self.new.taken ≡ one_more self.old.taken)

@@ -4,9 +4,9 @@ use Rattle.tg_cid.specs.Cid.{CidParts}
 use Rattle.tg_streams.specs.Streams.{into}
 use Rattle.tg_verify.proofs.Naming.{met_received}
 use Rattle.tg_verify.proofs.Opened.{placed_cause}
-use Rattle.tg_verify.proofs.Taking.{HasReceived, place_refused, place_taken, receipt_refused, room_refused, wanted_there}
+use Rattle.tg_verify.proofs.Taking.{HasReceived, going_led, led_taken, place_refused, place_taken, receipt_refused, room_refused, wanted_there}
 use Rattle.tg_verify.specs.State.{VerifierState}
-use Rattle.tg_verify.specs.Steps.{IsPlacedAt, section_with}
+use Rattle.tg_verify.specs.Steps.{IsPlacedAt, IsToldBehind, section_with}
 use Rattle.tg_verify.specs.Taken.{IsGoing}
 use Rattle.tg_verify.specs.declared.counts.Source.TheVariants as sources
 use Rattle.tg_verify.proofs.verifier.Verifier.accept.Goals as goal
@@ -89,3 +89,40 @@ returns-clause-stands g c sections written h =
     })
     (subst (λ (block : List ℕ). IsPlacedAt c.self.inside.opener there.at (section_with c.args.cid block) sources.Section out c.place.new.self (Ok tt)) c.in_ok-block.ensures
     (c.in_ok-place.ensures.placed there.at there.wanted))
+
+pub returns-in_err-place-clause-terminal : goal.returns-in_err-place-clause-terminal
+returns-in_err-place-clause-terminal g c sections written h =
+    let bytes = subst (λ (block : List ℕ). All (λ b. b < 256) block) c.as_slice.ensures c.are_bytes.ensures in
+    let received : HasReceived c.args.self.now (section_with c.args.cid c.args.block) (Ok tt) =
+    met_received c.args.self.now (section_with c.args.cid c.args.block) (Ok tt) c.requires.named c.in_ok-meets.ensures.surplus c.in_ok-meets.ensures.met in
+    let going = subst (λ (state : VerifierState). IsGoing state sections written) (sym c.self.view_is) h in
+    let there = wanted_there _ (section_with c.args.cid c.args.block)
+    (subst (λ (state : VerifierState). HasReceived state (section_with c.args.cid c.args.block) (Ok tt)) (sym c.self.view_is) received) in
+    led_taken _ sections written going (section_with c.args.cid c.args.block) bytes c.verified_sections.ensures c.readings.ensures.computed there c.place.new.self
+    c.in_err-place.ensures.same.query
+    (subst (λ (block : List ℕ). IsToldBehind c.self.inside.opener there.at (section_with c.args.cid block) c.place.new.self.terminal) c.in_ok-block.ensures
+    (c.in_err-place.ensures.terminal there.at there.wanted))
+
+pub returns-clause-terminal : goal.returns-clause-terminal
+returns-clause-terminal g c sections written h =
+    let bytes = subst (λ (block : List ℕ). All (λ b. b < 256) block) c.as_slice.ensures c.are_bytes.ensures in
+    let received : HasReceived c.args.self.now (section_with c.args.cid c.args.block) (Ok tt) =
+    met_received c.args.self.now (section_with c.args.cid c.args.block) (Ok tt) c.requires.named c.in_ok-meets.ensures.surplus c.in_ok-meets.ensures.met in
+    let going = subst (λ (state : VerifierState). IsGoing state sections written) (sym c.self.view_is) h in
+    let there = wanted_there _ (section_with c.args.cid c.args.block)
+    (subst (λ (state : VerifierState). HasReceived state (section_with c.args.cid c.args.block) (Ok tt)) (sym c.self.view_is) received) in
+    led_taken _ sections written going (section_with c.args.cid c.args.block) bytes c.verified_sections.ensures c.readings.ensures.computed there c.place.new.self
+    c.in_ok-place.ensures.same.query
+    (subst (λ (block : List ℕ). IsToldBehind c.self.inside.opener there.at (section_with c.args.cid block) c.place.new.self.terminal) c.in_ok-block.ensures
+    (c.in_ok-place.ensures.terminal there.at there.wanted))
+
+pub returns-in_err-meets-clause-terminal : goal.returns-in_err-meets-clause-terminal
+returns-in_err-meets-clause-terminal g c sections written h = going_led c.args.self.now sections (section_with c.args.cid c.args.block ∷ []) written h
+
+pub returns-in_err-make_room-clause-terminal : goal.returns-in_err-make_room-clause-terminal
+returns-in_err-make_room-clause-terminal g c sections written h =
+    going_led _ sections (section_with c.args.cid c.args.block ∷ []) written (subst (λ (state : VerifierState). IsGoing state sections written) (sym c.self.view_is) h)
+
+pub returns-in_err-block-clause-terminal : goal.returns-in_err-block-clause-terminal
+returns-in_err-block-clause-terminal g c sections written h =
+    going_led _ sections (section_with c.args.cid c.args.block ∷ []) written (subst (λ (state : VerifierState). IsGoing state sections written) (sym c.self.view_is) h)

@@ -11,6 +11,10 @@ use Rattle.tg_verify.specs.Refusals.{HasRefused}
 use Rattle.tg_verify.specs.State.{VerifierState}
 use Rattle.tg_verify.specs.Steps.{section_with}
 use Rattle.tg_verify.specs.declared.fault.Refusal.{Refusal}
+use Rattle.tg_verify.proofs.Sections.{is_going}
+use Rattle.tg_verify.proofs.Taking.{going_led}
+use Rattle.tg_verify.proofs.Told.{any_told}
+use Rattle.tg_verify.specs.Terminals.{IsTerminalTold}
 use Rattle.tg_verify.proofs.verifier.Verifier.section.Goals as goal
 
 -- what the refusal says, where the CID doesn't name the block
@@ -68,3 +72,10 @@ returns-clause-fitting g c d sections rest written text none h fits within =
     → IsWithinLimits v.left.query v.limits d → IfErr c.section_named.result IsOwnFault)
     same (c.section_named.ensures.fitting d sections rest written text) none h fits within)
     (ap (λ (r : Option Refusal). record c.args.self.now { refused = r }) (kept ∙ sym none))
+
+pub returns-in_err-named-clause-terminal : goal.returns-in_err-named-clause-terminal
+returns-in_err-named-clause-terminal g c sections written none h =
+    let all = sections ++ section_with c.args.cid c.args.block ∷ [] in
+    subst (λ (v : VerifierState). IsTerminalTold v.left.query all v.terminal) (sym c.self.view_is)
+    (any_told c.told_terminals.ensures c.args.self.now.left.query all c.args.self.now.terminal
+    (going_led c.args.self.now sections (section_with c.args.cid c.args.block ∷ []) written (is_going c.args.self.now sections written none h)))

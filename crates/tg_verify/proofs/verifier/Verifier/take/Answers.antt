@@ -1,7 +1,7 @@
 use Rattle.std.proofs.Common.{[], ◌++◌, ◌∙◌, ◌∷◌}
 use Rattle.std.proofs.lemmas.Result.{err_from_is_err_and}
 use Rattle.tg_streams.specs.Streams.{into}
-use Rattle.tg_verify.proofs.Turns.{cause_later, counted_none, counted_one, gone_later, gone_taken, same_both}
+use Rattle.tg_verify.proofs.Turns.{cause_later, counted_none, counted_one, gone_later, gone_taken, same_both, told_later}
 use Rattle.tg_verify.specs.Steps.{section_with}
 use Rattle.tg_verify.proofs.verifier.Verifier.take.Goals as goal
 
@@ -32,3 +32,10 @@ returns-clause-cause g c =
 pub returns-clause-counted : goal.returns-clause-counted
 returns-clause-counted g c =
     counted_one c.args.self.now.taken c.go_on.new.self.taken c.go_on.result (c.go_on.ensures.taken ∙ c.in_ok-accept.ensures.counted) c.go_on.ensures.place
+
+pub returns-clause-terminal : goal.returns-clause-terminal
+returns-clause-terminal g c sections written h =
+    let mid = c.in_ok-accept.ensures.stands sections written h in c.go_on.ensures.terminal (sections ++ section_with c.args.cid c.args.block ∷ []) (written ++ mid.text) mid.on
+
+pub returns-clause-told : goal.returns-clause-told
+returns-clause-told g c = told_later c.args.self.now.terminal c.accept.new.self.terminal c.go_on.new.self.terminal c.in_ok-accept.ensures.told c.go_on.ensures.told

@@ -2,7 +2,7 @@ use Rattle.std.proofs.Common.{All, Err, List, Ok, Option, subst, sym, true, ℕ,
 use Rattle.std.proofs.lemmas.Result.{err_from_is_err_and}
 use Rattle.tg_cid.specs.Cid.{CidParts}
 use Rattle.tg_streams.specs.Streams.{into}
-use Rattle.tg_verify.proofs.Turning.{IsKnownHere, known_here, lists_front, not_told, place_opened, place_refused, sent_where_unknown, told_at, wants_memory, wants_section}
+use Rattle.tg_verify.proofs.Turning.{IsKnownHere, known_here, led_turned, lists_front, not_told, place_opened, place_refused, sent_where_unknown, told_at, wants_memory, wants_section}
 use Rattle.tg_verify.specs.History.{HasGone}
 use Rattle.tg_verify.specs.State.{OpenerState, VerifierState, listed_of}
 use Rattle.tg_verify.specs.Steps.{IsKnownBlock, section_with, source_of}
@@ -72,3 +72,27 @@ returns-clause-stands g c sections written h =
     let bytes = subst (λ (block : List ℕ). All (λ b. b < 256) block) c.as_slice.ensures c.are_bytes.ensures in
     place_opened c.verified_sections.ensures c.readings.ensures.computed _ sections written on told.at told.is section c.source_of.result (sym told.cid_is) known bytes
     (into g.S.Sink.sink c.args.out.now c.place.new.out) c.place.new.self c.in_ok-place.ensures.same (c.in_ok-place.ensures.placed told.at told.is)
+
+pub returns-in_err-place-clause-terminal : goal.returns-in_err-place-clause-terminal
+returns-in_err-place-clause-terminal g c sections written h =
+    let on = subst (λ (state : VerifierState). IsOn state sections written) (sym c.self.view_is) h in
+    let told = told_at c.self.inside.opener.left.wanted c.in-Some.wanted (sym c.wanted.ensures ∙ c.in-Some.is) in
+    let section = section_with c.in-Some.wanted.cid c.in-Some-2.block in
+    let found = subst (λ (found : Option (List ℕ)). IsKnownBlock c.asks-asked.result c.self.inside.seen.entries c.in-Some.wanted.cid found) c.in-Some-2.is c.in_ok-block.ensures in
+    let known = subst (λ (source : Source). IsKnownHere c.self.inside.opener.left.query sections section source) (sym c.source_of.ensures)
+    (known_here c.asks-asked.result c.self.inside.opener.left.query c.self.inside.seen.entries sections c.in-Some.wanted.cid c.in-Some-2.block (sym c.asks-asked.ensures) on.keeps.remembers found) in
+    let bytes = subst (λ (block : List ℕ). All (λ b. b < 256) block) c.as_slice.ensures c.are_bytes.ensures in
+    led_turned c.verified_sections.ensures c.readings.ensures.computed _ sections written on told.at told.is section c.source_of.result (sym told.cid_is) known bytes
+    c.place.new.self c.in_err-place.ensures.same (c.in_err-place.ensures.terminal told.at told.is)
+
+pub returns-clause-terminal : goal.returns-clause-terminal
+returns-clause-terminal g c sections written h =
+    let on = subst (λ (state : VerifierState). IsOn state sections written) (sym c.self.view_is) h in
+    let told = told_at c.self.inside.opener.left.wanted c.in-Some.wanted (sym c.wanted.ensures ∙ c.in-Some.is) in
+    let section = section_with c.in-Some.wanted.cid c.in-Some-2.block in
+    let found = subst (λ (found : Option (List ℕ)). IsKnownBlock c.asks-asked.result c.self.inside.seen.entries c.in-Some.wanted.cid found) c.in-Some-2.is c.in_ok-block.ensures in
+    let known = subst (λ (source : Source). IsKnownHere c.self.inside.opener.left.query sections section source) (sym c.source_of.ensures)
+    (known_here c.asks-asked.result c.self.inside.opener.left.query c.self.inside.seen.entries sections c.in-Some.wanted.cid c.in-Some-2.block (sym c.asks-asked.ensures) on.keeps.remembers found) in
+    let bytes = subst (λ (block : List ℕ). All (λ b. b < 256) block) c.as_slice.ensures c.are_bytes.ensures in
+    led_turned c.verified_sections.ensures c.readings.ensures.computed _ sections written on told.at told.is section c.source_of.result (sym told.cid_is) known bytes
+    c.place.new.self c.in_ok-place.ensures.same (c.in_ok-place.ensures.terminal told.at told.is)
