@@ -113,9 +113,9 @@ module _ (v : VerifiedLaws) (q : QueryParts) (sections : List Section) (given : 
   on_way (segment_want i position name path depth) kind t on here verified =
       let w = segment_want i position name path depth in (
         v.up_to_next (block_query q) (taken_as q sections section) _ (tasks_of q w section kind (links_of kind) ++ [])
-        (v.taken (block_query q) sections given w section kind [] known refl here verified),
+            (v.taken (block_query q) sections given w section kind [] known refl here verified),
         step_on_path i (path_want (i + 1) path (depth + 1)) (segment_want i (position_below position name) name path (depth + 1)) (step_of kind (length (passed position)) name) (links_of kind)
-        (want_on_path (i + 1) path (depth + 1)) tt,
+            (want_on_path (i + 1) path (depth + 1)) tt,
       )
   on_way (terminal_want depth) kind t on here verified = absurd (cc t)
   on_way (node_want reach position depth) kind t on here verified = absurd on

@@ -1,5 +1,5 @@
 -- Three pieces that are gathered before they are put.
-use Rattle.std.proofs.Common.{Err, List, Ok, [], append_assoc, sym, subst, ℕ, ◌++◌, ◌≡◌}
+use Rattle.std.proofs.Common.{Err, List, Ok, [], append_assoc, subst, ℕ, ◌++◌, ◌≡◌}
 use Rattle.std.specs.Prelude.{Result, ⊤}
 use Rattle.std.specs.Result.{OnErr, OnOk}
 use Rattle.tg_faults.specs.declared.calls.Failed.{Failed}

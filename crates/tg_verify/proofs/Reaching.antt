@@ -4,7 +4,7 @@ use Rattle.tg_cid.specs.Cid.{CidParts}
 use Rattle.tg_model.specs.LimitNumbers.{LimitNumbers}
 use Rattle.tg_model.specs.Queries.{QueryParts}
 use Rattle.tg_traversal.specs.Left.{LeftState, WantedAt, tasks_left, wanted_tasks}
-use Rattle.tg_model_laws.specs.Tasks.{Miss, Task, open_block, stop_at}
+use Rattle.tg_model_laws.specs.Tasks.{Miss, Task, stop_at}
 use Rattle.tg_verify.specs.Reached.{IsOpenedAt, IsReached, Leads, LeadsOn, Stage, first}
 
 module _ (q : QueryParts) (limits : LimitNumbers) where

@@ -1,13 +1,12 @@
 -- What sections lead to is so in each sound DAG with the query's root.
-use Rattle.std.proofs.Common.{[], Err, List, None, Ok, Option, Some, ap, inl, inr, length, refl, subst, suc, sym, zero, ℕ, ◌+◌, ◌++◌, ◌∙◌, ◌∷◌, ◌≡◌, ◌≢◌}
+use Rattle.std.proofs.Common.{[], Err, List, None, Ok, Option, Some, ap, inl, inr, length, refl, subst, suc, sym, zero, ℕ, ◌+◌, ◌++◌, ◌∙◌, ◌∷◌, ◌≡◌}
 use Rattle.std.specs.Prelude.{IfOk, IfSome, Result, ⊤}
 use Rattle.tg_cid.specs.Cid.{CidParts}
-use Rattle.tg_model.specs.Computed.{read}
-use Rattle.tg_model.specs.Dag.{AreWhole, Children, Dag, IsWhole, Section, bare, no_child, node, root_cid, unopened, with_child}
+use Rattle.tg_model.specs.Dag.{AreWhole, Children, Dag, IsWhole, Section, bare, no_child, node, unopened, with_child}
 use Rattle.tg_model.specs.Ends.{EndsAlike}
 use Rattle.tg_model.specs.Lookup.{LookupEnd, lookup_path}
 use Rattle.tg_model.specs.Lookup as lookups
-use Rattle.tg_model.specs.PathWalk.{PathEnd, PathWalk, Spot, StepTo, absent, child_below, not_folder_here, not_reached, path_walk, spot_at, step_of, terminal, to_child, to_entry, unless_misfit, walk_child, walk_from, walk_step, whole}
+use Rattle.tg_model.specs.PathWalk.{PathEnd, PathWalk, Spot, StepTo, absent, not_folder_here, not_reached, path_walk, spot_at, step_of, terminal, to_child, to_entry, unless_misfit, walk_child, walk_from, walk_step, whole}
 use Rattle.tg_model.specs.Queries.{QueryParts}
 use Rattle.tg_model.specs.Reading.{Reads}
 use Rattle.tg_model.specs.Sound.{AreCheckedAt, IsCheckedAt, IsSound, Position, passed, position_fault, positions, top}
@@ -25,7 +24,7 @@ use Rattle.tg_verify.proofs.Fronts.{pair_more}
 use Rattle.tg_verify.proofs.Misread.{Computes}
 use Rattle.tg_verify.specs.History.{IsProgress, StandsAfter}
 use Rattle.tg_verify.specs.State.{VerifierState}
-use Rattle.tg_verify.specs.Taken.{IsGoing, IsWrittenAt}
+use Rattle.tg_verify.specs.Taken.{IsWrittenAt}
 use Rattle.tg_verify.specs.Terminals.{IsTerminalIn, IsTerminalOf, IsTerminalTold, IsToldIn, IsToldThen, LeadsTo, TerminalsTold, block_query, terminal_kind}
 use Rattle.tg_verify.specs.declared.fault.Refusal.{Refusal}
 use Rattle.tg_verify.specs.declared.terminal.Terminal.{Terminal}

@@ -1,5 +1,5 @@
 -- What was opened on the way, one block after another, within the limits.
-use Rattle.std.specs.Prelude.{List, Option, [], true, ℕ, ◌++◌, ◌∷◌, ◌≡◌, ◌≤◌, length}
+use Rattle.std.specs.Prelude.{List, Option, [], true, ◌++◌, ◌∷◌, ◌≡◌, ◌≤◌, length}
 use Rattle.tg_cid.specs.Cid.{CidParts}
 use Rattle.tg_model.specs.Dag.{Section}
 use Rattle.tg_model.specs.LimitNumbers.{LimitNumbers}

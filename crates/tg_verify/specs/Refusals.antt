@@ -1,5 +1,5 @@
 -- Why a verifier refuses a section, or that no more come.
-use Rattle.std.specs.Prelude.{All, Err, List, None, Ok, Option, Some, [], false, length, true, ⊤, ℕ, ◌++◌, ◌<◌, ◌∷◌, ◌≡◌, ◌≢◌, ◌≤◌}
+use Rattle.std.specs.Prelude.{All, Err, List, Ok, Option, Some, [], false, length, true, ⊤, ℕ, ◌++◌, ◌<◌, ◌∷◌, ◌≡◌, ◌≢◌, ◌≤◌}
 use Rattle.std.specs.Prelude.{◌⊎◌}
 use Rattle.tg_cid.specs.Cid.{CidParts}
 use Rattle.tg_cid.specs.Names.{Names}
@@ -8,7 +8,7 @@ use Rattle.tg_traversal.specs.PlaceTexts.{IsSizeFault}
 use Rattle.tg_traversal.specs.SaidFaults.{fault_said}
 use Rattle.tg_traversal.specs.declared.text.SizeFault.{SizeFault}
 use Rattle.tg_model.specs.Computed.{read}
-use Rattle.tg_model.specs.Dag.{Section, links_of}
+use Rattle.tg_model.specs.Dag.{Section}
 use Rattle.tg_model.specs.LimitNumbers.{LimitNumbers, number_of}
 use Rattle.tg_model.specs.Queries.{QueryParts}
 use Rattle.tg_model.specs.declared.fault.BlockFault.{BlockFault}

@@ -1,8 +1,7 @@
 -- What was taken of a query's sections, and what is written for them.
-use Rattle.std.specs.Prelude.{All, Bool, Contains, List, None, Option, Some, [], false, map, true, ⊤, ℕ, ◌++◌, ◌<◌, ◌∷◌}
+use Rattle.std.specs.Prelude.{Bool, Contains, List, None, Option, Some, [], false, map, true, ⊤, ℕ, ◌++◌, ◌∷◌}
 use Rattle.std.specs.Prelude.{◌≡◌, ◌≢◌}
 use Rattle.tg_cid.specs.Cid.{CidParts}
-use Rattle.tg_cid.specs.Names.{Names}
 use Rattle.tg_traversal.specs.Left.{WantedAt, tasks_left}
 use Rattle.tg_model.specs.Dag.{Section}
 use Rattle.tg_model.specs.Queries.{QueryParts}

@@ -9,7 +9,7 @@ use tg_model::PlacedKind;
 /// What a query's path leads to, by what its block is read as.
 ///
 /// UnixFS specification, node types; Path Gateway specification, Path Resolution.
-#[derive(Clone, Copy, Debug, PartialEq, Eq)]
+#[derive(Clone, Copy, PartialEq, Eq)]
 pub enum Terminal {
     /// A file: a raw block, or UnixFS data of type Raw or File.
     File,

@@ -1,4 +1,4 @@
-use Rattle.std.proofs.Common.{[], Err, IfErr, List, MatchResult, None, Ok, Option, Some, ap, append_assoc, subst, sym, ℕ, ◌++◌, ◌∙◌, ◌∷◌, ◌≡◌}
+use Rattle.std.proofs.Common.{[], Err, IfErr, List, MatchResult, None, Option, Some, ap, append_assoc, subst, sym, ℕ, ◌++◌, ◌∙◌, ◌∷◌, ◌≡◌}
 use Rattle.std.proofs.lemmas.Result.{err_from_is_err_and}
 use Rattle.std.specs.Prelude.{Result, ⊤}
 use Rattle.tg_model.specs.Dag.{Section}
