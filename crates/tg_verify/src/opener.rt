@@ -170,7 +170,8 @@ impl Opener {
         }
     }
 
-    /// Tells what the block at the wanted place says itself, and opens it there. The error is want of memory.
+    /// Tells what the block at the wanted place says itself, and opens it there; where it is the terminal's and is read,
+    /// what the path leads to is told from then on. The error is want of memory.
     fn open<'a>(
         &mut self,
         found: Option<PlacedKind>,
