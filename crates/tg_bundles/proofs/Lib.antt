@@ -1,3 +1,6 @@
 mod Bundles
+mod Escapes
 mod Members
+mod Proper
+mod ReadBack
 mod Shown

@@ -1,7 +1,9 @@
-//! The records of bundles, as laws. Each is the contract of a function that does nothing.
+//! The records of bundles, and how a bundle is read back, as laws. Each is the contract of a function that does nothing.
 #![tactic(auto)]
 
 ghost use Rattle.tg_bundles.specs.Laws.{AnswersHaveRecords, BundlesHaveRecords, RecordsAreTree};
+ghost use Rattle.tg_bundles.specs.Reading.{BundlesDiffer, FrontsAreFiles, FrontsAreRecords, PathsDiffer};
+ghost use Rattle.tg_bundles.specs.Reading.{EscapedDiffer, EscapedIsPlain, RecordsAreProper, RecordsHaveNames};
 
 /// The bundle of a sound DAG is the text of its records.
 ///
@@ -19,3 +21,32 @@ pub fn bundle_records()
 pub fn shown_records()
     ensures { RecordsAreTree }
 {}
+
+/// What a percent-decoder needs: different names are escaped as different texts, which have neither `/` nor a line feed.
+///
+/// RFC 3986, sections 2.1 and 2.3.
+pub fn decoded()
+    ensures names { EscapedDiffer }
+    ensures plain { EscapedIsPlain }
+{}
+
+/// A bundle is read back in one way, and so is each front of it, whether that ends at a record's end, within a first line, or within the
+/// bytes of a file: of records that are proper, whose sizes have at most 64 digits.
+///
+/// Bundles are this project's own.
+pub fn read_back()
+    ensures paths { PathsDiffer }
+    ensures lines { FrontsAreRecords }
+    ensures contents { FrontsAreFiles }
+    ensures whole { BundlesDiffer }
+{}
+
+/// No name in the records of a sound DAG is empty, and they are proper where the length of each block has at most 64 digits.
+///
+/// UnixFS specification, Directory and HAMTDirectory.
+pub fn proper_records()
+    ensures names { RecordsHaveNames }
+    ensures proper { RecordsAreProper }
+{
+    tg_model_laws::file_sizes();
+}
