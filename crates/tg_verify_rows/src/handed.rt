@@ -8,7 +8,7 @@ use tg_model::{Limits, Query};
 use tg_oracle::StoredBlock;
 use tg_rows::Answer;
 use tg_streams::MemSink;
-use tg_verify::{Progress, Refusal, Verifier};
+use tg_verify::{Progress, Refusal, Terminal, Verifier};
 
 /// A verifier, and the sink into which it puts.
 #[derive(Drop)]
@@ -145,4 +145,35 @@ fn say_refused(
     }
     say_refusal(dag, refusal, answer);
     say_put(session.out.held(), answer);
+}
+
+/// Says what a verifier tells of where the path leads: behind the start, behind each of the blocks that come, whatever it answers to
+/// them, and behind the end.
+pub fn answer_terminals(alloc: Global, dag: &Dag, given: &Given, answer: &mut Answer) {
+    let Some(query) = given.query(dag.root()) else {
+        return answer.text("no query");
+    };
+    let Ok(mut session) = Session::new(alloc, &query) else {
+        return answer.lack();
+    };
+    let _ = session.verifier.start(&mut session.out);
+    say_terminal(&session.verifier, answer);
+    for number in given.takes.as_slice() {
+        match session.hand(alloc, dag.blocks.as_slice(), *number) {
+            Some(_) => say_terminal(&session.verifier, answer),
+            None => return answer.text("no block"),
+        }
+    }
+    let _ = session.verifier.finish();
+    say_terminal(&session.verifier, answer);
+}
+
+/// Says what a verifier tells of where the path leads.
+fn say_terminal(verifier: &Verifier, answer: &mut Answer) {
+    answer.text(match verifier.terminal() {
+        None => "none",
+        Some(Terminal::File) => "file",
+        Some(Terminal::Directory) => "directory",
+        Some(Terminal::Symlink) => "symlink",
+    });
 }

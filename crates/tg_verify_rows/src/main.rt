@@ -78,6 +78,7 @@ fn answer_asked(alloc: Global, dag: &Dag, kind: &str, given: &Given, answer: &mu
         "verify" => verified::answer(alloc, dag, given, answer),
         "absence" => absences::answer(alloc, dag, given, answer),
         "handed" => handed::answer(alloc, dag, given, answer),
+        "leads" => handed::answer_terminals(alloc, dag, given, answer),
         "evaluated" => evaluated::answer(alloc, dag, given, answer),
         "changes" => changes::answer(alloc, dag, given, answer),
         "car" => cars::answer(alloc, dag, given, answer),
