@@ -1,0 +1,4 @@
+mod LineTexts
+mod Paths
+mod Sizes
+mod Stages

@@ -1,0 +1,4 @@
+pub mod Lines
+pub mod Extracts
+pub mod Faults
+pub mod Laws

@@ -1,0 +1,395 @@
+//! A text that is made into a tree as it comes.
+ghost use Rattle.std.specs.Prelude.{◌≡◌, ◌≢◌, ◌<◌, ◌≤◌, ◌++◌, ◌↔◌, [], IfOk, IfSome, IsErr, IsTrue, None, OnErr, OnOk};
+ghost use Rattle.std.specs.Prelude.{All, IfErr, IfNone, IsSomeAnd, List as Items, MatchOption, Some, length, option_copied, take, ℕ};
+ghost use Rattle.tg_bytes.specs.Ascii.{line_feed};
+ghost use Rattle.tg_extract.specs.Extracts.{EndsLine, Extracts, HasExtractCause, HasLineCause, HasMadeLine, HasMadeText, HasMakeCause, IsAtStage, IsFront};
+ghost use Rattle.tg_extract.specs.Extracts.{IsOfBundle, IsWhole, PutHeld, SameExtract, StopsAt, StopsIn, extract_joins, extract_rests, extract_sink, text_of};
+ghost use Rattle.tg_extract.specs.declared.extract.Stage.{Stage};
+ghost use Rattle.tg_extract.specs.declared.fault.ExtractFault.{ExtractFault};
+ghost use Rattle.tg_new_tree.specs.NewTrees.{AddedTo, BegunAt, NewTreeFailed, NewTreeQuiet, new_tree_step};
+ghost use Rattle.tg_streams.specs.Streams.{OutputQuiet, OutputRose, Put, Unput, into};
+ghost use Rattle.tg_faults.specs.Faults.{Rose};
+
+use crate::fault::ExtractFault;
+use crate::lines::{Line, parse_line};
+use std::alloc::{AllocError, Global};
+use std::marker::Model;
+use std::mem::replace;
+use tg_bytes::{Bytes, LINE_FEED, List};
+use tg_faults::Failed;
+use tg_new_tree::NewTree;
+use tg_query::cut_first;
+use tg_streams::Sink;
+
+/// How far a text was read.
+#[derive(Drop)]
+pub(crate) enum Stage {
+    /// What it is of isn't told yet: all that came.
+    Waiting(Bytes),
+    /// It is one file's bytes.
+    File,
+    /// The first line of a record is to end: what came of it.
+    Line(Bytes),
+    /// So many bytes of a file are to come, and behind them a line feed.
+    Content(u64),
+}
+
+/// A sink that makes a tree of the text of an answer as it comes: of a directory's bundle its folders and files, each as soon as its record
+/// begins, and of any other text one file. Which of the two the text is isn't seen from it, since a file may hold what looks like a bundle,
+/// and is to be told by `read_bundle` or `read_file`; until then the text is held. A symbolic link isn't made, and stops it.
+///
+/// Contracts see the text that was read, which is just what was made says: `held` is that text. Beside it a file's bytes are held in memory
+/// never, and of a record its first line alone.
+#[derive(Drop)]
+pub struct Extract<T: NewTree> {
+    alloc: Global,
+    tree: T,
+    stage: Stage,
+    refused: Option<ExtractFault>,
+    failed: u64,
+}
+
+impl<T: NewTree> Model for Extract<T> {
+    ghost use Rattle.tg_extract.specs.Extracts.{ExtractState, IsAtStage};
+
+    ghost Value = { ExtractState T };
+
+    ghost view = { λ e. record { tree = e.tree; stage = e.stage; refused = e.refused; faults = e.failed } };
+
+    ghost invariant = { λ e. IsAtStage (T.new_tree.made e.tree) e.stage };
+}
+
+impl<T: NewTree + Drop> Extract<T> {
+    /// An extract into this tree, which is to be begun.
+    pub fn new(alloc: Global, tree: T) -> Extract<T>
+        requires { T.new_tree.made tree ≡ [] }
+        ensures tree { result.tree ≡ tree }
+        ensures text { text_of T.new_tree result ≡ [] }
+        ensures refused { result.refused ≡ None }
+        ensures faults { result.faults ≡ 0 }
+    {
+        Extract {
+            alloc,
+            tree,
+            stage: Stage::Waiting(Bytes::new(alloc)),
+            refused: None,
+            failed: 0,
+        }
+    }
+
+    /// From now on what comes is made at a path of the system, at which nothing stands, and nothing came yet. The error is a fault of the
+    /// tree, with which nothing changes.
+    pub fn begin(&mut self, path: &str) -> Result<(), Failed>
+        ensures at { OnOk result (BegunAt path.now (new_tree_step T.new_tree self.old.tree self.new.tree)) }
+        ensures text { OnOk result (text_of T.new_tree self.new ≡ []) }
+        ensures refused { OnOk result (self.new.refused ≡ None) }
+        ensures faults { self.new.faults ≡ self.old.faults }
+        ensures quiet { OnOk result (NewTreeQuiet (new_tree_step T.new_tree self.old.tree self.new.tree)) }
+        ensures err { OnErr result (NewTreeFailed (new_tree_step T.new_tree self.old.tree self.new.tree)) }
+        ensures err_same { OnErr result ((self.new.stage ≡ self.old.stage) × (self.new.refused ≡ self.old.refused)) }
+    {
+        self.tree.begin(path)?;
+        self.stage = Stage::Waiting(Bytes::new(self.alloc));
+        self.refused = None;
+        Ok(())
+    }
+
+    /// The tree. What was made in it, and how far the text was read, fit together.
+    pub fn tree(&self) -> &T
+        ensures tree { result.now ≡ self.now.tree }
+        ensures at { IsAtStage (T.new_tree.made self.now.tree) self.now.stage }
+    {
+        &self.tree
+    }
+
+    /// Why it stopped.
+    pub fn refusal(&self) -> Option<&ExtractFault>
+        ensures { option_copied result ≡ self.now.refused }
+    {
+        self.refused.as_ref()
+    }
+
+    /// Whether all that was read was made: the text was told to be one file's, or is a bundle in which no record is begun and not ended.
+    pub fn is_whole(&self) -> bool
+        ensures whole { IsTrue result ↔ IsWhole self.now.stage }
+        ensures at { IsAtStage (T.new_tree.made self.now.tree) self.now.stage }
+    {
+        match &self.stage {
+            Stage::File => true,
+            Stage::Line(line) => line.as_slice().is_empty(),
+            Stage::Waiting(_) | Stage::Content(_) => false,
+        }
+    }
+}
+
+impl<T: NewTree + Drop> Sink for Extract<T> {
+    ghost sink = { record {
+      held = λ e. Some (text_of T.new_tree e);
+      faults = λ e. e.faults;
+      calls = λ _. None;
+      wrote = λ a b bytes. Extracts T.new_tree a b bytes;
+    } };
+
+    ghost rests = { λ e. extract_rests T.new_tree e };
+
+    ghost joins = { λ a b c u v. extract_joins T.new_tree a b c u v };
+
+    /// Reads up to the end of a first line, of a file's bytes, or of the bytes that came. It fails once and for all where the tree failed,
+    /// where a symbolic link stands, where no bundle goes on so, and for want of memory; `refusal` tells which.
+    fn put(&mut self, bytes: &[u8]) -> Result<usize, Failed>
+        ensures within { IfOk result (λ n. n ≤ length bytes.now) }
+        ensures moves { IfOk result (λ n. 0 < length bytes.now → 0 < n) }
+        ensures put { IfOk result (λ n. Put (take n bytes.now) (into (extract_sink T.new_tree) self.old self.new)) }
+        ensures quiet { OnOk result (OutputQuiet (into (extract_sink T.new_tree) self.old self.new)) }
+        ensures err_unput { OnErr result (Unput (into (extract_sink T.new_tree) self.old self.new)) }
+        ensures err_rose { OnErr result (OutputRose (into (extract_sink T.new_tree) self.old self.new)) }
+        ensures err_counted { OnErr result (self.old.faults ≤ self.new.faults) }
+
+        // What stands behind an error, and when one comes.
+        ensures ok { OnOk result (self.new.refused ≡ None) }
+        ensures cause { self.old.refused ≡ None → OnErr result (IsSomeAnd self.new.refused
+            (HasExtractCause (T.new_tree.made self.old.tree) (text_of T.new_tree self.old) bytes.now (new_tree_step T.new_tree self.old.tree self.new.tree))) }
+        ensures err_same { OnErr result ((T.new_tree.made self.new.tree ≡ T.new_tree.made self.old.tree)
+            × (self.new.stage ≡ self.old.stage)) }
+        ensures again { (fault : ExtractFault) → self.old.refused ≡ Some fault
+            → IsErr result × (self.new ≡ record self.old { faults = self.new.faults }) }
+    {
+        if self.refused.is_some() {
+            return Err(self.fault());
+        }
+        match self.read(bytes) {
+            Ok(n) => Ok(n),
+            Err(fault) => Err(self.stop(fault)),
+        }
+    }
+}
+
+impl<T: NewTree + Drop> Extract<T> {
+    /// Says that the text is a directory's bundle, where it wasn't told yet what it is of: what was held is read, and what comes is read at
+    /// once. The error is one of `put`, behind a front of what was held.
+    pub fn read_bundle(&mut self) -> Result<(), Failed>
+        ensures text { OnOk result (text_of T.new_tree self.new ≡ text_of T.new_tree self.old) }
+        ensures place { T.new_tree.place self.new.tree ≡ T.new_tree.place self.old.tree }
+        ensures told { (held : Items ℕ) → self.old.stage ≡ Stage.Waiting held → OnOk result (IsOfBundle self.new.stage) }
+        ensures front { OnErr result (IsFront (text_of T.new_tree self.new) (text_of T.new_tree self.old)) }
+        ensures err_refused { OnErr result (self.new.refused ≢ None) }
+        ensures cause { (held : Items ℕ) → self.old.stage ≡ Stage.Waiting held → self.old.refused ≡ None
+            → OnErr result (StopsIn T.new_tree self.old self.new held) }
+        ensures rose { OnErr result (Rose self.old.faults self.new.faults) }
+        ensures quiet { OnOk result (self.new.faults ≡ self.old.faults) }
+    {
+        let Some(held) = self.take_held() else {
+            return Ok(());
+        };
+        self.stage = Stage::Line(Bytes::new(self.alloc));
+        self.put_held(held.as_slice())
+    }
+
+    /// Says that the text is one file's bytes, where it wasn't told yet what it is of: the file is made, what was held goes into it, and what
+    /// comes does at once. The error is one of `put`, behind a front of what was held.
+    pub fn read_file(&mut self) -> Result<(), Failed>
+        ensures text { OnOk result (text_of T.new_tree self.new ≡ text_of T.new_tree self.old) }
+        ensures place { T.new_tree.place self.new.tree ≡ T.new_tree.place self.old.tree }
+        ensures told { (held : Items ℕ) → self.old.stage ≡ Stage.Waiting held → OnOk result (self.new.stage ≡ Stage.File) }
+        ensures front { OnErr result (IsFront (text_of T.new_tree self.new) (text_of T.new_tree self.old)) }
+        ensures err_refused { OnErr result (self.new.refused ≢ None) }
+        ensures cause { (held : Items ℕ) → self.old.stage ≡ Stage.Waiting held → self.old.refused ≡ None
+            → OnErr result (StopsIn T.new_tree self.old self.new held) }
+        ensures rose { OnErr result (Rose self.old.faults self.new.faults) }
+        ensures quiet { OnOk result (self.new.faults ≡ self.old.faults) }
+    {
+        let Some(held) = self.take_held() else {
+            return Ok(());
+        };
+        if let Err(Failed) = self.tree.make_file(&[]) {
+            return Err(self.stop(ExtractFault::Tree));
+        }
+        self.stage = Stage::File;
+        self.put_held(held.as_slice())
+    }
+
+    /// Says that the text is a symbolic link's target: nothing is made, and nothing is read any more.
+    pub fn read_link(&mut self) -> Failed
+        ensures same { (self.new.tree ≡ self.old.tree) × (self.new.stage ≡ self.old.stage) }
+        ensures refused { IfNone self.old.refused (self.new.refused ≡ Some (ExtractFault.NotPlain [])) }
+        ensures stays { (fault : ExtractFault) → self.old.refused ≡ Some fault → self.new.refused ≡ Some fault }
+        ensures rose { Rose self.old.faults self.new.faults }
+    {
+        if self.refused.is_some() {
+            return self.fault();
+        }
+        self.stop(ExtractFault::NotPlain(List::new(self.alloc)))
+    }
+
+    /// Puts all of these bytes. The error is one of `put`, behind a front of them.
+    fn put_held(&mut self, bytes: &[u8]) -> Result<(), Failed>
+        ensures put { OnOk result (Extracts T.new_tree self.old self.new bytes.now) }
+        ensures quiet { OnOk result (self.new.faults ≡ self.old.faults) }
+        ensures front { OnErr result (PutHeld T.new_tree self.old self.new bytes.now) }
+        ensures err_refused { OnErr result (self.new.refused ≢ None) }
+        ensures cause { self.old.refused ≡ None → OnErr result (StopsAt T.new_tree self.old self.new bytes.now) }
+        ensures rose { OnErr result (Rose self.old.faults self.new.faults) }
+    {
+        let mut at = 0;
+        while at < bytes.len() {
+            at += self.put(&bytes[at..])?;
+        }
+        Ok(())
+    }
+
+    /// Counts a call that failed.
+    fn fault(&mut self) -> Failed
+        ensures rest { self.new ≡ record self.old { faults = self.new.faults } }
+        ensures rose { Rose self.old.faults self.new.faults }
+        ensures counted { self.old.faults ≤ self.new.faults }
+    {
+        self.failed = self.failed.saturating_add(1);
+        Failed
+    }
+
+    /// Stops for this fault, and counts a call that failed.
+    fn stop(&mut self, fault: ExtractFault) -> Failed
+        ensures rest { self.new ≡ record self.old { faults = self.new.faults; refused = Some fault } }
+        ensures rose { Rose self.old.faults self.new.faults }
+        ensures counted { self.old.faults ≤ self.new.faults }
+    {
+        self.refused = Some(fault);
+        self.fault()
+    }
+
+    /// What is held where it isn't told yet what the text is of; then nothing is.
+    fn take_held(&mut self) -> Option<Bytes>
+        ensures held { (held : Items ℕ) → self.old.stage ≡ Stage.Waiting held
+            → (result ≡ Some held) × (self.new ≡ record self.old { stage = Stage.Waiting [] }) }
+        ensures none { IfNone result (self.new ≡ self.old) }
+        ensures some { IfSome result (λ held. self.old.stage ≡ Stage.Waiting held) }
+    {
+        match &mut self.stage {
+            Stage::Waiting(held) => Some(replace(held, Bytes::new(self.alloc))),
+            Stage::File | Stage::Line(_) | Stage::Content(_) => None,
+        }
+    }
+
+    /// Reads a front of the bytes, where nothing stopped it.
+    fn read(&mut self, bytes: &[u8]) -> Result<usize, ExtractFault>
+        requires { self.old.refused ≡ None }
+        ensures within { IfOk result (λ n. n ≤ length bytes.now) }
+        ensures moves { IfOk result (λ n. 0 < length bytes.now → 0 < n) }
+        ensures read { IfOk result (λ n. Extracts T.new_tree self.old self.new (take n bytes.now)) }
+        ensures rest { (self.new.refused ≡ None) × (self.new.faults ≡ self.old.faults) }
+        ensures err_same { OnErr result (SameExtract T.new_tree self.old self.new) }
+        ensures cause { IfErr result (HasExtractCause (T.new_tree.made self.old.tree) (text_of T.new_tree self.old) bytes.now
+            (new_tree_step T.new_tree self.old.tree self.new.tree)) }
+    {
+        match &mut self.stage {
+            Stage::Waiting(held) => {
+                held.push_all(bytes)?;
+                Ok(bytes.len())
+            }
+            Stage::File => Ok(self.tree.add(bytes)?),
+            Stage::Line(line) => match line_end(bytes) {
+                None => {
+                    line.push_all(bytes)?;
+                    Ok(bytes.len())
+                }
+                Some(front) => {
+                    tg_bundles::decoded();
+                    tg_bundles::read_back();
+                    self.stage = end_line(self.alloc, &mut self.tree, line.as_slice(), front)?;
+                    Ok(front.len() + 1)
+                }
+            },
+            Stage::Content(0) => match bytes.first() {
+                None => Ok(0),
+                Some(&LINE_FEED) => {
+                    self.stage = Stage::Line(Bytes::new(self.alloc));
+                    Ok(1)
+                }
+                Some(_) => {
+                    tg_bundles::read_back();
+                    Err(ExtractFault::BadText)
+                }
+            },
+            Stage::Content(left) => {
+                let n = add_most(&mut self.tree, bytes, *left)?;
+                *left -= n as u64;
+                Ok(n)
+            }
+        }
+    }
+}
+
+/// What stands before the first end of a line, where there is one.
+fn line_end(bytes: &[u8]) -> Option<&[u8]>
+    ensures { MatchOption result (All (λ b. b ≢ line_feed) bytes.now) (λ front. EndsLine bytes.now front.now) }
+{
+    tg_query::path_laws::cuts_read();
+    let (front, rest) = cut_first(bytes, LINE_FEED);
+    match rest {
+        Some(_) => Some(front),
+        None => None,
+    }
+}
+
+/// Adds a front of the bytes to the file that was made last, at most so many and at least one where there is one. The error is a fault of the
+/// tree.
+fn add_most<T: NewTree>(tree: &mut T, bytes: &[u8], most: u64) -> Result<usize, Failed>
+    requires { 0 < most }
+    ensures within { IfOk result (λ n. (n ≤ length bytes.now) × (n ≤ most)) }
+    ensures moves { IfOk result (λ n. 0 < length bytes.now → 0 < n) }
+    ensures added { IfOk result (λ n. AddedTo (take n bytes.now) (new_tree_step T.new_tree tree.old tree.new)) }
+    ensures quiet { OnOk result (NewTreeQuiet (new_tree_step T.new_tree tree.old tree.new)) }
+    ensures err { OnErr result (NewTreeFailed (new_tree_step T.new_tree tree.old tree.new)) }
+{
+    let most = bytes.len().min(most as usize);
+    tree.add(&bytes[..most])
+}
+
+/// Makes what the first line of a record says, of which one part came before the other, and tells what is to come then. Errors: `BadText`
+/// where it isn't such a line; those of `make`; `OutOfMemory`.
+fn end_line<T: NewTree>(
+    alloc: Global,
+    tree: &mut T,
+    line: &[u8],
+    front: &[u8],
+) -> Result<Stage, ExtractFault>
+    ensures made { IfOk result (HasMadeText (line.now ++ front.now) (T.new_tree.made tree.old) (T.new_tree.made tree.new)) }
+    ensures place { T.new_tree.place tree.new ≡ T.new_tree.place tree.old }
+    ensures quiet { OnOk result (NewTreeQuiet (new_tree_step T.new_tree tree.old tree.new)) }
+    ensures err_made { OnErr result (T.new_tree.made tree.new ≡ T.new_tree.made tree.old) }
+    ensures err { IfErr result (HasLineCause (line.now ++ front.now) (new_tree_step T.new_tree tree.old tree.new)) }
+{
+    let text = joined(alloc, line, front)?;
+    let line = parse_line(alloc, text.as_slice())?;
+    make(alloc, tree, line)
+}
+
+/// Makes what the first line of a record says, and tells what is to come then. Errors: `Tree`, and `NotPlain` of a symbolic link.
+fn make<T: NewTree>(alloc: Global, tree: &mut T, line: Line) -> Result<Stage, ExtractFault>
+    ensures made { IfOk result (HasMadeLine line (T.new_tree.made tree.old) (T.new_tree.made tree.new)) }
+    ensures place { T.new_tree.place tree.new ≡ T.new_tree.place tree.old }
+    ensures quiet { OnOk result (NewTreeQuiet (new_tree_step T.new_tree tree.old tree.new)) }
+    ensures err_made { OnErr result (T.new_tree.made tree.new ≡ T.new_tree.made tree.old) }
+    ensures err { IfErr result (HasMakeCause line (new_tree_step T.new_tree tree.old tree.new)) }
+{
+    match line {
+        Line::Folder(path) => {
+            tree.make_folder(path.as_slice())?;
+            Ok(Stage::Line(Bytes::new(alloc)))
+        }
+        Line::File(size, path) => {
+            tree.make_file(path.as_slice())?;
+            Ok(Stage::Content(size))
+        }
+        Line::Link(_, path) => Err(ExtractFault::NotPlain(path)),
+    }
+}
+
+/// Bytes, and more bytes behind them. The error is want of memory.
+fn joined(alloc: Global, bytes: &[u8], more: &[u8]) -> Result<Bytes, AllocError>
+    ensures { IfOk result (λ both. both ≡ bytes.now ++ more.now) }
+{
+    let mut both = Bytes::of(alloc, bytes)?;
+    both.push_all(more)?;
+    Ok(both)
+}

@@ -1,0 +1,11 @@
+//! The text of an answer that is made into a tree of files as it comes.
+#![tactic(auto)]
+
+mod extract;
+mod fault;
+mod laws;
+mod lines;
+
+pub use extract::Extract;
+pub use fault::ExtractFault;
+pub use laws::made_records;
