@@ -1,5 +1,5 @@
 -- A whole piece, step by step.
-use Rattle.std.proofs.Common.{◌≡◌, ℕ, List, [], ◌∷◌, ◌++◌, ◌∙◌, Err, None, Ok, Option, Some, ap, refl, sym, subst, append-nil, append_assoc, take}
+use Rattle.std.proofs.Common.{◌≡◌, ℕ, List, [], ◌∷◌, ◌++◌, ◌∙◌, Err, None, Ok, Option, Some, ap, sym, subst, append-nil, append_assoc, take}
 use Rattle.std.proofs.lemmas.List.Elements.{All-append}
 use Rattle.std.specs.Prelude.{MatchResult, Result, ⊤}
 use Rattle.tg_faults.specs.Faults.{Rose}

@@ -11,7 +11,7 @@ use Rattle.tg_model.specs.Dag.{Section}
 use Rattle.tg_model.specs.LimitNumbers.{LimitNumbers}
 use Rattle.tg_model.specs.Queries.{QueryParts}
 use Rattle.tg_model.specs.declared.limits.LimitKind.TheVariants as kinds
-use Rattle.tg_streams.specs.Streams.{Ended, Input, Output, OutputQuiet, Put, SinkMeaning, Took, into}
+use Rattle.tg_streams.specs.Streams.{Ended, Input, Output, OutputQuiet, OutputRose, Put, SinkMeaning, Took, into}
 use Rattle.tg_varint.specs.Computed.{varint}
 use Rattle.tg_varint.specs.Laws.{SpellingLaws}
 use Rattle.tg_verify.specs.Laws.{AnswerLaws}
@@ -48,18 +48,23 @@ in_header varints =
       };
     }
 
+goes_on_first : SpellingLaws → (limit : ℕ) → GoesOn limit [] []
+goes_on_first varints limit = inl (record { nothing_given = refl; inside = in_header varints })
+
+pub received_first : SpellingLaws → (limit : ℕ) → HasReceived limit [] []
+received_first varints limit = record { given = []; goes_on = goes_on_first varints limit; sections_are = refl }
+
 -- no memory was found before the first byte
 pub none_heard : SpellingLaws → AnswerLaws → (q : QueryParts) (limits : LimitNumbers) (input : Input) (out : Output) → Took [] input → Put [] out → IsVerified q limits input out (Err faults.OutOfMemory)
 none_heard varints laws q limits input out took put =
-    let on : GoesOn limits.block [] [] = inl (record { nothing_given = refl; inside = in_header varints }) in
-    let before : IsBeforeHeader limits [] [] [] = record { goes_on = on; no_section = refl; no_text = refl } in
+    let before : IsBeforeHeader limits [] [] [] = record { goes_on = goes_on_first varints limits.block; no_section = refl; no_text = refl } in
     as_verified q limits input out faults.OutOfMemory (λ heard sections. tt) (record {
       heard = [];
       unheard = [];
       took = took;
       within = omega arith;
       sections = [];
-      received = record { given = []; goes_on = on; sections_are = refl };
+      received = received_first varints limits.block;
       text = [];
       put = put;
       ends = inr (inl (inl before));
@@ -209,21 +214,29 @@ stop_cause input out faults.InputFault heard unkept h = absurd h
 stop_cause input out faults.KeepFault heard unkept h = absurd (unkept refl)
 stop_cause input out faults.OutOfMemory heard unkept h = (heard, h)
 
+-- where the same faults were counted
+module _ (a b : Output) (quiet : OutputQuiet a → OutputQuiet b) (rose : OutputRose a → OutputRose b) where
+  out_cause_as : (fault : ClientFault) → HasOutCause a fault → HasOutCause b fault
+  out_cause_as (faults.Refused (refusals.Truncated want number)) h = quiet h
+  out_cause_as (faults.Refused (refusals.Extra number)) h = quiet h
+  out_cause_as (faults.Refused (refusals.Limit kind number)) h = quiet h
+  out_cause_as (faults.Refused (refusals.BadDigest cid)) h = quiet h
+  out_cause_as (faults.Refused (refusals.WrongBlock want got)) h = quiet h
+  out_cause_as (faults.Refused (refusals.BadBlock cid fault)) h = quiet h
+  out_cause_as (faults.Refused (refusals.BadSize declared actual)) h = quiet h
+  out_cause_as (faults.Refused (refusals.NotFolder segment)) h = quiet h
+  out_cause_as (faults.Refused (refusals.NotThere segment)) h = quiet h
+  out_cause_as (faults.Refused refusals.SinkFault) h = rose h
+  out_cause_as (faults.Refused refusals.OutOfMemory) h = quiet h
+  out_cause_as (faults.BadCar car) h = quiet h
+  out_cause_as faults.InputFault h = absurd h
+  out_cause_as faults.KeepFault h = quiet h
+  out_cause_as faults.OutOfMemory h = quiet h
+
 -- quiet before
-module _ {S : Type 0} (m : SinkMeaning S) (a b c : S) (quiet : OutputQuiet (into m a b)) where
-  pub out_cause_from : (fault : ClientFault) → HasOutCause (into m b c) fault → HasOutCause (into m a c) fault
-  out_cause_from (faults.Refused (refusals.Truncated want number)) h = h ∙ quiet
-  out_cause_from (faults.Refused (refusals.Extra number)) h = h ∙ quiet
-  out_cause_from (faults.Refused (refusals.Limit kind number)) h = h ∙ quiet
-  out_cause_from (faults.Refused (refusals.BadDigest cid)) h = h ∙ quiet
-  out_cause_from (faults.Refused (refusals.WrongBlock want got)) h = h ∙ quiet
-  out_cause_from (faults.Refused (refusals.BadBlock cid fault)) h = h ∙ quiet
-  out_cause_from (faults.Refused (refusals.BadSize declared actual)) h = h ∙ quiet
-  out_cause_from (faults.Refused (refusals.NotFolder segment)) h = h ∙ quiet
-  out_cause_from (faults.Refused (refusals.NotThere segment)) h = h ∙ quiet
-  out_cause_from (faults.Refused refusals.SinkFault) h = subst (λ (n : ℕ). Rose n (m.faults c)) quiet h
-  out_cause_from (faults.Refused refusals.OutOfMemory) h = h ∙ quiet
-  out_cause_from (faults.BadCar car) h = h ∙ quiet
-  out_cause_from faults.InputFault h = absurd h
-  out_cause_from faults.KeepFault h = h ∙ quiet
-  out_cause_from faults.OutOfMemory h = h ∙ quiet
+pub out_cause_from : {S : Type 0} (m : SinkMeaning S) (a b c : S) → OutputQuiet (into m a b) → (fault : ClientFault) → HasOutCause (into m b c) fault → HasOutCause (into m a c) fault
+out_cause_from m a b c quiet fault h = out_cause_as (into m b c) (into m a c) (λ q. q ∙ quiet) (λ r. subst (λ (n : ℕ). Rose n (m.faults c)) quiet r) fault h
+
+-- and quiet behind
+pub out_cause_then : {S : Type 0} (m : SinkMeaning S) (a b c : S) → OutputQuiet (into m b c) → (fault : ClientFault) → HasOutCause (into m a b) fault → HasOutCause (into m a c) fault
+out_cause_then m a b c quiet fault h = out_cause_as (into m a b) (into m a c) (λ q. quiet ∙ q) (λ r. subst (λ (n : ℕ). Rose (m.faults a) n) (sym quiet) r) fault h

@@ -1,5 +1,5 @@
 -- What is kept of the sections that come in one step.
-use Rattle.std.proofs.Common.{◌≡◌, ℕ, List, [], ◌∷◌, ◌++◌, ◌<◌, ◌≤◌, All, Err, Option, Some, None, inl, length, refl, ap, sym, subst, append-nil, arith}
+use Rattle.std.proofs.Common.{◌≡◌, ℕ, List, [], ◌∷◌, ◌++◌, ◌<◌, ◌≤◌, Option, Some, None, length, refl, ap, sym, subst, append-nil, arith}
 use Rattle.std.proofs.lemmas.List.Elements.{All-cons, All-nil}
 use Rattle.tg_car.specs.declared.fault.CarFault.{CarFault}
 use Rattle.tg_car.specs.declared.fault.CarFault.TheVariants as cars

@@ -10,9 +10,11 @@ mod Stepping
 mod Closing
 mod Feeding
 mod Hearing
+mod Tellers
 mod Told
 mod Accepting
 mod Bodies
 mod Surplus
 mod Headless
 mod Standing
+mod Terminals

@@ -205,7 +205,7 @@ module _ (laws : AnswerLaws) (body : CarBody) (heard : List ℕ) (sections : Lis
     goes_then : GoesOn body.verifier.limits.block (heard ++ take taken piece) (h.given ++ events.Section at size section ∷ [])
     goes_then = subst (λ (n : ℕ). GoesOn n (heard ++ take taken piece) (h.given ++ events.Section at size section ∷ [])) (limit ∙ h.limit) reads.exact.goes_on
 
-    received_then : HasReceived body.verifier.limits.block (heard ++ take taken piece) (sections ++ out_of_car section ∷ [])
+    pub received_then : HasReceived body.verifier.limits.block (heard ++ take taken piece) (sections ++ out_of_car section ∷ [])
     received_then = record {
       given = h.given ++ events.Section at size section ∷ [];
       goes_on = goes_then;
@@ -372,7 +372,7 @@ module _ (laws : AnswerLaws) (body : CarBody) (heard : List ℕ) (sections : Lis
     pub is_fresh : IsFresh body.verifier
     is_fresh = fresh_then.0
 
-    reads_header : StandsFor reader (going_on (heard ++ take taken piece) (events.Header header ∷ []))
+    pub reads_header : StandsFor reader (going_on (heard ++ take taken piece) (events.Header header ∷ []))
     reads_header = subst (λ (g : List Event). StandsFor reader (going_on (heard ++ take taken piece) (g ++ events.Header header ∷ []))) first reads
 
     none_then : [] ≡ sections

@@ -1,5 +1,5 @@
 -- Which sections of a CAR are kept while it comes.
-use Rattle.std.specs.Prelude.{All, Err, List, Option, Result, [], ⊤, ℕ, ◌++◌, ◌∷◌, ◌≡◌}
+use Rattle.std.specs.Prelude.{All, Err, List, Option, Result, [], ℕ, ◌++◌, ◌∷◌, ◌≡◌}
 use Rattle.tg_cid.specs.Cid.{CidParts}
 use Rattle.tg_cid.specs.Names.{Names}
 use Rattle.tg_client.specs.Body.{IsBody, IsStoppedAt}

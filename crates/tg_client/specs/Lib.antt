@@ -4,3 +4,4 @@ pub mod Ends
 pub mod Body
 pub mod Keeping
 pub mod BodyLaws
+pub mod Telling

@@ -1,8 +1,9 @@
 //! The bytes of a CAR, verified while they come.
 ghost use Rattle.std.specs.Prelude.{◌≡◌, ◌↔◌, ◌++◌, ◌+◌, ◌<◌, ◌≤◌, [], ℕ, List as Items, Err, None, Some, IfErr, IfOk, IsTrue};
-ghost use Rattle.std.specs.Prelude.{MatchResult, length, take};
+ghost use Rattle.std.specs.Prelude.{IfSome, MatchResult, length, take};
 ghost use Rattle.tg_client.specs.Body.{HasEnded, HasOutCause, IsBody, IsEndFault, IsStopped, WentOn};
 ghost use Rattle.tg_client.specs.Keeping.{HasKeepCause, StoppedKeeping, WentOnKeeping};
+ghost use Rattle.tg_client.specs.Telling.{IsTerminalHeard};
 ghost use Rattle.tg_model.specs.Dag.{Section};
 ghost use Rattle.tg_model.specs.Stores.{kept_in};
 ghost use Rattle.tg_streams.specs.Streams.{OutputQuiet, into};
@@ -16,7 +17,7 @@ use std::alloc::{AllocError, Global};
 use tg_car::{CarReader, Event};
 use tg_model::{DropKeep, Keep, LimitKind, Limits, Query};
 use tg_streams::Sink;
-use tg_verify::{Refusal, Verifier};
+use tg_verify::{Refusal, Terminal, Verifier};
 
 /// The CAR that answers a query while it comes: each section is verified as soon as its last byte came, and the verifier
 /// is started once the header is whole. No byte of the CAR is kept but those of the section at hand.
@@ -100,6 +101,13 @@ impl CarBody {
         self.verifier.written()
     }
 
+    /// What the query's path leads to, as `Verifier::terminal` tells it.
+    pub fn terminal(&self) -> Option<Terminal>
+        ensures { result ≡ self.now.verifier.terminal }
+    {
+        self.verifier.terminal()
+    }
+
     /// Takes all of a piece.
     ///
     /// Errors, at the first byte where one holds: `Refused` with a `Limit` of kind `Received` where more bytes came
@@ -121,6 +129,11 @@ impl CarBody {
             (λ _. WentOn self.new (heard ++ piece.now) written (into S.sink out.old out.new))
             (λ fault. IsStopped self.old.verifier.left.query self.old.verifier.limits
             self.new.verifier.taken (heard ++ piece.now) written (into S.sink out.old out.new) fault) }
+        // What the path leads to in each sound DAG, refused or not; it never changes.
+        ensures terminal { (heard : Items ℕ) (sections : Items Section) (written : Items ℕ)
+            → IsBody self.old heard sections written → IsTerminalHeard self.old.verifier.left.query
+            self.old.verifier.limits (heard ++ piece.now) self.new.verifier.terminal }
+        ensures told { IfSome self.old.verifier.terminal (λ t. self.new.verifier.terminal ≡ Some t) }
         // Nothing is kept, and so no keeper fails.
         ensures unkept { self.old.refused ≡ None → result ≡ Err ClientFault.KeepFault → ⊥ }
         ensures again { (fault : ClientFault) → self.old.refused ≡ Some fault
@@ -167,11 +180,17 @@ impl CarBody {
             heard piece.now sections written (into S.sink out.old out.new)
             (kept_in K.keeper keep.old keep.new) fault) }
         ensures keep_cause { self.old.refused ≡ None → HasKeepCause (kept_in K.keeper keep.old keep.new) result }
+        // What the path leads to in each sound DAG, refused or not; it never changes.
+        ensures terminal { (heard : Items ℕ) (sections : Items Section) (written : Items ℕ)
+            → IsBody self.old heard sections written → IsTerminalHeard self.old.verifier.left.query
+            self.old.verifier.limits (heard ++ piece.now) self.new.verifier.terminal }
+        ensures told { IfSome self.old.verifier.terminal (λ t. self.new.verifier.terminal ≡ Some t) }
         ensures again { (fault : ClientFault) → self.old.refused ≡ Some fault
             → (result ≡ Err fault) × (self.new ≡ self.old) × (keep.new ≡ keep.old) × (out.new ≡ out.old) }
         ensures refused { MatchResult result (λ _. self.new.refused ≡ None) (λ fault. self.new.refused ≡ Some fault) }
     {
         tg_model_laws::kept_sections();
+        laws::told_bodies();
         if let Some(fault) = self.refused {
             return Err(fault);
         }
@@ -257,6 +276,11 @@ impl CarBody {
             heard piece.now sections written (into S.sink out.old out.new)
             (kept_in K.keeper keep.old keep.new) fault) }
         ensures keep_cause { self.old.refused ≡ None → HasKeepCause (kept_in K.keeper keep.old keep.new) result }
+        // What the path leads to in each sound DAG, refused or not; it never changes.
+        ensures terminal { (heard : Items ℕ) (sections : Items Section) (written : Items ℕ)
+            → IsBody self.old heard sections written → IsTerminalHeard self.old.verifier.left.query
+            self.old.verifier.limits (heard ++ piece.now) self.new.verifier.terminal }
+        ensures told { IfSome self.old.verifier.terminal (λ t. self.new.verifier.terminal ≡ Some t) }
         ensures again { (fault : ClientFault) → self.old.refused ≡ Some fault
             → (result ≡ Err fault) × (self.new ≡ self.old) × (keep.new ≡ keep.old) × (out.new ≡ out.old) }
         ensures refused { MatchResult result (λ _. self.new.refused ≡ None) (λ fault. self.new.refused ≡ Some fault) }
@@ -294,10 +318,16 @@ impl CarBody {
             heard piece.now sections written (into S.sink out.old out.new)
             (kept_in K.keeper keep.old keep.new) fault) }
         ensures keep_cause { HasKeepCause (kept_in K.keeper keep.old keep.new) result }
+        // What the path leads to in each sound DAG, refused or not; it never changes.
+        ensures terminal { (heard : Items ℕ) (sections : Items Section) (written : Items ℕ)
+            → IsBody self.old heard sections written → IsTerminalHeard self.old.verifier.left.query
+            self.old.verifier.limits (heard ++ piece.now) self.new.verifier.terminal }
+        ensures told { IfSome self.old.verifier.terminal (λ t. self.new.verifier.terminal ≡ Some t) }
     {
         tg_verify::laws::verified_answers();
         tg_model_laws::one_fit();
         laws::received_sections();
+        laws::told_bodies();
         if self.heard >= self.most {
             return Err(ClientFault::Refused(Refusal::Limit {
                 kind: LimitKind::Received,

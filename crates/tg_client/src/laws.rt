@@ -2,6 +2,7 @@
 ghost use Rattle.tg_client.specs.Body.{BodyStands};
 ghost use Rattle.tg_client.specs.BodyLaws.{BodyLaws};
 ghost use Rattle.tg_client.specs.ReceivedLaws.{ReceivedLaws};
+ghost use Rattle.tg_client.specs.Telling.{BodyTells};
 
 /// The sections that stand whole in the bytes of a CAR are determined by the bytes; of a front of them fewer stand
 /// whole; and where a CAR goes on with the bytes none of their fronts is refused. A CAR of the same sections doesn't go
@@ -40,4 +41,15 @@ pub fn standing_bodies()
 {
     received_sections();
     tg_verify::laws::verified_answers();
+}
+
+/// What the verifier of a CAR of which nothing was refused tells of the query's path is so in each sound DAG with the
+/// query's root, or a block that came and one of the DAG are different bytes with one SHA-256; and it is told once no block
+/// is wanted, but where the block alone is asked for.
+///
+/// Path Gateway specification, Path Resolution; UnixFS specification, node types.
+pub fn told_bodies()
+    ensures { BodyTells }
+{
+    tg_verify::laws::told_terminals();
 }

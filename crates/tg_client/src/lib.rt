@@ -5,7 +5,9 @@ mod body;
 mod cars;
 mod fault;
 pub mod laws;
+mod telling;
 
 pub use body::CarBody;
-pub use cars::verify_car;
+pub use cars::{verify_car, verify_car_telling};
 pub use fault::ClientFault;
+pub use telling::{TellTerminal, Untold};

@@ -14,6 +14,7 @@ use Rattle.tg_streams.specs.Streams.{into}
 use Rattle.tg_client.specs.Received.{out_of_car}
 use Rattle.tg_client.proofs.Kept.{none_kept, one_kept, stops_before}
 use Rattle.tg_client.proofs.Stepping.{behind_last, header_refused, header_taken, is_fresh, past_received, reader_stops, reads_on, section_misnamed, section_refused, section_taken, section_unkept, some_of, stands_there, step_taken, wants_none, wants_some, within_piece}
+use Rattle.tg_client.proofs.Terminals.{heard_header, heard_section, heard_still}
 use Rattle.tg_client.proofs.body.CarBody.advance.Goals.{in-Header+in_ok-start-in-Header, in-Need, in-Section+in_ok-named-in-Section+in_ok-keep-in-Section+in_ok-section_named-in-Section}
 use Rattle.tg_client.proofs.body.CarBody.advance.Goals as goal
 
@@ -174,4 +175,71 @@ returns-clause-kept g c heard sections written h =
           (step_taken c.verified_answers.ensures c.args.self.now heard sections written h c.feed.new.self c.args.piece.now c.in_ok-taken.taken _
           (into g.S.Sink.sink c.args.out.now c.args.out.now) _ (none_kept g.K.Keep.keeper c.args.keep.now (g.met.K.Keep.rests c.args.keep.now))
           reads c.in_ok-taken.ensures.limit (put_nothing _ g.S.Sink.sink c.args.out.now (g.met.S.Sink.rests c.args.out.now)) bounds.1 refl (omega arith) at wanted)
+    ]
+
+pub returns-then-self-clause-terminal : goal.returns-then-self-clause-terminal
+returns-then-self-clause-terminal g c heard sections written h = heard_still c.told_bodies.ensures c.args.self.now heard c.args.piece.now sections written h
+
+pub returns-then-is_none-clause-terminal : goal.returns-then-is_none-clause-terminal
+returns-then-is_none-clause-terminal g c heard sections written h = heard_still c.told_bodies.ensures c.args.self.now heard c.args.piece.now sections written h
+
+pub returns-in_err-taken-clause-terminal : goal.returns-in_err-taken-clause-terminal
+returns-in_err-taken-clause-terminal g c heard sections written h = heard_still c.told_bodies.ensures c.args.self.now heard c.args.piece.now sections written h
+
+pub returns-in_err-named-in-Section-clause-terminal : goal.returns-in_err-named-in-Section-clause-terminal
+returns-in_err-named-in-Section-clause-terminal g c heard sections written h = heard_still c.told_bodies.ensures c.args.self.now heard c.args.piece.now sections written h
+
+pub returns-in_err-keep-in-Section-clause-terminal : goal.returns-in_err-keep-in-Section-clause-terminal
+returns-in_err-keep-in-Section-clause-terminal g c heard sections written h = heard_still c.told_bodies.ensures c.args.self.now heard c.args.piece.now sections written h
+
+pub returns-in_err-start-in-Header-clause-terminal : goal.returns-in_err-start-in-Header-clause-terminal
+returns-in_err-start-in-Header-clause-terminal g c heard sections written h =
+    let header : List ℕ = c.in-Header.field-0 in
+    let reads = reads_on c.feed.new.self heard c.args.piece.now h.given c.min-room.result c.in_ok-taken.taken c.in_ok-taken.event (events.Header header)
+    (c.in_ok-taken.ensures.stands _ h.reads) c.in_ok-taken.ensures.within c.in-Header.is in
+    let e = c.in_err-start-in-Header.ensures in
+    let out = into g.S.Sink.sink c.args.out.now c.start.new.out in
+    let fresh = is_fresh c.verified_answers.ensures c.args.self.now heard sections written h c.received_sections.ensures c.feed.new.self c.start.new.self c.args.piece.now c.in_ok-taken.taken header out
+    reads c.in_ok-taken.ensures.limit e.query e.limits in
+    heard_header c.verified_answers.ensures c.args.self.now heard sections written h c.received_sections.ensures c.feed.new.self c.start.new.self c.args.piece.now c.in_ok-taken.taken out
+    c.in_ok-taken.ensures.limit e.query e.limits header reads (e.terminal fresh)
+
+pub returns-in_err-section_named-in-Section-clause-terminal : goal.returns-in_err-section_named-in-Section-clause-terminal
+returns-in_err-section_named-in-Section-clause-terminal g c heard sections written h =
+    let s = c.in-Section in
+    let reads = reads_on c.feed.new.self heard c.args.piece.now h.given c.min-room.result c.in_ok-taken.taken c.in_ok-taken.event (events.Section s.at s.size s.section)
+    (c.in_ok-taken.ensures.stands _ h.reads) c.in_ok-taken.ensures.within s.is in
+    let e = c.in_err-section_named-in-Section.ensures in
+    let out = into g.S.Sink.sink c.args.out.now c.section_named.new.out in
+    let stands = stands_there c.verified_answers.ensures c.args.self.now heard sections written h c.received_sections.ensures c.feed.new.self c.section_named.new.self c.args.piece.now c.in_ok-taken.taken s.at s.size s.section out
+    reads c.in_ok-taken.ensures.limit e.query e.limits in
+    heard_section c.verified_answers.ensures c.args.self.now heard sections written h c.received_sections.ensures c.feed.new.self c.section_named.new.self c.args.piece.now c.in_ok-taken.taken out
+    c.in_ok-taken.ensures.limit e.query e.limits s.at s.size s.section reads (e.terminal sections written h.fresh stands)
+
+pub returns-clause-terminal : goal.returns-clause-terminal
+returns-clause-terminal g c heard sections written h =
+    elim c.match-event.branch [
+      | in-Section+in_ok-named-in-Section+in_ok-keep-in-Section+in_ok-section_named-in-Section w ↦
+          let s = w.in-Section in
+          let reads = reads_on c.feed.new.self heard c.args.piece.now h.given c.min-room.result c.in_ok-taken.taken c.in_ok-taken.event (events.Section s.at s.size s.section)
+          (c.in_ok-taken.ensures.stands _ h.reads) c.in_ok-taken.ensures.within s.is in
+          let o = w.in_ok-section_named-in-Section.ensures in
+          let out = into g.S.Sink.sink c.args.out.now w.section_named.new.out in
+          let stands = stands_there c.verified_answers.ensures c.args.self.now heard sections written h c.received_sections.ensures c.feed.new.self w.section_named.new.self c.args.piece.now c.in_ok-taken.taken s.at s.size s.section out
+          reads c.in_ok-taken.ensures.limit o.query o.limits in
+          rw (w.self-is)
+          (heard_section c.verified_answers.ensures c.args.self.now heard sections written h c.received_sections.ensures c.feed.new.self w.section_named.new.self c.args.piece.now c.in_ok-taken.taken out
+          c.in_ok-taken.ensures.limit o.query o.limits s.at s.size s.section reads (o.terminal sections written h.fresh stands))
+      | in-Header+in_ok-start-in-Header w ↦
+          let header : List ℕ = w.in-Header.field-0 in
+          let reads = reads_on c.feed.new.self heard c.args.piece.now h.given c.min-room.result c.in_ok-taken.taken c.in_ok-taken.event (events.Header header)
+          (c.in_ok-taken.ensures.stands _ h.reads) c.in_ok-taken.ensures.within w.in-Header.is in
+          let o = w.in_ok-start-in-Header.ensures in
+          let out = into g.S.Sink.sink c.args.out.now w.start.new.out in
+          let fresh = is_fresh c.verified_answers.ensures c.args.self.now heard sections written h c.received_sections.ensures c.feed.new.self w.start.new.self c.args.piece.now c.in_ok-taken.taken header out
+          reads c.in_ok-taken.ensures.limit o.query o.limits in
+          rw (w.self-is)
+          (heard_header c.verified_answers.ensures c.args.self.now heard sections written h c.received_sections.ensures c.feed.new.self w.start.new.self c.args.piece.now c.in_ok-taken.taken out
+          c.in_ok-taken.ensures.limit o.query o.limits header reads (o.terminal fresh))
+      | in-Need w ↦ rw (w.self-is) (heard_still c.told_bodies.ensures c.args.self.now heard c.args.piece.now sections written h)
     ]

@@ -8,6 +8,7 @@ use Rattle.tg_model.specs.Stores.{kept_in}
 use Rattle.tg_streams.specs.Streams.{into}
 use Rattle.tg_client.specs.Keeping.{StoppedKeeping, WentOnKeeping}
 use Rattle.tg_client.proofs.Feeding.{fed_stands, keep_cause_from, stopped_on, went_further, went_nothing}
+use Rattle.tg_client.proofs.Terminals.{heard_as, told_further, told_stays}
 use Rattle.tg_client.proofs.body.CarBody.feed_keep.Goals as goal
 
 pub loop-at-init : goal.loop-at-init
@@ -20,6 +21,7 @@ loop-at-init g c = record {
   heard = λ e. (omega arith, e);
   cause = λ e. (e, refl);
   quiet = refl;
+  told = told_stays c.args.self.now.verifier.terminal;
   kept = λ heard sections written h.
       went_nothing g.K.Keep.keeper c.args.keep.now (g.met.K.Keep.rests c.args.keep.now) g.S.Sink.sink c.args.out.now (g.met.S.Sink.rests c.args.out.now) c.args.self.now heard sections written h;
 }
@@ -67,6 +69,7 @@ loop-at-preserved g c =
           let after = c.in_ok-at.ensures.cause inv.unrefused before.0 in
           (after.0, after.1 ∙ before.1);
       quiet = c.in_ok-at.ensures.keep_cause inv.unrefused ∙ inv.quiet;
+      told = told_further c.args.self.now.verifier.terminal c.loop-at.self.verifier.terminal c.take.new.self.verifier.terminal inv.told c.take.ensures.told;
       kept = λ heard sections written h.
           let w = inv.kept heard sections written h in
           let rest : List ℕ = take (length piece - at) (drop at piece) in
@@ -100,3 +103,31 @@ pub returns-clause-stands : goal.returns-clause-stands
 returns-clause-stands g c heard sections written h =
     fed_stands (Ok tt) c.args.self.now.verifier.left.query c.args.self.now.verifier.limits c.loop-at.self.verifier.taken c.loop-at.self heard c.args.piece.now sections written
     (into g.S.Sink.sink c.args.out.now c.loop-at.out) (kept_in g.K.Keep.keeper c.args.keep.now c.loop-at.keep) (returns-clause-kept g c heard sections written h)
+
+pub returns-in_err-at-clause-terminal : goal.returns-in_err-at-clause-terminal
+returns-in_err-at-clause-terminal g c heard sections written h =
+    let inv = c.loop-at.invariant in
+    let w = inv.kept heard sections written h in
+    let piece : List ℕ = c.args.piece.now in
+    let at : ℕ = c.loop-at.at in
+    let rest : List ℕ = take (length piece - at) (drop at piece) in
+    let all : take at piece ++ rest ≡ piece = ap (λ (l : List ℕ). take at piece ++ l) (take_rest piece at) ∙ take-append-drop at piece in
+    heard_as c.loop-at.self.verifier.left.query c.args.self.now.verifier.left.query c.loop-at.self.verifier.limits c.args.self.now.verifier.limits
+    ((heard ++ take at piece) ++ rest) (heard ++ piece) c.take.new.self.verifier.terminal inv.query inv.limits
+    (append_assoc heard (take at piece) rest ∙ ap (λ (l : List ℕ). heard ++ l) all)
+    (c.take.ensures.terminal (heard ++ take at piece) (sections ++ w.came) (written ++ w.text) w.is_body)
+
+pub returns-in_err-at-clause-told : goal.returns-in_err-at-clause-told
+returns-in_err-at-clause-told g c =
+    told_further c.args.self.now.verifier.terminal c.loop-at.self.verifier.terminal c.take.new.self.verifier.terminal c.loop-at.invariant.told c.take.ensures.told
+
+pub returns-clause-terminal : goal.returns-clause-terminal
+returns-clause-terminal g c heard sections written h =
+    let inv = c.loop-at.invariant in
+    let w = inv.kept heard sections written h in
+    let piece : List ℕ = c.args.piece.now in
+    let at : ℕ = c.loop-at.at in
+    heard_as c.loop-at.self.verifier.left.query c.args.self.now.verifier.left.query c.loop-at.self.verifier.limits c.args.self.now.verifier.limits
+    (heard ++ take at piece) (heard ++ piece) c.loop-at.self.verifier.terminal inv.query inv.limits
+    (ap (λ (l : List ℕ). heard ++ l) (take_all at piece c.loop-at-test.false))
+    (c.told_bodies.ensures c.loop-at.self (heard ++ take at piece) (sections ++ w.came) (written ++ w.text) w.is_body).so
