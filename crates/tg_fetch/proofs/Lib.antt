@@ -8,6 +8,7 @@ mod OwnExchanges
 mod PathCounts
 mod Receiving
 mod Taking
+mod Telling
 mod KeptSections
 mod TakenSections
 mod KeptReplies
@@ -20,3 +21,4 @@ mod Calling
 mod Fetching
 mod Longer
 mod Feeding
+mod TellingCalls

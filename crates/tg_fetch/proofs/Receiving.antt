@@ -130,7 +130,7 @@ pub told_in : (link : LinkView) (dial : Dialling) (old : Option (List ℕ)) (hea
 told_in link dial old heard nothing heard_is up before call old_is new_is = told_by link dial old heard nothing heard_is before call old_is new_is up.calls
 
 -- no call was told
-untold : (dial : Dialling) → dial.calls_new ≡ dial.calls_old → HeardIn dial []
+pub untold : (dial : Dialling) → dial.calls_new ≡ dial.calls_old → HeardIn dial []
 untold dial keeps before call old_is new_is =
     let both = sym new_is ∙ keeps ∙ old_is in
     let same : before ++ call ∷ [] ≡ before = cc in

@@ -44,7 +44,7 @@ use Rattle.tg_verify.specs.declared.verifier.Progress.{Progress}
 
 -- ---- a CAR of no bytes isn't whole
 
-no_header : (size : List ℕ) (first : ℕ) (tail rest : List ℕ) → [] ≡ (size ++ first ∷ tail) ++ rest → ⊥
+pub no_header : (size : List ℕ) (first : ℕ) (tail rest : List ℕ) → [] ≡ (size ++ first ∷ tail) ++ rest → ⊥
 no_header [] first tail rest e = cc e
 no_header (a ∷ size) first tail rest e = cc e
 

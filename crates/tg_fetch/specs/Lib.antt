@@ -11,3 +11,4 @@ pub mod KeepingSteps
 pub mod Laws
 pub mod Watched
 pub mod Own
+pub mod Telling

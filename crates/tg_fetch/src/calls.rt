@@ -1,5 +1,6 @@
 //! A reply that is fetched over a dial.
-ghost use Rattle.std.specs.Prelude.{◌≡◌, ◌<◌, [], ℕ, List as Items, IfOk, Some, length};
+ghost use Rattle.std.specs.Prelude.{◌≡◌, ◌<◌, [], ℕ, List as Items, IfOk, None, Some, length};
+ghost use Rattle.tg_client.specs.Telling.{telling};
 ghost use Rattle.tg_dials.specs.Dials.{at_dial};
 ghost use Rattle.tg_heard.specs.Exchanges.{HasOneBlockEach};
 ghost use Rattle.tg_fetch.specs.Calls.{FetchEnds, LinkCalled, LinkHeard};
@@ -9,6 +10,7 @@ ghost use Rattle.tg_fetch.specs.Keeping.{FetchKeeps, HasFaultCause, StandIn};
 ghost use Rattle.tg_fetch.specs.KeepingSteps.{HeardKeeps, LinkKeeps};
 ghost use Rattle.tg_fetch.specs.Laws.{IsAcceptedElse, IsNowhereElse, IsNowhereIn, IsOwnNowhere, TellsAbsence, TellsCarried};
 ghost use Rattle.tg_fetch.specs.Received.{SoundCall};
+ghost use Rattle.tg_fetch.specs.Telling.{CallTells, LinkTells, Tells, terminal_of};
 ghost use Rattle.tg_links.specs.Steps.{link_step};
 ghost use Rattle.tg_model.specs.Answer.{answer};
 ghost use Rattle.tg_model.specs.Dag.{Dag, Section, root_cid};
@@ -29,6 +31,7 @@ use crate::watch::Watch;
 use std::alloc::{AllocError, Global};
 use std::mem::drop;
 use tg_bytes::zeros;
+use tg_client::{TellTerminal, Untold};
 use tg_dials::Dial;
 use tg_links::Link;
 use tg_model::{DropKeep, Keep, Limits, Query};
@@ -134,18 +137,15 @@ pub fn fetch_keep<D: Dial, K: Keep, S: Sink, W: Watch>(
         → TellsAbsence query.now limits (at_dial D.dial dial.old dial.new) (block_list query.now d)
         → IsNowhereElse miss (into S.sink out.old out.new) result }
 {
-    tg_model_laws::own_sections();
-    tg_model_laws::against_every_peer();
-    tg_model_laws::own_absences();
-    laws::carried_replies();
-    laws::carried_absences();
-    let end = dialled(alloc, query, limits, addr, dial, keep, out, watch);
-    watch.ended();
-    end
+    fetch_telling(alloc, query, limits, addr, dial, keep, out, &Untold, watch)
 }
 
-/// Fetches it so, and tells `watch` of each piece, but not that it has ended. Errors: those of `fetch`.
-fn dialled<D: Dial, K: Keep, S: Sink, W: Watch>(
+/// Fetches what a query asks for, as `fetch_keep` does, and tells out what the query's path leads to as soon as the piece of
+/// the reply was taken in which the terminal's section ends.
+///
+/// Errors: those of `fetch_keep`. RFC 9112; Trustless Gateway specification, CAR responses; Path Gateway specification, Path
+/// Resolution.
+pub fn fetch_telling<D: Dial, K: Keep, S: Sink, T: TellTerminal<S>, W: Watch>(
     alloc: Global,
     query: &Query,
     limits: Limits,
@@ -153,23 +153,77 @@ fn dialled<D: Dial, K: Keep, S: Sink, W: Watch>(
     dial: &mut D,
     keep: &mut K,
     out: &mut S,
+    teller: &T,
     watch: &mut W,
 ) -> Result<(), FetchFault>
     requires { IsAddr addr.now }
-    ensures ends { FetchEnds query.now limits addr.now (at_dial D.dial dial.old dial.new) (into S.sink out.old out.new) result }
-    ensures kept { FetchKeeps query.now limits (at_dial D.dial dial.old dial.new) (into S.sink out.old out.new)
+    // One call: what was said and heard, how it ended, and what that says of each sound DAG with the query's root.
+    ensures ends { FetchEnds query.now limits addr.now (at_dial D.dial dial.old dial.new) (into (telling S.sink T.wrote) out.old out.new) result }
+    // Which sections of what was heard were kept.
+    ensures kept { FetchKeeps query.now limits (at_dial D.dial dial.old dial.new) (into (telling S.sink T.wrote) out.old out.new)
         (kept_in K.keeper keep.old keep.new) result }
-    ensures cause { HasFaultCause (into S.sink out.old out.new) (kept_in K.keeper keep.old keep.new) result }
+    // What out was told that the path leads to is so in each sound DAG with the query's root, or a block that was received in
+    // this call and one of the DAG are different bytes with one SHA-256; and on Ok it was told, but of a raw block and where the
+    // block alone is asked for.
+    ensures told { T.knows out.old None → CallTells query.now limits (at_dial D.dial dial.old dial.new) (T.knows out.new) result }
+    ensures cause { HasFaultCause (into (telling S.sink T.wrote) out.old out.new) (kept_in K.keeper keep.old keep.new) result }
+    // The others are those of `fetch`.
+    ensures sound { SoundCall query.now limits (at_dial D.dial dial.old dial.new) (into (telling S.sink T.wrote) out.old out.new) result }
+    ensures fitting { (d : Dag) (sections : Items Section) (text : Items ℕ) → Fits d query.now sections text
+        → IsWithinLimits query.now limits d → TellsCarried query.now limits (at_dial D.dial dial.old dial.new) sections
+        → IsAcceptedElse text (into (telling S.sink T.wrote) out.old out.new) result }
+    ensures own { (d : Dag) (text : Items ℕ) → IsSound d → root_cid d ≡ query.now.root
+        → answer query.now d ≡ Some text → HasOneBlockEach d
+        → IsWithinLimits query.now limits d
+        → TellsCarried query.now limits (at_dial D.dial dial.old dial.new) (block_list query.now d)
+        → IsAcceptedElse text (into (telling S.sink T.wrote) out.old out.new) result }
+    ensures nowhere { (d : Dag) (miss : Miss) → IsNowhereIn query.now limits d miss
+        → TellsAbsence query.now limits (at_dial D.dial dial.old dial.new) (block_list (path_query query.now) d)
+        → IsNowhereElse miss (into (telling S.sink T.wrote) out.old out.new) result }
+    ensures own_nowhere { (d : Dag) (miss : Miss) → IsOwnNowhere query.now limits d miss
+        → TellsAbsence query.now limits (at_dial D.dial dial.old dial.new) (block_list query.now d)
+        → IsNowhereElse miss (into (telling S.sink T.wrote) out.old out.new) result }
+{
+    tg_model_laws::own_sections();
+    tg_model_laws::against_every_peer();
+    tg_model_laws::own_absences();
+    laws::carried_replies();
+    laws::carried_absences();
+    let end = dialled(alloc, query, limits, addr, dial, keep, out, teller, watch);
+    watch.ended();
+    end
+}
+
+/// Fetches it so, and tells `watch` of each piece, but not that it has ended. Errors: those of `fetch`.
+fn dialled<D: Dial, K: Keep, S: Sink, T: TellTerminal<S>, W: Watch>(
+    alloc: Global,
+    query: &Query,
+    limits: Limits,
+    addr: &str,
+    dial: &mut D,
+    keep: &mut K,
+    out: &mut S,
+    teller: &T,
+    watch: &mut W,
+) -> Result<(), FetchFault>
+    requires { IsAddr addr.now }
+    ensures ends { FetchEnds query.now limits addr.now (at_dial D.dial dial.old dial.new) (into (telling S.sink T.wrote) out.old out.new) result }
+    ensures kept { FetchKeeps query.now limits (at_dial D.dial dial.old dial.new) (into (telling S.sink T.wrote) out.old out.new)
+        (kept_in K.keeper keep.old keep.new) result }
+    ensures told { T.knows out.old None → CallTells query.now limits (at_dial D.dial dial.old dial.new) (T.knows out.new) result }
+    ensures cause { HasFaultCause (into (telling S.sink T.wrote) out.old out.new) (kept_in K.keeper keep.old keep.new) result }
 {
     let mut link = dial.dial(addr)?;
-    let end = call(alloc, query, limits, addr, &mut link, keep, out, watch);
+    let end = call(
+        alloc, query, limits, addr, &mut link, keep, out, teller, watch,
+    );
     dial.done(link);
     end
 }
 
 /// Puts the request for a query into a link, through which nothing went yet, and feeds the reply to a client. Errors:
 /// those of `fetch`.
-fn call<L: Link, K: Keep, S: Sink, W: Watch>(
+fn call<L: Link, K: Keep, S: Sink, T: TellTerminal<S>, W: Watch>(
     alloc: Global,
     query: &Query,
     limits: Limits,
@@ -177,13 +231,15 @@ fn call<L: Link, K: Keep, S: Sink, W: Watch>(
     link: &mut L,
     keep: &mut K,
     out: &mut S,
+    teller: &T,
     watch: &mut W,
 ) -> Result<(), FetchFault>
     requires { IsAddr addr.now }
-    ensures called { LinkCalled query.now limits addr.now (link_step L.link L.Source.source link.old link.new) (into S.sink out.old out.new) result }
+    ensures called { LinkCalled query.now limits addr.now (link_step L.link L.Source.source link.old link.new) (into (telling S.sink T.wrote) out.old out.new) result }
     ensures kept { LinkKeeps query.now limits (link_step L.link L.Source.source link.old link.new)
-        (into S.sink out.old out.new) (kept_in K.keeper keep.old keep.new) result }
-    ensures cause { HasFaultCause (into S.sink out.old out.new) (kept_in K.keeper keep.old keep.new) result }
+        (into (telling S.sink T.wrote) out.old out.new) (kept_in K.keeper keep.old keep.new) result }
+    ensures told { T.knows out.old None → LinkTells query.now limits (link_step L.link L.Source.source link.old link.new) (T.knows out.new) result }
+    ensures cause { HasFaultCause (into (telling S.sink T.wrote) out.old out.new) (kept_in K.keeper keep.old keep.new) result }
 {
     match begun(alloc, query, limits) {
         Ok((client, room)) => {
@@ -195,6 +251,7 @@ fn call<L: Link, K: Keep, S: Sink, W: Watch>(
                 link,
                 keep,
                 out,
+                teller,
                 watch,
             );
             // A client that goes at the end of its scope takes the prover minutes.
@@ -211,6 +268,8 @@ fn begun(alloc: Global, query: &Query, limits: Limits) -> Result<(Client, Vec<u8
     ensures limits { IfOk result (λ begun. begun.0.limits ≡ limits) }
     ensures stands { IfOk result (λ begun. StandsFor begun.0 [] []) }
     ensures none { IfOk result (λ begun. StandIn begun.0.query begun.0.limits [] []) }
+    ensures tells { IfOk result (λ begun. Tells begun.0 []) }
+    ensures untold { IfOk result (λ begun. terminal_of begun.0 ≡ None) }
     ensures room { IfOk result (λ begun. 0 < length begun.1.items) }
 {
     let room = zeros(alloc, PIECE_LEN)?;
@@ -219,46 +278,56 @@ fn begun(alloc: Global, query: &Query, limits: Limits) -> Result<(Client, Vec<u8
 
 /// Puts the request of a client, which is new, into a link, and feeds it the reply through this room. Errors: those of
 /// `fetch`.
-fn ask<L: Link, K: Keep, S: Sink, W: Watch>(
+fn ask<L: Link, K: Keep, S: Sink, T: TellTerminal<S>, W: Watch>(
     client: &mut Client,
     room: &mut [u8],
     addr: &str,
     link: &mut L,
     keep: &mut K,
     out: &mut S,
+    teller: &T,
     watch: &mut W,
 ) -> Result<(), FetchFault>
     requires addr { IsAddr addr.now }
     requires fresh { StandsFor client.old [] [] }
     requires none { StandIn client.old.query client.old.limits [] [] }
+    requires tells { Tells client.old [] }
+    requires untold { terminal_of client.old ≡ None }
     requires room { 0 < length room.old }
-    ensures called { LinkCalled client.old.query client.old.limits addr.now (link_step L.link L.Source.source link.old link.new) (into S.sink out.old out.new) result }
+    ensures called { LinkCalled client.old.query client.old.limits addr.now (link_step L.link L.Source.source link.old link.new) (into (telling S.sink T.wrote) out.old out.new) result }
     ensures kept { LinkKeeps client.old.query client.old.limits (link_step L.link L.Source.source link.old link.new)
-        (into S.sink out.old out.new) (kept_in K.keeper keep.old keep.new) result }
-    ensures cause { HasFaultCause (into S.sink out.old out.new) (kept_in K.keeper keep.old keep.new) result }
+        (into (telling S.sink T.wrote) out.old out.new) (kept_in K.keeper keep.old keep.new) result }
+    ensures told { T.knows out.old None
+        → LinkTells client.old.query client.old.limits (link_step L.link L.Source.source link.old link.new) (T.knows out.new) result }
+    ensures cause { HasFaultCause (into (telling S.sink T.wrote) out.old out.new) (kept_in K.keeper keep.old keep.new) result }
 {
     let request = client.request(addr)?;
     put_all(link, request.as_slice())?;
-    hear(client, room, link, keep, out, watch)
+    hear(client, room, link, keep, out, teller, watch)
 }
 
 /// Feeds a client, which is new, with what a link's peer says, through this room, until the reply is whole or the peer
 /// says no more, and tells `watch` behind each piece how far it has come. Errors: those of the client, and `PeerFault` where the link failed.
-fn hear<L: Link, K: Keep, S: Sink, W: Watch>(
+fn hear<L: Link, K: Keep, S: Sink, T: TellTerminal<S>, W: Watch>(
     client: &mut Client,
     room: &mut [u8],
     link: &mut L,
     keep: &mut K,
     out: &mut S,
+    teller: &T,
     watch: &mut W,
 ) -> Result<(), FetchFault>
     requires fresh { StandsFor client.old [] [] }
     requires none { StandIn client.old.query client.old.limits [] [] }
+    requires tells { Tells client.old [] }
+    requires untold { terminal_of client.old ≡ None }
     requires room { 0 < length room.old }
-    ensures heard { LinkHeard client.old.query client.old.limits (link_step L.link L.Source.source link.old link.new) (into S.sink out.old out.new) result }
+    ensures heard { LinkHeard client.old.query client.old.limits (link_step L.link L.Source.source link.old link.new) (into (telling S.sink T.wrote) out.old out.new) result }
     ensures kept { HeardKeeps client.old.query client.old.limits (link_step L.link L.Source.source link.old link.new)
-        (into S.sink out.old out.new) (kept_in K.keeper keep.old keep.new) result }
-    ensures cause { HasFaultCause (into S.sink out.old out.new) (kept_in K.keeper keep.old keep.new) result }
+        (into (telling S.sink T.wrote) out.old out.new) (kept_in K.keeper keep.old keep.new) result }
+    ensures told { T.knows out.old None
+        → LinkTells client.old.query client.old.limits (link_step L.link L.Source.source link.old link.new) (T.knows out.new) result }
+    ensures cause { HasFaultCause (into (telling S.sink T.wrote) out.old out.new) (kept_in K.keeper keep.old keep.new) result }
 {
     tg_client::laws::standing_bodies();
     tg_client::laws::received_sections();
@@ -270,7 +339,11 @@ fn hear<L: Link, K: Keep, S: Sink, W: Watch>(
         if size == 0 {
             return client.end(out);
         }
-        if client.feed_keep(&room[..size], keep, out)? == Progress::Done {
+        let end = client.feed_keep(&room[..size], keep, out);
+        if let Some(terminal) = client.terminal() {
+            teller.tell(terminal, out);
+        }
+        if end? == Progress::Done {
             return Ok(());
         }
         watch.told(client.told());

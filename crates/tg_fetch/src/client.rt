@@ -1,9 +1,10 @@
 //! A client of a gateway.
-ghost use Rattle.std.specs.Prelude.{◌≡◌, ◌++◌, ◌+◌, ◌<◌, ◌^◌, ◌≤◌, [], ℕ, List as Items, Err, IfOk, MatchResult, None, Ok, Some, length};
+ghost use Rattle.std.specs.Prelude.{◌≡◌, ◌++◌, ◌+◌, ◌<◌, ◌^◌, ◌≤◌, [], ℕ, List as Items, Err, IfOk, IfSome, MatchResult, None, Ok, Some, length, take};
 ghost use Rattle.tg_fetch.specs.Clients.{EndEnds, FeedEnds, IsOpen, IsShortAt, StandsFor, StepEnds};
 ghost use Rattle.tg_fetch.specs.Faults.{QuietUnlessSink};
 ghost use Rattle.tg_fetch.specs.Keeping.{EndKeeps, FeedKeeps, HasFaultCause, StandIn, unkept};
 ghost use Rattle.tg_fetch.specs.KeepingSteps.{StepKeeps};
+ghost use Rattle.tg_fetch.specs.Telling.{Tells, terminal_of};
 ghost use Rattle.tg_fetch.specs.Watched.{told_of};
 ghost use Rattle.tg_fetch.specs.declared.client.Stage.{Stage};
 ghost use Rattle.tg_fetch.specs.declared.fault.FetchFault.{FetchFault};
@@ -24,7 +25,7 @@ use tg_model::{DropKeep, Form, Keep, LimitKind, Limits, Query, well_formed};
 use tg_query::print_request;
 use tg_streams::Sink;
 use tg_traversal::copied_path;
-use tg_verify::{Progress, Refusal};
+use tg_verify::{Progress, Refusal, Terminal};
 
 /// A client of a gateway, which trusts no server: it prints the request for a query, and is fed the reply piece by piece
 /// as it comes. It takes the reply for the query's answer only where each block is the one that the root vouches for, and
@@ -39,6 +40,7 @@ pub struct Client {
     limits: Limits,
     heard: u64,
     stage: Stage,
+    terminal: Option<Terminal>,
     refused: Option<FetchFault>,
 }
 
@@ -71,6 +73,9 @@ impl Client {
         ensures stands { IfOk result (λ client. StandsFor client [] []) }
         // No section stands whole in nothing.
         ensures fresh { IfOk result (λ client. StandIn client.query client.limits [] []) }
+        // And it tells nothing.
+        ensures tells { IfOk result (λ client. Tells client []) }
+        ensures untold { IfOk result (λ client. terminal_of client ≡ None) }
     {
         tg_heard::heads_go_on();
         Ok(Client {
@@ -79,6 +84,7 @@ impl Client {
             limits,
             heard: 0,
             stage: Stage::Heads(Heads::new(alloc)),
+            terminal: None,
             refused: None,
         })
     }
@@ -117,6 +123,10 @@ impl Client {
         // Nothing is kept, and so no keeper fails.
         ensures cause { (heard written : Items ℕ) → StandsFor self.old heard written
             → QuietUnlessSink (into S.sink out.old out.new) result }
+        // What the path leads to in each sound DAG, refused or not; it never changes, and of a whole reply it is told.
+        ensures tells { (heard written : Items ℕ) → StandsFor self.old heard written → Tells self.old heard
+            → Tells self.new (heard ++ piece.now) }
+        ensures told { IfSome (terminal_of self.old) (λ t. terminal_of self.new ≡ Some t) }
         ensures done { self.old.refused ≡ None → self.old.stage ≡ Stage.Done
             → (result ≡ Ok Progress.Done) × (self.new ≡ self.old) × (out.new ≡ out.old) }
         ensures again { (fault : FetchFault) → self.old.refused ≡ Some fault
@@ -155,6 +165,10 @@ impl Client {
             (kept_in K.keeper keep.old keep.new) result }
         ensures cause { (heard written : Items ℕ) → StandsFor self.old heard written
             → HasFaultCause (into S.sink out.old out.new) (kept_in K.keeper keep.old keep.new) result }
+        // What the path leads to in each sound DAG, refused or not; it never changes, and of a whole reply it is told.
+        ensures tells { (heard written : Items ℕ) → StandsFor self.old heard written → Tells self.old heard
+            → Tells self.new (heard ++ piece.now) }
+        ensures told { IfSome (terminal_of self.old) (λ t. terminal_of self.new ≡ Some t) }
         ensures done { self.old.refused ≡ None → self.old.stage ≡ Stage.Done
             → (result ≡ Ok Progress.Done) × (self.new ≡ self.old) × (keep.new ≡ keep.old) × (out.new ≡ out.old) }
         ensures again { (fault : FetchFault) → self.old.refused ≡ Some fault
@@ -167,6 +181,17 @@ impl Client {
         let end = self.hear(piece, keep, out);
         self.refused = end.as_ref().err().copied();
         end
+    }
+
+    /// What the query's path leads to, as `Verifier::terminal` tells it: of a body that is the answer's CAR, and behind it.
+    pub fn terminal(&self) -> Option<Terminal>
+        ensures { result ≡ terminal_of self.now }
+    {
+        match &self.stage {
+            Stage::Heads(_) => None,
+            Stage::Content(content) => content.terminal(),
+            Stage::Done => self.terminal,
+        }
     }
 
     /// How far a body has come that is a CAR: nothing is told before the final head and of a raw block, and nothing is
@@ -199,6 +224,10 @@ impl Client {
             → EndKeeps self.old.query self.old.limits heard before written (into S.sink out.old out.new) unkept result }
         ensures cause { (heard written : Items ℕ) → StandsFor self.old heard written
             → QuietUnlessSink (into S.sink out.old out.new) result }
+        // What the path leads to, which stays; and of a whole reply it is told.
+        ensures tells { (heard written : Items ℕ) → StandsFor self.old heard written → Tells self.old heard
+            → Tells self.new heard }
+        ensures told { terminal_of self.new ≡ terminal_of self.old }
         ensures done { self.old.refused ≡ None → self.old.stage ≡ Stage.Done
             → (result ≡ Ok tt) × (self.new ≡ self.old) × (out.new ≡ out.old) }
         ensures again { (fault : FetchFault) → self.old.refused ≡ Some fault
@@ -236,6 +265,10 @@ impl Client {
             (kept_in K.keeper keep.old keep.new) result }
         ensures cause { (heard written : Items ℕ) → IsOpen self.old heard written
             → HasFaultCause (into S.sink out.old out.new) (kept_in K.keeper keep.old keep.new) result }
+        // What the path leads to in each sound DAG, refused or not; it never changes, and of a whole reply it is told.
+        ensures tells { (heard written : Items ℕ) → IsOpen self.old heard written → Tells self.old heard
+            → Tells self.new (heard ++ piece.now) }
+        ensures told { IfSome (terminal_of self.old) (λ t. terminal_of self.new ≡ Some t) }
         ensures done { self.old.stage ≡ Stage.Done
             → (result ≡ Ok Progress.Done) × (self.new ≡ self.old) × (keep.new ≡ keep.old) × (out.new ≡ out.old) }
     {
@@ -286,6 +319,10 @@ impl Client {
         ensures cause { (heard written : Items ℕ) → IsOpen self.old heard written
             → length heard + length bytes.now ≤ self.old.limits.received
             → HasFaultCause (into S.sink out.old out.new) (kept_in K.keeper keep.old keep.new) result }
+        ensures tells { (heard written : Items ℕ) → IsOpen self.old heard written
+            → length heard + length bytes.now ≤ self.old.limits.received → Tells self.old heard
+            → Tells self.new (heard ++ bytes.now) }
+        ensures told { IfSome (terminal_of self.old) (λ t. terminal_of self.new ≡ Some t) }
         ensures done { self.old.stage ≡ Stage.Done
             → (result ≡ Ok Progress.Done) × (self.new ≡ self.old) × (keep.new ≡ keep.old) × (out.new ≡ out.old) }
     {
@@ -329,6 +366,9 @@ impl Client {
             (kept_in K.keeper keep.old keep.new) result }
         ensures cause { (heard written : Items ℕ) → IsOpen self.old heard written
             → HasFaultCause (into S.sink out.old out.new) (kept_in K.keeper keep.old keep.new) result }
+        ensures tells { (heard written : Items ℕ) → IsOpen self.old heard written → Tells self.old heard → MatchResult result
+            (λ told. Tells self.new (heard ++ take told.0 bytes.now)) (λ _. Tells self.new (heard ++ bytes.now)) }
+        ensures told { IfSome (terminal_of self.old) (λ t. terminal_of self.new ≡ Some t) }
         ensures done { self.old.stage ≡ Stage.Done
             → (result ≡ Ok (0, Move.Done)) × (self.new ≡ self.old) × (keep.new ≡ keep.old) × (out.new ≡ out.old) }
     {
@@ -352,6 +392,7 @@ impl Client {
                 if told != Move::Done {
                     return Ok((taken, told));
                 }
+                self.terminal = content.terminal();
                 self.stage.enter(Stage::Done);
                 Ok((taken, told))
             }
@@ -372,6 +413,9 @@ impl Client {
             → EndKeeps self.old.query self.old.limits heard before written (into S.sink out.old out.new) unkept result }
         ensures cause { (heard written : Items ℕ) → IsOpen self.old heard written
             → QuietUnlessSink (into S.sink out.old out.new) result }
+        ensures tells { (heard written : Items ℕ) → IsOpen self.old heard written → Tells self.old heard
+            → Tells self.new heard }
+        ensures told { terminal_of self.new ≡ terminal_of self.old }
         ensures done { self.old.stage ≡ Stage.Done
             → (result ≡ Ok tt) × (self.new ≡ self.old) × (out.new ≡ out.old) }
         ensures whole { result ≡ Ok tt → self.new.stage ≡ Stage.Done }
@@ -381,6 +425,7 @@ impl Client {
             Stage::Heads(_) => Err(FetchFault::BadReplyHead),
             Stage::Content(content) => {
                 content.end(out)?;
+                self.terminal = content.terminal();
                 self.stage.enter(Stage::Done);
                 Ok(())
             }

@@ -1,9 +1,10 @@
 //! The body of a reply behind its final head, while it comes.
-ghost use Rattle.std.specs.Prelude.{◌≡◌, ◌↔◌, ◌++◌, ◌+◌, ◌<◌, ◌≤◌, [], ℕ, List as Items, IfOk, IfSome, IsTrue, MatchResult, true, length, take};
+ghost use Rattle.std.specs.Prelude.{◌≡◌, ◌↔◌, ◌++◌, ◌+◌, ◌<◌, ◌≤◌, [], ℕ, List as Items, IfOk, IfSome, IsTrue, MatchResult, Ok, Some, true, length, take};
 ghost use Rattle.tg_fetch.specs.Faults.{QuietUnlessSink};
 ghost use Rattle.tg_fetch.specs.Keeping.{HasFaultCause, KeptRefused, StandIn, unkept};
 ghost use Rattle.tg_fetch.specs.KeepingSteps.{ContentEndKeeps, ContentKeeps, TakenIn};
 ghost use Rattle.tg_fetch.specs.Replies.{ContentEnds, ContentSteps, ContentStops, HeadStops, IsInContent, IsShortIn, MovesOn};
+ghost use Rattle.tg_fetch.specs.Telling.{IsTerminalReceived, IsToldBy, terminal_in};
 ghost use Rattle.tg_fetch.specs.Watched.{told_in};
 ghost use Rattle.tg_heard.specs.Carried.{HasAskedType};
 ghost use Rattle.tg_http.specs.Fields.{is_identity};
@@ -23,6 +24,7 @@ use tg_http::{Framing, ReplyHead};
 use tg_model::{Form, Keep, Limits, Query};
 use tg_query::is_type_of;
 use tg_streams::Sink;
+use tg_verify::Terminal;
 
 /// How a reply goes on behind bytes that were taken of it.
 #[derive(Clone, Copy, Debug, PartialEq, Eq)]
@@ -117,11 +119,21 @@ impl Content {
         ensures cause { (q : QueryParts) (limits : LimitNumbers) (heard written : Items ℕ)
             → IsInContent q limits self.old heard written
             → HasFaultCause (into S.sink out.old out.new) (kept_in K.keeper keep.old keep.new) result }
+        // What the path leads to in each sound DAG, refused or not; it never changes, and of a whole reply it is told.
+        ensures terminal { (q : QueryParts) (limits : LimitNumbers) (heard written : Items ℕ)
+            → IsInContent q limits self.old heard written → MatchResult result
+            (λ told. IsTerminalReceived q limits (heard ++ take told.0 bytes.now) (terminal_in self.new.sections))
+            (λ _. IsTerminalReceived q limits (heard ++ bytes.now) (terminal_in self.new.sections)) }
+        ensures told { IfSome (terminal_in self.old.sections) (λ t. terminal_in self.new.sections ≡ Some t) }
+        ensures reached { (q : QueryParts) (limits : LimitNumbers) (heard written : Items ℕ)
+            → IsInContent q limits self.old heard written
+            → IfOk result (λ told. told.1 ≡ Move.Done → IsToldBy q (terminal_in self.new.sections)) }
     {
         tg_heard::bodies_go_on();
         tg_client::laws::received_sections();
         tg_heard::heads_go_on();
         tg_client::laws::standing_bodies();
+        tg_client::laws::told_bodies();
         tg_heard::heard_is_one();
         let (taken, told) = self.reader.feed(bytes)?;
         match told {
@@ -135,6 +147,13 @@ impl Content {
                 Ok((taken, Move::Done))
             }
         }
+    }
+
+    /// What the query's path leads to, as the answer's verifier tells it.
+    pub(crate) fn terminal(&self) -> Option<Terminal>
+        ensures { result ≡ terminal_in self.now.sections }
+    {
+        self.sections.terminal()
     }
 
     /// How far the sections have come.
@@ -158,6 +177,10 @@ impl Content {
             → ContentEndKeeps q limits heard before written (into S.sink out.old out.new) unkept result }
         ensures cause { (q : QueryParts) (limits : LimitNumbers) (heard written : Items ℕ)
             → IsInContent q limits self.old heard written → QuietUnlessSink (into S.sink out.old out.new) result }
+        // What the path leads to stays, and of a whole reply it was told.
+        ensures terminal { terminal_in self.new.sections ≡ terminal_in self.old.sections }
+        ensures reached { (q : QueryParts) (limits : LimitNumbers) (heard written : Items ℕ)
+            → IsInContent q limits self.old heard written → result ≡ Ok tt → IsToldBy q (terminal_in self.new.sections) }
     {
         tg_heard::heads_go_on();
         tg_heard::bodies_go_on();

@@ -10,7 +10,7 @@ pub mod laws;
 mod sections;
 mod watch;
 
-pub use calls::{fetch, fetch_keep};
+pub use calls::{fetch, fetch_keep, fetch_telling};
 pub use client::Client;
 pub use fault::FetchFault;
 pub use watch::{Told, Unwatched, Watch};

@@ -1,10 +1,11 @@
 //! The sections that a body carries for a query, verified while it comes.
-ghost use Rattle.std.specs.Prelude.{◌++◌, ◌≡◌, [], ℕ, List as Items, Err, IfOk, MatchResult, None};
+ghost use Rattle.std.specs.Prelude.{◌++◌, ◌≡◌, [], ℕ, List as Items, Err, IfOk, IfSome, MatchResult, None, Ok, Some};
 ghost use Rattle.tg_fetch.specs.Bodies.{BodyStops, EndsTaking, FrontAndSays, IsBlockFault, IsTaking, IsTakingAbsence};
 ghost use Rattle.tg_fetch.specs.Bodies.{IsTakingBlock, StopsTaking, TakesOn};
 ghost use Rattle.tg_fetch.specs.Faults.{QuietUnlessSink, absence_fault};
 ghost use Rattle.tg_fetch.specs.Keeping.{HasFaultCause, unkept};
 ghost use Rattle.tg_fetch.specs.KeepingSteps.{BodyEndKeeps, BodyKeeps, TakenIn};
+ghost use Rattle.tg_fetch.specs.Telling.{terminal_in};
 ghost use Rattle.tg_fetch.specs.Watched.{told_in};
 ghost use Rattle.tg_heard.specs.Carried.{IsAbsenceHead, IsAnswerHead};
 ghost use Rattle.tg_http.specs.declared.reply.ReplyHead.{ReplyHead};
@@ -13,7 +14,9 @@ ghost use Rattle.tg_model.specs.LimitNumbers.{LimitNumbers};
 ghost use Rattle.tg_model.specs.Queries.{QueryParts};
 ghost use Rattle.tg_model.specs.Stores.{kept_in};
 ghost use Rattle.tg_streams.specs.Streams.{into};
+ghost use Rattle.tg_client.specs.Telling.{IsTerminalHeard};
 ghost use Rattle.tg_verify.specs.Sound.{ForEachSound};
+ghost use Rattle.tg_verify.specs.Terminals.{IsToldIn};
 
 use crate::fault::FetchFault;
 use crate::watch::Told;
@@ -24,7 +27,7 @@ use tg_cid::Cid;
 use tg_client::{CarBody, ClientFault};
 use tg_model::{Form, Keep, LimitKind, Limits, Query};
 use tg_streams::{DropSink, Sink};
-use tg_verify::{Refusal, Verifier};
+use tg_verify::{Refusal, Terminal, Verifier};
 
 /// What a body is, as the head and the query say.
 ///
@@ -104,6 +107,11 @@ impl Sections {
         ensures cause { (q : QueryParts) (limits : LimitNumbers) (head : ReplyHead) (given written : Items ℕ)
             → IsTaking q limits head self.old given written
             → HasFaultCause (into S.sink out.old out.new) (kept_in K.keeper keep.old keep.new) result }
+        // What the path leads to in each sound DAG, refused or not; it never changes.
+        ensures terminal { (q : QueryParts) (limits : LimitNumbers) (head : ReplyHead) (given written : Items ℕ)
+            → IsTaking q limits head self.old given written
+            → IsTerminalHeard q limits (given ++ part.now) (terminal_in self.new) }
+        ensures told { IfSome (terminal_in self.old) (λ t. terminal_in self.new ≡ Some t) }
     {
         tg_client::laws::standing_bodies();
         tg_client::laws::received_sections();
@@ -111,6 +119,16 @@ impl Sections {
             Sections::Answer(body) => Ok(body.feed_keep(part, keep, out)?),
             Sections::Absence(body) => show(body, part),
             Sections::Block(block) => block.add(part),
+        }
+    }
+
+    /// What the query's path leads to, as the answer's verifier tells it.
+    pub(crate) fn terminal(&self) -> Option<Terminal>
+        ensures { result ≡ terminal_in self.now }
+    {
+        match self {
+            Sections::Answer(body) => body.terminal(),
+            Sections::Absence(_) | Sections::Block(_) => None,
         }
     }
 
@@ -148,9 +166,16 @@ impl Sections {
             → BodyEndKeeps q limits head self.old given before written (into S.sink out.old out.new) unkept result }
         ensures cause { (q : QueryParts) (limits : LimitNumbers) (head : ReplyHead) (given written : Items ℕ)
             → IsTaking q limits head self.old given written → QuietUnlessSink (into S.sink out.old out.new) result }
+        // What the path leads to stays, and of an answer it was told.
+        ensures terminal { terminal_in self.new ≡ terminal_in self.old }
+        ensures told { (q : QueryParts) (limits : LimitNumbers) (head : ReplyHead) (given written : Items ℕ)
+            → IsTaking q limits head self.old given written → q.form ≡ Form.Car → result ≡ Ok tt
+            → IsToldIn q.scope (terminal_in self.new) }
     {
         tg_client::laws::standing_bodies();
         tg_client::laws::received_sections();
+        tg_client::laws::told_bodies();
+        tg_model_laws::verified_sections();
         match self {
             Sections::Answer(body) => Ok(body.end()?),
             Sections::Absence(body) => {

@@ -12,6 +12,7 @@ use Rattle.tg_fetch.specs.declared.fault.FetchFault.TheVariants as faults
 use Rattle.tg_fetch.proofs.Feeding.{answered_front, false_true, fed_all, fed_more, more_told, passed, some_there}
 use Rattle.tg_fetch.proofs.Longer.{refused_front}
 use Rattle.tg_fetch.proofs.KeptReplies.{answered_front_keeps, more_front, more_keeps, none_past, passed_keeps, refused_front_keeps}
+use Rattle.tg_fetch.proofs.Telling.{tells_front}
 use Rattle.tg_fetch.specs.Keeping.{KeptRefused}
 use Rattle.tg_model.specs.Stores.{kept_in}
 use Rattle.tg_fetch.proofs.client.Client.hear.Goals as goal
@@ -111,3 +112,33 @@ returns-then-is_empty-clause-kept g c heard written before h stand =
     let going : c.in_ok-look.field-0 ≡ progresses.Done → ⊥ = λ (done : c.in_ok-look.field-0 ≡ progresses.Done). false_true (rw done at c.if-eq.ensures) in
     more_front new heard front tail c.args.piece.now before written out keeping c.split_at.ensures.by_index.0 (none_past tail c.if-is_empty.ensures)
     (more_keeps c.in_ok-look.field-0 new heard front before written out keeping going (c.in_ok-look.ensures.kept heard written before h few stand))
+
+-- ---- what the path leads to
+
+pub returns-in_err-look-clause-tells : goal.returns-in_err-look-clause-tells
+returns-in_err-look-clause-tells g c heard written h t =
+    let front = c.split_at.result.0.now in
+    let few : length heard + length front ≤ c.args.self.now.limits.received =
+    omega (arith, h.count, h.within, c.number-most.ensures.number, c.min.ensures, c.min-room.ensures, c.split_at.ensures.front_len) in
+    tells_front c.look.new.self heard front c.split_at.result.1.now c.args.piece.now c.split_at.ensures.by_index.0 (c.look.ensures.tells heard written h few t)
+
+pub returns-then-eq-clause-tells : goal.returns-then-eq-clause-tells
+returns-then-eq-clause-tells g c heard written h t =
+    let front = c.split_at.result.0.now in
+    let few : length heard + length front ≤ c.args.self.now.limits.received =
+    omega (arith, h.count, h.within, c.number-most.ensures.number, c.min.ensures, c.min-room.ensures, c.split_at.ensures.front_len) in
+    tells_front c.look.new.self heard front c.split_at.result.1.now c.args.piece.now c.split_at.ensures.by_index.0 (c.look.ensures.tells heard written h few t)
+
+pub returns-then-is_empty-clause-tells : goal.returns-then-is_empty-clause-tells
+returns-then-is_empty-clause-tells g c heard written h t =
+    let front = c.split_at.result.0.now in
+    let few : length heard + length front ≤ c.args.self.now.limits.received =
+    omega (arith, h.count, h.within, c.number-most.ensures.number, c.min.ensures, c.min-room.ensures, c.split_at.ensures.front_len) in
+    tells_front c.look.new.self heard front c.split_at.result.1.now c.args.piece.now c.split_at.ensures.by_index.0 (c.look.ensures.tells heard written h few t)
+
+pub returns-clause-tells : goal.returns-clause-tells
+returns-clause-tells g c heard written h t =
+    let front = c.split_at.result.0.now in
+    let few : length heard + length front ≤ c.args.self.now.limits.received =
+    omega (arith, h.count, h.within, c.number-most.ensures.number, c.min.ensures, c.min-room.ensures, c.split_at.ensures.front_len) in
+    tells_front c.look.new.self heard front c.split_at.result.1.now c.args.piece.now c.split_at.ensures.by_index.0 (c.look.ensures.tells heard written h few t)

@@ -6,7 +6,9 @@ use Rattle.tg_fetch.specs.declared.client.Client.{Client}
 use Rattle.tg_fetch.proofs.Feeding.{answered_after, answered_all, done_all, fed_nothing, more_after, not_done, on_more, refused_after, refused_behind, rest_is, short_behind, still_few, wait_more}
 use Rattle.tg_fetch.proofs.KeptReplies.{all_waited, answered_at, answered_keeping, done_keeps, keeps_at, more_at, on_keeps, refused_at, refused_keeping, stands_further, stands_nothing, wait_keeps}
 use Rattle.tg_fetch.proofs.KeptSections.{cause_on, none_kept}
+use Rattle.tg_fetch.proofs.Telling.{tells_behind, tells_taken, told_on, told_stays}
 use Rattle.tg_fetch.specs.Keeping.{StandIn}
+use Rattle.tg_fetch.specs.Telling.{Tells, terminal_of}
 use Rattle.tg_fetch.specs.KeepingSteps.{StandsKeeping}
 use Rattle.tg_fetch.specs.declared.content.Move.{Move}
 use Rattle.tg_model.specs.Stores.{kept_in}
@@ -26,6 +28,8 @@ loop-taken-init g c = record {
       stands_nothing c.args.self.now.query c.args.self.now.limits all before (kept_in g.K.Keep.keeper c.args.keep.now c.args.keep.now)
       (subst (λ (l : List ℕ). StandIn c.args.self.now.query c.args.self.now.limits l before) (sym (append-nil heard)) stand)
       (none_kept g.K.Keep.keeper c.args.keep.now (g.met.K.Keep.rests c.args.keep.now));
+  tells = λ heard written h few t. subst (λ (l : List ℕ). Tells c.args.self.now l) (sym (append-nil heard)) t;
+  told = told_stays (terminal_of c.args.self.now);
   still = λ e. (refl, refl, refl);
 }
 
@@ -80,6 +84,11 @@ loop-taken-preserved g c =
           stands_further g.S.Sink.sink g.met.S.Sink.joins c.args.out.now c.loop-taken.out c.step.new.out written w.text w.put g.K.Keep.keeper g.met.K.Keep.joins c.kept_sections.ensures.joins
           c.args.keep.now c.loop-taken.keep c.step.new.keep c.heads_go_on.ensures fn.query fn.limits heard c.args.bytes.now i.front rest before i.bytes_are s (take taken rest)
           (on_keeps fn.query fn.limits ((heard ++ i.front) ++ take taken rest) (before ++ s.came) (written ++ w.text) out keeping c.in_ok-taken.told k c.in-On.is);
+      tells = λ heard written h few t.
+          let w = (i.goes heard written h few).0 in
+          subst (λ (l : List ℕ). Tells new l) (append_assoc heard i.front (take taken rest))
+          (e.tells (heard ++ i.front) (written ++ w.text) w.is_open (i.tells heard written h few t));
+      told = told_on (terminal_of c.args.self.now) (terminal_of c.loop-taken.self) (terminal_of new) i.told c.step.ensures.told;
       still = λ done. absurd (not_done taken c.in_ok-taken.told c.in-On.is (e.done (ap (λ (s : Client). s.stage) (i.still done).0 ∙ done)).0);
     }
 
@@ -214,3 +223,42 @@ returns-in-Done-clause-cause g c heard written h few =
     let w = went.0 in
     let e = c.in_ok-taken.ensures.cause (heard ++ i.front) (written ++ w.text) w.is_open in
     (e.0 ∙ went.1, e.1 ∙ went.2)
+
+-- ---- what the path leads to
+
+pub returns-in_err-taken-clause-tells : goal.returns-in_err-taken-clause-tells
+returns-in_err-taken-clause-tells g c heard written h few t =
+    let i = c.loop-taken.invariant in
+    let w = (i.goes heard written h few).0 in
+    tells_behind c.step.new.self heard c.args.bytes.now i.front c.loop-taken.rest.now i.bytes_are
+    (c.in_err-taken.ensures.tells (heard ++ i.front) (written ++ w.text) w.is_open (i.tells heard written h few t))
+
+pub returns-in_err-taken-clause-told : goal.returns-in_err-taken-clause-told
+returns-in_err-taken-clause-told g c =
+    told_on (terminal_of c.args.self.now) (terminal_of c.loop-taken.self) (terminal_of c.step.new.self) c.loop-taken.invariant.told c.step.ensures.told
+
+pub returns-in-Wait-clause-tells : goal.returns-in-Wait-clause-tells
+returns-in-Wait-clause-tells g c heard written h few t =
+    let i = c.loop-taken.invariant in
+    let w = (i.goes heard written h few).0 in
+    let rest = c.loop-taken.rest.now in
+    tells_behind c.step.new.self heard c.args.bytes.now i.front rest i.bytes_are
+    (tells_taken c.step.new.self (heard ++ i.front) rest c.in_ok-taken.taken
+    (c.in_ok-taken.ensures.tells (heard ++ i.front) (written ++ w.text) w.is_open (i.tells heard written h few t)))
+
+pub returns-in-Wait-clause-told : goal.returns-in-Wait-clause-told
+returns-in-Wait-clause-told g c =
+    told_on (terminal_of c.args.self.now) (terminal_of c.loop-taken.self) (terminal_of c.step.new.self) c.loop-taken.invariant.told c.step.ensures.told
+
+pub returns-in-Done-clause-tells : goal.returns-in-Done-clause-tells
+returns-in-Done-clause-tells g c heard written h few t =
+    let i = c.loop-taken.invariant in
+    let w = (i.goes heard written h few).0 in
+    let rest = c.loop-taken.rest.now in
+    tells_behind c.step.new.self heard c.args.bytes.now i.front rest i.bytes_are
+    (tells_taken c.step.new.self (heard ++ i.front) rest c.in_ok-taken.taken
+    (c.in_ok-taken.ensures.tells (heard ++ i.front) (written ++ w.text) w.is_open (i.tells heard written h few t)))
+
+pub returns-in-Done-clause-told : goal.returns-in-Done-clause-told
+returns-in-Done-clause-told g c =
+    told_on (terminal_of c.args.self.now) (terminal_of c.loop-taken.self) (terminal_of c.step.new.self) c.loop-taken.invariant.told c.step.ensures.told

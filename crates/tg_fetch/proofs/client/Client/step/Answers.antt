@@ -10,6 +10,8 @@ use Rattle.tg_fetch.specs.declared.client.Stage.TheVariants as stages
 use Rattle.tg_fetch.specs.contracts.content.Move.{the_type}
 use Rattle.tg_fetch.specs.declared.content.Move.TheVariants as moves
 use Rattle.tg_fetch.proofs.Feeding.{all_or_none, content_at, content_step, counted, done_step, false_true, goes_on, head_stops, heads_at, heads_none, heads_some, heads_step, heads_stop, in_content, in_heads, not_false}
+use Rattle.tg_fetch.proofs.Telling.{so_untold, tells_in_content, untold_fresh}
+use Rattle.tg_fetch.specs.Telling.{terminal_in}
 use Rattle.tg_fetch.proofs.KeptReplies.{before_heads, begins_keeping, head_keeps, heads_keep, heads_stand, open_of, stands_nothing, step_keeps}
 use Rattle.tg_fetch.proofs.KeptSections.{none_kept}
 use Rattle.tg_model.specs.Stores.{kept_in}
@@ -94,7 +96,7 @@ returns-else-ne-clause-ends g c heard written h few =
     let old = c.args.self.now in
     let bytes = c.args.bytes.now in
     let told = c.in_ok-taken-in-Content.told in
-    let new : Client = record old { heard = c.saturating_add-self-in-Content.result; stage = c.enter-in-Content.new.self } in
+    let new : Client = record old { heard = c.saturating_add-self-in-Content.result; stage = c.enter-in-Content.new.self; terminal = c.terminal-self.result } in
     let inside = in_content old.query old.limits old.stage c.in-Content.content heard written c.in-Content.is h.at in
     let done : told ≡ moves.Done = same_true the_type (search rules) _ _ (not_false _ c.if-ne.ensures) in
     done_step told new old.query old.limits c.take-in-Content.new.self heard bytes written (into g.S.Sink.sink c.args.out.now c.take-in-Content.new.out) c.in_ok-taken-in-Content.taken done refl refl c.enter-in-Content.ensures
@@ -177,3 +179,16 @@ pub returns-else-ne-clause-kept : goal.returns-else-ne-clause-kept
 returns-else-ne-clause-kept g c heard written before h few stand =
     let old = c.args.self.now in
     c.in_ok-taken-in-Content.ensures.kept old.query old.limits heard written before (in_content old.query old.limits old.stage c.in-Content.content heard written c.in-Content.is h.at) few stand
+
+-- ---- what the path leads to
+
+pub returns-in_ok-content-in-Heads-clause-tells : goal.returns-in_ok-content-in-Heads-clause-tells
+returns-in_ok-content-in-Heads-clause-tells g c heard written h t =
+    let old = c.args.self.now in
+    let all = heard ++ take c.in_ok-taken-in-Heads.taken c.args.bytes.now in
+    let made = c.in_ok-content-in-Heads in
+    let content = made.content in
+    let new : Client = record old { heard = c.saturating_add-self.result; stage = c.enter.new.self } in
+    tells_in_content new content all c.enter.ensures
+    (so_untold old.query old.limits all (terminal_in content.sections)
+    (untold_fresh old.query old.limits c.in-Some.head content.sections [] made.ensures.begins.taking))

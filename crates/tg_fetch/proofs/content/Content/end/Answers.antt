@@ -43,3 +43,8 @@ returns-clause-kept g c q limits heard written before h within stand =
     (into g.S.Sink.sink c.args.out.now c.end-2.new.out) unkept c.end-2.result
     (c.end-2.ensures.kept q limits h.head h.given written before h.taking
     (taken_here c.heads_go_on.ensures c.bodies_go_on.ensures q limits c.args.self.now heard written h before stand))
+
+-- ---- what the path leads to
+
+pub returns-clause-reached : goal.returns-clause-reached
+returns-clause-reached g c q limits heard written h ok form = c.end-2.ensures.told q limits h.head h.given written h.taking form ok

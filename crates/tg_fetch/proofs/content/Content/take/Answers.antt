@@ -1,4 +1,4 @@
-use Rattle.std.proofs.Common.{◌≡◌, ℕ, List, ◌++◌, take, drop, false, None, refl, sym, subst, ◌∙◌}
+use Rattle.std.proofs.Common.{◌≡◌, ℕ, List, ◌++◌, take, drop, false, None, Option, refl, sym, subst, ◌∙◌}
 use Rattle.std.specs.Prelude.{slice_range}
 use Rattle.std.proofs.Math.Seq.{take-length}
 use Rattle.std.proofs.lemmas.List.{take-append-drop}
@@ -7,8 +7,11 @@ use Rattle.tg_body.specs.History.{HasFeedCause}
 use Rattle.tg_body.specs.State.{StandsFor}
 use Rattle.tg_body.specs.declared.body.Body.TheVariants as bodies
 use Rattle.tg_http.specs.declared.framing.Framing.{Framing}
+use Rattle.tg_fetch.proofs.Telling.{so_behind, so_content, so_more, so_part}
+use Rattle.tg_fetch.specs.Telling.{IsTerminalReceived, terminal_in}
 use Rattle.tg_model.specs.Stores.{kept_in}
 use Rattle.tg_streams.specs.Streams.{into}
+use Rattle.tg_verify.specs.declared.terminal.Terminal.{Terminal}
 use Rattle.tg_fetch.proofs.Contents.{answered, closed_by, failed, framing_refused, goes_on, is_short, no_end, part_refused, takes_nothing, text_by, told_as}
 use Rattle.tg_fetch.proofs.Feeding.{front_few}
 use Rattle.tg_fetch.proofs.KeptReplies.{content_stands, framing_keeps, goes_on_nothing, part_keeps, taken_here, whole_answered, whole_refused}
@@ -175,3 +178,54 @@ returns-in_ok-end-in-End-clause-kept g c q limits heard written before h few sta
     (none_kept g.K.Keep.keeper c.args.keep.now (g.met.K.Keep.rests c.args.keep.now))
     (c.in_ok-end-in-End.ensures.kept q limits h.head h.given written before h.taking
     (taken_here c.heads_go_on.ensures c.bodies_go_on.ensures q limits c.args.self.now heard written h before stand))
+
+-- ---- what the path leads to
+
+pub returns-in_err-taken-clause-terminal : goal.returns-in_err-taken-clause-terminal
+returns-in_err-taken-clause-terminal g c q limits heard written h =
+    let p = err_from_is_err_and c.from_residual.result c.from_residual.ensures.1 in
+    let old = c.args.self.now in
+    rw p.1 (so_more q limits heard c.args.bytes.now (terminal_in old.sections) (so_content c.told_bodies.ensures q limits old heard written h))
+
+pub returns-in-Need-clause-terminal : goal.returns-in-Need-clause-terminal
+returns-in-Need-clause-terminal g c q limits heard written h =
+    let old = c.args.self.now in
+    so_more q limits heard (take c.in_ok-taken.taken c.args.bytes.now) (terminal_in old.sections) (so_content c.told_bodies.ensures q limits old heard written h)
+
+pub returns-in_ok-take-in-Part-clause-terminal : goal.returns-in_ok-take-in-Part-clause-terminal
+returns-in_ok-take-in-Part-clause-terminal g c q limits heard written h =
+    let old = c.args.self.now in
+    let piece : List ℕ = c.args.bytes.now in
+    let part : List ℕ = slice_range piece c.in-Part.start c.in-Part.end in
+    let reads = told_as q limits old heard written h c.feed.new.self piece c.in_ok-taken.taken c.in_ok-taken.told
+    (bodies.Part c.in-Part.start c.in-Part.end) c.in-Part.is (c.in_ok-taken.ensures.stands _ h.reads) in
+    so_part c.heads_go_on.ensures q limits old heard written h c.feed.new.self (h.given ++ part) (take c.in_ok-taken.taken piece) (terminal_in c.take.new.self)
+    c.in_ok-taken.ensures.framing reads (c.take.ensures.terminal q limits h.head h.given written h.taking)
+
+pub returns-in_err-take-in-Part-clause-terminal : goal.returns-in_err-take-in-Part-clause-terminal
+returns-in_err-take-in-Part-clause-terminal g c q limits heard written h =
+    let p = err_from_is_err_and c.from_residual-in_err-take-in-Part.result c.from_residual-in_err-take-in-Part.ensures.1 in
+    let old = c.args.self.now in
+    let piece : List ℕ = c.args.bytes.now in
+    let part : List ℕ = slice_range piece c.in-Part.start c.in-Part.end in
+    let reads = told_as q limits old heard written h c.feed.new.self piece c.in_ok-taken.taken c.in_ok-taken.told
+    (bodies.Part c.in-Part.start c.in-Part.end) c.in-Part.is (c.in_ok-taken.ensures.stands _ h.reads) in
+    rw p.1
+    (so_behind q limits heard piece c.in_ok-taken.taken (terminal_in c.take.new.self)
+    (so_part c.heads_go_on.ensures q limits old heard written h c.feed.new.self (h.given ++ part) (take c.in_ok-taken.taken piece) (terminal_in c.take.new.self)
+    c.in_ok-taken.ensures.framing reads (c.take.ensures.terminal q limits h.head h.given written h.taking)))
+
+pub returns-in_ok-end-in-End-clause-terminal : goal.returns-in_ok-end-in-End-clause-terminal
+returns-in_ok-end-in-End-clause-terminal g c q limits heard written h =
+    let old = c.args.self.now in
+    let front = take c.in_ok-taken.taken c.args.bytes.now in
+    subst (λ (t : Option Terminal). IsTerminalReceived q limits (heard ++ front) t) (sym c.end.ensures.terminal)
+    (so_more q limits heard front (terminal_in old.sections) (so_content c.told_bodies.ensures q limits old heard written h))
+
+pub returns-in_err-end-in-End-clause-terminal : goal.returns-in_err-end-in-End-clause-terminal
+returns-in_err-end-in-End-clause-terminal g c q limits heard written h =
+    let p = err_from_is_err_and c.from_residual-in_err-end-in-End.result c.from_residual-in_err-end-in-End.ensures.1 in
+    let old = c.args.self.now in
+    rw p.1
+    (subst (λ (t : Option Terminal). IsTerminalReceived q limits (heard ++ c.args.bytes.now) t) (sym c.end.ensures.terminal)
+    (so_more q limits heard c.args.bytes.now (terminal_in old.sections) (so_content c.told_bodies.ensures q limits old heard written h)))

@@ -1,4 +1,9 @@
-use Rattle.std.proofs.Common.{Err, List, ℕ, subst, sym}
+use Rattle.std.proofs.Common.{◌≡◌, Err, List, ℕ, Option, ap, subst, sym}
+use Rattle.tg_client.specs.declared.body.CarBody.{CarBody}
+use Rattle.tg_fetch.proofs.Telling.{all_told}
+use Rattle.tg_model.specs.Queries.{QueryParts}
+use Rattle.tg_verify.specs.Terminals.{IsToldIn}
+use Rattle.tg_verify.specs.declared.terminal.Terminal.{Terminal}
 use Rattle.std.proofs.lemmas.Result.{err_from_is_err_and}
 use Rattle.tg_fetch.specs.Bodies.{EndsTaking, IsTaking}
 use Rattle.tg_fetch.specs.declared.sections.Sections.{Sections}
@@ -89,3 +94,17 @@ returns-in-Block-clause-kept g c q limits head given written before taking taken
     subst (λ (s : Sections). BodyEndKeeps q limits head s given before written out unkept c.verify.result) (sym c.in-Block.is)
     (block_end_keeps q limits head given written out unkept before nothing_kept c.in-Block.block c.verify.result
     (returns-in-Block-clause-ends g c q limits head given written taking))
+
+-- ---- what the path leads to
+
+still_told : (q : QueryParts) (old new : CarBody) → new ≡ record old { verifier = record old.verifier { refused = new.verifier.refused }; refused = new.refused }
+    → IsToldIn q.scope old.verifier.terminal → IsToldIn q.scope new.verifier.terminal
+still_told q old new e told = subst (λ (t : Option Terminal). IsToldIn q.scope t) (sym (ap (λ (b : CarBody). b.verifier.terminal) e)) told
+
+pub returns-in_ok-end-in-Answer-clause-told : goal.returns-in_ok-end-in-Answer-clause-told
+returns-in_ok-end-in-Answer-clause-told g c q limits head given written taking form ok =
+    let h = subst (λ (s : Sections). IsTaking q limits head s given written) c.in-Answer.is taking in
+    let e = c.in_ok-end-in-Answer in
+    still_told q c.in-Answer.body c.end.new.self c.end.ensures.rest
+    (all_told c.verified_sections.ensures c.received_sections.ensures c.standing_bodies.ensures c.told_bodies.ensures q limits head c.in-Answer.body given written h
+    (e.ensures.stands given h.sections written h.is_body))

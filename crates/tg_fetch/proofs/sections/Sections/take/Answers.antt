@@ -1,5 +1,7 @@
-use Rattle.std.proofs.Common.{◌++◌, refl, subst, sym}
-use Rattle.std.specs.Prelude.{⊤}
+use Rattle.std.proofs.Common.{◌++◌, ◌≡◌, Some, refl, subst, sym}
+use Rattle.std.specs.Prelude.{IfSome, ⊤}
+use Rattle.tg_fetch.proofs.Telling.{heard_by_its, untold_heard}
+use Rattle.tg_fetch.specs.Telling.{terminal_in}
 use Rattle.std.proofs.lemmas.Result.{err_from_is_err_and}
 use Rattle.tg_fetch.specs.Bodies.{IsTaking}
 use Rattle.tg_fetch.specs.declared.sections.Sections.{Sections}
@@ -113,3 +115,30 @@ returns-in-Absence-clause-cause g c q limits head given written taking =
     let (h, none) = subst (λ (s : Sections). IsTaking q limits head s given written) c.in-Absence.is taking in
     quiet_also ⊤ (into g.S.Sink.sink c.args.out.now c.args.out.now) (kept_in g.K.Keep.keeper c.args.keep.now c.args.keep.now) c.show.result refl
     (quiet_other (into g.S.Sink.sink c.args.out.now c.args.out.now) c.show.result (c.show.ensures.cause h.is_body.unrefused h.is_body.fresh) (c.show.ensures.unkept h.is_body.unrefused) refl)
+
+-- ---- what the path leads to
+
+pub returns-in_err-feed_keep-in-Answer-clause-terminal : goal.returns-in_err-feed_keep-in-Answer-clause-terminal
+returns-in_err-feed_keep-in-Answer-clause-terminal g c q limits head given written taking =
+    let h = subst (λ (s : Sections). IsTaking q limits head s given written) c.in-Answer.is taking in
+    let v = c.in-Answer.body.verifier in
+    heard_by_its q v.left.query limits v.limits (given ++ c.args.part.now) c.feed_keep.new.self.verifier.terminal h.query h.limits_are
+    (c.feed_keep.ensures.terminal given h.sections written h.is_body)
+
+pub returns-in_err-feed_keep-in-Answer-clause-told : goal.returns-in_err-feed_keep-in-Answer-clause-told
+returns-in_err-feed_keep-in-Answer-clause-told g c =
+    subst (λ (s : Sections). IfSome (terminal_in s) (λ t. c.feed_keep.new.self.verifier.terminal ≡ Some t)) (sym c.in-Answer.is) c.feed_keep.ensures.told
+
+pub returns-in_ok-feed_keep-in-Answer-clause-terminal : goal.returns-in_ok-feed_keep-in-Answer-clause-terminal
+returns-in_ok-feed_keep-in-Answer-clause-terminal g c q limits head given written taking =
+    let h = subst (λ (s : Sections). IsTaking q limits head s given written) c.in-Answer.is taking in
+    let v = c.in-Answer.body.verifier in
+    heard_by_its q v.left.query limits v.limits (given ++ c.args.part.now) c.feed_keep.new.self.verifier.terminal h.query h.limits_are
+    (c.feed_keep.ensures.terminal given h.sections written h.is_body)
+
+pub returns-in_ok-feed_keep-in-Answer-clause-told : goal.returns-in_ok-feed_keep-in-Answer-clause-told
+returns-in_ok-feed_keep-in-Answer-clause-told g c =
+    subst (λ (s : Sections). IfSome (terminal_in s) (λ t. c.feed_keep.new.self.verifier.terminal ≡ Some t)) (sym c.in-Answer.is) c.feed_keep.ensures.told
+
+pub returns-in-Block-clause-terminal : goal.returns-in-Block-clause-terminal
+returns-in-Block-clause-terminal g c q limits head given written taking = untold_heard q limits (given ++ c.args.part.now)
