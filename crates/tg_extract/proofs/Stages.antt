@@ -1,5 +1,5 @@
 -- The text that was read, stage by stage.
-use Rattle.std.proofs.Common.{IsSomeAnd, None, Option, Some, All, Err, List, Ok, [], ap, ap₂, append_assoc, append-nil, arith, drop, get_or, length, refl, subst, sym, take, take-append-drop, Result}
+use Rattle.std.proofs.Common.{IsSomeAnd, None, Option, Some, All, Err, List, Ok, [], inl, inr, ap, ap₂, append_assoc, append-nil, arith, drop, get_or, length, refl, subst, sym, take, take-append-drop, Result}
 use Rattle.std.proofs.Common.{ℕ, ◌+◌, ◌++◌, ◌-◌, ◌<◌, ◌^◌, ◌∙◌, ◌∷◌, ◌≡◌, ◌≢◌, ◌≤◌}
 use Rattle.std.proofs.lemmas.List.{length-append, map-append, take_at}
 use Rattle.std.proofs.lemmas.List.Concat.{flat_map-append}
@@ -12,8 +12,8 @@ use Rattle.tg_bytes.specs.Lists.{All-split, same_front}
 use Rattle.tg_extract.proofs.LineTexts.{bare, line_ends}
 use Rattle.tg_extract.proofs.Paths.{not_empty, path_line}
 use Rattle.tg_extract.proofs.Sizes.{no_feed}
-use Rattle.tg_extract.specs.Extracts.{EndsLine, ExtractState, Extracts, HasExtractCause, HasLineCause, HasMadeLine, HasMadeText, IsAtContent, IsAtLine}
-use Rattle.tg_extract.specs.Extracts.{IsAtStage, IsFront, IsGoodRecord, IsOfBundle, PutHeld, StopsAt, StopsIn, bytes_made, made_text, open_text, record_made, records_made, text_of, text_read}
+use Rattle.tg_extract.specs.Extracts.{EndsLine, ExtractState, Extracts, Grows, HasExtractCause, HasLineCause, HasMadeLine, HasMadeText, HasStopped, IsAtContent, IsAtLine}
+use Rattle.tg_extract.specs.Extracts.{IsAtStage, IsGoodRecord, OfBundle, SameExtract, bytes_made, kind_of, made_text, open_text, record_made, records_made, text_of, text_read}
 use Rattle.tg_extract.specs.Laws.{FileIsMade, FrontIsMade, HasFirst, HasFirstBytes, WholeIsMade}
 use Rattle.tg_extract.specs.Lines.{IsGoodLine, IsGoodPath, line_text}
 use Rattle.tg_extract.specs.declared.extract.Stage.{Stage}
@@ -26,6 +26,8 @@ use Rattle.tg_model.specs.Texts.{dir_line, file_line}
 use Rattle.tg_new_tree.specs.NewTrees.{AddedTo, MadeMore, NewTreeMeaning, NewTreeRose, NewTreeStep, new_tree_step}
 use Rattle.tg_new_tree.specs.declared.made.Made.{Made}
 use Rattle.tg_new_tree.specs.declared.made.Made.TheVariants.{File, Folder}
+use Rattle.tg_verify.specs.declared.terminal.Terminal.{Terminal}
+use Rattle.tg_verify.specs.declared.terminal.Terminal.TheVariants as terminals
 
 -- ---- what was made, one more at the end
 
@@ -331,25 +333,44 @@ line_cause plain law made begun bytes front step faults.OutOfMemory at ends h = 
 abbrev stage_text : {S : Type 0} → NewTreeMeaning S → S → Stage → List ℕ
 stage_text m tree stage = text_read (m.made tree) stage
 
+no_unread : (text unread : List ℕ) → unread ≡ [] → text ++ unread ≡ text
+no_unread text unread none = ap (λ (l : List ℕ). text ++ l) none ∙ append-nil text
+
+-- what is known of an extract that goes on, before and after
+pub record GoesOn {S : Type 0} (old new : ExtractState S) : Type 0 where
+  pub none : old.unread ≡ []
+  pub still : new.unread ≡ old.unread
+  pub going : new.refused ≡ old.refused
+
+read_text : {S : Type 0} (m : NewTreeMeaning S) (old new : ExtractState S) (bytes : List ℕ) → GoesOn old new
+    → stage_text m new.tree new.stage ≡ stage_text m old.tree old.stage ++ bytes → text_of m new ≡ text_of m old ++ bytes
+read_text m old new bytes on e =
+    no_unread (stage_text m new.tree new.stage) new.unread (on.still ∙ on.none)
+    ∙ e
+    ∙ ap (λ (l : List ℕ). l ++ bytes) (sym (no_unread (stage_text m old.tree old.stage) old.unread on.none))
+
+read_grows : {S : Type 0} (m : NewTreeMeaning S) (old new : ExtractState S) (bytes : List ℕ) → GoesOn old new
+    → stage_text m new.tree new.stage ≡ stage_text m old.tree old.stage ++ bytes → m.place new.tree ≡ m.place old.tree → m.faults new.tree ≡ m.faults old.tree
+    → Grows m old new bytes
+read_grows m old new bytes on e place quiet =
+    record { text = read_text m old new bytes on e; place = place; going = λ h. sym on.going ∙ h; quiet = λ h. quiet }
+
 -- a stage that is told stays told
-of_line : (line : Line) (old new : List Made) (stage : Stage) → HasMadeLine line old new stage → IsOfBundle stage
-of_line (lines.Folder path) old new stage h = subst IsOfBundle (sym h.1) tt
-of_line (lines.File size path) old new stage h = subst IsOfBundle (sym h.1) tt
+of_line : (line : Line) (old new : List Made) (stage : Stage) → HasMadeLine line old new stage → kind_of stage ≡ Some terminals.Directory
+of_line (lines.Folder path) old new stage h = ap kind_of h.1
+of_line (lines.File size path) old new stage h = ap kind_of h.1
 of_line (lines.Link size path) old new stage h = absurd h
 
-pub line_extracts : {S : Type 0} (m : NewTreeMeaning S) (old new : ExtractState S) (begun bytes front : List ℕ) → IsAtStage (m.made old.tree) old.stage
+pub line_extracts : {S : Type 0} (m : NewTreeMeaning S) (old new : ExtractState S) (begun bytes front : List ℕ) → GoesOn old new → IsAtStage (m.made old.tree) old.stage
     → old.stage ≡ stages.Line begun → EndsLine bytes front → HasMadeText (begun ++ front) (m.made old.tree) (m.made new.tree) new.stage
-    → m.place new.tree ≡ m.place old.tree → new.refused ≡ old.refused → m.faults new.tree ≡ m.faults old.tree → Extracts m old new (take (length front + 1) bytes)
-line_extracts m old new begun bytes front at is ends made place going quiet =
+    → m.place new.tree ≡ m.place old.tree → m.faults new.tree ≡ m.faults old.tree → Extracts m old new (take (length front + 1) bytes)
+line_extracts m old new begun bytes front on at is ends made place quiet =
     let line : IsAtLine (m.made old.tree) begun = subst (IsAtStage (m.made old.tree)) is at in
     let next = line_made (m.made old.tree) (m.made new.tree) new.stage begun front line made in
     record {
-      text = next.1 ∙ ap₂ (λ (x y : List ℕ). x ++ y) (ap (stage_text m old.tree) (sym is)) (sym (take_line bytes front ends));
-      place = place;
-      bundle = λ h. of_line made.line (m.made old.tree) (m.made new.tree) new.stage made.made;
-      file = λ e. absurd cc;
-      going = λ h. sym going ∙ h;
-      quiet = λ h. quiet;
+      grows = read_grows m old new (take (length front + 1) bytes) on
+          (next.1 ∙ ap₂ (λ (x y : List ℕ). x ++ y) (ap (stage_text m old.tree) (sym is)) (sym (take_line bytes front ends))) place quiet;
+      kind = of_line made.line (m.made old.tree) (m.made new.tree) new.stage made.made ∙ sym (ap kind_of is);
     }
 
 pub line_stage : {S : Type 0} (m : NewTreeMeaning S) (tree new : S) (stage next : Stage) (begun front : List ℕ) → IsAtStage (m.made tree) stage
@@ -358,44 +379,37 @@ line_stage m tree new stage next begun front at is made =
     (line_made (m.made tree) (m.made new) next begun front (subst (IsAtStage (m.made tree)) is at) made).0
 
 pub line_fails : {S : Type 0} (m : NewTreeMeaning S) → EscapedIsPlain → FrontsAreRecords → (old : ExtractState S) (new : S) (begun bytes front : List ℕ) (fault : ExtractFault)
-    → IsAtStage (m.made old.tree) old.stage → old.stage ≡ stages.Line begun → EndsLine bytes front → HasLineCause (begun ++ front) (new_tree_step m old.tree new) fault
-    → HasExtractCause (m.made old.tree) (text_of m old) bytes (new_tree_step m old.tree new) fault
-line_fails m plain law old new begun bytes front fault at is ends cause =
-    subst (λ (s : Stage). HasExtractCause (m.made old.tree) (text_read (m.made old.tree) s) bytes (new_tree_step m old.tree new) fault) (sym is)
+    → old.unread ≡ [] → IsAtStage (m.made old.tree) old.stage → old.stage ≡ stages.Line begun → EndsLine bytes front
+    → HasLineCause (begun ++ front) (new_tree_step m old.tree new) fault → HasExtractCause (m.made old.tree) (text_of m old) bytes (new_tree_step m old.tree new) fault
+line_fails m plain law old new begun bytes front fault none at is ends cause =
+    subst (λ (l : List ℕ). HasExtractCause (m.made old.tree) l bytes (new_tree_step m old.tree new) fault)
+    (ap (stage_text m old.tree) (sym is) ∙ sym (no_unread (stage_text m old.tree old.stage) old.unread none))
     (line_cause plain law (m.made old.tree) begun bytes front (new_tree_step m old.tree new) fault (subst (IsAtStage (m.made old.tree)) is at) ends cause)
 
-pub end_extracts : {S : Type 0} (m : NewTreeMeaning S) (old new : ExtractState S) (bytes : List ℕ) → IsAtStage (m.made old.tree) old.stage
-    → old.stage ≡ stages.Content 0 → new.tree ≡ old.tree → new.refused ≡ old.refused → new.stage ≡ stages.Line [] → bytes ≡ line_feed ∷ []
-    → Extracts m old new bytes
-end_extracts {S = S} m old new bytes at is tree going stage one =
+pub end_extracts : {S : Type 0} (m : NewTreeMeaning S) (old new : ExtractState S) (bytes : List ℕ) → GoesOn old new → IsAtStage (m.made old.tree) old.stage
+    → old.stage ≡ stages.Content 0 → new.tree ≡ old.tree → new.stage ≡ stages.Line [] → bytes ≡ line_feed ∷ [] → Extracts m old new bytes
+end_extracts {S = S} m old new bytes on at is tree stage one =
     let next = content_done (m.made old.tree) (subst (IsAtStage (m.made old.tree)) is at) in
     record {
-      text = ap₂ (λ (t : S) (s : Stage). stage_text m t s) tree stage ∙ next.1
-          ∙ ap₂ (λ (x y : List ℕ). x ++ y) (ap (stage_text m old.tree) (sym is)) (sym one);
-      place = ap m.place tree;
-      bundle = λ h. subst IsOfBundle (sym stage) tt;
-      file = λ e. absurd cc;
-      going = λ h. sym going ∙ h;
-      quiet = λ h. ap m.faults tree;
+      grows = read_grows m old new bytes on
+          (ap₂ (λ (t : S) (s : Stage). stage_text m t s) tree stage ∙ next.1 ∙ ap₂ (λ (x y : List ℕ). x ++ y) (ap (stage_text m old.tree) (sym is)) (sym one))
+          (ap m.place tree) (ap m.faults tree);
+      kind = ap kind_of stage ∙ sym (ap kind_of is);
     }
 
 pub end_stage : {S : Type 0} (m : NewTreeMeaning S) (tree : S) (stage : Stage) → IsAtStage (m.made tree) stage → stage ≡ stages.Content 0 → IsAtLine (m.made tree) []
 end_stage m tree stage at is = (content_done (m.made tree) (subst (IsAtStage (m.made tree)) is at)).0
 
-pub added_extracts : {S : Type 0} (m : NewTreeMeaning S) (old new : ExtractState S) (bytes : List ℕ) (left n : ℕ) → IsAtStage (m.made old.tree) old.stage
+pub added_extracts : {S : Type 0} (m : NewTreeMeaning S) (old new : ExtractState S) (bytes : List ℕ) (left n : ℕ) → GoesOn old new → IsAtStage (m.made old.tree) old.stage
     → old.stage ≡ stages.Content left → AddedTo bytes (new_tree_step m old.tree new.tree) → length bytes ≡ n → n ≤ left → new.stage ≡ stages.Content (left - n)
-    → new.refused ≡ old.refused → m.faults new.tree ≡ m.faults old.tree → Extracts m old new bytes
-added_extracts m old new bytes left n at is added size few stage going quiet =
+    → m.faults new.tree ≡ m.faults old.tree → Extracts m old new bytes
+added_extracts m old new bytes left n on at is added size few stage quiet =
     let next =
     content_added (m.made old.tree) (m.made new.tree) added.before added.path added.held bytes left n (subst (IsAtStage (m.made old.tree)) is at) added.old added.new size few
     in
     record {
-      text = ap (stage_text m new.tree) stage ∙ next.1 ∙ ap (λ (s : Stage). stage_text m old.tree s ++ bytes) (sym is);
-      place = added.place;
-      bundle = λ h. subst IsOfBundle (sym stage) tt;
-      file = λ e. absurd cc;
-      going = λ h. sym going ∙ h;
-      quiet = λ h. quiet;
+      grows = read_grows m old new bytes on (ap (stage_text m new.tree) stage ∙ next.1 ∙ ap (λ (s : Stage). stage_text m old.tree s ++ bytes) (sym is)) added.place quiet;
+      kind = ap kind_of stage ∙ sym (ap kind_of is);
     }
 
 pub added_stage : {S : Type 0} (m : NewTreeMeaning S) (tree new : S) (stage : Stage) (bytes : List ℕ) (left n : ℕ) → IsAtStage (m.made tree) stage
@@ -403,12 +417,14 @@ pub added_stage : {S : Type 0} (m : NewTreeMeaning S) (tree new : S) (stage : St
 added_stage m tree new stage bytes left n at is added size few =
     (content_added (m.made tree) (m.made new) added.before added.path added.held bytes left n (subst (IsAtStage (m.made tree)) is at) added.old added.new size few).0
 
-pub content_fails : {S : Type 0} (m : NewTreeMeaning S) → FrontsAreFiles → (tree : S) (stage : Stage) (bytes : List ℕ) (b : ℕ) (behind : List ℕ)
-    → IsAtStage (m.made tree) stage → stage ≡ stages.Content 0 → bytes ≡ b ∷ behind → (b ≡ line_feed → ⊥) → (records : List Record) (rest : List ℕ)
-    → All IsGoodRecord records → text_read (m.made tree) stage ++ (bytes ++ rest) ≡ bundle_text records → ⊥
-content_fails m law tree stage bytes b behind at is first other records rest all e =
-    content_bad law (m.made tree) b behind rest records (subst (IsAtStage (m.made tree)) is at) other all
-    (ap₂ (λ (s : Stage) (l : List ℕ). text_read (m.made tree) s ++ (l ++ rest)) (sym is) (sym first) ∙ e)
+pub content_fails : {S : Type 0} (m : NewTreeMeaning S) → FrontsAreFiles → (old : ExtractState S) (bytes : List ℕ) (b : ℕ) (behind : List ℕ) → old.unread ≡ []
+    → IsAtStage (m.made old.tree) old.stage → old.stage ≡ stages.Content 0 → bytes ≡ b ∷ behind → (b ≡ line_feed → ⊥) → (records : List Record) (rest : List ℕ)
+    → All IsGoodRecord records → text_of m old ++ (bytes ++ rest) ≡ bundle_text records → ⊥
+content_fails m law old bytes b behind none at is first other records rest all e =
+    content_bad law (m.made old.tree) b behind rest records (subst (IsAtStage (m.made old.tree)) is at) other all
+    (ap₂ (λ (s : Stage) (l : List ℕ). stage_text m old.tree s ++ (l ++ rest)) (sym is) (sym first)
+    ∙ ap (λ (l : List ℕ). l ++ (bytes ++ rest)) (sym (no_unread (stage_text m old.tree old.stage) old.unread none))
+    ∙ e)
 
 -- the first byte
 pub first_is : (bytes : List ℕ) (b : ℕ) → 0 < length bytes → b ≡ get_or bytes 0 b → (behind : List ℕ) × (bytes ≡ b ∷ behind)
@@ -419,59 +435,164 @@ pub take_end : (bytes : List ℕ) (b : ℕ) → 0 < length bytes → b ≡ get_o
 take_end [] b some is end = absurd (omega (arith, some))
 take_end (x ∷ bytes) b some is end = ap (λ (n : ℕ). n ∷ []) (sym is ∙ end)
 
--- what was held goes in behind nothing
-pub nothing_of_bundle : {S : Type 0} (m : NewTreeMeaning S) (tree : S) (stage : Stage) → IsAtStage (m.made tree) stage → stage ≡ stages.Waiting []
-    → text_read (m.made tree) (stages.Line []) ≡ []
-nothing_of_bundle m tree stage at is =
-    let none : m.made tree ≡ [] = subst (IsAtStage (m.made tree)) is at in
-    ap (λ (made : List Made). text_read made (stages.Line [])) none
+-- ---- what was held is read
 
-pub nothing_of_file : {S : Type 0} (m : NewTreeMeaning S) (tree new : S) (stage : Stage) → IsAtStage (m.made tree) stage → stage ≡ stages.Waiting []
-    → MadeMore (File [] []) (new_tree_step m tree new) → text_read (m.made new) stages.File ≡ []
-nothing_of_file m tree new stage at is more =
-    let none : m.made tree ≡ [] = subst (IsAtStage (m.made tree)) is at in
-    ap bytes_made (more.made ∙ ap (λ (made : List Made). made ++ File [] [] ∷ []) none)
+-- nothing is read yet behind what is told
+pub record Begins {S : Type 0} (m : NewTreeMeaning S) (old middle : ExtractState S) (terminal : Terminal) (held : List ℕ) : Type 0 where
+  pub told : old.stage ≡ stages.Told terminal held
+  pub all : old.unread ≡ []
+  pub nothing : text_of m middle ≡ []
+  pub kind : kind_of middle.stage ≡ Some terminal
+  pub place : m.place middle.tree ≡ m.place old.tree
+  pub quiet : m.faults middle.tree ≡ m.faults old.tree
+  pub going : old.refused ≡ None
 
-pub held_front : {S V E : Type 0} (m : NewTreeMeaning S) (r : Result V E) (start middle new : ExtractState S) (held bytes : List ℕ) → start.stage ≡ stages.Waiting held
-    → text_of m middle ≡ [] → bytes ≡ held → OnErr r (PutHeld m middle new bytes) → OnErr r (IsFront (text_of m new) (text_of m start))
-held_front m (Ok v) start middle new held bytes was none same h = tt
-held_front m (Err e) start middle new held bytes was none same h = (
-  drop h.count bytes,
-  ap (stage_text m start.tree) was ∙ sym same ∙ sym (take-append-drop h.count bytes)
-      ∙ ap (λ (l : List ℕ). l ++ drop h.count bytes) (sym (h.put.text ∙ ap (λ (l : List ℕ). l ++ take h.count bytes) none)),
-)
+held_text : {S : Type 0} (m : NewTreeMeaning S) (old : ExtractState S) (terminal : Terminal) (held : List ℕ) → old.stage ≡ stages.Told terminal held → old.unread ≡ []
+    → text_of m old ≡ held
+held_text m old terminal held told all = no_unread (stage_text m old.tree old.stage) old.unread all ∙ ap (stage_text m old.tree) told
 
-pub stops_at : {S V E : Type 0} (m : NewTreeMeaning S) (r : Result V E) (old middle new : ExtractState S) (bytes : List ℕ) (at : ℕ) → middle.refused ≡ None
-    → Extracts m old middle (take at bytes)
-    → IsSomeAnd new.refused (HasExtractCause (m.made middle.tree) (text_of m middle) (drop at bytes) (new_tree_step m middle.tree new.tree))
-    → OnErr r (StopsAt m old new bytes)
-stops_at m (Ok v) old middle new bytes at going put cause = tt
-stops_at m (Err e) old middle new bytes at going put cause = record { middle = middle; count = at; going = going; put = put; cause = cause }
+begins_text : {S : Type 0} (m : NewTreeMeaning S) (old middle : ExtractState S) (terminal : Terminal) (held : List ℕ) → Begins m old middle terminal held
+    → text_of m middle ++ held ≡ text_of m old ++ []
+begins_text m old middle terminal held b =
+    ap (λ (l : List ℕ). l ++ held) b.nothing ∙ sym (held_text m old terminal held b.told b.all) ∙ sym (append-nil (text_of m old))
 
-pub held_stops : {S V E : Type 0} (m : NewTreeMeaning S) (r : Result V E) (start middle new : ExtractState S) (held bytes : List ℕ) → text_of m middle ≡ []
-    → bytes ≡ held → m.faults middle.tree ≡ m.faults start.tree → OnErr r (StopsAt m middle new bytes) → OnErr r (StopsIn m start new held)
-held_stops m (Ok v) start middle new held bytes none same quiet h = tt
-held_stops m (Err e) start middle new held bytes none same quiet h = record {
+stopped_behind : {S : Type 0} (m : NewTreeMeaning S) (old middle new : ExtractState S) (terminal : Terminal) (held : List ℕ) → Begins m old middle terminal held
+    → (terminal ≡ terminals.Symlink → ⊥) → HasStopped m middle new held → HasStopped m old new []
+stopped_behind m old middle new terminal held b other (inl h) =
+    let link : terminal ≡ terminals.Symlink = cc (sym b.kind ∙ h.kind) in
+    absurd (other link)
+stopped_behind m old middle new terminal held b other (inr h) = inr (record {
   middle = h.middle;
-  count = h.count;
-  text = h.put.text ∙ ap₂ (λ (x y : List ℕ). x ++ take h.count y) none same;
-  quiet = h.put.quiet h.going ∙ quiet;
-  cause = subst (λ (l : List ℕ). IsSomeAnd new.refused
-      (HasExtractCause (m.made h.middle.tree) (text_of m h.middle) (drop h.count l) (new_tree_step m h.middle.tree new.tree))) same h.cause;
-}
+  rest = h.rest;
+  text = sym (begins_text m old middle terminal held b) ∙ h.text;
+  quiet = h.quiet ∙ b.quiet;
+  cause = h.cause;
+  bundle = subst (λ (kind : Option Terminal). IsSomeAnd new.refused (OfBundle kind)) (b.kind ∙ sym (ap kind_of b.told)) h.bundle;
+})
 
-pub tree_stops : {S : Type 0} (m : NewTreeMeaning S) (start middle new : ExtractState S) (failed : S) (held : List ℕ) → text_of m middle ≡ []
-    → m.faults middle.tree ≡ m.faults start.tree → new.refused ≡ Some faults.Tree → new.tree ≡ failed → NewTreeRose (new_tree_step m middle.tree failed)
-    → StopsIn m start new held
-tree_stops {S = S} m start middle new failed held none quiet refused tree rose = record {
+pub held_stops : {S V E : Type 0} (m : NewTreeMeaning S) (r : Result V E) (old middle new : ExtractState S) (terminal : Terminal) (held : List ℕ)
+    → Begins m old middle terminal held → (terminal ≡ terminals.Symlink → ⊥) → OnErr r (HasStopped m middle new held) → OnErr r (HasStopped m old new [])
+held_stops m (Ok v) old middle new terminal held b other h = tt
+held_stops m (Err e) old middle new terminal held b other h = stopped_behind m old middle new terminal held b other h
+
+pub nothing_of_bundle : {S : Type 0} (m : NewTreeMeaning S) (tree : S) (stage : Stage) (terminal : Terminal) (held unread : List ℕ) → IsAtStage (m.made tree) stage
+    → stage ≡ stages.Told terminal held → unread ≡ [] → text_read (m.made tree) (stages.Line []) ++ unread ≡ []
+nothing_of_bundle m tree stage terminal held unread at is all =
+    let none : m.made tree ≡ [] = subst (IsAtStage (m.made tree)) is at in
+    no_unread (text_read (m.made tree) (stages.Line [])) unread all ∙ ap (λ (made : List Made). text_read made (stages.Line [])) none
+
+pub nothing_of_file : {S : Type 0} (m : NewTreeMeaning S) (tree new : S) (stage : Stage) (terminal : Terminal) (held unread : List ℕ) → IsAtStage (m.made tree) stage
+    → stage ≡ stages.Told terminal held → MadeMore (File [] []) (new_tree_step m tree new) → unread ≡ [] → text_read (m.made new) stages.File ++ unread ≡ []
+nothing_of_file m tree new stage terminal held unread at is more all =
+    let none : m.made tree ≡ [] = subst (IsAtStage (m.made tree)) is at in
+    no_unread (text_read (m.made new) stages.File) unread all ∙ ap bytes_made (more.made ∙ ap (λ (made : List Made). made ++ File [] [] ∷ []) none)
+
+-- ---- why it stops
+
+-- what it stopped at wasn't read, and is left
+pub left_extracts : {S : Type 0} (m : NewTreeMeaning S) (old middle new : ExtractState S) (fault : ExtractFault) (bytes : List ℕ) (at : ℕ)
+    → Extracts m old middle (take at bytes) → middle.unread ≡ [] → SameExtract m middle new → new.refused ≡ Some fault → new.unread ≡ drop at bytes
+    → Extracts m old new bytes
+left_extracts m old middle new fault bytes at put none same refused left =
+    let stays : stage_text m new.tree new.stage ≡ text_of m middle =
+    ap₂ (λ (made : List Made) (s : Stage). text_read made s) same.made same.stage ∙ sym (no_unread (stage_text m middle.tree middle.stage) middle.unread none) in
+    record {
+      grows = record {
+        text = ap₂ (λ (x y : List ℕ). x ++ y) (stays ∙ put.grows.text) left ∙ append_assoc (text_of m old) (take at bytes) (drop at bytes)
+            ∙ ap (λ (l : List ℕ). text_of m old ++ l) (take-append-drop at bytes);
+        place = same.place ∙ put.grows.place;
+        going = λ e. absurd (cc (sym refused ∙ e));
+        quiet = λ e. absurd (cc (sym refused ∙ e));
+      };
+      kind = ap kind_of same.stage ∙ put.kind;
+    }
+
+some_cause : {S : Type 0} (m : NewTreeMeaning S) (middle new : ExtractState S) (failed : S) (fault : ExtractFault) (rest : List ℕ) → new.refused ≡ Some fault
+    → new.tree ≡ failed → HasExtractCause (m.made middle.tree) (text_of m middle) rest (new_tree_step m middle.tree failed) fault
+    → IsSomeAnd new.refused (HasExtractCause (m.made middle.tree) (text_of m middle) rest (new_tree_step m middle.tree new.tree))
+some_cause {S = S} m middle new failed fault rest refused tree cause =
+    subst (λ (r : Option ExtractFault). IsSomeAnd r (HasExtractCause (m.made middle.tree) (text_of m middle) rest (new_tree_step m middle.tree new.tree))) (sym refused)
+    (subst (λ (t : S). HasExtractCause (m.made middle.tree) (text_of m middle) rest (new_tree_step m middle.tree t) fault) (sym tree) cause)
+
+some_bundle : (kind of : Option Terminal) (refused : Option ExtractFault) (fault : ExtractFault) → refused ≡ Some fault → of ≡ kind → OfBundle of fault
+    → IsSomeAnd refused (OfBundle kind)
+some_bundle kind of refused fault is same h =
+    subst (λ (r : Option ExtractFault). IsSomeAnd r (OfBundle kind)) (sym is) (subst (λ (k : Option Terminal). OfBundle k fault) same h)
+
+pub left_stops : {S : Type 0} (m : NewTreeMeaning S) (old middle new : ExtractState S) (failed : S) (fault : ExtractFault) (bytes : List ℕ) (at : ℕ)
+    → Extracts m old middle (take at bytes) → middle.refused ≡ None → new.refused ≡ Some fault → new.tree ≡ failed
+    → HasExtractCause (m.made middle.tree) (text_of m middle) (drop at bytes) (new_tree_step m middle.tree failed) fault
+    → OfBundle (kind_of middle.stage) fault → HasStopped m old new bytes
+left_stops m old middle new failed fault bytes at put going refused tree cause of = inr (record {
   middle = middle;
-  count = 0;
-  text = none;
-  quiet = quiet;
-  cause = subst (λ (r : Option ExtractFault). IsSomeAnd r
-      (HasExtractCause (m.made middle.tree) (text_of m middle) (drop 0 held) (new_tree_step m middle.tree new.tree))) (sym refused)
-      (subst (λ (t : S). NewTreeRose (new_tree_step m middle.tree t)) (sym tree) rose);
-}
+  rest = drop at bytes;
+  text = ap (λ (l : List ℕ). text_of m old ++ l) (sym (take-append-drop at bytes)) ∙ sym (append_assoc (text_of m old) (take at bytes) (drop at bytes))
+      ∙ ap (λ (l : List ℕ). l ++ drop at bytes) (sym put.grows.text);
+  quiet = put.grows.quiet going;
+  cause = some_cause m middle new failed fault (drop at bytes) refused tree cause;
+  bundle = some_bundle (kind_of old.stage) (kind_of middle.stage) new.refused fault refused put.kind of;
+})
+
+pub tree_stops : {S : Type 0} (m : NewTreeMeaning S) (old new : ExtractState S) (failed : S) → new.refused ≡ Some faults.Tree → new.tree ≡ failed
+    → NewTreeRose (new_tree_step m old.tree failed) → HasStopped m old new []
+tree_stops m old new failed refused tree rose = inr (record {
+  middle = old;
+  rest = [];
+  text = refl;
+  quiet = refl;
+  cause = some_cause m old new failed faults.Tree [] refused tree rose;
+  bundle = some_bundle (kind_of old.stage) (kind_of old.stage) new.refused faults.Tree refused refl tt;
+})
+
+-- nothing of these bytes was read
+-- a cause stays one where more stands behind it
+more_behind : (made : List Made) (text rest bytes : List ℕ) (step : NewTreeStep) (fault : ExtractFault) → HasExtractCause made text rest step fault
+    → HasExtractCause made text (rest ++ bytes) step fault
+more_behind made text rest bytes step faults.Tree h = h
+more_behind made text rest bytes step (faults.NotPlain path) h =
+    let n = h.1 in
+    let front = take n rest in
+    let whole : rest ++ bytes ≡ front ++ (drop n rest ++ bytes) =
+    ap (λ (l : List ℕ). l ++ bytes) (sym (take-append-drop n rest)) ∙ append_assoc front (drop n rest) bytes in
+    let same : take (length front) (rest ++ bytes) ≡ front = ap (take (length front)) whole ∙ take_at front (drop n rest ++ bytes) (length front) refl in
+    (h.0, length front, ap (λ (l : List ℕ). text ++ l) same ∙ h.2, h.3)
+more_behind made text rest bytes step faults.BadText h =
+    (λ records behind all e. h.0 records (bytes ++ behind) all (ap (λ (l : List ℕ). text ++ l) (sym (append_assoc rest bytes behind)) ∙ e), h.1)
+more_behind made text rest bytes step faults.OutOfMemory h = h
+
+some_more : (made : List Made) (text rest bytes : List ℕ) (step : NewTreeStep) (refused : Option ExtractFault) → IsSomeAnd refused (HasExtractCause made text rest step)
+    → IsSomeAnd refused (HasExtractCause made text (rest ++ bytes) step)
+some_more made text rest bytes step None h = absurd h
+some_more made text rest bytes step (Some fault) h = more_behind made text rest bytes step fault h
+
+before : {S : Type 0} (m : NewTreeMeaning S) (old new : ExtractState S) (bytes : List ℕ) → HasStopped m old new [] → HasStopped m old new bytes
+before m old new bytes (inl h) = inl (record { kind = h.kind; cause = h.cause; same = h.same })
+before m old new bytes (inr h) = inr (record {
+  middle = h.middle;
+  rest = h.rest ++ bytes;
+  text = ap (λ (l : List ℕ). l ++ bytes) (sym (append-nil (text_of m old)) ∙ h.text) ∙ append_assoc (text_of m h.middle) h.rest bytes;
+  quiet = h.quiet;
+  cause = some_more (m.made h.middle.tree) (text_of m h.middle) h.rest bytes (new_tree_step m h.middle.tree new.tree) new.refused h.cause;
+  bundle = h.bundle;
+})
+
+pub stops_before : {S V E : Type 0} (m : NewTreeMeaning S) (r : Result V E) (old new : ExtractState S) (bytes : List ℕ) → HasStopped m old new []
+    → OnErr r (HasStopped m old new bytes)
+stops_before m (Ok v) old new bytes h = tt
+stops_before m (Err e) old new bytes h = before m old new bytes h
+
+pub stops_behind : {S : Type 0} (m : NewTreeMeaning S) (old middle new : ExtractState S) (failed : S) (fault : ExtractFault) (bytes : List ℕ) → Extracts m old middle []
+    → middle.refused ≡ None → new.refused ≡ Some fault → new.tree ≡ failed
+    → HasExtractCause (m.made middle.tree) (text_of m middle) bytes (new_tree_step m middle.tree failed) fault
+    → OfBundle (kind_of middle.stage) fault → HasStopped m old new bytes
+stops_behind m old middle new failed fault bytes put going refused tree cause of = inr (record {
+  middle = middle;
+  rest = bytes;
+  text = ap (λ (l : List ℕ). l ++ bytes) (sym (append-nil (text_of m old)) ∙ sym put.grows.text);
+  quiet = put.grows.quiet going;
+  cause = some_cause m middle new failed fault bytes refused tree cause;
+  bundle = some_bundle (kind_of old.stage) (kind_of middle.stage) new.refused fault refused put.kind of;
+})
 
 -- ---- what was made of a bundle
 
@@ -483,6 +604,7 @@ whole_line law made line records all at none e =
 
 pub whole_is_made : BundlesDiffer → WholeIsMade
 whole_is_made law made (stages.Waiting held) records all at of whole e = absurd of
+whole_is_made law made (stages.Told terminal held) records all at of whole e = absurd of
 whole_is_made law made stages.File records all at of whole e = absurd of
 whole_is_made law made (stages.Line line) records all at of whole e = whole_line law made line records all at whole e
 whole_is_made law made (stages.Content left) records all at of whole e = absurd whole
@@ -514,6 +636,7 @@ front_content law made left rest records all at e =
 
 pub front_is_made : FrontsAreRecords → FrontsAreFiles → FrontIsMade
 front_is_made first second made (stages.Waiting held) records rest all at of e = absurd of
+front_is_made first second made (stages.Told terminal held) records rest all at of e = absurd of
 front_is_made first second made stages.File records rest all at of e = absurd of
 front_is_made first second made (stages.Line line) records rest all at of e = front_line first made line rest records all at e
 front_is_made first second made (stages.Content left) records rest all at of e = front_content second made left rest records all at e

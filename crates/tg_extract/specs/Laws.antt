@@ -31,6 +31,7 @@ pub record HasFirstBytes (made : List Made) (left : ℕ) (records : List Record)
 
 abbrev pub HasBegun : List Made → Stage → List Record → Type 0
 HasBegun made (stages.Waiting held) records = ⊥
+HasBegun made (stages.Told terminal held) records = ⊥
 HasBegun made stages.File records = ⊥
 HasBegun made (stages.Line line) records = HasFirst made records
 HasBegun made (stages.Content left) records = HasFirstBytes made left records

@@ -1,9 +1,9 @@
 //! A text that is made into a tree as it comes.
 ghost use Rattle.std.specs.Prelude.{◌≡◌, ◌≢◌, ◌<◌, ◌≤◌, ◌++◌, ◌↔◌, [], IfOk, IfSome, IsErr, IsTrue, None, OnErr, OnOk};
-ghost use Rattle.std.specs.Prelude.{All, IfErr, IfNone, IsSomeAnd, List as Items, MatchOption, Some, length, option_copied, take, ℕ};
+ghost use Rattle.std.specs.Prelude.{All, IfErr, MatchOption, Some, length, option_copied, take, ℕ};
 ghost use Rattle.tg_bytes.specs.Ascii.{line_feed};
-ghost use Rattle.tg_extract.specs.Extracts.{EndsLine, Extracts, HasExtractCause, HasLineCause, HasMadeLine, HasMadeText, HasMakeCause, IsAtStage, IsFront};
-ghost use Rattle.tg_extract.specs.Extracts.{IsOfBundle, IsWhole, PutHeld, SameExtract, StopsAt, StopsIn, extract_joins, extract_rests, extract_sink, text_of};
+ghost use Rattle.tg_extract.specs.Extracts.{EndsLine, Extracts, HasExtractCause, HasLineCause, HasMadeLine, HasMadeText, HasMakeCause, HasStopped, IsAtStage};
+ghost use Rattle.tg_extract.specs.Extracts.{IsRead, IsWhole, OfBundle, SameExtract, extract_joins, extract_rests, extract_sink, kind_of, text_of};
 ghost use Rattle.tg_extract.specs.declared.extract.Stage.{Stage};
 ghost use Rattle.tg_extract.specs.declared.fault.ExtractFault.{ExtractFault};
 ghost use Rattle.tg_new_tree.specs.NewTrees.{AddedTo, BegunAt, NewTreeFailed, NewTreeQuiet, new_tree_step};
@@ -20,12 +20,15 @@ use tg_faults::Failed;
 use tg_new_tree::NewTree;
 use tg_query::cut_first;
 use tg_streams::Sink;
+use tg_verify::Terminal;
 
 /// How far a text was read.
 #[derive(Drop)]
 pub(crate) enum Stage {
     /// What it is of isn't told yet: all that came.
     Waiting(Bytes),
+    /// It is told, and nothing was read since: all that came.
+    Told(Terminal, Bytes),
     /// It is one file's bytes.
     File,
     /// The first line of a record is to end: what came of it.
@@ -35,16 +38,19 @@ pub(crate) enum Stage {
 }
 
 /// A sink that makes a tree of the text of an answer as it comes: of a directory's bundle its folders and files, each as soon as its record
-/// begins, and of any other text one file. Which of the two the text is isn't seen from it, since a file may hold what looks like a bundle,
-/// and is to be told by `read_bundle` or `read_file`; until then the text is held. A symbolic link isn't made, and stops it.
+/// begins, and of a file's text that file. Which of the two the text is isn't seen from it, since a file may hold what looks like a bundle,
+/// and is to be told by `tell`; until then the text is held, and it is read with the bytes that come next, or by `finish`. A symbolic link
+/// isn't made, and stops it.
 ///
-/// Contracts see the text that was read, which is just what was made says: `held` is that text. Beside it a file's bytes are held in memory
-/// never, and of a record its first line alone.
+/// Contracts see the text that came, which is what was made says and what isn't read: `held` is that text. Once it was told, a file's bytes
+/// aren't held in memory, and of a record its first line alone.
 #[derive(Drop)]
 pub struct Extract<T: NewTree> {
     alloc: Global,
     tree: T,
     stage: Stage,
+    left: Bytes,
+    left_at: usize,
     refused: Option<ExtractFault>,
     failed: u64,
 }
@@ -54,9 +60,11 @@ impl<T: NewTree> Model for Extract<T> {
 
     ghost Value = { ExtractState T };
 
-    ghost view = { λ e. record { tree = e.tree; stage = e.stage; refused = e.refused; faults = e.failed } };
+    ghost use Rattle.std.specs.Prelude.{◌≡◌, None, [], drop};
 
-    ghost invariant = { λ e. IsAtStage (T.new_tree.made e.tree) e.stage };
+    ghost view = { λ e. record { tree = e.tree; stage = e.stage; unread = drop e.left_at e.left; refused = e.refused; faults = e.failed } };
+
+    ghost invariant = { λ e. IsAtStage (T.new_tree.made e.tree) e.stage × (e.refused ≡ None → drop e.left_at e.left ≡ []) };
 }
 
 impl<T: NewTree + Drop> Extract<T> {
@@ -65,6 +73,7 @@ impl<T: NewTree + Drop> Extract<T> {
         requires { T.new_tree.made tree ≡ [] }
         ensures tree { result.tree ≡ tree }
         ensures text { text_of T.new_tree result ≡ [] }
+        ensures kind { kind_of result.stage ≡ None }
         ensures refused { result.refused ≡ None }
         ensures faults { result.faults ≡ 0 }
     {
@@ -72,6 +81,8 @@ impl<T: NewTree + Drop> Extract<T> {
             alloc,
             tree,
             stage: Stage::Waiting(Bytes::new(alloc)),
+            left: Bytes::new(alloc),
+            left_at: 0,
             refused: None,
             failed: 0,
         }
@@ -82,14 +93,17 @@ impl<T: NewTree + Drop> Extract<T> {
     pub fn begin(&mut self, path: &str) -> Result<(), Failed>
         ensures at { OnOk result (BegunAt path.now (new_tree_step T.new_tree self.old.tree self.new.tree)) }
         ensures text { OnOk result (text_of T.new_tree self.new ≡ []) }
+        ensures kind { OnOk result (kind_of self.new.stage ≡ None) }
         ensures refused { OnOk result (self.new.refused ≡ None) }
         ensures faults { self.new.faults ≡ self.old.faults }
         ensures quiet { OnOk result (NewTreeQuiet (new_tree_step T.new_tree self.old.tree self.new.tree)) }
         ensures err { OnErr result (NewTreeFailed (new_tree_step T.new_tree self.old.tree self.new.tree)) }
-        ensures err_same { OnErr result ((self.new.stage ≡ self.old.stage) × (self.new.refused ≡ self.old.refused)) }
+        ensures err_same { OnErr result (self.new ≡ record self.old { tree = self.new.tree }) }
     {
         self.tree.begin(path)?;
         self.stage = Stage::Waiting(Bytes::new(self.alloc));
+        self.left = Bytes::new(self.alloc);
+        self.left_at = 0;
         self.refused = None;
         Ok(())
     }
@@ -117,7 +131,7 @@ impl<T: NewTree + Drop> Extract<T> {
         match &self.stage {
             Stage::File => true,
             Stage::Line(line) => line.as_slice().is_empty(),
-            Stage::Waiting(_) | Stage::Content(_) => false,
+            Stage::Waiting(_) | Stage::Told(..) | Stage::Content(_) => false,
         }
     }
 }
@@ -134,8 +148,9 @@ impl<T: NewTree + Drop> Sink for Extract<T> {
 
     ghost joins = { λ a b c u v. extract_joins T.new_tree a b c u v };
 
-    /// Reads up to the end of a first line, of a file's bytes, or of the bytes that came. It fails once and for all where the tree failed,
-    /// where a symbolic link stands, where no bundle goes on so, and for want of memory; `refusal` tells which.
+    /// Reads what is held where it is told what it is of, and then up to the end of a first line, of a file's bytes, or of the bytes that came.
+    /// It fails once and for all where the tree failed, where a symbolic link stands, where of a directory's text no bundle goes on so, and for
+    /// want of memory; `refusal` tells which.
     fn put(&mut self, bytes: &[u8]) -> Result<usize, Failed>
         ensures within { IfOk result (λ n. n ≤ length bytes.now) }
         ensures moves { IfOk result (λ n. 0 < length bytes.now → 0 < n) }
@@ -147,16 +162,16 @@ impl<T: NewTree + Drop> Sink for Extract<T> {
 
         // What stands behind an error, and when one comes.
         ensures ok { OnOk result (self.new.refused ≡ None) }
-        ensures cause { self.old.refused ≡ None → OnErr result (IsSomeAnd self.new.refused
-            (HasExtractCause (T.new_tree.made self.old.tree) (text_of T.new_tree self.old) bytes.now (new_tree_step T.new_tree self.old.tree self.new.tree))) }
-        ensures err_same { OnErr result ((T.new_tree.made self.new.tree ≡ T.new_tree.made self.old.tree)
-            × (self.new.stage ≡ self.old.stage)) }
+        ensures read { OnOk result (IsRead self.new.stage) }
+        ensures err_refused { OnErr result (self.new.refused ≢ None) }
+        ensures cause { self.old.refused ≡ None → OnErr result (HasStopped T.new_tree self.old self.new bytes.now) }
         ensures again { (fault : ExtractFault) → self.old.refused ≡ Some fault
             → IsErr result × (self.new ≡ record self.old { faults = self.new.faults }) }
     {
         if self.refused.is_some() {
             return Err(self.fault());
         }
+        self.read_held()?;
         match self.read(bytes) {
             Ok(n) => Ok(n),
             Err(fault) => Err(self.stop(fault)),
@@ -165,74 +180,91 @@ impl<T: NewTree + Drop> Sink for Extract<T> {
 }
 
 impl<T: NewTree + Drop> Extract<T> {
-    /// Says that the text is a directory's bundle, where it wasn't told yet what it is of: what was held is read, and what comes is read at
-    /// once. The error is one of `put`, behind a front of what was held.
-    pub fn read_bundle(&mut self) -> Result<(), Failed>
-        ensures text { OnOk result (text_of T.new_tree self.new ≡ text_of T.new_tree self.old) }
-        ensures place { T.new_tree.place self.new.tree ≡ T.new_tree.place self.old.tree }
-        ensures told { (held : Items ℕ) → self.old.stage ≡ Stage.Waiting held → OnOk result (IsOfBundle self.new.stage) }
-        ensures front { OnErr result (IsFront (text_of T.new_tree self.new) (text_of T.new_tree self.old)) }
-        ensures err_refused { OnErr result (self.new.refused ≢ None) }
-        ensures cause { (held : Items ℕ) → self.old.stage ≡ Stage.Waiting held → self.old.refused ≡ None
-            → OnErr result (StopsIn T.new_tree self.old self.new held) }
-        ensures rose { OnErr result (Rose self.old.faults self.new.faults) }
-        ensures quiet { OnOk result (self.new.faults ≡ self.old.faults) }
+    /// Says what the text is of, where it wasn't told yet. Nothing is read or made; what was told before stays.
+    pub fn tell(&mut self, terminal: Terminal)
+        ensures told { kind_of self.old.stage ≡ None → kind_of self.new.stage ≡ Some terminal }
+        ensures stays { IfSome (kind_of self.old.stage) (λ _. self.new ≡ self.old) }
+        ensures text { text_of T.new_tree self.new ≡ text_of T.new_tree self.old }
+        ensures rest { self.new ≡ record self.old { stage = self.new.stage } }
     {
-        let Some(held) = self.take_held() else {
+        if let Stage::Waiting(held) = &mut self.stage {
+            let held = replace(held, Bytes::new(self.alloc));
+            self.stage = Stage::Told(terminal, held);
+        }
+    }
+
+    /// Reads what is held, where it was told what the text is of: a text that is told to be a file's makes that file, though nothing came of
+    /// it. The error is one of `put`.
+    pub fn finish(&mut self) -> Result<(), Failed>
+        ensures text { Extracts T.new_tree self.old self.new [] }
+        ensures quiet { OnOk result ((self.new.refused ≡ None) × (self.new.faults ≡ self.old.faults)) }
+        ensures read { OnOk result (IsRead self.new.stage) }
+        ensures err_refused { OnErr result (self.new.refused ≢ None) }
+        ensures rose { OnErr result (Rose self.old.faults self.new.faults) }
+        ensures cause { self.old.refused ≡ None → OnErr result (HasStopped T.new_tree self.old self.new []) }
+        ensures again { (fault : ExtractFault) → self.old.refused ≡ Some fault
+            → IsErr result × (self.new ≡ record self.old { faults = self.new.faults }) }
+    {
+        if self.refused.is_none() {
+            self.read_held()
+        } else {
+            Err(self.fault())
+        }
+    }
+
+    /// Reads what is held where it is told what it is of, and nothing stopped it. The error is one of `put`.
+    fn read_held(&mut self) -> Result<(), Failed>
+        requires { self.old.refused ≡ None }
+        ensures text { Extracts T.new_tree self.old self.new [] }
+        ensures quiet { OnOk result ((self.new.refused ≡ None) × (self.new.faults ≡ self.old.faults)) }
+        ensures read { OnOk result (IsRead self.new.stage) }
+        ensures err_refused { OnErr result (self.new.refused ≢ None) }
+        ensures rose { OnErr result (Rose self.old.faults self.new.faults) }
+        ensures counted { self.old.faults ≤ self.new.faults }
+        ensures cause { OnErr result (HasStopped T.new_tree self.old self.new []) }
+    {
+        let Stage::Told(terminal, held) = &mut self.stage else {
             return Ok(());
         };
-        self.stage = Stage::Line(Bytes::new(self.alloc));
-        self.put_held(held.as_slice())
-    }
-
-    /// Says that the text is one file's bytes, where it wasn't told yet what it is of: the file is made, what was held goes into it, and what
-    /// comes does at once. The error is one of `put`, behind a front of what was held.
-    pub fn read_file(&mut self) -> Result<(), Failed>
-        ensures text { OnOk result (text_of T.new_tree self.new ≡ text_of T.new_tree self.old) }
-        ensures place { T.new_tree.place self.new.tree ≡ T.new_tree.place self.old.tree }
-        ensures told { (held : Items ℕ) → self.old.stage ≡ Stage.Waiting held → OnOk result (self.new.stage ≡ Stage.File) }
-        ensures front { OnErr result (IsFront (text_of T.new_tree self.new) (text_of T.new_tree self.old)) }
-        ensures err_refused { OnErr result (self.new.refused ≢ None) }
-        ensures cause { (held : Items ℕ) → self.old.stage ≡ Stage.Waiting held → self.old.refused ≡ None
-            → OnErr result (StopsIn T.new_tree self.old self.new held) }
-        ensures rose { OnErr result (Rose self.old.faults self.new.faults) }
-        ensures quiet { OnOk result (self.new.faults ≡ self.old.faults) }
-    {
-        let Some(held) = self.take_held() else {
-            return Ok(());
+        let begun = match terminal {
+            Terminal::Symlink => {
+                return Err(self.stop(ExtractFault::NotPlain(List::new(self.alloc))));
+            }
+            Terminal::File => {
+                if let Err(Failed) = self.tree.make_file(&[]) {
+                    return Err(self.stop(ExtractFault::Tree));
+                }
+                Stage::File
+            }
+            Terminal::Directory => Stage::Line(Bytes::new(self.alloc)),
         };
-        if let Err(Failed) = self.tree.make_file(&[]) {
-            return Err(self.stop(ExtractFault::Tree));
-        }
-        self.stage = Stage::File;
-        self.put_held(held.as_slice())
+        let held = replace(held, Bytes::new(self.alloc));
+        self.stage = begun;
+        self.put_held(held)
     }
 
-    /// Says that the text is a symbolic link's target: nothing is made, and nothing is read any more.
-    pub fn read_link(&mut self) -> Failed
-        ensures same { (self.new.tree ≡ self.old.tree) × (self.new.stage ≡ self.old.stage) }
-        ensures refused { IfNone self.old.refused (self.new.refused ≡ Some (ExtractFault.NotPlain [])) }
-        ensures stays { (fault : ExtractFault) → self.old.refused ≡ Some fault → self.new.refused ≡ Some fault }
-        ensures rose { Rose self.old.faults self.new.faults }
-    {
-        if self.refused.is_some() {
-            return self.fault();
-        }
-        self.stop(ExtractFault::NotPlain(List::new(self.alloc)))
-    }
-
-    /// Puts all of these bytes. The error is one of `put`, behind a front of them.
-    fn put_held(&mut self, bytes: &[u8]) -> Result<(), Failed>
-        ensures put { OnOk result (Extracts T.new_tree self.old self.new bytes.now) }
-        ensures quiet { OnOk result (self.new.faults ≡ self.old.faults) }
-        ensures front { OnErr result (PutHeld T.new_tree self.old self.new bytes.now) }
+    /// Reads all of these bytes, where nothing stopped it; those that aren't read, since it stops, are left. The error is one of `put`.
+    fn put_held(&mut self, bytes: Bytes) -> Result<(), Failed>
+        requires refused { self.old.refused ≡ None }
+        requires read { IsRead self.old.stage }
+        ensures put { Extracts T.new_tree self.old self.new bytes }
+        ensures read { IsRead self.new.stage }
+        ensures quiet { OnOk result ((self.new.refused ≡ None) × (self.new.faults ≡ self.old.faults)) }
         ensures err_refused { OnErr result (self.new.refused ≢ None) }
-        ensures cause { self.old.refused ≡ None → OnErr result (StopsAt T.new_tree self.old self.new bytes.now) }
         ensures rose { OnErr result (Rose self.old.faults self.new.faults) }
+        ensures cause { OnErr result (HasStopped T.new_tree self.old self.new bytes) }
     {
         let mut at = 0;
-        while at < bytes.len() {
-            at += self.put(&bytes[at..])?;
+        while at < bytes.as_slice().len() {
+            match self.read(&bytes.as_slice()[at..]) {
+                Ok(n) => at += n,
+                Err(fault) => {
+                    let failed = self.stop(fault);
+                    self.left = bytes;
+                    self.left_at = at;
+                    return Err(failed);
+                }
+            }
         }
         Ok(())
     }
@@ -257,35 +289,28 @@ impl<T: NewTree + Drop> Extract<T> {
         self.fault()
     }
 
-    /// What is held where it isn't told yet what the text is of; then nothing is.
-    fn take_held(&mut self) -> Option<Bytes>
-        ensures held { (held : Items ℕ) → self.old.stage ≡ Stage.Waiting held
-            → (result ≡ Some held) × (self.new ≡ record self.old { stage = Stage.Waiting [] }) }
-        ensures none { IfNone result (self.new ≡ self.old) }
-        ensures some { IfSome result (λ held. self.old.stage ≡ Stage.Waiting held) }
-    {
-        match &mut self.stage {
-            Stage::Waiting(held) => Some(replace(held, Bytes::new(self.alloc))),
-            Stage::File | Stage::Line(_) | Stage::Content(_) => None,
-        }
-    }
-
     /// Reads a front of the bytes, where nothing stopped it.
     fn read(&mut self, bytes: &[u8]) -> Result<usize, ExtractFault>
-        requires { self.old.refused ≡ None }
+        requires refused { self.old.refused ≡ None }
+        requires read { IsRead self.old.stage }
         ensures within { IfOk result (λ n. n ≤ length bytes.now) }
         ensures moves { IfOk result (λ n. 0 < length bytes.now → 0 < n) }
         ensures read { IfOk result (λ n. Extracts T.new_tree self.old self.new (take n bytes.now)) }
         ensures rest { (self.new.refused ≡ None) × (self.new.faults ≡ self.old.faults) }
+        ensures is_read { IsRead self.new.stage }
+        ensures none_left { (self.old.unread ≡ []) × (self.new.unread ≡ []) }
         ensures err_same { OnErr result (SameExtract T.new_tree self.old self.new) }
         ensures cause { IfErr result (HasExtractCause (T.new_tree.made self.old.tree) (text_of T.new_tree self.old) bytes.now
             (new_tree_step T.new_tree self.old.tree self.new.tree)) }
+        ensures bundle { IfErr result (OfBundle (kind_of self.old.stage)) }
     {
         match &mut self.stage {
             Stage::Waiting(held) => {
                 held.push_all(bytes)?;
                 Ok(bytes.len())
             }
+            // What is held was read.
+            Stage::Told(..) => Ok(0),
             Stage::File => Ok(self.tree.add(bytes)?),
             Stage::Line(line) => match line_end(bytes) {
                 None => {
