@@ -544,7 +544,6 @@ tree_stops m old new failed refused tree rose = inr (record {
   bundle = some_bundle (kind_of old.stage) (kind_of old.stage) new.refused faults.Tree refused refl tt;
 })
 
--- nothing of these bytes was read
 -- a cause stays one where more stands behind it
 more_behind : (made : List Made) (text rest bytes : List ℕ) (step : NewTreeStep) (fault : ExtractFault) → HasExtractCause made text rest step fault
     → HasExtractCause made text (rest ++ bytes) step fault

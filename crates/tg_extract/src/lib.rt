@@ -5,7 +5,9 @@ mod extract;
 mod fault;
 mod laws;
 mod lines;
+mod telling;
 
 pub use extract::Extract;
 pub use fault::ExtractFault;
 pub use laws::made_records;
+pub use telling::TellExtract;
