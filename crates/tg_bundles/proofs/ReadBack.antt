@@ -7,7 +7,7 @@ use Rattle.std.proofs.lemmas.List.Elements.{All-cons, All-head, All-nil, All-pus
 use Rattle.std.specs.Prelude.{codes, decimal, get_or}
 use Rattle.std.specs.Str.Parse.{digits_value}
 use Rattle.tg_bundles.proofs.Escapes.{path_line, paths_differ, up_to_mark}
-use Rattle.tg_bundles.specs.Reading.{AreNames, BundlesDiffer, FrontsAreFiles, FrontsAreRecords, IsProper}
+use Rattle.tg_bundles.specs.Reading.{AreNames, BundlesDiffer, FrontsAreFiles, FrontsAreLinks, FrontsAreRecords, IsProper}
 use Rattle.tg_bundles.specs.Records.{Record, bundle_text, file, folder, link, path_text, record_text}
 use Rattle.tg_bytes.specs.Ascii.{line_feed, space}
 use Rattle.tg_model.specs.Texts.{dir_line, file_line, link_line}
@@ -194,13 +194,39 @@ file_begins (file q c ∷ more) path bytes rest left p are small e =
     in
     (last, more, ap₂ (λ (l : List (List ℕ)) (m : List ℕ). file l m ∷ more) (sym same) is, amount, after)
 
+-- what holds of all of a list holds of its end
+right_of : (a b : List Record) → All IsProper (a ++ b) → All IsProper b
+right_of [] b h = h
+right_of (x ∷ a) b h = right_of a b (All-tail IsProper x (a ++ b) h)
+
 pub fronts_are_files : FrontsAreFiles
 fronts_are_files front records path bytes rest left p q are small e =
     let (more, is, behind) = fronts_are_records front records (file_line (length bytes + left) (path_text path) ++ (bytes ++ rest)) p q e in
     let proper : All IsProper more = right_of front more (subst (All IsProper) is q) in
     let (last, others, same, amount, after) = file_begins more path bytes rest left proper are small behind in
     (last, others, is ∙ ap (λ (l : List Record). front ++ l) same, amount, after)
-  where
-    right_of : (a b : List Record) → All IsProper (a ++ b) → All IsProper b
-    right_of [] b h = h
-    right_of (x ∷ a) b h = right_of a b (All-tail IsProper x (a ++ b) h)
+
+-- the record of which a first line says a symbolic link
+link_begins : (more : List Record) (path : List (List ℕ)) (rest : List ℕ) (size : ℕ) → All IsProper more → AreNames path → size < 10 ^ 64
+    → link_line size (path_text path) ++ rest ≡ bundle_text more
+    → (target : List ℕ) × (others : List Record) × (more ≡ link path target ∷ others) × (length target ≡ size)
+    × (rest ≡ target ++ line_feed ∷ bundle_text others)
+link_begins [] path rest size p are small e = absurd (cc e)
+link_begins (folder q ∷ more) path rest size p are small e =
+    absurd (apart (link_line size (path_text path) ++ rest) (bundle_text (folder q ∷ more)) (λ h. omega (arith, h)) e)
+link_begins (file q c ∷ more) path rest size p are small e =
+    absurd (apart (link_line size (path_text path) ++ rest) (bundle_text (file q c ∷ more)) (λ h. omega (arith, h)) e)
+link_begins (link q c ∷ more) path rest size p are small e =
+    let own = All-head IsProper (link q c) more p in
+    let (same, paths, behind) =
+    link_same size (length c) path q rest ((c ++ line_feed ∷ []) ++ bundle_text more) small own.size are own.names
+    (e ∙ append_assoc (link_line (length c) (path_text q)) (c ++ line_feed ∷ []) (bundle_text more))
+    in
+    (c, more, ap (λ (l : List (List ℕ)). link l c ∷ more) (sym paths), sym same, behind ∙ append_assoc c (line_feed ∷ []) (bundle_text more))
+
+pub fronts_are_links : FrontsAreLinks
+fronts_are_links front records path rest size p q are small e =
+    let (more, is, behind) = fronts_are_records front records (link_line size (path_text path) ++ rest) p q e in
+    let proper : All IsProper more = right_of front more (subst (All IsProper) is q) in
+    let (target, others, same, amount, after) = link_begins more path rest size proper are small behind in
+    (target, others, is ∙ ap (λ (l : List Record). front ++ l) same, amount, after)

@@ -4,7 +4,7 @@ use Rattle.tg_bundles.specs.Records.{Record, bundle_text, file, folder, link, pa
 use Rattle.tg_bytes.specs.Ascii.{line_feed, slash}
 use Rattle.tg_model.specs.Dag.{Dag, Section, blocks}
 use Rattle.tg_model.specs.Sound.{IsSound}
-use Rattle.tg_model.specs.Texts.{escaped, file_line}
+use Rattle.tg_model.specs.Texts.{escaped, file_line, link_line}
 
 -- ---- escaped names
 
@@ -62,6 +62,14 @@ FrontsAreFiles = (front records : List Record) (path : List (List ℕ)) (bytes r
     → bundle_text front ++ (file_line (length bytes + left) (path_text path) ++ (bytes ++ rest)) ≡ bundle_text records
     → (last : List ℕ) × (more : List Record) × (records ≡ front ++ file path (bytes ++ last) ∷ more) × (length last ≡ left)
     × (rest ≡ last ++ line_feed ∷ bundle_text more)
+
+-- one that ends with a symbolic link's first line has the first records, and behind them is a link at this path, whose target has so many
+-- bytes
+abbrev pub FrontsAreLinks : Type 0
+FrontsAreLinks = (front records : List Record) (path : List (List ℕ)) (rest : List ℕ) (size : ℕ) → All IsProper front → All IsProper records
+    → AreNames path → size < 10 ^ 64 → bundle_text front ++ (link_line size (path_text path) ++ rest) ≡ bundle_text records
+    → (target : List ℕ) × (more : List Record) × (records ≡ front ++ link path target ∷ more) × (length target ≡ size)
+    × (rest ≡ target ++ line_feed ∷ bundle_text more)
 
 -- different records are a bundle of different text
 abbrev pub BundlesDiffer : Type 0

@@ -2,7 +2,7 @@
 #![tactic(auto)]
 
 ghost use Rattle.tg_bundles.specs.Laws.{AnswersHaveRecords, BundlesHaveRecords, RecordsAreTree};
-ghost use Rattle.tg_bundles.specs.Reading.{BundlesDiffer, FrontsAreFiles, FrontsAreRecords, PathsDiffer};
+ghost use Rattle.tg_bundles.specs.Reading.{BundlesDiffer, FrontsAreFiles, FrontsAreLinks, FrontsAreRecords, PathsDiffer};
 ghost use Rattle.tg_bundles.specs.Reading.{EscapedDiffer, EscapedIsPlain, RecordsAreProper, RecordsHaveNames};
 
 /// The bundle of a sound DAG is the text of its records.
@@ -30,14 +30,15 @@ pub fn decoded()
     ensures plain { EscapedIsPlain }
 {}
 
-/// A bundle is read back in one way, and so is each front of it, whether that ends at a record's end, within a first line, or within the
-/// bytes of a file: of records that are proper, whose sizes have at most 64 digits.
+/// A bundle is read back in one way, and so is each front of it, whether that ends at a record's end, within a first line, within the
+/// bytes of a file, or behind a symbolic link's first line: of records that are proper, whose sizes have at most 64 digits.
 ///
 /// Bundles are this project's own.
 pub fn read_back()
     ensures paths { PathsDiffer }
     ensures lines { FrontsAreRecords }
     ensures contents { FrontsAreFiles }
+    ensures links { FrontsAreLinks }
     ensures whole { BundlesDiffer }
 {}
 

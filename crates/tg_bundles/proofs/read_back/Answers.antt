@@ -1,5 +1,5 @@
 use Rattle.tg_bundles.proofs.Escapes.{paths_differ}
-use Rattle.tg_bundles.proofs.ReadBack.{bundles_differ, fronts_are_files, fronts_are_records}
+use Rattle.tg_bundles.proofs.ReadBack.{bundles_differ, fronts_are_files, fronts_are_links, fronts_are_records}
 use Rattle.tg_bundles.proofs.read_back.Goals as goal
 
 pub returns-clause-paths : goal.returns-clause-paths
@@ -10,6 +10,9 @@ returns-clause-lines c = fronts_are_records
 
 pub returns-clause-contents : goal.returns-clause-contents
 returns-clause-contents c = fronts_are_files
+
+pub returns-clause-links : goal.returns-clause-links
+returns-clause-links c = fronts_are_links
 
 pub returns-clause-whole : goal.returns-clause-whole
 returns-clause-whole c = bundles_differ
