@@ -1,4 +1,6 @@
+mod Counting
 mod LineTexts
+mod Made
 mod Paths
 mod Sizes
 mod Stages

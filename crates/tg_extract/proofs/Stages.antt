@@ -1,32 +1,30 @@
 -- The text that was read, stage by stage.
-use Rattle.std.proofs.Common.{IsSomeAnd, None, Option, Some, All, Err, List, Ok, [], inl, inr, ap, ap₂, append_assoc, append-nil, arith, drop, get_or, length, refl, subst, sym, take, take-append-drop, Result}
+use Rattle.std.proofs.Common.{IfSome, None, Option, Some, All, List, [], inl, inr, ap, ap₂, append_assoc, append-nil, arith, get_or, length, refl, subst, sym, take}
 use Rattle.std.proofs.Common.{ℕ, ◌+◌, ◌++◌, ◌-◌, ◌<◌, ◌^◌, ◌∙◌, ◌∷◌, ◌≡◌, ◌≢◌, ◌≤◌}
 use Rattle.std.proofs.lemmas.List.{length-append, map-append, take_at}
 use Rattle.std.proofs.lemmas.List.Concat.{flat_map-append}
 use Rattle.std.proofs.lemmas.List.Elements.{All-append, All-cons, All-head, All-nil, All-push, All-tail, All-weaker}
-use Rattle.std.specs.Prelude.{OnErr, decimal}
-use Rattle.tg_bundles.specs.Reading.{BundlesDiffer, EscapedIsPlain, FrontsAreFiles, FrontsAreRecords, IsProper, path_of}
+use Rattle.std.specs.Prelude.{decimal}
+use Rattle.tg_bundles.specs.Reading.{BundlesDiffer, EscapedIsPlain, FrontsAreFiles, FrontsAreLinks, FrontsAreRecords, IsProper, path_of}
 use Rattle.tg_bundles.specs.Records.{Record, bundle_text, file, folder, link, path_text, record_text}
 use Rattle.tg_bytes.specs.Ascii.{line_feed, space}
-use Rattle.tg_bytes.specs.Lists.{All-split, same_front}
+use Rattle.tg_bytes.specs.Lists.{same_front}
 use Rattle.tg_extract.proofs.LineTexts.{bare, line_ends}
 use Rattle.tg_extract.proofs.Paths.{not_empty, path_line}
 use Rattle.tg_extract.proofs.Sizes.{no_feed}
-use Rattle.tg_extract.specs.Extracts.{EndsLine, ExtractState, Extracts, Grows, HasExtractCause, HasLineCause, HasMadeLine, HasMadeText, HasStopped, IsAtContent, IsAtLine}
-use Rattle.tg_extract.specs.Extracts.{IsAtStage, IsGoodRecord, OfBundle, SameExtract, bytes_made, kind_of, made_text, open_text, record_made, records_made, text_of, text_read}
-use Rattle.tg_extract.specs.Laws.{FileIsMade, FrontIsMade, HasFirst, HasFirstBytes, WholeIsMade}
+use Rattle.tg_extract.specs.Extracts.{EndsLine, ExtractState, Extracts, Grows, HasMadeLine, HasMadeText, IsAtBad, IsAtContent, IsAtLine, IsAtLink, IsStoppedAt, IsTreeCause}
+use Rattle.tg_extract.specs.Extracts.{IsAtStage, IsGoodRecord, bytes_made, kind_of, made_text, open_text, record_made, records_made, text_of, text_read}
+use Rattle.tg_extract.specs.Laws.{FileIsMade, FrontIsMade, HasFirst, HasFirstBad, HasFirstBytes, HasFirstLink, WholeIsMade}
 use Rattle.tg_extract.specs.Lines.{IsGoodLine, IsGoodPath, line_text}
 use Rattle.tg_extract.specs.declared.extract.Stage.{Stage}
 use Rattle.tg_extract.specs.declared.extract.Stage.TheVariants as stages
 use Rattle.tg_extract.specs.declared.fault.ExtractFault.{ExtractFault}
-use Rattle.tg_extract.specs.declared.fault.ExtractFault.TheVariants as faults
 use Rattle.tg_extract.specs.declared.lines.Line.{Line}
 use Rattle.tg_extract.specs.declared.lines.Line.TheVariants as lines
-use Rattle.tg_model.specs.Texts.{dir_line, file_line}
-use Rattle.tg_new_tree.specs.NewTrees.{AddedTo, MadeMore, NewTreeMeaning, NewTreeRose, NewTreeStep, new_tree_step}
+use Rattle.tg_model.specs.Texts.{dir_line, file_line, link_line}
+use Rattle.tg_new_tree.specs.NewTrees.{AddedTo, NewTreeMeaning, new_tree_step}
 use Rattle.tg_new_tree.specs.declared.made.Made.{Made}
 use Rattle.tg_new_tree.specs.declared.made.Made.TheVariants.{File, Folder}
-use Rattle.tg_verify.specs.declared.terminal.Terminal.{Terminal}
 use Rattle.tg_verify.specs.declared.terminal.Terminal.TheVariants as terminals
 
 -- ---- what was made, one more at the end
@@ -55,13 +53,17 @@ open_push (made ∷ next ∷ old) last left =
 
 -- ---- a first line that ended
 
+abbrev NoFeed : List ℕ → Type 0
+NoFeed text = All (λ b. b ≢ line_feed) text
+
+-- no first line of a record is this text
+abbrev NoLine : List ℕ → Type 0
+NoLine text = (line : Line) → IsGoodLine line → line_text line ≢ text ++ line_feed ∷ []
+
 pub take_line : (bytes front : List ℕ) → EndsLine bytes front → take (length front + 1) bytes ≡ front ++ line_feed ∷ []
 take_line bytes front h =
     ap (take (length front + 1)) (h.whole ∙ sym (append_assoc front (line_feed ∷ []) h.rest))
     ∙ take_at (front ++ line_feed ∷ []) h.rest (length front + 1) (length-append front (line_feed ∷ []))
-
-pub line_within : (bytes front : List ℕ) → EndsLine bytes front → length front + 1 ≤ length bytes
-line_within bytes front h = omega (arith, ap length h.whole, length-append front (line_feed ∷ h.rest))
 
 regroup : (a b c d : List ℕ) → a ++ ((b ++ c) ++ d) ≡ (a ++ b) ++ (c ++ d)
 regroup a b c d = ap (λ (l : List ℕ). a ++ l) (append_assoc b c d) ∙ sym (append_assoc a b (c ++ d))
@@ -95,6 +97,23 @@ file_made old size path begun front all good small is =
           ∙ regroup (text_made old) begun front (line_feed ∷ []),
     )
 
+-- a link's first line makes nothing
+link_next : (old : List Made) (size : ℕ) (path : List (List ℕ)) (begun front : List ℕ) → All IsGoodRecord (records_made old) → IsGoodPath path → size < 10 ^ 19
+    → link_line size (path_text path) ≡ (begun ++ front) ++ line_feed ∷ []
+    → Reaches old (stages.Link size path) ((text_made old ++ begun) ++ (front ++ line_feed ∷ []))
+link_next old size path begun front all good small is = (
+  record { good = all; good_path = good; small = small },
+  ap (λ (l : List ℕ). text_made old ++ l) is ∙ regroup (text_made old) begun front (line_feed ∷ []),
+)
+
+-- and so does another line
+bad_next : (old : List Made) (begun front : List ℕ) → IsAtLine old begun → NoFeed front → NoLine (begun ++ front)
+    → Reaches old (stages.Bad ((begun ++ front) ++ line_feed ∷ [])) ((text_made old ++ begun) ++ (front ++ line_feed ∷ []))
+bad_next old begun front at none bad = (
+  record { good = at.good; front = begun ++ front; is = refl; no_end = All-append (λ (b : ℕ). b ≢ line_feed) begun front at.no_end none; none = bad },
+  regroup (text_made old) begun front (line_feed ∷ []),
+)
+
 by_line : (line : Line) (old new : List Made) (stage : Stage) (begun front : List ℕ) → All IsGoodRecord (records_made old) → IsGoodLine line
     → line_text line ≡ (begun ++ front) ++ line_feed ∷ [] → HasMadeLine line old new stage
     → Reaches new stage ((text_made old ++ begun) ++ (front ++ line_feed ∷ []))
@@ -103,14 +122,19 @@ by_line (lines.Folder path) old new stage begun front all good is h =
 by_line (lines.File size path) old new stage begun front all good is h =
     reaches (old ++ File path [] ∷ []) new (stages.Content size) stage ((text_made old ++ begun) ++ (front ++ line_feed ∷ [])) h.0 h.1
     (file_made old size path begun front all good.0 good.1 is)
-by_line (lines.Link size path) old new stage begun front all good is h = absurd h
+by_line (lines.Link size path) old new stage begun front all good is h =
+    reaches old new (stages.Link size path) stage ((text_made old ++ begun) ++ (front ++ line_feed ∷ [])) h.0 h.1 (link_next old size path begun front all good.0 good.1 is)
 
-pub line_made : (old new : List Made) (stage : Stage) (begun front : List ℕ) → IsAtLine old begun → HasMadeText (begun ++ front) old new stage
+by_text : (old new : List Made) (stage : Stage) (begun front : List ℕ) → IsAtLine old begun → NoFeed front → HasMadeText (begun ++ front) old new stage
     → Reaches new stage ((text_made old ++ begun) ++ (front ++ line_feed ∷ []))
-line_made old new stage begun front at h = by_line h.line old new stage begun front at.good h.good h.is h.made
+by_text old new stage begun front at none (inl h) = by_line h.line old new stage begun front at.good h.good h.is h.made
+by_text old new stage begun front at none (inr h) =
+    reaches old new (stages.Bad ((begun ++ front) ++ line_feed ∷ [])) stage ((text_made old ++ begun) ++ (front ++ line_feed ∷ [])) h.same h.stage_is
+    (bad_next old begun front at none h.none)
 
-pub line_more : (made : List Made) (line bytes : List ℕ) → IsAtLine made line → All (λ b. b ≢ line_feed) bytes → IsAtLine made (line ++ bytes)
-line_more made line bytes at none = record { no_end = All-append (λ (b : ℕ). b ≢ line_feed) line bytes at.no_end none; good = at.good }
+line_made : (old new : List Made) (stage : Stage) (begun bytes front : List ℕ) → IsAtLine old begun → EndsLine bytes front → HasMadeText (begun ++ front) old new stage
+    → Reaches new stage ((text_made old ++ begun) ++ (front ++ line_feed ∷ []))
+line_made old new stage begun bytes front at ends h = by_text old new stage begun front at ends.no_end h
 
 -- ---- the bytes of a file
 
@@ -168,56 +192,13 @@ content_added old new before path held bytes left n at was is size few =
     (subst (λ (o : List Made). Reaches new (stages.Content (left - length bytes)) (text_read o (stages.Content left) ++ bytes)) (sym was)
     (subst (λ (m : List Made). Reaches m (stages.Content (left - length bytes)) (text_read (before ++ File path held ∷ []) (stages.Content left) ++ bytes)) (sym is) base))
 
--- of one file that is made alone
-pub file_added : (old new before : List Made) (path : List (List ℕ)) (held bytes : List ℕ) → IsAtStage old stages.File → old ≡ before ++ File path held ∷ []
-    → new ≡ before ++ File path (held ++ bytes) ∷ [] → Reaches new stages.File (text_read old stages.File ++ bytes)
-file_added old new before path held bytes at was is =
-    let both = push_same before [] (File path held) (File [] at.0) (sym was ∙ at.1) in
-    let path_is : path ≡ [] = cc (both.1) in
-    let held_is : held ≡ at.0 = cc (both.1) in
-    let now : new ≡ File [] (at.0 ++ bytes) ∷ [] =
-    is ∙ ap (λ (b : List Made). b ++ File path (held ++ bytes) ∷ []) both.0
-    ∙ ap₂ (λ (p : List (List ℕ)) (h : List ℕ). File p (h ++ bytes) ∷ []) path_is held_is
-    in
-    subst (λ (o : List Made). Reaches new stages.File (text_read o stages.File ++ bytes)) (sym at.1)
-    (subst (λ (m : List Made). Reaches m stages.File (at.0 ++ bytes)) (sym now) ((at.0 ++ bytes, refl), refl))
-
--- ---- texts that are no bundle's
+-- ---- lines that are no first line of a record
 
 good_proper : (entry : Record) → IsGoodRecord entry → IsProper entry
 good_proper entry h = record { names = not_empty (path_of entry) h.path.good; size = omega (arith, h.size) }
 
 all_proper : (records : List Record) → All IsGoodRecord records → All IsProper records
 all_proper records = All-weaker IsGoodRecord IsProper good_proper records
-
--- behind a file's bytes stands an end
-ends_here : (last rest behind : List ℕ) (b : ℕ) → length last ≡ 0 → b ∷ rest ≡ last ++ line_feed ∷ behind → b ≡ line_feed
-ends_here [] rest behind b none e = cc e
-ends_here (x ∷ last) rest behind b none e = absurd (omega (arith, none))
-
-no_content : FrontsAreFiles → (before : List Made) (path : List (List ℕ)) (held : List ℕ) (b : ℕ) (rest : List ℕ) (records : List Record)
-    → All IsGoodRecord (records_made before) → IsGoodPath path → length held + 0 < 10 ^ 19 → All IsGoodRecord records
-    → text_read (before ++ File path held ∷ []) (stages.Content 0) ++ b ∷ rest ≡ bundle_text records → b ≡ line_feed
-no_content law before path held b rest records all good small others e =
-    let own = file_line (length held + 0) (path_text path) in
-    let whole : text_made before ++ (own ++ (held ++ b ∷ rest)) ≡ bundle_text records =
-    ap (λ (l : List ℕ). text_made before ++ l) (sym (append_assoc own held (b ∷ rest)))
-    ∙ sym (append_assoc (text_made before) (own ++ held) (b ∷ rest))
-    ∙ ap (λ (l : List ℕ). l ++ b ∷ rest) (sym (open_push before (File path held) 0))
-    ∙ e
-    in
-    let (last, more, is, none, behind) =
-    law (records_made before) records path held (b ∷ rest) 0 (all_proper (records_made before) all) (all_proper records others) (not_empty path good.good)
-    (omega (arith, small)) whole
-    in
-    ends_here last rest (bundle_text more) b none behind
-
-pub content_bad : FrontsAreFiles → (made : List Made) (b : ℕ) (behind rest : List ℕ) (records : List Record) → IsAtContent made 0 → (b ≡ line_feed → ⊥)
-    → All IsGoodRecord records → text_read made (stages.Content 0) ++ ((b ∷ behind) ++ rest) ≡ bundle_text records → ⊥
-content_bad law made b behind rest records at other all e =
-    other
-    (no_content law at.before at.path at.held b (behind ++ rest) records at.good at.good_path at.small all
-    (ap (λ (m : List Made). text_read m (stages.Content 0) ++ (b ∷ (behind ++ rest))) (sym at.is) ∙ e))
 
 -- the first line of a record, and what stands behind it
 abbrev line_of : Record → Line
@@ -239,9 +220,6 @@ good_line : (entry : Record) → IsGoodRecord entry → IsGoodLine (line_of entr
 good_line (folder path) h = h.path
 good_line (file path bytes) h = (h.path, h.size)
 good_line (link path target) h = (h.path, h.size)
-
-abbrev NoFeed : List ℕ → Type 0
-NoFeed text = All (λ b. b ≢ line_feed) text
 
 letter : (b : ℕ) (text : List ℕ) → b ≢ line_feed → NoFeed text → NoFeed (b ∷ text)
 letter b text other rest = All-cons (λ (b : ℕ). b ≢ line_feed) b text other rest
@@ -281,15 +259,10 @@ up_to_mark mark (x ∷ a) (y ∷ b) u v p q e =
     ap₂ (λ (c : ℕ) (l : List ℕ). c ∷ l) same
     (up_to_mark mark a b u v (All-tail (λ (c : ℕ). c ≢ mark) x a p) (All-tail (λ (c : ℕ). c ≢ mark) y b q) rest)
 
--- no first line of a record is this text
-abbrev NoLine : List ℕ → Type 0
-NoLine text = (line : Line) → IsGoodLine line → line_text line ≢ text ++ line_feed ∷ []
-
-no_first : EscapedIsPlain → (text behind : List ℕ) (records : List Record) → NoFeed text → NoLine text → All IsGoodRecord records
-    → text ++ line_feed ∷ behind ≡ bundle_text records → ⊥
-no_first plain text behind [] none bad all e = omega (arith, ap length e, length-append text (line_feed ∷ behind))
-no_first plain text behind (entry ∷ records) none bad all e =
-    let good = good_line entry (All-head IsGoodRecord entry records all) in
+no_first : EscapedIsPlain → (text behind : List ℕ) (entry : Record) (records : List Record) → NoFeed text → NoLine text
+    → text ++ line_feed ∷ behind ≡ bundle_text (entry ∷ records) → IsGoodRecord entry → ⊥
+no_first plain text behind entry records none bad e own =
+    let good = good_line entry own in
     let line = line_of entry in
     let after = behind_line entry ++ bundle_text records in
     let whole : text ++ line_feed ∷ behind ≡ bare line ++ line_feed ∷ after =
@@ -299,34 +272,6 @@ no_first plain text behind (entry ∷ records) none bad all e =
     in
     let same : text ≡ bare line = up_to_mark line_feed text (bare line) behind after none (bare_line plain line good) whole in
     bad line good (sym (line_ends line) ∙ ap (λ (l : List ℕ). l ++ line_feed ∷ []) (sym same))
-
-pub line_bad : EscapedIsPlain → FrontsAreRecords → (made : List Made) (begun bytes front rest : List ℕ) (records : List Record) → IsAtLine made begun
-    → EndsLine bytes front → NoLine (begun ++ front) → All IsGoodRecord records → (text_made made ++ begun) ++ (bytes ++ rest) ≡ bundle_text records → ⊥
-line_bad plain law made begun bytes front rest records at ends bad all e =
-    let text = begun ++ front in
-    let behind = ends.rest ++ rest in
-    let bytes_are : bytes ++ rest ≡ front ++ line_feed ∷ behind = ap (λ (l : List ℕ). l ++ rest) ends.whole ∙ append_assoc front (line_feed ∷ ends.rest) rest in
-    let whole : text_made made ++ (text ++ line_feed ∷ behind) ≡ bundle_text records =
-    regroup (text_made made) begun front (line_feed ∷ behind) ∙ ap (λ (l : List ℕ). (text_made made ++ begun) ++ l) (sym bytes_are) ∙ e in
-    let (more, is, left) = law (records_made made) records (text ++ line_feed ∷ behind) (all_proper (records_made made) at.good) (all_proper records all) whole in
-    let others = (All-split IsGoodRecord (records_made made) more (subst (All IsGoodRecord) is all)).1 in
-    no_first plain text behind more (All-append (λ (b : ℕ). b ≢ line_feed) begun front at.no_end ends.no_end) bad others left
-
--- ---- why a first line makes nothing
-
-pub line_cause : EscapedIsPlain → FrontsAreRecords → (made : List Made) (begun bytes front : List ℕ) (step : NewTreeStep) (fault : ExtractFault) → IsAtLine made begun
-    → EndsLine bytes front → HasLineCause (begun ++ front) step fault → HasExtractCause made (text_made made ++ begun) bytes step fault
-line_cause plain law made begun bytes front step faults.Tree at ends h = h
-line_cause plain law made begun bytes front step (faults.NotPlain path) at ends h = (
-  h.0,
-  length front + 1,
-  ap (λ (l : List ℕ). (text_made made ++ begun) ++ l) (take_line bytes front ends) ∙ sym (regroup (text_made made) begun front (line_feed ∷ []))
-      ∙ ap (λ (l : List ℕ). text_made made ++ l) (sym h.1),
-  h.2,
-)
-line_cause plain law made begun bytes front step faults.BadText at ends h =
-    (λ records rest all e. line_bad plain law made begun bytes front rest records at ends h.0 all e, h.1)
-line_cause plain law made begun bytes front step faults.OutOfMemory at ends h = h
 
 -- ---- what becomes of an extract
 
@@ -340,7 +285,9 @@ no_unread text unread none = ap (λ (l : List ℕ). text ++ l) none ∙ append-n
 pub record GoesOn {S : Type 0} (old new : ExtractState S) : Type 0 where
   pub none : old.unread ≡ []
   pub still : new.unread ≡ old.unread
-  pub going : new.refused ≡ old.refused
+  pub still_going : new.refused ≡ old.refused
+  pub going : old.refused ≡ None
+  pub calm : new.faults ≡ old.faults
 
 read_text : {S : Type 0} (m : NewTreeMeaning S) (old new : ExtractState S) (bytes : List ℕ) → GoesOn old new
     → stage_text m new.tree new.stage ≡ stage_text m old.tree old.stage ++ bytes → text_of m new ≡ text_of m old ++ bytes
@@ -349,42 +296,55 @@ read_text m old new bytes on e =
     ∙ e
     ∙ ap (λ (l : List ℕ). l ++ bytes) (sym (no_unread (stage_text m old.tree old.stage) old.unread on.none))
 
+pub nothing_stopped : (refused : Option ExtractFault) (stage : Stage) → refused ≡ None → IfSome refused (IsStoppedAt stage)
+nothing_stopped refused stage going = subst (λ (r : Option ExtractFault). IfSome r (IsStoppedAt stage)) (sym going) tt
+
+-- nothing stopped it before
+nothing_stays : {S : Type 0} (m : NewTreeMeaning S) (old new : ExtractState S) → old.refused ≡ None
+    → IfSome old.refused (λ fault. (new.refused ≡ Some fault) × (new.tree ≡ old.tree))
+nothing_stays m old new going =
+    subst (λ (r : Option ExtractFault). IfSome r (λ fault. (new.refused ≡ Some fault) × (new.tree ≡ old.tree))) (sym going) tt
+
 read_grows : {S : Type 0} (m : NewTreeMeaning S) (old new : ExtractState S) (bytes : List ℕ) → GoesOn old new
     → stage_text m new.tree new.stage ≡ stage_text m old.tree old.stage ++ bytes → m.place new.tree ≡ m.place old.tree → m.faults new.tree ≡ m.faults old.tree
     → Grows m old new bytes
 read_grows m old new bytes on e place quiet =
-    record { text = read_text m old new bytes on e; place = place; going = λ h. sym on.going ∙ h; quiet = λ h. quiet }
+    record {
+      text = read_text m old new bytes on e;
+      place = place;
+      going = λ h. on.going;
+      quiet = λ h. quiet;
+      calm = λ h. on.calm;
+      cause = λ h. subst (λ (r : Option ExtractFault). IfSome r (IsTreeCause (new_tree_step m old.tree new.tree))) (sym (on.still_going ∙ on.going)) tt;
+      stays = nothing_stays m old new on.going;
+    }
 
 -- a stage that is told stays told
 of_line : (line : Line) (old new : List Made) (stage : Stage) → HasMadeLine line old new stage → kind_of stage ≡ Some terminals.Directory
 of_line (lines.Folder path) old new stage h = ap kind_of h.1
 of_line (lines.File size path) old new stage h = ap kind_of h.1
-of_line (lines.Link size path) old new stage h = absurd h
+of_line (lines.Link size path) old new stage h = ap kind_of h.1
+
+of_text : (text : List ℕ) (old new : List Made) (stage : Stage) → HasMadeText text old new stage → kind_of stage ≡ Some terminals.Directory
+of_text text old new stage (inl h) = of_line h.line old new stage h.made
+of_text text old new stage (inr h) = ap kind_of h.stage_is
 
 pub line_extracts : {S : Type 0} (m : NewTreeMeaning S) (old new : ExtractState S) (begun bytes front : List ℕ) → GoesOn old new → IsAtStage (m.made old.tree) old.stage
     → old.stage ≡ stages.Line begun → EndsLine bytes front → HasMadeText (begun ++ front) (m.made old.tree) (m.made new.tree) new.stage
     → m.place new.tree ≡ m.place old.tree → m.faults new.tree ≡ m.faults old.tree → Extracts m old new (take (length front + 1) bytes)
 line_extracts m old new begun bytes front on at is ends made place quiet =
     let line : IsAtLine (m.made old.tree) begun = subst (IsAtStage (m.made old.tree)) is at in
-    let next = line_made (m.made old.tree) (m.made new.tree) new.stage begun front line made in
+    let next = line_made (m.made old.tree) (m.made new.tree) new.stage begun bytes front line ends made in
     record {
       grows = read_grows m old new (take (length front + 1) bytes) on
           (next.1 ∙ ap₂ (λ (x y : List ℕ). x ++ y) (ap (stage_text m old.tree) (sym is)) (sym (take_line bytes front ends))) place quiet;
-      kind = of_line made.line (m.made old.tree) (m.made new.tree) new.stage made.made ∙ sym (ap kind_of is);
+      kind = of_text (begun ++ front) (m.made old.tree) (m.made new.tree) new.stage made ∙ sym (ap kind_of is);
     }
 
-pub line_stage : {S : Type 0} (m : NewTreeMeaning S) (tree new : S) (stage next : Stage) (begun front : List ℕ) → IsAtStage (m.made tree) stage
-    → stage ≡ stages.Line begun → HasMadeText (begun ++ front) (m.made tree) (m.made new) next → IsAtStage (m.made new) next
-line_stage m tree new stage next begun front at is made =
-    (line_made (m.made tree) (m.made new) next begun front (subst (IsAtStage (m.made tree)) is at) made).0
-
-pub line_fails : {S : Type 0} (m : NewTreeMeaning S) → EscapedIsPlain → FrontsAreRecords → (old : ExtractState S) (new : S) (begun bytes front : List ℕ) (fault : ExtractFault)
-    → old.unread ≡ [] → IsAtStage (m.made old.tree) old.stage → old.stage ≡ stages.Line begun → EndsLine bytes front
-    → HasLineCause (begun ++ front) (new_tree_step m old.tree new) fault → HasExtractCause (m.made old.tree) (text_of m old) bytes (new_tree_step m old.tree new) fault
-line_fails m plain law old new begun bytes front fault none at is ends cause =
-    subst (λ (l : List ℕ). HasExtractCause (m.made old.tree) l bytes (new_tree_step m old.tree new) fault)
-    (ap (stage_text m old.tree) (sym is) ∙ sym (no_unread (stage_text m old.tree old.stage) old.unread none))
-    (line_cause plain law (m.made old.tree) begun bytes front (new_tree_step m old.tree new) fault (subst (IsAtStage (m.made old.tree)) is at) ends cause)
+pub line_stage : {S : Type 0} (m : NewTreeMeaning S) (tree new : S) (stage next : Stage) (begun bytes front : List ℕ) → IsAtStage (m.made tree) stage
+    → stage ≡ stages.Line begun → EndsLine bytes front → HasMadeText (begun ++ front) (m.made tree) (m.made new) next → IsAtStage (m.made new) next
+line_stage m tree new stage next begun bytes front at is ends made =
+    (line_made (m.made tree) (m.made new) next begun bytes front (subst (IsAtStage (m.made tree)) is at) ends made).0
 
 pub end_extracts : {S : Type 0} (m : NewTreeMeaning S) (old new : ExtractState S) (bytes : List ℕ) → GoesOn old new → IsAtStage (m.made old.tree) old.stage
     → old.stage ≡ stages.Content 0 → new.tree ≡ old.tree → new.stage ≡ stages.Line [] → bytes ≡ line_feed ∷ [] → Extracts m old new bytes
@@ -417,181 +377,9 @@ pub added_stage : {S : Type 0} (m : NewTreeMeaning S) (tree new : S) (stage : St
 added_stage m tree new stage bytes left n at is added size few =
     (content_added (m.made tree) (m.made new) added.before added.path added.held bytes left n (subst (IsAtStage (m.made tree)) is at) added.old added.new size few).0
 
-pub content_fails : {S : Type 0} (m : NewTreeMeaning S) → FrontsAreFiles → (old : ExtractState S) (bytes : List ℕ) (b : ℕ) (behind : List ℕ) → old.unread ≡ []
-    → IsAtStage (m.made old.tree) old.stage → old.stage ≡ stages.Content 0 → bytes ≡ b ∷ behind → (b ≡ line_feed → ⊥) → (records : List Record) (rest : List ℕ)
-    → All IsGoodRecord records → text_of m old ++ (bytes ++ rest) ≡ bundle_text records → ⊥
-content_fails m law old bytes b behind none at is first other records rest all e =
-    content_bad law (m.made old.tree) b behind rest records (subst (IsAtStage (m.made old.tree)) is at) other all
-    (ap₂ (λ (s : Stage) (l : List ℕ). stage_text m old.tree s ++ (l ++ rest)) (sym is) (sym first)
-    ∙ ap (λ (l : List ℕ). l ++ (bytes ++ rest)) (sym (no_unread (stage_text m old.tree old.stage) old.unread none))
-    ∙ e)
-
--- the first byte
-pub first_is : (bytes : List ℕ) (b : ℕ) → 0 < length bytes → b ≡ get_or bytes 0 b → (behind : List ℕ) × (bytes ≡ b ∷ behind)
-first_is [] b some is = absurd (omega (arith, some))
-first_is (x ∷ bytes) b some is = (bytes, ap (λ (n : ℕ). n ∷ bytes) (sym is))
-
 pub take_end : (bytes : List ℕ) (b : ℕ) → 0 < length bytes → b ≡ get_or bytes 0 b → b ≡ line_feed → take 1 bytes ≡ line_feed ∷ []
 take_end [] b some is end = absurd (omega (arith, some))
 take_end (x ∷ bytes) b some is end = ap (λ (n : ℕ). n ∷ []) (sym is ∙ end)
-
--- ---- what was held is read
-
--- nothing is read yet behind what is told
-pub record Begins {S : Type 0} (m : NewTreeMeaning S) (old middle : ExtractState S) (terminal : Terminal) (held : List ℕ) : Type 0 where
-  pub told : old.stage ≡ stages.Told terminal held
-  pub all : old.unread ≡ []
-  pub nothing : text_of m middle ≡ []
-  pub kind : kind_of middle.stage ≡ Some terminal
-  pub place : m.place middle.tree ≡ m.place old.tree
-  pub quiet : m.faults middle.tree ≡ m.faults old.tree
-  pub going : old.refused ≡ None
-
-held_text : {S : Type 0} (m : NewTreeMeaning S) (old : ExtractState S) (terminal : Terminal) (held : List ℕ) → old.stage ≡ stages.Told terminal held → old.unread ≡ []
-    → text_of m old ≡ held
-held_text m old terminal held told all = no_unread (stage_text m old.tree old.stage) old.unread all ∙ ap (stage_text m old.tree) told
-
-begins_text : {S : Type 0} (m : NewTreeMeaning S) (old middle : ExtractState S) (terminal : Terminal) (held : List ℕ) → Begins m old middle terminal held
-    → text_of m middle ++ held ≡ text_of m old ++ []
-begins_text m old middle terminal held b =
-    ap (λ (l : List ℕ). l ++ held) b.nothing ∙ sym (held_text m old terminal held b.told b.all) ∙ sym (append-nil (text_of m old))
-
-stopped_behind : {S : Type 0} (m : NewTreeMeaning S) (old middle new : ExtractState S) (terminal : Terminal) (held : List ℕ) → Begins m old middle terminal held
-    → (terminal ≡ terminals.Symlink → ⊥) → HasStopped m middle new held → HasStopped m old new []
-stopped_behind m old middle new terminal held b other (inl h) =
-    let link : terminal ≡ terminals.Symlink = cc (sym b.kind ∙ h.kind) in
-    absurd (other link)
-stopped_behind m old middle new terminal held b other (inr h) = inr (record {
-  middle = h.middle;
-  rest = h.rest;
-  text = sym (begins_text m old middle terminal held b) ∙ h.text;
-  quiet = h.quiet ∙ b.quiet;
-  cause = h.cause;
-  bundle = subst (λ (kind : Option Terminal). IsSomeAnd new.refused (OfBundle kind)) (b.kind ∙ sym (ap kind_of b.told)) h.bundle;
-})
-
-pub held_stops : {S V E : Type 0} (m : NewTreeMeaning S) (r : Result V E) (old middle new : ExtractState S) (terminal : Terminal) (held : List ℕ)
-    → Begins m old middle terminal held → (terminal ≡ terminals.Symlink → ⊥) → OnErr r (HasStopped m middle new held) → OnErr r (HasStopped m old new [])
-held_stops m (Ok v) old middle new terminal held b other h = tt
-held_stops m (Err e) old middle new terminal held b other h = stopped_behind m old middle new terminal held b other h
-
-pub nothing_of_bundle : {S : Type 0} (m : NewTreeMeaning S) (tree : S) (stage : Stage) (terminal : Terminal) (held unread : List ℕ) → IsAtStage (m.made tree) stage
-    → stage ≡ stages.Told terminal held → unread ≡ [] → text_read (m.made tree) (stages.Line []) ++ unread ≡ []
-nothing_of_bundle m tree stage terminal held unread at is all =
-    let none : m.made tree ≡ [] = subst (IsAtStage (m.made tree)) is at in
-    no_unread (text_read (m.made tree) (stages.Line [])) unread all ∙ ap (λ (made : List Made). text_read made (stages.Line [])) none
-
-pub nothing_of_file : {S : Type 0} (m : NewTreeMeaning S) (tree new : S) (stage : Stage) (terminal : Terminal) (held unread : List ℕ) → IsAtStage (m.made tree) stage
-    → stage ≡ stages.Told terminal held → MadeMore (File [] []) (new_tree_step m tree new) → unread ≡ [] → text_read (m.made new) stages.File ++ unread ≡ []
-nothing_of_file m tree new stage terminal held unread at is more all =
-    let none : m.made tree ≡ [] = subst (IsAtStage (m.made tree)) is at in
-    no_unread (text_read (m.made new) stages.File) unread all ∙ ap bytes_made (more.made ∙ ap (λ (made : List Made). made ++ File [] [] ∷ []) none)
-
--- ---- why it stops
-
--- what it stopped at wasn't read, and is left
-pub left_extracts : {S : Type 0} (m : NewTreeMeaning S) (old middle new : ExtractState S) (fault : ExtractFault) (bytes : List ℕ) (at : ℕ)
-    → Extracts m old middle (take at bytes) → middle.unread ≡ [] → SameExtract m middle new → new.refused ≡ Some fault → new.unread ≡ drop at bytes
-    → Extracts m old new bytes
-left_extracts m old middle new fault bytes at put none same refused left =
-    let stays : stage_text m new.tree new.stage ≡ text_of m middle =
-    ap₂ (λ (made : List Made) (s : Stage). text_read made s) same.made same.stage ∙ sym (no_unread (stage_text m middle.tree middle.stage) middle.unread none) in
-    record {
-      grows = record {
-        text = ap₂ (λ (x y : List ℕ). x ++ y) (stays ∙ put.grows.text) left ∙ append_assoc (text_of m old) (take at bytes) (drop at bytes)
-            ∙ ap (λ (l : List ℕ). text_of m old ++ l) (take-append-drop at bytes);
-        place = same.place ∙ put.grows.place;
-        going = λ e. absurd (cc (sym refused ∙ e));
-        quiet = λ e. absurd (cc (sym refused ∙ e));
-      };
-      kind = ap kind_of same.stage ∙ put.kind;
-    }
-
-some_cause : {S : Type 0} (m : NewTreeMeaning S) (middle new : ExtractState S) (failed : S) (fault : ExtractFault) (rest : List ℕ) → new.refused ≡ Some fault
-    → new.tree ≡ failed → HasExtractCause (m.made middle.tree) (text_of m middle) rest (new_tree_step m middle.tree failed) fault
-    → IsSomeAnd new.refused (HasExtractCause (m.made middle.tree) (text_of m middle) rest (new_tree_step m middle.tree new.tree))
-some_cause {S = S} m middle new failed fault rest refused tree cause =
-    subst (λ (r : Option ExtractFault). IsSomeAnd r (HasExtractCause (m.made middle.tree) (text_of m middle) rest (new_tree_step m middle.tree new.tree))) (sym refused)
-    (subst (λ (t : S). HasExtractCause (m.made middle.tree) (text_of m middle) rest (new_tree_step m middle.tree t) fault) (sym tree) cause)
-
-some_bundle : (kind of : Option Terminal) (refused : Option ExtractFault) (fault : ExtractFault) → refused ≡ Some fault → of ≡ kind → OfBundle of fault
-    → IsSomeAnd refused (OfBundle kind)
-some_bundle kind of refused fault is same h =
-    subst (λ (r : Option ExtractFault). IsSomeAnd r (OfBundle kind)) (sym is) (subst (λ (k : Option Terminal). OfBundle k fault) same h)
-
-pub left_stops : {S : Type 0} (m : NewTreeMeaning S) (old middle new : ExtractState S) (failed : S) (fault : ExtractFault) (bytes : List ℕ) (at : ℕ)
-    → Extracts m old middle (take at bytes) → middle.refused ≡ None → new.refused ≡ Some fault → new.tree ≡ failed
-    → HasExtractCause (m.made middle.tree) (text_of m middle) (drop at bytes) (new_tree_step m middle.tree failed) fault
-    → OfBundle (kind_of middle.stage) fault → HasStopped m old new bytes
-left_stops m old middle new failed fault bytes at put going refused tree cause of = inr (record {
-  middle = middle;
-  rest = drop at bytes;
-  text = ap (λ (l : List ℕ). text_of m old ++ l) (sym (take-append-drop at bytes)) ∙ sym (append_assoc (text_of m old) (take at bytes) (drop at bytes))
-      ∙ ap (λ (l : List ℕ). l ++ drop at bytes) (sym put.grows.text);
-  quiet = put.grows.quiet going;
-  cause = some_cause m middle new failed fault (drop at bytes) refused tree cause;
-  bundle = some_bundle (kind_of old.stage) (kind_of middle.stage) new.refused fault refused put.kind of;
-})
-
-pub tree_stops : {S : Type 0} (m : NewTreeMeaning S) (old new : ExtractState S) (failed : S) → new.refused ≡ Some faults.Tree → new.tree ≡ failed
-    → NewTreeRose (new_tree_step m old.tree failed) → HasStopped m old new []
-tree_stops m old new failed refused tree rose = inr (record {
-  middle = old;
-  rest = [];
-  text = refl;
-  quiet = refl;
-  cause = some_cause m old new failed faults.Tree [] refused tree rose;
-  bundle = some_bundle (kind_of old.stage) (kind_of old.stage) new.refused faults.Tree refused refl tt;
-})
-
--- a cause stays one where more stands behind it
-more_behind : (made : List Made) (text rest bytes : List ℕ) (step : NewTreeStep) (fault : ExtractFault) → HasExtractCause made text rest step fault
-    → HasExtractCause made text (rest ++ bytes) step fault
-more_behind made text rest bytes step faults.Tree h = h
-more_behind made text rest bytes step (faults.NotPlain path) h =
-    let n = h.1 in
-    let front = take n rest in
-    let whole : rest ++ bytes ≡ front ++ (drop n rest ++ bytes) =
-    ap (λ (l : List ℕ). l ++ bytes) (sym (take-append-drop n rest)) ∙ append_assoc front (drop n rest) bytes in
-    let same : take (length front) (rest ++ bytes) ≡ front = ap (take (length front)) whole ∙ take_at front (drop n rest ++ bytes) (length front) refl in
-    (h.0, length front, ap (λ (l : List ℕ). text ++ l) same ∙ h.2, h.3)
-more_behind made text rest bytes step faults.BadText h =
-    (λ records behind all e. h.0 records (bytes ++ behind) all (ap (λ (l : List ℕ). text ++ l) (sym (append_assoc rest bytes behind)) ∙ e), h.1)
-more_behind made text rest bytes step faults.OutOfMemory h = h
-
-some_more : (made : List Made) (text rest bytes : List ℕ) (step : NewTreeStep) (refused : Option ExtractFault) → IsSomeAnd refused (HasExtractCause made text rest step)
-    → IsSomeAnd refused (HasExtractCause made text (rest ++ bytes) step)
-some_more made text rest bytes step None h = absurd h
-some_more made text rest bytes step (Some fault) h = more_behind made text rest bytes step fault h
-
-before : {S : Type 0} (m : NewTreeMeaning S) (old new : ExtractState S) (bytes : List ℕ) → HasStopped m old new [] → HasStopped m old new bytes
-before m old new bytes (inl h) = inl (record { kind = h.kind; cause = h.cause; same = h.same })
-before m old new bytes (inr h) = inr (record {
-  middle = h.middle;
-  rest = h.rest ++ bytes;
-  text = ap (λ (l : List ℕ). l ++ bytes) (sym (append-nil (text_of m old)) ∙ h.text) ∙ append_assoc (text_of m h.middle) h.rest bytes;
-  quiet = h.quiet;
-  cause = some_more (m.made h.middle.tree) (text_of m h.middle) h.rest bytes (new_tree_step m h.middle.tree new.tree) new.refused h.cause;
-  bundle = h.bundle;
-})
-
-pub stops_before : {S V E : Type 0} (m : NewTreeMeaning S) (r : Result V E) (old new : ExtractState S) (bytes : List ℕ) → HasStopped m old new []
-    → OnErr r (HasStopped m old new bytes)
-stops_before m (Ok v) old new bytes h = tt
-stops_before m (Err e) old new bytes h = before m old new bytes h
-
-pub stops_behind : {S : Type 0} (m : NewTreeMeaning S) (old middle new : ExtractState S) (failed : S) (fault : ExtractFault) (bytes : List ℕ) → Extracts m old middle []
-    → middle.refused ≡ None → new.refused ≡ Some fault → new.tree ≡ failed
-    → HasExtractCause (m.made middle.tree) (text_of m middle) bytes (new_tree_step m middle.tree failed) fault
-    → OfBundle (kind_of middle.stage) fault → HasStopped m old new bytes
-stops_behind m old middle new failed fault bytes put going refused tree cause of = inr (record {
-  middle = middle;
-  rest = bytes;
-  text = ap (λ (l : List ℕ). l ++ bytes) (sym (append-nil (text_of m old)) ∙ sym put.grows.text);
-  quiet = put.grows.quiet going;
-  cause = some_cause m middle new failed fault bytes refused tree cause;
-  bundle = some_bundle (kind_of old.stage) (kind_of middle.stage) new.refused fault refused put.kind of;
-})
 
 -- ---- what was made of a bundle
 
@@ -607,6 +395,9 @@ whole_is_made law made (stages.Told terminal held) records all at of whole e = a
 whole_is_made law made stages.File records all at of whole e = absurd of
 whole_is_made law made (stages.Line line) records all at of whole e = whole_line law made line records all at whole e
 whole_is_made law made (stages.Content left) records all at of whole e = absurd whole
+whole_is_made law made (stages.Link size path) records all at of whole e = absurd whole
+whole_is_made law made (stages.Bad line) records all at of whole e = absurd whole
+whole_is_made law made (stages.Unended byte) records all at of whole e = absurd whole
 
 front_line : FrontsAreRecords → (made : List Made) (line rest : List ℕ) (records : List Record) → All IsProper records → IsAtLine made line
     → (text_made made ++ line) ++ rest ≡ bundle_text records → HasFirst made records
@@ -616,9 +407,12 @@ front_line law made line rest records all at e =
     in
     record { more = more; are = are }
 
-front_content : FrontsAreFiles → (made : List Made) (left : ℕ) (rest : List ℕ) (records : List Record) → All IsProper records → IsAtContent made left
-    → open_text made left ++ rest ≡ bundle_text records → HasFirstBytes made left records
-front_content law made left rest records all at e =
+-- what stands behind the bytes of a file that came
+content_front : FrontsAreFiles → (made : List Made) (left : ℕ) (rest : List ℕ) (records : List Record) → All IsProper records → (at : IsAtContent made left)
+    → open_text made left ++ rest ≡ bundle_text records
+    → (last : List ℕ) × (more : List Record) × (records ≡ records_made at.before ++ file at.path (at.held ++ last) ∷ more) × (length last ≡ left)
+    × (rest ≡ last ++ line_feed ∷ bundle_text more)
+content_front law made left rest records all at e =
     let own = file_line (length at.held + left) (path_text at.path) in
     let whole : text_made at.before ++ (own ++ (at.held ++ rest)) ≡ bundle_text records =
     ap (λ (l : List ℕ). text_made at.before ++ l) (sym (append_assoc own at.held rest))
@@ -627,18 +421,60 @@ front_content law made left rest records all at e =
     ∙ ap (λ (m : List Made). open_text m left ++ rest) (sym at.is)
     ∙ e
     in
-    let (last, more, are, amount, behind) =
     law (records_made at.before) records at.path at.held rest left (all_proper (records_made at.before) at.good) all (not_empty at.path at.good_path.good)
     (omega (arith, at.small)) whole
-    in
+
+front_content : FrontsAreFiles → (made : List Made) (left : ℕ) (rest : List ℕ) (records : List Record) → All IsProper records → IsAtContent made left
+    → open_text made left ++ rest ≡ bundle_text records → HasFirstBytes made left records
+front_content law made left rest records all at e =
+    let (last, more, are, amount, behind) = content_front law made left rest records all at e in
     record { before = at.before; path = at.path; held = at.held; last = last; more = more; made_is = at.is; are = are; amount = amount }
 
-pub front_is_made : FrontsAreRecords → FrontsAreFiles → FrontIsMade
-front_is_made first second made (stages.Waiting held) records rest all at of e = absurd of
-front_is_made first second made (stages.Told terminal held) records rest all at of e = absurd of
-front_is_made first second made stages.File records rest all at of e = absurd of
-front_is_made first second made (stages.Line line) records rest all at of e = front_line first made line rest records all at e
-front_is_made first second made (stages.Content left) records rest all at of e = front_content second made left rest records all at e
+front_link : FrontsAreLinks → (made : List Made) (size : ℕ) (path : List (List ℕ)) (rest : List ℕ) (records : List Record) → All IsProper records
+    → IsAtLink made size path → (text_made made ++ link_line size (path_text path)) ++ rest ≡ bundle_text records → HasFirstLink made path records
+front_link law made size path rest records all at e =
+    let (target, more, are, amount, behind) =
+    law (records_made made) records path rest size (all_proper (records_made made) at.good) all (not_empty path at.good_path.good) (omega (arith, at.small))
+    (sym (append_assoc (text_made made) (link_line size (path_text path)) rest) ∙ e)
+    in
+    record { target = target; more = more; are = are }
+
+-- a line that ended is the first line of the next record, which isn't good
+begins_bad : EscapedIsPlain → (made : List Made) (text behind : List ℕ) (records more : List Record) → NoFeed text → NoLine text
+    → records ≡ records_made made ++ more → text ++ line_feed ∷ behind ≡ bundle_text more → HasFirstBad made records
+begins_bad plain made text behind records [] none bad are e = absurd (omega (arith, ap length e, length-append text (line_feed ∷ behind)))
+begins_bad plain made text behind records (entry ∷ more) none bad are e =
+    record { next = entry; more = more; are = are; bad = no_first plain text behind entry more none bad e }
+
+front_bad : EscapedIsPlain → FrontsAreRecords → (made : List Made) (line rest : List ℕ) (records : List Record) → All IsProper records → IsAtBad made line
+    → (text_made made ++ line) ++ rest ≡ bundle_text records → HasFirstBad made records
+front_bad plain law made line rest records all at e =
+    let (more, are, left) =
+    law (records_made made) records (line ++ rest) (all_proper (records_made made) at.good) all (sym (append_assoc (text_made made) line rest) ∙ e)
+    in
+    begins_bad plain made at.front rest records more at.no_end (λ other good is. at.none other good (is ∙ sym at.is)) are
+    (sym (append_assoc at.front (line_feed ∷ []) rest) ∙ ap (λ (l : List ℕ). l ++ rest) (sym at.is) ∙ left)
+
+-- behind a file's bytes stands an end
+ends_here : (last rest behind : List ℕ) (b : ℕ) → length last ≡ 0 → b ∷ rest ≡ last ++ line_feed ∷ behind → b ≡ line_feed
+ends_here [] rest behind b none e = cc e
+ends_here (x ∷ last) rest behind b none e = absurd (omega (arith, none))
+
+front_unended : FrontsAreFiles → (made : List Made) (b : ℕ) (rest : List ℕ) (records : List Record) → All IsProper records → IsAtContent made 0
+    → (open_text made 0 ++ b ∷ []) ++ rest ≡ bundle_text records → b ≡ line_feed
+front_unended law made b rest records all at e =
+    let (last, more, are, none, behind) = content_front law made 0 (b ∷ rest) records all at (sym (append_assoc (open_text made 0) (b ∷ []) rest) ∙ e) in
+    ends_here last rest (bundle_text more) b none behind
+
+pub front_is_made : EscapedIsPlain → FrontsAreRecords → FrontsAreFiles → FrontsAreLinks → FrontIsMade
+front_is_made plain first second third made (stages.Waiting held) records rest all at of e = absurd of
+front_is_made plain first second third made (stages.Told terminal held) records rest all at of e = absurd of
+front_is_made plain first second third made stages.File records rest all at of e = absurd of
+front_is_made plain first second third made (stages.Line line) records rest all at of e = front_line first made line rest records all at e
+front_is_made plain first second third made (stages.Content left) records rest all at of e = front_content second made left rest records all at e
+front_is_made plain first second third made (stages.Link size path) records rest all at of e = front_link third made size path rest records all at e
+front_is_made plain first second third made (stages.Bad line) records rest all at of e = front_bad plain first made line rest records all at e
+front_is_made plain first second third made (stages.Unended byte) records rest all at of e = at.1 (front_unended second made byte rest records all at.0 e)
 
 pub file_is_made : FileIsMade
 file_is_made made at = at.1 ∙ ap (λ (l : List ℕ). File [] l ∷ []) (sym (ap bytes_made at.1))

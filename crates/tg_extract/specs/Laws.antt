@@ -1,8 +1,8 @@
 -- What was made of a bundle's text, and of a front of it.
 use Rattle.std.specs.Prelude.{All, List, [], length, ℕ, ◌++◌, ◌∷◌, ◌≡◌}
 use Rattle.tg_bundles.specs.Reading.{IsProper}
-use Rattle.tg_bundles.specs.Records.{Record, bundle_text, file}
-use Rattle.tg_extract.specs.Extracts.{IsAtStage, IsOfBundle, IsWhole, records_made, text_read}
+use Rattle.tg_bundles.specs.Records.{Record, bundle_text, file, link}
+use Rattle.tg_extract.specs.Extracts.{IsAtStage, IsGoodRecord, IsOfBundle, IsWhole, records_made, text_read}
 use Rattle.tg_extract.specs.declared.extract.Stage.{Stage}
 use Rattle.tg_extract.specs.declared.extract.Stage.TheVariants as stages
 use Rattle.tg_new_tree.specs.declared.made.Made.{Made}
@@ -29,14 +29,31 @@ pub record HasFirstBytes (made : List Made) (left : ℕ) (records : List Record)
   pub are : records ≡ records_made before ++ file path (held ++ last) ∷ more
   pub amount : length last ≡ left
 
+-- the first records were made, and behind them is a symbolic link at this path
+pub record HasFirstLink (made : List Made) (path : List (List ℕ)) (records : List Record) : Type 0 where
+  pub target : List ℕ
+  pub more : List Record
+  pub are : records ≡ records_made made ++ link path target ∷ more
+
+-- the first records were made, and behind them is one that isn't made
+pub record HasFirstBad (made : List Made) (records : List Record) : Type 0 where
+  pub next : Record
+  pub more : List Record
+  pub are : records ≡ records_made made ++ next ∷ more
+  pub bad : IsGoodRecord next → ⊥
+
 abbrev pub HasBegun : List Made → Stage → List Record → Type 0
 HasBegun made (stages.Waiting held) records = ⊥
 HasBegun made (stages.Told terminal held) records = ⊥
 HasBegun made stages.File records = ⊥
 HasBegun made (stages.Line line) records = HasFirst made records
 HasBegun made (stages.Content left) records = HasFirstBytes made left records
+HasBegun made (stages.Link size path) records = HasFirstLink made path records
+HasBegun made (stages.Bad line) records = HasFirstBad made records
+HasBegun made (stages.Unended byte) records = ⊥
 
--- of a front of a bundle the first records were made, and of a file that isn't whole yet the first bytes
+-- of a front of a bundle the first records were made, and of a file that isn't whole yet the first bytes; and nothing behind which a record
+-- stands that isn't made
 abbrev pub FrontIsMade : Type 0
 FrontIsMade = (made : List Made) (stage : Stage) (records : List Record) (rest : List ℕ) → All IsProper records → IsAtStage made stage → IsOfBundle stage
     → text_read made stage ++ rest ≡ bundle_text records → HasBegun made stage records

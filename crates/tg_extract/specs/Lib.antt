@@ -1,4 +1,6 @@
-pub mod Lines
+pub mod Answers
+pub mod Counts
 pub mod Extracts
 pub mod Faults
 pub mod Laws
+pub mod Lines

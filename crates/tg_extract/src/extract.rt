@@ -1,15 +1,18 @@
 //! A text that is made into a tree as it comes.
-ghost use Rattle.std.specs.Prelude.{◌≡◌, ◌≢◌, ◌<◌, ◌≤◌, ◌++◌, ◌↔◌, [], IfOk, IfSome, IsErr, IsTrue, None, OnErr, OnOk};
-ghost use Rattle.std.specs.Prelude.{All, IfErr, MatchOption, Some, length, option_copied, take, ℕ};
+ghost use Rattle.std.specs.Prelude.{◌≡◌, ◌≢◌, ◌<◌, ◌≤◌, ◌++◌, ◌↔◌, ◌∷◌, [], IfOk, IfSome, IsErr, IsSomeAnd, IsTrue, None, OnErr, OnOk};
+ghost use Rattle.std.specs.Prelude.{All, IfErr, MatchOption, Some, ⊤, length, take, ℕ};
 ghost use Rattle.tg_bytes.specs.Ascii.{line_feed};
-ghost use Rattle.tg_extract.specs.Extracts.{EndsLine, Extracts, HasExtractCause, HasLineCause, HasMadeLine, HasMadeText, HasMakeCause, HasStopped, IsAtStage};
-ghost use Rattle.tg_extract.specs.Extracts.{IsRead, IsWhole, OfBundle, SameExtract, extract_joins, extract_rests, extract_sink, kind_of, text_of};
+ghost use Rattle.tg_extract.specs.Counts.{counts_of};
+ghost use Rattle.tg_extract.specs.Extracts.{EndsLine, Extracts, HasCause, HasMadeLine, HasMadeText, IsAtStage, IsMakeCause, IsRead, IsStoppedAt, IsStuck};
+ghost use Rattle.tg_extract.specs.Extracts.{IsWhole, extract_joins, extract_rests, extract_sink, kind_of, link_at, text_of};
+ghost use Rattle.tg_extract.specs.declared.counts.Counts.{Counts};
 ghost use Rattle.tg_extract.specs.declared.extract.Stage.{Stage};
 ghost use Rattle.tg_extract.specs.declared.fault.ExtractFault.{ExtractFault};
-ghost use Rattle.tg_new_tree.specs.NewTrees.{AddedTo, BegunAt, NewTreeFailed, NewTreeQuiet, new_tree_step};
+ghost use Rattle.tg_new_tree.specs.NewTrees.{AddedTo, BegunAt, NewTreeFailed, NewTreeQuiet, SameTree, new_tree_step};
 ghost use Rattle.tg_streams.specs.Streams.{OutputQuiet, OutputRose, Put, Unput, into};
 ghost use Rattle.tg_faults.specs.Faults.{Rose};
 
+use crate::counts::Counts;
 use crate::fault::ExtractFault;
 use crate::lines::{Line, parse_line};
 use std::alloc::{AllocError, Global};
@@ -35,12 +38,20 @@ pub(crate) enum Stage {
     Line(Bytes),
     /// So many bytes of a file are to come, and behind them a line feed.
     Content(u64),
+    /// The first line ended of a symbolic link whose target has so many bytes, at this path: nothing is made behind it.
+    Link(u64, List<Bytes>),
+    /// This line ended, which isn't the first line of a record that is made.
+    Bad(Bytes),
+    /// Behind a file's bytes stands this byte, and no line feed.
+    Unended(u8),
 }
 
 /// A sink that makes a tree of the text of an answer as it comes: of a directory's bundle its folders and files, each as soon as its record
 /// begins, and of a file's text that file. Which of the two the text is isn't seen from it, since a file may hold what looks like a bundle,
-/// and is to be told by `tell`; until then the text is held, and it is read with the bytes that come next, or by `finish`. A symbolic link
-/// isn't made, and stops it.
+/// and is to be told by `tell`; until then the text is held, and it is read with the bytes that come next, or by `finish`.
+///
+/// A symbolic link isn't made. Its first line is taken, and stops it: each call behind that fails. So does a line that isn't the first line of
+/// a record whose path has at most 128 names.
 ///
 /// Contracts see the text that came, which is what was made says and what isn't read: `held` is that text. Once it was told, a file's bytes
 /// aren't held in memory, and of a record its first line alone.
@@ -53,18 +64,21 @@ pub struct Extract<T: NewTree> {
     left_at: usize,
     refused: Option<ExtractFault>,
     failed: u64,
+    counts: Counts,
 }
 
 impl<T: NewTree> Model for Extract<T> {
-    ghost use Rattle.tg_extract.specs.Extracts.{ExtractState, IsAtStage};
+    ghost use Rattle.tg_extract.specs.Counts.{counts_of};
+    ghost use Rattle.tg_extract.specs.Extracts.{ExtractState, IsAtStage, IsStoppedAt};
 
     ghost Value = { ExtractState T };
 
-    ghost use Rattle.std.specs.Prelude.{◌≡◌, None, [], drop};
+    ghost use Rattle.std.specs.Prelude.{◌≡◌, IfSome, None, [], drop};
 
     ghost view = { λ e. record { tree = e.tree; stage = e.stage; unread = drop e.left_at e.left; refused = e.refused; faults = e.failed } };
 
-    ghost invariant = { λ e. IsAtStage (T.new_tree.made e.tree) e.stage × (e.refused ≡ None → drop e.left_at e.left ≡ []) };
+    ghost invariant = { λ e. IsAtStage (T.new_tree.made e.tree) e.stage × (e.refused ≡ None → drop e.left_at e.left ≡ [])
+        × IfSome e.refused (IsStoppedAt e.stage) × (e.counts ≡ counts_of (T.new_tree.made e.tree)) };
 }
 
 impl<T: NewTree + Drop> Extract<T> {
@@ -85,17 +99,19 @@ impl<T: NewTree + Drop> Extract<T> {
             left_at: 0,
             refused: None,
             failed: 0,
+            counts: Counts::new(),
         }
     }
 
-    /// From now on what comes is made at a path of the system, at which nothing stands, and nothing came yet. The error is a fault of the
-    /// tree, with which nothing changes.
+    /// From now on what comes is made at a path of the system, at which nothing stands, and nothing came yet, nor did a call fail. The error is
+    /// a fault of the tree, with which nothing changes.
     pub fn begin(&mut self, path: &str) -> Result<(), Failed>
         ensures at { OnOk result (BegunAt path.now (new_tree_step T.new_tree self.old.tree self.new.tree)) }
         ensures text { OnOk result (text_of T.new_tree self.new ≡ []) }
         ensures kind { OnOk result (kind_of self.new.stage ≡ None) }
         ensures refused { OnOk result (self.new.refused ≡ None) }
-        ensures faults { self.new.faults ≡ self.old.faults }
+        // A begun extract has no fault counted.
+        ensures faults { OnOk result (self.new.faults ≡ 0) }
         ensures quiet { OnOk result (NewTreeQuiet (new_tree_step T.new_tree self.old.tree self.new.tree)) }
         ensures err { OnErr result (NewTreeFailed (new_tree_step T.new_tree self.old.tree self.new.tree)) }
         ensures err_same { OnErr result (self.new ≡ record self.old { tree = self.new.tree }) }
@@ -105,6 +121,8 @@ impl<T: NewTree + Drop> Extract<T> {
         self.left = Bytes::new(self.alloc);
         self.left_at = 0;
         self.refused = None;
+        self.failed = 0;
+        self.counts = Counts::new();
         Ok(())
     }
 
@@ -117,10 +135,29 @@ impl<T: NewTree + Drop> Extract<T> {
     }
 
     /// Why it stopped.
-    pub fn refusal(&self) -> Option<&ExtractFault>
-        ensures { option_copied result ≡ self.now.refused }
+    pub fn refusal(&self) -> Option<ExtractFault>
+        ensures refused { result ≡ self.now.refused }
+        ensures stopped { IfSome result (IsStoppedAt self.now.stage) }
     {
-        self.refused.as_ref()
+        self.refused
+    }
+
+    /// The path of the symbolic link that comes next, where one does: that of no names where the whole text is a link's target.
+    pub fn link(&self) -> Option<&[Bytes]>
+        ensures { MatchOption result (link_at self.now.stage ≡ None) (λ path. link_at self.now.stage ≡ Some path.now) }
+    {
+        match &self.stage {
+            Stage::Link(_, path) => Some(path.as_slice()),
+            Stage::Told(Terminal::Symlink, _) => Some(&[]),
+            _ => None,
+        }
+    }
+
+    /// How many files and folders were made, and how many bytes were added to the files.
+    pub fn counts(&self) -> Counts
+        ensures { result ≡ counts_of (T.new_tree.made self.now.tree) }
+    {
+        self.counts
     }
 
     /// Whether all that was read was made: the text was told to be one file's, or is a bundle in which no record is begun and not ended.
@@ -132,6 +169,7 @@ impl<T: NewTree + Drop> Extract<T> {
             Stage::File => true,
             Stage::Line(line) => line.as_slice().is_empty(),
             Stage::Waiting(_) | Stage::Told(..) | Stage::Content(_) => false,
+            Stage::Link(..) | Stage::Bad(_) | Stage::Unended(_) => false,
         }
     }
 }
@@ -149,8 +187,7 @@ impl<T: NewTree + Drop> Sink for Extract<T> {
     ghost joins = { λ a b c u v. extract_joins T.new_tree a b c u v };
 
     /// Reads what is held where it is told what it is of, and then up to the end of a first line, of a file's bytes, or of the bytes that came.
-    /// It fails once and for all where the tree failed, where a symbolic link stands, where of a directory's text no bundle goes on so, and for
-    /// want of memory; `refusal` tells which.
+    /// It fails once and for all where the tree failed, behind what isn't made, and for want of memory; `refusal` tells which.
     fn put(&mut self, bytes: &[u8]) -> Result<usize, Failed>
         ensures within { IfOk result (λ n. n ≤ length bytes.now) }
         ensures moves { IfOk result (λ n. 0 < length bytes.now → 0 < n) }
@@ -163,8 +200,9 @@ impl<T: NewTree + Drop> Sink for Extract<T> {
         // What stands behind an error, and when one comes.
         ensures ok { OnOk result (self.new.refused ≡ None) }
         ensures read { OnOk result (IsRead self.new.stage) }
-        ensures err_refused { OnErr result (self.new.refused ≢ None) }
-        ensures cause { self.old.refused ≡ None → OnErr result (HasStopped T.new_tree self.old self.new bytes.now) }
+        ensures stuck { IsStuck self.old.stage → IsErr result }
+        ensures cause { self.old.refused ≡ None → OnErr result (IsSomeAnd self.new.refused
+            (HasCause self.new.stage (new_tree_step T.new_tree self.old.tree self.new.tree))) }
         ensures again { (fault : ExtractFault) → self.old.refused ≡ Some fault
             → IsErr result × (self.new ≡ record self.old { faults = self.new.faults }) }
     {
@@ -194,21 +232,28 @@ impl<T: NewTree + Drop> Extract<T> {
     }
 
     /// Reads what is held, where it was told what the text is of: a text that is told to be a file's makes that file, though nothing came of
-    /// it. The error is one of `put`.
+    /// it. It fails where `put` would, also behind what isn't made. The error is one of `put`.
     pub fn finish(&mut self) -> Result<(), Failed>
         ensures text { Extracts T.new_tree self.old self.new [] }
         ensures quiet { OnOk result ((self.new.refused ≡ None) × (self.new.faults ≡ self.old.faults)) }
         ensures read { OnOk result (IsRead self.new.stage) }
-        ensures err_refused { OnErr result (self.new.refused ≢ None) }
+        ensures going { OnOk result (IsStuck self.new.stage → ⊥) }
+        ensures all { OnOk result (self.new.unread ≡ []) }
+        ensures at { IsAtStage (T.new_tree.made self.new.tree) self.new.stage }
+        ensures stopped { IfSome self.new.refused (IsStoppedAt self.new.stage) }
         ensures rose { OnErr result (Rose self.old.faults self.new.faults) }
-        ensures cause { self.old.refused ≡ None → OnErr result (HasStopped T.new_tree self.old self.new []) }
+        ensures cause { self.old.refused ≡ None → OnErr result (IsSomeAnd self.new.refused
+            (HasCause self.new.stage (new_tree_step T.new_tree self.old.tree self.new.tree))) }
         ensures again { (fault : ExtractFault) → self.old.refused ≡ Some fault
             → IsErr result × (self.new ≡ record self.old { faults = self.new.faults }) }
     {
-        if self.refused.is_none() {
-            self.read_held()
-        } else {
-            Err(self.fault())
+        if self.refused.is_some() {
+            return Err(self.fault());
+        }
+        self.read_held()?;
+        match stop_at(&self.stage) {
+            None => Ok(()),
+            Some(fault) => Err(self.stop(fault)),
         }
     }
 
@@ -218,22 +263,24 @@ impl<T: NewTree + Drop> Extract<T> {
         ensures text { Extracts T.new_tree self.old self.new [] }
         ensures quiet { OnOk result ((self.new.refused ≡ None) × (self.new.faults ≡ self.old.faults)) }
         ensures read { OnOk result (IsRead self.new.stage) }
-        ensures err_refused { OnErr result (self.new.refused ≢ None) }
+        ensures same { IsRead self.old.stage → self.new ≡ self.old }
+        ensures stuck { IsStuck self.old.stage → OnOk result (IsStuck self.new.stage) }
+        ensures err_at { OnErr result (IsAtStage (T.new_tree.made self.new.tree) self.new.stage) }
         ensures rose { OnErr result (Rose self.old.faults self.new.faults) }
         ensures counted { self.old.faults ≤ self.new.faults }
-        ensures cause { OnErr result (HasStopped T.new_tree self.old self.new []) }
+        ensures cause { OnErr result (IsSomeAnd self.new.refused
+            (HasCause self.new.stage (new_tree_step T.new_tree self.old.tree self.new.tree))) }
     {
         let Stage::Told(terminal, held) = &mut self.stage else {
             return Ok(());
         };
         let begun = match terminal {
-            Terminal::Symlink => {
-                return Err(self.stop(ExtractFault::NotPlain(List::new(self.alloc))));
-            }
+            Terminal::Symlink => return Err(self.stop(ExtractFault::NotPlain)),
             Terminal::File => {
                 if let Err(Failed) = self.tree.make_file(&[]) {
                     return Err(self.stop(ExtractFault::Tree));
                 }
+                self.counts.file();
                 Stage::File
             }
             Terminal::Directory => Stage::Line(Bytes::new(self.alloc)),
@@ -250,9 +297,11 @@ impl<T: NewTree + Drop> Extract<T> {
         ensures put { Extracts T.new_tree self.old self.new bytes }
         ensures read { IsRead self.new.stage }
         ensures quiet { OnOk result ((self.new.refused ≡ None) × (self.new.faults ≡ self.old.faults)) }
-        ensures err_refused { OnErr result (self.new.refused ≢ None) }
+        ensures err_at { OnErr result (IsAtStage (T.new_tree.made self.new.tree) self.new.stage) }
         ensures rose { OnErr result (Rose self.old.faults self.new.faults) }
-        ensures cause { OnErr result (HasStopped T.new_tree self.old self.new bytes) }
+        ensures counted { self.old.faults ≤ self.new.faults }
+        ensures cause { OnErr result (IsSomeAnd self.new.refused
+            (HasCause self.new.stage (new_tree_step T.new_tree self.old.tree self.new.tree))) }
     {
         let mut at = 0;
         while at < bytes.as_slice().len() {
@@ -281,6 +330,7 @@ impl<T: NewTree + Drop> Extract<T> {
 
     /// Stops for this fault, and counts a call that failed.
     fn stop(&mut self, fault: ExtractFault) -> Failed
+        requires { IsStoppedAt self.old.stage fault }
         ensures rest { self.new ≡ record self.old { faults = self.new.faults; refused = Some fault } }
         ensures rose { Rose self.old.faults self.new.faults }
         ensures counted { self.old.faults ≤ self.new.faults }
@@ -289,7 +339,7 @@ impl<T: NewTree + Drop> Extract<T> {
         self.fault()
     }
 
-    /// Reads a front of the bytes, where nothing stopped it.
+    /// Reads a front of the bytes, where nothing stopped it. With an error what was made, the stage and the place stay.
     fn read(&mut self, bytes: &[u8]) -> Result<usize, ExtractFault>
         requires refused { self.old.refused ≡ None }
         requires read { IsRead self.old.stage }
@@ -299,10 +349,10 @@ impl<T: NewTree + Drop> Extract<T> {
         ensures rest { (self.new.refused ≡ None) × (self.new.faults ≡ self.old.faults) }
         ensures is_read { IsRead self.new.stage }
         ensures none_left { (self.old.unread ≡ []) × (self.new.unread ≡ []) }
-        ensures err_same { OnErr result (SameExtract T.new_tree self.old self.new) }
-        ensures cause { IfErr result (HasExtractCause (T.new_tree.made self.old.tree) (text_of T.new_tree self.old) bytes.now
-            (new_tree_step T.new_tree self.old.tree self.new.tree)) }
-        ensures bundle { IfErr result (OfBundle (kind_of self.old.stage)) }
+        ensures going { OnOk result (IsStuck self.old.stage → ⊥) }
+        ensures err_same { OnErr result (SameTree (new_tree_step T.new_tree self.old.tree self.new.tree)) }
+        ensures err_stage { OnErr result (self.new.stage ≡ self.old.stage) }
+        ensures cause { IfErr result (HasCause self.new.stage (new_tree_step T.new_tree self.old.tree self.new.tree)) }
     {
         match &mut self.stage {
             Stage::Waiting(held) => {
@@ -311,16 +361,19 @@ impl<T: NewTree + Drop> Extract<T> {
             }
             // What is held was read.
             Stage::Told(..) => Ok(0),
-            Stage::File => Ok(self.tree.add(bytes)?),
+            Stage::File => {
+                let n = self.tree.add(bytes)?;
+                self.counts.add(n);
+                Ok(n)
+            }
             Stage::Line(line) => match line_end(bytes) {
                 None => {
                     line.push_all(bytes)?;
                     Ok(bytes.len())
                 }
                 Some(front) => {
-                    tg_bundles::decoded();
-                    tg_bundles::read_back();
-                    self.stage = end_line(self.alloc, &mut self.tree, line.as_slice(), front)?;
+                    let ended = joined(self.alloc, line.as_slice(), front)?;
+                    self.stage = end_line(self.alloc, &mut self.tree, &mut self.counts, ended)?;
                     Ok(front.len() + 1)
                 }
             },
@@ -330,17 +383,33 @@ impl<T: NewTree + Drop> Extract<T> {
                     self.stage = Stage::Line(Bytes::new(self.alloc));
                     Ok(1)
                 }
-                Some(_) => {
-                    tg_bundles::read_back();
-                    Err(ExtractFault::BadText)
+                Some(other) => {
+                    self.stage = Stage::Unended(*other);
+                    Ok(1)
                 }
             },
             Stage::Content(left) => {
                 let n = add_most(&mut self.tree, bytes, *left)?;
                 *left -= n as u64;
+                self.counts.add(n);
                 Ok(n)
             }
+            Stage::Link(..) => Err(ExtractFault::NotPlain),
+            Stage::Bad(_) | Stage::Unended(_) => Err(ExtractFault::BadText),
         }
+    }
+}
+
+/// Why nothing goes on at a stage, where nothing does.
+fn stop_at(stage: &Stage) -> Option<ExtractFault>
+    ensures none { result ≡ None → IsStuck stage.now → ⊥ }
+    ensures some { IfSome result (IsStoppedAt stage.now) }
+    ensures which { IfSome result (λ fault. fault ≢ ExtractFault.Tree) }
+{
+    match stage {
+        Stage::Link(..) | Stage::Told(Terminal::Symlink, _) => Some(ExtractFault::NotPlain),
+        Stage::Bad(_) | Stage::Unended(_) => Some(ExtractFault::BadText),
+        _ => None,
     }
 }
 
@@ -370,43 +439,65 @@ fn add_most<T: NewTree>(tree: &mut T, bytes: &[u8], most: u64) -> Result<usize, 
     tree.add(&bytes[..most])
 }
 
-/// Makes what the first line of a record says, of which one part came before the other, and tells what is to come then. Errors: `BadText`
-/// where it isn't such a line; those of `make`; `OutOfMemory`.
+/// Makes what a line without its end says as the first line of a record, and tells what is to come then: behind a symbolic link's, and behind
+/// another line than a record's first one, nothing. Errors: `Tree`, with which nothing was made; `OutOfMemory`.
 fn end_line<T: NewTree>(
     alloc: Global,
     tree: &mut T,
-    line: &[u8],
-    front: &[u8],
+    counts: &mut Counts,
+    text: Bytes,
 ) -> Result<Stage, ExtractFault>
-    ensures made { IfOk result (HasMadeText (line.now ++ front.now) (T.new_tree.made tree.old) (T.new_tree.made tree.new)) }
+    requires { counts.old ≡ counts_of (T.new_tree.made tree.old) }
+    ensures made { IfOk result (HasMadeText text (T.new_tree.made tree.old) (T.new_tree.made tree.new)) }
+    ensures counts { counts.new ≡ counts_of (T.new_tree.made tree.new) }
     ensures place { T.new_tree.place tree.new ≡ T.new_tree.place tree.old }
     ensures quiet { OnOk result (NewTreeQuiet (new_tree_step T.new_tree tree.old tree.new)) }
     ensures err_made { OnErr result (T.new_tree.made tree.new ≡ T.new_tree.made tree.old) }
-    ensures err { IfErr result (HasLineCause (line.now ++ front.now) (new_tree_step T.new_tree tree.old tree.new)) }
+    ensures err { IfErr result (IsMakeCause (new_tree_step T.new_tree tree.old tree.new)) }
 {
-    let text = joined(alloc, line, front)?;
-    let line = parse_line(alloc, text.as_slice())?;
-    make(alloc, tree, line)
+    match parse_line(alloc, text.as_slice()) {
+        Ok(line) => make(alloc, tree, counts, line),
+        Err(ExtractFault::BadText) => Ok(Stage::Bad(ended(text)?)),
+        Err(fault) => Err(fault),
+    }
 }
 
-/// Makes what the first line of a record says, and tells what is to come then. Errors: `Tree`, and `NotPlain` of a symbolic link.
-fn make<T: NewTree>(alloc: Global, tree: &mut T, line: Line) -> Result<Stage, ExtractFault>
+/// A line with its end. The error is want of memory.
+fn ended(line: Bytes) -> Result<Bytes, AllocError>
+    ensures { IfOk result (λ whole. whole ≡ line ++ line_feed ∷ []) }
+{
+    let mut line = line;
+    line.push_all(b"\n")?;
+    Ok(line)
+}
+
+/// Makes what the first line of a record says, and tells what is to come then. The error is a fault of the tree.
+fn make<T: NewTree>(
+    alloc: Global,
+    tree: &mut T,
+    counts: &mut Counts,
+    line: Line,
+) -> Result<Stage, ExtractFault>
+    requires { counts.old ≡ counts_of (T.new_tree.made tree.old) }
     ensures made { IfOk result (HasMadeLine line (T.new_tree.made tree.old) (T.new_tree.made tree.new)) }
+    ensures counts { counts.new ≡ counts_of (T.new_tree.made tree.new) }
     ensures place { T.new_tree.place tree.new ≡ T.new_tree.place tree.old }
     ensures quiet { OnOk result (NewTreeQuiet (new_tree_step T.new_tree tree.old tree.new)) }
     ensures err_made { OnErr result (T.new_tree.made tree.new ≡ T.new_tree.made tree.old) }
-    ensures err { IfErr result (HasMakeCause line (new_tree_step T.new_tree tree.old tree.new)) }
+    ensures err { IfErr result (IsMakeCause (new_tree_step T.new_tree tree.old tree.new)) }
 {
     match line {
         Line::Folder(path) => {
             tree.make_folder(path.as_slice())?;
+            counts.folder();
             Ok(Stage::Line(Bytes::new(alloc)))
         }
         Line::File(size, path) => {
             tree.make_file(path.as_slice())?;
+            counts.file();
             Ok(Stage::Content(size))
         }
-        Line::Link(_, path) => Err(ExtractFault::NotPlain(path)),
+        Line::Link(size, path) => Ok(Stage::Link(size, path)),
     }
 }
 

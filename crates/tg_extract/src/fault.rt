@@ -4,22 +4,21 @@ ghost use Rattle.tg_extract.specs.Faults.{of_query};
 ghost use Rattle.tg_extract.specs.declared.fault.ExtractFault.TheVariants.{BadText, OutOfMemory, Tree};
 
 use std::alloc::AllocError;
-use tg_bytes::{Bytes, List};
 use tg_faults::Failed;
 use tg_query::QueryFault;
 use thiserror::Error;
 
 /// Why a text isn't made into a tree.
-#[derive(Debug, Drop, Error)]
+#[derive(Clone, Copy, Debug, PartialEq, Eq, Error)]
 pub enum ExtractFault {
     /// The new tree failed, and counted it.
     #[error("a tree that is made failed")]
     Tree,
-    /// A symbolic link stands at a path of names, which isn't made.
+    /// A symbolic link comes, which isn't made.
     #[error("a symbolic link isn't made")]
-    NotPlain(List<Bytes>),
-    /// The text isn't a bundle.
-    #[error("the text isn't a bundle")]
+    NotPlain,
+    /// What comes is no record that is made: its path has more than 128 names, or the text isn't a bundle.
+    #[error("what comes is no record that is made")]
     BadText,
     /// Memory was wanted.
     #[error("out of memory")]

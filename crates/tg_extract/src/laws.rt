@@ -10,5 +10,6 @@ pub fn made_records()
     ensures front { FrontIsMade }
     ensures file { FileIsMade }
 {
+    tg_bundles::decoded();
     tg_bundles::read_back();
 }
