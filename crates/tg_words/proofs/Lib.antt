@@ -13,6 +13,7 @@ mod Options
 mod Positional
 mod QueryAnswers
 mod ExportAnswers
+mod IntoAnswers
 mod FetchAnswers
 mod Addrs
 mod ImportAnswers

@@ -17,9 +17,10 @@ use Rattle.tg_words.specs.MirrorLines.{mirror_names}
 use Rattle.tg_words.specs.QueryWords.{query_names}
 use Rattle.tg_words.specs.ServeLines.{serve_names}
 use Rattle.tg_words.specs.SwarmLines.{swarm_names}
+use Rattle.tg_words.specs.VerifyLines.{verify_names}
 use Rattle.tg_words.specs.Operands.{Answers, Exact, OneCid, QueryBy, RawGiven, givens, texts_of, value_at}
 use Rattle.tg_words.specs.declared.Command.{Command}
-use Rattle.tg_words.specs.declared.Command.TheVariants.{Check, Node, CidToHex, CidToText, Export, Import, Verify, Serve, Fetch, Mirror, Swarm, Audit, Help, Version}
+use Rattle.tg_words.specs.declared.Command.TheVariants.{Check, Node, CidToHex, CidToText, Export, Import, Verify, VerifyInto, Serve, Fetch, FetchInto, Mirror, Swarm, Audit, Help, Version}
 use Rattle.tg_words.specs.declared.WordsFault.{WordsFault}
 use Rattle.tg_words.specs.declared.WordsFault.TheVariants.{Usage, OutOfMemory}
 use Rattle.tg_words.specs.declared.operands.GivenOption.{GivenOption}
@@ -27,12 +28,13 @@ use Rattle.tg_words.proofs.Readings.{one_spelling_of_words}
 use Rattle.tg_words.proofs.Positional.{IsOf, Lines, answer_of, exact_answer, one_of_form, the_line}
 use Rattle.tg_words.proofs.AuditAnswers.{audit_by, audit_form, audit_line, one_audit}
 use Rattle.tg_words.proofs.ExportAnswers.{export_by, export_form, export_line, one_export}
-use Rattle.tg_words.proofs.FetchAnswers.{fetch_by, fetch_form, fetch_line, one_fetch}
+use Rattle.tg_words.proofs.FetchAnswers.{fetch_by, fetch_form, fetch_into_line, fetch_line, one_fetch}
+use Rattle.tg_words.proofs.IntoAnswers.{OneInto}
 use Rattle.tg_words.proofs.ImportAnswers.{import_by, import_form, import_line, one_import}
 use Rattle.tg_words.proofs.MirrorAnswers.{mirror_by, mirror_form, mirror_line, one_mirror}
 use Rattle.tg_words.proofs.ServeAnswers.{one_serve, serve_by, serve_form, serve_line}
 use Rattle.tg_words.proofs.SwarmAnswers.{one_swarm, swarm_by, swarm_form, swarm_line}
-use Rattle.tg_words.proofs.VerifyAnswers.{verify_by, verify_form, verify_line}
+use Rattle.tg_words.proofs.VerifyAnswers.{one_verify, verify_by, verify_form, verify_into_line, verify_line}
 use Rattle.tg_words.proofs.Known.{AreKnown, known, no_options}
 use Rattle.tg_words.proofs.Naming.{are_by, at_first, later_too, first_or_later}
 
@@ -122,8 +124,10 @@ asked_by_line name rest (CidToText cid) line = named name (codes "cid") rest lin
 asked_by_line name rest (Export parts) line = named name (codes "export") rest line.line.rest (Export parts) line.line.begins (export_line rest parts) line
 asked_by_line name rest (Import parts) line = named name (codes "import") rest line.line.rest (Import parts) line.line.begins (import_line rest parts) line
 asked_by_line name rest (Verify query) line = named name (codes "verify") rest line.line.rest (Verify query) line.line.begins (verify_line rest query) line
+asked_by_line name rest (VerifyInto parts) line = named name (codes "verify") rest line.line.rest (VerifyInto parts) line.line.begins (verify_into_line rest parts) line
 asked_by_line name rest (Serve parts) line = named name (codes "serve") rest line.line.rest (Serve parts) line.line.begins (serve_line rest parts) line
 asked_by_line name rest (Fetch parts) line = named name (codes "fetch") rest line.line.rest (Fetch parts) line.line.begins (fetch_line rest parts) line
+asked_by_line name rest (FetchInto parts) line = named name (codes "fetch") rest line.line.rest (FetchInto parts) line.line.begins (fetch_into_line rest parts) line
 asked_by_line name rest (Mirror parts) line = named name (codes "mirror") rest line.line.rest (Mirror parts) line.line.begins (mirror_line rest parts) line
 asked_by_line name rest (Swarm parts) line = named name (codes "swarm") rest line.line.rest (Swarm parts) line.line.begins (swarm_line rest parts) line
 asked_by_line name rest (Audit parts) line = named name (codes "audit") rest line.line.rest (Audit parts) line.line.begins (audit_line rest parts) line
@@ -238,14 +242,14 @@ pub one_line : ((a b : CidParts) (text : List ℕ) → CidText a text → CidTex
     → ((a b : CidParts) (u v x y : List ℕ) → CidBytes a u → CidBytes b v → u ++ x ≡ v ++ y → (u ≡ v) × (a ≡ b))
     → ((target : List ℕ) (options : List Given) (a b : QueryParts) → QueryBy target options a → QueryBy target options b → a ≡ b)
     → ((target : List ℕ) (options : List Given) (a b : QueryParts) → RawGiven target options a → RawGiven target options b → a ≡ b)
-    → (words : List (List ℕ)) (a b : Command) → OperandLine words a → OperandLine words b → a ≡ b
-one_line one_cid no_front one_query one_raw words (Check cid) b line other =
+    → OneInto → (words : List (List ℕ)) (a b : Command) → OperandLine words a → OperandLine words b → a ≡ b
+one_line one_cid no_front one_query one_raw one_into words (Check cid) b line other =
     let l = asked_by_line (codes "check") line.line.rest b (subst (λ ws. OperandLine ws b) line.line.begins other) in
     ap Check (same_cid one_cid line.line.rest cid l.0 (record { text = line.text; operands = line.line.operands; text_is = line.text_is }) l.2) ∙ sym l.1
-one_line one_cid no_front one_query one_raw words (Node cid) b line other =
+one_line one_cid no_front one_query one_raw one_into words (Node cid) b line other =
     let l = asked_by_line (codes "node") line.line.rest b (subst (λ ws. OperandLine ws b) line.line.begins other) in
     ap Node (same_cid one_cid line.line.rest cid l.0 (record { text = line.text; operands = line.line.operands; text_is = line.text_is }) l.2) ∙ sym l.1
-one_line one_cid no_front one_query one_raw words (CidToHex cid) b line other =
+one_line one_cid no_front one_query one_raw one_into words (CidToHex cid) b line other =
     elim (asked_by_line (codes "cid") line.line.rest b (subst (λ ws. OperandLine ws b) line.line.begins other)) [
       | inl l ↦
           let both : line.text ∷ [] ≡ l.1 ∷ [] = (one_of_cid line.line.rest (line.text ∷ []) (l.1 ∷ []) [] [] line.line.operands l.3).0 in
@@ -253,7 +257,7 @@ one_line one_cid no_front one_query one_raw words (CidToHex cid) b line other =
           ap CidToHex (one_cid cid l.0 line.text line.text_is (subst (λ t. CidText l.0 t) same l.4)) ∙ sym l.2
       | inr l ↦ absurd (no_digits l.1 (one_of_cid line.line.rest (line.text ∷ []) [] [] (hex_option l.1 ∷ []) line.line.operands l.4).1)
     ]
-one_line one_cid no_front one_query one_raw words (CidToText cid) b line other =
+one_line one_cid no_front one_query one_raw one_into words (CidToText cid) b line other =
     elim (asked_by_line (codes "cid") line.line.rest b (subst (λ ws. OperandLine ws b) line.line.begins other)) [
       | inl l ↦ absurd (no_digits line.digits (sym (one_of_cid line.line.rest [] (l.1 ∷ []) (hex_option line.digits ∷ []) [] line.line.operands l.3).1))
       | inr l ↦
@@ -262,24 +266,28 @@ one_line one_cid no_front one_query one_raw words (CidToText cid) b line other =
           let bytes : line.bytes ≡ l.2 = cc in
           ap CidToText (no_front cid l.0 line.bytes l.2 [] [] line.bytes_are l.6 (ap (λ bs. bs ++ []) bytes)).1 ∙ sym l.3
     ]
-one_line one_cid no_front one_query one_raw words (Export parts) b line other =
+one_line one_cid no_front one_query one_raw one_into words (Export parts) b line other =
     one_of_form export_form words line.line.rest (Export parts) b export_lines (are_by query_names refl) (one_export one_query) line.line.begins line other
-one_line one_cid no_front one_query one_raw words (Import parts) b line other =
+one_line one_cid no_front one_query one_raw one_into words (Import parts) b line other =
     one_of_form import_form words line.line.rest (Import parts) b import_lines (are_by import_names refl) one_import line.line.begins line other
-one_line one_cid no_front one_query one_raw words (Verify query) b line other =
-    one_of_form verify_form words line.line.rest (Verify query) b verify_lines (are_by query_names refl) one_query line.line.begins line other
-one_line one_cid no_front one_query one_raw words (Serve parts) b line other =
+one_line one_cid no_front one_query one_raw one_into words (Verify query) b line other =
+    one_of_form verify_form words line.line.rest (Verify query) b verify_lines (are_by verify_names refl) (one_verify one_query one_into) line.line.begins line other
+one_line one_cid no_front one_query one_raw one_into words (VerifyInto parts) b line other =
+    one_of_form verify_form words line.line.rest (VerifyInto parts) b verify_lines (are_by verify_names refl) (one_verify one_query one_into) line.line.begins line other
+one_line one_cid no_front one_query one_raw one_into words (Serve parts) b line other =
     one_of_form serve_form words line.line.rest (Serve parts) b serve_lines (are_by serve_names refl) one_serve line.line.begins line other
-one_line one_cid no_front one_query one_raw words (Fetch parts) b line other =
-    one_of_form fetch_form words line.line.rest (Fetch parts) b fetch_lines (are_by fetch_names refl) (one_fetch one_raw one_query) line.line.begins line other
-one_line one_cid no_front one_query one_raw words (Mirror parts) b line other =
+one_line one_cid no_front one_query one_raw one_into words (Fetch parts) b line other =
+    one_of_form fetch_form words line.line.rest (Fetch parts) b fetch_lines (are_by fetch_names refl) (one_fetch one_raw one_query one_into) line.line.begins line other
+one_line one_cid no_front one_query one_raw one_into words (FetchInto parts) b line other =
+    one_of_form fetch_form words line.line.rest (FetchInto parts) b fetch_lines (are_by fetch_names refl) (one_fetch one_raw one_query one_into) line.line.begins line other
+one_line one_cid no_front one_query one_raw one_into words (Mirror parts) b line other =
     one_of_form mirror_form words line.line.rest (Mirror parts) b mirror_lines (are_by mirror_names refl) (one_mirror one_cid) line.line.begins line other
-one_line one_cid no_front one_query one_raw words (Swarm parts) b line other =
+one_line one_cid no_front one_query one_raw one_into words (Swarm parts) b line other =
     one_of_form swarm_form words line.line.rest (Swarm parts) b swarm_lines (are_by swarm_names refl) (one_swarm one_cid) line.line.begins line other
-one_line one_cid no_front one_query one_raw words (Audit parts) b line other =
+one_line one_cid no_front one_query one_raw one_into words (Audit parts) b line other =
     one_of_form audit_form words line.line.rest (Audit parts) b audit_lines (are_by audit_names refl) one_audit line.line.begins line other
-one_line one_cid no_front one_query one_raw words (Help topic) b line other = absurd line
-one_line one_cid no_front one_query one_raw words Version b line other = absurd line
+one_line one_cid no_front one_query one_raw one_into words (Help topic) b line other = absurd line
+one_line one_cid no_front one_query one_raw one_into words Version b line other = absurd line
 
 -- no operands are spelled behind `help` and `version`
 pub help_refused : (rest : List (List ℕ)) → Answers (codes "help" ∷ rest) (Err Usage)

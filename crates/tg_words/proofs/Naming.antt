@@ -23,7 +23,7 @@ at_first y x ys is = (0, omega arith, is)
 pub later_too : {X : Type 0} (y x : X) (ys : List X) → Contains ys x → Contains (y ∷ ys) x
 later_too y x ys (k, below, is) = (suc k, omega (arith, below), is)
 
-each : {X : Type 0} (p : X → Bool) (xs : List X) (x : X) → list_all p xs ≡ true → Contains xs x → p x ≡ true
+pub each : {X : Type 0} (p : X → Bool) (xs : List X) (x : X) → list_all p xs ≡ true → Contains xs x → p x ≡ true
 each p xs x all among = All-contains (λ x. p x ≡ true) xs x (AllPass-from_list_all p xs all) among
 
 pub among_passes : {X : Type 0} (p : X → Bool) (xs : List X) (x : X) → Contains xs x → p x ≡ true → list_any p xs ≡ true

@@ -24,7 +24,7 @@ place_of (y ∷ xs) x among = elim (first_or_later y x xs among) [
 ]
 
 -- an option that stands is the first of its name
-value_where : (options : List Given) (name text : List ℕ) → StandOnce options → Contains options (name, Some text) → value_at options name ≡ Some text
+pub value_where : (options : List Given) (name text : List ℕ) → StandOnce options → Contains options (name, Some text) → value_at options name ≡ Some text
 value_where [] name text once among = absurd (none_in (name, Some text) among)
 value_where (o ∷ options) name text once among = elim (first_or_later o (name, Some text) options among) [
   | inl is ↦ subst (λ (p : Given). value_at (p ∷ options) name ≡ Some text) (sym is) (rw (bytes_same name) refl)
@@ -33,12 +33,12 @@ value_where (o ∷ options) name text once among = elim (first_or_later o (name,
       rw (other_bytes o.0 name (once zero (suc k.0) o (name, Some text) (omega arith) refl k.1)) (value_where options name text (rest_once o options once) later)
 ]
 
-value_absent : (options : List Given) (name : List ℕ) → ((o : Given) → Contains options o → o.0 ≢ name) → value_at options name ≡ None
+pub value_absent : (options : List Given) (name : List ℕ) → ((o : Given) → Contains options o → o.0 ≢ name) → value_at options name ≡ None
 value_absent [] name none = refl
 value_absent (o ∷ options) name none =
     rw (other_bytes o.0 name (none o (at_first o o options refl))) (value_absent options name (λ p among. none p (later_too o p options among)))
 
-value_stands : (options : List Given) (name text : List ℕ) → value_at options name ≡ Some text → Contains options (name, Some text)
+pub value_stands : (options : List Given) (name text : List ℕ) → value_at options name ≡ Some text → Contains options (name, Some text)
 value_stands [] name text is = absurd (cc)
 value_stands (o ∷ options) name text is = go (bytes_eq o.0 name) refl is (value_stands options name text)
   where
@@ -47,7 +47,7 @@ value_stands (o ∷ options) name text is = go (bytes_eq o.0 name) refl is (valu
     go true same here later = at_first o (name, Some text) options (ap₂ (λ n v. (n, v)) ((bytes_eq-Decides o.0 name).0 same) here)
     go false same here later = later_too o (name, Some text) options (later here)
 
-none_stands : (options : List Given) (name : List ℕ) → HaveValues options → value_at options name ≡ None → (o : Given) → Contains options o → o.0 ≢ name
+pub none_stands : (options : List Given) (name : List ℕ) → HaveValues options → value_at options name ≡ None → (o : Given) → Contains options o → o.0 ≢ name
 none_stands [] name have none o among = absurd (none_in o among)
 none_stands (p ∷ options) name have none o among = go (bytes_eq p.0 name) refl none (none_stands options name (λ q within. have q (later_too p q options within)))
   where

@@ -106,6 +106,10 @@ abbrev pub answer_of : {Parts : Type 0} → (Parts → Command) → Result Parts
 answer_of make (Err e) = Err e
 answer_of make (Ok parts) = Ok (make parts)
 
+as_is : (make : Command → Command) (answer : Result Command WordsFault) → ((command : Command) → make command ≡ command) → answer_of make answer ≡ answer
+as_is make (Err e) same = refl
+as_is make (Ok command) same = ap Ok (same command)
+
 pub exact_answer : {Parts : Type 0} (make : Parts → Command) (Is : Parts → Type 0) (words : List (List ℕ)) (answer : Result Parts WordsFault)
     → ((command : Command) → OperandLine words command → (parts : Parts) × (command ≡ make parts) × Is parts)
     → ((parts : Parts) → Is parts → OperandLine words (make parts)) → Exact Is answer → Answers words (answer_of make answer)
@@ -123,6 +127,13 @@ answered form rest words options seen answer lines is spelled only exact =
     exact_answer form.make (form.asks words options) (form.name ∷ rest) answer
     (λ command line. let l = lines.reads rest command line in (l.parts, l.is, asked_here form rest words options command only l))
     (λ parts asked. lines.writes rest words options parts spelled asked) (subst (λ o. Exact (form.asks words o) answer) is exact)
+
+-- the same where what is asked is the command
+pub answered_by : {Words : Type 0} (form : Form Words Command) (rest : List (List ℕ)) (words : Words) (options seen : List Given) (answer : Result Command WordsFault)
+    → Lines form → ((command : Command) → form.make command ≡ command) → seen ≡ options → WordsSpelling form.names rest (form.writing.texts words) options
+    → OnlyThese form rest words options → Exact (form.asks words seen) answer → Answers (form.name ∷ rest) answer
+answered_by form rest words options seen answer lines same is spelled only exact =
+    subst (λ a. Answers (form.name ∷ rest) a) (as_is form.make answer same) (answered form rest words options seen answer lines is spelled only exact)
 
 -- the same where there are no words
 pub none_only : (names : Names) (rest : List (List ℕ)) (options : List Given) → ((more : List Given) → WordsSpelling names rest [] more → options ≡ more)

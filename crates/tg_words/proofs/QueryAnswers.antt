@@ -42,7 +42,7 @@ one_scope text scopes.All scopes.All p q = refl
 y_or_n : codes "y" ≡ codes "n" → ⊥
 y_or_n e = let same : 121 ≡ 110 = ap (λ (l : List ℕ). get_or l 0 0) e in omega (arith, same)
 
-one_dups : (text : List ℕ) (a b : Bool) → DupsText text a → DupsText text b → a ≡ b
+pub one_dups : (text : List ℕ) (a b : Bool) → DupsText text a → DupsText text b → a ≡ b
 one_dups text true true p q = refl
 one_dups text true false p q = absurd (y_or_n (sym p ∙ q))
 one_dups text false true p q = absurd (y_or_n (sym q ∙ p))
@@ -53,7 +53,7 @@ one_span reads text a b p q =
     let both : Ok a ≡ Ok b = sym ((reads text a).1 p) ∙ (reads text b).1 q in
     cc
 
-same_query : (a b : QueryParts) → a.root ≡ b.root → a.path ≡ b.path → a.form ≡ b.form → a.scope ≡ b.scope → a.span ≡ b.span → a.dups ≡ b.dups → a ≡ b
+pub same_query : (a b : QueryParts) → a.root ≡ b.root → a.path ≡ b.path → a.form ≡ b.form → a.scope ≡ b.scope → a.span ≡ b.span → a.dups ≡ b.dups → a ≡ b
 same_query a b root path form scope span dups =
     let s = subst (λ r. a ≡ record a { root = r }) root refl in
     let t = subst (λ p. a ≡ record a { root = b.root; path = p }) path s in
@@ -62,28 +62,39 @@ same_query a b root path form scope span dups =
     let w = subst (λ n. a ≡ record a { root = b.root; path = b.path; form = b.form; scope = b.scope; span = n }) span v in
     subst (λ d. a ≡ record { root = b.root; path = b.path; form = b.form; scope = b.scope; span = b.span; dups = d }) dups w
 
+pub one_rooted : ReadsWords → (target : List ℕ) (a b : CidParts) (path other : List (List ℕ)) → WordText target a path → WordText target b other → (a ≡ b) × (path ≡ other)
+one_rooted words target a b path other p q =
+    let both : ◌≡◌ {A = Result Rooted QueryFault} (Ok (a, path)) (Ok (b, other)) = sym ((words target a path).1 p) ∙ (words target b other).1 q in
+    let pairs : ◌≡◌ {A = Rooted} (a, path) (b, other) = cc in
+    (ap (λ r. r.0) pairs, ap (λ r. r.1) pairs)
+
 -- what words and values ask is one query
 pub one_query : ReadsWords → ReadsSpans → (target : List ℕ) (scope bytes dups : Option (List ℕ)) (a b : QueryParts)
     → QueryGiven target scope bytes dups a → QueryGiven target scope bytes dups b → a ≡ b
 one_query words spans target scope bytes dups a b p q =
-    let both : ◌≡◌ {A = Result Rooted QueryFault} (Ok (a.root, a.path)) (Ok (b.root, b.path)) = sym ((words target a.root a.path).1 p.word) ∙ (words target b.root b.path).1 q.word in
-    let pairs : ◌≡◌ {A = Rooted} (a.root, a.path) (b.root, b.path) = cc in
+    let pair = one_rooted words target a.root b.root a.path b.path p.word q.word in
     let span = one_given SpanText (one_span spans) bytes a.span b.span p.span_is q.span_is in
     let asked = one_given ScopeText one_scope scope p.asked q.asked p.asked_is q.asked_is in
     let scopes_same : scope_for p.asked a.span ≡ scope_for q.asked b.span = subst (λ s. scope_for p.asked a.span ≡ scope_for q.asked s) span (ap (λ k. scope_for k a.span) asked) in
     let repeats = one_given DupsText one_dups dups p.repeats q.repeats p.repeats_are q.repeats_are in
-    same_query a b (ap (λ r. r.0) pairs) (ap (λ r. r.1) pairs) (p.form ∙ sym q.form) (p.scope_is ∙ scopes_same ∙ sym q.scope_is) span (p.dups ∙ ap dups_for repeats ∙ sym q.dups)
+    same_query a b pair.0 pair.1 (p.form ∙ sym q.form) (p.scope_is ∙ scopes_same ∙ sym q.scope_is) span (p.dups ∙ ap dups_for repeats ∙ sym q.dups)
 
--- a word that is refused
+-- a word that is refused, where what is asked has it
+pub refused_word : ReadsWords → (target : List ℕ) (Is : QueryParts → Type 0) (fault : QueryFault) → Gives {A = Rooted} (word_of target) (Err fault)
+    → ((query : QueryParts) → Is query → (path : List (List ℕ)) × WordText target query.root path) → Exact Is (Err (fault_of_query fault))
+refused_word words target Is fault gives has = record {
+  found = tt;
+  only = λ query is.
+      let word = has query is in
+      elim gives [
+        | inl refused ↦ let both : Err fault ≡ Ok (query.root, word.0) = refused ∙ (words target query.root word.0).1 word.1 in absurd (cc)
+        | inr memory ↦ let same : fault ≡ queries.OutOfMemory = cc in ap fault_of_query same
+      ];
+}
+
 pub word_refused : ReadsWords → (target : List ℕ) (scope bytes dups : Option (List ℕ)) (fault : QueryFault) → Gives {A = Rooted} (word_of target) (Err fault)
     → Exact (QueryGiven target scope bytes dups) (Err (fault_of_query fault))
-word_refused words target scope bytes dups fault gives = record {
-  found = tt;
-  only = λ query is. elim gives [
-    | inl refused ↦ let both : Err fault ≡ Ok (query.root, query.path) = refused ∙ (words target query.root query.path).1 is.word in absurd (cc)
-    | inr memory ↦ let same : fault ≡ queries.OutOfMemory = cc in ap fault_of_query same
-  ];
-}
+word_refused words target scope bytes dups fault gives = refused_word words target (QueryGiven target scope bytes dups) fault gives (λ query is. (query.path, is.word))
 
 -- a word that is taken
 pub word_taken : ReadsWords → (target : List ℕ) (root : CidParts) (path : List (List ℕ)) → Gives {A = Rooted} (word_of target) (Ok (root, path)) → WordText target root path

@@ -7,7 +7,7 @@ use Rattle.tg_words.specs.CommandLine.{AskNoText, BeginsCommand, CommandLine, He
 use Rattle.tg_words.specs.Names.{name_text}
 use Rattle.tg_words.specs.Operands.{Answers}
 use Rattle.tg_words.specs.declared.Command.{Command}
-use Rattle.tg_words.specs.declared.Command.TheVariants.{Check, Node, CidToHex, CidToText, Export, Import, Verify, Serve, Fetch, Mirror, Swarm, Audit, Help, Version}
+use Rattle.tg_words.specs.declared.Command.TheVariants.{Check, Node, CidToHex, CidToText, Export, Import, Verify, VerifyInto, Serve, Fetch, FetchInto, Mirror, Swarm, Audit, Help, Version}
 use Rattle.tg_words.specs.declared.WordsFault.{WordsFault}
 use Rattle.tg_words.specs.declared.WordsFault.TheVariants.{Usage, OutOfMemory}
 use Rattle.tg_words.specs.declared.names.CommandName.{CommandName}
@@ -170,8 +170,10 @@ begins_by words (CidToText cid) line = record { name = names.Cid; rest = line.li
 begins_by words (Export parts) line = record { name = names.Export; rest = line.line.rest; begins = line.line.begins }
 begins_by words (Import parts) line = record { name = names.Import; rest = line.line.rest; begins = line.line.begins }
 begins_by words (Verify query) line = record { name = names.Verify; rest = line.line.rest; begins = line.line.begins }
+begins_by words (VerifyInto parts) line = record { name = names.Verify; rest = line.line.rest; begins = line.line.begins }
 begins_by words (Serve parts) line = record { name = names.Serve; rest = line.line.rest; begins = line.line.begins }
 begins_by words (Fetch parts) line = record { name = names.Fetch; rest = line.line.rest; begins = line.line.begins }
+begins_by words (FetchInto parts) line = record { name = names.Fetch; rest = line.line.rest; begins = line.line.begins }
 begins_by words (Mirror parts) line = record { name = names.Mirror; rest = line.line.rest; begins = line.line.begins }
 begins_by words (Swarm parts) line = record { name = names.Swarm; rest = line.line.rest; begins = line.line.begins }
 begins_by words (Audit parts) line = record { name = names.Audit; rest = line.line.rest; begins = line.line.begins }

@@ -5,12 +5,13 @@ use Rattle.tg_cid.specs.Cid.{CidParts}
 use Rattle.tg_cid.specs.Spelling.{CidText, CidBytes}
 use Rattle.tg_words.specs.declared.Command.{Command}
 use Rattle.tg_words.specs.declared.Command.TheVariants.{Check, Node, CidToHex, CidToText, Export, Import, Verify, Serve, Fetch, Mirror, Swarm, Audit}
-use Rattle.tg_words.specs.declared.Command.TheVariants.{Help, Version}
+use Rattle.tg_words.specs.declared.Command.TheVariants.{FetchInto, Help, VerifyInto, Version}
 use Rattle.tg_words.specs.declared.names.CommandName.{CommandName}
 use Rattle.tg_words.specs.AuditLines.{AuditLine}
 use Rattle.tg_words.specs.ExportLines.{ExportLine}
 use Rattle.tg_words.specs.FetchLines.{FetchLine}
 use Rattle.tg_words.specs.ImportLines.{ImportLine}
+use Rattle.tg_words.specs.IntoLines.{FetchIntoLine, VerifyIntoLine}
 use Rattle.tg_words.specs.MirrorLines.{MirrorLine}
 use Rattle.tg_words.specs.ServeLines.{ServeLine}
 use Rattle.tg_words.specs.SwarmLines.{SwarmLine}
@@ -92,8 +93,10 @@ OperandLine words (CidToText cid) = CidHexLine words cid
 OperandLine words (Export parts) = ExportLine words parts
 OperandLine words (Import parts) = ImportLine words parts
 OperandLine words (Verify query) = VerifyLine words query
+OperandLine words (VerifyInto parts) = VerifyIntoLine words parts
 OperandLine words (Serve parts) = ServeLine words parts
 OperandLine words (Fetch parts) = FetchLine words parts
+OperandLine words (FetchInto parts) = FetchIntoLine words parts
 OperandLine words (Mirror parts) = MirrorLine words parts
 OperandLine words (Swarm parts) = SwarmLine words parts
 OperandLine words (Audit parts) = AuditLine words parts

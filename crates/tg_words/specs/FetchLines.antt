@@ -14,7 +14,7 @@ pub record FetchParts : Type 0 where
   pub query : QueryParts
 
 abbrev pub fetch_names : Names
-fetch_names = record { valued = codes "scope" ∷ codes "bytes" ∷ codes "dups" ∷ []; flags = codes "raw" ∷ [] }
+fetch_names = record { valued = codes "scope" ∷ codes "bytes" ∷ codes "dups" ∷ codes "into" ∷ []; flags = codes "raw" ∷ [] }
 
 -- `--raw` stands, and no other option: the root's block is asked for, as it is
 pub record RawAsked (target : List ℕ) (options : List Given) (query : QueryParts) : Type 0 where
@@ -22,9 +22,10 @@ pub record RawAsked (target : List ℕ) (options : List Given) (query : QueryPar
   pub word : WordText target query.root []
   pub query_is : query ≡ record { root = query.root; path = []; form = forms.Raw; scope = scopes.Block; span = None; dups = true }
 
--- it doesn't stand: a CAR is asked for
+-- neither it nor `--into` stands: a CAR is asked for
 pub record CarAsked (target : List ℕ) (options : List Given) (query : QueryParts) : Type 0 where
   pub none : (option : Given) → Contains options option → option.0 ≢ codes "raw"
+  pub no_folder : (option : Given) → Contains options option → option.0 ≢ codes "into"
   pub asked : QueryAsked target options query
 
 abbrev pub FetchAsked : List ℕ → List Given → QueryParts → Type 0

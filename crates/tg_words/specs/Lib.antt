@@ -8,6 +8,7 @@ pub mod VerifyLines
 pub mod ServeLines
 pub mod SwarmLines
 pub mod FetchLines
+pub mod IntoLines
 pub mod AuditLines
 pub mod CommandLine
 pub mod Operands

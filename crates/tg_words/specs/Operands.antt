@@ -1,7 +1,7 @@
 -- What the reader of a command's operands keeps and answers, and how faults of the crates below are faults of words.
 use Rattle.std.specs.Prelude.{◌≡◌, ◌≢◌, ℕ, ◌≤◌, All, Bool, List, [], ◌∷◌, map, find, codes, Option, Some, None, option_map}
-use Rattle.std.specs.Prelude.{option_and_then, Result, MatchResult, IfOk, false, length, true}
-use Rattle.std.specs.List.{list_any}
+use Rattle.std.specs.Prelude.{option_and_then, Result, MatchResult, IfOk, false, length, true, ◌||◌}
+use Rattle.std.specs.List.{list_all, list_any}
 use Rattle.std.specs.Option.{unwrap_or}
 use Rattle.std.specs.Str.{bytes_eq}
 use Rattle.std.specs.Str.Parse.{IsNumeral, digits_value}
@@ -11,6 +11,7 @@ use Rattle.tg_cid.specs.declared.fault.CidFault.{CidFault}
 use Rattle.tg_cid.specs.declared.fault.CidFault.TheVariants as cids
 use Rattle.tg_cid.specs.Limits.{max_block_len}
 use Rattle.tg_words.specs.declared.Command.{Command}
+use Rattle.tg_words.specs.declared.Command.TheVariants.{Fetch, FetchInto, Verify, VerifyInto}
 use Rattle.tg_words.specs.declared.WordsFault.{WordsFault}
 use Rattle.tg_words.specs.declared.WordsFault.TheVariants.{Usage, OutOfMemory}
 use Rattle.tg_words.specs.declared.operands.GivenOption.{GivenOption}
@@ -21,7 +22,7 @@ use Rattle.tg_words.specs.CommandLine.{OperandLine, no_names}
 use Rattle.tg_model.specs.Queries.{QueryParts}
 use Rattle.tg_model.specs.declared.queries.Form.TheVariants.{Car, Raw}
 use Rattle.tg_model.specs.declared.queries.Scope.{Scope}
-use Rattle.tg_model.specs.declared.queries.Scope.TheVariants.{Block}
+use Rattle.tg_model.specs.declared.queries.Scope.TheVariants as scopes
 use Rattle.tg_query.specs.Spans.{SpanText}
 use Rattle.tg_query.specs.WordTexts.{WordText}
 use Rattle.tg_query.specs.declared.fault.QueryFault.{QueryFault}
@@ -31,6 +32,7 @@ use Rattle.tg_words.specs.AuditLines.{AuditParts}
 use Rattle.tg_words.specs.ExportLines.{ExportParts}
 use Rattle.tg_words.specs.FetchLines.{FetchParts}
 use Rattle.tg_words.specs.ImportLines.{ImportParts, NumberText}
+use Rattle.tg_words.specs.IntoLines.{FetchIntoParts, VerifyIntoParts}
 use Rattle.tg_words.specs.MirrorLines.{MayRootPack, MirrorParts}
 use Rattle.tg_words.specs.QueryWords.{DupsText, ScopeText, dups_for, scope_for}
 use Rattle.tg_words.specs.ServeLines.{ServeParts}
@@ -143,7 +145,7 @@ pub record SwarmGiven (texts : List (List ℕ)) (options : List Given) (parts : 
 pub record RawGiven (target : List ℕ) (options : List Given) (query : QueryParts) : Type 0 where
   pub few : length options ≤ 1
   pub word : WordText target query.root []
-  pub query_is : query ≡ record { root = query.root; path = []; form = Raw; scope = Block; span = None; dups = true }
+  pub query_is : query ≡ record { root = query.root; path = []; form = Raw; scope = scopes.Block; span = None; dups = true }
 
 -- what a word and these options ask, by whether `--raw` stands
 abbrev pub is_raw : Given → Bool
@@ -168,6 +170,53 @@ pub record FetchGiven (addr target : List ℕ) (options : List Given) (parts : F
   pub addr_is : parts.addr ≡ addr
   pub is_addr : IsAddr addr
   pub query : FetchBy target options parts.query
+
+-- the query for all below what a word names, where no option stands but `--into` and `--dups`
+abbrev pub is_into : Given → Bool
+is_into option = bytes_eq option.0 (codes "into") || bytes_eq option.0 (codes "dups")
+
+pub record IntoBy (target : List ℕ) (options : List Given) (query : QueryParts) : Type 0 where
+  pub others : list_all is_into options ≡ true
+  pub word : WordText target query.root query.path
+  pub form : query.form ≡ Car
+  pub scope_is : query.scope ≡ scopes.All
+  pub span_is : query.span ≡ None
+  pub repeats : Option Bool
+  pub repeats_are : ValueGives DupsText (value_at options (codes "dups")) repeats
+  pub dups : query.dups ≡ dups_for repeats
+
+-- what is made into this folder
+pub record VerifyIntoGiven (target folder : List ℕ) (options : List Given) (parts : VerifyIntoParts) : Type 0 where
+  pub folder_is : parts.folder ≡ folder
+  pub named : folder ≢ []
+  pub query : IntoBy target options parts.query
+
+-- what is fetched into this folder from a gateway at this address
+pub record FetchIntoGiven (addr target folder : List ℕ) (options : List Given) (parts : FetchIntoParts) : Type 0 where
+  pub addr_is : parts.addr ≡ addr
+  pub is_addr : IsAddr addr
+  pub folder_is : parts.folder ≡ folder
+  pub named : folder ≢ []
+  pub query : IntoBy target options parts.query
+
+-- the command is made of such parts
+abbrev pub Made : {Parts : Type 0} → (Parts → Command) → (Parts → Type 0) → Command → Type 0
+Made {Parts = Parts} make Is command = (parts : Parts) × (command ≡ make parts) × Is parts
+
+-- what the words and options of `verify` ask, by the folder that `--into` names, and so of `fetch`
+abbrev pub VerifyAsksBy : Option (List ℕ) → List ℕ → List Given → Command → Type 0
+VerifyAsksBy None target options = Made Verify (QueryBy target options)
+VerifyAsksBy (Some folder) target options = Made VerifyInto (VerifyIntoGiven target folder options)
+
+abbrev pub VerifyAsks : List ℕ → List Given → Command → Type 0
+VerifyAsks target options = VerifyAsksBy (value_at options (codes "into")) target options
+
+abbrev pub FetchAsksBy : Option (List ℕ) → List ℕ → List ℕ → List Given → Command → Type 0
+FetchAsksBy None addr target options = Made Fetch (FetchGiven addr target options)
+FetchAsksBy (Some folder) addr target options = Made FetchInto (FetchIntoGiven addr target folder options)
+
+abbrev pub FetchAsks : List ℕ → List ℕ → List Given → Command → Type 0
+FetchAsks addr target options = FetchAsksBy (value_at options (codes "into")) addr target options
 
 -- an audit with these options
 pub record AuditGiven (options : List Given) (parts : AuditParts) : Type 0 where

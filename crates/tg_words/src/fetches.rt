@@ -2,9 +2,10 @@
 
 ghost use Rattle.std.specs.Prelude.{◌∷◌, ◌↔◌, IsTrue, map, string_bytes, codes};
 ghost use Rattle.tg_query.specs.Requests.{IsAddr};
-ghost use Rattle.tg_words.specs.Operands.{Answers, Exact, FetchBy, FetchGiven, PortText, RawGiven, givens};
+ghost use Rattle.tg_words.specs.Operands.{Answers, Exact, FetchAsks, FetchBy, PortText, RawGiven, givens};
 
-use crate::operands::{GivenOption, OptionNames, number_of, two_operands};
+use crate::intos::fetch_into;
+use crate::operands::{GivenOption, OptionNames, number_of, two_operands, value_of};
 use crate::queries::query_with;
 use crate::{Command, WordsFault};
 use std::alloc::Global;
@@ -32,34 +33,39 @@ impl Model for Fetch {
 
 /// The options of `fetch`.
 const FETCH_NAMES: OptionNames<'static> = OptionNames {
-    valued: &["scope", "bytes", "dups"],
+    valued: &["scope", "bytes", "dups", "into"],
     flags: &["raw"],
 };
 
-/// `fetch ADDR ROOT/PATH [--scope S] [--bytes R] [--dups D]`, or `fetch ADDR ROOT --raw`.
+/// `fetch ADDR ROOT/PATH [--scope S] [--bytes R] [--dups D]`, `fetch ADDR ROOT/PATH --into FOLDER [--dups D]`, or
+/// `fetch ADDR ROOT --raw`.
 pub fn fetch_of(alloc: Global, words: &[String]) -> Result<Command, WordsFault>
     ensures { Answers (codes "fetch" ∷ map string_bytes words.now) result }
 {
     let (addr, target, options) = two_operands(alloc, words, FETCH_NAMES)?;
-    let fetch = fetch_with(alloc, addr, target, options.as_slice())?;
-    Ok(Command::Fetch(fetch))
+    fetch_with(alloc, addr, target, options.as_slice())
 }
 
-/// What is fetched from a gateway at this address by a word ROOT/PATH and these options.
+/// What is fetched from a gateway at this address by a word ROOT/PATH and these options: into a folder where `--into`
+/// stands.
 fn fetch_with(
     alloc: Global,
     addr: &str,
     target: &str,
     options: &[GivenOption],
-) -> Result<Fetch, WordsFault>
-    ensures { Exact (FetchGiven addr.now target.now (givens options.now)) result }
+) -> Result<Command, WordsFault>
+    ensures { Exact (FetchAsks addr.now target.now (givens options.now)) result }
 {
     if !is_addr(addr) {
         return Err(WordsFault::Usage);
     }
+    if let Some(folder) = value_of(options, "into") {
+        let into = fetch_into(alloc, addr, target, folder, options)?;
+        return Ok(Command::FetchInto(into));
+    }
     let query = asked(alloc, target, options)?;
     let addr = String::from_str(alloc, addr)?;
-    Ok(Fetch { addr, query })
+    Ok(Command::Fetch(Fetch { addr, query }))
 }
 
 /// The query that a word ROOT/PATH and these options ask.

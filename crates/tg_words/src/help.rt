@@ -155,11 +155,20 @@ const IMPORT: CommandRow = CommandHelp {
     example: "import folder site.car",
 };
 
+const INTO: OptionRow = OptionHelp {
+    name: "into",
+    value: OptionValue::Word("FOLDER"),
+    about: "makes FOLDER, which must not be there, of all at the path, as it comes: a folder, or a file; no option but --dups beside it",
+};
+
 const VERIFY: CommandRow = CommandHelp {
     name: "verify",
     about: "checks a CAR on input while it comes, and writes what it says",
-    forms: &["verify ROOT/PATH [--scope S] [--bytes R] [--dups D] < CAR"],
-    options: &[SCOPE, BYTES, DUPS],
+    forms: &[
+        "verify ROOT/PATH [--scope S] [--bytes R] [--dups D] < CAR",
+        "verify ROOT/PATH --into FOLDER [--dups D] < CAR",
+    ],
+    options: &[SCOPE, BYTES, DUPS, INTO],
     example: "verify bafybeihtdtunwt2sx7qvwdcknhnwretbb4zmjieise77ebt4pqxbabimfy/h < h.car",
 };
 
@@ -204,12 +213,14 @@ const FETCH: CommandRow = CommandHelp {
     about: "asks a gateway, checks the reply while it comes, and writes what it says",
     forms: &[
         "fetch HOST:PORT ROOT/PATH [--scope S] [--bytes R] [--dups D]",
+        "fetch HOST:PORT ROOT/PATH --into FOLDER [--dups D]",
         "fetch HOST:PORT ROOT --raw",
     ],
     options: &[
         SCOPE,
         BYTES,
         DUPS,
+        INTO,
         OptionHelp {
             name: "raw",
             value: OptionValue::Nothing,

@@ -21,6 +21,7 @@ mod exports;
 mod fetches;
 mod help;
 mod imports;
+mod intos;
 mod mirrors;
 mod names;
 mod operands;
@@ -42,6 +43,7 @@ pub use help::{
 use hex::FromHexError;
 pub use imports::Import;
 use imports::import_of;
+pub use intos::{FetchInto, VerifyInto};
 pub use mirrors::Mirror;
 use mirrors::mirror_of;
 pub use names::CommandName;
@@ -86,6 +88,11 @@ pub enum Command {
     ///
     /// S, R, D and the scope are as in `export`.
     Verify(Query),
+    /// `verify ROOT/PATH --into FOLDER [--dups D]`: a CAR on input is checked, block by block, to be all below a root or a path, and a
+    /// folder is made of it, or a file.
+    ///
+    /// FOLDER isn't empty. D is as in `export`; no other option stands.
+    VerifyInto(VerifyInto),
     /// `serve PACK --port N --count N [--lanes N]`: the blocks of a pack are served on a port.
     ///
     /// PACK isn't empty. Port and count stand, and each N is 1 to 20 decimal digits. The port is 0 to 65,535, where 0
@@ -98,6 +105,11 @@ pub enum Command {
     /// ADDR is HOST:PORT: 3 to 255 visible bytes of ASCII, and behind the last colon one to five digits that write a
     /// port of 1 to 65,535. S, R, D and the scope are as in `export`; with `--raw` no other option stands, and no path.
     Fetch(Fetch),
+    /// `fetch ADDR ROOT/PATH --into FOLDER [--dups D]`: all below a root or a path is fetched from a gateway, checked block by block, and a
+    /// folder is made of it, or a file.
+    ///
+    /// ADDR is as in `fetch`, FOLDER and D as in `verify`; no other option stands.
+    FetchInto(FetchInto),
     /// `mirror ADDR ROOT PACK`: all below a root is fetched from a gateway, checked block by block, and written into a pack.
     ///
     /// ADDR is as in `fetch`. ROOT is the text of a CIDv1 with sha2-256, other than the root of a pack that isn't finished,

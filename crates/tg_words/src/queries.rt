@@ -100,7 +100,7 @@ fn scope_of(word: &str) -> Option<Scope>
 }
 
 /// Whether repeats are sent by what a value writes, where there is a value.
-fn dups_given(value: Option<&str>) -> Result<Option<bool>, WordsFault>
+pub(crate) fn dups_given(value: Option<&str>) -> Result<Option<bool>, WordsFault>
     ensures { Exact (ValueGives DupsText (option_map (λ text. text.now) value.entry)) result }
 {
     let Some(word) = value else {
