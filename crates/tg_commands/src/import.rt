@@ -168,7 +168,7 @@ fn both_escaped(alloc: Global, first: &Bytes, second: &Bytes) -> Result<Bytes, A
 }
 
 /// A path as a line shows it: its segments in percent-encoding with slashes between them. The error is want of memory.
-fn path_text(alloc: Global, path: &[Bytes]) -> Result<Bytes, AllocError>
+pub fn path_text(alloc: Global, path: &[Bytes]) -> Result<Bytes, AllocError>
     ensures { IfOk result (λ text. text ≡ path_text path.now) }
 {
     let mut text = Bytes::new(alloc);

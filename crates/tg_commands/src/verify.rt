@@ -33,7 +33,7 @@ pub fn verify<I: Source, O: Sink>(
 }
 
 /// The refusal for a CAR that isn't accepted.
-fn refusal_of(alloc: Global, fault: ClientFault) -> CommandFault
+pub fn refusal_of(alloc: Global, fault: ClientFault) -> CommandFault
     ensures { IsVerifyRefusal fault result }
 {
     match fault {
