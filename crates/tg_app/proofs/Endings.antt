@@ -11,7 +11,7 @@ use Rattle.tg_words.specs.CommandLine.{CommandLine}
 use Rattle.tg_words.specs.Help.{help_text, version_text}
 use Rattle.tg_words.specs.ImportLines.{ImportParts}
 use Rattle.tg_words.specs.declared.Command.{Command}
-use Rattle.tg_words.specs.declared.Command.TheVariants.{Audit, Check, Node, CidToHex, CidToText, Export, Fetch, Help, Import, Mirror, Serve, Swarm, Verify, Version}
+use Rattle.tg_words.specs.declared.Command.TheVariants.{Audit, Check, Node, CidToHex, CidToText, Export, Fetch, FetchInto, Help, Import, Mirror, Serve, Swarm, Verify, VerifyInto, Version}
 use Rattle.tg_export.specs.Cars.{CarEnds}
 use Rattle.tg_export.specs.Packed.{ExportEnds, HasPackedCause, IsExportedElse}
 use Rattle.tg_export.specs.declared.fault.ExportFault.{ExportFault}
@@ -36,7 +36,7 @@ use Rattle.tg_commands.specs.Blocks.{OutputUntouched, PassedLimit, TookBlock}
 use Rattle.tg_commands.specs.Check.{Checked, CheckedOther, CheckEnds, CollisionPair, Agrees, CheckStatus}
 use Rattle.tg_commands.specs.Node.{Noded, NodedOther, NodeEnds, HasText, HasNoText, NodeStatus}
 use Rattle.tg_commands.specs.CidLines.{HexLine, PrintEnds, PutsLine, TextLine}
-use Rattle.tg_app.specs.Commands.{AllUntouched, CommandEnds, Ends, IsNoCommand, NoCommandEnds, NoMemoryEnds, ReadsBlock, UsesNoDial, UsesNoDoor, UsesNoFiles, WantsMemory}
+use Rattle.tg_app.specs.Commands.{AllUntouched, CommandEnds, Ends, IsNoCommand, MakesNoFolder, NoCommandEnds, NoMemoryEnds, ReadsBlock, UsesNoDial, UsesNoDoor, UsesNoFiles, WantsMemory}
 use Rattle.tg_commands.specs.Exports.{ExportAnswers, Exported, ExportedNothing, HasAnswer, IsExportRefusal, IsRisen, LeadsNowhere, TellsExport}
 use Rattle.tg_commands.specs.Imports.{ImportAnswers, Imported, IsGoodFolder, IsImportRefusal, options_of, refusal_of_import}
 use Rattle.tg_commands.specs.Files.{Files, SameFiles}
@@ -46,6 +46,7 @@ use Rattle.tg_commands.specs.declared.fault.CommandFault.TheVariants.{Usage, Bad
 use Rattle.tg_app.proofs.AuditEndings.{audit_own, audit_quiet, no_audit_usage, unaudited}
 use Rattle.tg_app.proofs.ServeEndings.{no_serve_peers, no_serve_usage, serve_quiet}
 use Rattle.tg_app.proofs.FetchEndings.{fetch_answers_own, fetch_fault, fetch_quiet, no_fetch_usage}
+use Rattle.tg_app.proofs.IntoEndings.{fetch_into_own, fetch_into_quiet, no_fetch_into_usage, no_verify_into_usage, verify_into_own, verify_into_quiet}
 use Rattle.tg_app.proofs.MirrorEndings.{mirror_own, mirror_quiet, no_mirror_usage}
 use Rattle.tg_app.proofs.Refusals.{export_refusal_own, import_refusal_own, verify_own}
 use Rattle.tg_app.proofs.Segments.{no_segment}
@@ -62,7 +63,7 @@ not_imported : (parts : ImportParts) (files : Files) (out : Output) → SameFile
 not_imported parts files out same unput =
     inr (inr (record { same_folder = same.folder; same_pack = same.pack; unput = unput; is = refl }))
 
-memory_ends : (words : List (List ℕ)) (command : Command) (objects : Objects) → UsesNoDial command → CommandLine words command → AllUntouched objects
+memory_ends : (words : List (List ℕ)) (command : Command) (objects : Objects) → UsesNoDial command × MakesNoFolder command → CommandLine words command → AllUntouched objects
     → CommandEnds command objects (Some OutOfMemory)
 memory_ends words (Check cid) objects uses line all = (all.files, all.streams)
 memory_ends words (Node cid) objects uses line all = (all.files, inl all.streams)
@@ -74,15 +75,17 @@ memory_ends words (Import parts) objects uses line all = (all.streams.untaken, n
 memory_ends words (Verify q) objects uses line all = (all.files, unverified q objects.input objects.out all.streams)
 memory_ends words (Serve parts) objects uses line all =
     (all.files.folder, all.streams.untaken, inr (inr (record { same = all.files.pack; unput = all.streams.unput; same_door = all.door; end_is = refl })))
-memory_ends words (Fetch parts) objects uses line all = absurd uses
-memory_ends words (Mirror parts) objects uses line all = absurd uses
-memory_ends words (Swarm parts) objects uses line all = absurd uses
+memory_ends words (Fetch parts) objects uses line all = absurd uses.0
+memory_ends words (FetchInto parts) objects uses line all = absurd uses.0
+memory_ends words (VerifyInto parts) objects uses line all = absurd uses.1
+memory_ends words (Mirror parts) objects uses line all = absurd uses.0
+memory_ends words (Swarm parts) objects uses line all = absurd uses.0
 memory_ends words (Audit parts) objects uses line all = (all.files, all.streams.untaken, unaudited parts objects.out all.streams.unput)
 memory_ends words (Help topic) objects uses line all = (all.files, all.streams.untaken, all.streams.unput)
 memory_ends words Version objects uses line all = (all.files, all.streams.untaken, all.streams.unput)
 
--- a command that is handed no dial ends as itself where no memory is found for its words
-pub ends_of : (words : List (List ℕ)) (command : Command) (objects : Objects) (end : Option CommandFault) → UsesNoDial command → CommandLine words command
+-- a command that is handed no dial, and makes no folder, ends as itself where no memory is found for its words
+pub ends_of : (words : List (List ℕ)) (command : Command) (objects : Objects) (end : Option CommandFault) → UsesNoDial command × MakesNoFolder command → CommandLine words command
     → Ends words objects end → CommandEnds command objects end
 ends_of words command objects end uses line (inl none) = absurd (none.none command line)
 ends_of words command objects end uses line (inr (inl memory)) =
@@ -174,6 +177,8 @@ no_usage (Import parts) objects ends = no_import_usage parts objects.files objec
 no_usage (Verify q) objects ends = no_verify_usage q objects.input objects.out ends.1
 no_usage (Serve parts) objects ends = no_serve_usage parts objects.files.pack objects.files.same_pack objects.out objects.door ends.2
 no_usage (Fetch parts) objects ends = no_fetch_usage parts objects.dial.dialling objects.out ends.2
+no_usage (FetchInto parts) objects ends = no_fetch_into_usage parts objects.dial objects.making objects.out ends.2
+no_usage (VerifyInto parts) objects ends = no_verify_into_usage parts objects.input objects.making objects.out ends.1
 no_usage (Mirror parts) objects ends = no_mirror_usage parts objects.files objects.dial objects.out ends.2
 no_usage (Swarm parts) objects ends = no_swarm_usage parts objects.dial objects.out (Some Usage) refl ends.2
 no_usage (Audit parts) objects ends = no_audit_usage parts objects.out ends.2
@@ -212,6 +217,10 @@ peers_of (Verify q) objects words status ends = verify_own ends.1.fault (NoPeerL
 peers_of (Serve parts) objects words status ends =
     no_serve_peers parts objects.files.pack objects.files.same_pack objects.out objects.door words status ends.2
 peers_of (Fetch parts) objects words status ends = fetch_answers_own parts objects.dial.dialling objects.out (NoPeerLeft words status) ends.2 words status refl
+peers_of (FetchInto parts) objects words status ends =
+    fetch_into_own parts objects.dial objects.making objects.out (NoPeerLeft words status) ends.2 words status refl
+peers_of (VerifyInto parts) objects words status ends =
+    verify_into_own parts objects.input objects.making objects.out (NoPeerLeft words status) ends.1 words status refl
 peers_of (Mirror parts) objects words status ends = mirror_own parts objects.files objects.dial objects.out (NoPeerLeft words status) ends.2 words status refl
 peers_of (Swarm parts) objects words status ends = tt
 peers_of (Audit parts) objects words status ends = audit_own parts objects.out (NoPeerLeft words status) ends.2 words status refl
@@ -274,6 +283,8 @@ command_kept (Export parts) objects end uses ends = absurd uses
 command_kept (Import parts) objects end uses ends = absurd uses
 command_kept (Serve parts) objects end uses ends = absurd uses
 command_kept (Fetch parts) objects end uses ends = ends.0
+command_kept (FetchInto parts) objects end uses ends = absurd uses
+command_kept (VerifyInto parts) objects end uses ends = absurd uses
 command_kept (Mirror parts) objects end uses ends = absurd uses
 command_kept (Swarm parts) objects end uses ends = ends.0
 command_kept (Audit parts) objects end uses ends = absurd uses
@@ -298,6 +309,13 @@ pub kept_dial_of : (words : List (List ℕ)) (command : Command) (objects : Obje
 kept_dial_of words command objects end line uses (inl none) = none.untouched.dial
 kept_dial_of words command objects end line uses (inr (inl memory)) = memory.untouched.dial
 kept_dial_of words command objects end line uses (inr (inr did)) = did.dial (subst UsesNoDial (sym (did.the.only command line)) uses)
+
+-- nor one that makes no folder the extract
+pub kept_making_of : (words : List (List ℕ)) (command : Command) (objects : Objects) (end : Option CommandFault) → CommandLine words command → MakesNoFolder command
+    → Ends words objects end → objects.making.same
+kept_making_of words command objects end line uses (inl none) = none.untouched.making
+kept_making_of words command objects end line uses (inr (inl memory)) = memory.untouched.making
+kept_making_of words command objects end line uses (inr (inr did)) = did.making (subst MakesNoFolder (sym (did.the.only command line)) uses)
 
 check_fault : (cid : CidParts) (input : Input) (out : Output) (end : Option CommandFault) → exit_status end ≡ 6 → CheckEnds cid input out end → InputRose input ⊎ OutputRose out
 check_fault cid input out (Some InputFault) e ends = inl ends.0.rose
@@ -335,6 +353,8 @@ command_fault (Export parts) objects end uses e ends = absurd uses
 command_fault (Import parts) objects end uses e ends = absurd uses
 command_fault (Serve parts) objects end uses e ends = absurd uses
 command_fault (Fetch parts) objects end uses e ends = inr (fetch_fault parts objects.dial.dialling objects.out end e ends.2)
+command_fault (FetchInto parts) objects end uses e ends = absurd uses
+command_fault (VerifyInto parts) objects end uses e ends = absurd uses
 command_fault (Mirror parts) objects end uses e ends = absurd uses
 command_fault (Swarm parts) objects end uses e ends = inr (swarm_fault parts objects.dial objects.out end e ends.2)
 command_fault (Audit parts) objects end uses e ends = absurd uses
@@ -380,6 +400,8 @@ command_passed (Import parts) objects end reads e ends = absurd reads
 command_passed (Verify q) objects end reads e ends = absurd reads
 command_passed (Serve parts) objects end reads e ends = absurd reads
 command_passed (Fetch parts) objects end reads e ends = absurd reads
+command_passed (FetchInto parts) objects end reads e ends = absurd reads
+command_passed (VerifyInto parts) objects end reads e ends = absurd reads
 command_passed (Mirror parts) objects end reads e ends = absurd reads
 command_passed (Swarm parts) objects end reads e ends = absurd reads
 command_passed (Audit parts) objects end reads e ends = absurd reads
@@ -474,6 +496,8 @@ command_quiet (Import parts) objects end ne ends = (ends.0.quiet, import_quiet p
 command_quiet (Verify q) objects end ne ends = verify_quiet q objects.input objects.out end ne ends.1
 command_quiet (Serve parts) objects end ne ends = (ends.1.quiet, serve_quiet parts objects.files.pack objects.files.same_pack objects.out objects.door end ne ends.2)
 command_quiet (Fetch parts) objects end ne ends = (ends.1.quiet, fetch_quiet parts objects.dial.dialling objects.out end ne ends.2)
+command_quiet (FetchInto parts) objects end ne ends = (ends.1.quiet, fetch_into_quiet parts objects.dial objects.making objects.out end ne ends.2)
+command_quiet (VerifyInto parts) objects end ne ends = verify_into_quiet parts objects.input objects.making objects.out end ne ends.1
 command_quiet (Mirror parts) objects end ne ends = (ends.1.quiet, mirror_quiet parts objects.files objects.dial objects.out end ne ends.2)
 command_quiet (Swarm parts) objects end ne ends = (ends.1.quiet, swarm_quiet parts objects.dial objects.out end ne ends.2)
 command_quiet (Audit parts) objects end ne ends = (ends.1.quiet, audit_quiet parts objects.out end ne ends.2)

@@ -74,7 +74,7 @@ refusal_status faults.PeerFault refusal h = inl (ap status_of h)
 refusal_status faults.KeepFault refusal h = inl (ap status_of h)
 refusal_status faults.OutOfMemory refusal h = inl (ap status_of h)
 
-end_status : (fault : FetchFault) (end : Option CommandFault) → IsFetchEnd (Err fault) end → IsStatusOf fault (exit_status end)
+pub end_status : (fault : FetchFault) (end : Option CommandFault) → IsFetchEnd (Err fault) end → IsStatusOf fault (exit_status end)
 end_status fault end (refusal, is, tells) = subst (IsStatusOf fault) (sym (ap exit_status is)) (refusal_status fault refusal tells)
 
 pub by_status : (n : ℕ) (fault : FetchFault) → nat_eq n 8 ≡ false → IsStatusOf fault n → fetch_status fault ≡ n
@@ -82,10 +82,10 @@ by_status n fault apart (inl e) = sym e
 by_status n fault apart (inr memory) = absurd (differs n 8 apart memory.1)
 
 -- an end with this status is one for a fault that has it
-fault_has : (n : ℕ) (fault : FetchFault) (end : Option CommandFault) → nat_eq n 8 ≡ false → exit_status end ≡ n → IsFetchEnd (Err fault) end → fetch_status fault ≡ n
+pub fault_has : (n : ℕ) (fault : FetchFault) (end : Option CommandFault) → nat_eq n 8 ≡ false → exit_status end ≡ n → IsFetchEnd (Err fault) end → fetch_status fault ≡ n
 fault_has n fault end apart e is = by_status n fault apart (subst (IsStatusOf fault) e (end_status fault end is))
 
-done_is : (n : ℕ) (done : ⊤) (end : Option CommandFault) → nat_eq 0 n ≡ false → exit_status end ≡ n → IsFetchEnd (Ok done) end → ⊥
+pub done_is : (n : ℕ) (done : ⊤) (end : Option CommandFault) → nat_eq 0 n ≡ false → exit_status end ≡ n → IsFetchEnd (Ok done) end → ⊥
 done_is n done end apart e is = differs 0 n apart (sym (ap exit_status is) ∙ e)
 
 -- ---- status 2
@@ -146,7 +146,7 @@ fetch_quiet parts dial out end ne h = quiet_by out h.result end ne h.end_is h.ca
 
 -- ---- status 0
 
-never_0 : (fault : FetchFault) (end : Option CommandFault) → exit_status end ≡ 0 → IsFetchEnd (Err fault) end → ⊥
+pub never_0 : (fault : FetchFault) (end : Option CommandFault) → exit_status end ≡ 0 → IsFetchEnd (Err fault) end → ⊥
 never_0 fault end e (refusal, is, tells) = not_zero refusal (fetch_own fault refusal tells) (sym (ap exit_status is) ∙ e)
 
 fetched_by : (parts : FetchParts) (dial : Dialling) (out : Output) (result : Result ⊤ FetchFault) (end : Option CommandFault) → exit_status end ≡ 0 → IsFetchEnd result end
@@ -336,12 +336,12 @@ fetch_absent_of parts dial out err status end miss shown no_dial e line h =
 
 -- ---- beside a sound DAG
 
-answer_by : (q : QueryParts) (d : Dag) (sections : List Section) (text : List ℕ) (result : Result ⊤ FetchFault) (end : Option CommandFault) → exit_status end ≡ 0 → IsFetchEnd result end
+pub answer_by : (q : QueryParts) (d : Dag) (sections : List Section) (text : List ℕ) (result : Result ⊤ FetchFault) (end : Option CommandFault) → exit_status end ≡ 0 → IsFetchEnd result end
     → SaysOfCall q sections text result d → IsItsAnswer q d sections text
 answer_by q d sections text (Ok done) end e is says = says
 answer_by q d sections text (Err fault) end e is says = absurd (never_0 fault end e is)
 
-front_by : AnswerIsFront → (q : QueryParts) (d : Dag) (sections : List Section) (text : List ℕ) (result : Result ⊤ FetchFault) → SaysOfCall q sections text result d → IsItsFront q d sections text
+pub front_by : AnswerIsFront → (q : QueryParts) (d : Dag) (sections : List Section) (text : List ℕ) (result : Result ⊤ FetchFault) → SaysOfCall q sections text result d → IsItsFront q d sections text
 front_by law q d sections text (Ok done) says = law q d sections text says
 front_by law q d sections text (Err fault) says = says.0
 
@@ -353,7 +353,7 @@ nowhere_at_9 q d sections (faults.Refused (verifiers.NotFolder segment)) e (inr 
 nowhere_at_9 q d sections (faults.Refused fault) e says = cc
 nowhere_at_9 q d sections fault e says = cc
 
-nowhere_by : (q : QueryParts) (d : Dag) (sections : List Section) (text : List ℕ) (result : Result ⊤ FetchFault) (end : Option CommandFault) → exit_status end ≡ 9 → IsFetchEnd result end
+pub nowhere_by : (q : QueryParts) (d : Dag) (sections : List Section) (text : List ℕ) (result : Result ⊤ FetchFault) (end : Option CommandFault) → exit_status end ≡ 9 → IsFetchEnd result end
     → SaysOfCall q sections text result d → IsNoAnswer q d ⊎ CollisionPair sections d
 nowhere_by q d sections text (Ok done) end e is says = absurd (done_is 9 done end refl e is)
 nowhere_by q d sections text (Err fault) end e is says = nowhere_at_9 q d sections fault (fault_has 9 fault end refl e is) says.1

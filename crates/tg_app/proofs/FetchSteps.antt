@@ -40,15 +40,15 @@ module _ (q : QueryParts) (addr : List ℕ) (limits : LimitNumbers) (dial : Dial
   tells : (sections : List Section) → TellsCarried q standard dial sections → TellsCarried q limits dial sections
   tells sections h = at_standard (λ l. TellsCarried q l dial sections) h
 
-  good_is_taken : (text : List ℕ) → IsGoodReply q dial text → IsAcceptedElse text out result
+  pub good_is_taken : (text : List ℕ) → IsGoodReply q dial text → IsAcceptedElse text out result
   good_is_taken text (inl o) = own o.d text o.sound o.root o.answers o.one_each (within o.d o.within) (tells (block_list q o.d) o.tells)
   good_is_taken text (inr f) = fitting f.d f.sections text f.fits (within f.d f.within) (tells f.sections f.tells)
 
-  absent_is_told : (miss : Miss) → IsAbsentReply q dial miss → IsNowhereElse miss out result
+  pub absent_is_told : (miss : Miss) → IsAbsentReply q dial miss → IsNowhereElse miss out result
   absent_is_told miss (inl o) = own_nowhere o.d miss (at_standard (λ l. IsOwnNowhere q l o.d miss) o.nowhere) (at_standard (λ l. TellsAbsence q l dial (block_list q o.d)) o.tells)
   absent_is_told miss (inr s) = nowhere s.d miss (at_standard (λ l. IsNowhereIn q l s.d miss) s.nowhere) (at_standard (λ l. TellsAbsence q l dial (block_list (path_query q) s.d)) s.tells)
 
-  pub answers : (end : Option CommandFault) → IsFetchEnd result end → FetchAnswers (record { addr = addr; query = q }) dial out end
+  unfoldable pub answers : (end : Option CommandFault) → IsFetchEnd result end → FetchAnswers (record { addr = addr; query = q }) dial out end
   answers end is = record {
     result = result;
     end_is = is;

@@ -5,6 +5,11 @@ mod Endings
 mod Segments
 mod VerifyEndings
 mod FetchEndings
+mod IntoEndings
+mod IntoReadings
+mod IntoStatuses
+mod IntoSteps
+mod IntoVouching
 mod MirrorEndings
 mod PathlessReplies
 mod SwarmEndings

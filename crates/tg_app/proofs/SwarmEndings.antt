@@ -399,9 +399,9 @@ ends_of parts objects end (inl memory) =
     (all.files, all.streams.untaken, inl (record { undialled = all.dial; unput = all.streams.unput; is = memory.end_is }))
 ends_of parts objects end (inr did) = did
 
-pub swarm_runs : (parts : SwarmParts) (run : Run) (end : Option CommandFault) → run.status ≡ exit_status end → Says end run.err → run.objects.door.same_door
+pub swarm_runs : (parts : SwarmParts) (run : Run) (end : Option CommandFault) → run.status ≡ exit_status end → Says end run.err → run.objects.door.same_door → run.objects.making.same
     → NoMemoryEnds run.objects end ⊎ CommandEnds (Swarm parts) run.objects end → SwarmRun parts run
-swarm_runs parts run end status line same_door words_end = record {
+swarm_runs parts run end status line same_door same_making words_end = record {
   ends = (end, status, did, line);
   swarmed = λ zero. whole_by parts dial out end (has zero) how;
   nothing = λ nine. nothing_by parts dial out end (has nine) how;
@@ -435,4 +435,4 @@ swarm_runs parts run end status line same_door words_end = record {
     has e = sym status ∙ e
 
     untouched : SwarmUnbegun dial out end → AllUntouched run.objects
-    untouched unbegun = record { files = did.0; door = same_door; dial = unbegun.undialled; streams = record { untaken = did.1; unput = unbegun.unput } }
+    untouched unbegun = record { files = did.0; making = same_making; door = same_door; dial = unbegun.undialled; streams = record { untaken = did.1; unput = unbegun.unput } }

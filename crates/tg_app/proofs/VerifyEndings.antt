@@ -103,7 +103,7 @@ pub verify_fault : (q : QueryParts) (input : Input) (out : Output) (end : Option
 verify_fault q input out None e ends = cc
 verify_fault q input out (Some refusal) e ends = rose_of input out ends.fault refusal e (has_status ends.fault refusal ends.tells) ends.cause
 
-quiet_else : (input : Input) (out : Output) (fault : ClientFault) → (status_for fault ≡ 6 → ⊥) → HasStreamCause input out (Err fault) → InputQuiet input × OutputQuiet out
+pub quiet_else : (input : Input) (out : Output) (fault : ClientFault) → (status_for fault ≡ 6 → ⊥) → HasStreamCause input out (Err fault) → InputQuiet input × OutputQuiet out
 quiet_else input out clients.InputFault ne cause = absurd (ne refl)
 quiet_else input out clients.KeepFault ne cause = absurd cause
 quiet_else input out (clients.Refused verifiers.SinkFault) ne cause = absurd (ne refl)
@@ -176,7 +176,7 @@ module _ (misses : VerifiedMisses) (q : QueryParts) (limits : LimitNumbers) (sec
   ended_none input heard unheard (clients.Refused fault) e h = cc
   ended_none input heard unheard fault e h = cc
 
-nine_for : (fault : ClientFault) (refusal : CommandFault) → status_of refusal ≡ 9 → HasStatus fault refusal → status_for fault ≡ 9
+pub nine_for : (fault : ClientFault) (refusal : CommandFault) → status_of refusal ≡ 9 → HasStatus fault refusal → status_for fault ≡ 9
 nine_for fault refusal e (inl h) = sym h ∙ e
 nine_for fault refusal e (inr h) = let k = sym h.1 ∙ e in cc
 
@@ -211,7 +211,7 @@ verify_answered_of q bytes input out (Some refusal) told good no_in no_out ends 
 
 -- ---- beside a sound DAG
 
-front_at_fault : (q : QueryParts) (d : Dag) (sections : List Section) (text : List ℕ) (fault : ClientFault) → SaysFor q d sections text (Err fault) → IsItsFront q d sections text
+pub front_at_fault : (q : QueryParts) (d : Dag) (sections : List Section) (text : List ℕ) (fault : ClientFault) → SaysFor q d sections text (Err fault) → IsItsFront q d sections text
 front_at_fault q d sections text (clients.Refused fault) says = says.0
 front_at_fault q d sections text fault says = says
 
@@ -222,7 +222,7 @@ nowhere_at_9 q d sections text (clients.Refused (verifiers.NotFolder segment)) e
 nowhere_at_9 q d sections text (clients.Refused fault) e says = cc
 nowhere_at_9 q d sections text fault e says = cc
 
-nowhere_for : (q : QueryParts) (d : Dag) (sections : List Section) (text : List ℕ) (fault : ClientFault) (refusal : CommandFault) → status_of refusal ≡ 9 → HasStatus fault refusal
+pub nowhere_for : (q : QueryParts) (d : Dag) (sections : List Section) (text : List ℕ) (fault : ClientFault) (refusal : CommandFault) → status_of refusal ≡ 9 → HasStatus fault refusal
     → SaysFor q d sections text (Err fault) → IsNoAnswer q d ⊎ CollisionPair sections d
 nowhere_for q d sections text fault refusal e (inl h) says = nowhere_at_9 q d sections text fault (sym h ∙ e) says
 nowhere_for q d sections text fault refusal e (inr h) says = let k = sym h.1 ∙ e in cc

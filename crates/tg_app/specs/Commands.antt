@@ -3,7 +3,7 @@ use Rattle.std.specs.Prelude.{◌≡◌, ℕ, ◌⊎◌, ⊤, List, Option, Some
 use Rattle.tg_words.specs.CommandLine.{CommandLine}
 use Rattle.tg_words.specs.Help.{help_text, version_text}
 use Rattle.tg_words.specs.declared.Command.{Command}
-use Rattle.tg_words.specs.declared.Command.TheVariants.{Audit, Check, Node, CidToHex, CidToText, Export, Fetch, Help, Import, Mirror, Serve, Swarm, Verify, Version}
+use Rattle.tg_words.specs.declared.Command.TheVariants.{Audit, Check, Node, CidToHex, CidToText, Export, Fetch, FetchInto, Help, Import, Mirror, Serve, Swarm, Verify, VerifyInto, Version}
 use Rattle.tg_streams.specs.Streams.{Output}
 use Rattle.tg_commands.specs.Lines.{Says, exit_status}
 use Rattle.tg_commands.specs.Blocks.{InputUntouched, Untouched}
@@ -13,6 +13,7 @@ use Rattle.tg_commands.specs.Node.{NodeEnds}
 use Rattle.tg_commands.specs.CidLines.{HexLine, TextLine, PrintEnds}
 use Rattle.tg_commands.specs.Exports.{ExportAnswers}
 use Rattle.tg_app.specs.Fetches.{FetchAnswers}
+use Rattle.tg_app.specs.Intos.{FetchIntoAnswers, VerifyIntoAnswers}
 use Rattle.tg_app.specs.Mirrors.{MirrorAnswers}
 use Rattle.tg_commands.specs.Imports.{ImportAnswers}
 use Rattle.tg_commands.specs.Files.{SameFiles}
@@ -34,10 +35,13 @@ CommandEnds (CidToText cid) objects end =
 CommandEnds (Export parts) objects end =
     objects.files.same_folder × InputUntouched objects.input × ExportAnswers parts.pack parts.query objects.files.pack objects.files.same_pack objects.out end
 CommandEnds (Verify q) objects end = SameFiles objects.files × VerifyEnds q objects.input objects.out end
+CommandEnds (VerifyInto parts) objects end = SameFiles objects.files × VerifyIntoAnswers parts objects.input objects.making objects.out end
 CommandEnds (Serve parts) objects end =
     objects.files.same_folder × InputUntouched objects.input × ServeAnswers parts objects.files.pack objects.files.same_pack objects.out objects.door end
 CommandEnds (Fetch parts) objects end =
     SameFiles objects.files × InputUntouched objects.input × FetchAnswers parts objects.dial.dialling objects.out end
+CommandEnds (FetchInto parts) objects end =
+    SameFiles objects.files × InputUntouched objects.input × FetchIntoAnswers parts objects.dial objects.making objects.out end
 CommandEnds (Mirror parts) objects end =
     objects.files.same_folder × InputUntouched objects.input × MirrorAnswers parts objects.files objects.dial objects.out end
 CommandEnds (Swarm parts) objects end =
@@ -50,7 +54,7 @@ CommandEnds (Help topic) objects end =
 CommandEnds Version objects end =
     SameFiles objects.files × InputUntouched objects.input × PrintEnds (λ text. text ≡ version_text) objects.out end
 
--- a command that neither reads nor writes files, nor makes them in memory
+-- a command that neither reads nor writes files, nor makes them, nor does so in memory
 abbrev pub UsesNoFiles : Command → Type 0
 UsesNoFiles (Check cid) = ⊤
 UsesNoFiles (Node cid) = ⊤
@@ -61,6 +65,8 @@ UsesNoFiles (Export parts) = ⊥
 UsesNoFiles (Import parts) = ⊥
 UsesNoFiles (Serve parts) = ⊥
 UsesNoFiles (Fetch parts) = ⊤
+UsesNoFiles (FetchInto parts) = ⊥
+UsesNoFiles (VerifyInto parts) = ⊥
 UsesNoFiles (Mirror parts) = ⊥
 UsesNoFiles (Swarm parts) = ⊤
 UsesNoFiles (Audit parts) = ⊥
@@ -78,6 +84,8 @@ UsesNoDoor (Verify q) = ⊤
 UsesNoDoor (Export parts) = ⊤
 UsesNoDoor (Import parts) = ⊤
 UsesNoDoor (Fetch parts) = ⊤
+UsesNoDoor (FetchInto parts) = ⊤
+UsesNoDoor (VerifyInto parts) = ⊤
 UsesNoDoor (Mirror parts) = ⊤
 UsesNoDoor (Swarm parts) = ⊤
 UsesNoDoor (Audit parts) = ⊤
@@ -89,6 +97,8 @@ abbrev pub UsesNoDial : Command → Type 0
 UsesNoDial (Fetch parts) = ⊥
 UsesNoDial (Mirror parts) = ⊥
 UsesNoDial (Swarm parts) = ⊥
+UsesNoDial (FetchInto parts) = ⊥
+UsesNoDial (VerifyInto parts) = ⊤
 UsesNoDial (Check cid) = ⊤
 UsesNoDial (Node cid) = ⊤
 UsesNoDial (CidToHex cid) = ⊤
@@ -101,6 +111,25 @@ UsesNoDial (Audit parts) = ⊤
 UsesNoDial (Help topic) = ⊤
 UsesNoDial Version = ⊤
 
+-- a command that makes no folder of an answer, and leaves the extract as it was
+abbrev pub MakesNoFolder : Command → Type 0
+MakesNoFolder (FetchInto parts) = ⊥
+MakesNoFolder (VerifyInto parts) = ⊥
+MakesNoFolder (Check cid) = ⊤
+MakesNoFolder (Node cid) = ⊤
+MakesNoFolder (CidToHex cid) = ⊤
+MakesNoFolder (CidToText cid) = ⊤
+MakesNoFolder (Verify q) = ⊤
+MakesNoFolder (Export parts) = ⊤
+MakesNoFolder (Import parts) = ⊤
+MakesNoFolder (Serve parts) = ⊤
+MakesNoFolder (Fetch parts) = ⊤
+MakesNoFolder (Mirror parts) = ⊤
+MakesNoFolder (Swarm parts) = ⊤
+MakesNoFolder (Audit parts) = ⊤
+MakesNoFolder (Help topic) = ⊤
+MakesNoFolder Version = ⊤
+
 -- a command that reads a block from its input
 abbrev pub ReadsBlock : Command → Type 0
 ReadsBlock (Check cid) = ⊤
@@ -110,6 +139,7 @@ ReadsBlock other = ⊥
 -- all of the objects are as they were
 pub record AllUntouched (objects : Objects) : Type 0 where
   pub files : SameFiles objects.files
+  pub making : objects.making.same
   pub door : objects.door.same_door
   pub dial : objects.dial.same_dial
   pub streams : Untouched objects.input objects.out
@@ -137,6 +167,7 @@ pub record TheCommandEnds (words : List (List ℕ)) (objects : Objects) (end : O
   pub command : Command
   pub the : TheCommand words command
   pub ends : CommandEnds command objects end
+  pub making : MakesNoFolder command → objects.making.same
   pub door : UsesNoDoor command → objects.door.same_door
   pub dial : UsesNoDial command → objects.dial.same_dial
 

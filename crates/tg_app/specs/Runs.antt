@@ -5,13 +5,17 @@ use Rattle.tg_commands.specs.Blocks.{InputUntouched, OutputUntouched, PassedLimi
 use Rattle.tg_commands.specs.Check.{Agrees, CheckEnds, CheckStatus, Checked, CheckedOther}
 use Rattle.tg_commands.specs.CidLines.{HexLine, PutsLine, TextLine}
 use Rattle.tg_app.specs.Commands.{AllUntouched, Answers, CommandEnds, Ends, IsNoCommand, NoMemoryEnds, ReadsBlock, UsesNoDial, UsesNoDoor}
-use Rattle.tg_app.specs.Commands.{UsesNoFiles}
+use Rattle.tg_app.specs.Commands.{MakesNoFolder, UsesNoFiles}
 use Rattle.tg_app.specs.Commands.{WantsMemory}
 use Rattle.tg_commands.specs.Exports.{Exported, ExportedNothing, HasAnswer, HoldsDag, IsRisen}
 use Rattle.tg_app.specs.Mirrors.{IsGoodMirrorReply, IsLeftMirror, IsMirroredInto, VouchedMirror}
 use Rattle.tg_app.specs.Fetches.{Fetched, FetchedStatus, IsAbsentReply, IsGoodReply, VouchedFetch, miss_refusal}
+use Rattle.tg_app.specs.Intos.{HasPairHeard, HasPairTaken, IsCarFor, IsPathMade, IsReplyOf, IsUnmade, TreeRose, VouchedFolder, counts_line}
+use Rattle.tg_app.specs.Makings.{made_in}
 use Rattle.tg_commands.specs.Imports.{Imported, IsGoodFolder, options_of}
 use Rattle.tg_commands.specs.Lines.{PutAll, Says}
+use Rattle.tg_extract.specs.Answers.{IsMeasured}
+use Rattle.tg_extract.specs.Counts.{counts_of}
 use Rattle.tg_commands.specs.Node.{NodeEnds, NodeStatus, Noded, NodedOther}
 use Rattle.tg_commands.specs.Files.{SameFiles}
 use Rattle.tg_app.specs.Objects.{Objects}
@@ -46,12 +50,13 @@ use Rattle.tg_words.specs.ExportLines.{ExportParts}
 use Rattle.tg_words.specs.FetchLines.{FetchParts}
 use Rattle.tg_words.specs.Help.{help_text, version_text}
 use Rattle.tg_words.specs.ImportLines.{ImportParts}
+use Rattle.tg_words.specs.IntoLines.{FetchIntoParts, VerifyIntoParts}
 use Rattle.tg_words.specs.MirrorLines.{MirrorParts}
 use Rattle.tg_words.specs.ServeLines.{ServeParts}
 use Rattle.tg_words.specs.SwarmLines.{SwarmParts}
 use Rattle.tg_words.specs.declared.names.CommandName.{CommandName}
 use Rattle.tg_words.specs.declared.Command.{Command}
-use Rattle.tg_words.specs.declared.Command.TheVariants.{Audit, Check, CidToHex, CidToText, Export, Fetch, Help, Import, Mirror, Node, Serve, Swarm, Verify, Version}
+use Rattle.tg_words.specs.declared.Command.TheVariants.{Audit, Check, CidToHex, CidToText, Export, Fetch, FetchInto, Help, Import, Mirror, Node, Serve, Swarm, Verify, VerifyInto, Version}
 
 -- a run: the words behind the program's name, what became of the objects and of err, and the exit status
 pub record Run : Type 1 where
@@ -84,6 +89,8 @@ pub record WordsRun (run : Run) : Type 0 where
   pub memory : run.status ≡ 8 → WantsMemory run.words run.objects
   -- a command that uses no files leaves the folder and the pack as they were
   pub kept : (command : Command) → Asks run command → UsesNoFiles command → SameFiles run.objects.files
+  -- one that makes no folder leaves the extract as it was
+  pub kept_making : (command : Command) → Asks run command → MakesNoFolder command → run.objects.making.same
   -- and no command but `serve` touches the door
   pub kept_door : (command : Command) → Asks run command → UsesNoDoor command → run.objects.door.same_door
   -- nor any but `fetch`, `mirror` and `swarm` the dial
@@ -219,6 +226,39 @@ pub record FetchRun (parts : FetchParts) (run : Run) : Type 0 where
   pub vouched_answer : (d : Dag) → IsSound d → root_cid d ≡ parts.query.root
       → ((run.status ≡ 8) × AllUntouched run.objects) ⊎ VouchedFetch parts d run.objects.dial.dialling run.objects.out run.err run.status
 
+-- `fetch` with `--into`: one call to a gateway, and what was made of the answer
+pub record FetchIntoRun (parts : FetchIntoParts) (run : Run) : Type 0 where
+  -- no memory was found for the words, and nothing was done; or the path was free or not, the call made, and it ended so
+  pub ends : Answers (λ end. NoMemoryEnds run.objects end ⊎ CommandEnds (FetchInto parts) run.objects end) run.status run.err
+  -- at 0 out grew by the line that tells how much was made
+  pub told : run.status ≡ 0 → PutAll (counts_line (counts_of (made_in run.objects.making))) run.objects.out
+  -- at 5 a fault of the dial or of its link was counted; at 9 the path leads nowhere, and nothing was put
+  pub dial_fault : run.status ≡ 5 → DialRose run.objects.dial.dialling
+  pub nothing : run.status ≡ 9 → OutputUntouched run.objects.out
+  -- for every sound DAG with the query's root, whatever is heard, however it is cut: at 0 what was made is the tree of files that the DAG
+  -- shows at the path, and else a front of it, each file in it whole or its first bytes; or a received block and one of the DAG are different
+  -- bytes with one SHA-256; but where nothing was done, for want of memory for the words, or since nothing could be made there
+  pub vouched : (d : Dag) → IsSound d → IsMeasured d → root_cid d ≡ parts.query.root
+      → ((run.status ≡ 8) × AllUntouched run.objects) ⊎ (IsUnmade run.objects.making run.status
+      ⊎ VouchedFolder parts.query d parts.folder (HasPairHeard parts.query d run.objects.dial.dialling) run.objects.making run.err run.status)
+  -- of a sound DAG whose records are made, whose own sections the reply carries, all is made, where no fault of the dial, the tree or out is
+  -- counted and memory is found; or there is such a pair
+  pub answered : (d : Dag) → IsReplyOf parts.query d run.objects.dial.dialling → (DialRose run.objects.dial.dialling → ⊥)
+      → (TreeRose run.objects.making → ⊥) → (OutputRose run.objects.out → ⊥)
+      → (run.status ≡ 8) ⊎ (((run.status ≡ 0) × IsPathMade parts.query d (made_in run.objects.making)) ⊎ HasPairHeard parts.query d run.objects.dial.dialling)
+
+-- `verify` with `--into`: the CAR on input, and what was made of it
+pub record VerifyIntoRun (parts : VerifyIntoParts) (run : Run) : Type 0 where
+  pub ends : Answers (λ end. NoMemoryEnds run.objects end ⊎ CommandEnds (VerifyInto parts) run.objects end) run.status run.err
+  pub told : run.status ≡ 0 → PutAll (counts_line (counts_of (made_in run.objects.making))) run.objects.out
+  pub nothing : run.status ≡ 9 → OutputUntouched run.objects.out
+  pub vouched : (d : Dag) → IsSound d → IsMeasured d → root_cid d ≡ parts.query.root
+      → ((run.status ≡ 8) × AllUntouched run.objects) ⊎ (IsUnmade run.objects.making run.status
+      ⊎ VouchedFolder parts.query d parts.folder (HasPairTaken d run.objects.input) run.objects.making run.err run.status)
+  pub answered : (d : Dag) (bytes : List ℕ) → run.objects.input.left_old ≡ Some bytes → IsCarFor parts.query d bytes
+      → (InputRose run.objects.input → ⊥) → (TreeRose run.objects.making → ⊥) → (OutputRose run.objects.out → ⊥)
+      → (run.status ≡ 8) ⊎ (((run.status ≡ 0) × IsPathMade parts.query d (made_in run.objects.making)) ⊎ HasPairTaken d run.objects.input)
+
 -- `mirror`: one call to a gateway, and what became of the pack
 pub record MirrorRun (parts : MirrorParts) (run : Run) : Type 0 where
   pub ends : EndsAs (Mirror parts) run
@@ -298,6 +338,8 @@ pub record Runs (run : Run) : Type 0 where
   pub verify : (q : QueryParts) → Asks run (Verify q) → VerifyRun q run
   pub serve : (parts : ServeParts) → Asks run (Serve parts) → ServeRun parts run
   pub fetch : (parts : FetchParts) → Asks run (Fetch parts) → FetchRun parts run
+  pub fetch_into : (parts : FetchIntoParts) → Asks run (FetchInto parts) → FetchIntoRun parts run
+  pub verify_into : (parts : VerifyIntoParts) → Asks run (VerifyInto parts) → VerifyIntoRun parts run
   pub mirror : (parts : MirrorParts) → Asks run (Mirror parts) → MirrorRun parts run
   pub swarm : (parts : SwarmParts) → Asks run (Swarm parts) → SwarmRun parts run
   pub audit : (parts : AuditParts) → Asks run (Audit parts) → AuditRun parts run

@@ -3,11 +3,14 @@
 
 mod audit;
 mod fetching;
+mod intos;
+mod laws;
 mod mirroring;
 mod serve;
 mod swarming;
 mod top;
 
+pub use laws::round_trip;
 pub use swarming::fetch_word;
 pub use tg_commands::CommandFault;
 pub use tg_fetch::{FetchFault, Told, Watch};
