@@ -94,7 +94,7 @@ fn mirror_setup(alloc: Global, nodes: u64) -> Result<Setup, AllocError> {
 const CAR_HEAD: &[u8] = b"HTTP/1.1 200 OK\r\nContent-Type: application/vnd.ipld.car\r\n\r\n";
 
 /// A block and its CID.
-type Named = (Cid, Bytes);
+pub type Named = (Cid, Bytes);
 
 /// The leaf `x`, and above it so many nodes of files, each of which has the one below as its one part.
 fn chain(alloc: Global, nodes: u64) -> Result<List<Named>, AllocError> {
@@ -119,7 +119,7 @@ fn node_over(alloc: Global, below: Cid) -> Result<Bytes, AllocError> {
 }
 
 /// The CID of the last block.
-fn root_of(blocks: &[Named]) -> Cid {
+pub fn root_of(blocks: &[Named]) -> Cid {
     match blocks.last() {
         Some((cid, _)) => *cid,
         None => Cid::of_block(Codec::Raw, b""),
@@ -127,7 +127,7 @@ fn root_of(blocks: &[Named]) -> Cid {
 }
 
 /// The CAR of these blocks from the last down, with this root (CARv1 specification).
-fn car_of(alloc: Global, root: Cid, blocks: &[Named]) -> Result<Bytes, AllocError> {
+pub fn car_of(alloc: Global, root: Cid, blocks: &[Named]) -> Result<Bytes, AllocError> {
     let cid = root.to_bytes(alloc)?;
     let mut car = Bytes::of(alloc, b"\x3a\xa2\x65roots\x81\xd8\x2a\x58\x25\x00")?;
     car.push_all(cid.as_slice())?;

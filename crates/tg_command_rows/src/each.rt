@@ -1,11 +1,12 @@
 //! Each call of an object fails in turn.
 use crate::groups::Groups;
 use crate::runs::{Ran, run_setup};
-use crate::said::say_ran;
+use crate::said::{say_made, say_ran};
 use crate::setup::{Object, Setup, object_named};
 use std::alloc::Global;
 use tg_bytes::{Bytes, List};
 use tg_links::Call;
+use tg_new_tree::Made;
 use tg_rows::Answer;
 
 /// How many runs a row takes at most.
@@ -118,12 +119,13 @@ fn other(object: Object, ran: &Ran) -> &[u8] {
     }
 }
 
-/// Says of a run its status, what stands on the stream that isn't counted, the pack and the links; and that the stream that
-/// is counted has a front of what it has where no call fails.
+/// Says of a run its status, what stands on the stream that isn't counted, the pack, the tree and the links; and that the stream
+/// that is counted has a front of what it has where no call fails.
 fn say_shape(object: Object, ran: &Ran, whole: &Ran, answer: &mut Answer) {
     answer.number(u64::from(ran.status));
     answer.bytes(other(object, ran));
     say_pack(ran, whole, answer);
+    say_tree(ran, whole, answer);
     say_links("served", ran.served(), whole.served(), answer);
     say_links("dialled", ran.dialled(), whole.dialled(), answer);
     let front = counted(object, ran);
@@ -166,6 +168,52 @@ fn say_content(content: &[u8], is_whole: bool, answer: &mut Answer) {
         answer.text("unfinished");
     } else {
         answer.bytes(content);
+    }
+}
+
+/// Says whether all was made in the tree that is made where no call fails, or how many folders and files were, as a front of
+/// these, and how many bytes the last one has; or else what was made. Nothing is said where nothing was.
+fn say_tree(ran: &Ran, whole: &Ran, answer: &mut Answer) {
+    let made = ran.made();
+    let wanted = whole.made();
+    let Some((last, before)) = made.split_last() else {
+        return;
+    };
+    answer.text("tree");
+    match wanted.get(before.len()) {
+        Some(other) if are_same(before, wanted) && begins(last, other) => {
+            if made.len() == wanted.len() && size_of(last) == size_of(other) {
+                answer.text("whole");
+            } else {
+                answer.number(made.len() as u64);
+                answer.number(size_of(last));
+            }
+        }
+        _ => say_made(ran.alloc, made, answer),
+    }
+}
+
+/// Whether these are the first of the others.
+fn are_same(made: &[Made], others: &[Made]) -> bool {
+    made.iter().zip(others).all(|(one, other)| begins(one, other) && size_of(one) == size_of(other))
+}
+
+/// Whether the one is the other, or a file with a front of its bytes.
+fn begins(one: &Made, other: &Made) -> bool {
+    match (one, other) {
+        (Made::Folder(path), Made::Folder(there)) => path.as_slice() == there.as_slice(),
+        (Made::File(path, bytes), Made::File(there, all)) => {
+            path.as_slice() == there.as_slice() && all.as_slice().starts_with(bytes.as_slice())
+        }
+        _ => false,
+    }
+}
+
+/// How many bytes were added to it.
+fn size_of(one: &Made) -> u64 {
+    match one {
+        Made::Folder(_) => 0,
+        Made::File(_, bytes) => bytes.as_slice().len() as u64,
     }
 }
 

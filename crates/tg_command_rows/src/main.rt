@@ -1,5 +1,5 @@
-//! The rows of the program's commands: every command through `run`, over streams, a folder, a pack, a door and a dial in
-//! memory, and each call of each of these objects failing in turn; and what an audit draws, keeps, asks and tells.
+//! The rows of the program's commands: every command through `run`, over streams, a folder, a pack, a tree, a door and a
+//! dial in memory, and each call of each of these objects failing in turn; and what an audit draws, keeps, asks and tells.
 #![tactic(auto)]
 
 mod asking;
@@ -7,6 +7,7 @@ mod audits;
 mod chains;
 mod changing;
 mod cuts;
+mod depths;
 mod draws;
 mod each;
 mod folders;
@@ -60,6 +61,7 @@ fn answer_kind(alloc: Global, kind: &str, given: &[Bytes], answer: &mut Answer) 
         "chain" => chains::answer(alloc, given, answer),
         "mirrored-chain" => chains::answer_mirrored(alloc, given, answer),
         "length" => chains::answer_length(given, answer),
+        "deep" => depths::answer(alloc, given, answer),
         _ => answer_audit(alloc, kind, given, answer),
     }
 }

@@ -1,4 +1,4 @@
-//! The program's top call over streams, a folder, a pack, a door and a dial in memory.
+//! The program's top call over streams, a folder, a pack, a tree, a door and a dial in memory.
 ghost use Rattle.std.specs.Option.{IsSome};
 ghost use Rattle.std.specs.Prelude.{◌<◌};
 
@@ -9,9 +9,11 @@ use tg_app::run;
 use tg_bytes::{Bytes, List};
 use tg_dials::MemDial;
 use tg_doors::MemDoor;
+use tg_extract::Extract;
 use tg_fetch::Unwatched;
 use tg_files::{MemFolder, MemPack, Pack};
 use tg_links::Call;
+use tg_new_tree::{Made, MemNewTree};
 use tg_streams::{MemSink, MemSource};
 use tg_test_packs::ChangingPack;
 use tg_tree::{Sort, Tree};
@@ -30,13 +32,15 @@ struct Streams {
 }
 
 /// What a run left: its status, its objects as they are then, what the pack held before, and how many calls of the
-/// folder and of the pack failed.
+/// folder failed.
 #[derive(Drop)]
 pub struct Ran {
+    pub alloc: Global,
     pub status: u8,
     pub before: Bytes,
     streams: Streams,
     pack: Option<MemPack>,
+    making: Extract<MemNewTree>,
     folder_faults: u64,
 }
 
@@ -59,6 +63,11 @@ impl Ran {
         }
     }
 
+    /// What was made in the tree, in order.
+    pub fn made(&self) -> &[Made] {
+        self.making.tree().made()
+    }
+
     /// What went through the links of the door that were given back; none where that isn't told.
     pub fn served(&self) -> Option<&List<Call>> {
         self.streams.door.served()
@@ -74,6 +83,7 @@ impl Ran {
         match object {
             Object::Folder => self.folder_faults,
             Object::Pack => self.pack_faults(),
+            Object::Tree => self.making.tree().count(),
             Object::Input => self.streams.input.count(),
             Object::Out => self.streams.out.count(),
             Object::Err => self.streams.err.count(),
@@ -119,6 +129,12 @@ fn folder_of(alloc: Global, tree: Tree, fails: List<u64>) -> Option<MemFolder> {
     Some(MemFolder::new(alloc, tree, fails))
 }
 
+/// The extract into a tree in memory, whose calls that are given fail.
+fn making_of(alloc: Global, setup: &mut Setup) -> Extract<MemNewTree> {
+    let fails = setup.numbers(Object::Tree);
+    Extract::new(alloc, MemNewTree::new(alloc, fails))
+}
+
 /// The door, the dial and the streams that are given.
 fn streams_of(alloc: Global, setup: &mut Setup, piece: usize) -> Streams
     requires { 0 < piece }
@@ -154,15 +170,25 @@ fn run_over(alloc: Global, setup: &mut Setup, folder: &mut MemFolder, piece: usi
         return None;
     };
     let mut pack = Some(MemPack::new(content, pack_fails));
-    let status = status_of(alloc, setup.words(), folder, &mut pack, &mut streams);
+    let mut making = making_of(alloc, setup);
+    let status = status_of(
+        alloc,
+        setup.words(),
+        folder,
+        &mut pack,
+        &mut making,
+        &mut streams,
+    );
     if setup.fault().is_some() {
         return None;
     }
     Some(Ran {
+        alloc,
         status,
         before,
         streams,
         pack,
+        making,
         folder_faults: folder.count(),
     })
 }
@@ -180,15 +206,25 @@ fn change_under(
     let mut streams = streams_of(alloc, setup, piece);
     let content = setup.take_pack();
     let mut pack = Some(ChangingPack::new(alloc, content, place, MOST_AT_ONCE));
-    let status = status_of(alloc, setup.words(), folder, &mut pack, &mut streams);
+    let mut making = making_of(alloc, setup);
+    let status = status_of(
+        alloc,
+        setup.words(),
+        folder,
+        &mut pack,
+        &mut making,
+        &mut streams,
+    );
     if setup.fault().is_some() {
         return None;
     }
     Some(Ran {
+        alloc,
         status,
         before: Bytes::new(alloc),
         streams,
         pack: None,
+        making,
         folder_faults: folder.count(),
     })
 }
@@ -199,6 +235,7 @@ fn status_of<P: Pack>(
     words: &[String],
     folder: &mut MemFolder,
     pack: &mut Option<P>,
+    making: &mut Extract<MemNewTree>,
     streams: &mut Streams,
 ) -> u8
     requires { IsSome pack.old }
@@ -208,6 +245,7 @@ fn status_of<P: Pack>(
         words,
         folder,
         pack,
+        making,
         &mut streams.door,
         &mut streams.dial,
         &mut streams.input,

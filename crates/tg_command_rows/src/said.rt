@@ -1,15 +1,19 @@
 //! What is said of a run.
 use crate::runs::Ran;
-use tg_bytes::List;
+use std::alloc::{AllocError, Global};
+use tg_bytes::{Bytes, List};
 use tg_links::Call;
+use tg_new_tree::Made;
 use tg_rows::Answer;
 
-/// Says what a run left: its status, out and err; the pack where it isn't as it was; and what was said on each link.
+/// Says what a run left: its status, out and err; the pack where it isn't as it was; what was said on each link; and what was
+/// made in the tree.
 pub fn say_ran(ran: &Ran, answer: &mut Answer) {
     say_streams(ran, answer);
     say_pack(ran, answer);
     say_served(ran.served(), answer);
     say_dialled(ran.dialled(), answer);
+    say_made(ran.alloc, ran.made(), answer);
 }
 
 /// Says a run's status, what stands on out, and what stands on err.
@@ -71,4 +75,41 @@ fn say_dialled(calls: Option<&List<Call>>, answer: &mut Answer) {
         }
         None => answer.text("untold"),
     }
+}
+
+/// Says of each folder and file that was made its path, and a file's bytes.
+pub fn say_made(alloc: Global, made: &[Made], answer: &mut Answer) {
+    for one in made {
+        match one {
+            Made::Folder(path) => {
+                answer.text("folder");
+                say_path(alloc, path.as_slice(), answer);
+            }
+            Made::File(path, bytes) => {
+                answer.text("file");
+                say_path(alloc, path.as_slice(), answer);
+                answer.bytes(bytes.as_slice());
+            }
+        }
+    }
+}
+
+/// Says the names of a path, with a slash between them.
+fn say_path(alloc: Global, path: &[Bytes], answer: &mut Answer) {
+    match joined(alloc, path) {
+        Ok(text) => answer.bytes(text.as_slice()),
+        Err(_) => answer.lack(),
+    }
+}
+
+/// The names of a path, with a slash between them. The error is want of memory.
+fn joined(alloc: Global, path: &[Bytes]) -> Result<Bytes, AllocError> {
+    let mut text = Bytes::new(alloc);
+    for (number, name) in path.iter().enumerate() {
+        if number > 0 {
+            text.push_all(b"/")?;
+        }
+        text.push_all(name.as_slice())?;
+    }
+    Ok(text)
 }

@@ -20,6 +20,8 @@ use tg_tree::Tree;
 pub enum Object {
     Folder,
     Pack,
+    /// The tree that is made, whose `begin` is its first call.
+    Tree,
     Input,
     Out,
     Err,
@@ -34,6 +36,7 @@ pub fn object_named(name: &[u8]) -> Option<Object> {
     match from_utf8(name) {
         Ok("folder") => Some(Object::Folder),
         Ok("pack") => Some(Object::Pack),
+        Ok("tree") => Some(Object::Tree),
         Ok("input") => Some(Object::Input),
         Ok("out") => Some(Object::Out),
         Ok("err") => Some(Object::Err),

@@ -28,7 +28,9 @@ use std::{env, io};
 use tg_app::{SwarmWatch, Watch, no_streams, out_of_memory, run};
 use tg_dials::{Dial, TcpDial};
 use tg_doors::{Door, TcpDoor};
+use tg_extract::Extract;
 use tg_files::{Folder, HostFolder, HostPack, Pack, TempNames};
+use tg_new_tree::{HostNewTree, NewTree};
 use tg_streams::{Sink, Source, StdSink, StdSource};
 
 /// How many standard streams there are: 0 is input, 1 out and 2 err.
@@ -52,11 +54,17 @@ const OBJECT_FAILED: u8 = 6;
 fn main(rt: HostRuntime) -> ExitCode {
     let progress = Progress::new(rt, env::args(&rt));
     let names = TempNames::drawn(&rt);
-    let failed = FailedEntry::new(rt.alloc());
+    let unread = FailedEntry::new(rt.alloc());
     let mut folder = Noted {
         inner: HostFolder::new(rt, names),
-        failed: &failed,
+        failed: &unread,
     };
+    let unmade = FailedEntry::new(rt.alloc());
+    let tree = Noted {
+        inner: HostNewTree::new(rt),
+        failed: &unmade,
+    };
+    let mut making = Extract::new(rt.alloc(), tree);
     let mut pack = Some(Shown::new(HostPack::new(rt, names), &progress, Counted::Packed));
     let mut door = TcpDoor::new(rt);
     let exchange = Exchange::new(rt, env::args(&rt));
@@ -76,6 +84,7 @@ fn main(rt: HostRuntime) -> ExitCode {
         env::args(&rt),
         &mut folder,
         &mut pack,
+        &mut making,
         &mut door,
         &mut dial,
         &mut input,
@@ -91,7 +100,10 @@ fn main(rt: HostRuntime) -> ExitCode {
         NOT_ASKED => progress.tell(type_line(rt.alloc(), &exchange)),
         OTHER_STATUS => progress.tell(redirect_line(rt.alloc(), &exchange)),
         PEER_FAILED => progress.tell_why(dial.why(), exchange.broken()),
-        OBJECT_FAILED => progress.tell_entry(failed.take()),
+        OBJECT_FAILED => {
+            progress.tell_entry(unread.take(), b"read");
+            progress.tell_entry(unmade.take(), b"made");
+        }
         _ => {}
     }
     ExitCode::from(status)
@@ -102,12 +114,23 @@ fn main(rt: HostRuntime) -> ExitCode {
 /// then all objects are as they were. Arguments that aren't UTF-8 are no command. A status other than 0 puts one line on
 /// err, and a fault of err changes nothing else. The line of progress isn't put into `err`: it goes straight to the host's err,
 /// and no clause speaks of it.
-fn answer<F: Folder, P: Pack, L: Door, D: Dial, I: Source, O: Sink, E: Sink, W: Watch + SwarmWatch>(
+fn answer<
+    F: Folder,
+    P: Pack,
+    N: NewTree + Drop,
+    L: Door,
+    D: Dial,
+    I: Source,
+    O: Sink,
+    E: Sink,
+    W: Watch + SwarmWatch,
+>(
     alloc: Global,
     held: bool,
     args: io::Result<Args>,
     folder: &mut F,
     pack: &mut Option<P>,
+    making: &mut Extract<N>,
     door: &mut L,
     dial: &mut D,
     input: &mut I,
@@ -120,24 +143,24 @@ where
     requires { IsSome pack.old }
     ensures ran { IsTrue held → IfOk args (λ given. Runs (record {
       words = map string_bytes (drop 1 (into_iter_items given));
-      objects = objects_between F.folder P.pack L.door L.Link.link D.dial I.source O.sink
-          folder.old folder.new pack.old pack.new door.old door.new dial.old dial.new input.old input.new out.old out.new;
+      objects = objects_between F.folder P.pack N.new_tree L.door L.Link.link D.dial I.source O.sink
+          folder.old folder.new pack.old pack.new making.old making.new door.old door.new dial.old dial.new input.old input.new out.old out.new;
       err = into E.sink err.old err.new;
       status = result;
-    }) ⊎ ((result ≡ 8) × IsUnrun (objects_between F.folder P.pack L.door L.Link.link D.dial I.source O.sink
-        folder.old folder.new pack.old pack.new door.old door.new dial.old dial.new input.old input.new out.old out.new)
+    }) ⊎ ((result ≡ 8) × IsUnrun (objects_between F.folder P.pack N.new_tree L.door L.Link.link D.dial I.source O.sink
+        folder.old folder.new pack.old pack.new making.old making.new door.old door.new dial.old dial.new input.old input.new out.old out.new)
         (into E.sink err.old err.new) result)) }
     ensures no_words { IsTrue held → IfErr args (λ fault. Runs (record {
       words = [];
-      objects = objects_between F.folder P.pack L.door L.Link.link D.dial I.source O.sink
-          folder.old folder.new pack.old pack.new door.old door.new dial.old dial.new input.old input.new out.old out.new;
+      objects = objects_between F.folder P.pack N.new_tree L.door L.Link.link D.dial I.source O.sink
+          folder.old folder.new pack.old pack.new making.old making.new door.old door.new dial.old dial.new input.old input.new out.old out.new;
       err = into E.sink err.old err.new;
       status = result;
-    }) ⊎ ((result ≡ 8) × IsUnrun (objects_between F.folder P.pack L.door L.Link.link D.dial I.source O.sink
-        folder.old folder.new pack.old pack.new door.old door.new dial.old dial.new input.old input.new out.old out.new)
+    }) ⊎ ((result ≡ 8) × IsUnrun (objects_between F.folder P.pack N.new_tree L.door L.Link.link D.dial I.source O.sink
+        folder.old folder.new pack.old pack.new making.old making.new door.old door.new dial.old dial.new input.old input.new out.old out.new)
         (into E.sink err.old err.new) result)) }
-    ensures unheld { held ≡ false → (result ≡ 6) × IsUnrun (objects_between F.folder P.pack L.door L.Link.link D.dial I.source
-        O.sink folder.old folder.new pack.old pack.new door.old door.new dial.old dial.new input.old input.new out.old out.new)
+    ensures unheld { held ≡ false → (result ≡ 6) × IsUnrun (objects_between F.folder P.pack N.new_tree L.door L.Link.link D.dial I.source
+        O.sink folder.old folder.new pack.old pack.new making.old making.new door.old door.new dial.old dial.new input.old input.new out.old out.new)
         (into E.sink err.old err.new) result }
 {
     if !held {
@@ -149,6 +172,7 @@ where
             words.as_slice(),
             folder,
             pack,
+            making,
             door,
             dial,
             input,

@@ -1,4 +1,4 @@
-//! Which entry of a folder couldn't be read.
+//! Which entry of a folder couldn't be read, or made.
 use std::alloc::{AllocError, Global};
 use std::cell::Cell;
 use std::marker::Model;
@@ -6,6 +6,7 @@ use tg_bytes::{Bytes, List};
 use tg_escape::push_escaped;
 use tg_faults::Failed;
 use tg_files::{Folder, FolderFault};
+use tg_new_tree::NewTree;
 use tg_tree::Item;
 
 /// The path of the entry, below the folder, at which a call of the folder failed last, as a person reads it: what isn't printable
@@ -14,6 +15,8 @@ use tg_tree::Item;
 pub struct FailedEntry {
     alloc: Global,
     path: Cell<Option<Bytes>>,
+    /// The path of the file that was made last, to which bytes are added.
+    open: Cell<Option<Bytes>>,
 }
 
 impl FailedEntry {
@@ -22,6 +25,7 @@ impl FailedEntry {
         FailedEntry {
             alloc,
             path: Cell::new(None),
+            open: Cell::new(None),
         }
     }
 
@@ -33,6 +37,16 @@ impl FailedEntry {
     /// A call at this path failed.
     fn note(&self, path: &[Bytes]) {
         let _before = self.path.replace(path_text(self.alloc, path).ok());
+    }
+
+    /// A file was made at this path.
+    fn open(&self, path: &[Bytes]) {
+        let _before = self.open.replace(path_text(self.alloc, path).ok());
+    }
+
+    /// No bytes could be added to the file that was made last.
+    fn note_open(&self) {
+        let _before = self.path.replace(self.open.replace(None));
     }
 }
 
@@ -46,7 +60,7 @@ fn path_text(alloc: Global, path: &[Bytes]) -> Result<Bytes, AllocError> {
     Ok(text)
 }
 
-/// A folder of which it is noted where it failed: one that does and means what the inner one does.
+/// A folder, or a new tree, of which it is noted where it failed: one that does and means what the inner one does.
 #[derive(Drop)]
 pub struct Noted<'a, F> {
     pub inner: F,
@@ -88,5 +102,42 @@ impl<F: Folder> Folder for Noted<'_, F> {
             self.failed.note(path);
         }
         read
+    }
+}
+
+impl<T: NewTree> NewTree for Noted<'_, T> {
+    ghost new_tree = { T.new_tree };
+
+    fn begin(&mut self, path: &str) -> Result<(), Failed> {
+        let begun = self.inner.begin(path);
+        if begun.is_err() {
+            self.failed.note(&[]);
+        }
+        begun
+    }
+
+    fn make_folder(&mut self, path: &[Bytes]) -> Result<(), Failed> {
+        let made = self.inner.make_folder(path);
+        if made.is_err() {
+            self.failed.note(path);
+        }
+        made
+    }
+
+    fn make_file(&mut self, path: &[Bytes]) -> Result<(), Failed> {
+        let made = self.inner.make_file(path);
+        match &made {
+            Ok(()) => self.failed.open(path),
+            Err(Failed) => self.failed.note(path),
+        }
+        made
+    }
+
+    fn add(&mut self, bytes: &[u8]) -> Result<usize, Failed> {
+        let added = self.inner.add(bytes);
+        if added.is_err() {
+            self.failed.note_open();
+        }
+        added
     }
 }

@@ -1,6 +1,6 @@
 //! What a terminal shows beside out and the line of a refusal: the line of progress of a command, where help is, why no
 //! connection came or why it failed, what the head of a refused reply shows, which peer of a swarm was refused, and which entry of a
-//! folder couldn't be read.
+//! folder couldn't be read, or made.
 use crate::exchange::Broken;
 use std::cell::Cell;
 use std::env::Args;
@@ -123,15 +123,15 @@ impl Progress {
         let _ = self.rt.stderr().write_all(text);
     }
 
-    /// Says which entry of the folder couldn't be read, where err is a terminal and there is one.
-    pub fn tell_entry(&self, path: Option<Bytes>) {
+    /// Says of which entry of the folder something can't be done, where err is a terminal and there is one.
+    pub fn tell_entry(&self, path: Option<Bytes>, done: &[u8]) {
         let Some(path) = path else {
             return;
         };
         if !self.rt.stderr().is_terminal() {
             return;
         }
-        for part in [b"FOLDER", path.as_slice(), b" can't be read\n"] {
+        for part in [b"FOLDER", path.as_slice(), b" can't be ", done, b"\n"] {
             let _ = self.rt.stderr().write_all(part);
         }
     }
